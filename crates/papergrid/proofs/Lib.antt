@@ -1,0 +1,6 @@
+mod CellLemmas
+mod EscapeLemmas
+mod KnownLemmas
+mod LineLemmas
+mod RowLemmas
+mod SizeLemmas

@@ -1,0 +1,51 @@
+-- The lines of a script, one after another.
+use Rattle.std.proofs.Common.{◌≡◌, ◌<◌, ◌+◌, ◌∷◌, [], ℕ, List, Option, Some, None, Result, Ok, Err, true, false, map, length, get_or, drop, nat_eq, refl, sym, ap, ◌∙◌, arith}
+use Rattle.std.specs.Prelude.{option_and_then}
+use Rattle.std.specs.List.{slice_split}
+use Rattle.std.specs.Str.{chars, is_utf8}
+use Rattle.std.proofs.lemmas.Bool.Decides.{nat_tests}
+use Rattle.std.proofs.lemmas.List.{at_drop_more, at_drop_all}
+use Rattle.papergrid.specs.Grammar.{Said, Nothing, said, text_says, without_cr, without_empty_last, script_lines}
+use Rattle.papergrid.specs.Scripts.{Table, empty_table, with_line, or_bad, table_after, table_of}
+
+or_bad-same : (number : ℕ) (o : Option Table) (f g : Table → Result Table ℕ) → ((table : Table) → f table ≡ g table) → or_bad number o f ≡ or_bad number o g
+or_bad-same number None f g h = refl
+or_bad-same number (Some table) f g h = h table
+
+said-empty : said [] ≡ Some Nothing
+unfolding said text_says is_utf8 chars
+said-empty = refl
+
+-- an empty line at the end says nothing, and so it may be counted or not
+pub without_last : (number : ℕ) (table : Table) (parts : List (List ℕ)) → table_after number table (map without_cr (without_empty_last parts)) ≡ table_after number table (map without_cr parts)
+without_last number table [] = refl
+without_last number table ([] ∷ []) = rw said-empty refl
+without_last number table ((b ∷ bs) ∷ []) = let some : nat_eq (length (b ∷ bs)) 0 ≡ false = grind (arith, nat_tests) in rw some refl
+without_last number table (part ∷ next ∷ parts) =
+    or_bad-same number (option_and_then (with_line table) (said (without_cr part))) _ _ (λ after. without_last (number + 1) after (next ∷ parts))
+
+-- what the input tells is what its pieces do
+pub table_of-pieces : (input : List ℕ) → table_of input ≡ table_after 1 empty_table (map without_cr (slice_split (λ b. nat_eq b 10) input))
+unfolding table_of script_lines
+table_of-pieces input = without_last 1 empty_table (slice_split (λ b. nat_eq b 10) input)
+
+next_line : (R : Result Table ℕ) (pieces : List (List ℕ)) (n k : ℕ) (line stripped : List ℕ) (old : Table) → (k < length pieces) × (line ≡ get_or pieces k line) → n ≡ k → stripped ≡ without_cr line
+    → R ≡ table_after (n + 1) old (map without_cr (drop n pieces))
+    → R ≡ or_bad (n + 1) (option_and_then (with_line old) (said stripped)) (λ next. table_after (n + 1 + 1) next (map without_cr (drop (n + 1) pieces)))
+next_line R pieces n k line stripped old at same is so_far =
+    so_far ∙ ap (λ j. table_after (j + 1) old (map without_cr (drop j pieces))) same
+    ∙ at_drop_more (λ rest. table_after (k + 1) old (map without_cr rest)) pieces k line at.0
+    ∙ ap (λ first. table_after (k + 1) old (map without_cr (first ∷ drop (k + 1) pieces))) (sym at.1) ∙ rw (is, same) refl
+
+pub good_line : (R : Result Table ℕ) (pieces : List (List ℕ)) (n k : ℕ) (line stripped : List ℕ) (old new : Table) → (k < length pieces) × (line ≡ get_or pieces k line) → n ≡ k → stripped ≡ without_cr line
+    → option_and_then (with_line old) (said stripped) ≡ Some new
+    → R ≡ table_after (n + 1) old (map without_cr (drop n pieces)) → R ≡ table_after (n + 1 + 1) new (map without_cr (drop (n + 1) pieces))
+good_line R pieces n k line stripped old new at same is good so_far = next_line R pieces n k line stripped old at same is so_far ∙ rw good refl
+
+pub bad_line : (R : Result Table ℕ) (pieces : List (List ℕ)) (n k : ℕ) (line stripped : List ℕ) (old : Table) → (k < length pieces) × (line ≡ get_or pieces k line) → n ≡ k → stripped ≡ without_cr line
+    → option_and_then (with_line old) (said stripped) ≡ None
+    → R ≡ table_after (n + 1) old (map without_cr (drop n pieces)) → R ≡ Err (n + 1)
+bad_line R pieces n k line stripped old at same is bad so_far = next_line R pieces n k line stripped old at same is so_far ∙ rw bad refl
+
+pub no_more_lines : (R : Result Table ℕ) (pieces : List (List ℕ)) (n k : ℕ) (table : Table) → k ≡ length pieces → n ≡ k → R ≡ table_after (n + 1) table (map without_cr (drop n pieces)) → R ≡ Ok table
+no_more_lines R pieces n k table all same so_far = so_far ∙ at_drop_all (λ rest. table_after (n + 1) table (map without_cr rest)) pieces n (omega arith)

@@ -1,0 +1,204 @@
+-- Sizes that are raised to one need after another are the greatest needs.
+use Rattle.std.proofs.Common.{◌≡◌, ◌⊎◌, ◌≤◌, ◌<◌, ◌+◌, ◌^◌, ◌&&◌, ◌||◌, ◌++◌, ◌∷◌, [], ℕ, zero, suc, List, Bool, true, false, Option, Some, None, option_map, map, length, take, drop, get_or, set, refl, sym, ap, ◌∙◌, subst, arith, inl, inr, nat_lt, nat_le, nat_eq}
+use Rattle.std.specs.Prelude.{max, sum, filter, replicate}
+use Rattle.std.specs.List.{list_all, find, range_with_len}
+use Rattle.std.proofs.lemmas.Bool.Decides.{nat_tests}
+use Rattle.std.proofs.lemmas.List.{get_or-set_same, get_or-set_other, length-set, length-replicate, get_or-replicate}
+use Rattle.std.proofs.lemmas.List.Folds.{list_all-append}
+use Rattle.std.proofs.lemmas.List.FromFn.{fill_by_all, length-map-range_with_len, get_or-map-range_with_len}
+use Rattle.std.proofs.lemmas.Grind.{common_steps}
+use Rattle.std.proofs.lemmas.List.Sums.{AllPass-from_list_all}
+use Rattle.std.proofs.lemmas.Option.{none-some}
+use Rattle.std.proofs.Math.Seq.{take-append_seam}
+use borrow.Author.Tests.{eqb-true, eqb-false, ltb-true, ltb-false}
+use Rattle.papergrid_values.specs.declared.position.Position.{Position}
+use Rattle.papergrid_values.specs.declared.indent.Indent.{Indent}
+use Rattle.papergrid_values.specs.declared.sides.Sides.{Sides}
+use Rattle.papergrid.specs.Cells.{TableCell, cells_of_row, cells_from, cells_of}
+use Rattle.papergrid.specs.Raising.{raised, raised_by, fits_in}
+use Rattle.papergrid.specs.Sizes.{Estimate, OutOfTable, TooLarge, Sized, sizes_of, first_out, column_of, row_of, width_need, height_need, widths_of, heights_of, unless_out, estimate_of}
+use Rattle.papergrid.specs.Scripts.{Table}
+use Rattle.papergrid.specs.Texts.{greatest}
+
+and_true : (a b : Bool) → a && b ≡ true → (a ≡ true) × (b ≡ true)
+and_true true b h = (refl, h)
+and_true false b h = cc
+
+sums : (xs ys : List ℕ) → sum (xs ++ ys) ≡ sum xs + sum ys
+sums xs ys = grind (arith, common_steps)
+
+get_or-le-sum : (xs : List ℕ) (k : ℕ) → k < length xs → get_or xs k 0 ≤ sum xs
+get_or-le-sum [] k within = absurd (omega arith)
+get_or-le-sum (x ∷ xs) zero within = let parts : sum (x ∷ xs) ≡ 0 + x + sum xs = sums (x ∷ []) xs in omega (arith, parts)
+get_or-le-sum (x ∷ xs) (suc k) within =
+    let parts : sum (x ∷ xs) ≡ 0 + x + sum xs = sums (x ∷ []) xs in
+    omega (arith, parts, get_or-le-sum xs k (omega arith))
+
+either_false : (a b : Bool) → a && b ≡ false → (a ≡ false) ⊎ (b ≡ false)
+either_false true b h = inr h
+either_false false b h = inl refl
+
+or_true : (a : Bool) → a || true ≡ true
+or_true true = refl
+or_true false = refl
+
+module _ (along need : TableCell → ℕ) where
+  -- the greatest need of the cells that stand at i
+  abbrev pub top_at : ℕ → List TableCell → ℕ
+  top_at i cells = greatest (map need (filter (λ cell. nat_eq (along cell) i) cells))
+
+  abbrev all_below : ℕ → List TableCell → Bool
+  all_below n cells = list_all (λ cell. nat_lt (along cell) n) cells
+
+  length-raised_by : (sizes : List ℕ) (cells : List TableCell) → length (raised_by along need sizes cells) ≡ length sizes
+  length-raised_by sizes [] = refl
+  length-raised_by sizes (cell ∷ cells) = length-raised_by (raised sizes (along cell) (need cell)) cells ∙ length-set sizes (along cell) _
+
+  raised_at : (b : Bool) (sizes : List ℕ) (cell : TableCell) (cells : List TableCell) (i : ℕ) → nat_eq (along cell) i ≡ b → along cell < length sizes
+      → max (get_or (raised sizes (along cell) (need cell)) i 0) (top_at i cells) ≡ max (get_or sizes i 0) (top_at i (cell ∷ cells))
+  raised_at true sizes cell cells i here within =
+      let same : along cell ≡ i = eqb-true _ _ here in
+      let value : get_or (raised sizes (along cell) (need cell)) i 0 ≡ max (get_or sizes i 0) (need cell) =
+          subst (λ (j : ℕ). get_or (raised sizes (along cell) (need cell)) j 0 ≡ max (get_or sizes j 0) (need cell)) same (get_or-set_same sizes (along cell) _ 0 within) in
+      rw here (omega (arith, value))
+  raised_at false sizes cell cells i elsewhere within =
+      let other : i ≡ along cell → ⊥ = λ e. eqb-false _ _ elsewhere (sym e) in
+      let value : get_or (raised sizes (along cell) (need cell)) i 0 ≡ get_or sizes i 0 = get_or-set_other sizes (along cell) i _ 0 other in
+      rw elsewhere (omega (arith, value))
+
+  get_or-raised_by : (sizes : List ℕ) (cells : List TableCell) (i : ℕ) → all_below (length sizes) cells ≡ true
+      → get_or (raised_by along need sizes cells) i 0 ≡ max (get_or sizes i 0) (top_at i cells)
+  get_or-raised_by sizes [] i below = omega arith
+  get_or-raised_by sizes (cell ∷ cells) i below =
+      let both = and_true _ _ below in
+      let within : along cell < length sizes = ltb-true _ _ both.0 in
+      let rest : all_below (length (raised sizes (along cell) (need cell))) cells ≡ true = rw length-set both.1 in
+      get_or-raised_by (raised sizes (along cell) (need cell)) cells i rest ∙ raised_at (nat_eq (along cell) i) sizes cell cells i refl within
+
+  pub raised_by-zeros : (n : ℕ) (cells : List TableCell) → all_below n cells ≡ true → raised_by along need (replicate n 0) cells ≡ sizes_of along need n cells
+  unfolding sizes_of
+  raised_by-zeros n cells below =
+      let zeros : all_below (length (replicate n 0)) cells ≡ true = rw length-replicate below in
+      fill_by_all (λ i. top_at i cells) _ n 0 (length-raised_by (replicate n 0) cells ∙ length-replicate n 0)
+      (λ k within. let zero_there : get_or {A = ℕ} (replicate n 0) k 0 ≡ 0 = get_or-replicate n k 0 0 within in
+      get_or-raised_by (replicate n 0) cells k zeros ∙ omega (arith, zero_there))
+
+  -- zeros that were raised in place, in a vector of so many
+  pub zeros-raised : (n len : ℕ) (cells : List TableCell) (new start items : List ℕ) → all_below n cells ≡ true → items ≡ replicate n 0 → start ≡ items → len ≡ length items
+      → new ≡ raised_by along need start cells → take len (new ++ drop (length new) items) ≡ sizes_of along need n cells
+  zeros-raised n len cells new start items below zeros lent many raises =
+      let same : new ≡ raised_by along need (replicate n 0) cells = raises ∙ ap (λ sizes. raised_by along need sizes cells) (lent ∙ zeros) in
+      let long : length new ≡ len = ap length same ∙ length-raised_by (replicate n 0) cells ∙ sym (many ∙ ap length zeros) in
+      let seam : take len (new ++ drop (length new) items) ≡ new = rw (← long) (take-append_seam new (drop (length new) items)) in
+      seam ∙ same ∙ raised_by-zeros n cells below
+
+  -- ---- a need that stands in the list is within the sum of the sizes
+
+  top_le : (cells : List TableCell) (k : ℕ) (cell : TableCell) → k < length cells → get_or cells k cell ≡ cell → need cell ≤ top_at (along cell) cells
+  top_le [] k cell within is = absurd (omega arith)
+  top_le (c ∷ cells) zero cell within is = here (nat_eq (along c) (along cell)) refl
+    where
+      here : (b : Bool) → nat_eq (along c) (along cell) ≡ b → need cell ≤ top_at (along cell) (c ∷ cells)
+      here true e = let same : need c ≡ need cell = ap need is in rw e (omega (arith, same))
+      here false e = absurd (eqb-false _ _ e (ap along is))
+  top_le (c ∷ cells) (suc k) cell within is = later (nat_eq (along c) (along cell)) refl (top_le cells k cell (omega arith) is)
+    where
+      later : (b : Bool) → nat_eq (along c) (along cell) ≡ b → need cell ≤ top_at (along cell) cells → need cell ≤ top_at (along cell) (c ∷ cells)
+      later true e le = rw e (omega (arith, le))
+      later false e le = rw e le
+
+  pub need-le-sum : (n : ℕ) (cells : List TableCell) (k : ℕ) (cell : TableCell) → k < length cells → get_or cells k cell ≡ cell → along cell < n → need cell ≤ sum (sizes_of along need n cells)
+  unfolding sizes_of
+  need-le-sum n cells k cell within is below =
+      let f = λ (i : ℕ). top_at i cells in
+      let many : along cell < length (map f (range_with_len 0 n)) = rw length-map-range_with_len below in
+      let size : get_or (map f (range_with_len 0 n)) (along cell) 0 ≡ top_at (along cell) cells = get_or-map-range_with_len f 0 n (along cell) (along cell) 0 below (omega arith) in
+      omega (arith, top_le cells k cell within is, size, get_or-le-sum (map f (range_with_len 0 n)) (along cell) many)
+
+
+-- ---- where the cells stand
+
+row_in_table : (row col n : ℕ) (texts : List (List ℕ)) → row < n → all_below row_of row_of n (cells_of_row row col texts) ≡ true
+row_in_table row col n [] within = refl
+row_in_table row col n (text ∷ texts) within = let here : nat_lt row n ≡ true = grind (arith, nat_tests) in rw here (row_in_table row (col + 1) n texts within)
+
+pub rows_in_table : (row n : ℕ) (rows : List (List (List ℕ))) → row + length rows ≤ n → all_below row_of row_of n (cells_from row rows) ≡ true
+rows_in_table row n [] within = refl
+rows_in_table row n (texts ∷ rows) within =
+    let first = row_in_table row 0 n texts (omega arith) in
+    list_all-append (λ cell. nat_lt (row_of cell) n) (cells_of_row row 0 texts) (cells_from (row + 1) rows) ∙ rw first (rows_in_table (row + 1) n rows (omega arith))
+
+-- each cell stands in one of the rows
+pub cells_in_rows : (rows : List (List (List ℕ))) → all_below row_of row_of (length rows) (cells_of rows) ≡ true
+cells_in_rows rows = rows_in_table 0 (length rows) rows (omega arith)
+
+-- and in a column of the table, where none is out of it
+pub cells_in_columns : (columns : ℕ) (cells : List TableCell) → None ≡ first_out columns cells → all_below column_of column_of columns cells ≡ true
+cells_in_columns columns [] none = refl
+cells_in_columns columns (cell ∷ cells) none = first (nat_le columns cell.place.col) refl (cells_in_columns columns cells)
+  where
+    first : (b : Bool) → nat_le columns cell.place.col ≡ b → (None ≡ first_out columns cells → all_below column_of column_of columns cells ≡ true) → all_below column_of column_of columns (cell ∷ cells) ≡ true
+    first true e rest = let found : first_out columns (cell ∷ cells) ≡ Some cell.place = rw e refl in absurd (none-some cell.place (none ∙ found))
+    first false e rest =
+        let here : nat_lt cell.place.col columns ≡ true = grind (arith, nat_tests) in
+        let later : first_out columns (cell ∷ cells) ≡ first_out columns cells = rw e refl in
+        rw here (rest (none ∙ later))
+
+-- ---- needs that do not fit
+
+fails_at : {X : Type 0} (test : X → Bool) (xs : List X) → list_all test xs ≡ false → (k : ℕ) × (x : X) × (k < length xs) × (get_or xs k x ≡ x) × (test x ≡ false)
+fails_at test [] h = cc
+fails_at {X = X} test (x ∷ xs) h = first (test x) refl (fails_at test xs)
+  where
+    first : (b : Bool) → test x ≡ b → (list_all test xs ≡ false → (k : ℕ) × (y : X) × (k < length xs) × (get_or xs k y ≡ y) × (test y ≡ false))
+        → (k : ℕ) × (y : X) × (k < length (x ∷ xs)) × (get_or (x ∷ xs) k y ≡ y) × (test y ≡ false)
+    first false e rest = (0, x, omega arith, refl, e)
+    first true e rest = let later = rest (rw e at h) in (suc later.0, later.1, omega (arith, later.2), later.3, later.4)
+
+-- where a cell's needs do not fit, a total does not
+pub unfit_totals : (padding : Position → Sides Indent) (columns rows : ℕ) (cells : List TableCell) → all_below column_of column_of columns cells ≡ true → all_below row_of row_of rows cells ≡ true
+    → list_all (fits_in padding) cells ≡ false
+    → (2 ^ 64 ≤ sum (sizes_of column_of (width_need padding) columns cells)) ⊎ (2 ^ 64 ≤ sum (sizes_of row_of (height_need padding) rows cells))
+unfit_totals padding columns rows cells in_columns in_rows unfit =
+    let at = fails_at (fits_in padding) cells unfit in
+    let k = at.0 in
+    let cell = at.1 in
+    let column_test = AllPass-from_list_all (λ c. nat_lt (column_of c) columns) cells in_columns k cell at.2 in
+    let row_test = AllPass-from_list_all (λ c. nat_lt (row_of c) rows) cells in_rows k cell at.2 in
+    let in_column : column_of cell < columns = ltb-true _ _ (rw at.3 at column_test) in
+    let in_row : row_of cell < rows = ltb-true _ _ (rw at.3 at row_test) in
+    elim (either_false _ _ at.4) [
+      | inl wide ↦
+          let past : 2 ^ 64 ≤ width_need padding cell = ltb-false _ _ wide in
+          inl (omega (arith, past, need-le-sum column_of (width_need padding) columns cells k cell at.2 at.3 in_column))
+      | inr high ↦
+          let past : 2 ^ 64 ≤ height_need padding cell = ltb-false _ _ high in
+          inr (omega (arith, past, need-le-sum row_of (height_need padding) rows cells k cell at.2 at.3 in_row))
+    ]
+
+-- ---- what is estimated
+
+pub estimate-out : (table : Table) (place : Position) → Some place ≡ first_out table.columns (cells_of table.rows) → estimate_of table ≡ OutOfTable place
+unfolding estimate_of
+estimate-out table place first = ap (λ o. unless_out o (widths_of table) (heights_of table)) (sym first)
+
+large : (w h : List ℕ) → (2 ^ 64 ≤ sum w) ⊎ (2 ^ 64 ≤ sum h) → unless_out None w h ≡ TooLarge
+large w h past = elim past [
+  | inl wide ↦ let test : nat_le (2 ^ 64) (sum w) ≡ true = grind (arith, nat_tests) in rw test refl
+  | inr high ↦ let test : nat_le (2 ^ 64) (sum h) ≡ true = grind (arith, nat_tests) in rw (test, or_true) refl
+]
+
+pub estimate-large : (table : Table) → None ≡ first_out table.columns (cells_of table.rows) → (2 ^ 64 ≤ sum (widths_of table)) ⊎ (2 ^ 64 ≤ sum (heights_of table)) → estimate_of table ≡ TooLarge
+unfolding estimate_of
+estimate-large table none past = ap (λ o. unless_out o (widths_of table) (heights_of table)) (sym none) ∙ large (widths_of table) (heights_of table) past
+
+sized : (w h : List ℕ) → sum w < 2 ^ 64 → sum h < 2 ^ 64 → unless_out None w h ≡ Sized w h
+sized w h narrow low =
+    let wide : nat_le (2 ^ 64) (sum w) ≡ false = grind (arith, nat_tests) in
+    let high : nat_le (2 ^ 64) (sum h) ≡ false = grind (arith, nat_tests) in
+    rw (wide, high) refl
+
+pub estimate-sized : (table : Table) → None ≡ first_out table.columns (cells_of table.rows) → sum (widths_of table) < 2 ^ 64 → sum (heights_of table) < 2 ^ 64
+    → estimate_of table ≡ Sized (widths_of table) (heights_of table)
+unfolding estimate_of
+estimate-sized table none narrow low = ap (λ o. unless_out o (widths_of table) (heights_of table)) (sym none) ∙ sized (widths_of table) (heights_of table) narrow low

@@ -1,0 +1,11 @@
+pub mod Calls
+pub mod Cells
+pub mod Deciding
+pub mod Grammar
+pub mod Outputs
+pub mod Raising
+pub mod Scripts
+pub mod Seen
+pub mod Sizes
+pub mod Texts
+pub mod Transfer

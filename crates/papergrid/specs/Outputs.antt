@@ -1,0 +1,44 @@
+-- What the program writes for an input, and how it ends.
+use Rattle.std.specs.Prelude.{ℕ, List, [], ◌∷◌, ◌++◌, sum, Result, Ok, Err, codes, decimal, flat_map}
+use Rattle.papergrid_values.specs.declared.position.Position.{Position}
+use Rattle.papergrid.specs.declared.running.RunEnd.{RunEnd}
+use Rattle.papergrid.specs.declared.running.RunEnd.TheVariants.{Done, Refused, BadScript}
+use Rattle.papergrid.specs.Grammar.{space, comma}
+use Rattle.papergrid.specs.Scripts.{Table, table_of}
+use Rattle.papergrid.specs.Sizes.{Estimate, OutOfTable, TooLarge, Sized, estimate_of}
+use Rattle.papergrid.specs.Texts.{newline}
+
+-- a space and a number for each
+abbrev pub spaced : List ℕ → List ℕ
+spaced numbers = flat_map (λ n. space ∷ decimal n) numbers
+
+abbrev pub number_line : List ℕ → List ℕ → List ℕ
+number_line word numbers = word ++ spaced numbers ++ newline ∷ []
+
+abbrev pub estimate_text : Estimate → List ℕ
+estimate_text (OutOfTable place) = codes "refused: out of table at " ++ (decimal place.row ++ (comma ∷ (decimal place.col ++ newline ∷ [])))
+estimate_text TooLarge = codes "refused: too large" ++ newline ∷ []
+estimate_text (Sized widths heights) =
+    number_line (codes "widths") widths ++ number_line (codes "heights") heights
+    ++ number_line (codes "total") (sum widths ∷ sum heights ∷ [])
+
+abbrev pub script_text : Result Table ℕ → List ℕ
+script_text (Err number) = codes "bad script at line " ++ decimal number ++ newline ∷ []
+script_text (Ok table) = estimate_text (estimate_of table)
+
+abbrev pub estimate_end : Estimate → RunEnd
+estimate_end (OutOfTable place) = Refused
+estimate_end TooLarge = Refused
+estimate_end (Sized widths heights) = Done
+
+abbrev pub script_end : Result Table ℕ → RunEnd
+script_end (Err number) = BadScript
+script_end (Ok table) = estimate_end (estimate_of table)
+
+-- the bytes that are written for an input
+unfoldable pub output_of : List ℕ → List ℕ
+output_of input = script_text (table_of input)
+
+-- how its run ends
+unfoldable pub end_of : List ℕ → RunEnd
+end_of input = script_end (table_of input)

@@ -1,0 +1,42 @@
+-- What clauses see of the values that the program holds.
+use Rattle.std.specs.Prelude.{◌≡◌, Some, None, ℕ, List, map, Option, Result, Ok, Err, Vec}
+use Rattle.std.specs.Cow.{cow_str_bytes}
+use Rattle.std.specs.declared.alloc.Global.{Global}
+use Rattle.std.specs.declared.borrow.CowStr.{CowStr}
+use Rattle.papergrid.specs.declared.script_line.ScriptLine.{ScriptLine}
+use Rattle.papergrid.specs.declared.script_line.ScriptLine.TheVariants as lines
+use Rattle.papergrid.specs.declared.script.Script.{Script}
+use Rattle.papergrid.specs.declared.script.ScriptError.{ScriptError}
+use Rattle.papergrid.specs.declared.script.ScriptError.TheVariants as script_errors
+use Rattle.papergrid.specs.declared.estimate.Sizes.{Sizes}
+use Rattle.papergrid.specs.declared.estimate.LayoutError.{LayoutError}
+use Rattle.papergrid.specs.declared.estimate.LayoutError.TheVariants as layout_errors
+use Rattle.papergrid.specs.Grammar.{Said, Nothing, Columns, Set, Row, Cell}
+use Rattle.papergrid.specs.Scripts.{Table}
+use Rattle.papergrid.specs.Sizes.{Estimate, OutOfTable, TooLarge, Sized}
+
+abbrev pub meaning : ScriptLine → Said
+meaning lines.Empty = Nothing
+meaning (lines.Columns n) = Columns n
+meaning (lines.Set setting) = Set setting
+meaning lines.Row = Row
+meaning (lines.Cell text) = Cell (cow_str_bytes text)
+
+abbrev pub texts_of : Vec (CowStr Global) Global → List (List ℕ)
+texts_of cells = map cow_str_bytes cells.items
+
+abbrev pub table_seen : Script → Table
+table_seen script = record { columns = script.columns; settings = script.settings.items; rows = map texts_of script.rows.items }
+
+-- the table that a script tells, or a bad line; want of memory says nothing
+abbrev pub GivesTable : Result Script ScriptError → Result Table ℕ → Type 0
+GivesTable (Ok script) told = told ≡ Ok (table_seen script)
+GivesTable (Err (script_errors.Bad number)) told = told ≡ Err number
+GivesTable (Err script_errors.Memory) told = Unit {0}
+
+-- what is estimated; want of memory says nothing
+abbrev pub GivesEstimate : Result Sizes LayoutError → Estimate → Type 0
+GivesEstimate (Ok sizes) told = told ≡ Sized sizes.widths.items sizes.heights.items
+GivesEstimate (Err (layout_errors.OutOfTable place)) told = told ≡ OutOfTable place
+GivesEstimate (Err layout_errors.TooLarge) told = told ≡ TooLarge
+GivesEstimate (Err layout_errors.Memory) told = Unit {0}

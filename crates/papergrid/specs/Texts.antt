@@ -1,0 +1,49 @@
+-- The texts of cells: how a script spells them, and their measures. A text is the list of its bytes.
+use Rattle.std.specs.Prelude.{ℕ, max, false, List, [], ◌∷◌, map, length, Option, Some, None, option_map, ◌==◌, if◌then◌else◌, chars}
+use Rattle.std.specs.List.{slice_split}
+use Rattle.unicode_width.specs.Width.{str_width}
+
+abbrev pub newline : ℕ
+newline = 10
+
+abbrev pub backslash : ℕ
+backslash = 92
+
+-- what an escape means, by the byte after its backslash: n a newline, t a tab, a backslash itself
+abbrev pub escape_of : ℕ → Option ℕ
+escape_of b = if b == 110 then Some newline else if b == 116 then Some 9 else if b == backslash then Some backslash else None
+
+-- what the escape means that stands after a backslash, and what is left behind it
+abbrev pub escape_at : List ℕ → Option (ℕ × List ℕ)
+escape_at [] = None
+escape_at (b ∷ bs) = option_map (λ meant. (meant, bs)) (escape_of b)
+
+abbrev pub put_first : Option ℕ → Option (List ℕ) → Option (List ℕ)
+put_first None rest = None
+put_first (Some b) rest = option_map (λ bs. b ∷ bs) rest
+
+-- the text that is meant, where a backslash begins an escape
+unfoldable pub unescaped : List ℕ → Option (List ℕ)
+unescaped [] = Some []
+unescaped (b ∷ []) = if b == backslash then None else Some (b ∷ [])
+unescaped (b ∷ c ∷ bs) =
+    if b == backslash then put_first (escape_of c) (unescaped bs) else option_map (λ rest. b ∷ rest) (unescaped (c ∷ bs))
+
+-- the lines of a text: what stands between its newlines
+abbrev pub lines_of : List ℕ → List (List ℕ)
+lines_of text = slice_split (λ b. b == newline) text
+
+-- the greatest of the numbers, 0 where there is none
+abbrev pub greatest : List ℕ → ℕ
+greatest [] = 0
+greatest (n ∷ ns) = max n (greatest ns)
+
+-- the columns of a terminal that a line takes
+abbrev pub line_width : List ℕ → ℕ
+line_width line = str_width false (chars line)
+
+unfoldable pub text_width : List ℕ → ℕ
+text_width text = greatest (map line_width (lines_of text))
+
+unfoldable pub text_height : List ℕ → ℕ
+text_height text = length (lines_of text)

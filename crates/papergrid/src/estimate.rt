@@ -1,0 +1,227 @@
+//! The sizes of a table without spans and lines: each is the greatest need of its cells.
+
+ghost use Rattle.std.specs.Prelude.{◌≡◌, ◌+◌, ◌≤◌, ◌<◌, ◌^◌, IfOk, IfNone, IfSome, All, flat_map, length, map, sum, false, None};
+ghost use Rattle.std.specs.Bool.{OnTrue};
+ghost use Rattle.std.specs.Cow.{cow_str_bytes};
+ghost use Rattle.std.specs.List.{list_all};
+ghost use Rattle.std.specs.Option.{SomeIff};
+ghost use Rattle.papergrid.specs.declared.estimate.LayoutError.TheVariants.{Memory};
+ghost use Rattle.papergrid.specs.Calls.{decided_value};
+ghost use Rattle.papergrid.specs.Cells.{cells_of, cells_of_row};
+ghost use Rattle.papergrid.specs.Raising.{fits_in, raised, raised_by};
+ghost use Rattle.papergrid.specs.Seen.{GivesEstimate, table_seen, texts_of};
+ghost use Rattle.papergrid.specs.Sizes.{column_of, estimate_of, first_out, height_need, no_padding, padding_calls, row_of, sizes_of, width_need};
+
+use crate::entity_map::EntityMap;
+use crate::measure::{height, width};
+use crate::script::Script;
+use crate::setting::Setting;
+use papergrid_values::{Indent, Position, Sides};
+use std::alloc::{AllocError, AllocFailed, Global};
+use std::borrow::CowStr;
+
+/// The width of each column, in columns of a terminal, the height of each row, in lines, and their totals.
+#[derive(Debug, Drop)]
+pub struct Sizes {
+    pub widths: Vec<usize>,
+    pub heights: Vec<usize>,
+    pub total_width: usize,
+    pub total_height: usize,
+}
+
+/// Why a table has no sizes.
+#[derive(Debug, Drop)]
+pub enum LayoutError {
+    /// The first cell, by row and then column, that stands at or past the column count.
+    OutOfTable(Position),
+    /// A total is above the greatest `usize`.
+    TooLarge,
+    /// A growth was refused.
+    Memory,
+}
+
+impl From<AllocError> for LayoutError {
+    ghost from_gives = { λ _ e. e ≡ Memory };
+
+    fn from(_error: AllocError) -> LayoutError {
+        LayoutError::Memory
+    }
+}
+
+impl<T: Drop> From<AllocFailed<T>> for LayoutError {
+    ghost from_gives = { λ _ e. e ≡ Memory };
+
+    fn from(_error: AllocFailed<T>) -> LayoutError {
+        LayoutError::Memory
+    }
+}
+
+/// The sizes of the script's table.
+pub fn estimate(alloc: Global, script: &Script) -> Result<Sizes, LayoutError>
+    ensures told { GivesEstimate result (estimate_of (table_seen script.now)) }
+    ensures total_width { IfOk result (λ sizes. sizes.total_width ≡ sum sizes.widths.items) }
+    ensures total_height { IfOk result (λ sizes. sizes.total_height ≡ sum sizes.heights.items) }
+{
+    if let Some(position) = first_out(script.rows.as_slice(), script.columns) {
+        return Err(LayoutError::OutOfTable(position));
+    }
+    let paddings = paddings(alloc, script.settings.as_slice())?;
+    let Some((widths, heights)) =
+        raised_sizes(alloc, &paddings, script.rows.as_slice(), script.columns)?
+    else {
+        return Err(LayoutError::TooLarge);
+    };
+    let Some(total_width) = total(widths.as_slice()) else {
+        return Err(LayoutError::TooLarge);
+    };
+    let Some(total_height) = total(heights.as_slice()) else {
+        return Err(LayoutError::TooLarge);
+    };
+    Ok(Sizes {
+        widths,
+        heights,
+        total_width,
+        total_height,
+    })
+}
+
+/// The first cell at or past the column count.
+fn first_out(rows: &[Vec<CowStr>], columns: usize) -> Option<Position>
+    ensures first { result ≡ first_out columns (cells_of (map texts_of rows.now)) }
+    ensures none { IfNone result (All (λ cells. length cells.items ≤ columns) rows.now) }
+{
+    for (row, cells) in rows.iter().enumerate() {
+        if cells.len() > columns {
+            return Some(Position::new(row, columns));
+        }
+    }
+    None
+}
+
+/// The paddings of the cells.
+fn paddings(alloc: Global, settings: &[Setting]) -> Result<EntityMap<Sides<Indent>>, AllocError>
+    ensures given { IfOk result (λ paddings. paddings.given ≡ no_padding) }
+    ensures calls { IfOk result (λ paddings. paddings.calls.items ≡ flat_map padding_calls settings.now) }
+{
+    let mut paddings = EntityMap::new(alloc, Sides::filled(Indent::zero()));
+    for setting in settings {
+        match setting {
+            Setting::SetPadding(entity, sides) => paddings.insert(*entity, *sides)?,
+        }
+    }
+    Ok(paddings)
+}
+
+/// The widths and the heights; none where a need does not fit.
+fn raised_sizes(
+    alloc: Global,
+    paddings: &EntityMap<Sides<Indent>>,
+    rows: &[Vec<CowStr>],
+    columns: usize,
+) -> Result<Option<(Vec<usize>, Vec<usize>)>, AllocError>
+    requires inside { first_out columns (cells_of (map texts_of rows.now)) ≡ None }
+    requires short { All (λ cells. length cells.items ≤ columns) rows.now }
+    ensures none { let padding = decided_value paddings.now.given paddings.now.calls.items in
+        IfOk result (λ found. IfNone found (list_all (fits_in padding) (cells_of (map texts_of rows.now)) ≡ false)) }
+    ensures widths { let padding = decided_value paddings.now.given paddings.now.calls.items in
+        IfOk result (λ found. IfSome found (λ sizes.
+        sizes.0.items ≡ sizes_of column_of (width_need padding) columns (cells_of (map texts_of rows.now)))) }
+    ensures heights { let padding = decided_value paddings.now.given paddings.now.calls.items in
+        IfOk result (λ found. IfSome found (λ sizes.
+        sizes.1.items ≡ sizes_of row_of (height_need padding) (length rows.now) (cells_of (map texts_of rows.now)))) }
+{
+    let mut widths = vec![in alloc; 0; columns]?;
+    let mut heights = vec![in alloc; 0; rows.len()]?;
+    if raise_all(alloc, paddings, rows, &mut widths, &mut heights)? {
+        Ok(Some((widths, heights)))
+    } else {
+        Ok(None)
+    }
+}
+
+/// Raises the widths and heights to the needs of all cells; false where a need does not fit.
+fn raise_all(
+    alloc: Global,
+    paddings: &EntityMap<Sides<Indent>>,
+    rows: &[Vec<CowStr>],
+    widths: &mut [usize],
+    heights: &mut [usize],
+) -> Result<bool, AllocError>
+    requires columns { All (λ cells. length cells.items ≤ length widths.old) rows.now }
+    requires rows { length rows.now ≤ length heights.old }
+    ensures fits { let padding = decided_value paddings.now.given paddings.now.calls.items in
+        IfOk result (λ fits. fits ≡ list_all (fits_in padding) (cells_of (map texts_of rows.now))) }
+    ensures widths { let padding = decided_value paddings.now.given paddings.now.calls.items in
+        IfOk result (λ fits. OnTrue fits (widths.new ≡ raised_by column_of (width_need padding) widths.old (cells_of (map texts_of rows.now)))) }
+    ensures heights { let padding = decided_value paddings.now.given paddings.now.calls.items in
+        IfOk result (λ fits. OnTrue fits (heights.new ≡ raised_by row_of (height_need padding) heights.old (cells_of (map texts_of rows.now)))) }
+{
+    for (row, cells) in rows.iter().enumerate() {
+        if !raise_row(alloc, paddings, row, cells.as_slice(), widths, heights)? {
+            return Ok(false);
+        }
+    }
+    Ok(true)
+}
+
+/// Raises the widths and heights to the needs of the cells of a row; false where a need does not fit.
+fn raise_row(
+    alloc: Global,
+    paddings: &EntityMap<Sides<Indent>>,
+    row: usize,
+    cells: &[CowStr],
+    widths: &mut [usize],
+    heights: &mut [usize],
+) -> Result<bool, AllocError>
+    requires columns { length cells.now ≤ length widths.old }
+    requires row { row < length heights.old }
+    ensures fits { let padding = decided_value paddings.now.given paddings.now.calls.items in
+        IfOk result (λ fits. fits ≡ list_all (fits_in padding) (cells_of_row row 0 (map cow_str_bytes cells.now))) }
+    ensures widths { let padding = decided_value paddings.now.given paddings.now.calls.items in
+        IfOk result (λ fits. OnTrue fits (widths.new ≡ raised_by column_of (width_need padding) widths.old (cells_of_row row 0 (map cow_str_bytes cells.now)))) }
+    ensures heights { let padding = decided_value paddings.now.given paddings.now.calls.items in
+        IfOk result (λ fits. OnTrue fits (heights.new ≡ raised_by row_of (height_need padding) heights.old (cells_of_row row 0 (map cow_str_bytes cells.now)))) }
+{
+    let row_paddings = paddings.row(alloc, row)?;
+    for (col, text) in cells.iter().enumerate() {
+        let padding = row_paddings.get(Position::new(row, col));
+        let text = text.as_str();
+        let Some(width) = need(width(text), padding.left, padding.right) else {
+            return Ok(false);
+        };
+        let Some(height) = need(height(text), padding.top, padding.bottom) else {
+            return Ok(false);
+        };
+        raise(widths, col, width);
+        raise(heights, row, height);
+    }
+    Ok(true)
+}
+
+/// The measure with the paddings before and after it, if it fits.
+fn need(measure: usize, before: Indent, after: Indent) -> Option<usize>
+    ensures { let need = measure + before.size + after.size in SomeIff result (need < 2 ^ 64) need }
+{
+    measure.checked_add(before.size)?.checked_add(after.size)
+}
+
+/// Raises the size at the index to the need.
+fn raise(sizes: &mut [usize], index: usize, need: usize)
+    requires { index < length sizes.old }
+    ensures { sizes.new ≡ raised sizes.old index need }
+{
+    if sizes[index] < need {
+        sizes[index] = need;
+    }
+}
+
+/// The total of the sizes, if it fits.
+fn total(sizes: &[usize]) -> Option<usize>
+    ensures { SomeIff result (sum sizes.now < 2 ^ 64) (sum sizes.now) }
+{
+    let mut total: usize = 0;
+    for size in sizes {
+        total = total.checked_add(*size)?;
+    }
+    Some(total)
+}

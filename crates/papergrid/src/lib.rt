@@ -1,0 +1,23 @@
+//! Widths of columns and heights of rows of a table of padded cells, and the script that tells such a table.
+#![tactic(auto)]
+
+mod entity_map;
+mod estimate;
+pub mod laws;
+mod measure;
+mod number;
+mod output;
+mod running;
+mod script;
+mod script_line;
+mod setting;
+mod transfer;
+mod unescape;
+
+pub use running::{RunEnd, RunFault, run};
+pub use transfer::{Failed, ReadSource, Sink, Source, WriteSink};
+
+/// What settings are made of.
+pub mod config {
+    pub use papergrid_values::{Entity, Indent, Position, Sides};
+}

@@ -1,0 +1,139 @@
+//! The whole run: read to the end, judge, write.
+
+ghost use Rattle.std.specs.Prelude.{◌≡◌, ◌⊎◌, ℕ, take, true, false, IfOk, IfSome, OnOk, OnErr, IsErrOf};
+ghost use Rattle.std.specs.Io.KnownBytes.{Appends, Consumes, IsAtEnd, Keeps};
+ghost use Rattle.papergrid.specs.Outputs.{end_of, output_of};
+ghost use Rattle.papergrid.specs.declared.running.RunFault.TheVariants.{Memory};
+
+use crate::estimate::{LayoutError, estimate};
+use crate::output::{bad_script_text, out_of_table_text, sizes_text, too_large_text};
+use crate::script::{ScriptError, read_script};
+use crate::transfer::{Failed, Sink, Source};
+use std::alloc::{AllocError, AllocFailed, Global};
+
+/// How a run ended that read its whole input and wrote its whole output.
+#[derive(Clone, Copy, Debug, PartialEq, Eq)]
+pub enum RunEnd {
+    /// The sizes were written.
+    Done,
+    /// The table has no sizes, and why was written.
+    Refused,
+    /// The script has a bad line, and its number was written.
+    BadScript,
+}
+
+/// What kept a run from its end.
+#[derive(Clone, Copy, Debug, PartialEq, Eq)]
+pub enum RunFault {
+    /// A growth was refused. Nothing was written.
+    Memory,
+    /// The reader failed. Nothing was written.
+    Read,
+    /// The writer failed, or took no byte. A beginning of the output was written.
+    Write,
+}
+
+impl From<AllocError> for RunFault {
+    ghost from_gives = { λ _ e. e ≡ Memory };
+
+    fn from(_error: AllocError) -> RunFault {
+        RunFault::Memory
+    }
+}
+
+impl<T: Drop> From<AllocFailed<T>> for RunFault {
+    ghost from_gives = { λ _ e. e ≡ Memory };
+
+    fn from(_error: AllocFailed<T>) -> RunFault {
+        RunFault::Memory
+    }
+}
+
+/// All the bytes that are left.
+fn read_all<S: Source>(alloc: Global, reader: &mut S) -> Result<Vec<u8>, RunFault>
+    ensures bytes { IfOk result (λ input. IfSome (S.remaining reader.old) (λ left. input.items ≡ left)) }
+    ensures end { OnOk result (IsAtEnd (S.remaining reader.new)) }
+    ensures works { OnOk result (S.has_failed reader.new ≡ S.has_failed reader.old) }
+    ensures read { IsErrOf result RunFault.Read → S.has_failed reader.new ≡ true }
+    ensures never_write { IsErrOf result RunFault.Write → ⊥ }
+{
+    let mut input = Vec::new(alloc);
+    let mut buffer = [0u8; 16384];
+    for _ in 0..u64::MAX {
+        match reader.read(&mut buffer) {
+            Err(_) => return Err(RunFault::Read),
+            Ok(0) => return Ok(input),
+            Ok(count) => input.extend_from_slice(&buffer[..count])?,
+        }
+    }
+    Err(RunFault::Memory)
+}
+
+/// Writes all the bytes.
+fn write_all<W: Sink>(writer: &mut W, bytes: &[u8]) -> Result<(), Failed>
+    ensures ok { OnOk result (Appends (W.contents writer.old) (W.contents writer.new) bytes.now) }
+    ensures works { OnOk result (W.has_failed writer.new ≡ W.has_failed writer.old) }
+    ensures beginning { OnErr result ((n : ℕ) × Appends (W.contents writer.old) (W.contents writer.new) (take n bytes.now)) }
+    ensures failed { OnErr result ((W.has_failed writer.new ≡ true) ⊎ (W.has_stalled writer.old ≡ false → W.has_stalled writer.new ≡ true)) }
+{
+    let mut at = 0;
+    while at < bytes.len() {
+        let count = writer.write(&bytes[at..])?;
+        if count == 0 {
+            return Err(Failed);
+        }
+        at += count;
+    }
+    Ok(())
+}
+
+/// How the run of an input ends, and what is written.
+#[tactic(auto, unfolding(crate::specs::Outputs::output_of, crate::specs::Outputs::end_of))]
+fn answer(alloc: Global, input: &[u8]) -> Result<(RunEnd, Vec<u8>), AllocError>
+    ensures end { IfOk result (λ answer. answer.0 ≡ end_of input.now) }
+    ensures text { IfOk result (λ answer. answer.1.items ≡ output_of input.now) }
+{
+    match read_script(alloc, input) {
+        Err(ScriptError::Memory) => Err(AllocError),
+        Err(ScriptError::Bad(number)) => Ok((RunEnd::BadScript, bad_script_text(alloc, number)?)),
+        Ok(script) => match estimate(alloc, &script) {
+            Err(LayoutError::Memory) => Err(AllocError),
+            Err(LayoutError::OutOfTable(position)) => {
+                Ok((RunEnd::Refused, out_of_table_text(alloc, position)?))
+            }
+            Err(LayoutError::TooLarge) => Ok((RunEnd::Refused, too_large_text(alloc)?)),
+            Ok(sizes) => Ok((RunEnd::Done, sizes_text(alloc, &sizes)?)),
+        },
+    }
+}
+
+/// Reads a script to its end, and writes the sizes of its table, or why it has none.
+pub fn run<S: Source, W: Sink>(
+    alloc: Global,
+    reader: &mut S,
+    writer: &mut W,
+) -> Result<RunEnd, RunFault>
+    // Of a reader and a writer that had not failed.
+    requires reader { S.has_failed reader.old ≡ false }
+    requires writer { W.has_failed writer.old ≡ false }
+    // The input was read to its end, and what it means was written and nothing else.
+    ensures end { OnOk result (IsAtEnd (S.remaining reader.new)) }
+    ensures written { OnOk result (IfSome (S.remaining reader.old) (λ input.
+        Appends (W.contents writer.old) (W.contents writer.new) (output_of input))) }
+    ensures answer { IfOk result (λ end. IfSome (S.remaining reader.old) (λ input. end ≡ end_of input)) }
+    // Which fault comes, and what was written then.
+    ensures read { IsErrOf result RunFault.Read → S.has_failed reader.new ≡ true }
+    ensures write { IsErrOf result RunFault.Write →
+        (W.has_failed writer.new ≡ true) ⊎ (W.has_stalled writer.old ≡ false → W.has_stalled writer.new ≡ true) }
+    ensures read_nothing { IsErrOf result RunFault.Read → writer.new ≡ writer.old }
+    ensures memory_nothing { IsErrOf result RunFault.Memory → writer.new ≡ writer.old }
+    ensures beginning { IsErrOf result RunFault.Write → IfSome (S.remaining reader.old) (λ input.
+        (n : ℕ) × Appends (W.contents writer.old) (W.contents writer.new) (take n (output_of input))) }
+{
+    let input = read_all(alloc, reader)?;
+    let (end, output) = answer(alloc, input.as_slice())?;
+    match write_all(writer, output.as_slice()) {
+        Ok(()) => Ok(end),
+        Err(_) => Err(RunFault::Write),
+    }
+}
