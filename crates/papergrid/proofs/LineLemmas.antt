@@ -1,11 +1,11 @@
 -- The lines of a script, one after another.
-use Rattle.std.proofs.Common.{◌≡◌, ◌<◌, ◌+◌, ◌∷◌, [], ℕ, List, Option, Some, None, Result, Ok, Err, true, false, map, length, get_or, drop, nat_eq, refl, sym, ap, ◌∙◌, arith}
+use Rattle.std.proofs.Common.{◌≡◌, ◌<◌, ◌+◌, ◌∷◌, [], ℕ, List, Option, Some, None, Result, Ok, Err, false, map, length, get_or, drop, nat_eq, refl, sym, ap, ◌∙◌, arith}
 use Rattle.std.specs.Prelude.{option_and_then}
 use Rattle.std.specs.List.{slice_split}
 use Rattle.std.specs.Str.{chars, is_utf8}
 use Rattle.std.proofs.lemmas.Bool.Decides.{nat_tests}
 use Rattle.std.proofs.lemmas.List.{at_drop_more, at_drop_all}
-use Rattle.papergrid.specs.Grammar.{Said, Nothing, said, text_says, without_cr, without_empty_last, script_lines}
+use Rattle.papergrid.specs.Grammar.{Nothing, said, text_says, without_cr, without_empty_last, script_lines}
 use Rattle.papergrid.specs.Scripts.{Table, empty_table, with_line, or_bad, table_after, table_of}
 
 or_bad-same : (number : ℕ) (o : Option Table) (f g : Table → Result Table ℕ) → ((table : Table) → f table ≡ g table) → or_bad number o f ≡ or_bad number o g

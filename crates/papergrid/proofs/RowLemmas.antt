@@ -1,10 +1,9 @@
 -- The calls that concern a row decide all of its cells.
 use Rattle.std.proofs.Common.{◌≡◌, ℕ, List, [], ◌∷◌, ◌++◌, Bool, true, false, cond, reverse, refl, sym, ap, ◌∙◌, append-nil}
-use Rattle.std.specs.Prelude.{filter, nat_eq}
+use Rattle.std.specs.Prelude.{filter}
 use Rattle.std.proofs.lemmas.List.{reverse-append}
 use Rattle.std.proofs.lemmas.List.Elements.{filter-append}
 use Rattle.papergrid_values.specs.declared.entity.Entity.TheVariants.{Global, Column, Row, Cell}
-use Rattle.papergrid_values.specs.declared.position.Position.{Position}
 use Rattle.papergrid.specs.declared.entity_map.MapCall.{MapCall}
 use Rattle.papergrid.specs.declared.entity_map.MapCall.TheVariants.{Insert, Remove}
 use Rattle.papergrid.specs.Calls.{column_value, row_value, global_value, pinned_value, decided_by, decided_value, concerns}

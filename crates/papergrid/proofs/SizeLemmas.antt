@@ -1,7 +1,7 @@
 -- Sizes that are raised to one need after another are the greatest needs.
-use Rattle.std.proofs.Common.{◌≡◌, ◌⊎◌, ◌≤◌, ◌<◌, ◌+◌, ◌^◌, ◌&&◌, ◌||◌, ◌++◌, ◌∷◌, [], ℕ, zero, suc, List, Bool, true, false, Option, Some, None, option_map, map, length, take, drop, get_or, set, refl, sym, ap, ◌∙◌, subst, arith, inl, inr, nat_lt, nat_le, nat_eq}
+use Rattle.std.proofs.Common.{◌≡◌, ◌⊎◌, ◌≤◌, ◌<◌, ◌+◌, ◌^◌, ◌&&◌, ◌||◌, ◌++◌, ◌∷◌, [], ℕ, zero, suc, List, Bool, true, false, Some, None, map, length, take, drop, get_or, refl, sym, ap, ◌∙◌, subst, arith, inl, inr, nat_lt, nat_le, nat_eq}
 use Rattle.std.specs.Prelude.{max, sum, filter, replicate}
-use Rattle.std.specs.List.{list_all, find, range_with_len}
+use Rattle.std.specs.List.{list_all, range_with_len}
 use Rattle.std.proofs.lemmas.Bool.Decides.{nat_tests}
 use Rattle.std.proofs.lemmas.List.{get_or-set_same, get_or-set_other, length-set, length-replicate, get_or-replicate}
 use Rattle.std.proofs.lemmas.List.Folds.{list_all-append}
@@ -16,7 +16,7 @@ use Rattle.papergrid_values.specs.declared.indent.Indent.{Indent}
 use Rattle.papergrid_values.specs.declared.sides.Sides.{Sides}
 use Rattle.papergrid.specs.Cells.{TableCell, cells_of_row, cells_from, cells_of}
 use Rattle.papergrid.specs.Raising.{raised, raised_by, fits_in}
-use Rattle.papergrid.specs.Sizes.{Estimate, OutOfTable, TooLarge, Sized, sizes_of, first_out, column_of, row_of, width_need, height_need, widths_of, heights_of, unless_out, estimate_of}
+use Rattle.papergrid.specs.Sizes.{OutOfTable, TooLarge, Sized, sizes_of, first_out, column_of, row_of, width_need, height_need, widths_of, heights_of, unless_out, estimate_of}
 use Rattle.papergrid.specs.Scripts.{Table}
 use Rattle.papergrid.specs.Texts.{greatest}
 
@@ -59,7 +59,7 @@ module _ (along need : TableCell → ℕ) where
   raised_at true sizes cell cells i here within =
       let same : along cell ≡ i = eqb-true _ _ here in
       let value : get_or (raised sizes (along cell) (need cell)) i 0 ≡ max (get_or sizes i 0) (need cell) =
-          subst (λ (j : ℕ). get_or (raised sizes (along cell) (need cell)) j 0 ≡ max (get_or sizes j 0) (need cell)) same (get_or-set_same sizes (along cell) _ 0 within) in
+      subst (λ (j : ℕ). get_or (raised sizes (along cell) (need cell)) j 0 ≡ max (get_or sizes j 0) (need cell)) same (get_or-set_same sizes (along cell) _ 0 within) in
       rw here (omega (arith, value))
   raised_at false sizes cell cells i elsewhere within =
       let other : i ≡ along cell → ⊥ = λ e. eqb-false _ _ elsewhere (sym e) in
@@ -114,7 +114,6 @@ module _ (along need : TableCell → ℕ) where
       let many : along cell < length (map f (range_with_len 0 n)) = rw length-map-range_with_len below in
       let size : get_or (map f (range_with_len 0 n)) (along cell) 0 ≡ top_at (along cell) cells = get_or-map-range_with_len f 0 n (along cell) (along cell) 0 below (omega arith) in
       omega (arith, top_le cells k cell within is, size, get_or-le-sum (map f (range_with_len 0 n)) (along cell) many)
-
 
 -- ---- where the cells stand
 

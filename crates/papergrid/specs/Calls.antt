@@ -1,7 +1,6 @@
 -- What a list of calls decides for a cell. The searches go from the newest call back: their lists are newest first.
 use Rattle.std.specs.Prelude.{ℕ, ◌==◌, ◌&&◌, if◌then◌else◌, Bool, true, List, [], ◌∷◌, reverse, Option, Some, None, is_some, unwrap_or}
 use Rattle.papergrid_values.specs.declared.position.Position.{Position}
-use Rattle.papergrid_values.specs.declared.entity.Entity.{Entity}
 use Rattle.papergrid_values.specs.declared.entity.Entity.TheVariants.{Global, Column, Row, Cell}
 use Rattle.papergrid.specs.declared.entity_map.MapCall.{MapCall}
 use Rattle.papergrid.specs.declared.entity_map.MapCall.TheVariants.{Insert, Remove}

@@ -1,5 +1,5 @@
 -- What the lines of a script say.
-use Rattle.std.specs.Prelude.{ℕ, ◌-◌, ◌^◌, ◌&&◌, List, [], ◌∷◌, map, length, take, drop, Option, Some, None, option_map, option_and_then, ◌==◌, nat_lt, nat_eq, slice_index, if◌then◌else◌, codes, bytes_eq}
+use Rattle.std.specs.Prelude.{ℕ, ◌-◌, ◌^◌, ◌&&◌, List, [], ◌∷◌, map, length, take, drop, Option, Some, None, option_map, ◌==◌, nat_lt, nat_eq, slice_index, if◌then◌else◌, codes, bytes_eq}
 use Rattle.std.specs.List.{slice_split, starts_with, before_first, after_first, position_or_len}
 use Rattle.std.specs.Str.{is_utf8, all_ascii_digits}
 use Rattle.std.specs.Str.Parse.{digits_value}

@@ -4,6 +4,7 @@ pub mod Deciding
 pub mod Grammar
 pub mod Outputs
 pub mod Raising
+pub mod Rows
 pub mod Scripts
 pub mod Seen
 pub mod Sizes

@@ -1,6 +1,5 @@
 -- What the program writes for an input, and how it ends.
 use Rattle.std.specs.Prelude.{ℕ, List, [], ◌∷◌, ◌++◌, sum, Result, Ok, Err, codes, decimal, flat_map}
-use Rattle.papergrid_values.specs.declared.position.Position.{Position}
 use Rattle.papergrid.specs.declared.running.RunEnd.{RunEnd}
 use Rattle.papergrid.specs.declared.running.RunEnd.TheVariants.{Done, Refused, BadScript}
 use Rattle.papergrid.specs.Grammar.{space, comma}

@@ -1,5 +1,5 @@
 -- What clauses see of the values that the program holds.
-use Rattle.std.specs.Prelude.{◌≡◌, Some, None, ℕ, List, map, Option, Result, Ok, Err, Vec}
+use Rattle.std.specs.Prelude.{◌≡◌, ℕ, List, map, Result, Ok, Err, Vec}
 use Rattle.std.specs.Cow.{cow_str_bytes}
 use Rattle.std.specs.declared.alloc.Global.{Global}
 use Rattle.std.specs.declared.borrow.CowStr.{CowStr}

@@ -66,8 +66,12 @@ pub fn estimate(alloc: Global, script: &Script) -> Result<Sizes, LayoutError>
         return Err(LayoutError::OutOfTable(position));
     }
     let paddings = paddings(alloc, script.settings.as_slice())?;
-    let Some((widths, heights)) =
-        raised_sizes(alloc, &paddings, script.rows.as_slice(), script.columns)?
+    let Some((widths, heights)) = raised_sizes(
+        alloc,
+        &paddings,
+        script.rows.as_slice(),
+        script.columns,
+    )?
     else {
         return Err(LayoutError::TooLarge);
     };

@@ -1,1 +1,8 @@
-//! Laws of the definitions.
+//! Laws of the definitions, each the contract of a function that does nothing.
+
+ghost use Rattle.papergrid.specs.Rows.{WorkedRows};
+
+/// What the worked scripts give, by the definitions alone.
+pub fn worked_rows()
+    ensures { WorkedRows }
+{}

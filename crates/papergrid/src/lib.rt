@@ -11,6 +11,8 @@ mod running;
 mod script;
 mod script_line;
 mod setting;
+#[cfg(test)]
+mod tests;
 mod transfer;
 mod unescape;
 

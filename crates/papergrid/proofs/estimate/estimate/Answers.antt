@@ -1,8 +1,7 @@
-use Rattle.std.proofs.Common.{◌≡◌, ◌<◌, ◌≤◌, ◌^◌, List, Some, None, map, length, ap, sym, ◌∙◌, refl, arith, inl, inr}
+use Rattle.std.proofs.Common.{◌≡◌, ◌<◌, ◌≤◌, ◌^◌, List, map, length, ap, sym, ◌∙◌, refl, arith, inl, inr}
 use Rattle.std.specs.Prelude.{flat_map, sum}
 use Rattle.std.specs.List.{list_all}
 use Rattle.std.proofs.lemmas.List.{length-map}
-use Rattle.papergrid_values.specs.declared.position.Position.{Position}
 use Rattle.papergrid_values.specs.declared.indent.Indent.{Indent}
 use Rattle.papergrid_values.specs.declared.sides.Sides.{Sides}
 use Rattle.papergrid.specs.declared.setting.Setting.{Setting}
@@ -42,7 +41,7 @@ returns-in_default-total-clause-told c =
     let padding = same_padding _ _ c.args.script.now.settings.items _ c.in_ok-paddings.ensures.given c.in_ok-paddings.ensures.calls c.as_slice-2.ensures.value in
     let none = c.in_default.ensures.first ∙ ap (λ rows. first_out c.args.script.now.columns (cells_of (map texts_of rows))) c.as_slice.ensures.value in
     let widths : c.in-Some-2.widths.items ≡ widths_of (table_seen c.args.script.now) = (rw c.in-Some-2.is at c.in_ok-widths.ensures.widths)
-        ∙ both_same (λ pad rows. sizes_of column_of (width_need pad) c.args.script.now.columns (cells_of (map texts_of rows))) _ _ _ _ padding c.as_slice-3.ensures.value in
+    ∙ both_same (λ pad rows. sizes_of column_of (width_need pad) c.args.script.now.columns (cells_of (map texts_of rows))) _ _ _ _ padding c.as_slice-3.ensures.value in
     let past : 2 ^ 64 ≤ sum c.as_slice-4.result.now = omega (arith, c.in_default-total.ensures) in
     estimate-large (table_seen c.args.script.now) none (inl (rw (← widths, ← c.as_slice-4.ensures.value) past))
 
@@ -51,8 +50,8 @@ returns-in_default-total-2-clause-told c =
     let padding = same_padding _ _ c.args.script.now.settings.items _ c.in_ok-paddings.ensures.given c.in_ok-paddings.ensures.calls c.as_slice-2.ensures.value in
     let none = c.in_default.ensures.first ∙ ap (λ rows. first_out c.args.script.now.columns (cells_of (map texts_of rows))) c.as_slice.ensures.value in
     let heights : c.in-Some-2.heights.items ≡ heights_of (table_seen c.args.script.now) = (rw c.in-Some-2.is at c.in_ok-widths.ensures.heights)
-        ∙ both_same (λ pad rows. sizes_of row_of (height_need pad) (length rows) (cells_of (map texts_of rows))) _ _ _ _ padding c.as_slice-3.ensures.value
-        ∙ ap (λ n. sizes_of row_of (height_need (padding_at c.args.script.now.settings.items)) n (cells_of (map texts_of c.args.script.now.rows.items))) (sym (length-map c.args.script.now.rows.items texts_of)) in
+    ∙ both_same (λ pad rows. sizes_of row_of (height_need pad) (length rows) (cells_of (map texts_of rows))) _ _ _ _ padding c.as_slice-3.ensures.value
+    ∙ ap (λ n. sizes_of row_of (height_need (padding_at c.args.script.now.settings.items)) n (cells_of (map texts_of c.args.script.now.rows.items))) (sym (length-map c.args.script.now.rows.items texts_of)) in
     let past : 2 ^ 64 ≤ sum c.as_slice-5.result.now = omega (arith, c.in_default-total-2.ensures) in
     estimate-large (table_seen c.args.script.now) none (inr (rw (← heights, ← c.as_slice-5.ensures.value) past))
 
@@ -61,10 +60,10 @@ returns-clause-told c =
     let padding = same_padding _ _ c.args.script.now.settings.items _ c.in_ok-paddings.ensures.given c.in_ok-paddings.ensures.calls c.as_slice-2.ensures.value in
     let none = c.in_default.ensures.first ∙ ap (λ rows. first_out c.args.script.now.columns (cells_of (map texts_of rows))) c.as_slice.ensures.value in
     let widths : c.in-Some-2.widths.items ≡ widths_of (table_seen c.args.script.now) = (rw c.in-Some-2.is at c.in_ok-widths.ensures.widths)
-        ∙ both_same (λ pad rows. sizes_of column_of (width_need pad) c.args.script.now.columns (cells_of (map texts_of rows))) _ _ _ _ padding c.as_slice-3.ensures.value in
+    ∙ both_same (λ pad rows. sizes_of column_of (width_need pad) c.args.script.now.columns (cells_of (map texts_of rows))) _ _ _ _ padding c.as_slice-3.ensures.value in
     let heights : c.in-Some-2.heights.items ≡ heights_of (table_seen c.args.script.now) = (rw c.in-Some-2.is at c.in_ok-widths.ensures.heights)
-        ∙ both_same (λ pad rows. sizes_of row_of (height_need pad) (length rows) (cells_of (map texts_of rows))) _ _ _ _ padding c.as_slice-3.ensures.value
-        ∙ ap (λ n. sizes_of row_of (height_need (padding_at c.args.script.now.settings.items)) n (cells_of (map texts_of c.args.script.now.rows.items))) (sym (length-map c.args.script.now.rows.items texts_of)) in
+    ∙ both_same (λ pad rows. sizes_of row_of (height_need pad) (length rows) (cells_of (map texts_of rows))) _ _ _ _ padding c.as_slice-3.ensures.value
+    ∙ ap (λ n. sizes_of row_of (height_need (padding_at c.args.script.now.settings.items)) n (cells_of (map texts_of c.args.script.now.rows.items))) (sym (length-map c.args.script.now.rows.items texts_of)) in
     let narrow : sum (widths_of (table_seen c.args.script.now)) < 2 ^ 64 = rw (← widths, ← c.as_slice-4.ensures.value) c.in-Some-total.ensures.0 in
     let low : sum (heights_of (table_seen c.args.script.now)) < 2 ^ 64 = rw (← heights, ← c.as_slice-5.ensures.value) c.in-Some-total-2.ensures.0 in
     estimate-sized (table_seen c.args.script.now) none narrow low ∙ rw (widths, heights) refl

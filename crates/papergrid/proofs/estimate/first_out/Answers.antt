@@ -1,4 +1,4 @@
-use Rattle.std.proofs.Common.{◌≡◌, ◌≤◌, ◌<◌, ◌+◌, Some, length, ap, sym, ◌∙◌, subst, arith, ◌++◌, ◌∷◌, [], List, take}
+use Rattle.std.proofs.Common.{◌≤◌, ◌<◌, ◌+◌, Some, length, ap, sym, ◌∙◌, subst, arith, ◌++◌, ◌∷◌, [], take}
 use Rattle.std.specs.Prelude.{All}
 use Rattle.std.proofs.lemmas.List.{length-map, take_all, take_more}
 use Rattle.std.proofs.lemmas.List.Elements.{All-push}

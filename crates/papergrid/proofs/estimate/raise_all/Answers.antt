@@ -4,7 +4,7 @@ use Rattle.papergrid.specs.Calls.{decided_value}
 use Rattle.papergrid.specs.Raising.{fits_in}
 use Rattle.papergrid.specs.Seen.{texts_of}
 use Rattle.papergrid.specs.Sizes.{column_of, row_of, height_need, width_need}
-use Rattle.papergrid.proofs.CellLemmas.{rows_go, rows_raise, rows_stop}
+use Rattle.papergrid.proofs.CellLemmas.{rows_go, rows_raise}
 use Rattle.papergrid.proofs.estimate.raise_all.Goals as goal
 
 pub loop-row-preserved : goal.loop-row-preserved

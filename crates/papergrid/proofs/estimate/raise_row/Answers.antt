@@ -1,4 +1,4 @@
-use Rattle.std.proofs.Common.{◌≡◌, ◌<◌, ◌^◌, arith, refl, ap, ◌∙◌}
+use Rattle.std.proofs.Common.{◌<◌, ◌^◌, arith, refl, ap, ◌∙◌}
 use Rattle.std.specs.Cow.{cow_str_bytes}
 use Rattle.papergrid.specs.Calls.{decided_value}
 use Rattle.papergrid.specs.Raising.{fits_in}
@@ -12,7 +12,7 @@ returns-in_default-clause-fits c =
     let padding = decided_value c.args.paddings.now.given c.args.paddings.now.calls.items in
     let cell = cell_at c.args.row c.loop-col.col (cow_str_bytes c.index-cells-col.result) in
     let sides = c.get-padding.ensures ∙ ap (decided_value c.in_ok-row_paddings.row_paddings.given c.in_ok-row_paddings.row_paddings.calls.items) c.new.ensures
-        ∙ c.in_ok-row_paddings.ensures c.loop-col.col in
+    ∙ c.in_ok-row_paddings.ensures c.loop-col.col in
     let need = wide_need padding cell.place cell.text c.width.result _ c.get-padding.result (c.width.ensures ∙ ap text_width c.as_str-text.ensures.value) sides refl in
     row_stops (fits_in padding) _ cow_str_bytes _ _ _ _ c.loop-col-test.true c.index-cells-col.is (too_wide padding cell _ need c.in_default.ensures) c.loop-col.invariant.fits
 
@@ -21,7 +21,7 @@ returns-in_default-need-clause-fits c =
     let padding = decided_value c.args.paddings.now.given c.args.paddings.now.calls.items in
     let cell = cell_at c.args.row c.loop-col.col (cow_str_bytes c.index-cells-col.result) in
     let sides = c.get-padding.ensures ∙ ap (decided_value c.in_ok-row_paddings.row_paddings.given c.in_ok-row_paddings.row_paddings.calls.items) c.new.ensures
-        ∙ c.in_ok-row_paddings.ensures c.loop-col.col in
+    ∙ c.in_ok-row_paddings.ensures c.loop-col.col in
     let need = high_need padding cell.place cell.text c.height.result _ c.get-padding.result (c.height.ensures ∙ ap text_height c.as_str-text.ensures.value) sides refl in
     row_stops (fits_in padding) _ cow_str_bytes _ _ _ _ c.loop-col-test.true c.index-cells-col.is (too_high padding cell _ need c.in_default-need.ensures) c.loop-col.invariant.fits
 
@@ -30,7 +30,7 @@ loop-col-preserved c =
     let padding = decided_value c.args.paddings.now.given c.args.paddings.now.calls.items in
     let cell = cell_at c.args.row c.loop-col.col (cow_str_bytes c.index-cells-col.result) in
     let sides = c.get-padding.ensures ∙ ap (decided_value c.in_ok-row_paddings.row_paddings.given c.in_ok-row_paddings.row_paddings.calls.items) c.new.ensures
-        ∙ c.in_ok-row_paddings.ensures c.loop-col.col in
+    ∙ c.in_ok-row_paddings.ensures c.loop-col.col in
     let width = wide_need padding cell.place cell.text c.width.result c.in-Some.width c.get-padding.result (c.width.ensures ∙ ap text_width c.as_str-text.ensures.value) sides c.in-Some.ensures.1 in
     let height = high_need padding cell.place cell.text c.height.result c.in-Some-need.height c.get-padding.result (c.height.ensures ∙ ap text_height c.as_str-text.ensures.value) sides c.in-Some-need.ensures.1 in
     let narrow : c.in-Some.width < 2 ^ 64 = omega (arith, c.in-Some.ensures.0, c.in-Some.ensures.1) in

@@ -1,4 +1,4 @@
-use Rattle.std.proofs.Common.{◌≡◌, ◌+◌, nat_eq, ap, sym, ◌∙◌, rules, tests}
+use Rattle.std.proofs.Common.{◌+◌, nat_eq, ap, sym, ◌∙◌, rules, tests}
 use Rattle.std.specs.Slice.Iter as slice
 use Rattle.std.proofs.lemmas.List.{length_push}
 use Rattle.std.proofs.lemmas.Iterator.Consumers.{YieldsList-turn, YieldsList-end}

@@ -1,0 +1,23 @@
+-- Worked scripts: what is written for each, and how its run ends.
+use Rattle.std.specs.Prelude.{◌≡◌, codes, List, ℕ}
+use Rattle.papergrid.specs.declared.running.RunEnd.{RunEnd}
+use Rattle.papergrid.specs.declared.running.RunEnd.TheVariants.{Done, Refused, BadScript}
+use Rattle.papergrid.specs.Outputs.{output_of, end_of}
+
+-- the output of a script, and its end
+pub record Gives (script output : List ℕ) (end : RunEnd) : Type 0 where
+  pub written : output_of script ≡ output
+  pub ended : end_of script ≡ end
+
+pub record WorkedRows : Type 0 where
+  pub first_run : Gives (codes "columns 2\npad * 1 1 0 0\npad 0,1 0 3 1 0\nrow\ncell ab\ncell c\\nde\nrow\ncell\ncell xyz\n") (codes "widths 4 5\nheights 3 1\ntotal 9 4\n") Done
+  pub short_row : Gives (codes "columns 3\nrow\ncell ab\nrow\n") (codes "widths 2 0 0\nheights 1 0\ntotal 2 1\n") Done
+  pub out_before_too_large : Gives (codes "columns 1\npad * 18446744073709551615 0 0 0\nrow\ncell a\ncell b\n") (codes "refused: out of table at 0,1\n") Refused
+  pub row_pin_over_column : Gives (codes "pad c0 1 0 0 0\ncolumns 1\nrow\ncell\ncell\ncolumns 2\npad r0 0 5 0 0\n") (codes "widths 5 5\nheights 1\ntotal 10 1\n") Done
+  pub greatest_size : Gives (codes "columns 1\npad * 18446744073709551615 0 0 0\nrow\ncell\n") (codes "widths 18446744073709551615\nheights 1\ntotal 18446744073709551615 1\n") Done
+  pub greatest_size_and_one : Gives (codes "columns 1\npad * 18446744073709551615 0 0 0\nrow\ncell a\n") (codes "refused: too large\n") Refused
+  pub out_of_table : Gives (codes "columns 1\nrow\ncell a\ncell b\n") (codes "refused: out of table at 0,1\n") Refused
+  pub no_columns : Gives (codes "columns 0\n") (codes "widths\nheights\ntotal 0 0\n") Done
+  pub empty_input : Gives (codes "") (codes "widths\nheights\ntotal 0 0\n") Done
+  pub cell_before_row : Gives (codes "cell a\n") (codes "bad script at line 1\n") BadScript
+  pub bad_escape : Gives (codes "columns 2\n\nrow\ncell a\\x\n") (codes "bad script at line 4\n") BadScript

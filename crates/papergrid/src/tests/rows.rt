@@ -1,0 +1,145 @@
+//! Worked scripts.
+
+use super::check;
+use crate::RunEnd;
+use std::test::Fail;
+
+#[test]
+fn first_run(rt: HostRuntime) -> Result<(), Fail> {
+    check(
+        &rt,
+        rt.alloc(),
+        b"columns 2\npad * 1 1 0 0\npad 0,1 0 3 1 0\nrow\ncell ab\ncell c\\nde\nrow\ncell\ncell xyz\n",
+        "widths 4 5\nheights 3 1\ntotal 9 4\n",
+        RunEnd::Done,
+    )
+}
+
+#[test]
+fn short_row(rt: HostRuntime) -> Result<(), Fail> {
+    check(
+        &rt,
+        rt.alloc(),
+        b"columns 3\nrow\ncell ab\nrow\n",
+        "widths 2 0 0\nheights 1 0\ntotal 2 1\n",
+        RunEnd::Done,
+    )
+}
+
+#[test]
+fn out_before_too_large(rt: HostRuntime) -> Result<(), Fail> {
+    check(
+        &rt,
+        rt.alloc(),
+        b"columns 1\npad * 18446744073709551615 0 0 0\nrow\ncell a\ncell b\n",
+        "refused: out of table at 0,1\n",
+        RunEnd::Refused,
+    )
+}
+
+#[test]
+fn row_pin_over_column(rt: HostRuntime) -> Result<(), Fail> {
+    check(
+        &rt,
+        rt.alloc(),
+        b"pad c0 1 0 0 0\ncolumns 1\nrow\ncell\ncell\ncolumns 2\npad r0 0 5 0 0\n",
+        "widths 5 5\nheights 1\ntotal 10 1\n",
+        RunEnd::Done,
+    )
+}
+
+#[test]
+fn greatest_size(rt: HostRuntime) -> Result<(), Fail> {
+    check(
+        &rt,
+        rt.alloc(),
+        b"columns 1\npad * 18446744073709551615 0 0 0\nrow\ncell\n",
+        "widths 18446744073709551615\nheights 1\ntotal 18446744073709551615 1\n",
+        RunEnd::Done,
+    )?;
+    check(
+        &rt,
+        rt.alloc(),
+        b"columns 1\npad * 18446744073709551615 0 0 0\nrow\ncell a\n",
+        "refused: too large\n",
+        RunEnd::Refused,
+    )
+}
+
+#[test]
+fn out_of_table(rt: HostRuntime) -> Result<(), Fail> {
+    check(
+        &rt,
+        rt.alloc(),
+        b"columns 1\nrow\ncell a\ncell b\n",
+        "refused: out of table at 0,1\n",
+        RunEnd::Refused,
+    )
+}
+
+#[test]
+fn empty_tables(rt: HostRuntime) -> Result<(), Fail> {
+    let output = "widths\nheights\ntotal 0 0\n";
+    check(&rt, rt.alloc(), b"columns 0\n", output, RunEnd::Done)?;
+    check(&rt, rt.alloc(), b"", output, RunEnd::Done)
+}
+
+#[test]
+fn bad_scripts(rt: HostRuntime) -> Result<(), Fail> {
+    check(
+        &rt,
+        rt.alloc(),
+        b"cell a\n",
+        "bad script at line 1\n",
+        RunEnd::BadScript,
+    )?;
+    check(
+        &rt,
+        rt.alloc(),
+        b"columns 2\n\nrow\ncell a\\x\n",
+        "bad script at line 4\n",
+        RunEnd::BadScript,
+    )
+}
+
+/// A line of each fault is named by its number, and a later fault is not looked at.
+#[test]
+fn first_bad_line(rt: HostRuntime) -> Result<(), Fail> {
+    let second: [&[u8]; 12] = [
+        b"\xff",
+        b"columns 18446744073709551616",
+        b"columns +1",
+        b"columns ",
+        b"columns 1 ",
+        b" columns 1",
+        b"column 1",
+        b"pad * 1 2 3",
+        b"pad x1 1 2 3 4",
+        b"colspan 0,0 2",
+        b"border |",
+        b"cell a",
+    ];
+    for line in second {
+        let script = [b"columns 1\n", line, b"\n\xff\n"].concat(rt.alloc())?;
+        check(
+            &rt,
+            rt.alloc(),
+            script.as_slice(),
+            "bad script at line 2\n",
+            RunEnd::BadScript,
+        )?;
+    }
+    Ok(())
+}
+
+/// CR LF, leading zeros, a last line without a newline, and a tab and a CR in a text.
+#[test]
+fn lines_as_they_come(rt: HostRuntime) -> Result<(), Fail> {
+    check(
+        &rt,
+        rt.alloc(),
+        b"columns 0000000000000000000000002\r\n\r\npad 00,01 01 0 0 00\r\nrow\r\ncell a\rb\tc\r\ncell Go \xf0\x9f\x91\x8d\\nC \xf0\x9f\x98\x8e",
+        "widths 5 6\nheights 2\ntotal 11 2\n",
+        RunEnd::Done,
+    )
+}
