@@ -11,7 +11,7 @@ abbrev is_backslash : ℕ → Bool
 is_backslash b = nat_eq b 92
 
 -- a byte that begins no escape stays
-unescaped-plain : (b : ℕ) (bs : List ℕ) → nat_eq b 92 ≡ false → unescaped (b ∷ bs) ≡ option_map (λ rest. b ∷ rest) (unescaped bs)
+pub unescaped-plain : (b : ℕ) (bs : List ℕ) → nat_eq b 92 ≡ false → unescaped (b ∷ bs) ≡ option_map (λ rest. b ∷ rest) (unescaped bs)
 unfolding unescaped
 unescaped-plain b [] plain = rw plain refl
 unescaped-plain b (c ∷ bs) plain = rw plain refl

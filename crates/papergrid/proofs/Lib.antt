@@ -1,6 +1,9 @@
 mod CellLemmas
+mod DecidedLemmas
 mod EscapeLemmas
 mod KnownLemmas
 mod LineLemmas
+mod ReadLemmas
 mod RowLemmas
 mod SizeLemmas
+mod SpellLemmas

@@ -1,5 +1,6 @@
 pub mod Calls
 pub mod Cells
+pub mod Decided
 pub mod Deciding
 pub mod Grammar
 pub mod Outputs
@@ -8,5 +9,6 @@ pub mod Rows
 pub mod Scripts
 pub mod Seen
 pub mod Sizes
+pub mod Spelling
 pub mod Texts
 pub mod Transfer

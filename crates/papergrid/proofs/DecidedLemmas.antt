@@ -1,0 +1,405 @@
+-- The search for the deciding call finds the one that decides by its place.
+use Rattle.std.proofs.Common.{◌≡◌, ◌⊎◌, ◌<◌, ◌≤◌, ◌+◌, ◌&&◌, ◌++◌, ◌∷◌, [], ℕ, zero, suc, List, Bool, true, false, cond, Option, Some, None, length, take, get_or, reverse, refl, sym, ap, ◌∙◌, subst, arith, inl, inr, nat_eq}
+use Rattle.std.specs.Prelude.{find, slice_get, is_some, unwrap_or}
+use Rattle.std.proofs.lemmas.List.{reverse-append, take_more, take_all}
+use Rattle.std.proofs.lemmas.Option.{same_Some, none-some, slice_get_cases, slice_get_within, get_or_from_slice_get}
+use borrow.Author.Tests.{eqb-true, eqb-false, eq-eqb}
+use Rattle.papergrid.proofs.ReadLemmas.{chosen}
+use Rattle.papergrid_values.specs.declared.entity.Entity.TheVariants.{Global, Column, Row, Cell}
+use Rattle.papergrid.specs.declared.entity_map.MapCall.{MapCall}
+use Rattle.papergrid.specs.declared.entity_map.MapCall.TheVariants.{Insert, Remove}
+use Rattle.papergrid.specs.Calls.{column_value, row_value, global_value, pinned_value, decided_by, decided_value}
+use Rattle.papergrid.specs.Decided.{is_global, concerns_column, concerns_row, sets_all, ends_pins, IsLast, ColumnStands, RowStands, IsPin, PinStands, TableStands, NoTable, NoPin, NoColumn, NoRow, IsDecided, ByPin, ByColumn, ByRow, ByTable, ByDefault}
+
+earlier : (j n : ℕ) → j < suc n → (j < n) ⊎ (j ≡ n)
+earlier j n h = grind arith
+
+-- ---- the values found, by the calls found
+
+module _ {T : Type 0} where
+  abbrev column_set : Option (MapCall T) → Option T
+  column_set (Some (Insert (Column k) v)) = Some v
+  column_set found = None
+
+  abbrev row_set : Option (MapCall T) → Option T
+  row_set (Some (Insert (Row k) v)) = Some v
+  row_set found = None
+
+  abbrev table_set : T → Option (MapCall T) → T
+  table_set given (Some (Insert Global v)) = v
+  table_set given found = given
+
+  set_column : (b : Bool) (k : ℕ) (v : T) (o : Option (MapCall T)) → cond b (Some v) (column_set o) ≡ column_set (cond b (Some (Insert (Column k) v)) o)
+  set_column true k v o = refl
+  set_column false k v o = refl
+
+  set_row : (b : Bool) (k : ℕ) (v : T) (o : Option (MapCall T)) → cond b (Some v) (row_set o) ≡ row_set (cond b (Some (Insert (Row k) v)) o)
+  set_row true k v o = refl
+  set_row false k v o = refl
+
+  column_found : (c : ℕ) (newest : List (MapCall T)) → column_value c newest ≡ column_set (find (concerns_column c) newest)
+  column_found c [] = refl
+  column_found c (Insert Global v ∷ older) = refl
+  column_found c (Remove Global ∷ older) = refl
+  column_found c (Insert (Column k) v ∷ older) = ap (λ o. cond (nat_eq k c) (Some v) o) (column_found c older) ∙ set_column (nat_eq k c) k v (find (concerns_column c) older)
+  column_found c (Insert (Row k) v ∷ older) = column_found c older
+  column_found c (Insert (Cell i j) v ∷ older) = column_found c older
+  column_found c (Remove (Column k) ∷ older) = column_found c older
+  column_found c (Remove (Row k) ∷ older) = column_found c older
+  column_found c (Remove (Cell i j) ∷ older) = column_found c older
+
+  row_found : (r : ℕ) (newest : List (MapCall T)) → row_value r newest ≡ row_set (find (concerns_row r) newest)
+  row_found r [] = refl
+  row_found r (Insert Global v ∷ older) = refl
+  row_found r (Remove Global ∷ older) = refl
+  row_found r (Insert (Row k) v ∷ older) = ap (λ o. cond (nat_eq k r) (Some v) o) (row_found r older) ∙ set_row (nat_eq k r) k v (find (concerns_row r) older)
+  row_found r (Insert (Column k) v ∷ older) = row_found r older
+  row_found r (Insert (Cell i j) v ∷ older) = row_found r older
+  row_found r (Remove (Column k) ∷ older) = row_found r older
+  row_found r (Remove (Row k) ∷ older) = row_found r older
+  row_found r (Remove (Cell i j) ∷ older) = row_found r older
+
+  table_found : (given : T) (newest : List (MapCall T)) → global_value given newest ≡ table_set given (find sets_all newest)
+  table_found given [] = refl
+  table_found given (Insert Global v ∷ older) = refl
+  table_found given (Remove Global ∷ older) = table_found given older
+  table_found given (Insert (Row k) v ∷ older) = table_found given older
+  table_found given (Insert (Column k) v ∷ older) = table_found given older
+  table_found given (Insert (Cell i j) v ∷ older) = table_found given older
+  table_found given (Remove (Column k) ∷ older) = table_found given older
+  table_found given (Remove (Row k) ∷ older) = table_found given older
+  table_found given (Remove (Cell i j) ∷ older) = table_found given older
+
+  -- the value to which a call pins a cell, after these older calls
+  abbrev pin_of : ℕ → ℕ → List (MapCall T) → MapCall T → Option T
+  pin_of r c older (Insert (Cell i j) v) = cond (nat_eq i r && nat_eq j c) (Some v) None
+  pin_of r c older (Insert (Row i) v) = cond (nat_eq i r && is_some (column_value c older)) (Some v) None
+  pin_of r c older (Insert (Column j) v) = cond (nat_eq j c && is_some (row_value r older)) (Some v) None
+  pin_of r c older call = None
+
+  abbrev or_older : Option T → Option T → Option T
+  or_older (Some v) o = Some v
+  or_older None o = o
+
+  pick : (b : Bool) (v : T) (o : Option T) → cond b (Some v) o ≡ or_older (cond b (Some v) None) o
+  pick true v o = refl
+  pick false v o = refl
+
+  pinned_step : (r c : ℕ) (call : MapCall T) (older : List (MapCall T))
+      → pinned_value r c (call ∷ older) ≡ cond (ends_pins r c call) None (or_older (pin_of r c older call) (pinned_value r c older))
+  pinned_step r c (Insert Global v) older = refl
+  pinned_step r c (Remove Global) older = refl
+  pinned_step r c (Insert (Cell i j) v) older = pick (nat_eq i r && nat_eq j c) v (pinned_value r c older)
+  pinned_step r c (Insert (Row i) v) older = pick (nat_eq i r && is_some (column_value c older)) v (pinned_value r c older)
+  pinned_step r c (Insert (Column j) v) older = pick (nat_eq j c && is_some (row_value r older)) v (pinned_value r c older)
+  pinned_step r c (Remove (Cell i j)) older = refl
+  pinned_step r c (Remove (Row i)) older = refl
+  pinned_step r c (Remove (Column j)) older = refl
+
+  -- what pins ends no pins
+  pin_ends_none : (r c : ℕ) (older : List (MapCall T)) (call : MapCall T) (v : T) → pin_of r c older call ≡ Some v → ends_pins r c call ≡ false
+  pin_ends_none r c older (Insert Global w) v h = cc
+  pin_ends_none r c older (Remove Global) v h = cc
+  pin_ends_none r c older (Insert (Cell i j) w) v h = refl
+  pin_ends_none r c older (Insert (Row i) w) v h = refl
+  pin_ends_none r c older (Insert (Column j) w) v h = refl
+  pin_ends_none r c older (Remove (Cell i j)) v h = cc
+  pin_ends_none r c older (Remove (Row i)) v h = cc
+  pin_ends_none r c older (Remove (Column j)) v h = cc
+
+and_true : (a b : Bool) → a && b ≡ true → (a ≡ true) × (b ≡ true)
+and_true true b h = (refl, h)
+and_true false b h = cc
+
+-- ---- places in the list
+
+module _ {T : Type 0} (calls : List (MapCall T)) where
+  -- the first n calls, newest first
+  abbrev newest : ℕ → List (MapCall T)
+  newest n = reverse (take n calls)
+
+  call_at : (n : ℕ) → n < length calls → (call : MapCall T) × (slice_get calls n ≡ Some call)
+  call_at n within = elim (slice_get_cases calls n).1 [ inl there ↦ (there.0, there.2) | inr past ↦ absurd (omega (arith, past.0)) ]
+
+  newest-more : (n : ℕ) (call : MapCall T) → slice_get calls n ≡ Some call → newest (suc n) ≡ call ∷ newest n
+  newest-more n call at =
+      let within : n < length calls = slice_get_within calls n call at in
+      let next : suc n ≡ n + 1 = omega arith in
+      let same : get_or calls n call ≡ call = get_or_from_slice_get calls n call call at in
+      ap newest next ∙ ap reverse (take_more calls n call within) ∙ rw same (reverse-append (take n calls) (call ∷ []))
+
+  same_call : (i j : ℕ) (x y : MapCall T) → slice_get calls i ≡ Some x → slice_get calls j ≡ Some y → i ≡ j → x ≡ y
+  same_call i j x y at_i at_j same = same_Some x y (sym at_i ∙ ap (slice_get calls) same ∙ at_j)
+
+  -- the first found, newest first, is the last by its place
+  find_last : (test : MapCall T → Bool) (n : ℕ) (x : MapCall T) → n ≤ length calls → find test (newest n) ≡ Some x → (i : ℕ) × IsLast calls test n i x × (test x ≡ true)
+  find_last test zero x within h = cc
+  find_last test (suc n) x within h =
+      let here = call_at n (omega arith) in
+      let found : cond (test here.0) (Some here.0) (find test (newest n)) ≡ Some x = sym (ap (find test) (newest-more n here.0 here.1)) ∙ h in
+      elim (chosen (test here.0) (Some here.0) (find test (newest n)) (Some x) found) [
+        | inl this ↦
+            let same = same_Some here.0 x this.1 in
+            (n, record { before = omega arith; at = here.1 ∙ ap Some same; last = λ j other after before at. absurd (omega arith) }, ap test (sym same) ∙ this.0)
+        | inr later ↦
+            let rest = find_last test n x (omega arith) later.1 in (
+              rest.0,
+              record {
+                before = omega (arith, rest.1.before);
+                at = rest.1.at;
+                last = λ j other after before at. elim (earlier j n before) [
+                  | inl less ↦ rest.1.last j other after less at
+                  | inr same ↦ ap test (same_call j n other here.0 at here.1 same) ∙ later.0
+                ];
+              },
+              rest.2,
+            )
+      ]
+
+  last_find : (test : MapCall T → Bool) (n i : ℕ) (x : MapCall T) → n ≤ length calls → IsLast calls test n i x → test x ≡ true → find test (newest n) ≡ Some x
+  last_find test zero i x within h passes = absurd (omega (arith, h.before))
+  last_find test (suc n) i x within h passes =
+      let here = call_at n (omega arith) in
+      ap (find test) (newest-more n here.0 here.1) ∙ elim (earlier i n h.before) [
+        | inl less ↦
+            let fails : test here.0 ≡ false = h.last n here.0 less (omega arith) here.1 in
+            let rest = last_find test n i x (omega arith) (record { before = less; at = h.at; last = λ j other after before at. h.last j other after (omega arith) at }) passes in
+            rw fails rest
+        | inr same ↦
+            let this : here.0 ≡ x = same_call n i here.0 x here.1 h.at (sym same) in
+            rw (this, passes) refl
+      ]
+
+  -- ---- values that stand
+
+  column_stands : (c n : ℕ) (v : T) → n ≤ length calls → column_value c (newest n) ≡ Some v → ColumnStands calls c n v
+  column_stands c n v within h = of_found (find (concerns_column c) (newest n)) refl (sym (column_found c (newest n)) ∙ h)
+    where
+      of_found : (o : Option (MapCall T)) → find (concerns_column c) (newest n) ≡ o → column_set o ≡ Some v → ColumnStands calls c n v
+      of_found None e set = cc
+      of_found (Some (Insert (Column k) w)) e set =
+          let last = find_last (concerns_column c) n (Insert (Column k) w) within e in
+          let same_column : k ≡ c = eqb-true k c last.2 in
+          (last.0, subst (λ call. IsLast calls (concerns_column c) n last.0 call) (rw (same_column, same_Some w v set) refl) last.1)
+      of_found (Some (Insert Global w)) e set = cc
+      of_found (Some (Insert (Row k) w)) e set = cc
+      of_found (Some (Insert (Cell k j) w)) e set = cc
+      of_found (Some (Remove entity)) e set = cc
+
+  column_is : (c n : ℕ) (v : T) → n ≤ length calls → ColumnStands calls c n v → column_value c (newest n) ≡ Some v
+  column_is c n v within h = column_found c (newest n) ∙ ap column_set (last_find (concerns_column c) n h.0 (Insert (Column c) v) within h.1 (eq-eqb c c refl))
+
+  row_stands : (r n : ℕ) (v : T) → n ≤ length calls → row_value r (newest n) ≡ Some v → RowStands calls r n v
+  row_stands r n v within h = of_found (find (concerns_row r) (newest n)) refl (sym (row_found r (newest n)) ∙ h)
+    where
+      of_found : (o : Option (MapCall T)) → find (concerns_row r) (newest n) ≡ o → row_set o ≡ Some v → RowStands calls r n v
+      of_found None e set = cc
+      of_found (Some (Insert (Row k) w)) e set =
+          let last = find_last (concerns_row r) n (Insert (Row k) w) within e in
+          let same_row : k ≡ r = eqb-true k r last.2 in
+          (last.0, subst (λ call. IsLast calls (concerns_row r) n last.0 call) (rw (same_row, same_Some w v set) refl) last.1)
+      of_found (Some (Insert Global w)) e set = cc
+      of_found (Some (Insert (Column k) w)) e set = cc
+      of_found (Some (Insert (Cell k j) w)) e set = cc
+      of_found (Some (Remove entity)) e set = cc
+
+  row_is : (r n : ℕ) (v : T) → n ≤ length calls → RowStands calls r n v → row_value r (newest n) ≡ Some v
+  row_is r n v within h = row_found r (newest n) ∙ ap row_set (last_find (concerns_row r) n h.0 (Insert (Row r) v) within h.1 (eq-eqb r r refl))
+
+  table_is : (given : T) (n : ℕ) (v : T) → n ≤ length calls → TableStands calls n v → global_value given (newest n) ≡ v
+  table_is given n v within h = table_found given (newest n) ∙ ap (table_set given) (last_find sets_all n h.0 (Insert Global v) within h.1 refl)
+
+  -- it stands, or none does and the value given at first is left
+  table_stands : (given : T) (n : ℕ) → n ≤ length calls → TableStands calls n (global_value given (newest n)) ⊎ (NoTable calls n × (global_value given (newest n) ≡ given))
+  table_stands given n within = of_found (find sets_all (newest n)) refl
+    where
+      of_found : (o : Option (MapCall T)) → find sets_all (newest n) ≡ o → TableStands calls n (global_value given (newest n)) ⊎ (NoTable calls n × (global_value given (newest n) ≡ given))
+      of_found None e = inr (λ w h. none-some _ (sym e ∙ last_find sets_all n h.0 (Insert Global w) within h.1 refl), table_found given (newest n) ∙ ap (table_set given) e)
+      of_found (Some (Insert Global v)) e =
+          let last = find_last sets_all n (Insert Global v) within e in
+          let value : v ≡ global_value given (newest n) = sym (table_found given (newest n) ∙ ap (table_set given) e) in
+          inl (last.0, subst (λ w. IsLast calls sets_all n last.0 (Insert Global w)) value last.1)
+      of_found (Some (Insert (Column k) v)) e = let last = find_last sets_all n (Insert (Column k) v) within e in cc
+      of_found (Some (Insert (Row k) v)) e = let last = find_last sets_all n (Insert (Row k) v) within e in cc
+      of_found (Some (Insert (Cell k j) v)) e = let last = find_last sets_all n (Insert (Cell k j) v) within e in cc
+      of_found (Some (Remove Global)) e = let last = find_last sets_all n (Remove Global) within e in cc
+      of_found (Some (Remove (Column k))) e = let last = find_last sets_all n (Remove (Column k)) within e in cc
+      of_found (Some (Remove (Row k))) e = let last = find_last sets_all n (Remove (Row k)) within e in cc
+      of_found (Some (Remove (Cell k j))) e = let last = find_last sets_all n (Remove (Cell k j)) within e in cc
+
+  -- ---- pins
+
+  some_value : {A : Type 0} (o : Option A) → is_some o ≡ true → (v : A) × (o ≡ Some v)
+  some_value None h = cc
+  some_value (Some v) h = (v, refl)
+
+  -- a pin by a test of two parts
+  both_hold : (a b : Bool) (w v : T) → cond (a && b) (Some w) None ≡ Some v → (a ≡ true) × (b ≡ true) × (w ≡ v)
+  both_hold true true w v h = (refl, refl, same_Some w v h)
+  both_hold true false w v h = cc
+  both_hold false b w v h = cc
+
+  pin_is : (r c n : ℕ) (call : MapCall T) (v : T) → slice_get calls n ≡ Some call → n ≤ length calls → pin_of r c (newest n) call ≡ Some v → IsPin calls r c n v
+  pin_is r c n (Insert (Cell i j) w) v at within h =
+      let p = both_hold (nat_eq i r) (nat_eq j c) w v h in
+      inl (at ∙ rw (eqb-true i r p.0, eqb-true j c p.1, p.2) refl)
+  pin_is r c n (Insert (Row i) w) v at within h =
+      let p = both_hold (nat_eq i r) (is_some (column_value c (newest n))) w v h in
+      let column = some_value (column_value c (newest n)) p.1 in
+      inr (inl (at ∙ rw (eqb-true i r p.0, p.2) refl, (column.0, column_stands c n column.0 within column.1)))
+  pin_is r c n (Insert (Column j) w) v at within h =
+      let p = both_hold (nat_eq j c) (is_some (row_value r (newest n))) w v h in
+      let row = some_value (row_value r (newest n)) p.1 in
+      inr (inr (at ∙ rw (eqb-true j c p.0, p.2) refl, (row.0, row_stands r n row.0 within row.1)))
+  pin_is r c n (Insert Global w) v at within h = cc
+  pin_is r c n (Remove entity) v at within h = cc
+
+  is_pin : (r c n : ℕ) (call : MapCall T) (v : T) → slice_get calls n ≡ Some call → n ≤ length calls → IsPin calls r c n v → pin_of r c (newest n) call ≡ Some v
+  is_pin r c n call v at within h = elim h [
+    | inl cell ↦
+        let same : Insert (Cell r c) v ≡ call = same_call n n _ _ cell at refl in
+        subst (λ d. pin_of r c (newest n) d ≡ Some v) same (rw (eq-eqb r r refl, eq-eqb c c refl) refl)
+    | inr other ↦ elim other [
+      | inl row ↦
+          let same : Insert (Row r) v ≡ call = same_call n n _ _ row.0 at refl in
+          subst (λ d. pin_of r c (newest n) d ≡ Some v) same (rw (eq-eqb r r refl, column_is c n row.1.0 within row.1.1) refl)
+      | inr column ↦
+          let same : Insert (Column c) v ≡ call = same_call n n _ _ column.0 at refl in
+          subst (λ d. pin_of r c (newest n) d ≡ Some v) same (rw (eq-eqb c c refl, row_is r n column.1.0 within column.1.1) refl)
+    ]
+  ]
+
+  pin_after : (r c n : ℕ) (call : MapCall T) (v : T) → slice_get calls n ≡ Some call → suc n ≤ length calls → ends_pins r c call ≡ false
+      → (pinned_value r c (newest n) ≡ Some v → PinStands calls r c n v)
+      → (o : Option T) → pin_of r c (newest n) call ≡ o → or_older o (pinned_value r c (newest n)) ≡ Some v → PinStands calls r c (suc n) v
+  pin_after r c n call v at within ends_none rest (Some w) e h = record {
+    place = n;
+    before = omega arith;
+    pins = pin_is r c n call v at (omega arith) (e ∙ h);
+    last = λ j u after before pin. absurd (omega arith);
+    counts = λ j other after before at_j. absurd (omega arith);
+  }
+  pin_after r c n call v at within ends_none rest None e h =
+      let older = rest h in
+      record {
+        place = older.place;
+        before = omega (arith, older.before);
+        pins = older.pins;
+        last = λ j u after before pin. elim (earlier j n before) [
+          | inl less ↦ older.last j u after less pin
+          | inr same ↦ none-some u (sym e ∙ is_pin r c n call u at (omega arith) (subst (λ (m : ℕ). IsPin calls r c m u) same pin))
+        ];
+        counts = λ j other after before at_j. elim (earlier j n before) [
+          | inl less ↦ older.counts j other after less at_j
+          | inr same ↦ ap (ends_pins r c) (same_call j n other call at_j at same) ∙ ends_none
+        ];
+      }
+
+  pin_stands : (r c n : ℕ) (v : T) → n ≤ length calls → pinned_value r c (newest n) ≡ Some v → PinStands calls r c n v
+  pin_stands r c zero v within h = cc
+  pin_stands r c (suc n) v within h =
+      let here = call_at n (omega arith) in
+      let stepped = sym (ap (pinned_value r c) (newest-more n here.0 here.1) ∙ pinned_step r c here.0 (newest n)) ∙ h in
+      elim (chosen (ends_pins r c here.0) None (or_older (pin_of r c (newest n) here.0) (pinned_value r c (newest n))) (Some v) stepped) [
+        | inl ends ↦ absurd (none-some v ends.1)
+        | inr goes_on ↦ pin_after r c n here.0 v here.1 within goes_on.0 (pin_stands r c n v (omega arith)) (pin_of r c (newest n) here.0) refl goes_on.1
+      ]
+
+  none_of : (o : Option T) → ((w : T) → o ≡ Some w → ⊥) → o ≡ None
+  none_of None never = refl
+  none_of (Some w) never = absurd (never w refl)
+
+  pin_found : (r c n : ℕ) (v : T) → n ≤ length calls → PinStands calls r c n v → pinned_value r c (newest n) ≡ Some v
+  pin_found r c zero v within h = absurd (omega (arith, h.before))
+  pin_found r c (suc n) v within h =
+      let here = call_at n (omega arith) in
+      ap (pinned_value r c) (newest-more n here.0 here.1) ∙ pinned_step r c here.0 (newest n) ∙ elim (earlier h.place n h.before) [
+        | inl less ↦
+            let goes_on : ends_pins r c here.0 ≡ false = h.counts n here.0 less (omega arith) here.1 in
+            let none : pin_of r c (newest n) here.0 ≡ None =
+            none_of (pin_of r c (newest n) here.0) (λ w e. h.last n w less (omega arith) (pin_is r c n here.0 w here.1 (omega arith) e)) in
+            let rest = pin_found r c n v (omega arith) (record {
+              place = h.place;
+              before = less;
+              pins = h.pins;
+              last = λ j w after before pin. h.last j w after (omega arith) pin;
+              counts = λ j other after before at. h.counts j other after (omega arith) at;
+            }) in
+            rw (goes_on, none) rest
+        | inr same ↦
+            let pins = is_pin r c n here.0 v here.1 (omega arith) (subst (λ (m : ℕ). IsPin calls r c m v) same h.pins) in
+            let goes_on = pin_ends_none r c (newest n) here.0 v pins in
+            rw (goes_on, pins) refl
+      ]
+
+  -- ---- what is decided
+
+  abbrev found_by : T → ℕ → ℕ → ℕ → T
+  found_by given r c n = decided_by given (newest n) (record { row = r; col = c })
+
+  is_decided : (given : T) (r c n : ℕ) → n ≤ length calls → IsDecided calls given r c n (found_by given r c n)
+  is_decided given r c n within = by_pin (pinned_value r c (newest n)) refl
+    where
+      by_table : NoPin calls r c n → NoColumn calls c n → NoRow calls r n → IsDecided calls given r c n (global_value given (newest n))
+      by_table no_pin no_column no_row = elim (table_stands given n within) [
+        | inl table ↦ ByTable (global_value given (newest n)) no_pin no_column no_row table
+        | inr none ↦ subst (IsDecided calls given r c n) (sym none.1) (ByDefault no_pin no_column no_row none.0)
+      ]
+
+      by_row : (o : Option T) → row_value r (newest n) ≡ o → NoPin calls r c n → NoColumn calls c n → IsDecided calls given r c n (unwrap_or o (global_value given (newest n)))
+      by_row (Some v) e no_pin no_column = ByRow v no_pin no_column (row_stands r n v within e)
+      by_row None e no_pin no_column = by_table no_pin no_column (λ w h. none-some w (sym e ∙ row_is r n w within h))
+
+      by_column : (o : Option T) → column_value c (newest n) ≡ o → NoPin calls r c n
+          → IsDecided calls given r c n (unwrap_or o (unwrap_or (row_value r (newest n)) (global_value given (newest n))))
+      by_column (Some v) e no_pin = ByColumn v no_pin (column_stands c n v within e)
+      by_column None e no_pin = by_row (row_value r (newest n)) refl no_pin (λ w h. none-some w (sym e ∙ column_is c n w within h))
+
+      by_pin : (o : Option T) → pinned_value r c (newest n) ≡ o
+          → IsDecided calls given r c n (unwrap_or o (unwrap_or (column_value c (newest n)) (unwrap_or (row_value r (newest n)) (global_value given (newest n)))))
+      by_pin (Some v) e = ByPin v (pin_stands r c n v within e)
+      by_pin None e = by_column (column_value c (newest n)) refl (λ w h. none-some w (sym e ∙ pin_found r c n w within h))
+
+  no_pinned : (r c n : ℕ) → n ≤ length calls → NoPin calls r c n → pinned_value r c (newest n) ≡ None
+  no_pinned r c n within none = none_of (pinned_value r c (newest n)) (λ w e. none w (pin_stands r c n w within e))
+
+  no_column : (c n : ℕ) → n ≤ length calls → NoColumn calls c n → column_value c (newest n) ≡ None
+  no_column c n within none = none_of (column_value c (newest n)) (λ w e. none w (column_stands c n w within e))
+
+  no_row : (r n : ℕ) → n ≤ length calls → NoRow calls r n → row_value r (newest n) ≡ None
+  no_row r n within none = none_of (row_value r (newest n)) (λ w e. none w (row_stands r n w within e))
+
+  decided_is : (given : T) (r c n : ℕ) (v : T) → n ≤ length calls → IsDecided calls given r c n v → found_by given r c n ≡ v
+  decided_is given r c n _ within (ByPin v pin) = let e = pin_found r c n v within pin in rw e refl
+  decided_is given r c n _ within (ByColumn v none column) =
+      let p = no_pinned r c n within none in
+      let e = column_is c n v within column in
+      rw (p, e) refl
+  decided_is given r c n _ within (ByRow v none none_column row) =
+      let p = no_pinned r c n within none in
+      let q = no_column c n within none_column in
+      let e = row_is r n v within row in
+      rw (p, q, e) refl
+  decided_is given r c n _ within (ByTable v none none_column none_row table) =
+      let p = no_pinned r c n within none in
+      let q = no_column c n within none_column in
+      let s = no_row r n within none_row in
+      rw (p, q, s) (table_is given n v within table)
+  decided_is given r c n _ within (ByDefault none none_column none_row none_table) =
+      let p = no_pinned r c n within none in
+      let q = no_column c n within none_column in
+      let s = no_row r n within none_row in
+      rw (p, q, s) (elim (table_stands given n within) [ inl table ↦ absurd (none_table _ table) | inr left ↦ left.1 ])
+
+  -- all the calls
+  all_newest : newest (length calls) ≡ reverse calls
+  all_newest = ap reverse (take_all (length calls) calls (omega arith))
+
+  pub decided_value-IsDecided : (given : T) (r c : ℕ) → IsDecided calls given r c (length calls) (decided_value given calls (record { row = r; col = c }))
+  unfolding decided_value
+  decided_value-IsDecided given r c =
+      subst (λ (ns : List (MapCall T)). IsDecided calls given r c (length calls) (decided_by given ns (record { row = r; col = c }))) all_newest (is_decided given r c (length calls) (omega arith))
+
+  pub IsDecided-only : (given : T) (r c : ℕ) (v : T) → IsDecided calls given r c (length calls) v → v ≡ decided_value given calls (record { row = r; col = c })
+  unfolding decided_value
+  IsDecided-only given r c v h = sym (decided_is given r c (length calls) v (omega arith) h) ∙ ap (λ ns. decided_by given ns (record { row = r; col = c })) all_newest

@@ -1,0 +1,91 @@
+-- What a list of calls decides for a cell, by places in the list: apart from any search.
+use Rattle.std.specs.Prelude.{◌≡◌, ◌⊎◌, ℕ, ◌<◌, ◌==◌, ◌&&◌, Bool, true, false, List, Some, slice_get, length}
+use Rattle.papergrid_values.specs.declared.entity.Entity.{Entity}
+use Rattle.papergrid_values.specs.declared.entity.Entity.TheVariants.{Global, Column, Row, Cell}
+use Rattle.papergrid.specs.declared.entity_map.MapCall.{MapCall}
+use Rattle.papergrid.specs.declared.entity_map.MapCall.TheVariants.{Insert, Remove}
+
+module _ {T : Type 0} where
+  -- a call for the whole table
+  abbrev pub is_global : MapCall T → Bool
+  is_global (Insert Global v) = true
+  is_global (Remove Global) = true
+  is_global call = false
+
+  -- a call that sets this column, or is for the whole table
+  abbrev pub concerns_column : ℕ → MapCall T → Bool
+  concerns_column c (Insert (Column k) v) = k == c
+  concerns_column c call = is_global call
+
+  -- the same of a row
+  abbrev pub concerns_row : ℕ → MapCall T → Bool
+  concerns_row r (Insert (Row k) v) = k == r
+  concerns_row r call = is_global call
+
+  -- a call that sets the whole table
+  abbrev pub sets_all : MapCall T → Bool
+  sets_all (Insert Global v) = true
+  sets_all call = false
+
+  -- a call after which no earlier pin of the cell counts: for the whole table, or a remove of the cell, its row or its column
+  abbrev pub ends_pins : ℕ → ℕ → MapCall T → Bool
+  ends_pins r c (Remove (Cell i j)) = (i == r) && (j == c)
+  ends_pins r c (Remove (Row i)) = i == r
+  ends_pins r c (Remove (Column j)) = j == c
+  ends_pins r c call = is_global call
+
+module _ {T : Type 0} (calls : List (MapCall T)) where
+  -- of the first n calls, the oldest being the 0-th, the i-th is this one, and none after it passes the test
+  pub record IsLast (test : MapCall T → Bool) (n i : ℕ) (call : MapCall T) : Type 0 where
+    pub before : i < n
+    pub at : slice_get calls i ≡ Some call
+    pub last : (j : ℕ) (other : MapCall T) → i < j → j < n → slice_get calls j ≡ Some other → test other ≡ false
+
+  -- after the first n calls a column has a value that stands: the last of them that sets it, or is for the whole table, sets it so
+  abbrev pub ColumnStands : ℕ → ℕ → T → Type 0
+  ColumnStands c n v = (i : ℕ) × IsLast (concerns_column c) n i (Insert (Column c) v)
+
+  -- the same of a row
+  abbrev pub RowStands : ℕ → ℕ → T → Type 0
+  RowStands r n v = (i : ℕ) × IsLast (concerns_row r) n i (Insert (Row r) v)
+
+  -- the i-th call pins the cell to a value: it sets the cell, or its row while a value of its column stands, or the other way round
+  abbrev pub IsPin : ℕ → ℕ → ℕ → T → Type 0
+  IsPin r c i v =
+      (slice_get calls i ≡ Some (Insert (Cell r c) v))
+      ⊎ (((slice_get calls i ≡ Some (Insert (Row r) v)) × ((w : T) × ColumnStands c i w))
+      ⊎ ((slice_get calls i ≡ Some (Insert (Column c) v)) × ((w : T) × RowStands r i w)))
+
+  -- after the first n calls the cell has a pin that counts: the last one, and no later call ends the pins
+  pub record PinStands (r c n : ℕ) (v : T) : Type 0 where
+    pub place : ℕ
+    pub before : place < n
+    pub pins : IsPin r c place v
+    pub last : (j : ℕ) (w : T) → place < j → j < n → ¬ (IsPin r c j w)
+    pub counts : (j : ℕ) (call : MapCall T) → place < j → j < n → slice_get calls j ≡ Some call → ends_pins r c call ≡ false
+
+  -- after the first n calls the whole table has a value: the last of them that sets it sets it so
+  abbrev pub TableStands : ℕ → T → Type 0
+  TableStands n v = (i : ℕ) × IsLast sets_all n i (Insert Global v)
+
+  -- no value stands, of the cell's pins, of a column or of a row, and none was set for the whole table
+  abbrev pub NoPin : ℕ → ℕ → ℕ → Type 0
+  NoPin r c n = (w : T) → ¬ (PinStands r c n w)
+
+  abbrev pub NoColumn : ℕ → ℕ → Type 0
+  NoColumn c n = (w : T) → ¬ (ColumnStands c n w)
+
+  abbrev pub NoRow : ℕ → ℕ → Type 0
+  NoRow r n = (w : T) → ¬ (RowStands r n w)
+
+  abbrev pub NoTable : ℕ → Type 0
+  NoTable n = (w : T) → ¬ (TableStands n w)
+
+  -- the first n calls decide a value for the cell: that of the last pin that counts, else the column's that stands, else the row's,
+  -- else the whole table's, else the one given at first
+  pub data IsDecided (given : T) (r c n : ℕ) : T → Type 0 where
+    ByPin : (v : T) → PinStands r c n v → IsDecided given r c n v
+    ByColumn : (v : T) → NoPin r c n → ColumnStands c n v → IsDecided given r c n v
+    ByRow : (v : T) → NoPin r c n → NoColumn c n → RowStands r n v → IsDecided given r c n v
+    ByTable : (v : T) → NoPin r c n → NoColumn c n → NoRow r n → TableStands n v → IsDecided given r c n v
+    ByDefault : NoPin r c n → NoColumn c n → NoRow r n → NoTable n → IsDecided given r c n given
