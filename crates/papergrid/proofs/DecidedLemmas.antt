@@ -1,15 +1,15 @@
 -- The search for the deciding call finds the one that decides by its place.
-use Rattle.std.proofs.Common.{◌≡◌, ◌⊎◌, ◌<◌, ◌≤◌, ◌+◌, ◌&&◌, ◌++◌, ◌∷◌, [], ℕ, zero, suc, List, Bool, true, false, cond, Option, Some, None, length, take, get_or, reverse, refl, sym, ap, ◌∙◌, subst, arith, inl, inr, nat_eq}
+use Rattle.std.proofs.Common.{◌≡◌, ◌⊎◌, ◌<◌, ◌≤◌, ◌+◌, ◌&&◌, ◌∷◌, [], ℕ, zero, suc, List, Bool, true, false, cond, Option, Some, None, length, take, get_or, reverse, refl, sym, ap, ◌∙◌, subst, arith, inl, inr, nat_eq}
 use Rattle.std.specs.Prelude.{find, slice_get, is_some, unwrap_or}
 use Rattle.std.proofs.lemmas.List.{reverse-append, take_more, take_all}
 use Rattle.std.proofs.lemmas.Option.{same_Some, none-some, slice_get_cases, slice_get_within, get_or_from_slice_get}
-use borrow.Author.Tests.{eqb-true, eqb-false, eq-eqb}
+use borrow.Author.Tests.{eqb-true, eq-eqb}
 use Rattle.papergrid.proofs.ReadLemmas.{chosen}
 use Rattle.papergrid_values.specs.declared.entity.Entity.TheVariants.{Global, Column, Row, Cell}
 use Rattle.papergrid.specs.declared.entity_map.MapCall.{MapCall}
 use Rattle.papergrid.specs.declared.entity_map.MapCall.TheVariants.{Insert, Remove}
 use Rattle.papergrid.specs.Calls.{column_value, row_value, global_value, pinned_value, decided_by, decided_value}
-use Rattle.papergrid.specs.Decided.{is_global, concerns_column, concerns_row, sets_all, ends_pins, IsLast, ColumnStands, RowStands, IsPin, PinStands, TableStands, NoTable, NoPin, NoColumn, NoRow, IsDecided, ByPin, ByColumn, ByRow, ByTable, ByDefault}
+use Rattle.papergrid.specs.Decided.{concerns_column, concerns_row, sets_all, ends_pins, IsLast, ColumnStands, RowStands, IsPin, PinStands, TableStands, NoTable, NoPin, NoColumn, NoRow, IsDecided, ByPin, ByColumn, ByRow, ByTable, ByDefault}
 
 earlier : (j n : ℕ) → j < suc n → (j < n) ⊎ (j ≡ n)
 earlier j n h = grind arith

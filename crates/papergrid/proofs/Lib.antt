@@ -7,3 +7,5 @@ mod ReadLemmas
 mod RowLemmas
 mod SizeLemmas
 mod SpellLemmas
+mod TellsLemmas
+mod TopLemmas

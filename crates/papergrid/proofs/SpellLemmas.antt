@@ -1,5 +1,5 @@
 -- What is spelled as the grammar says is read.
-use Rattle.std.proofs.Common.{◌≡◌, ◌⊎◌, ◌<◌, ◌≤◌, ◌^◌, ◌+◌, ◌&&◌, Bool, ◌++◌, ◌∷◌, [], ℕ, suc, List, true, false, not, Option, Some, option_map, length, drop, take, codes, nat_eq, nat_lt, refl, sym, ap, ◌∙◌, subst, arith, length-append, lit<, inl, inr}
+use Rattle.std.proofs.Common.{◌≡◌, ◌<◌, ◌^◌, ◌+◌, ◌&&◌, Bool, ◌++◌, ◌∷◌, [], ℕ, suc, List, true, false, not, Some, option_map, length, drop, codes, nat_eq, nat_lt, refl, sym, ap, ◌∙◌, subst, arith, length-append, lit<, inl, inr}
 use Rattle.std.specs.List.{list_all, position_or_len}
 use Rattle.std.specs.Str.{all_ascii_digits}
 use Rattle.std.specs.Str.Parse.{digits_value}
@@ -18,7 +18,7 @@ use Rattle.papergrid_values.specs.declared.sides.Sides.{Sides}
 use Rattle.papergrid.specs.declared.setting.Setting.TheVariants.{SetPadding}
 use Rattle.papergrid.specs.Grammar.{Said, Nothing, Columns, Set, Row, Cell, parted_at, number_of, cell_entity, entity_of, sides_of, padding_of, keyword_says, text_says, said}
 use Rattle.papergrid.specs.Spelling.{IsNumber, IsEntity, AreSides, Means, Ended, Plain, Newline, Tab, Backslash, IsLine}
-use Rattle.papergrid.specs.Texts.{unescaped, escape_of, put_first}
+use Rattle.papergrid.specs.Texts.{unescaped, put_first}
 
 and_true : (a b : Bool) → a && b ≡ true → (a ≡ true) × (b ≡ true)
 and_true true b h = (refl, h)

@@ -1,6 +1,5 @@
 -- What a list of calls decides for a cell, by places in the list: apart from any search.
-use Rattle.std.specs.Prelude.{◌≡◌, ◌⊎◌, ℕ, ◌<◌, ◌==◌, ◌&&◌, Bool, true, false, List, Some, slice_get, length}
-use Rattle.papergrid_values.specs.declared.entity.Entity.{Entity}
+use Rattle.std.specs.Prelude.{◌≡◌, ◌⊎◌, ℕ, ◌<◌, ◌==◌, ◌&&◌, Bool, true, false, List, Some, slice_get}
 use Rattle.papergrid_values.specs.declared.entity.Entity.TheVariants.{Global, Column, Row, Cell}
 use Rattle.papergrid.specs.declared.entity_map.MapCall.{MapCall}
 use Rattle.papergrid.specs.declared.entity_map.MapCall.TheVariants.{Insert, Remove}

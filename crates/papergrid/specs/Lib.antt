@@ -10,5 +10,7 @@ pub mod Scripts
 pub mod Seen
 pub mod Sizes
 pub mod Spelling
+pub mod Tells
 pub mod Texts
+pub mod Tops
 pub mod Transfer

@@ -1,13 +1,19 @@
 //! Laws of the definitions, each the contract of a function that does nothing.
 
-ghost use Rattle.std.specs.Prelude.{◌≡◌, ℕ, IsUtf8, List, Some, length};
+ghost use Rattle.std.specs.Prelude.{◌≡◌, ◌⊎◌, ◌≤◌, ◌<◌, ◌+◌, ◌^◌, ℕ, Contains, IsUtf8, List, Some, Ok, Err, length, sum};
 ghost use Rattle.papergrid_values.specs.declared.entity.Entity.{Entity};
+ghost use Rattle.papergrid_values.specs.declared.position.Position.{Position};
 ghost use Rattle.papergrid.specs.declared.entity_map.MapCall.{MapCall};
 ghost use Rattle.papergrid.specs.Calls.{decided_value};
+ghost use Rattle.papergrid.specs.Cells.{TableCell, cells_of};
 ghost use Rattle.papergrid.specs.Decided.{IsDecided};
-ghost use Rattle.papergrid.specs.Grammar.{Said, entity_of, number_of, said};
+ghost use Rattle.papergrid.specs.Grammar.{Said, entity_of, number_of, said, script_lines};
 ghost use Rattle.papergrid.specs.Rows.{WorkedRows};
+ghost use Rattle.papergrid.specs.Scripts.{Table, table_of};
+ghost use Rattle.papergrid.specs.Sizes.{OutOfTable, Sized, TooLarge, estimate_of};
 ghost use Rattle.papergrid.specs.Spelling.{IsEntity, IsLine, IsNumber};
+ghost use Rattle.papergrid.specs.Tells.{IsBad, IsFirstBad, Tells};
+ghost use Rattle.papergrid.specs.Tops.{AllFit, AreSizes, IsCellOf, IsFirstOut};
 
 /// What the worked scripts give, by the definitions alone.
 pub fn worked_rows()
@@ -40,4 +46,29 @@ pub fn decided_by_place<T>()
         IsDecided calls given r c (length calls) (decided_value given calls (record { row = r; col = c })) }
     ensures only { (given : T) (calls : List (MapCall T)) (r c : ℕ) (v : T) →
         IsDecided calls given r c (length calls) v → v ≡ decided_value given calls (record { row = r; col = c }) }
+{}
+
+/// What a script tells, and its first bad line, by all of its lines at once.
+pub fn script_by_lines()
+    ensures told { (input : List ℕ) (table : Table) → table_of input ≡ Ok table → Tells (script_lines input) table }
+    ensures none_bad { (input : List ℕ) (table : Table) → table_of input ≡ Ok table → (i : ℕ) → ¬ (IsBad (script_lines input) i) }
+    ensures named { (input : List ℕ) (n : ℕ) → table_of input ≡ Err n → (i : ℕ) × (n ≡ i + 1) × IsFirstBad (script_lines input) i }
+    ensures found { (input : List ℕ) (i : ℕ) → IsFirstBad (script_lines input) i → table_of input ≡ Err (i + 1) }
+{}
+
+/// The cells of the rows, each with its place, are those that the rows have there.
+pub fn cells_by_place()
+    ensures there { (rows : List (List (List ℕ))) (cell : TableCell) → IsCellOf rows cell → Contains (cells_of rows) cell }
+    ensures only { (rows : List (List (List ℕ))) (cell : TableCell) → Contains (cells_of rows) cell → IsCellOf rows cell }
+{}
+
+/// A table is refused for its first cell at or past the column count, and else where the top needs of its
+/// columns, or of its rows, add up to more than fits 64 bits; else its sizes are the top needs, and each cell
+/// stands in the table and has room there.
+pub fn estimate_by_needs()
+    ensures out { (table : Table) (place : Position) → estimate_of table ≡ OutOfTable place → IsFirstOut table.columns table.rows place }
+    ensures too_large { (table : Table) → estimate_of table ≡ TooLarge →
+        (widths : List ℕ) × (heights : List ℕ) × AreSizes table widths heights × ((2 ^ 64 ≤ sum widths) ⊎ (2 ^ 64 ≤ sum heights)) }
+    ensures sized { (table : Table) (widths heights : List ℕ) → estimate_of table ≡ Sized widths heights →
+        AreSizes table widths heights × (sum widths < 2 ^ 64) × (sum heights < 2 ^ 64) × AllFit table widths heights }
 {}
