@@ -1,0 +1,3 @@
+pub mod Splits
+pub mod Tabs
+pub mod Widths

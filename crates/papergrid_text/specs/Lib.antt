@@ -1,0 +1,2 @@
+pub mod LinesLeft
+pub mod Text
