@@ -9,7 +9,7 @@ use Rattle.std.proofs.lemmas.List.Splits.{join_with_byte-slice_split}
 use Rattle.std.proofs.lemmas.Str.{chars-nil}
 use Rattle.std.proofs.Math.Dec.{eqb-suc-zero}
 use Rattle.unicode_width.specs.Width.{str_width}
-use Rattle.papergrid_text.specs.Text.{HasNoCrLf, HasSameDimension, greatest_width, width_of, split_lines}
+use Rattle.papergrid_text.specs.Text.{HasNoCrLf, HasSameDimension, greatest_width, width_of, split_lines, kept_by_new}
 use Rattle.papergrid_text.proofs.Splits.{is_split}
 
 -- ---- one more line
@@ -28,6 +28,12 @@ width_of_one text (line ∷ []) e small =
     let same : line ≡ text = ap (join_with_byte 10) e ∙ (is_split text).joined in
     let m : max (width_of line) 0 ≡ width_of line = omega arith in m ∙ ap width_of same
 width_of_one text (line ∷ next ∷ more) e small = absurd (omega arith)
+
+-- and nothing is kept of it
+pub none_kept : (lines : List (List ℕ)) → length lines < 2 → kept_by_new lines ≡ []
+none_kept [] small = refl
+none_kept (line ∷ []) small = refl
+none_kept (line ∷ next ∷ more) small = absurd (omega arith)
 
 -- ---- where there is no CR LF, std's lines are as wide as the lines of the text
 

@@ -1,2 +1,5 @@
+pub mod Kept
 pub mod LinesLeft
+pub mod Measured
 pub mod Text
+pub mod TextOrder

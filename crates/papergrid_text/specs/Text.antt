@@ -54,6 +54,16 @@ HasNoCrLf text = (front back : List ℕ) → text ≢ front ++ (13 ∷ 10 ∷ ba
 abbrev pub HasSameDimension : List ℕ → Type 0
 HasSameDimension text = HasNoCrLf text → text_dimension text ≡ (length (split_lines text), text_width text)
 
+-- a line with its width
+abbrev pub with_width : List ℕ → List ℕ × ℕ
+with_width line = (line, width_of line)
+
+-- the lines that `Text::new` keeps of the lines of a text: none where there is only one
+abbrev pub kept_by_new : List (List ℕ) → List (List ℕ × ℕ)
+kept_by_new [] = []
+kept_by_new (line ∷ []) = []
+kept_by_new (line ∷ next ∷ more) = map with_width (line ∷ next ∷ more)
+
 -- ---- tabs
 
 -- whether spaces stand for the character c, whose left neighbour is `left`: for a tab, except, where n

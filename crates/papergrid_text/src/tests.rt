@@ -1,11 +1,18 @@
 //! Worked values, from the original's documentation and unit tests.
 
+use crate::StrWithWidth;
+use crate::cell::Cell;
 use crate::laws::{dimension_without_carriage_returns, lines_join_to_text};
 use crate::string::{
     count_lines, count_tabs, get_char_width, get_line_width, get_lines, get_string_width,
     get_text_dimension, get_text_width, replace_tab,
 };
+use crate::text::Text;
+use std::alloc::{AllocError, Global};
 use std::borrow::CowStr;
+use std::cmp::Ordering;
+use std::convert::AsStr;
+use std::hash::{DefaultHasher, Hash, Hasher};
 use std::iter::Iterator;
 use std::test::Fail;
 
@@ -82,4 +89,121 @@ fn widths_and_tabs(rt: HostRuntime) -> Result<(), Fail> {
         }
     }
     Ok(())
+}
+
+#[test]
+fn empty_text_cells(rt: HostRuntime) -> Result<(), Fail> {
+    let alloc = rt.alloc();
+    assert_eq!(rt; Cell::count_lines(&""), 0);
+    assert_eq!(rt; Cell::width(&""), 0);
+    let none = Text::new(alloc, "")?;
+    assert_eq!(rt; none.count_lines(), 1);
+    assert_eq!(rt; none.line(0), "");
+    assert_eq!(rt; none.width(), 0);
+    assert_eq!(rt; Cell::count_lines(&"a\n"), 1);
+    assert_eq!(rt; Text::new(alloc, "a\n")?.count_lines(), 2);
+    let plain = String::from_str(alloc, "a\r\nbcd")?;
+    assert_eq!(rt; plain.text(), "a\r\nbcd");
+    assert_eq!(rt; plain.count_lines(), 2);
+    assert_eq!(rt; plain.line(0), "a");
+    assert_eq!(rt; plain.line_width(1), 3);
+    assert_eq!(rt; Cell::width(&&plain), 3);
+    Ok(())
+}
+
+#[test]
+fn exact_text(rt: HostRuntime) -> Result<(), Fail> {
+    let alloc = rt.alloc();
+    let exact = Text::exact("ab", 7, Vec::new(alloc));
+    assert_eq!(rt; exact.count_lines(), 1);
+    assert_eq!(rt; exact.line(0), "ab");
+    assert_eq!(rt; exact.width(), 7);
+    assert_eq!(rt; exact.line_width(0), 7);
+    assert!(rt; exact.clone()? == exact);
+    assert_eq!(rt; format!(in alloc; "{exact}")?.as_str(), "ab");
+    assert_eq!(rt; exact.into_inner(), "ab");
+    Ok(())
+}
+
+fn hash_of<T: Hash>(value: &T) -> u64 {
+    let mut state = DefaultHasher::new();
+    value.hash(&mut state);
+    state.finish()
+}
+
+// The lines `a` and `bc`, as texts of their own.
+fn given_lines(alloc: Global) -> Result<Vec<StrWithWidth<'static>>, AllocError> {
+    let mut lines = Vec::new(alloc);
+    lines.push(StrWithWidth::new(CowStr::Borrowed("a"), 1))?;
+    lines.push(StrWithWidth::new(CowStr::Owned(String::from_str(alloc, "bc")?), 2))?;
+    Ok(lines)
+}
+
+#[test]
+fn new_equals_exact(rt: HostRuntime) -> Result<(), Fail> {
+    let alloc = rt.alloc();
+    let first = Text::new(alloc, String::from_str(alloc, "a\nbc")?)?;
+    let given = Text::exact(String::from_str(alloc, "a\nbc")?, 2, given_lines(alloc)?);
+    assert!(rt; first == given);
+    assert_eq!(rt; first.cmp(&given), Ordering::Equal);
+    assert_eq!(rt; hash_of(&first), hash_of(&given));
+    let moved = first;
+    let copy = moved.clone()?;
+    assert_eq!(rt; moved.line(1), "bc");
+    assert_eq!(rt; copy.line(1), "bc");
+    assert_eq!(rt; copy.line_width(1), 2);
+    assert_eq!(rt; copy.as_str(), "a\nbc");
+    let fewer = Text::exact(String::from_str(alloc, "a\nbc")?, 2, Vec::new(alloc));
+    assert!(rt; fewer != moved);
+    assert!(rt; fewer < moved);
+    Ok(())
+}
+
+// Whether the text is `a\nbc\nd` with its three lines, or there was no memory for it.
+fn is_refused_or_whole(made: Result<Text<String>, AllocError>) -> bool {
+    match made {
+        Ok(text) => {
+            text.text() == "a\nbc\nd"
+                && text.width() == 2
+                && text.count_lines() == 3
+                && text.line(2) == "d"
+        }
+        Err(_) => true,
+    }
+}
+
+fn of_three_lines(alloc: Global) -> Result<Text<String>, AllocError> {
+    Text::new(alloc, String::from_str(alloc, "a\nbc\nd")?)
+}
+
+fn cloned(alloc: Global) -> Result<Text<String>, AllocError> {
+    let text = of_three_lines(alloc)?;
+    let given = Text::exact(String::from_str(alloc, "a\nbc\nd")?, 2, given_lines(alloc)?);
+    let copy = given.clone()?;
+    if copy != given {
+        return Ok(copy);
+    }
+    text.clone()
+}
+
+#[test]
+fn refused_memory(rt: HostRuntime) {
+    let alloc = rt.alloc();
+    assert!(rt; is_refused_or_whole(of_three_lines(alloc)));
+    assert!(rt; is_refused_or_whole(cloned(alloc)));
+    match replace_tab(alloc, "a\tb\\\tcdefgh", 7) {
+        Ok(text) => {
+            assert_eq!(rt; text.as_str(), "a       b\\\tcdefgh");
+        }
+        Err(_) => {}
+    }
+    // What takes no memory is not refused.
+    match Text::new(alloc, "one line") {
+        Ok(text) => {
+            assert_eq!(rt; text.width(), 8);
+        }
+        Err(_) => {
+            assert!(rt; false);
+        }
+    }
 }
