@@ -4,4 +4,5 @@ pub mod Nth
 pub mod Ranges
 pub mod Splits
 pub mod Tabs
+pub mod Walks
 pub mod Widths
