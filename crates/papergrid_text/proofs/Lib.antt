@@ -1,7 +1,9 @@
+pub mod ColumnWidths
 pub mod Compared
 pub mod KeptClones
 pub mod Nth
 pub mod Ranges
+pub mod RowSteps
 pub mod Splits
 pub mod Tabs
 pub mod Walks

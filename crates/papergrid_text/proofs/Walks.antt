@@ -14,10 +14,6 @@ pub map_twice : {A B C : Type 0} (f : A → B) (g : B → C) (xs : List A) → m
 map_twice f g [] = refl
 map_twice f g (x ∷ xs) = ap (λ ys. g (f x) ∷ ys) (map_twice f g xs)
 
-pub map_map_twice : {A B C : Type 0} (v : A → B) (g : B → C) (xs : List (List A)) → map (map g) (map (map v) xs) ≡ map (map (λ x. g (v x))) xs
-map_map_twice v g [] = refl
-map_map_twice v g (x ∷ xs) = let a = map_twice v g x in let b = map_map_twice v g xs in cc
-
 pub empty_of : {X : Type 0} (xs : List X) → length xs ≡ 0 → xs ≡ []
 empty_of [] e = refl
 empty_of (x ∷ xs) e = absurd (omega arith)
@@ -74,7 +70,7 @@ module _ {X Z : Type 0} where
     may_start = tt;
     ends = tt;
     fits = λ xs t walked. let r = owned_yields s t xs walked in omega arith;
-    each = λ xs t x u walked step. all x
+    each = λ xs t x u walked step. all x;
   }
 
 module _ {X : Type 0} where
@@ -83,7 +79,7 @@ module _ {X : Type 0} where
     may_start = tt;
     ends = tt;
     fits = λ xs t walked. let e = ap length (lent_yields s t xs walked) ∙ length-append (map (λ x. x.now) xs) (iter_rest t) in let m = length-map xs (λ (x : Bor X). x.now) in omega arith;
-    each = λ xs t x u walked step. all x
+    each = λ xs t x u walked step. all x;
   }
 
 -- ---- rows of cells
@@ -97,7 +93,7 @@ module _ {X Z Y : Type 0} {into : Vec (Vec X Y) Z → IntoIter (Vec X Y) Z → T
       let m = made v gave.walk.iterator gave.walk.made in
       let rows_are : gave.rows ≡ v.items = owned_drains gave.walk.iterator gave.rows (ap length m.0 ∙ sym v.ok.0 ∙ sym m.1) gave.walk.walked ∙ m.0 in
       let one : (row : Vec X Y) (xs : List X) → Gives row_into (into_iter_steps {X = X} {Z = Y}) row xs → xs ≡ row.items
-          = λ row xs gave. let n = row_made row gave.iterator gave.made in owned_drains gave.iterator xs (ap length n.0 ∙ sym row.ok.0 ∙ sym n.1) gave.walked ∙ n.0 in
+      = λ row xs gave. let n = row_made row gave.iterator gave.made in owned_drains gave.iterator xs (ap length n.0 ∙ sym row.ok.0 ∙ sym n.1) gave.walked ∙ n.0 in
       list_from_zip (Gives row_into (into_iter_steps {X = X} {Z = Y})) (λ row. row.items) one gave.rows cells gave.each ∙ ap (map (λ row. row.items)) rows_are
 
 module _ {X Y W : Type 0} {into : W → Iter (Vec X Y) → Type 0} {row_into : Bor (Vec X Y) → Iter X → Type 0} where
@@ -107,11 +103,6 @@ module _ {X Y W : Type 0} {into : W → Iter (Vec X Y) → Type 0} {row_into : B
   lent_rows w cells gave items made row_made =
       let rows_are : map (λ x. x.now) gave.rows ≡ items w = lent_drains gave.walk.iterator gave.rows gave.walk.walked ∙ made w gave.walk.iterator gave.walk.made in
       let one : (row : Bor (Vec X Y)) (xs : List (Bor X)) → Gives row_into (iter_steps {A = X}) row xs → map (λ cell. cell.now) xs ≡ row.now.items
-          = λ row xs gave. lent_drains gave.iterator xs gave.walked ∙ row_made row gave.iterator gave.made in
+      = λ row xs gave. lent_drains gave.iterator xs gave.walked ∙ row_made row gave.iterator gave.made in
       map_from_zip (Gives row_into (iter_steps {A = X})) (map (λ cell. cell.now)) (λ row. row.now.items) one gave.rows cells gave.each
-        ∙ sym (map_twice (λ x. x.now) (λ row. row.items) gave.rows) ∙ ap (map (λ row. row.items)) rows_are
-
--- ---- what a caller reads of the cells told
-
-pub told_by : {A B C R : Type 0} (v : A → B) (g : B → C) (items : R → List B) (cells : List (List A)) (rows : List R) → map (map v) cells ≡ map items rows → map (map (λ x. g (v x))) cells ≡ map (λ row. map g (items row)) rows
-told_by v g items cells rows e = sym (map_map_twice v g cells) ∙ ap (map (map g)) e ∙ map_twice items (map g) rows
+      ∙ sym (map_twice (λ x. x.now) (λ row. row.items) gave.rows) ∙ ap (map (λ row. row.items)) rows_are

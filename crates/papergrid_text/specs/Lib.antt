@@ -1,3 +1,4 @@
+pub mod ColumnWidths
 pub mod Held
 pub mod Kept
 pub mod LinesLeft

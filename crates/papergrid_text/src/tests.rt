@@ -1,13 +1,24 @@
 //! Worked values, from the original's documentation and unit tests.
 
+mod callers;
+mod consumer;
+
 use crate::StrWithWidth;
 use crate::cell::Cell;
+use crate::iter_records::IterRecords;
 use crate::laws::{dimension_without_carriage_returns, lines_join_to_text};
+use crate::peekable::PeekableRecords;
+use crate::records::{ExactRecords, Records};
 use crate::string::{
     count_lines, count_tabs, get_char_width, get_line_width, get_lines, get_string_width,
     get_text_dimension, get_text_width, replace_tab,
 };
+use crate::tests::callers::{
+    of_held, of_lent, of_lent_records, of_nested, of_row_iter, of_slice, of_texts, of_vectors,
+};
 use crate::text::Text;
+use crate::vec_records::VecRecords;
+use papergrid_values::Position;
 use std::alloc::{AllocError, Global};
 use std::borrow::CowStr;
 use std::cmp::Ordering;
@@ -206,4 +217,118 @@ fn refused_memory(rt: HostRuntime) {
             assert!(rt; false);
         }
     }
+}
+
+// Records that write `get_text` alone.
+#[derive(Drop)]
+struct OneText;
+
+impl PeekableRecords for OneText {
+    ghost use Rattle.std.specs.Prelude.{⊤, ◌∷◌, []};
+
+    ghost has = { λ _ _. ⊤ };
+
+    ghost text = { λ _ _. 97 ∷ 10 ∷ 98 ∷ [] };
+
+    fn get_text(&self, _pos: Position) -> &str {
+        "a\nb"
+    }
+}
+
+#[test]
+fn false_counts_and_provided_peeks(rt: HostRuntime) -> Result<(), Fail> {
+    let alloc = rt.alloc();
+    let rows = vec![in alloc; vec![in alloc; "a"]?]?;
+    let records = VecRecords::with_size(rows, 5, 9);
+    let pos = Position::new(0, 0);
+    assert_eq!(rt; records.count_rows(), 5);
+    assert_eq!(rt; ExactRecords::count_rows(&&records), 5);
+    assert_eq!(rt; records.count_columns(), 9);
+    assert_eq!(rt; records.hint_count_rows(), Some(5));
+    assert_eq!(rt; Records::count_columns(&&records), 9);
+    assert_eq!(rt; Records::hint_count_rows(&&records), Some(5));
+    assert_eq!(rt; records.len(), 1);
+    assert_eq!(rt; records.get_text(pos), "a");
+    assert_eq!(rt; records.get_line(pos, 0), "a");
+    assert_eq!(rt; PeekableRecords::count_lines(&records, pos), 1);
+    assert_eq!(rt; records.get_width(pos), 1);
+    assert_eq!(rt; records.get_line_width(pos, 0), 1);
+    let one = OneText;
+    assert_eq!(rt; one.count_lines(pos), 2);
+    assert_eq!(rt; one.get_line(pos, 1), "b");
+    assert_eq!(rt; one.get_line(pos, 2), "");
+    assert_eq!(rt; one.get_line_width(pos, 1), 1);
+    assert_eq!(rt; one.get_width(pos), 1);
+    let lent = &one;
+    assert_eq!(rt; PeekableRecords::get_text(&lent, pos), "a\nb");
+    assert_eq!(rt; PeekableRecords::count_lines(&lent, pos), 2);
+    assert_eq!(rt; PeekableRecords::get_line(&lent, pos, 1), "b");
+    assert_eq!(rt; PeekableRecords::get_width(&lent, pos), 1);
+    assert_eq!(rt; PeekableRecords::get_line_width(&lent, pos, 1), 1);
+    Ok(())
+}
+
+// The rows `a`, `bcd` and `xyz`, of two cells and of one.
+fn owned_rows(alloc: Global) -> Result<Vec<Vec<String>>, AllocError> {
+    let first = vec![in alloc;
+        String::from_str(alloc, "a")?,
+        String::from_str(alloc, "bcd")?,
+    ]?;
+    let second = vec![in alloc; String::from_str(alloc, "xyz")?]?;
+    Ok(vec![in alloc; first, second]?)
+}
+
+#[test]
+fn greatest_widths(rt: HostRuntime) -> Result<(), Fail> {
+    let alloc = rt.alloc();
+    let expected = [3usize, 3];
+    let lent = vec![in alloc; vec![in alloc; "a", "bcd"]?, vec![in alloc; "xyz"]?]?;
+    assert_eq!(rt; of_vectors(alloc, lent, 2)?.as_slice(), expected.as_slice());
+    let rows = owned_rows(alloc)?;
+    assert_eq!(rt; of_lent(alloc, &rows, 2)?.as_slice(), expected.as_slice());
+    assert_eq!(rt;
+        of_slice(alloc, rows.as_slice(), 2)?.as_slice(),
+        expected.as_slice()
+    );
+    assert_eq!(rt;
+        of_row_iter(alloc, rows.as_slice(), 2)?.as_slice(),
+        expected.as_slice()
+    );
+    let records = IterRecords::new(rows, 2, None);
+    assert_eq!(rt;
+        of_lent_records(alloc, &records)?.as_slice(),
+        expected.as_slice()
+    );
+    assert_eq!(rt;
+        of_nested(alloc, records, 2)?.as_slice(),
+        expected.as_slice()
+    );
+    let text = Text::new(alloc, String::from_str(alloc, "xyz\nab")?)?;
+    let texts = vec![in alloc; vec![in alloc; text]?]?;
+    assert_eq!(rt; of_texts(alloc, texts, 1)?.as_slice(), [3usize].as_slice());
+    Ok(())
+}
+
+#[test]
+fn held_rows(rt: HostRuntime) -> Result<(), Fail> {
+    let alloc = rt.alloc();
+    let mut records = VecRecords::new(owned_rows(alloc)?);
+    assert_eq!(rt; records.count_rows(), 2);
+    assert_eq!(rt; Records::count_columns(&&records), 2);
+    assert_eq!(rt;
+        of_held(alloc, &records)?.as_slice(),
+        [3usize, 3].as_slice()
+    );
+    let copy = records.clone()?;
+    assert!(rt; copy == records);
+    records.push(Vec::new(alloc))?;
+    assert!(rt; copy < records);
+    assert_eq!(rt; records.len(), 3);
+    assert_eq!(rt; records.count_rows(), 2);
+    let rows: Vec<Vec<String>> = records.into();
+    assert_eq!(rt; rows.count_rows(), 3);
+    assert_eq!(rt; ExactRecords::count_rows(&rows.as_slice()), 3);
+    let again: VecRecords<String> = rows.into();
+    assert_eq!(rt; again.count_rows(), 3);
+    Ok(())
 }

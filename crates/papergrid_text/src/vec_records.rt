@@ -56,7 +56,11 @@ impl<T: Drop> Records for VecRecords<T> {
     ghost hint = { λ s. Some s.count_rows };
 
     fn iter_rows(self) -> Vec<Vec<T>> {
-        let VecRecords { rows, count_rows: _, count_cols: _ } = self;
+        let VecRecords {
+            rows,
+            count_rows: _,
+            count_cols: _,
+        } = self;
         rows.iter_rows()
     }
 
@@ -177,7 +181,11 @@ impl<T: Drop> From<VecRecords<T>> for Vec<Vec<T>> {
     ghost from_gives = { λ s r. r ≡ s.rows };
 
     fn from(records: VecRecords<T>) -> Vec<Vec<T>> {
-        let VecRecords { rows, count_rows: _, count_cols: _ } = records;
+        let VecRecords {
+            rows,
+            count_rows: _,
+            count_cols: _,
+        } = records;
         rows
     }
 }
