@@ -115,6 +115,9 @@ impl<T: Cell> PeekableRecords for VecRecords<T> {
 
     ghost text = { λ s p. cell_text T.text s.rows.items p.row p.col };
 
+    // The cells have lines and widths of their own.
+    ghost is_plain = { λ _. ⊥ };
+
     fn get_text(&self, pos: Position) -> &str {
         self.rows[pos.row][pos.col].text()
     }
