@@ -1,5 +1,5 @@
 -- Lists that are compared from a place on.
-use Rattle.std.proofs.Common.{◌≡◌, ℕ, ◌+◌, ◌<◌, ◌≤◌, List, [], ◌∷◌, length, drop, min, refl, ap, ◌∙◌, arith, suc}
+use Rattle.std.proofs.Common.{◌≡◌, ℕ, ◌+◌, ◌<◌, List, [], ◌∷◌, length, drop, min, refl, arith, suc}
 use Rattle.std.specs.Cmp.{ranked}
 use Rattle.std.specs.Cmp.Lexicographic.{slice_cmp}
 use Rattle.std.specs.Ordering.{nat_cmp, MatchOrdering}

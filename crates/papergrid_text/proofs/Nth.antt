@@ -1,5 +1,5 @@
 -- What `nth` gives of an iterator whose items are known.
-use Rattle.std.proofs.Common.{◌≡◌, ℕ, ◌+◌, ◌<◌, ◌≤◌, List, [], ◌∷◌, length, refl, ap, ◌∙◌, arith, zero, suc, drop, get_or, subst}
+use Rattle.std.proofs.Common.{◌≡◌, ℕ, ◌+◌, ◌≤◌, List, [], ◌∷◌, length, refl, ap, ◌∙◌, arith, zero, suc, drop, get_or, subst}
 use Rattle.std.specs.Prelude.{Option, Some, None, MatchOption, slice_index_or}
 use Rattle.std.specs.Iterator.{Yields, SkipsThenYields, AlwaysYields}
 use Rattle.std.proofs.lemmas.List.{length-drop, get_or-drop}

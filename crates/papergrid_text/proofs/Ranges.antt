@@ -1,5 +1,5 @@
 -- The steps of `measure_lines`.
-use Rattle.std.proofs.Common.{◌≡◌, ℕ, ◌+◌, ◌-◌, ◌<◌, ◌≤◌, List, [], ◌∷◌, ◌++◌, length, map, refl, ap, sym, ◌∙◌, arith, suc, take, drop, get_or, subst, length-append, append_assoc, lit<, Bor}
+use Rattle.std.proofs.Common.{◌≡◌, ℕ, ◌+◌, ◌-◌, ◌<◌, ◌≤◌, List, [], ◌∷◌, ◌++◌, length, map, refl, ap, sym, ◌∙◌, arith, suc, drop, get_or, subst, length-append, append_assoc, lit<, Bor}
 use Rattle.std.specs.Prelude.{slice_range}
 use Rattle.std.specs.List.{join_with_byte}
 use Rattle.std.specs.Str.{IsCharBoundary, IsUtf8}

@@ -1,5 +1,5 @@
 -- The steps of a loop over rows and of a loop over a row's cells, for what walks any lawful records.
-use Rattle.std.proofs.Common.{◌≡◌, ℕ, ◌+◌, ◌<◌, ◌^◌, List, [], ◌∷◌, ◌++◌, length, map, refl, ap, sym, ◌∙◌, arith, subst, length-append}
+use Rattle.std.proofs.Common.{◌≡◌, ◌+◌, ◌<◌, ◌^◌, List, [], ◌∷◌, ◌++◌, length, map, refl, ap, sym, ◌∙◌, arith, subst, length-append}
 use Rattle.std.specs.Prelude.{Option, Some}
 use Rattle.std.specs.Iterator.{Yields, Count}
 use Rattle.std.specs.List.{AllZip}

@@ -1,8 +1,8 @@
 -- The lines of a text.
-use Rattle.std.proofs.Common.{◌≡◌, ◌≢◌, ℕ, ◌+◌, ◌<◌, ◌≤◌, List, [], ◌∷◌, ◌++◌, length, map, refl, ap, sym, ◌∙◌, arith, Bor, true, false, Bool, cond, length-append}
-use Rattle.std.specs.Prelude.{Option, ◌==◌}
+use Rattle.std.proofs.Common.{◌≡◌, ◌≢◌, ℕ, ◌<◌, ◌≤◌, List, [], ◌∷◌, ◌++◌, length, map, refl, ap, sym, ◌∙◌, arith, Bor, true, false, Bool, cond, length-append}
+use Rattle.std.specs.Prelude.{◌==◌}
 use Rattle.std.specs.Iterator.{Yields, YieldsFirstRef}
-use Rattle.std.specs.List.{slice_split, join_with_byte, position_or_len, before_first, after_first, onto_first, All}
+use Rattle.std.specs.List.{join_with_byte, position_or_len, before_first, after_first, onto_first, All}
 use Rattle.std.proofs.lemmas.List.{length-map}
 use Rattle.std.proofs.lemmas.List.Elements.{All-nil, All-cons, All-head, All-tail}
 use Rattle.std.proofs.lemmas.List.Splits.{slice_split_first, slice_split_none, slice_split_at, length-slice_split, join_with_byte-slice_split}

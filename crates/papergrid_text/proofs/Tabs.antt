@@ -1,5 +1,5 @@
 -- Tabs and the spaces in their place.
-use Rattle.std.proofs.Common.{◌≡◌, ℕ, ◌+◌, List, [], ◌∷◌, ◌++◌, length, refl, ap, sym, ◌∙◌, arith, zero, suc, true, false, Bool, replicate, count_by, append_assoc, cond, lit<, map}
+use Rattle.std.proofs.Common.{◌≡◌, ℕ, ◌+◌, List, [], ◌∷◌, ◌++◌, refl, ap, sym, ◌∙◌, arith, zero, suc, true, false, Bool, replicate, count_by, append_assoc, cond, lit<, map}
 use Rattle.std.specs.Prelude.{◌==◌, chars}
 use Rattle.std.specs.Char.{encode_utf8}
 use Rattle.std.specs.List.{flat_map, zip}
@@ -8,7 +8,7 @@ use Rattle.std.proofs.lemmas.Bool.{eqb-true}
 use Rattle.std.proofs.lemmas.List.{append-nil}
 use Rattle.std.proofs.lemmas.List.Sums.{sum_by-append}
 use Rattle.std.proofs.lemmas.Str.{encodes-append, encode_ascii, encodes-chars}
-use Rattle.papergrid_text.specs.Text.{is_spaced, in_place_of, with_neighbours, tabs_replaced}
+use Rattle.papergrid_text.specs.Text.{is_spaced, in_place_of, tabs_replaced}
 
 pub map_same : (xs : List ℕ) → map (λ x. x) xs ≡ xs
 map_same [] = refl

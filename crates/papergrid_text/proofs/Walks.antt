@@ -1,14 +1,14 @@
 -- What the walks of std's vectors and slices give.
-use Rattle.std.proofs.Common.{◌≡◌, ℕ, ◌+◌, ◌<◌, ◌≤◌, ◌^◌, List, [], ◌∷◌, ◌++◌, length, map, refl, ap, sym, ◌∙◌, arith, zero-add, Bor, Vec, Global, length-append}
-use Rattle.std.specs.Prelude.{Option, Some, None, vec_len, ⊤}
-use Rattle.std.specs.Iterator.{Yields, Drains, Count, IsFinite, at_most}
+use Rattle.std.proofs.Common.{◌≡◌, ◌+◌, ◌<◌, ◌^◌, List, [], ◌∷◌, ◌++◌, length, map, refl, ap, sym, ◌∙◌, arith, zero-add, Bor, Vec, length-append}
+use Rattle.std.specs.Prelude.{vec_len, ⊤}
+use Rattle.std.specs.Iterator.{Yields, Drains, at_most}
 use Rattle.std.specs.List.{AllZip}
 use Rattle.std.specs.Slice.Iter.{iter_steps, iter_rest}
 use Rattle.std.specs.declared.slice.Iter.{Iter}
 use Rattle.std.specs.declared.vec.IntoIter.{IntoIter}
 use Rattle.std.specs.Vec.Iter.{into_iter_steps, into_iter_items, into_iter_len}
 use Rattle.std.proofs.lemmas.List.{append-nil, length-map}
-use Rattle.papergrid_text.specs.Records.{IsShort, Gives, GivesRows, WalkIsShort}
+use Rattle.papergrid_text.specs.Records.{IsShort, Gives, GivesRows}
 
 pub map_twice : {A B C : Type 0} (f : A → B) (g : B → C) (xs : List A) → map g (map f xs) ≡ map (λ x. g (f x)) xs
 map_twice f g [] = refl

@@ -1,6 +1,6 @@
 -- The widths of lines.
-use Rattle.std.proofs.Common.{◌≡◌, ◌≢◌, ℕ, ◌+◌, ◌-◌, ◌<◌, List, [], ◌∷◌, ◌++◌, length, map, refl, ap, sym, ◌∙◌, arith, zero, suc, max, get_or, subst, Bor, false}
-use Rattle.std.specs.Prelude.{◌==◌, chars}
+use Rattle.std.proofs.Common.{◌≡◌, ℕ, ◌-◌, ◌<◌, List, [], ◌∷◌, ◌++◌, length, map, refl, ap, sym, ◌∙◌, arith, suc, max, get_or, subst, Bor, false}
+use Rattle.std.specs.Prelude.{◌==◌}
 use Rattle.std.specs.List.{join_with_byte}
 use Rattle.std.specs.Str.Lines.{lines_of_parts, strip_carriage_return}
 use Rattle.std.proofs.lemmas.Bool.{ne_eqb}
@@ -9,7 +9,8 @@ use Rattle.std.proofs.lemmas.List.Splits.{join_with_byte-slice_split}
 use Rattle.std.proofs.lemmas.Str.{chars-nil}
 use Rattle.std.proofs.Math.Dec.{eqb-suc-zero}
 use Rattle.unicode_width.specs.Width.{str_width}
-use Rattle.papergrid_text.specs.Text.{HasNoCrLf, HasSameDimension, greatest_width, width_of, split_lines, kept_by_new}
+use Rattle.papergrid_text.specs.Text.{HasNoCrLf, HasSameDimension, greatest_width, width_of, split_lines, kept_by_new, with_width}
+use Rattle.papergrid_text.specs.Kept.{answered_lines}
 use Rattle.papergrid_text.proofs.Splits.{is_split}
 
 -- ---- one more line
@@ -34,6 +35,15 @@ pub none_kept : (lines : List (List ℕ)) → length lines < 2 → kept_by_new l
 none_kept [] small = refl
 none_kept (line ∷ []) small = refl
 none_kept (line ∷ next ∷ more) small = absurd (omega arith)
+
+-- what is answered of the lines kept are all lines of the text
+pub all_answered : (text : List ℕ) (lines : List (List ℕ)) → lines ≡ split_lines text → answered_lines text (greatest_width lines) (kept_by_new lines) ≡ map with_width lines
+all_answered text [] e = let s = (is_split text).some in let n = ap length e in absurd (omega arith)
+all_answered text (line ∷ []) e =
+    let same : line ≡ text = ap (join_with_byte 10) e ∙ (is_split text).joined in
+    let w : max (width_of line) 0 ≡ width_of line = omega arith in
+    λ i. (sym same i, w i) ∷ []
+all_answered text (line ∷ next ∷ more) e = refl
 
 -- ---- where there is no CR LF, std's lines are as wide as the lines of the text
 

@@ -1,6 +1,6 @@
 -- What records tell: a finite list of rows, each a finite list of cells, as the contracts of their
 -- iterators tell it.
-use Rattle.std.specs.Prelude.{◌≡◌, ℕ, ◌<◌, ◌^◌, List, length, Option, Some}
+use Rattle.std.specs.Prelude.{◌<◌, ◌^◌, List, length, Option, Some}
 use Rattle.std.specs.List.{AllZip}
 use Rattle.std.specs.Iterator.{Count, IsFinite, Drains, Yields}
 

@@ -1,8 +1,8 @@
 -- Equality, order and hash of measured texts: by the text that is lent, then the width, then the lines
 -- kept, each by its text and its width.
 use Rattle.std.specs.Prelude.{◌≡◌, ℕ, List, Bool, ◌++◌, nat_eq}
-use Rattle.std.specs.Cmp.{IsEquivalence, IsTotalOrder, po, on_per, on_equiv, on_total, on_po, unsigned_Decides, unsigned_ties, both_tied, partial_equiv_from_equiv}
-use Rattle.std.specs.Cmp.Lexicographic.{pointwise, slice_cmp, lists_equiv, lists_total, lists_ties, texts_ties, bytes_decides}
+use Rattle.std.specs.Cmp.{IsEquivalence, IsTotalOrder, unsigned_Decides, unsigned_ties, both_tied}
+use Rattle.std.specs.Cmp.Lexicographic.{pointwise, slice_cmp, lists_ties, texts_ties, bytes_decides}
 use Rattle.std.specs.Cmp.Rules.{comparing}
 use Rattle.std.specs.Hash as fed
 use Rattle.std.specs.Hash.{Alike, same_Alike, on_Alike, and-Alike, items_Alike}

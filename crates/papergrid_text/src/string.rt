@@ -1,7 +1,7 @@
 //! Texts: their lines, their widths and their tabs. Source: `util/string.rs`.
 
-ghost use Rattle.std.specs.Prelude.{◌≡◌, ◌==◌, ◌+◌, ◌++◌, Option, count_by, length, replicate, string_bytes, false, IfOk};
-ghost use Rattle.std.specs.Cow.{cow_str_bytes};
+ghost use Rattle.std.specs.Prelude.{◌≡◌, ◌<◌, ◌==◌, ◌+◌, ◌++◌, Option, count_by, length, replicate, string_bytes, false, IfOk};
+ghost use Rattle.std.specs.Cow.{cow_str_bytes, IsOwnedStr};
 ghost use Rattle.std.specs.Iterator.{YieldsFirstRef, item_count};
 ghost use Rattle.std.specs.Option.{unwrap_or};
 ghost use Rattle.std.specs.Str.{encode_utf8_all};
@@ -131,6 +131,7 @@ pub fn get_text_dimension(text: &str) -> (usize, usize)
 pub fn replace_tab(alloc: Global, text: &str, n: usize) -> Result<CowStr<'_>, AllocError>
     ensures value { IfOk result (λ new. cow_str_bytes new ≡ tabs_replaced n text.now) }
     ensures takes_no_memory { count_by (λ b. b == 9) text.now ≡ 0 → result ≡ Ok (CowStr.Borrowed text.entry) }
+    ensures owned { 0 < count_by (λ b. b == 9) text.now → IfOk result IsOwnedStr }
 {
     if count_tabs(text) == 0 {
         return Ok(CowStr::Borrowed(text));

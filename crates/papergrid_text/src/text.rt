@@ -61,6 +61,8 @@ impl<S: AsStr> Text<S> {
     where
         S: Drop,
         ensures value { IfOk result (λ t. t ≡ record { text = text; width = greatest_width (split_lines (S.text text)); lines = kept_by_new (split_lines (S.text text)) }) }
+        // As a cell it has the lines of the text, each with its width.
+        ensures lines { IfOk result (λ t. answered_lines (S.text text) t.width t.lines ≡ map with_width (split_lines (S.text text))) }
         ensures takes_no_memory { length (split_lines (S.text text)) < 2 → IsOk result }
     {
         let whole = text.as_str();

@@ -1,4 +1,4 @@
-use Rattle.std.proofs.Common.{arith, ap, ◌∙◌, sym, length, length-append, ◌≡◌, map, ◌++◌, ◌∷◌, []}
+use Rattle.std.proofs.Common.{arith, ap, ◌∙◌, sym, length-append, map, ◌++◌, ◌∷◌, []}
 use Rattle.papergrid_text.specs.LinesLeft.{lines_left}
 use Rattle.papergrid_text.proofs.Splits.{line_fits, shown_yields}
 use Rattle.papergrid_text.proofs.Widths.{greatest_of-more}

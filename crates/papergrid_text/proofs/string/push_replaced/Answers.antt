@@ -1,5 +1,5 @@
 use Rattle.std.proofs.Common.{◌∙◌, sym}
-use Rattle.papergrid_text.proofs.Tabs.{spaces_if, char_if}
+use Rattle.papergrid_text.proofs.Tabs.{spaces_if}
 use Rattle.papergrid_text.proofs.string.push_replaced.Goals as goal
 
 pub returns-in_ok-push_spaces : goal.returns-in_ok-push_spaces

@@ -1,4 +1,4 @@
-use Rattle.std.proofs.Common.{◌≡◌, ◌++◌, ◌∷◌, [], arith, refl, sym, ap, ◌∙◌, length-append, rules}
+use Rattle.std.proofs.Common.{◌++◌, ◌∷◌, [], arith, refl, sym, ap, ◌∙◌, length-append, rules}
 use Rattle.papergrid_text.specs.Text.{text_width}
 use Rattle.papergrid_text.proofs.ColumnWidths.{widen-none, step-cell, step-row, at_the_end}
 use Rattle.papergrid_text.proofs.RowSteps.{one_more_fits, zip_more}
