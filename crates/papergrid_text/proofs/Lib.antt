@@ -2,6 +2,7 @@ pub mod ColumnWidths
 pub mod Compared
 pub mod KeptClones
 pub mod Nth
+pub mod Printable
 pub mod Ranges
 pub mod RowSteps
 pub mod Splits

@@ -2,7 +2,9 @@
 
 ghost use Rattle.std.specs.Prelude.{◌≡◌, ◌<◌, ◌==◌, ◌+◌, ◌++◌, Option, count_by, length, replicate, string_bytes, false, IfOk};
 ghost use Rattle.std.specs.Cow.{cow_str_bytes, IsOwnedStr};
+ghost use Rattle.std.specs.Int.{is_in_range};
 ghost use Rattle.std.specs.Iterator.{YieldsFirstRef, item_count};
+ghost use Rattle.std.specs.List.{list_all};
 ghost use Rattle.std.specs.Option.{unwrap_or};
 ghost use Rattle.std.specs.Str.{encode_utf8_all};
 ghost use Rattle.unicode_width.specs.Width.{char_width};
@@ -81,7 +83,23 @@ fn count_byte(bytes: &[u8], byte: u8) -> usize
 pub fn get_string_width(text: &str) -> usize
     ensures { result ≡ width_of text.now }
 {
+    if is_printable(text) {
+        return text.len();
+    }
     text.width()
+}
+
+// Whether the text is printable ASCII. Then it is as wide as it is long, and has no newline.
+fn is_printable(text: &str) -> bool
+    ensures { result ≡ list_all (is_in_range 0x20 0x7E) text.now }
+{
+    let bytes = text.as_bytes();
+    for b in bytes {
+        if *b < 0x20 || *b > 0x7E {
+            return false;
+        }
+    }
+    true
 }
 
 /// How many columns of a terminal the line takes.
@@ -104,6 +122,9 @@ pub fn get_char_width(c: char) -> usize
 pub fn get_text_width(text: &str) -> usize
     ensures { result ≡ text_width text.now }
 {
+    if is_printable(text) {
+        return text.len();
+    }
     let mut width = 0usize;
     for line in text.lines() {
         width = width.max(get_line_width(line));
@@ -115,6 +136,9 @@ pub fn get_text_width(text: &str) -> usize
 pub fn get_text_dimension(text: &str) -> (usize, usize)
     ensures { result ≡ text_dimension text.now }
 {
+    if is_printable(text) {
+        return (1, text.len());
+    }
     let mut count = 0usize;
     let mut width = 0usize;
     for line in get_lines(text) {

@@ -1,8 +1,12 @@
 use Rattle.std.proofs.Common.{arith, ap, ◌∙◌, sym, length-append, map, ◌++◌, ◌∷◌, []}
 use Rattle.papergrid_text.specs.LinesLeft.{lines_left}
+use Rattle.papergrid_text.proofs.Printable.{text_dimension-printable}
 use Rattle.papergrid_text.proofs.Splits.{line_fits, shown_yields}
 use Rattle.papergrid_text.proofs.Widths.{greatest_of-more}
 use Rattle.papergrid_text.proofs.string.get_text_dimension.Goals as goal
+
+pub returns-then-is_printable : goal.returns-then-is_printable
+returns-then-is_printable c = sym (text_dimension-printable c.args.text.now (sym c.if-is_printable.ensures))
 
 pub overflow_add-count : goal.overflow_add-count
 overflow_add-count c =
