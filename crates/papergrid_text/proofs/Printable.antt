@@ -1,6 +1,6 @@
 -- Texts of printable ASCII.
-use Rattle.std.proofs.Common.{◌≡◌, ℕ, ◌<◌, List, [], ◌∷◌, length, refl, ap, sym, ◌∙◌, arith, true, false, max, IsAscii}
-use Rattle.std.specs.Prelude.{◌==◌, chars}
+use Rattle.std.proofs.Common.{◌≡◌, ℕ, ◌<◌, List, [], ◌∷◌, length, refl, ap, ◌∙◌, arith, true, false, max, IsAscii}
+use Rattle.std.specs.Prelude.{◌==◌}
 use Rattle.std.specs.Int.{is_in_range}
 use Rattle.std.specs.List.{list_all, All}
 use Rattle.std.specs.Str.Lines.{lines_of_parts}

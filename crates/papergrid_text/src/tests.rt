@@ -167,6 +167,10 @@ fn new_equals_exact(rt: HostRuntime) -> Result<(), Fail> {
     let fewer = Text::exact(String::from_str(alloc, "a\nbc")?, 2, Vec::new(alloc));
     assert!(rt; fewer != moved);
     assert!(rt; fewer < moved);
+    let lent = StrWithWidth::new(CowStr::Borrowed("bc"), 2);
+    let owned = StrWithWidth::new(CowStr::Owned(String::from_str(alloc, "bc")?), 2);
+    assert!(rt; lent == owned);
+    assert!(rt; lent.clone()? < StrWithWidth::new(CowStr::Borrowed("bc"), 3));
     Ok(())
 }
 
@@ -197,9 +201,20 @@ fn cloned(alloc: Global) -> Result<Text<String>, AllocError> {
     text.clone()
 }
 
+fn cloned_rows(alloc: Global) -> Result<bool, AllocError> {
+    let records = VecRecords::new(owned_rows(alloc)?);
+    Ok(records.clone()? == records)
+}
+
 #[test]
 fn refused_memory(rt: HostRuntime) {
     let alloc = rt.alloc();
+    match cloned_rows(alloc) {
+        Ok(same) => {
+            assert!(rt; same);
+        }
+        Err(_) => {}
+    }
     assert!(rt; is_refused_or_whole(of_three_lines(alloc)));
     assert!(rt; is_refused_or_whole(cloned(alloc)));
     match replace_tab(alloc, "a\tb\\\tcdefgh", 7) {
@@ -294,6 +309,9 @@ fn greatest_widths(rt: HostRuntime) -> Result<(), Fail> {
         of_row_iter(alloc, rows.as_slice(), 2)?.as_slice(),
         expected.as_slice()
     );
+    let lent = IterRecords::new(rows.as_slice(), 2, None);
+    let copy = lent;
+    assert!(rt; copy == lent && copy < IterRecords::new(rows.as_slice(), 3, None));
     let records = IterRecords::new(rows, 2, None);
     assert_eq!(rt;
         of_lent_records(alloc, &records)?.as_slice(),
