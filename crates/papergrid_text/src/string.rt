@@ -160,7 +160,7 @@ pub fn replace_tab(alloc: Global, text: &str, n: usize) -> Result<CowStr<'_>, Al
     if count_tabs(text) == 0 {
         return Ok(CowStr::Borrowed(text));
     }
-    let mut out = String::new(alloc);
+    let mut out = String::with_capacity(alloc, text.len())?;
     let mut left = '\0';
     'chars: for c in text.chars() {
         push_replaced(&mut out, left, c, n)?;
@@ -191,6 +191,7 @@ fn is_replaced(left: char, c: char, n: usize) -> bool
 fn push_spaces(out: &mut String, n: usize) -> Result<(), AllocError>
     ensures { IfOk result (λ _. string_bytes out.new ≡ string_bytes out.old ++ replicate n 32) }
 {
+    out.reserve(n)?;
     'spaces: for _ in 0..n {
         out.push(' ')?;
     }

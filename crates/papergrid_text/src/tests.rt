@@ -223,6 +223,8 @@ fn refused_memory(rt: HostRuntime) {
         }
         Err(_) => {}
     }
+    // More spaces than any block holds are refused at once.
+    assert!(rt; replace_tab(alloc, "\t", 18446744073709551615).is_err());
     // What takes no memory is not refused.
     match Text::new(alloc, "one line") {
         Ok(text) => {

@@ -66,12 +66,13 @@ impl<S: AsStr> Text<S> {
         ensures takes_no_memory { length (split_lines (S.text text)) < 2 → IsOk result }
     {
         let whole = text.as_str();
-        if count_lines(whole) < 2 {
+        let count = count_lines(whole);
+        if count < 2 {
             let width = get_line_width(whole);
             let lines = KeptLines::Ranges(Vec::new(alloc));
             return Ok(Text { text, width, lines });
         }
-        let (ranges, width) = measure_lines(alloc, whole)?;
+        let (ranges, width) = measure_lines(alloc, whole, count)?;
         let lines = KeptLines::Ranges(ranges);
         Ok(Text { text, width, lines })
     }
@@ -272,13 +273,18 @@ impl<S: AsStr> Hash for Text<S> {
     }
 }
 
-// Where the lines of a text lie, with their widths, and the greatest width.
-fn measure_lines(alloc: Global, text: &str) -> Result<(Vec<LineRange>, usize), AllocError>
+// Where the lines of a text lie, with their widths, and the greatest width. There is room for `count`
+// lines from the start.
+fn measure_lines(
+    alloc: Global,
+    text: &str,
+    count: usize,
+) -> Result<(Vec<LineRange>, usize), AllocError>
     ensures inside { IfOk result (λ r. AreInside text.now (Ranges r.0)) }
     ensures lines { IfOk result (λ r. map (line_of_range text.now) r.0.items ≡ map with_width (split_lines text.now)) }
     ensures width { IfOk result (λ r. r.1 ≡ greatest_width (split_lines text.now)) }
 {
-    let mut ranges = Vec::new(alloc);
+    let mut ranges = Vec::with_capacity(alloc, count)?;
     let mut greatest = 0usize;
     let mut start = 0usize;
     'lines: for line in get_lines(text) {
