@@ -1,0 +1,11 @@
+pub mod ColumnWidths
+pub mod Compared
+pub mod KeptClones
+pub mod Nth
+pub mod Printable
+pub mod Ranges
+pub mod RowSteps
+pub mod Splits
+pub mod Tabs
+pub mod Walks
+pub mod Widths

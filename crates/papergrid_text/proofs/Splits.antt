@@ -1,0 +1,71 @@
+-- The lines of a text.
+use Rattle.std.proofs.Common.{◌≡◌, ◌≢◌, ℕ, ◌<◌, ◌≤◌, List, [], ◌∷◌, ◌++◌, length, map, refl, ap, sym, ◌∙◌, arith, Bor, true, false, Bool, cond, length-append}
+use Rattle.std.specs.Prelude.{◌==◌}
+use Rattle.std.specs.Iterator.{Yields, YieldsFirstRef}
+use Rattle.std.specs.List.{join_with_byte, position_or_len, before_first, after_first, onto_first, All}
+use Rattle.std.proofs.lemmas.List.{length-map}
+use Rattle.std.proofs.lemmas.List.Elements.{All-nil, All-cons, All-head, All-tail}
+use Rattle.std.proofs.lemmas.List.Splits.{slice_split_first, slice_split_none, slice_split_at, length-slice_split, join_with_byte-slice_split}
+use Rattle.std.proofs.lemmas.List.Sums.{fails_before_first, count_by-le-length}
+use Rattle.std.proofs.lemmas.Bool.{eqb-false, ne_eqb}
+use Rattle.papergrid_text.specs.Text.{HasNoNewline, HasOneSplit, IsLines, split_lines}
+
+-- ---- the first line
+
+pub split_first : (bs line rest : List ℕ) → position_or_len (λ b. b == 10) bs < length bs → line ≡ before_first (λ b. b == 10) bs → rest ≡ after_first (λ b. b == 10) bs → split_lines bs ≡ line ∷ split_lines rest
+split_first bs line rest h l r = rw (l, r) (slice_split_first (λ b. b == 10) bs 0 h)
+
+pub split_whole : (bs : List ℕ) → position_or_len (λ b. b == 10) bs ≡ length bs → split_lines bs ≡ bs ∷ []
+split_whole bs h = slice_split_none (λ b. b == 10) bs (λ k d below. fails_before_first (λ b. b == 10) bs k d (omega arith))
+
+-- ---- the lines are the one list of parts that has no newline and joins to the text
+
+plain_onto : (b : ℕ) (parts : List (List ℕ)) → b ≢ 10 → All HasNoNewline parts → All HasNoNewline (onto_first b parts)
+plain_onto b [] n h = All-cons HasNoNewline (b ∷ []) [] (All-cons (λ c. c ≢ 10) b [] n (All-nil (λ c. c ≢ 10))) (All-nil HasNoNewline)
+plain_onto b (part ∷ parts) n h = All-cons HasNoNewline (b ∷ part) parts (All-cons (λ c. c ≢ 10) b part n (All-head HasNoNewline part parts h)) (All-tail HasNoNewline part parts h)
+
+plain_step : (b : ℕ) (parts : List (List ℕ)) (v : Bool) → (b == 10) ≡ v → All HasNoNewline parts → All HasNoNewline (cond v ([] ∷ parts) (onto_first b parts))
+plain_step b parts true e h = All-cons HasNoNewline [] parts (All-nil (λ c. c ≢ 10)) h
+plain_step b parts false e h = plain_onto b parts (λ same. eqb-false b 10 e same) h
+
+plain_lines : (text : List ℕ) → All HasNoNewline (split_lines text)
+plain_lines [] = All-cons HasNoNewline [] [] (All-nil (λ c. c ≢ 10)) (All-nil HasNoNewline)
+plain_lines (b ∷ bs) = plain_step b (split_lines bs) (b == 10) refl (plain_lines bs)
+
+fails_all : (text : List ℕ) → HasNoNewline text → All (λ b. (b == 10) ≡ false) text
+fails_all text h k d below = ne_eqb _ 10 (h k d below)
+
+split_of_join : (parts : List (List ℕ)) → 0 < length parts → All HasNoNewline parts → split_lines (join_with_byte 10 parts) ≡ parts
+split_of_join [] some h = absurd (omega arith)
+split_of_join (x ∷ []) some h = slice_split_none (λ b. b == 10) x (fails_all x (All-head HasNoNewline x [] h))
+split_of_join (x ∷ y ∷ more) some h =
+    slice_split_at (λ b. b == 10) x 10 (join_with_byte 10 (y ∷ more)) (fails_all x (All-head HasNoNewline x (y ∷ more) h)) refl
+    ∙ ap (λ parts. x ∷ parts) (split_of_join (y ∷ more) (omega arith) (All-tail HasNoNewline x (y ∷ more) h))
+
+pub is_split : (text : List ℕ) → IsLines text (split_lines text)
+is_split text = record {
+  some = let n = length-slice_split (λ b. b == 10) text in omega arith;
+  plain = plain_lines text;
+  joined = join_with_byte-slice_split 10 text;
+}
+
+pub one_split : (text : List ℕ) → HasOneSplit text
+one_split text = record {
+  is_split = is_split text;
+  is_only = λ parts is. sym (split_of_join parts is.some is.plain) ∙ ap split_lines is.joined;
+  count = length-slice_split (λ b. b == 10) text;
+}
+
+-- ---- what an iterator that shows its list gives
+
+pub shown_yields : {S A : Type 0} (rest : S → List A) (s t : S) (xs : List (Bor A)) → Yields (YieldsFirstRef rest) s xs t → rest s ≡ map (λ x. x.now) xs ++ rest t
+shown_yields rest s t [] e = ap rest e
+shown_yields rest s t (x ∷ xs) (j, step, others) = step ∙ ap (λ ys. x.now ∷ ys) (shown_yields rest j t xs others)
+
+-- there are no more lines than bytes and one
+pub line_fits : (lines : List (Bor (List ℕ))) (line : Bor (List ℕ)) (text : List ℕ) (left : List (List ℕ)) → split_lines text ≡ map (λ x. x.now) lines ++ line.now ∷ left → length lines ≤ length text
+line_fits lines line text left e =
+    let a = ap length e ∙ length-append (map (λ x. x.now) lines) (line.now ∷ left) in
+    let b = length-map lines (λ (x : Bor (List ℕ)). x.now) in
+    let d = length-slice_split (λ b. b == 10) text in
+    let f = count_by-le-length (λ b. b == 10) text in omega arith

@@ -1,0 +1,34 @@
+use Rattle.std.proofs.Common.{arith, ap, ◌∙◌, sym, subst, map, rules}
+use Rattle.std.specs.List.{All}
+use Rattle.std.proofs.lemmas.List.Elements.{All-push}
+use Rattle.papergrid_text.specs.Kept.{IsInside, line_of_range}
+use Rattle.papergrid_text.specs.LinesLeft.{lines_left}
+use Rattle.papergrid_text.proofs.Ranges.{step_by, rest_at_start, lines_more}
+use Rattle.papergrid_text.proofs.Widths.{greatest_of-more}
+use Rattle.papergrid_text.proofs.text.measure_lines.Goals as goal
+
+pub lines-init : goal.lines-init
+lines-init c = (
+  tt,
+  tt,
+  search rules,
+  search rules,
+  search rules,
+  rest_at_start c.args.text.now (lines_left c.into_iter-line-iterator.result) (ap lines_left c.into_iter-line-iterator.ensures.into_iter_gives ∙ c.get_lines-line-items.ensures) c.utf8.text,
+)
+
+pub overflow_add-end : goal.overflow_add-end
+overflow_add-end c =
+    let step = step_by c.args.text.now c.in-Some.line.now c.lines.start _ (lines_left c.next.new.self) c.utf8.text c.in-Some.ensures.steps c.lines.invariant.5 in
+    let f = step.fits in let t = c.type_inv.text in omega arith
+
+pub lines-preserved : goal.lines-preserved
+lines-preserved c =
+    let step = step_by c.args.text.now c.in-Some.line.now c.lines.start _ (lines_left c.next.new.self) c.utf8.text c.in-Some.ensures.steps c.lines.invariant.5 in (
+      tt,
+      tt,
+      greatest_of-more c.lines.yielded c.in-Some.line _ _ _ c.lines.invariant.2 c.get_line_width-width.ensures c.max-greatest.ensures,
+      ap (map (line_of_range c.args.text.now)) c.in_ok-push.ensures.items ∙ lines_more c.args.text.now c.lines.ranges.items _ c.lines.yielded c.in-Some.line c.lines.invariant.3 step.same c.get_line_width-width.ensures,
+      subst (All (IsInside c.args.text.now)) (sym c.in_ok-push.ensures.items) (All-push (IsInside c.args.text.now) c.lines.ranges.items _ c.lines.invariant.4 (step.inside c.get_line_width-width.result)),
+      step.left,
+    )

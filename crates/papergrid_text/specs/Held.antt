@@ -1,0 +1,32 @@
+-- The rows that records hold.
+use Rattle.std.specs.Prelude.{ℕ, List, [], ◌∷◌, length, Vec, Option, Some, None, slice_get, MatchOption}
+
+-- the number of columns, by the first row
+abbrev pub first_length : {T Z : Type 0} → List (Vec T Z) → ℕ
+first_length [] = 0
+first_length (row ∷ rows) = length row.items
+
+abbrev pub text_of : {T : Type 0} → (T → List ℕ) → Option T → List ℕ
+text_of text None = []
+text_of text (Some cell) = text cell
+
+module _ {T Z : Type 0} where
+  abbrev pub in_row : Option (Vec T Z) → ℕ → Option T
+  in_row None col = None
+  in_row (Some row) col = slice_get row.items col
+
+  -- the cell at a place
+  abbrev pub cell_at : List (Vec T Z) → ℕ → ℕ → Option T
+  cell_at rows row col = in_row (slice_get rows row) col
+
+  -- there is a cell at the place
+  abbrev pub HasCell : List (Vec T Z) → ℕ → ℕ → Type 0
+  HasCell rows row col = MatchOption (cell_at rows row col) ⊥ (λ _. Unit {0})
+
+  -- there is one, and P holds of it
+  abbrev pub HoldsOfCell : (T → Type 0) → List (Vec T Z) → ℕ → ℕ → Type 0
+  HoldsOfCell P rows row col = MatchOption (cell_at rows row col) ⊥ P
+
+  -- the text of the cell at the place, and the empty text where there is none
+  abbrev pub cell_text : (T → List ℕ) → List (Vec T Z) → ℕ → ℕ → List ℕ
+  cell_text text rows row col = text_of text (cell_at rows row col)

@@ -1,0 +1,84 @@
+-- The lines of a text, its measures and its tabs. A text is the list of its bytes: 9 is a tab, 10 a
+-- newline, 13 a carriage return, 32 a space and 92 a backslash.
+use Rattle.std.specs.Prelude.{◌≡◌, ◌≢◌, ℕ, ◌+◌, ◌<◌, ◌==◌, ◌&&◌, ◌||◌, List, [], ◌∷◌, ◌++◌, length, map, max, not, if◌then◌else◌, Bool, false, replicate, chars, count_by}
+use Rattle.std.specs.List.{slice_split, join_with_byte, All, flat_map, zip}
+use Rattle.std.specs.Str.{encode_utf8_all}
+use Rattle.std.specs.Str.Lines.{lines}
+use Rattle.unicode_width.specs.Width.{str_width}
+
+-- ---- lines
+
+abbrev pub HasNoNewline : List ℕ → Type 0
+HasNoNewline text = All (λ b. b ≢ 10) text
+
+-- there is a part, none has a newline, and joined by newlines they are the text
+pub record IsLines (text : List ℕ) (parts : List (List ℕ)) : Type 0 where
+  pub some : 0 < length parts
+  pub plain : All HasNoNewline parts
+  pub joined : join_with_byte 10 parts ≡ text
+
+-- the lines of a text: the one list of parts as above
+abbrev pub split_lines : List ℕ → List (List ℕ)
+split_lines text = slice_split (λ b. b == 10) text
+
+-- `split_lines text` is the one list of parts that `IsLines` asks for, one more than there are newlines
+pub record HasOneSplit (text : List ℕ) : Type 0 where
+  pub is_split : IsLines text (split_lines text)
+  pub is_only : (parts : List (List ℕ)) → IsLines text parts → parts ≡ split_lines text
+  pub count : length (split_lines text) ≡ count_by (λ b. b == 10) text + 1
+
+-- ---- measures
+
+-- the width of a text, in columns of a terminal
+abbrev pub width_of : List ℕ → ℕ
+width_of text = str_width false (chars text)
+
+-- the greatest width of the parts, 0 where there is none
+abbrev pub greatest_width : List (List ℕ) → ℕ
+greatest_width [] = 0
+greatest_width (part ∷ parts) = max (width_of part) (greatest_width parts)
+
+-- the greatest width of std's lines
+abbrev pub text_width : List ℕ → ℕ
+text_width text = greatest_width (lines text)
+
+-- the number of lines, and the greatest width of them
+abbrev pub text_dimension : List ℕ → ℕ × ℕ
+text_dimension text = (length (split_lines text), greatest_width (split_lines text))
+
+-- no carriage return stands right before a newline
+abbrev pub HasNoCrLf : List ℕ → Type 0
+HasNoCrLf text = (front back : List ℕ) → text ≢ front ++ (13 ∷ 10 ∷ back)
+
+-- then the lines of both kinds have the same greatest width
+abbrev pub HasSameDimension : List ℕ → Type 0
+HasSameDimension text = HasNoCrLf text → text_dimension text ≡ (length (split_lines text), text_width text)
+
+-- a line with its width
+abbrev pub with_width : List ℕ → List ℕ × ℕ
+with_width line = (line, width_of line)
+
+-- the lines that `Text::new` keeps of the lines of a text: none where there is only one
+abbrev pub kept_by_new : List (List ℕ) → List (List ℕ × ℕ)
+kept_by_new [] = []
+kept_by_new (line ∷ []) = []
+kept_by_new (line ∷ next ∷ more) = map with_width (line ∷ next ∷ more)
+
+-- ---- tabs
+
+-- whether spaces stand for the character c, whose left neighbour is `left`: for a tab, except, where n
+-- is not 4, for one right after a backslash
+abbrev pub is_spaced : ℕ → ℕ → ℕ → Bool
+is_spaced n left c = (c == 9) && ((n == 4) || not (left == 92))
+
+-- what stands for a character, which comes with its left neighbour
+abbrev pub in_place_of : ℕ → ℕ × ℕ → List ℕ
+in_place_of n pair = if is_spaced n pair.0 pair.1 then replicate n 32 else pair.1 ∷ []
+
+-- each character with its left neighbour, which is 0 for the first
+abbrev pub with_neighbours : List ℕ → List (ℕ × ℕ)
+with_neighbours cs = zip (0 ∷ cs) cs
+
+-- the text with n spaces for its tabs, character by character with its left neighbour in the text
+abbrev pub tabs_replaced : ℕ → List ℕ → List ℕ
+tabs_replaced n text = encode_utf8_all (flat_map (in_place_of n) (with_neighbours (chars text)))

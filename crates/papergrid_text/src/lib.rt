@@ -1,0 +1,23 @@
+//! Texts, cells and records: what is measured, and where it comes from.
+#![tactic(auto)]
+
+pub mod cell;
+pub mod iter_records;
+mod kept;
+pub mod laws;
+pub mod peekable;
+pub mod records;
+pub mod string;
+#[cfg(test)]
+mod tests;
+pub mod text;
+pub mod vec_records;
+
+pub use cell::Cell;
+pub use iter_records::{IterRecords, RowIter};
+pub use kept::StrWithWidth;
+pub use peekable::PeekableRecords;
+pub use records::{ExactRecords, IntoRecords, Records};
+pub use string::Lines;
+pub use text::Text;
+pub use vec_records::VecRecords;

@@ -1,0 +1,98 @@
+//! Records whose cells are read by position. Source: `records/peekable_records.rs`.
+
+ghost use Rattle.std.specs.Prelude.{◌≡◌, ℕ, List, [], ⊤, length, slice_index_or};
+ghost use Rattle.std.specs.Str.Lines.{lines as std_lines};
+ghost use Rattle.papergrid_text.specs.Text.{text_width, width_of};
+ghost use Rattle.papergrid_values.specs.declared.position.Position.{Position};
+
+use crate::cell::{count_std_lines, std_line};
+use crate::string::{get_line_width, get_text_width};
+use papergrid_values::Position;
+
+/// Records whose cells are read by position. Widths are in columns of a terminal.
+///
+/// The calls on lines and widths have bodies of their own, which measure the text by std's lines.
+/// A line that is not there is the empty text to them.
+pub trait PeekableRecords {
+    // Holds of the positions whose cell may be read.
+    ghost has: { Self → Position → Type 0 };
+
+    // Holds of the lines of a cell that may be read.
+    ghost has_line: { Self → Position → ℕ → Type 0 } = { λ _ _ _. ⊤ };
+
+    // The text of a cell.
+    ghost text: { Self → Position → List ℕ };
+
+    // Holds of the records whose lines and widths are those of their texts, by std's lines. So it is of
+    // all records that take the bodies below; what writes its own says here of which it holds.
+    ghost is_plain: { Self → Type 0 } = { λ _. ⊤ };
+
+    /// The text of the cell.
+    fn get_text(&self, pos: Position) -> &str
+        requires { has self.now pos }
+        ensures { result.now ≡ text self.now pos };
+
+    /// The line of the cell at a place.
+    fn get_line(&self, pos: Position, line: usize) -> &str
+        requires at { has self.now pos }
+        requires there { has_line self.now pos line }
+        ensures plain { is_plain self.now → result.now ≡ slice_index_or (std_lines (text self.now pos)) line [] }
+    {
+        std_line(self.get_text(pos), line)
+    }
+
+    /// The number of lines of the cell.
+    fn count_lines(&self, pos: Position) -> usize
+        requires { has self.now pos }
+        ensures plain { is_plain self.now → result ≡ length (std_lines (text self.now pos)) }
+    {
+        count_std_lines(self.get_text(pos))
+    }
+
+    /// The width of the cell.
+    fn get_width(&self, pos: Position) -> usize
+        requires { has self.now pos }
+        ensures plain { is_plain self.now → result ≡ text_width (text self.now pos) }
+    {
+        get_text_width(self.get_text(pos))
+    }
+
+    /// The width of the line of the cell at a place.
+    fn get_line_width(&self, pos: Position, line: usize) -> usize
+        requires at { has self.now pos }
+        requires there { has_line self.now pos line }
+        ensures plain { is_plain self.now → result ≡ width_of (slice_index_or (std_lines (text self.now pos)) line []) }
+    {
+        get_line_width(self.get_line(pos, line))
+    }
+}
+
+impl<R: PeekableRecords> PeekableRecords for &R {
+    ghost has = { λ s p. R.has s.now p };
+
+    ghost has_line = { λ s p n. R.has_line s.now p n };
+
+    ghost text = { λ s p. R.text s.now p };
+
+    ghost is_plain = { λ s. R.is_plain s.now };
+
+    fn get_text(&self, pos: Position) -> &str {
+        R::get_text(*self, pos)
+    }
+
+    fn get_line(&self, pos: Position, line: usize) -> &str {
+        R::get_line(*self, pos, line)
+    }
+
+    fn count_lines(&self, pos: Position) -> usize {
+        R::count_lines(*self, pos)
+    }
+
+    fn get_width(&self, pos: Position) -> usize {
+        R::get_width(*self, pos)
+    }
+
+    fn get_line_width(&self, pos: Position, line: usize) -> usize {
+        R::get_line_width(*self, pos, line)
+    }
+}

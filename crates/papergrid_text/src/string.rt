@@ -1,0 +1,199 @@
+//! Texts: their lines, their widths and their tabs. Source: `util/string.rs`.
+
+ghost use Rattle.std.specs.Prelude.{◌≡◌, ◌<◌, ◌==◌, ◌+◌, ◌++◌, Option, count_by, length, replicate, string_bytes, false, IfOk};
+ghost use Rattle.std.specs.Cow.{cow_str_bytes, IsOwnedStr};
+ghost use Rattle.std.specs.Int.{is_in_range};
+ghost use Rattle.std.specs.Iterator.{YieldsFirstRef, item_count};
+ghost use Rattle.std.specs.List.{list_all};
+ghost use Rattle.std.specs.Option.{unwrap_or};
+ghost use Rattle.std.specs.Str.{encode_utf8_all};
+ghost use Rattle.unicode_width.specs.Width.{char_width};
+ghost use Rattle.papergrid_text.specs.LinesLeft.{lines_left};
+ghost use Rattle.papergrid_text.specs.Text.{split_lines, width_of, text_width, text_dimension, is_spaced, in_place_of, tabs_replaced};
+
+use std::alloc::{AllocError, Global};
+use std::borrow::CowStr;
+use std::iter::Iterator;
+use unicode_width::{UnicodeWidthChar, UnicodeWidthStr};
+
+/// The lines of a text, as slices of it. It ends for good after the last one.
+#[derive(Clone, Debug, Drop)]
+pub struct Lines<'a> {
+    rest: Option<&'a str>,
+}
+
+impl<'a> Iterator for Lines<'a> {
+    type Item = &'a str;
+
+    ghost next_gives = { YieldsFirstRef lines_left };
+
+    ghost remaining = { item_count lines_left };
+
+    fn next(&mut self) -> Option<&'a str> {
+        let text = self.rest?;
+        match text.split_once('\n') {
+            Some((line, rest)) => {
+                self.rest = Some(rest);
+                Some(line)
+            }
+            None => {
+                self.rest = None;
+                Some(text)
+            }
+        }
+    }
+}
+
+/// The slices of a text between its newlines. After a trailing newline comes an empty last line, and
+/// the empty text has one line.
+pub fn get_lines(text: &str) -> Lines<'_>
+    ensures { lines_left result ≡ split_lines text.now }
+{
+    Lines { rest: Some(text) }
+}
+
+/// The number of lines that `get_lines` gives: one more than there are newlines.
+pub fn count_lines(text: &str) -> usize
+    ensures lines { result ≡ length (split_lines text.now) }
+    ensures newlines { result ≡ count_by (λ b. b == 10) text.now + 1 }
+{
+    count_byte(text.as_bytes(), b'\n') + 1
+}
+
+/// The number of tabs.
+pub fn count_tabs(text: &str) -> usize
+    ensures { result ≡ count_by (λ b. b == 9) text.now }
+{
+    count_byte(text.as_bytes(), b'\t')
+}
+
+fn count_byte(bytes: &[u8], byte: u8) -> usize
+    ensures { result ≡ count_by (λ b. b == byte) bytes.now }
+{
+    let mut count = 0usize;
+    for b in bytes {
+        if *b == byte {
+            count += 1;
+        }
+    }
+    count
+}
+
+/// How many columns of a terminal the text takes.
+pub fn get_string_width(text: &str) -> usize
+    ensures { result ≡ width_of text.now }
+{
+    if is_printable(text) {
+        return text.len();
+    }
+    text.width()
+}
+
+// Whether the text is printable ASCII. Then it is as wide as it is long, and has no newline.
+fn is_printable(text: &str) -> bool
+    ensures { result ≡ list_all (is_in_range 0x20 0x7E) text.now }
+{
+    let bytes = text.as_bytes();
+    for b in bytes {
+        if *b < 0x20 || *b > 0x7E {
+            return false;
+        }
+    }
+    true
+}
+
+/// How many columns of a terminal the line takes.
+pub fn get_line_width(text: &str) -> usize
+    ensures { result ≡ width_of text.now }
+{
+    get_string_width(text)
+}
+
+/// How many columns of a terminal the character takes, 0 where it takes none.
+pub fn get_char_width(c: char) -> usize
+    ensures { result ≡ unwrap_or (char_width false c) 0 }
+{
+    c.width().unwrap_or(0)
+}
+
+/// The greatest width of std's lines, 0 where there is no line.
+///
+/// Std's lines lack an empty last line, and a carriage return right before a newline.
+pub fn get_text_width(text: &str) -> usize
+    ensures { result ≡ text_width text.now }
+{
+    if is_printable(text) {
+        return text.len();
+    }
+    let mut width = 0usize;
+    for line in text.lines() {
+        width = width.max(get_line_width(line));
+    }
+    width
+}
+
+/// The number of lines that `get_lines` gives, and the greatest width of them. Carriage returns count.
+pub fn get_text_dimension(text: &str) -> (usize, usize)
+    ensures { result ≡ text_dimension text.now }
+{
+    if is_printable(text) {
+        return (1, text.len());
+    }
+    let mut count = 0usize;
+    let mut width = 0usize;
+    for line in get_lines(text) {
+        count += 1;
+        width = width.max(get_line_width(line));
+    }
+    (count, width)
+}
+
+/// The text with `n` spaces in place of each tab. Where `n` is not 4, a tab right after a backslash
+/// stays.
+///
+/// A text without a tab comes back as it is, and takes no memory.
+pub fn replace_tab(alloc: Global, text: &str, n: usize) -> Result<CowStr<'_>, AllocError>
+    ensures value { IfOk result (λ new. cow_str_bytes new ≡ tabs_replaced n text.now) }
+    ensures takes_no_memory { count_by (λ b. b == 9) text.now ≡ 0 → result ≡ Ok (CowStr.Borrowed text.entry) }
+    ensures owned { 0 < count_by (λ b. b == 9) text.now → IfOk result IsOwnedStr }
+{
+    if count_tabs(text) == 0 {
+        return Ok(CowStr::Borrowed(text));
+    }
+    let mut out = String::with_capacity(alloc, text.len())?;
+    let mut left = '\0';
+    'chars: for c in text.chars() {
+        push_replaced(&mut out, left, c, n)?;
+        left = c;
+    }
+    Ok(CowStr::Owned(out))
+}
+
+// Appends what stands for the character `c`, whose left neighbour is `left`.
+fn push_replaced(out: &mut String, left: char, c: char, n: usize) -> Result<(), AllocError>
+    ensures { IfOk result (λ _. string_bytes out.new ≡ string_bytes out.old ++ encode_utf8_all (in_place_of n (left, c))) }
+{
+    if is_replaced(left, c, n) {
+        push_spaces(out, n)?;
+    } else {
+        out.push(c)?;
+    }
+    Ok(())
+}
+
+// Whether spaces stand for the character `c`, whose left neighbour is `left`.
+fn is_replaced(left: char, c: char, n: usize) -> bool
+    ensures { result ≡ is_spaced n left c }
+{
+    c == '\t' && (n == 4 || left != '\\')
+}
+
+fn push_spaces(out: &mut String, n: usize) -> Result<(), AllocError>
+    ensures { IfOk result (λ _. string_bytes out.new ≡ string_bytes out.old ++ replicate n 32) }
+{
+    out.reserve(n)?;
+    'spaces: for _ in 0..n {
+        out.push(' ')?;
+    }
+    Ok(())
+}

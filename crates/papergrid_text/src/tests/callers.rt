@@ -1,0 +1,89 @@
+//! The consumer at each type that records come in.
+
+ghost use Rattle.std.specs.Prelude.{◌≡◌, map, IfOk, string_bytes};
+ghost use Rattle.papergrid_text.specs.ColumnWidths.{greatest_widths};
+ghost use Rattle.papergrid_text.specs.Text.{text_width};
+
+use crate::iter_records::{IterRecords, RowIter};
+use crate::tests::consumer::widest;
+use crate::text::Text;
+use crate::vec_records::VecRecords;
+use std::alloc::{AllocError, Global};
+
+pub fn of_vectors(
+    alloc: Global,
+    rows: Vec<Vec<&str>>,
+    columns: usize,
+) -> Result<Vec<usize>, AllocError>
+    ensures { IfOk result (λ widths. widths.items ≡ greatest_widths columns (map (λ row. map (λ cell. text_width cell.now) row.items) rows.entry.items)) }
+{
+    widest(alloc, IterRecords::new(rows, columns, None))
+}
+
+pub fn of_lent(
+    alloc: Global,
+    rows: &Vec<Vec<String>>,
+    columns: usize,
+) -> Result<Vec<usize>, AllocError>
+    ensures { IfOk result (λ widths. widths.items ≡ greatest_widths columns (map (λ row. map (λ cell. text_width (string_bytes cell)) row.items) rows.now.items)) }
+{
+    widest(alloc, IterRecords::new(rows, columns, None))
+}
+
+pub fn of_slice(
+    alloc: Global,
+    rows: &[Vec<String>],
+    columns: usize,
+) -> Result<Vec<usize>, AllocError>
+    ensures { IfOk result (λ widths. widths.items ≡ greatest_widths columns (map (λ row. map (λ cell. text_width (string_bytes cell)) row.items) rows.now)) }
+{
+    widest(alloc, IterRecords::new(rows, columns, None))
+}
+
+pub fn of_row_iter(
+    alloc: Global,
+    rows: &[Vec<String>],
+    columns: usize,
+) -> Result<Vec<usize>, AllocError>
+    ensures { IfOk result (λ widths. widths.items ≡ greatest_widths columns (map (λ row. map (λ cell. text_width (string_bytes cell)) row.items) rows.now)) }
+{
+    widest(
+        alloc,
+        IterRecords::new(RowIter::new(rows.iter()), columns, None),
+    )
+}
+
+pub fn of_nested(
+    alloc: Global,
+    records: IterRecords<Vec<Vec<String>>>,
+    columns: usize,
+) -> Result<Vec<usize>, AllocError>
+    ensures { IfOk result (λ widths. widths.items ≡ greatest_widths columns (map (λ row. map (λ cell. text_width (string_bytes cell)) row.items) records.iter.items)) }
+{
+    widest(alloc, IterRecords::new(records, columns, None))
+}
+
+pub fn of_lent_records(
+    alloc: Global,
+    records: &IterRecords<Vec<Vec<String>>>,
+) -> Result<Vec<usize>, AllocError>
+    ensures { IfOk result (λ widths. widths.items ≡ greatest_widths records.now.count_columns (map (λ row. map (λ cell. text_width (string_bytes cell)) row.items) records.now.iter.items)) }
+{
+    widest(alloc, records)
+}
+
+pub fn of_held(alloc: Global, records: &VecRecords<String>) -> Result<Vec<usize>, AllocError>
+    ensures { IfOk result (λ widths. widths.items ≡ greatest_widths records.now.count_cols (map (λ row. map (λ cell. text_width (string_bytes cell)) row.items) records.now.rows.items)) }
+{
+    widest(alloc, records)
+}
+
+pub fn of_texts(
+    alloc: Global,
+    rows: Vec<Vec<Text<String>>>,
+    columns: usize,
+) -> Result<Vec<usize>, AllocError>
+    ensures { IfOk result (λ widths. widths.items ≡ greatest_widths columns (map (λ row. map (λ cell. text_width (string_bytes cell.text)) row.items) rows.items)) }
+{
+    widest(alloc, VecRecords::with_size(rows, 0, columns))
+}

@@ -1,0 +1,202 @@
+//! Records that hold their rows. Source: `records/vec_records/mod.rs`.
+
+ghost use Rattle.std.specs.Prelude.{◌≡◌, map, length, ⊤, Some};
+ghost use Rattle.papergrid_text.specs.Held.{first_length};
+
+use crate::cell::Cell;
+use crate::peekable::PeekableRecords;
+use crate::records::{ExactRecords, IntoRecords, Records};
+use papergrid_values::Position;
+use std::convert::From;
+use std::iter::{IntoIterator, Iterator};
+use std::ops::{Deref, DerefMut};
+
+/// Rows of cells, with counts that may differ from the rows held.
+#[derive(Clone, PartialEq, Eq, PartialOrd, Ord, Hash, Debug, Drop)]
+pub struct VecRecords<T> {
+    rows: Vec<Vec<T>>,
+    count_rows: usize,
+    count_cols: usize,
+}
+
+impl<T> VecRecords<T> {
+    /// Records of these rows, with as many columns as the first row has cells, 0 where there is no row.
+    pub fn new(rows: Vec<Vec<T>>) -> VecRecords<T>
+        ensures { result ≡ record { rows = rows; count_rows = length rows.items; count_cols = first_length rows.items } }
+    {
+        let count_cols = match rows.first() {
+            Some(row) => row.len(),
+            None => 0,
+        };
+        let count_rows = rows.len();
+        VecRecords::with_size(rows, count_rows, count_cols)
+    }
+
+    /// Records of these rows, with these counts.
+    pub fn with_size(rows: Vec<Vec<T>>, count_rows: usize, count_cols: usize) -> VecRecords<T>
+        ensures { result ≡ record { rows = rows; count_rows = count_rows; count_cols = count_cols } }
+    {
+        VecRecords {
+            rows,
+            count_rows,
+            count_cols,
+        }
+    }
+}
+
+impl<T: Drop> Records for VecRecords<T> {
+    type Iter = Vec<Vec<T>>;
+
+    ghost is_lawful = { λ _. ⊤ };
+
+    ghost tells = { λ s cells. cells ≡ map (λ row. row.items) s.rows.items };
+
+    ghost columns = { λ s. s.count_cols };
+
+    ghost hint = { λ s. Some s.count_rows };
+
+    fn iter_rows(self) -> Vec<Vec<T>> {
+        let VecRecords {
+            rows,
+            count_rows: _,
+            count_cols: _,
+        } = self;
+        rows.iter_rows()
+    }
+
+    fn count_columns(&self) -> usize {
+        self.count_cols
+    }
+
+    fn hint_count_rows(&self) -> Option<usize> {
+        Some(self.count_rows)
+    }
+}
+
+impl<'a, T> Records for &'a VecRecords<T> {
+    type Iter = &'a [Vec<T>];
+
+    ghost is_lawful = { λ _. ⊤ };
+
+    ghost tells = { λ s cells. map (map (λ cell. cell.now)) cells ≡ map (λ row. row.items) s.now.rows.items };
+
+    ghost columns = { λ s. s.now.count_cols };
+
+    ghost hint = { λ s. Some s.now.count_rows };
+
+    fn iter_rows(self) -> &'a [Vec<T>] {
+        self.rows.as_slice().iter_rows()
+    }
+
+    fn count_columns(&self) -> usize {
+        self.count_cols
+    }
+
+    fn hint_count_rows(&self) -> Option<usize> {
+        Some(self.count_rows)
+    }
+}
+
+impl<T> ExactRecords for VecRecords<T> {
+    ghost rows = { λ s. s.count_rows };
+
+    fn count_rows(&self) -> usize {
+        self.count_rows
+    }
+}
+
+impl<T: Cell> PeekableRecords for VecRecords<T> {
+    ghost use Rattle.std.specs.Prelude.{◌≡◌, ◌<◌, [], length, slice_index_or, MatchOption};
+    ghost use Rattle.papergrid_text.specs.Held.{HasCell, HoldsOfCell, cell_text};
+
+    ghost has = { λ s p. HasCell s.rows.items p.row p.col };
+
+    ghost has_line = { λ s p n. HoldsOfCell (λ cell. n < length (T.lines cell)) s.rows.items p.row p.col };
+
+    ghost text = { λ s p. cell_text T.text s.rows.items p.row p.col };
+
+    // The cells have lines and widths of their own.
+    ghost is_plain = { λ _. ⊥ };
+
+    fn get_text(&self, pos: Position) -> &str {
+        self.rows[pos.row][pos.col].text()
+    }
+
+    fn get_line(&self, pos: Position, line: usize) -> &str
+        requires at { HasCell self.now.rows.items pos.row pos.col }
+        requires there { HoldsOfCell (λ cell. line < length (T.lines cell)) self.now.rows.items pos.row pos.col }
+        ensures { HoldsOfCell (λ cell. result.now ≡ (slice_index_or (T.lines cell) line ([], 0)).0) self.now.rows.items pos.row pos.col }
+    {
+        self.rows[pos.row][pos.col].line(line)
+    }
+
+    fn count_lines(&self, pos: Position) -> usize
+        requires { HasCell self.now.rows.items pos.row pos.col }
+        ensures { HoldsOfCell (λ cell. result ≡ length (T.lines cell)) self.now.rows.items pos.row pos.col }
+    {
+        self.rows[pos.row][pos.col].count_lines()
+    }
+
+    fn get_width(&self, pos: Position) -> usize
+        requires { HasCell self.now.rows.items pos.row pos.col }
+        ensures { HoldsOfCell (λ cell. result ≡ T.width cell) self.now.rows.items pos.row pos.col }
+    {
+        self.rows[pos.row][pos.col].width()
+    }
+
+    fn get_line_width(&self, pos: Position, line: usize) -> usize
+        requires at { HasCell self.now.rows.items pos.row pos.col }
+        requires there { HoldsOfCell (λ cell. line < length (T.lines cell)) self.now.rows.items pos.row pos.col }
+        ensures { HoldsOfCell (λ cell. result ≡ (slice_index_or (T.lines cell) line ([], 0)).1) self.now.rows.items pos.row pos.col }
+    {
+        self.rows[pos.row][pos.col].line_width(line)
+    }
+}
+
+impl<T> Deref for VecRecords<T> {
+    type Target = Vec<Vec<T>>;
+
+    ghost deref_gives = { λ s r. r ≡ s.rows };
+
+    fn deref(&self) -> &Vec<Vec<T>> {
+        &self.rows
+    }
+}
+
+// What is written to the rows is held. The counts stay.
+impl<T> DerefMut for VecRecords<T> {
+    ghost use Rattle.std.specs.Prelude.{◌≡◌};
+    ghost use Rattle.std.specs.Borrow.{Lends, sem};
+    ghost use Rattle.papergrid_text.specs.Rows.{rows_row};
+    ghost use Rattle.papergrid_text.specs.contracts.vec_records.VecRecords.{the_row};
+
+    ghost deref_mut_gives = { λ s r. r ≡ s.rows };
+
+    fn deref_mut(&mut self) -> &mut Vec<Vec<T>>
+        ensures* writes_back { sem 𝓛 (Lends (the_row T.row) (rows_row T.row) self.entry result (λ v. record self.old { rows = v })) }
+        ensures shows { result.now ≡ self.old.rows }
+    {
+        &mut self.rows
+    }
+}
+
+impl<T: Drop> From<VecRecords<T>> for Vec<Vec<T>> {
+    ghost from_gives = { λ s r. r ≡ s.rows };
+
+    fn from(records: VecRecords<T>) -> Vec<Vec<T>> {
+        let VecRecords {
+            rows,
+            count_rows: _,
+            count_cols: _,
+        } = records;
+        rows
+    }
+}
+
+impl<T> From<Vec<Vec<T>>> for VecRecords<T> {
+    ghost from_gives = { λ rows r. r ≡ record { rows = rows; count_rows = length rows.items; count_cols = first_length rows.items } };
+
+    fn from(rows: Vec<Vec<T>>) -> VecRecords<T> {
+        VecRecords::new(rows)
+    }
+}
