@@ -14,11 +14,10 @@ use borrow.Author.Tests.{eqb-true, eqb-false, ltb-true, ltb-false}
 use Rattle.papergrid_values.specs.declared.position.Position.{Position}
 use Rattle.papergrid_values.specs.declared.indent.Indent.{Indent}
 use Rattle.papergrid_values.specs.declared.sides.Sides.{Sides}
-use Rattle.papergrid.specs.Cells.{TableCell, cells_of_row, cells_from, cells_of}
+use Rattle.papergrid.specs.Cells.{Measure, TableCell, measured, cells_of_row, cells_from, cells_of}
 use Rattle.papergrid.specs.Raising.{raised, raised_by, fits_in}
-use Rattle.papergrid.specs.Sizes.{OutOfTable, TooLarge, Sized, sizes_of, first_out, column_of, row_of, width_need, height_need, widths_of, heights_of, unless_out, estimate_of}
+use Rattle.papergrid.specs.Sizes.{OutOfTable, TooLarge, Sized, sizes_of, first_out, column_of, row_of, width_need, height_need, widths_of, heights_of, unless_out, estimate_of, greatest}
 use Rattle.papergrid.specs.Scripts.{Table}
-use Rattle.papergrid.specs.Texts.{greatest}
 
 and_true : (a b : Bool) → a && b ≡ true → (a ≡ true) × (b ≡ true)
 and_true true b h = (refl, h)
@@ -117,18 +116,18 @@ module _ (along need : TableCell → ℕ) where
 
 -- ---- where the cells stand
 
-row_in_table : (row col n : ℕ) (texts : List (List ℕ)) → row < n → all_below row_of row_of n (cells_of_row row col texts) ≡ true
+row_in_table : (row col n : ℕ) (ms : List Measure) → row < n → all_below row_of row_of n (cells_of_row row col ms) ≡ true
 row_in_table row col n [] within = refl
-row_in_table row col n (text ∷ texts) within = let here : nat_lt row n ≡ true = grind (arith, nat_tests) in rw here (row_in_table row (col + 1) n texts within)
+row_in_table row col n (m ∷ ms) within = let here : nat_lt row n ≡ true = grind (arith, nat_tests) in rw here (row_in_table row (col + 1) n ms within)
 
-pub rows_in_table : (row n : ℕ) (rows : List (List (List ℕ))) → row + length rows ≤ n → all_below row_of row_of n (cells_from row rows) ≡ true
+pub rows_in_table : (row n : ℕ) (rows : List (List Measure)) → row + length rows ≤ n → all_below row_of row_of n (cells_from row rows) ≡ true
 rows_in_table row n [] within = refl
-rows_in_table row n (texts ∷ rows) within =
-    let first = row_in_table row 0 n texts (omega arith) in
-    list_all-append (λ cell. nat_lt (row_of cell) n) (cells_of_row row 0 texts) (cells_from (row + 1) rows) ∙ rw first (rows_in_table (row + 1) n rows (omega arith))
+rows_in_table row n (ms ∷ rows) within =
+    let first = row_in_table row 0 n ms (omega arith) in
+    list_all-append (λ cell. nat_lt (row_of cell) n) (cells_of_row row 0 ms) (cells_from (row + 1) rows) ∙ rw first (rows_in_table (row + 1) n rows (omega arith))
 
 -- each cell stands in one of the rows
-pub cells_in_rows : (rows : List (List (List ℕ))) → all_below row_of row_of (length rows) (cells_of rows) ≡ true
+pub cells_in_rows : (rows : List (List Measure)) → all_below row_of row_of (length rows) (cells_of rows) ≡ true
 cells_in_rows rows = rows_in_table 0 (length rows) rows (omega arith)
 
 -- and in a column of the table, where none is out of it
@@ -177,7 +176,7 @@ unfit_totals padding columns rows cells in_columns in_rows unfit =
 
 -- ---- what is estimated
 
-pub estimate-out : (table : Table) (place : Position) → Some place ≡ first_out table.columns (cells_of table.rows) → estimate_of table ≡ OutOfTable place
+pub estimate-out : (table : Table) (place : Position) → Some place ≡ first_out table.columns (cells_of (measured table.rows)) → estimate_of table ≡ OutOfTable place
 unfolding estimate_of
 estimate-out table place first = ap (λ o. unless_out o (widths_of table) (heights_of table)) (sym first)
 
@@ -187,7 +186,7 @@ large w h past = elim past [
   | inr high ↦ let test : nat_le (2 ^ 64) (sum h) ≡ true = grind (arith, nat_tests) in rw (test, or_true) refl
 ]
 
-pub estimate-large : (table : Table) → None ≡ first_out table.columns (cells_of table.rows) → (2 ^ 64 ≤ sum (widths_of table)) ⊎ (2 ^ 64 ≤ sum (heights_of table)) → estimate_of table ≡ TooLarge
+pub estimate-large : (table : Table) → None ≡ first_out table.columns (cells_of (measured table.rows)) → (2 ^ 64 ≤ sum (widths_of table)) ⊎ (2 ^ 64 ≤ sum (heights_of table)) → estimate_of table ≡ TooLarge
 unfolding estimate_of
 estimate-large table none past = ap (λ o. unless_out o (widths_of table) (heights_of table)) (sym none) ∙ large (widths_of table) (heights_of table) past
 
@@ -197,7 +196,7 @@ sized w h narrow low =
     let high : nat_le (2 ^ 64) (sum h) ≡ false = grind (arith, nat_tests) in
     rw (wide, high) refl
 
-pub estimate-sized : (table : Table) → None ≡ first_out table.columns (cells_of table.rows) → sum (widths_of table) < 2 ^ 64 → sum (heights_of table) < 2 ^ 64
+pub estimate-sized : (table : Table) → None ≡ first_out table.columns (cells_of (measured table.rows)) → sum (widths_of table) < 2 ^ 64 → sum (heights_of table) < 2 ^ 64
     → estimate_of table ≡ Sized (widths_of table) (heights_of table)
 unfolding estimate_of
 estimate-sized table none narrow low = ap (λ o. unless_out o (widths_of table) (heights_of table)) (sym none) ∙ sized (widths_of table) (heights_of table) narrow low

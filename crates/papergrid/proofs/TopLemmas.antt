@@ -7,7 +7,7 @@ use Rattle.std.proofs.lemmas.List.FromFn.{length-map-range_with_len, get_or-map-
 use borrow.Author.Tests.{eqb-true, eq-eqb, ltb-true, ltb-false}
 use Rattle.std.proofs.lemmas.Option.{same_Some, none-some, slice_get-get_or, slice_get_within}
 use Rattle.papergrid_values.specs.declared.position.Position.{Position}
-use Rattle.papergrid.specs.Cells.{TableCell, cells_of_row, cells_from, cells_of}
+use Rattle.papergrid.specs.Cells.{Measure, TableCell, measured, cells_of_row, cells_from, cells_of}
 use Rattle.papergrid.specs.Scripts.{Table}
 use Rattle.papergrid.specs.Sizes.{Estimate, OutOfTable, TooLarge, Sized, sizes_of, first_out, column_of, row_of, padding_at, width_need, height_need, widths_of, heights_of, unless_out, estimate_of}
 use Rattle.papergrid.proofs.CellLemmas.{cell_at, first_out-within, first_out-past}
@@ -48,62 +48,62 @@ among_at (c ∷ cells) (suc k) cell within is = inr (among_at cells k cell (omeg
 
 -- ---- the cells and the rows
 
-in_row : (row col : ℕ) (texts : List (List ℕ)) (j : ℕ) (text : List ℕ) → slice_get texts j ≡ Some text → Among (cells_of_row row col texts) (cell_at row (col + j) text)
-in_row row col [] j text there = absurd (none-some text there)
-in_row row col (t ∷ texts) zero text there = let here : col ≡ col + 0 = omega arith in inl (rw (same_Some t text there, ← here) refl)
-in_row row col (t ∷ texts) (suc j) text there =
+in_row : (row col : ℕ) (ms : List Measure) (j : ℕ) (m : Measure) → slice_get ms j ≡ Some m → Among (cells_of_row row col ms) (cell_at row (col + j) m)
+in_row row col [] j m there = absurd (none-some m there)
+in_row row col (t ∷ ms) zero m there = let here : col ≡ col + 0 = omega arith in inl (rw (same_Some t m there, ← here) refl)
+in_row row col (t ∷ ms) (suc j) m there =
     let next : col + 1 + j ≡ col + suc j = omega arith in
-    inr (subst (λ (c : ℕ). Among (cells_of_row row (col + 1) texts) (cell_at row c text)) next (in_row row (col + 1) texts j text there))
+    inr (subst (λ (c : ℕ). Among (cells_of_row row (col + 1) ms) (cell_at row c m)) next (in_row row (col + 1) ms j m there))
 
-in_rows : (first : ℕ) (rows : List (List (List ℕ))) (i j : ℕ) (texts : List (List ℕ)) (text : List ℕ) → slice_get rows i ≡ Some texts → slice_get texts j ≡ Some text
-    → Among (cells_from first rows) (cell_at (first + i) j text)
-in_rows first [] i j texts text row_there cell_there = absurd (none-some texts row_there)
-in_rows first (ts ∷ rows) zero j texts text row_there cell_there =
-    let same : ts ≡ texts = same_Some ts texts row_there in
+in_rows : (first : ℕ) (rows : List (List Measure)) (i j : ℕ) (ms : List Measure) (m : Measure) → slice_get rows i ≡ Some ms → slice_get ms j ≡ Some m
+    → Among (cells_from first rows) (cell_at (first + i) j m)
+in_rows first [] i j ms m row_there cell_there = absurd (none-some ms row_there)
+in_rows first (ts ∷ rows) zero j ms m row_there cell_there =
+    let same : ts ≡ ms = same_Some ts ms row_there in
     let here : first ≡ first + 0 = omega arith in
     let zero_col : 0 + j ≡ j = omega arith in
     among_first (cells_of_row first 0 ts) (cells_from (first + 1) rows) _
-    (subst (λ (r : ℕ). Among (cells_of_row first 0 ts) (cell_at r j text)) here
-    (subst (λ (c : ℕ). Among (cells_of_row first 0 ts) (cell_at first c text)) zero_col (in_row first 0 ts j text (rw same cell_there))))
-in_rows first (ts ∷ rows) (suc i) j texts text row_there cell_there =
+    (subst (λ (r : ℕ). Among (cells_of_row first 0 ts) (cell_at r j m)) here
+    (subst (λ (c : ℕ). Among (cells_of_row first 0 ts) (cell_at first c m)) zero_col (in_row first 0 ts j m (rw same cell_there))))
+in_rows first (ts ∷ rows) (suc i) j ms m row_there cell_there =
     let next : first + 1 + i ≡ first + suc i = omega arith in
     among_second (cells_of_row first 0 ts) (cells_from (first + 1) rows) _
-    (subst (λ (r : ℕ). Among (cells_from (first + 1) rows) (cell_at r j text)) next (in_rows (first + 1) rows i j texts text row_there cell_there))
+    (subst (λ (r : ℕ). Among (cells_from (first + 1) rows) (cell_at r j m)) next (in_rows (first + 1) rows i j ms m row_there cell_there))
 
-of_row : (row col : ℕ) (texts : List (List ℕ)) (cell : TableCell) → Among (cells_of_row row col texts) cell
-    → (row ≡ cell.place.row) × ((j : ℕ) × (col + j ≡ cell.place.col) × (slice_get texts j ≡ Some cell.text))
+of_row : (row col : ℕ) (ms : List Measure) (cell : TableCell) → Among (cells_of_row row col ms) cell
+    → (row ≡ cell.place.row) × ((j : ℕ) × (col + j ≡ cell.place.col) × (slice_get ms j ≡ Some cell.measure))
 of_row row col [] cell h = absurd h
-of_row row col (text ∷ texts) cell h = elim h [
-  | inl this ↦ (ap (λ c. c.place.row) this, (0, (let at : col ≡ cell.place.col = ap (λ c. c.place.col) this in omega arith), ap (λ c. Some c.text) this))
-  | inr later ↦ let at = of_row row (col + 1) texts cell later in (at.0, (suc at.1.0, omega (arith, at.1.1), at.1.2))
+of_row row col (m ∷ ms) cell h = elim h [
+  | inl this ↦ (ap (λ c. c.place.row) this, (0, (let at : col ≡ cell.place.col = ap (λ c. c.place.col) this in omega arith), ap (λ c. Some c.measure) this))
+  | inr later ↦ let at = of_row row (col + 1) ms cell later in (at.0, (suc at.1.0, omega (arith, at.1.1), at.1.2))
 ]
 
-of_rows : (first : ℕ) (rows : List (List (List ℕ))) (cell : TableCell) → Among (cells_from first rows) cell
-    → (i : ℕ) × (texts : List (List ℕ)) × (first + i ≡ cell.place.row) × (slice_get rows i ≡ Some texts) × (slice_get texts cell.place.col ≡ Some cell.text)
+of_rows : (first : ℕ) (rows : List (List Measure)) (cell : TableCell) → Among (cells_from first rows) cell
+    → (i : ℕ) × (ms : List Measure) × (first + i ≡ cell.place.row) × (slice_get rows i ≡ Some ms) × (slice_get ms cell.place.col ≡ Some cell.measure)
 of_rows first [] cell h = absurd h
-of_rows first (texts ∷ rows) cell h = elim (among_either (cells_of_row first 0 texts) (cells_from (first + 1) rows) cell h) [
+of_rows first (ms ∷ rows) cell h = elim (among_either (cells_of_row first 0 ms) (cells_from (first + 1) rows) cell h) [
   | inl here ↦
-      let at = of_row first 0 texts cell here in
+      let at = of_row first 0 ms cell here in
       let col : at.1.0 ≡ cell.place.col = omega (arith, at.1.1) in
-      (0, texts, omega (arith, at.0), refl, subst (λ (c : ℕ). slice_get texts c ≡ Some cell.text) col at.1.2)
+      (0, ms, omega (arith, at.0), refl, subst (λ (c : ℕ). slice_get ms c ≡ Some cell.measure) col at.1.2)
   | inr later ↦ let at = of_rows (first + 1) rows cell later in (suc at.0, at.1, omega (arith, at.2), at.3, at.4)
 ]
 
-among_there : (rows : List (List (List ℕ))) (cell : TableCell) → IsCellOf rows cell → Among (cells_of rows) cell
+among_there : (rows : List (List Measure)) (cell : TableCell) → IsCellOf rows cell → Among (cells_of rows) cell
 among_there rows cell h =
     let zero_row : 0 + cell.place.row ≡ cell.place.row = omega arith in
-    subst (λ (r : ℕ). Among (cells_of rows) (cell_at r cell.place.col cell.text)) zero_row (in_rows 0 rows cell.place.row cell.place.col h.texts cell.text h.row_there h.cell_there)
+    subst (λ (r : ℕ). Among (cells_of rows) (cell_at r cell.place.col cell.measure)) zero_row (in_rows 0 rows cell.place.row cell.place.col h.measures cell.measure h.row_there h.cell_there)
 
-there_among : (rows : List (List (List ℕ))) (cell : TableCell) → Among (cells_of rows) cell → IsCellOf rows cell
+there_among : (rows : List (List Measure)) (cell : TableCell) → Among (cells_of rows) cell → IsCellOf rows cell
 there_among rows cell h =
     let at = of_rows 0 rows cell h in
     let row : at.0 ≡ cell.place.row = omega (arith, at.2) in
-    record { texts = at.1; row_there = subst (λ (r : ℕ). slice_get rows r ≡ Some at.1) row at.3; cell_there = at.4 }
+    record { measures = at.1; row_there = subst (λ (r : ℕ). slice_get rows r ≡ Some at.1) row at.3; cell_there = at.4 }
 
-pub cells_there : (rows : List (List (List ℕ))) (cell : TableCell) → IsCellOf rows cell → Contains (cells_of rows) cell
+pub cells_there : (rows : List (List Measure)) (cell : TableCell) → IsCellOf rows cell → Contains (cells_of rows) cell
 cells_there rows cell h = contained (cells_of rows) cell (among_there rows cell h)
 
-pub cells_only : (rows : List (List (List ℕ))) (cell : TableCell) → Contains (cells_of rows) cell → IsCellOf rows cell
+pub cells_only : (rows : List (List Measure)) (cell : TableCell) → Contains (cells_of rows) cell → IsCellOf rows cell
 cells_only rows cell h = there_among rows cell (among_at (cells_of rows) h.0 cell h.1 h.2)
 
 -- ---- top needs
@@ -143,7 +143,7 @@ module _ (along need : TableCell → ℕ) where
         | inr later ↦ rw later (needed_later i c cells _ rest)
       ])
 
-  sizes_top : (rows : List (List (List ℕ))) (count : ℕ) → AreTopNeeds rows along need count (sizes_of along need count (cells_of rows))
+  sizes_top : (rows : List (List Measure)) (count : ℕ) → AreTopNeeds rows along need count (sizes_of along need count (cells_of rows))
   unfolding sizes_of
   sizes_top rows count = record {
     as_many = length-map-range_with_len (λ i. top_at along need i (cells_of rows)) 0 count;
@@ -158,75 +158,75 @@ module _ (along need : TableCell → ℕ) where
 
 -- ---- the first cell out of the table
 
-abbrev OutAt : ℕ → ℕ → List (List (List ℕ)) → Position → Type 0
+abbrev OutAt : ℕ → ℕ → List (List Measure) → Position → Type 0
 OutAt columns first rows place =
-    (i : ℕ) × (texts : List (List ℕ)) × (place.row ≡ first + i) × (place.col ≡ columns) × (slice_get rows i ≡ Some texts) × (columns < length texts)
-    × ((j : ℕ) (ts : List (List ℕ)) → j < i → slice_get rows j ≡ Some ts → length ts ≤ columns)
+    (i : ℕ) × (ms : List Measure) × (place.row ≡ first + i) × (place.col ≡ columns) × (slice_get rows i ≡ Some ms) × (columns < length ms)
+    × ((j : ℕ) (ts : List Measure) → j < i → slice_get rows j ≡ Some ts → length ts ≤ columns)
 
-out_at : (columns first : ℕ) (rows : List (List (List ℕ))) (place : Position) → first_out columns (cells_from first rows) ≡ Some place → OutAt columns first rows place
+out_at : (columns first : ℕ) (rows : List (List Measure)) (place : Position) → first_out columns (cells_from first rows) ≡ Some place → OutAt columns first rows place
 out_at columns first [] place h = cc
-out_at columns first (texts ∷ rows) place h = by_test (nat_lt columns (length texts)) refl (out_at columns (first + 1) rows place)
+out_at columns first (ms ∷ rows) place h = by_test (nat_lt columns (length ms)) refl (out_at columns (first + 1) rows place)
   where
-    by_test : (b : Bool) → nat_lt columns (length texts) ≡ b → (first_out columns (cells_from (first + 1) rows) ≡ Some place → OutAt columns (first + 1) rows place) → OutAt columns first (texts ∷ rows) place
+    by_test : (b : Bool) → nat_lt columns (length ms) ≡ b → (first_out columns (cells_from (first + 1) rows) ≡ Some place → OutAt columns (first + 1) rows place) → OutAt columns first (ms ∷ rows) place
     by_test true e later =
-        let long : columns < length texts = ltb-true _ _ e in
-        let found = first_out-past columns first 0 texts (cells_from (first + 1) rows) (omega arith) (omega arith) in
+        let long : columns < length ms = ltb-true _ _ e in
+        let found = first_out-past columns first 0 ms (cells_from (first + 1) rows) (omega arith) (omega arith) in
         let same = same_Some _ _ (sym found ∙ h) in
-        (0, texts, (let row : first ≡ place.row = ap (λ p. p.row) same in omega arith), ap (λ p. p.col) (sym same), refl, long, λ j ts before there. absurd (omega arith))
+        (0, ms, (let row : first ≡ place.row = ap (λ p. p.row) same in omega arith), ap (λ p. p.col) (sym same), refl, long, λ j ts before there. absurd (omega arith))
     by_test false e later =
-        let short : length texts ≤ columns = ltb-false _ _ e in
-        let at = later (sym (first_out-within columns first 0 texts (cells_from (first + 1) rows) (omega arith)) ∙ h) in
+        let short : length ms ≤ columns = ltb-false _ _ e in
+        let at = later (sym (first_out-within columns first 0 ms (cells_from (first + 1) rows) (omega arith)) ∙ h) in
         (suc at.0, at.1, omega (arith, at.2), at.3, at.4, at.5, before at)
       where
-        before : (at : OutAt columns (first + 1) rows place) → (j : ℕ) (ts : List (List ℕ)) → j < suc at.0 → slice_get (texts ∷ rows) j ≡ Some ts → length ts ≤ columns
-        before at zero ts less there = subst (λ (l : List (List ℕ)). length l ≤ columns) (same_Some texts ts there) (ltb-false _ _ e)
+        before : (at : OutAt columns (first + 1) rows place) → (j : ℕ) (ts : List Measure) → j < suc at.0 → slice_get (ms ∷ rows) j ≡ Some ts → length ts ≤ columns
+        before at zero ts less there = subst (λ (l : List Measure). length l ≤ columns) (same_Some ms ts there) (ltb-false _ _ e)
         before at (suc j) ts less there = at.6 j ts (omega arith) there
 
-none_out : (columns first : ℕ) (rows : List (List (List ℕ))) → first_out columns (cells_from first rows) ≡ None → (j : ℕ) (ts : List (List ℕ)) → slice_get rows j ≡ Some ts → length ts ≤ columns
+none_out : (columns first : ℕ) (rows : List (List Measure)) → first_out columns (cells_from first rows) ≡ None → (j : ℕ) (ts : List Measure) → slice_get rows j ≡ Some ts → length ts ≤ columns
 none_out columns first [] h j ts there = absurd (none-some ts there)
-none_out columns first (texts ∷ rows) h j ts there = by_test (nat_lt columns (length texts)) refl (none_out columns (first + 1) rows) j there
+none_out columns first (ms ∷ rows) h j ts there = by_test (nat_lt columns (length ms)) refl (none_out columns (first + 1) rows) j there
   where
-    by_test : (b : Bool) → nat_lt columns (length texts) ≡ b → (first_out columns (cells_from (first + 1) rows) ≡ None → (j : ℕ) (ts : List (List ℕ)) → slice_get rows j ≡ Some ts → length ts ≤ columns)
-        → (j : ℕ) → slice_get (texts ∷ rows) j ≡ Some ts → length ts ≤ columns
+    by_test : (b : Bool) → nat_lt columns (length ms) ≡ b → (first_out columns (cells_from (first + 1) rows) ≡ None → (j : ℕ) (ts : List Measure) → slice_get rows j ≡ Some ts → length ts ≤ columns)
+        → (j : ℕ) → slice_get (ms ∷ rows) j ≡ Some ts → length ts ≤ columns
     by_test true e later j there =
-        let long : columns < length texts = ltb-true _ _ e in
-        let found = first_out-past columns first 0 texts (cells_from (first + 1) rows) (omega arith) (omega arith) in
+        let long : columns < length ms = ltb-true _ _ e in
+        let found = first_out-past columns first 0 ms (cells_from (first + 1) rows) (omega arith) (omega arith) in
         absurd (none-some _ (sym h ∙ found))
-    by_test false e later zero there = subst (λ (l : List (List ℕ)). length l ≤ columns) (same_Some texts ts there) (ltb-false _ _ e)
+    by_test false e later zero there = subst (λ (l : List Measure). length l ≤ columns) (same_Some ms ts there) (ltb-false _ _ e)
     by_test false e later (suc j) there =
-        let short : length texts ≤ columns = ltb-false _ _ e in
-        later (sym (first_out-within columns first 0 texts (cells_from (first + 1) rows) (omega arith)) ∙ h) j ts there
+        let short : length ms ≤ columns = ltb-false _ _ e in
+        later (sym (first_out-within columns first 0 ms (cells_from (first + 1) rows) (omega arith)) ∙ h) j ts there
 
-is_first_out : (columns : ℕ) (rows : List (List (List ℕ))) (place : Position) → first_out columns (cells_of rows) ≡ Some place → IsFirstOut columns rows place
+is_first_out : (columns : ℕ) (rows : List (List Measure)) (place : Position) → first_out columns (cells_of rows) ≡ Some place → IsFirstOut columns rows place
 is_first_out columns rows place h =
     let at = out_at columns 0 rows place h in
     let row : at.0 ≡ place.row = omega (arith, at.2) in
-    let text = slice_get-get_or at.1 columns [] at.5 in
+    let m = slice_get-get_or at.1 columns (0, 0) at.5 in
     record {
-      text = get_or at.1 columns [];
-      there = record { texts = at.1; row_there = subst (λ (r : ℕ). slice_get rows r ≡ Some at.1) row at.4; cell_there = ap (slice_get at.1) at.3 ∙ text };
+      measure = get_or at.1 columns (0, 0);
+      there = record { measures = at.1; row_there = subst (λ (r : ℕ). slice_get rows r ≡ Some at.1) row at.4; cell_there = ap (slice_get at.1) at.3 ∙ m };
       out = omega (arith, at.3);
       first = λ cell there out. earlier_row at cell there out;
     }
   where
     earlier_row : (at : OutAt columns 0 rows place) (cell : TableCell) → IsCellOf rows cell → columns ≤ cell.place.col → (place.row < cell.place.row) ⊎ ((place.row ≡ cell.place.row) × (place.col ≤ cell.place.col))
     earlier_row at cell there out =
-        let within = slice_get_within there.texts cell.place.col cell.text there.cell_there in
+        let within = slice_get_within there.measures cell.place.col cell.measure there.cell_there in
         elim (order at.0 cell.place.row) [
           | inl less ↦ inl (omega (arith, at.2, less))
           | inr other ↦ elim other [
             | inl same ↦ inr (omega (arith, at.2, same), omega (arith, at.3, out))
-            | inr more ↦ let short = at.6 cell.place.row there.texts more there.row_there in absurd (omega (arith, short, within, out))
+            | inr more ↦ let short = at.6 cell.place.row there.measures more there.row_there in absurd (omega (arith, short, within, out))
           ]
         ]
       where
         order : (i j : ℕ) → (i < j) ⊎ ((i ≡ j) ⊎ (j < i))
         order i j = grind arith
 
-is_none_out : (columns : ℕ) (rows : List (List (List ℕ))) → first_out columns (cells_of rows) ≡ None → NoneOut columns rows
+is_none_out : (columns : ℕ) (rows : List (List Measure)) → first_out columns (cells_of rows) ≡ None → NoneOut columns rows
 is_none_out columns rows h cell there =
-    let within = slice_get_within there.texts cell.place.col cell.text there.cell_there in
-    let short = none_out columns 0 rows h cell.place.row there.texts there.row_there in
+    let within = slice_get_within there.measures cell.place.col cell.measure there.cell_there in
+    let short = none_out columns 0 rows h cell.place.row there.measures there.row_there in
     omega (arith, within, short)
 
 -- ---- what is estimated
@@ -250,11 +250,11 @@ estimate_cases None w h e is = elim (by_test (nat_le (2 ^ 64) (sum w)) (nat_le (
         let low : sum h < 2 ^ 64 = grind (arith, nat_tests) in
         inr (sym is ∙ rw (wide, high) refl, narrow, low)
 
-are_sizes : (table : Table) → first_out table.columns (cells_of table.rows) ≡ None → AreSizes table (widths_of table) (heights_of table)
+are_sizes : (table : Table) → first_out table.columns (cells_of (measured table.rows)) ≡ None → AreSizes table (widths_of table) (heights_of table)
 are_sizes table none = record {
-  inside = is_none_out table.columns table.rows none;
-  widths_top = sizes_top column_of (width_need (padding_at table.settings)) table.rows table.columns;
-  heights_top = sizes_top row_of (height_need (padding_at table.settings)) table.rows (length table.rows);
+  inside = is_none_out table.columns (measured table.rows) none;
+  widths_top = sizes_top column_of (width_need (padding_at table.settings)) (measured table.rows) table.columns;
+  heights_top = sizes_top row_of (height_need (padding_at table.settings)) (measured table.rows) (length table.rows);
 }
 
 all_fit : (table : Table) (widths heights : List ℕ) → AreSizes table widths heights → AllFit table widths heights
@@ -263,20 +263,20 @@ all_fit table widths heights are = record {
       let within = are.inside cell there in
       (omega (arith, within, are.widths_top.as_many), (are.widths_top.tops cell.place.col within).enough cell there refl);
   rows_fit = λ cell there.
-      let within = slice_get_within table.rows cell.place.row there.texts there.row_there in
+      let within = slice_get_within (measured table.rows) cell.place.row there.measures there.row_there in
       (omega (arith, within, are.heights_top.as_many), (are.heights_top.tops cell.place.row within).enough cell there refl);
 }
 
-pub estimate_out : (table : Table) (place : Position) → estimate_of table ≡ OutOfTable place → IsFirstOut table.columns table.rows place
+pub estimate_out : (table : Table) (place : Position) → estimate_of table ≡ OutOfTable place → IsFirstOut table.columns (measured table.rows) place
 unfolding estimate_of
-estimate_out table place h = elim (estimate_cases (first_out table.columns (cells_of table.rows)) (widths_of table) (heights_of table) (OutOfTable place) h) [
-  | inl out ↦ let same : out.0 ≡ place = cc out.2 in is_first_out table.columns table.rows place (out.1 ∙ ap (λ p. Some p) same)
+estimate_out table place h = elim (estimate_cases (first_out table.columns (cells_of (measured table.rows))) (widths_of table) (heights_of table) (OutOfTable place) h) [
+  | inl out ↦ let same : out.0 ≡ place = cc out.2 in is_first_out table.columns (measured table.rows) place (out.1 ∙ ap (λ p. Some p) same)
   | inr other ↦ elim other [ inl large ↦ cc large.1 | inr sized ↦ cc sized.1 ]
 ]
 
 pub estimate_too_large : (table : Table) → estimate_of table ≡ TooLarge → (widths : List ℕ) × (heights : List ℕ) × AreSizes table widths heights × ((2 ^ 64 ≤ sum widths) ⊎ (2 ^ 64 ≤ sum heights))
 unfolding estimate_of
-estimate_too_large table h = elim (estimate_cases (first_out table.columns (cells_of table.rows)) (widths_of table) (heights_of table) TooLarge h) [
+estimate_too_large table h = elim (estimate_cases (first_out table.columns (cells_of (measured table.rows))) (widths_of table) (heights_of table) TooLarge h) [
   | inl out ↦ cc out.2
   | inr other ↦ elim other [ inl large ↦ (widths_of table, heights_of table, are_sizes table large.0, large.2) | inr sized ↦ cc sized.1 ]
 ]
@@ -284,7 +284,7 @@ estimate_too_large table h = elim (estimate_cases (first_out table.columns (cell
 pub estimate_sized : (table : Table) (widths heights : List ℕ) → estimate_of table ≡ Sized widths heights
     → AreSizes table widths heights × (sum widths < 2 ^ 64) × (sum heights < 2 ^ 64) × AllFit table widths heights
 unfolding estimate_of
-estimate_sized table widths heights h = elim (estimate_cases (first_out table.columns (cells_of table.rows)) (widths_of table) (heights_of table) (Sized widths heights) h) [
+estimate_sized table widths heights h = elim (estimate_cases (first_out table.columns (cells_of (measured table.rows))) (widths_of table) (heights_of table) (Sized widths heights) h) [
   | inl out ↦ cc out.2
   | inr other ↦ elim other [
     | inl large ↦ cc large.1

@@ -9,10 +9,9 @@ use Rattle.papergrid.specs.declared.setting.Setting.TheVariants.{SetPadding}
 use Rattle.papergrid.specs.declared.entity_map.MapCall.{MapCall}
 use Rattle.papergrid.specs.declared.entity_map.MapCall.TheVariants.{Insert}
 use Rattle.papergrid.specs.Calls.{decided_value}
-use Rattle.papergrid.specs.Cells.{TableCell, cells_of}
+use Rattle.papergrid.specs.Cells.{TableCell, cells_of, measured}
 use Rattle.papergrid.specs.Grammar.{spaces}
 use Rattle.papergrid.specs.Scripts.{Table}
-use Rattle.papergrid.specs.Texts.{greatest, text_width, text_height}
 
 -- ---- paddings
 
@@ -30,11 +29,16 @@ padding_at settings place = decided_value no_padding (flat_map padding_calls set
 
 -- the columns of a terminal that a cell needs, where each place has this padding
 abbrev pub width_need : (Position → Sides Indent) → TableCell → ℕ
-width_need padding cell = text_width cell.text + (padding cell.place).left.size + (padding cell.place).right.size
+width_need padding cell = cell.measure.1 + (padding cell.place).left.size + (padding cell.place).right.size
 
 -- the lines that it needs
 abbrev pub height_need : (Position → Sides Indent) → TableCell → ℕ
-height_need padding cell = text_height cell.text + (padding cell.place).top.size + (padding cell.place).bottom.size
+height_need padding cell = cell.measure.0 + (padding cell.place).top.size + (padding cell.place).bottom.size
+
+-- the greatest of the numbers, 0 where there is none
+abbrev pub greatest : List ℕ → ℕ
+greatest [] = 0
+greatest (n ∷ ns) = max n (greatest ns)
 
 -- along a direction, the size of each of so many columns or rows: the greatest need of the cells that stand in it
 unfoldable pub sizes_of : (TableCell → ℕ) → (TableCell → ℕ) → ℕ → List TableCell → List ℕ
@@ -47,10 +51,10 @@ abbrev pub row_of : TableCell → ℕ
 row_of cell = cell.place.row
 
 abbrev pub widths_of : Table → List ℕ
-widths_of table = sizes_of column_of (width_need (padding_at table.settings)) table.columns (cells_of table.rows)
+widths_of table = sizes_of column_of (width_need (padding_at table.settings)) table.columns (cells_of (measured table.rows))
 
 abbrev pub heights_of : Table → List ℕ
-heights_of table = sizes_of row_of (height_need (padding_at table.settings)) (length table.rows) (cells_of table.rows)
+heights_of table = sizes_of row_of (height_need (padding_at table.settings)) (length table.rows) (cells_of (measured table.rows))
 
 -- ---- the estimate
 
@@ -70,4 +74,4 @@ unless_out None widths heights =
     if nat_le (2 ^ 64) (sum widths) || nat_le (2 ^ 64) (sum heights) then TooLarge else Sized widths heights
 
 unfoldable pub estimate_of : Table → Estimate
-estimate_of table = unless_out (first_out table.columns (cells_of table.rows)) (widths_of table) (heights_of table)
+estimate_of table = unless_out (first_out table.columns (cells_of (measured table.rows))) (widths_of table) (heights_of table)

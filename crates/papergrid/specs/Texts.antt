@@ -1,7 +1,5 @@
--- The texts of cells: how a script spells them, and their measures. A text is the list of its bytes.
-use Rattle.std.specs.Prelude.{ℕ, max, false, List, [], ◌∷◌, map, length, Option, Some, None, option_map, ◌==◌, if◌then◌else◌, chars}
-use Rattle.std.specs.List.{slice_split}
-use Rattle.unicode_width.specs.Width.{str_width}
+-- The texts of cells as a script spells them. A text is the list of its bytes.
+use Rattle.std.specs.Prelude.{ℕ, List, [], ◌∷◌, Option, Some, None, option_map, ◌==◌, if◌then◌else◌}
 
 abbrev pub newline : ℕ
 newline = 10
@@ -28,22 +26,3 @@ unescaped [] = Some []
 unescaped (b ∷ []) = if b == backslash then None else Some (b ∷ [])
 unescaped (b ∷ c ∷ bs) =
     if b == backslash then put_first (escape_of c) (unescaped bs) else option_map (λ rest. b ∷ rest) (unescaped (c ∷ bs))
-
--- the lines of a text: what stands between its newlines
-abbrev pub lines_of : List ℕ → List (List ℕ)
-lines_of text = slice_split (λ b. b == newline) text
-
--- the greatest of the numbers, 0 where there is none
-abbrev pub greatest : List ℕ → ℕ
-greatest [] = 0
-greatest (n ∷ ns) = max n (greatest ns)
-
--- the columns of a terminal that a line takes
-abbrev pub line_width : List ℕ → ℕ
-line_width line = str_width false (chars line)
-
-unfoldable pub text_width : List ℕ → ℕ
-text_width text = greatest (map line_width (lines_of text))
-
-unfoldable pub text_height : List ℕ → ℕ
-text_height text = length (lines_of text)

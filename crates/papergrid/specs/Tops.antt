@@ -1,46 +1,46 @@
 -- What sizes and refusals are, apart from how they are found.
 use Rattle.std.specs.Prelude.{◌≡◌, ◌⊎◌, ℕ, ◌<◌, ◌≤◌, List, Some, slice_get, slice_index, length}
 use Rattle.papergrid_values.specs.declared.position.Position.{Position}
-use Rattle.papergrid.specs.Cells.{TableCell}
+use Rattle.papergrid.specs.Cells.{Measure, TableCell, measured}
 use Rattle.papergrid.specs.Scripts.{Table}
 use Rattle.papergrid.specs.Sizes.{column_of, row_of, padding_at, width_need, height_need}
 
--- the rows have this text at this row and column
-pub record IsCellOf (rows : List (List (List ℕ))) (cell : TableCell) : Type 0 where
-  pub texts : List (List ℕ)
-  pub row_there : slice_get rows cell.place.row ≡ Some texts
-  pub cell_there : slice_get texts cell.place.col ≡ Some cell.text
+-- the rows have a cell of this measure at this row and column
+pub record IsCellOf (rows : List (List Measure)) (cell : TableCell) : Type 0 where
+  pub measures : List Measure
+  pub row_there : slice_get rows cell.place.row ≡ Some measures
+  pub cell_there : slice_get measures cell.place.col ≡ Some cell.measure
 
 -- no cell that stands at i needs more, and one needs as much, or the size is 0
-pub record IsTopNeed (rows : List (List (List ℕ))) (along need : TableCell → ℕ) (i size : ℕ) : Type 0 where
+pub record IsTopNeed (rows : List (List Measure)) (along need : TableCell → ℕ) (i size : ℕ) : Type 0 where
   pub enough : (cell : TableCell) → IsCellOf rows cell → along cell ≡ i → need cell ≤ size
   pub needed : (size ≡ 0) ⊎ ((cell : TableCell) × IsCellOf rows cell × (along cell ≡ i) × (need cell ≡ size))
 
 -- so many sizes, each the top need of its column or row
-pub record AreTopNeeds (rows : List (List (List ℕ))) (along need : TableCell → ℕ) (count : ℕ) (sizes : List ℕ) : Type 0 where
+pub record AreTopNeeds (rows : List (List Measure)) (along need : TableCell → ℕ) (count : ℕ) (sizes : List ℕ) : Type 0 where
   pub as_many : length sizes ≡ count
   pub tops : (i : ℕ) → i < count → IsTopNeed rows along need i (slice_index sizes i)
 
 -- a cell at or past the column count, and no such cell comes before it, by row and then by column
-pub record IsFirstOut (columns : ℕ) (rows : List (List (List ℕ))) (place : Position) : Type 0 where
-  pub text : List ℕ
-  pub there : IsCellOf rows (record { place = place; text = text })
+pub record IsFirstOut (columns : ℕ) (rows : List (List Measure)) (place : Position) : Type 0 where
+  pub measure : Measure
+  pub there : IsCellOf rows (record { place = place; measure = measure })
   pub out : columns ≤ place.col
   pub first : (cell : TableCell) → IsCellOf rows cell → columns ≤ cell.place.col
       → (place.row < cell.place.row) ⊎ ((place.row ≡ cell.place.row) × (place.col ≤ cell.place.col))
 
-abbrev pub NoneOut : ℕ → List (List (List ℕ)) → Type 0
+abbrev pub NoneOut : ℕ → List (List Measure) → Type 0
 NoneOut columns rows = (cell : TableCell) → IsCellOf rows cell → cell.place.col < columns
 
 -- the top needs of a table
 pub record AreSizes (table : Table) (widths heights : List ℕ) : Type 0 where
-  pub inside : NoneOut table.columns table.rows
-  pub widths_top : AreTopNeeds table.rows column_of (width_need (padding_at table.settings)) table.columns widths
-  pub heights_top : AreTopNeeds table.rows row_of (height_need (padding_at table.settings)) (length table.rows) heights
+  pub inside : NoneOut table.columns (measured table.rows)
+  pub widths_top : AreTopNeeds (measured table.rows) column_of (width_need (padding_at table.settings)) table.columns widths
+  pub heights_top : AreTopNeeds (measured table.rows) row_of (height_need (padding_at table.settings)) (length table.rows) heights
 
 -- each cell stands in the table, and has room there
 pub record AllFit (table : Table) (widths heights : List ℕ) : Type 0 where
-  pub columns_fit : (cell : TableCell) → IsCellOf table.rows cell
+  pub columns_fit : (cell : TableCell) → IsCellOf (measured table.rows) cell
       → (cell.place.col < length widths) × (width_need (padding_at table.settings) cell ≤ slice_index widths cell.place.col)
-  pub rows_fit : (cell : TableCell) → IsCellOf table.rows cell
+  pub rows_fit : (cell : TableCell) → IsCellOf (measured table.rows) cell
       → (cell.place.row < length heights) × (height_need (padding_at table.settings) cell ≤ slice_index heights cell.place.row)
