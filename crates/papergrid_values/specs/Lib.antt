@@ -1,1 +1,5 @@
 pub mod Entities
+pub mod Lines
+pub mod Offsets
+pub mod Parts
+pub mod Positions

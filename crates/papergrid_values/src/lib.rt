@@ -1,12 +1,22 @@
 //! The values that the settings of a table are made of: positions, entities, sides and indents.
 #![tactic(auto)]
 
+pub mod alignment;
 pub mod entity;
+pub mod formatting;
+pub mod horizontal_line;
 pub mod indent;
+pub mod offset;
 pub mod position;
 pub mod sides;
+pub mod vertical_line;
 
+pub use alignment::{AlignmentHorizontal, AlignmentVertical};
 pub use entity::Entity;
+pub use formatting::Formatting;
+pub use horizontal_line::HorizontalLine;
 pub use indent::Indent;
+pub use offset::Offset;
 pub use position::Position;
 pub use sides::Sides;
+pub use vertical_line::VerticalLine;
