@@ -1,3 +1,4 @@
+pub mod Borders
 pub mod Entities
 pub mod Lines
 pub mod Offsets

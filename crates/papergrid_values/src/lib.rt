@@ -2,16 +2,21 @@
 #![tactic(auto)]
 
 pub mod alignment;
+pub mod border;
+pub mod borders;
 pub mod entity;
 pub mod formatting;
 pub mod horizontal_line;
 pub mod indent;
 pub mod offset;
+mod part;
 pub mod position;
 pub mod sides;
 pub mod vertical_line;
 
 pub use alignment::{AlignmentHorizontal, AlignmentVertical};
+pub use border::Border;
+pub use borders::Borders;
 pub use entity::Entity;
 pub use formatting::Formatting;
 pub use horizontal_line::HorizontalLine;
