@@ -1,5 +1,6 @@
 pub mod Borders
 pub mod Entities
+pub mod Folds
 pub mod Lines
 pub mod Offsets
 pub mod Parts

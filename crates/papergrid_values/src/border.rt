@@ -7,6 +7,7 @@ ghost use Rattle.papergrid_values.specs.Parts.{none_set, EachSet, PartsGive};
 ghost use Rattle.papergrid_values.specs.Borders.{border_parts, border_map, has_border_top, has_border_bottom, has_border_left, has_border_right};
 
 use crate::part;
+use std::alloc::AllocError;
 
 /// The four edges and four corners of a cell, each of which is set or not.
 #[derive(Clone, Copy, Debug, Default, PartialEq, Eq, PartialOrd, Ord, Hash, Drop)]
@@ -238,5 +239,25 @@ impl<T> Border<&T> {
             right_top_corner: self.right_top_corner.copied(),
             right_bottom_corner: self.right_bottom_corner.copied(),
         }
+    }
+
+    /// The border with a clone of each part that is lent, or want of memory where a clone met it.
+    pub fn cloned(&self) -> Result<Border<T>, AllocError>
+    where
+        T: Clone,
+        ensures clones { IfOk result (λ border.
+            PartsGive (λ part copy. T.is_clone part.now copy) (border_parts self.now) (border_parts border)) }
+        ensures succeeds { EachSet (λ part. T.is_infallible part.now) (border_parts self.now) → IsOk result }
+    {
+        Ok(Border {
+            top: part::cloned(self.top)?,
+            bottom: part::cloned(self.bottom)?,
+            left: part::cloned(self.left)?,
+            right: part::cloned(self.right)?,
+            left_top_corner: part::cloned(self.left_top_corner)?,
+            left_bottom_corner: part::cloned(self.left_bottom_corner)?,
+            right_top_corner: part::cloned(self.right_top_corner)?,
+            right_bottom_corner: part::cloned(self.right_bottom_corner)?,
+        })
     }
 }
