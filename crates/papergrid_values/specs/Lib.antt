@@ -1,4 +1,5 @@
 pub mod Borders
+pub mod Colors
 pub mod Entities
 pub mod Folds
 pub mod Lines

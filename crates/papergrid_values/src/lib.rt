@@ -2,6 +2,9 @@
 #![tactic(auto)]
 
 pub mod alignment;
+pub mod ansi_buf;
+pub mod ansi_fmt;
+pub mod ansi_str;
 pub mod border;
 pub mod borders;
 pub mod entity;
@@ -15,6 +18,9 @@ pub mod sides;
 pub mod vertical_line;
 
 pub use alignment::{AlignmentHorizontal, AlignmentVertical};
+pub use ansi_buf::ANSIBuf;
+pub use ansi_fmt::ANSIFmt;
+pub use ansi_str::ANSIStr;
 pub use border::Border;
 pub use borders::Borders;
 pub use entity::Entity;
