@@ -1,12 +1,19 @@
 //! A colour that owns its texts. Source: `ansi/ansi_buf.rs`.
 
-ghost use Rattle.std.specs.Prelude.{◌≡◌, ◌↔◌, [], Some, IsTrue, IfOk, OnOk};
-ghost use Rattle.papergrid_values.specs.Colors.{texts_of, WritesOrResets};
+ghost use Rattle.std.specs.Prelude.{◌≡◌, ◌↔◌, [], ◌++◌, Some, IsTrue, IfOk, OnOk};
+ghost use Rattle.std.specs.Ordering.{as_partial_cmp};
+ghost use Rattle.std.specs.Cmp.{partial_order_from_own_ties};
+ghost use Rattle.std.specs.Cmp.Rules.{comparing, hashing};
+ghost use Rattle.std.specs.Hash as fed;
+ghost use Rattle.std.proofs.Common.{rules};
+ghost use Rattle.papergrid_values.specs.Colors.{texts_of, same_texts, texts_cmp, WritesOrResets};
 
 use crate::ansi_fmt::ANSIFmt;
 use crate::ansi_str::ANSIStr;
 use std::alloc::{AllocError, Global};
+use std::cmp::Ordering;
 use std::fmt;
+use std::hash::{Hash, Hasher};
 use std::marker::Model;
 
 /// A colour as two texts: the one before what is coloured, and the one after it. What they say is
@@ -80,6 +87,57 @@ impl Clone for ANSIBuf {
             prefix: self.prefix.clone()?,
             suffix: self.suffix.clone()?,
         })
+    }
+}
+
+impl PartialEq for ANSIBuf {
+    ghost eq = { same_texts };
+
+    ghost laws = { Prim.search (comparing, rules) };
+
+    fn eq(&self, other: &ANSIBuf) -> bool {
+        self.prefix == other.prefix && self.suffix == other.suffix
+    }
+}
+
+impl Eq for ANSIBuf {
+    ghost laws = { Prim.search (comparing, rules) };
+}
+
+impl PartialOrd for ANSIBuf {
+    ghost partial_cmp = { as_partial_cmp texts_cmp };
+
+    ghost laws = { partial_order_from_own_ties (Prim.search (comparing, rules)) (Prim.search (comparing, rules)) };
+
+    fn partial_cmp(&self, other: &ANSIBuf) -> Option<Ordering> {
+        Some(self.cmp(other))
+    }
+}
+
+impl Ord for ANSIBuf {
+    ghost cmp = { texts_cmp };
+
+    ghost total = { Prim.search (comparing, rules) };
+
+    ghost matches_partial_cmp = { Prim.search (comparing, rules) };
+
+    ghost matches_eq = { Prim.search (comparing, rules) };
+
+    fn cmp(&self, other: &ANSIBuf) -> Ordering {
+        self.prefix
+            .cmp(&other.prefix)
+            .then(self.suffix.cmp(&other.suffix))
+    }
+}
+
+impl Hash for ANSIBuf {
+    ghost hash_input = { λ color. fed.str color.0 ++ fed.str color.1 };
+
+    ghost respects_eq = { Prim.search (hashing, rules) };
+
+    fn hash<H: Hasher>(&self, state: &mut H) {
+        self.prefix.hash(state);
+        self.suffix.hash(state);
     }
 }
 
