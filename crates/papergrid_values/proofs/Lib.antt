@@ -1,1 +1,2 @@
+pub mod GridLemmas
 pub mod WalkLemmas

@@ -1,5 +1,5 @@
 -- Sums and differences of positions, and their order.
-use Rattle.std.specs.Prelude.{◌≡◌, ◌+◌, ◌-◌, ◌<◌, ◌≤◌, ◌^◌, ◌⊎◌, ℕ}
+use Rattle.std.specs.Prelude.{◌≡◌, ◌+◌, ◌-◌, ◌<◌, ◌≤◌, ◌^◌, ◌⊎◌, ◌==◌, ◌&&◌, ℕ, List, count_by}
 use Rattle.papergrid_values.specs.declared.position.Position.{Position}
 
 -- the position of a pair of row and column
@@ -21,3 +21,11 @@ CanAdd p q = (p.row + q.row < 2 ^ 64) × (p.col + q.col < 2 ^ 64)
 -- neither part of the difference is below 0
 abbrev pub CanSubtract : Position → Position → Type 0
 CanSubtract p q = (q.row ≤ p.row) × (q.col ≤ p.col)
+
+-- p stands in an earlier row than q, or in the same row in an earlier column
+abbrev pub IsBefore : Position → Position → Type 0
+IsBefore p q = (p.row < q.row) ⊎ ((p.row ≡ q.row) × (p.col < q.col))
+
+-- how many times a list holds a position
+abbrev pub count_of : Position → List Position → ℕ
+count_of p = count_by (λ q. p.row == q.row && p.col == q.col)

@@ -12,6 +12,7 @@ pub mod entity_iterator;
 pub mod formatting;
 pub mod horizontal_line;
 pub mod indent;
+pub mod laws;
 pub mod offset;
 mod part;
 pub mod position;
