@@ -19,11 +19,7 @@ impl From<isize> for Offset {
     ghost from_gives = { λ number offset. offset ≡ offset_of number };
 
     fn from(number: isize) -> Offset {
-        if number >= 0 {
-            Offset::Start(number as usize)
-        } else {
-            Offset::End(number.unsigned_abs())
-        }
+        Offset::from(number as i64)
     }
 }
 
@@ -31,11 +27,7 @@ impl From<i32> for Offset {
     ghost from_gives = { λ number offset. offset ≡ offset_of number };
 
     fn from(number: i32) -> Offset {
-        if number >= 0 {
-            Offset::Start(number as usize)
-        } else {
-            Offset::End(number.unsigned_abs() as usize)
-        }
+        Offset::from(i64::from(number))
     }
 }
 
