@@ -210,14 +210,14 @@ impl<T> Border<T> {
         ensures { PartsGive B.from_gives (border_parts self) (border_parts result) }
     {
         Border {
-            top: part::convert(self.top),
-            bottom: part::convert(self.bottom),
-            left: part::convert(self.left),
-            right: part::convert(self.right),
-            left_top_corner: part::convert(self.left_top_corner),
-            left_bottom_corner: part::convert(self.left_bottom_corner),
-            right_top_corner: part::convert(self.right_top_corner),
-            right_bottom_corner: part::convert(self.right_bottom_corner),
+            top: part::converted(self.top),
+            bottom: part::converted(self.bottom),
+            left: part::converted(self.left),
+            right: part::converted(self.right),
+            left_top_corner: part::converted(self.left_top_corner),
+            left_bottom_corner: part::converted(self.left_bottom_corner),
+            right_top_corner: part::converted(self.right_top_corner),
+            right_bottom_corner: part::converted(self.right_bottom_corner),
         }
     }
 }
@@ -242,22 +242,25 @@ impl<T> Border<&T> {
     }
 
     /// The border with a clone of each part that is lent, or want of memory where a clone met it.
+    /// It equals the parts lent where clones of them do.
     pub fn cloned(&self) -> Result<Border<T>, AllocError>
     where
         T: Clone,
         ensures clones { IfOk result (λ border.
             PartsGive (λ part copy. T.is_clone part.now copy) (border_parts self.now) (border_parts border)) }
+        ensures equal { ((x y : T) → T.is_clone x y → y ≡ x) →
+            IfOk result (λ border. border ≡ border_map (λ part. part.now) self.now) }
         ensures succeeds { EachSet (λ part. T.is_infallible part.now) (border_parts self.now) → IsOk result }
     {
         Ok(Border {
-            top: part::cloned(self.top)?,
-            bottom: part::cloned(self.bottom)?,
-            left: part::cloned(self.left)?,
-            right: part::cloned(self.right)?,
-            left_top_corner: part::cloned(self.left_top_corner)?,
-            left_bottom_corner: part::cloned(self.left_bottom_corner)?,
-            right_top_corner: part::cloned(self.right_top_corner)?,
-            right_bottom_corner: part::cloned(self.right_bottom_corner)?,
+            top: self.top.cloned()?,
+            bottom: self.bottom.cloned()?,
+            left: self.left.cloned()?,
+            right: self.right.cloned()?,
+            left_top_corner: self.left_top_corner.cloned()?,
+            left_bottom_corner: self.left_bottom_corner.cloned()?,
+            right_top_corner: self.right_top_corner.cloned()?,
+            right_bottom_corner: self.right_bottom_corner.cloned()?,
         })
     }
 }

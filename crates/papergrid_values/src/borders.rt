@@ -196,21 +196,21 @@ impl<T> Borders<T> {
         ensures { PartsGive T1.from_gives (frame.frame_parts self) (frame.frame_parts result) }
     {
         Borders {
-            top: part::convert(self.top),
-            top_left: part::convert(self.top_left),
-            top_right: part::convert(self.top_right),
-            top_intersection: part::convert(self.top_intersection),
-            bottom: part::convert(self.bottom),
-            bottom_left: part::convert(self.bottom_left),
-            bottom_right: part::convert(self.bottom_right),
-            bottom_intersection: part::convert(self.bottom_intersection),
-            horizontal: part::convert(self.horizontal),
-            vertical: part::convert(self.vertical),
-            intersection: part::convert(self.intersection),
-            left: part::convert(self.left),
-            left_intersection: part::convert(self.left_intersection),
-            right: part::convert(self.right),
-            right_intersection: part::convert(self.right_intersection),
+            top: part::converted(self.top),
+            top_left: part::converted(self.top_left),
+            top_right: part::converted(self.top_right),
+            top_intersection: part::converted(self.top_intersection),
+            bottom: part::converted(self.bottom),
+            bottom_left: part::converted(self.bottom_left),
+            bottom_right: part::converted(self.bottom_right),
+            bottom_intersection: part::converted(self.bottom_intersection),
+            horizontal: part::converted(self.horizontal),
+            vertical: part::converted(self.vertical),
+            intersection: part::converted(self.intersection),
+            left: part::converted(self.left),
+            left_intersection: part::converted(self.left_intersection),
+            right: part::converted(self.right),
+            right_intersection: part::converted(self.right_intersection),
         }
     }
 

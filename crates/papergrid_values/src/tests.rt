@@ -346,3 +346,34 @@ fn refused_memory(rt: HostRuntime) {
     }
     assert!(rt; border.is_same() && color.as_ref() == lent);
 }
+
+// A call whose condition is that a clone equals its original.
+fn needs_equal_clones<T: Clone>(value: &T) -> Result<T, AllocError>
+    requires { (x y : T) → T.is_clone x y → y ≡ x }
+    ensures { IfOk result (λ copy. copy ≡ value.now) }
+{
+    value.clone()
+}
+
+#[test]
+fn equal_clones(rt: HostRuntime) -> Result<(), Fail> {
+    let color = ANSIBuf::new(rt.alloc(), "<", ">")?;
+    assert!(rt; needs_equal_clones(&color)? == color);
+    let sides = Sides::new(None, None, None, Some(color.clone()?));
+    assert!(rt; needs_equal_clones(&sides)? == sides);
+    let border = Border {
+        top: Some(color.clone()?),
+        ..Border::empty()
+    };
+    assert!(rt; needs_equal_clones(&border)? == border);
+    let frame = Borders {
+        top: Some(color.clone()?),
+        ..Borders::empty()
+    };
+    assert!(rt; needs_equal_clones(&frame)? == frame);
+    let line = HorizontalLine::new(Some(color), None, None, None);
+    assert!(rt; needs_equal_clones(&line)? == line);
+    assert!(rt; needs_equal_clones(&Sides::filled(Indent::zero()))? == Sides::default());
+    assert!(rt; needs_equal_clones(&VerticalLine::filled('x'))? == VerticalLine::filled('x'));
+    Ok(())
+}
