@@ -5,7 +5,7 @@ ghost use Rattle.papergrid_values.specs.Entities.{positions};
 
 use crate::{
     ANSIBuf, ANSIFmt, ANSIStr, AlignmentHorizontal, AlignmentVertical, Border, Borders, Entity,
-    Formatting, HorizontalLine, Indent, Offset, Position, Sides, VerticalLine,
+    Formatting, HorizontalLine, Indent, Offset, Position, Sides, VerticalLine, laws,
 };
 use std::alloc::{AllocError, Global};
 use std::cmp::Ordering;
@@ -361,6 +361,7 @@ fn equal_clones(rt: HostRuntime) -> Result<(), Fail> {
     assert!(rt; needs_equal_clones(&color)? == color);
     let sides = Sides::new(None, None, None, Some(color.clone()?));
     assert!(rt; needs_equal_clones(&sides)? == sides);
+    laws::equal_clones::<ANSIBuf>();
     let border = Border {
         top: Some(color.clone()?),
         ..Border::empty()
