@@ -1,6 +1,9 @@
 //! Laws over the definitions that the contracts cite.
 
-ghost use Rattle.std.specs.Prelude.{◌≡◌, ◌<◌, ◌≤◌, ◌⊎◌, ℕ, AllPairs};
+ghost use Rattle.std.specs.Prelude.{◌≡◌, ◌<◌, ◌≤◌, ◌⊎◌, ◌↔◌, [], ◌∷◌, ℕ, AllPairs};
+ghost use Rattle.std.specs.Cmp.Lexicographic.{slice_cmp};
+ghost use Rattle.std.specs.Option.{option_cmp};
+ghost use Rattle.std.specs.Ordering.{nat_cmp};
 ghost use Rattle.papergrid_values.specs.declared.entity.Entity.TheVariants.{Global};
 ghost use Rattle.papergrid_values.specs.declared.position.Position.{Position};
 ghost use Rattle.papergrid_values.specs.declared.border.Border.{Border};
@@ -8,10 +11,19 @@ ghost use Rattle.papergrid_values.specs.declared.borders.Borders.{Borders};
 ghost use Rattle.papergrid_values.specs.declared.horizontal_line.HorizontalLine.{HorizontalLine};
 ghost use Rattle.papergrid_values.specs.declared.sides.Sides.{Sides};
 ghost use Rattle.papergrid_values.specs.declared.vertical_line.VerticalLine.{VerticalLine};
+ghost use Rattle.papergrid_values.specs.declared.entity.Entity.{Entity};
+ghost use Rattle.papergrid_values.specs.declared.indent.Indent.{Indent};
+ghost use Rattle.papergrid_values.specs.declared.offset.Offset.{Offset};
+ghost use Rattle.papergrid_values.specs.Borders.{border_parts, frame_parts};
 ghost use Rattle.papergrid_values.specs.Entities.{positions};
+ghost use Rattle.papergrid_values.specs.Lines.{horizontal_parts, vertical_parts};
+ghost use Rattle.papergrid_values.specs.Keys.{entity_key, offset_key, sides_parts};
 ghost use Rattle.papergrid_values.specs.Positions.{IsBefore, count_of};
 
-use crate::{Border, Borders, HorizontalLine, Sides, VerticalLine};
+use crate::{
+    Border, Borders, Entity, HorizontalLine, Indent, Offset, Position, Sides, VerticalLine,
+};
+use std::cmp::Ordering;
 
 /// The positions of a whole table: each place with a row and a column below the counts stands
 /// there exactly once, nothing else does, and they rise by row and then by column.
@@ -32,4 +44,28 @@ pub fn equal_clones<T: Clone>()
     ensures frames { (x y : Borders T) → ⟦<Borders<T> as Clone>⟧.is_clone x y → y ≡ x }
     ensures horizontal_lines { (x y : HorizontalLine T) → ⟦<HorizontalLine<T> as Clone>⟧.is_clone x y → y ≡ x }
     ensures vertical_lines { (x y : VerticalLine T) → ⟦<VerticalLine<T> as Clone>⟧.is_clone x y → y ≡ x }
+{}
+
+/// Values with parts of one type are ordered by the first part that differs, in the order of their
+/// fields. A part that is not set stands before one that is.
+pub fn ordered_by_parts<T: Ord>()
+    ensures sides { (x y : Sides T) →
+        ⟦<Sides<T> as Ord>⟧.cmp x y ≡ slice_cmp T.cmp (sides_parts x) (sides_parts y) }
+    ensures borders { (x y : Border T) →
+        ⟦<Border<T> as Ord>⟧.cmp x y ≡ slice_cmp (option_cmp T.cmp) (border_parts x) (border_parts y) }
+    ensures frames { (x y : Borders T) →
+        ⟦<Borders<T> as Ord>⟧.cmp x y ≡ slice_cmp (option_cmp T.cmp) (frame_parts x) (frame_parts y) }
+    ensures horizontal_lines { (x y : HorizontalLine T) →
+        ⟦<HorizontalLine<T> as Ord>⟧.cmp x y ≡ slice_cmp (option_cmp T.cmp) (horizontal_parts x) (horizontal_parts y) }
+    ensures vertical_lines { (x y : VerticalLine T) →
+        ⟦<VerticalLine<T> as Ord>⟧.cmp x y ≡ slice_cmp (option_cmp T.cmp) (vertical_parts x) (vertical_parts y) }
+{}
+
+/// The other values are ordered likewise: positions by row and column, entities and offsets by
+/// kind and then by numbers, indents by character and size, colours by prefix and suffix.
+pub fn ordered_by_fields()
+    ensures positions { (p q : Position) → (⟦<Position as Ord>⟧.cmp p q ≡ Ordering.Less) ↔ IsBefore p q }
+    ensures entities { (x y : Entity) → ⟦<Entity as Ord>⟧.cmp x y ≡ slice_cmp nat_cmp (entity_key x) (entity_key y) }
+    ensures offsets { (x y : Offset) → ⟦<Offset as Ord>⟧.cmp x y ≡ slice_cmp nat_cmp (offset_key x) (offset_key y) }
+    ensures indents { (x y : Indent) → ⟦<Indent as Ord>⟧.cmp x y ≡ slice_cmp nat_cmp (x.fill ∷ x.size ∷ []) (y.fill ∷ y.size ∷ []) }
 {}
