@@ -1,5 +1,5 @@
 -- The parts of a cell's border and of a table's frame, and their queries.
-use Rattle.std.specs.Prelude.{Bool, List, [], ◌∷◌, Option, Some, None}
+use Rattle.std.specs.Prelude.{Bool, List, [], ◌∷◌, Option}
 use Rattle.std.specs.Option.{option_map}
 use Rattle.papergrid_values.specs.declared.border.Border.{Border}
 use Rattle.papergrid_values.specs.declared.borders.Borders.{Borders}

@@ -1,4 +1,5 @@
-//! The values that the settings of a table are made of: positions, entities, sides and indents.
+//! The values that the settings of a table are made of: positions and entities, sides, indents and
+//! offsets, the borders of cells, the frame and the lines of a table, and colours as two texts.
 #![tactic(auto)]
 
 pub mod alignment;

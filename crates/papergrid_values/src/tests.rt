@@ -378,3 +378,12 @@ fn equal_clones(rt: HostRuntime) -> Result<(), Fail> {
     assert!(rt; needs_equal_clones(&VerticalLine::filled('x'))? == VerticalLine::filled('x'));
     Ok(())
 }
+
+#[test]
+fn laws_at_types() {
+    laws::global_positions();
+    laws::ordered_by_fields();
+    laws::ordered_by_parts::<char>();
+    laws::equal_by_parts::<char>();
+    laws::hashed_by_parts::<char>();
+}

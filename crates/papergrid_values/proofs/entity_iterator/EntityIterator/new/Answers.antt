@@ -1,5 +1,5 @@
 -- A walk begins with the whole list: its first row and the rows after it are all rows.
-use Rattle.std.proofs.Common.{rules, ◌∙◌, arith, ◌<◌}
+use Rattle.std.proofs.Common.{arith}
 use Rattle.std.proofs.lemmas.Bool.Decides.{nat_tests}
 use Rattle.papergrid_values.proofs.WalkLemmas.{rows_from-more, rows_from-global, rows_from-column}
 use Rattle.papergrid_values.proofs.entity_iterator.EntityIterator.new.Goals as goal
