@@ -97,4 +97,20 @@ module _ {T : Type 0} (O : Option T → Option T → Type 0) (same : (x y : Opti
         right = y.right;
         right_intersection = y.right_intersection;
       } ≡ y = refl in
-      cc (same _ _ p0, same _ _ p1, same _ _ p2, same _ _ p3, same _ _ p4, same _ _ p5, same _ _ p6, same _ _ p7, same _ _ p8, same _ _ p9, same _ _ p10, same _ _ p11, same _ _ p12, same _ _ p13, same _ _ p14)
+      cc (
+        same _ _ p0,
+        same _ _ p1,
+        same _ _ p2,
+        same _ _ p3,
+        same _ _ p4,
+        same _ _ p5,
+        same _ _ p6,
+        same _ _ p7,
+        same _ _ p8,
+        same _ _ p9,
+        same _ _ p10,
+        same _ _ p11,
+        same _ _ p12,
+        same _ _ p13,
+        same _ _ p14,
+      )

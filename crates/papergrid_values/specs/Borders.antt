@@ -11,6 +11,19 @@ border_parts b =
     b.top ∷ b.bottom ∷ b.left ∷ b.right
     ∷ b.left_top_corner ∷ b.left_bottom_corner ∷ b.right_top_corner ∷ b.right_bottom_corner ∷ []
 
+-- the border with the same part everywhere
+abbrev pub border_with : {T : Type 0} → Option T → Border T
+border_with part = record {
+  top = part;
+  bottom = part;
+  left = part;
+  right = part;
+  left_top_corner = part;
+  left_bottom_corner = part;
+  right_top_corner = part;
+  right_bottom_corner = part;
+}
+
 -- the border with f of each part that is set
 abbrev pub border_map : {A B : Type 0} → (A → B) → Border A → Border B
 border_map f b = record {
@@ -44,6 +57,26 @@ frame_parts f =
     ∷ f.bottom ∷ f.bottom_left ∷ f.bottom_right ∷ f.bottom_intersection
     ∷ f.horizontal ∷ f.vertical ∷ f.intersection
     ∷ f.left ∷ f.left_intersection ∷ f.right ∷ f.right_intersection ∷ []
+
+-- the frame with the same part everywhere
+abbrev pub frame_with : {T : Type 0} → Option T → Borders T
+frame_with part = record {
+  top = part;
+  top_left = part;
+  top_right = part;
+  top_intersection = part;
+  bottom = part;
+  bottom_left = part;
+  bottom_right = part;
+  bottom_intersection = part;
+  horizontal = part;
+  vertical = part;
+  intersection = part;
+  left = part;
+  left_intersection = part;
+  right = part;
+  right_intersection = part;
+}
 
 -- whether a frame has something on a side of the table
 abbrev pub has_left : {T : Type 0} → Borders T → Bool

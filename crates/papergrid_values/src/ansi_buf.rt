@@ -151,7 +151,8 @@ impl ANSIFmt for ANSIBuf {
     }
 
     fn fmt_ansi_suffix<W: fmt::Write>(&self, f: &mut W) -> fmt::Result
-        ensures allowed { OnOk result (WritesOrResets W.write_str_gives f.old (Some self.now.1) f.new) }
+        ensures allowed { OnOk result
+            (WritesOrResets W.write_str_gives f.old (Some self.now.1) f.new) }
         ensures own { OnOk result (W.write_str_gives f.old self.now.1 f.new) }
     {
         f.write_str(self.suffix.as_str())

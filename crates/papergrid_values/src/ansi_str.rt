@@ -60,7 +60,8 @@ impl ANSIFmt for ANSIStr<'_> {
     }
 
     fn fmt_ansi_suffix<W: fmt::Write>(&self, f: &mut W) -> fmt::Result
-        ensures allowed { OnOk result (WritesOrResets W.write_str_gives f.old (Some (texts_of self.now).1) f.new) }
+        ensures allowed { OnOk result
+            (WritesOrResets W.write_str_gives f.old (Some (texts_of self.now).1) f.new) }
         ensures own { OnOk result (W.write_str_gives f.old (texts_of self.now).1 f.new) }
     {
         f.write_str(self.suffix)

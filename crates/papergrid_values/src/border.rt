@@ -4,7 +4,8 @@ ghost use Rattle.std.specs.Prelude.{◌≡◌, ◌↔◌, Some, None, true, IsTr
 ghost use Rattle.std.specs.List.{AllPairs};
 ghost use Rattle.std.specs.Option.{option_eq};
 ghost use Rattle.papergrid_values.specs.Parts.{none_set, EachSet, PartsGive};
-ghost use Rattle.papergrid_values.specs.Borders.{border_parts, border_map, has_border_top, has_border_bottom, has_border_left, has_border_right};
+ghost use Rattle.papergrid_values.specs.Borders.{border_parts, border_with, border_map};
+ghost use Rattle.papergrid_values.specs.Borders.{has_border_top, has_border_bottom, has_border_left, has_border_right};
 
 use crate::part;
 use std::alloc::AllocError;
@@ -94,16 +95,7 @@ impl<T> Border<T> {
 
     /// The border with no part set.
     pub fn empty() -> Border<T>
-        ensures { result ≡ record {
-          top = None;
-          bottom = None;
-          left = None;
-          right = None;
-          left_top_corner = None;
-          left_bottom_corner = None;
-          right_top_corner = None;
-          right_bottom_corner = None;
-        } }
+        ensures { result ≡ border_with None }
     {
         Border::new(None, None, None, None, None, None, None, None)
     }
@@ -112,16 +104,7 @@ impl<T> Border<T> {
     pub fn filled(value: T) -> Border<T>
     where
         T: Copy,
-        ensures { result ≡ record {
-          top = Some value;
-          bottom = Some value;
-          left = Some value;
-          right = Some value;
-          left_top_corner = Some value;
-          left_bottom_corner = Some value;
-          right_top_corner = Some value;
-          right_bottom_corner = Some value;
-        } }
+        ensures { result ≡ border_with (Some value) }
     {
         Border::full(value, value, value, value, value, value, value, value)
     }

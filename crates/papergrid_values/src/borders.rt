@@ -30,23 +30,7 @@ pub struct Borders<T> {
 impl<T> Borders<T> {
     /// The frame with no part set.
     pub fn empty() -> Borders<T>
-        ensures { result ≡ record {
-          top = None;
-          top_left = None;
-          top_right = None;
-          top_intersection = None;
-          bottom = None;
-          bottom_left = None;
-          bottom_right = None;
-          bottom_intersection = None;
-          horizontal = None;
-          vertical = None;
-          intersection = None;
-          left = None;
-          left_intersection = None;
-          right = None;
-          right_intersection = None;
-        } }
+        ensures { result ≡ frame.frame_with None }
     {
         Borders {
             top: None,
@@ -71,23 +55,7 @@ impl<T> Borders<T> {
     pub fn filled(value: T) -> Borders<T>
     where
         T: Copy,
-        ensures { result ≡ record {
-          top = Some value;
-          top_left = Some value;
-          top_right = Some value;
-          top_intersection = Some value;
-          bottom = Some value;
-          bottom_left = Some value;
-          bottom_right = Some value;
-          bottom_intersection = Some value;
-          horizontal = Some value;
-          vertical = Some value;
-          intersection = Some value;
-          left = Some value;
-          left_intersection = Some value;
-          right = Some value;
-          right_intersection = Some value;
-        } }
+        ensures { result ≡ frame.frame_with (Some value) }
     {
         Borders {
             top: Some(value),

@@ -2,7 +2,7 @@
 
 ghost use Rattle.std.specs.Prelude.{◌≡◌, Some, None};
 ghost use Rattle.papergrid_values.specs.Parts.{none_set};
-ghost use Rattle.papergrid_values.specs.Lines.{horizontal_parts};
+ghost use Rattle.papergrid_values.specs.Lines.{horizontal_parts, horizontal_with};
 
 /// The parts of a line between rows, each of which is set or not.
 #[derive(Clone, Copy, Debug, Default, PartialEq, Eq, PartialOrd, Ord, Hash, Drop)]
@@ -56,19 +56,14 @@ impl<T> HorizontalLine<T> {
     pub fn filled(value: T) -> HorizontalLine<T>
     where
         T: Copy,
-        ensures { result ≡ record {
-          main = Some value;
-          intersection = Some value;
-          left = Some value;
-          right = Some value;
-        } }
+        ensures { result ≡ horizontal_with (Some value) }
     {
         HorizontalLine::full(value, value, value, value)
     }
 
     /// The line with no part set.
     pub fn empty() -> HorizontalLine<T>
-        ensures { result ≡ record { main = None; intersection = None; left = None; right = None } }
+        ensures { result ≡ horizontal_with None }
     {
         HorizontalLine::new(None, None, None, None)
     }

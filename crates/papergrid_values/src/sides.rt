@@ -1,6 +1,7 @@
 //! A value for each side. Source: `config/sides.rs`.
 
 ghost use Rattle.std.specs.Prelude.{◌≡◌, [], ◌∷◌};
+ghost use Rattle.papergrid_values.specs.Keys.{sides_parts};
 ghost use Rattle.papergrid_values.specs.Parts.{none_set};
 ghost use Rattle.papergrid_values.specs.Folds.{CanFold, Folds};
 
@@ -82,7 +83,7 @@ impl<T> Sides<T> {
 impl<T> Sides<Option<T>> {
     /// Whether no side is set.
     pub fn is_empty(&self) -> bool
-        ensures { result ≡ none_set (self.now.top ∷ self.now.bottom ∷ self.now.left ∷ self.now.right ∷ []) }
+        ensures { result ≡ none_set (sides_parts self.now) }
     {
         self.top.is_none() && self.bottom.is_none() && self.left.is_none() && self.right.is_none()
     }

@@ -2,7 +2,7 @@
 
 ghost use Rattle.std.specs.Prelude.{◌≡◌, Some, None};
 ghost use Rattle.papergrid_values.specs.Parts.{none_set};
-ghost use Rattle.papergrid_values.specs.Lines.{vertical_parts};
+ghost use Rattle.papergrid_values.specs.Lines.{vertical_parts, vertical_with};
 
 /// The parts of a line between columns, each of which is set or not.
 #[derive(Clone, Copy, Debug, Default, PartialEq, Eq, PartialOrd, Ord, Hash, Drop)]
@@ -56,19 +56,14 @@ impl<T> VerticalLine<T> {
     pub fn filled(value: T) -> VerticalLine<T>
     where
         T: Copy,
-        ensures { result ≡ record {
-          main = Some value;
-          intersection = Some value;
-          top = Some value;
-          bottom = Some value;
-        } }
+        ensures { result ≡ vertical_with (Some value) }
     {
         VerticalLine::full(value, value, value, value)
     }
 
     /// The line with no part set.
     pub fn empty() -> VerticalLine<T>
-        ensures { result ≡ record { main = None; intersection = None; top = None; bottom = None } }
+        ensures { result ≡ vertical_with None }
     {
         VerticalLine::new(None, None, None, None)
     }
