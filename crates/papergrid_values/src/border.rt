@@ -123,7 +123,7 @@ impl<T> Border<T> {
             && self.right_bottom_corner.is_none()
     }
 
-    /// Whether any two parts are equal.
+    /// Whether all parts are equal, each to each.
     pub fn is_same(&self) -> bool
     where
         T: PartialEq,

@@ -189,6 +189,8 @@ fn four_sides(rt: HostRuntime) {
     assert!(rt; Sides::filled(None::<u8>).is_empty());
     assert!(rt; !Sides::new(None, None, None, Some(1u8)).is_empty());
     assert_eq!(rt; Sides::default(), Sides::filled(Indent::zero()));
+    assert_eq!(rt; Position::default(), at(0, 0));
+    assert_eq!(rt; Formatting::default(), Formatting::new(false, false, false));
     assert_eq!(rt; Indent::new(2, 'x').is_empty(), false);
     assert!(rt; Indent::spaced(0).is_empty());
 }
