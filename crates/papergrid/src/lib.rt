@@ -19,7 +19,15 @@ mod unescape;
 pub use running::{RunEnd, RunFault, run};
 pub use transfer::{Failed, ReadSource, Sink, Source, WriteSink};
 
+/// Colours as texts.
+pub mod ansi {
+    pub use papergrid_values::{ANSIBuf, ANSIFmt, ANSIStr};
+}
+
 /// What settings are made of.
 pub mod config {
-    pub use papergrid_values::{Entity, Indent, Position, Sides};
+    pub use papergrid_values::{
+        AlignmentHorizontal, AlignmentVertical, Border, Borders, Entity, EntityIterator, Formatting, HorizontalLine,
+        Indent, Offset, Position, Sides, VerticalLine,
+    };
 }

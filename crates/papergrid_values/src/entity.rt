@@ -1,8 +1,9 @@
 //! A part of a table. Source: `config/entity.rs`.
 
 ghost use Rattle.std.specs.Prelude.{◌≡◌};
-ghost use Rattle.papergrid_values.specs.Entities.{cell_at};
+ghost use Rattle.papergrid_values.specs.Entities.{cell_at, positions, positions_left};
 
+use crate::entity_iterator::EntityIterator;
 use crate::position::Position;
 
 /// What a setting is set for: the whole table, a column, a row, or the cell at a row and a column.
@@ -16,6 +17,17 @@ pub enum Entity {
     Row(usize),
     /// The cell at a row and a column.
     Cell(usize, usize),
+}
+
+impl Entity {
+    /// Walks over its positions, row by row, where there are so many rows and columns: none where
+    /// a count is 0, else all of them, those of the column, those of the row, or the one of the
+    /// cell. Its own numbers are not compared with the counts.
+    pub fn iter(&self, count_rows: usize, count_cols: usize) -> EntityIterator
+        ensures { positions_left result ≡ positions self.now count_rows count_cols }
+    {
+        EntityIterator::new(*self, count_rows, count_cols)
+    }
 }
 
 impl From<Position> for Entity {

@@ -1,0 +1,3 @@
+pub mod CloneLemmas
+pub mod GridLemmas
+pub mod WalkLemmas

@@ -1,0 +1,19 @@
+-- The parts of a line.
+use Rattle.std.specs.Prelude.{List, [], ◌∷◌, Option}
+use Rattle.papergrid_values.specs.declared.horizontal_line.HorizontalLine.{HorizontalLine}
+use Rattle.papergrid_values.specs.declared.vertical_line.VerticalLine.{VerticalLine}
+
+-- the four parts, in the order of the fields
+abbrev pub horizontal_parts : {T : Type 0} → HorizontalLine T → List (Option T)
+horizontal_parts line = line.main ∷ line.intersection ∷ line.left ∷ line.right ∷ []
+
+-- the four parts, in the order of the fields
+abbrev pub vertical_parts : {T : Type 0} → VerticalLine T → List (Option T)
+vertical_parts line = line.main ∷ line.intersection ∷ line.top ∷ line.bottom ∷ []
+
+-- the lines with the same part everywhere
+abbrev pub horizontal_with : {T : Type 0} → Option T → HorizontalLine T
+horizontal_with part = record { main = part; intersection = part; left = part; right = part }
+
+abbrev pub vertical_with : {T : Type 0} → Option T → VerticalLine T
+vertical_with part = record { main = part; intersection = part; top = part; bottom = part }

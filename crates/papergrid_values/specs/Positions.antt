@@ -1,0 +1,31 @@
+-- Sums and differences of positions, and their order.
+use Rattle.std.specs.Prelude.{◌≡◌, ◌+◌, ◌-◌, ◌<◌, ◌≤◌, ◌^◌, ◌⊎◌, ◌==◌, ◌&&◌, ℕ, List, count_by}
+use Rattle.papergrid_values.specs.declared.position.Position.{Position}
+
+-- the position of a pair of row and column
+abbrev pub position_of : ℕ × ℕ → Position
+position_of pair = record { row = pair.0; col = pair.1 }
+
+-- rows and columns added, each by itself
+abbrev pub sum_of : Position → Position → Position
+sum_of p q = record { row = p.row + q.row; col = p.col + q.col }
+
+-- rows and columns subtracted, each by itself
+abbrev pub difference_of : Position → Position → Position
+difference_of p q = record { row = p.row - q.row; col = p.col - q.col }
+
+-- both parts of the sum are numbers of a `usize`
+abbrev pub CanAdd : Position → Position → Type 0
+CanAdd p q = (p.row + q.row < 2 ^ 64) × (p.col + q.col < 2 ^ 64)
+
+-- neither part of the difference is below 0
+abbrev pub CanSubtract : Position → Position → Type 0
+CanSubtract p q = (q.row ≤ p.row) × (q.col ≤ p.col)
+
+-- p stands in an earlier row than q, or in the same row in an earlier column
+abbrev pub IsBefore : Position → Position → Type 0
+IsBefore p q = (p.row < q.row) ⊎ ((p.row ≡ q.row) × (p.col < q.col))
+
+-- how many times a list holds a position
+abbrev pub count_of : Position → List Position → ℕ
+count_of p = count_by (λ q. p.row == q.row && p.col == q.col)

@@ -1,0 +1,138 @@
+//! Laws over the definitions that the contracts cite.
+
+ghost use Rattle.std.specs.Prelude.{◌≡◌, ◌<◌, ◌≤◌, ◌⊎◌, ◌↔◌, [], ◌∷◌, ℕ, AllPairs};
+ghost use Rattle.std.specs.Cmp.Lexicographic.{slice_cmp, pointwise};
+ghost use Rattle.std.specs.Hash as fed;
+ghost use Rattle.std.specs.List.{flat_map};
+ghost use Rattle.std.specs.Option.{option_cmp, option_eq};
+ghost use Rattle.std.specs.Ordering.{nat_cmp};
+ghost use Rattle.papergrid_values.specs.declared.entity.Entity.TheVariants.{Global};
+ghost use Rattle.papergrid_values.specs.declared.position.Position.{Position};
+ghost use Rattle.papergrid_values.specs.declared.alignment.AlignmentHorizontal.{AlignmentHorizontal};
+ghost use Rattle.papergrid_values.specs.declared.alignment.AlignmentVertical.{AlignmentVertical};
+ghost use Rattle.papergrid_values.specs.declared.ansi_buf.ANSIBuf.{ANSIBuf};
+ghost use Rattle.papergrid_values.specs.declared.ansi_str.ANSIStr.{ANSIStr};
+ghost use Rattle.papergrid_values.specs.declared.border.Border.{Border};
+ghost use Rattle.papergrid_values.specs.declared.borders.Borders.{Borders};
+ghost use Rattle.papergrid_values.specs.declared.horizontal_line.HorizontalLine.{HorizontalLine};
+ghost use Rattle.papergrid_values.specs.declared.sides.Sides.{Sides};
+ghost use Rattle.papergrid_values.specs.declared.vertical_line.VerticalLine.{VerticalLine};
+ghost use Rattle.papergrid_values.specs.declared.entity.Entity.{Entity};
+ghost use Rattle.papergrid_values.specs.declared.indent.Indent.{Indent};
+ghost use Rattle.papergrid_values.specs.declared.formatting.Formatting.{Formatting};
+ghost use Rattle.papergrid_values.specs.declared.offset.Offset.{Offset};
+ghost use Rattle.papergrid_values.specs.Borders.{border_parts, frame_parts};
+ghost use Rattle.papergrid_values.specs.Entities.{positions};
+ghost use Rattle.papergrid_values.specs.Lines.{horizontal_parts, vertical_parts};
+ghost use Rattle.papergrid_values.specs.Colors.{texts_of, texts_cmp};
+ghost use Rattle.papergrid_values.specs.Keys.{sides_parts, formatting_flags};
+ghost use Rattle.papergrid_values.specs.Keys.{entity_key, offset_key, horizontal_rank, vertical_rank};
+ghost use Rattle.papergrid_values.specs.Positions.{IsBefore, count_of};
+
+use crate::{
+    ANSIBuf, ANSIStr, AlignmentHorizontal, AlignmentVertical, Border, Borders, Entity, Formatting,
+    HorizontalLine, Indent, Offset, Position, Sides, VerticalLine,
+};
+use std::cmp::Ordering;
+use std::hash::Hash;
+
+/// The positions of a whole table: each place with a row and a column below the counts stands
+/// there exactly once, nothing else does, and they rise by row and then by column.
+pub fn global_positions()
+    ensures once { (rows cols : ℕ) (p : Position) → p.row < rows → p.col < cols →
+        count_of p (positions Global rows cols) ≡ 1 }
+    ensures nothing_else { (rows cols : ℕ) (p : Position) → (rows ≤ p.row) ⊎ (cols ≤ p.col) →
+        count_of p (positions Global rows cols) ≡ 0 }
+    ensures rising { (rows cols : ℕ) → AllPairs IsBefore (positions Global rows cols) }
+{}
+
+/// A clone of a border, of a frame, of a line or of four sides equals its original where clones of
+/// the parts equal theirs.
+pub fn equal_clones<T: Clone>()
+    requires { (x y : T) → T.is_clone x y → y ≡ x }
+    ensures sides { (x y : Sides T) → ⟦<Sides<T> as Clone>⟧.is_clone x y → y ≡ x }
+    ensures borders { (x y : Border T) → ⟦<Border<T> as Clone>⟧.is_clone x y → y ≡ x }
+    ensures frames { (x y : Borders T) → ⟦<Borders<T> as Clone>⟧.is_clone x y → y ≡ x }
+    ensures horizontal_lines { (x y : HorizontalLine T) →
+        ⟦<HorizontalLine<T> as Clone>⟧.is_clone x y → y ≡ x }
+    ensures vertical_lines { (x y : VerticalLine T) →
+        ⟦<VerticalLine<T> as Clone>⟧.is_clone x y → y ≡ x }
+{}
+
+/// Values with parts of one type are ordered by the first part that differs, in the order of their
+/// fields. A part that is not set stands before one that is.
+pub fn ordered_by_parts<T: Ord>()
+    ensures sides { (x y : Sides T) →
+        ⟦<Sides<T> as Ord>⟧.cmp x y ≡ slice_cmp T.cmp (sides_parts x) (sides_parts y) }
+    ensures borders { (x y : Border T) →
+        ⟦<Border<T> as Ord>⟧.cmp x y
+        ≡ slice_cmp (option_cmp T.cmp) (border_parts x) (border_parts y) }
+    ensures frames { (x y : Borders T) →
+        ⟦<Borders<T> as Ord>⟧.cmp x y
+        ≡ slice_cmp (option_cmp T.cmp) (frame_parts x) (frame_parts y) }
+    ensures horizontal_lines { (x y : HorizontalLine T) →
+        ⟦<HorizontalLine<T> as Ord>⟧.cmp x y
+        ≡ slice_cmp (option_cmp T.cmp) (horizontal_parts x) (horizontal_parts y) }
+    ensures vertical_lines { (x y : VerticalLine T) →
+        ⟦<VerticalLine<T> as Ord>⟧.cmp x y
+        ≡ slice_cmp (option_cmp T.cmp) (vertical_parts x) (vertical_parts y) }
+{}
+
+/// Values with parts of one type are equal where each part equals the other's.
+pub fn equal_by_parts<T: PartialEq>()
+    ensures sides { (x y : Sides T) →
+        ⟦<Sides<T> as PartialEq>⟧.eq x y ≡ pointwise T.eq (sides_parts x) (sides_parts y) }
+    ensures borders { (x y : Border T) →
+        ⟦<Border<T> as PartialEq>⟧.eq x y
+        ≡ pointwise (option_eq T.eq) (border_parts x) (border_parts y) }
+    ensures frames { (x y : Borders T) →
+        ⟦<Borders<T> as PartialEq>⟧.eq x y
+        ≡ pointwise (option_eq T.eq) (frame_parts x) (frame_parts y) }
+    ensures horizontal_lines { (x y : HorizontalLine T) →
+        ⟦<HorizontalLine<T> as PartialEq>⟧.eq x y
+        ≡ pointwise (option_eq T.eq) (horizontal_parts x) (horizontal_parts y) }
+    ensures vertical_lines { (x y : VerticalLine T) →
+        ⟦<VerticalLine<T> as PartialEq>⟧.eq x y
+        ≡ pointwise (option_eq T.eq) (vertical_parts x) (vertical_parts y) }
+{}
+
+/// Values with parts of one type hash the parts, in the order of their fields.
+pub fn hashed_by_parts<T: Hash>()
+    ensures sides { (x : Sides T) →
+        ⟦<Sides<T> as Hash>⟧.hash_input x ≡ flat_map T.hash_input (sides_parts x) }
+    ensures borders { (x : Border T) →
+        ⟦<Border<T> as Hash>⟧.hash_input x ≡ flat_map (fed.option T.hash_input) (border_parts x) }
+    ensures frames { (x : Borders T) →
+        ⟦<Borders<T> as Hash>⟧.hash_input x ≡ flat_map (fed.option T.hash_input) (frame_parts x) }
+    ensures horizontal_lines { (x : HorizontalLine T) →
+        ⟦<HorizontalLine<T> as Hash>⟧.hash_input x
+        ≡ flat_map (fed.option T.hash_input) (horizontal_parts x) }
+    ensures vertical_lines { (x : VerticalLine T) →
+        ⟦<VerticalLine<T> as Hash>⟧.hash_input x
+        ≡ flat_map (fed.option T.hash_input) (vertical_parts x) }
+{}
+
+/// The other values are ordered likewise: positions by row and column, entities and offsets by
+/// kind and then by numbers, indents by character and size, flags of formatting in the order of
+/// the fields, alignments as they are listed, colours by prefix and suffix.
+pub fn ordered_by_fields()
+    ensures positions { (p q : Position) →
+        (⟦<Position as Ord>⟧.cmp p q ≡ Ordering.Less) ↔ IsBefore p q }
+    ensures entities { (x y : Entity) →
+        ⟦<Entity as Ord>⟧.cmp x y ≡ slice_cmp nat_cmp (entity_key x) (entity_key y) }
+    ensures offsets { (x y : Offset) →
+        ⟦<Offset as Ord>⟧.cmp x y ≡ slice_cmp nat_cmp (offset_key x) (offset_key y) }
+    ensures indents { (x y : Indent) →
+        ⟦<Indent as Ord>⟧.cmp x y
+        ≡ slice_cmp nat_cmp (x.fill ∷ x.size ∷ []) (y.fill ∷ y.size ∷ []) }
+    ensures flags { (x y : Formatting) →
+        ⟦<Formatting as Ord>⟧.cmp x y
+        ≡ slice_cmp ⟦<bool as Ord>⟧.cmp (formatting_flags x) (formatting_flags y) }
+    ensures across { (x y : AlignmentHorizontal) →
+        ⟦<AlignmentHorizontal as Ord>⟧.cmp x y ≡ nat_cmp (horizontal_rank x) (horizontal_rank y) }
+    ensures down { (x y : AlignmentVertical) →
+        ⟦<AlignmentVertical as Ord>⟧.cmp x y ≡ nat_cmp (vertical_rank x) (vertical_rank y) }
+    ensures borrowed_colors { (x y : ANSIStr) →
+        ⟦<ANSIStr<'static> as Ord>⟧.cmp x y ≡ texts_cmp (texts_of x) (texts_of y) }
+    ensures colors { (x y : ANSIBuf) → ⟦<ANSIBuf as Ord>⟧.cmp x y ≡ texts_cmp x y }
+{}
