@@ -46,7 +46,7 @@ module _ (along need : TableCell → ℕ) where
   abbrev pub top_at : ℕ → List TableCell → ℕ
   top_at i cells = greatest (map need (filter (λ cell. nat_eq (along cell) i) cells))
 
-  abbrev all_below : ℕ → List TableCell → Bool
+  abbrev pub all_below : ℕ → List TableCell → Bool
   all_below n cells = list_all (λ cell. nat_lt (along cell) n) cells
 
   length-raised_by : (sizes : List ℕ) (cells : List TableCell) → length (raised_by along need sizes cells) ≡ length sizes

@@ -3,9 +3,11 @@ use Rattle.std.proofs.Common.{◌≡◌, ◌⊎◌, ◌≤◌, ◌<◌, ◌+◌,
 use Rattle.std.specs.Prelude.{max, sum, slice_get, Contains}
 use Rattle.std.specs.List.{range_with_len}
 use Rattle.std.proofs.lemmas.Bool.Decides.{nat_tests}
+use Rattle.std.proofs.lemmas.List.{length-map}
 use Rattle.std.proofs.lemmas.List.FromFn.{length-map-range_with_len, get_or-map-range_with_len}
 use borrow.Author.Tests.{eqb-true, eq-eqb, ltb-true, ltb-false}
 use Rattle.std.proofs.lemmas.Option.{same_Some, none-some, slice_get-get_or, slice_get_within}
+use Rattle.papergrid_text.specs.Text.{text_dimension}
 use Rattle.papergrid_values.specs.declared.position.Position.{Position}
 use Rattle.papergrid.specs.Cells.{Measure, TableCell, measured, cells_of_row, cells_from, cells_of}
 use Rattle.papergrid.specs.Scripts.{Table}
@@ -263,7 +265,7 @@ all_fit table widths heights are = record {
       let within = are.inside cell there in
       (omega (arith, within, are.widths_top.as_many), (are.widths_top.tops cell.place.col within).enough cell there refl);
   rows_fit = λ cell there.
-      let within = slice_get_within (measured table.rows) cell.place.row there.measures there.row_there in
+      let within : cell.place.row < length table.rows = subst (λ n. cell.place.row < n) (length-map table.rows (map text_dimension)) (slice_get_within (measured table.rows) cell.place.row there.measures there.row_there) in
       (omega (arith, within, are.heights_top.as_many), (are.heights_top.tops cell.place.row within).enough cell there refl);
 }
 

@@ -25,6 +25,9 @@ meaning (lines.Cell text) = Cell (cow_str_bytes text)
 abbrev pub texts_of : Vec (CowStr Global) Global → List (List ℕ)
 texts_of cells = map cow_str_bytes cells.items
 
+abbrev pub measures_of : Vec (ℕ × ℕ) Global → List (ℕ × ℕ)
+measures_of row = row.items
+
 abbrev pub table_seen : Script → Table
 table_seen script = record { columns = script.columns; settings = script.settings.items; rows = map texts_of script.rows.items }
 
@@ -34,9 +37,9 @@ GivesTable (Ok script) told = told ≡ Ok (table_seen script)
 GivesTable (Err (script_errors.Bad number)) told = told ≡ Err number
 GivesTable (Err script_errors.Memory) told = Unit {0}
 
--- what is estimated; want of memory says nothing
-abbrev pub GivesEstimate : Result Sizes LayoutError → Estimate → Type 0
-GivesEstimate (Ok sizes) told = told ≡ Sized sizes.widths.items sizes.heights.items
-GivesEstimate (Err (layout_errors.OutOfTable place)) told = told ≡ OutOfTable place
-GivesEstimate (Err layout_errors.TooLarge) told = told ≡ TooLarge
-GivesEstimate (Err layout_errors.Memory) told = Unit {0}
+-- what is estimated is so; want of memory says nothing
+abbrev pub GivesEstimate : Result Sizes LayoutError → (Estimate → Type 0) → Type 0
+GivesEstimate (Ok sizes) IsSo = IsSo (Sized sizes.widths.items sizes.heights.items)
+GivesEstimate (Err (layout_errors.OutOfTable place)) IsSo = IsSo (OutOfTable place)
+GivesEstimate (Err layout_errors.TooLarge) IsSo = IsSo TooLarge
+GivesEstimate (Err layout_errors.Memory) IsSo = Unit {0}

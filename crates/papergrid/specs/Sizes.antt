@@ -1,5 +1,5 @@
 -- The sizes of a table without spans and lines: each is the greatest need of its cells.
-use Rattle.std.specs.Prelude.{ℕ, ◌+◌, ◌^◌, ◌==◌, List, [], ◌∷◌, map, filter, find, flat_map, length, sum, Option, Some, None, option_map, nat_le, ◌||◌, if◌then◌else◌}
+use Rattle.std.specs.Prelude.{ℕ, ◌+◌, ◌^◌, ◌==◌, List, [], ◌∷◌, map, filter, find, flat_map, length, max, sum, Option, Some, None, option_map, nat_le, ◌||◌, if◌then◌else◌}
 use Rattle.std.specs.List.{range_with_len}
 use Rattle.papergrid_values.specs.declared.position.Position.{Position}
 use Rattle.papergrid_values.specs.declared.indent.Indent.{Indent}

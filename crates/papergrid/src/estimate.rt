@@ -1,24 +1,24 @@
 //! The sizes of a table without spans and lines: each is the greatest need of its cells.
 
-ghost use Rattle.std.specs.Prelude.{◌≡◌, ◌+◌, ◌≤◌, ◌<◌, ◌^◌, IfOk, IfNone, IfSome, All, flat_map, length, map, sum, false, None};
+ghost use Rattle.std.specs.Prelude.{◌≡◌, ◌+◌, ◌≤◌, ◌<◌, ◌^◌, IfOk, IfNone, IfSome, All, List, flat_map, length, map, sum, false, None};
 ghost use Rattle.std.specs.Bool.{OnTrue};
-ghost use Rattle.std.specs.Cow.{cow_str_bytes};
 ghost use Rattle.std.specs.List.{list_all};
 ghost use Rattle.std.specs.Option.{SomeIff};
 ghost use Rattle.papergrid.specs.declared.estimate.LayoutError.TheVariants.{Memory};
 ghost use Rattle.papergrid.specs.Calls.{decided_value};
-ghost use Rattle.papergrid.specs.Cells.{cells_of, cells_of_row};
+ghost use Rattle.papergrid.specs.Cells.{cells_of, cells_of_row, measured};
 ghost use Rattle.papergrid.specs.Raising.{fits_in, raised, raised_by};
-ghost use Rattle.papergrid.specs.Seen.{GivesEstimate, table_seen, texts_of};
+ghost use Rattle.papergrid.specs.Scripts.{Table};
+ghost use Rattle.papergrid.specs.Seen.{GivesEstimate, measures_of};
 ghost use Rattle.papergrid.specs.Sizes.{column_of, estimate_of, first_out, height_need, no_padding, padding_calls, row_of, sizes_of, width_need};
 
 use crate::entity_map::EntityMap;
-use crate::measure::{height, width};
-use crate::script::Script;
+use crate::measured::measured;
 use crate::setting::Setting;
+use papergrid_text::{IntoRecords, Records};
 use papergrid_values::{Indent, Position, Sides};
 use std::alloc::{AllocError, AllocFailed, Global};
-use std::borrow::CowStr;
+use std::convert::AsStr;
 
 /// The width of each column, in columns of a terminal, the height of each row, in lines, and their totals.
 #[derive(Debug, Drop)]
@@ -56,23 +56,38 @@ impl<T: Drop> From<AllocFailed<T>> for LayoutError {
     }
 }
 
-/// The sizes of the script's table.
-pub fn estimate(alloc: Global, script: &Script) -> Result<Sizes, LayoutError>
-    ensures told { GivesEstimate result (estimate_of (table_seen script.now)) }
+/// The sizes of the table of these records, by these settings.
+pub fn estimate<R: Records + Drop>(alloc: Global, records: R, settings: &[Setting]) -> Result<Sizes, LayoutError>
+where
+    <<R as Records>::Iter as IntoRecords>::Cell: AsStr + Drop,
+    requires lawful { R.is_lawful records }
+    ensures told { GivesEstimate result (λ answer. (cells : List (List R.Iter.Cell)) × R.tells records cells
+        × (answer ≡ estimate_of (record { columns = R.columns records; settings = settings.now; rows = map (map R.Iter.Cell.text) cells }))) }
     ensures total_width { IfOk result (λ sizes. sizes.total_width ≡ sum sizes.widths.items) }
     ensures total_height { IfOk result (λ sizes. sizes.total_height ≡ sum sizes.heights.items) }
 {
-    if let Some(position) = first_out(script.rows.as_slice(), script.columns) {
+    let columns = records.count_columns();
+    let rows = measured(alloc, records)?;
+    estimate_measured(alloc, rows.as_slice(), columns, settings)
+}
+
+/// The sizes of the table of cells of these measures.
+fn estimate_measured(
+    alloc: Global,
+    rows: &[Vec<(usize, usize)>],
+    columns: usize,
+    settings: &[Setting],
+) -> Result<Sizes, LayoutError>
+    ensures told { (table : Table) → table.columns ≡ columns → table.settings ≡ settings.now → measured table.rows ≡ map measures_of rows.now →
+        GivesEstimate result (λ answer. answer ≡ estimate_of table) }
+    ensures total_width { IfOk result (λ sizes. sizes.total_width ≡ sum sizes.widths.items) }
+    ensures total_height { IfOk result (λ sizes. sizes.total_height ≡ sum sizes.heights.items) }
+{
+    if let Some(position) = first_out(rows, columns) {
         return Err(LayoutError::OutOfTable(position));
     }
-    let paddings = paddings(alloc, script.settings.as_slice())?;
-    let Some((widths, heights)) = raised_sizes(
-        alloc,
-        &paddings,
-        script.rows.as_slice(),
-        script.columns,
-    )?
-    else {
+    let paddings = paddings(alloc, settings)?;
+    let Some((widths, heights)) = raised_sizes(alloc, &paddings, rows, columns)? else {
         return Err(LayoutError::TooLarge);
     };
     let Some(total_width) = total(widths.as_slice()) else {
@@ -90,8 +105,8 @@ pub fn estimate(alloc: Global, script: &Script) -> Result<Sizes, LayoutError>
 }
 
 /// The first cell at or past the column count.
-fn first_out(rows: &[Vec<CowStr>], columns: usize) -> Option<Position>
-    ensures first { result ≡ first_out columns (cells_of (map texts_of rows.now)) }
+fn first_out(rows: &[Vec<(usize, usize)>], columns: usize) -> Option<Position>
+    ensures first { result ≡ first_out columns (cells_of (map measures_of rows.now)) }
     ensures none { IfNone result (All (λ cells. length cells.items ≤ columns) rows.now) }
 {
     for (row, cells) in rows.iter().enumerate() {
@@ -120,19 +135,19 @@ fn paddings(alloc: Global, settings: &[Setting]) -> Result<EntityMap<Sides<Inden
 fn raised_sizes(
     alloc: Global,
     paddings: &EntityMap<Sides<Indent>>,
-    rows: &[Vec<CowStr>],
+    rows: &[Vec<(usize, usize)>],
     columns: usize,
 ) -> Result<Option<(Vec<usize>, Vec<usize>)>, AllocError>
-    requires inside { first_out columns (cells_of (map texts_of rows.now)) ≡ None }
+    requires inside { first_out columns (cells_of (map measures_of rows.now)) ≡ None }
     requires short { All (λ cells. length cells.items ≤ columns) rows.now }
     ensures none { let padding = decided_value paddings.now.given paddings.now.calls.items in
-        IfOk result (λ found. IfNone found (list_all (fits_in padding) (cells_of (map texts_of rows.now)) ≡ false)) }
+        IfOk result (λ found. IfNone found (list_all (fits_in padding) (cells_of (map measures_of rows.now)) ≡ false)) }
     ensures widths { let padding = decided_value paddings.now.given paddings.now.calls.items in
         IfOk result (λ found. IfSome found (λ sizes.
-        sizes.0.items ≡ sizes_of column_of (width_need padding) columns (cells_of (map texts_of rows.now)))) }
+        sizes.0.items ≡ sizes_of column_of (width_need padding) columns (cells_of (map measures_of rows.now)))) }
     ensures heights { let padding = decided_value paddings.now.given paddings.now.calls.items in
         IfOk result (λ found. IfSome found (λ sizes.
-        sizes.1.items ≡ sizes_of row_of (height_need padding) (length rows.now) (cells_of (map texts_of rows.now)))) }
+        sizes.1.items ≡ sizes_of row_of (height_need padding) (length rows.now) (cells_of (map measures_of rows.now)))) }
 {
     let mut widths = vec![in alloc; 0; columns]?;
     let mut heights = vec![in alloc; 0; rows.len()]?;
@@ -147,18 +162,18 @@ fn raised_sizes(
 fn raise_all(
     alloc: Global,
     paddings: &EntityMap<Sides<Indent>>,
-    rows: &[Vec<CowStr>],
+    rows: &[Vec<(usize, usize)>],
     widths: &mut [usize],
     heights: &mut [usize],
 ) -> Result<bool, AllocError>
     requires columns { All (λ cells. length cells.items ≤ length widths.old) rows.now }
     requires rows { length rows.now ≤ length heights.old }
     ensures fits { let padding = decided_value paddings.now.given paddings.now.calls.items in
-        IfOk result (λ fits. fits ≡ list_all (fits_in padding) (cells_of (map texts_of rows.now))) }
+        IfOk result (λ fits. fits ≡ list_all (fits_in padding) (cells_of (map measures_of rows.now))) }
     ensures widths { let padding = decided_value paddings.now.given paddings.now.calls.items in
-        IfOk result (λ fits. OnTrue fits (widths.new ≡ raised_by column_of (width_need padding) widths.old (cells_of (map texts_of rows.now)))) }
+        IfOk result (λ fits. OnTrue fits (widths.new ≡ raised_by column_of (width_need padding) widths.old (cells_of (map measures_of rows.now)))) }
     ensures heights { let padding = decided_value paddings.now.given paddings.now.calls.items in
-        IfOk result (λ fits. OnTrue fits (heights.new ≡ raised_by row_of (height_need padding) heights.old (cells_of (map texts_of rows.now)))) }
+        IfOk result (λ fits. OnTrue fits (heights.new ≡ raised_by row_of (height_need padding) heights.old (cells_of (map measures_of rows.now)))) }
 {
     for (row, cells) in rows.iter().enumerate() {
         if !raise_row(alloc, paddings, row, cells.as_slice(), widths, heights)? {
@@ -173,27 +188,27 @@ fn raise_row(
     alloc: Global,
     paddings: &EntityMap<Sides<Indent>>,
     row: usize,
-    cells: &[CowStr],
+    cells: &[(usize, usize)],
     widths: &mut [usize],
     heights: &mut [usize],
 ) -> Result<bool, AllocError>
     requires columns { length cells.now ≤ length widths.old }
     requires row { row < length heights.old }
     ensures fits { let padding = decided_value paddings.now.given paddings.now.calls.items in
-        IfOk result (λ fits. fits ≡ list_all (fits_in padding) (cells_of_row row 0 (map cow_str_bytes cells.now))) }
+        IfOk result (λ fits. fits ≡ list_all (fits_in padding) (cells_of_row row 0 cells.now)) }
     ensures widths { let padding = decided_value paddings.now.given paddings.now.calls.items in
-        IfOk result (λ fits. OnTrue fits (widths.new ≡ raised_by column_of (width_need padding) widths.old (cells_of_row row 0 (map cow_str_bytes cells.now)))) }
+        IfOk result (λ fits. OnTrue fits (widths.new ≡ raised_by column_of (width_need padding) widths.old (cells_of_row row 0 cells.now))) }
     ensures heights { let padding = decided_value paddings.now.given paddings.now.calls.items in
-        IfOk result (λ fits. OnTrue fits (heights.new ≡ raised_by row_of (height_need padding) heights.old (cells_of_row row 0 (map cow_str_bytes cells.now)))) }
+        IfOk result (λ fits. OnTrue fits (heights.new ≡ raised_by row_of (height_need padding) heights.old (cells_of_row row 0 cells.now))) }
 {
     let row_paddings = paddings.row(alloc, row)?;
-    for (col, text) in cells.iter().enumerate() {
+    for (col, cell) in cells.iter().enumerate() {
+        let (lines, width) = *cell;
         let padding = row_paddings.get(Position::new(row, col));
-        let text = text.as_str();
-        let Some(width) = need(width(text), padding.left, padding.right) else {
+        let Some(width) = need(width, padding.left, padding.right) else {
             return Ok(false);
         };
-        let Some(height) = need(height(text), padding.top, padding.bottom) else {
+        let Some(height) = need(lines, padding.top, padding.bottom) else {
             return Ok(false);
         };
         raise(widths, col, width);

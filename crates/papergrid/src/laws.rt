@@ -5,7 +5,7 @@ ghost use Rattle.papergrid_values.specs.declared.entity.Entity.{Entity};
 ghost use Rattle.papergrid_values.specs.declared.position.Position.{Position};
 ghost use Rattle.papergrid.specs.declared.entity_map.MapCall.{MapCall};
 ghost use Rattle.papergrid.specs.Calls.{decided_value};
-ghost use Rattle.papergrid.specs.Cells.{TableCell, cells_of};
+ghost use Rattle.papergrid.specs.Cells.{Measure, TableCell, cells_of, measured};
 ghost use Rattle.papergrid.specs.Decided.{IsDecided};
 ghost use Rattle.papergrid.specs.Grammar.{Said, entity_of, number_of, said, script_lines};
 ghost use Rattle.papergrid.specs.Rows.{WorkedRows};
@@ -58,15 +58,15 @@ pub fn script_by_lines()
 
 /// The cells of the rows, each with its place, are those that the rows have there.
 pub fn cells_by_place()
-    ensures there { (rows : List (List (List ℕ))) (cell : TableCell) → IsCellOf rows cell → Contains (cells_of rows) cell }
-    ensures only { (rows : List (List (List ℕ))) (cell : TableCell) → Contains (cells_of rows) cell → IsCellOf rows cell }
+    ensures there { (rows : List (List Measure)) (cell : TableCell) → IsCellOf rows cell → Contains (cells_of rows) cell }
+    ensures only { (rows : List (List Measure)) (cell : TableCell) → Contains (cells_of rows) cell → IsCellOf rows cell }
 {}
 
 /// A table is refused for its first cell at or past the column count, and else where the top needs of its
 /// columns, or of its rows, add up to more than fits 64 bits; else its sizes are the top needs, and each cell
 /// stands in the table and has room there.
 pub fn estimate_by_needs()
-    ensures out { (table : Table) (place : Position) → estimate_of table ≡ OutOfTable place → IsFirstOut table.columns table.rows place }
+    ensures out { (table : Table) (place : Position) → estimate_of table ≡ OutOfTable place → IsFirstOut table.columns (measured table.rows) place }
     ensures too_large { (table : Table) → estimate_of table ≡ TooLarge →
         (widths : List ℕ) × (heights : List ℕ) × AreSizes table widths heights × ((2 ^ 64 ≤ sum widths) ⊎ (2 ^ 64 ≤ sum heights)) }
     ensures sized { (table : Table) (widths heights : List ℕ) → estimate_of table ≡ Sized widths heights →

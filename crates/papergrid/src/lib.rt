@@ -4,7 +4,7 @@
 mod entity_map;
 mod estimate;
 pub mod laws;
-mod measure;
+mod measured;
 mod number;
 mod output;
 mod running;

@@ -2,13 +2,16 @@
 
 ghost use Rattle.std.specs.Prelude.{◌≡◌, ◌⊎◌, ℕ, take, true, false, IfOk, IfSome, OnOk, OnErr, IsErrOf};
 ghost use Rattle.std.specs.Io.KnownBytes.{Appends, Consumes, IsAtEnd, Keeps};
-ghost use Rattle.papergrid.specs.Outputs.{end_of, output_of};
+ghost use Rattle.papergrid.specs.Outputs.{end_of, estimate_end, estimate_text, output_of};
+ghost use Rattle.papergrid.specs.Seen.{table_seen};
+ghost use Rattle.papergrid.specs.Sizes.{estimate_of};
 ghost use Rattle.papergrid.specs.declared.running.RunFault.TheVariants.{Memory};
 
 use crate::estimate::{LayoutError, estimate};
 use crate::output::{bad_script_text, out_of_table_text, sizes_text, too_large_text};
-use crate::script::{ScriptError, read_script};
+use crate::script::{Script, ScriptError, read_script};
 use crate::transfer::{Failed, Sink, Source};
+use papergrid_text::IterRecords;
 use std::alloc::{AllocError, AllocFailed, Global};
 
 /// How a run ended that read its whole input and wrote its whole output.
@@ -96,14 +99,24 @@ fn answer(alloc: Global, input: &[u8]) -> Result<(RunEnd, Vec<u8>), AllocError>
     match read_script(alloc, input) {
         Err(ScriptError::Memory) => Err(AllocError),
         Err(ScriptError::Bad(number)) => Ok((RunEnd::BadScript, bad_script_text(alloc, number)?)),
-        Ok(script) => match estimate(alloc, &script) {
-            Err(LayoutError::Memory) => Err(AllocError),
-            Err(LayoutError::OutOfTable(position)) => {
-                Ok((RunEnd::Refused, out_of_table_text(alloc, position)?))
-            }
-            Err(LayoutError::TooLarge) => Ok((RunEnd::Refused, too_large_text(alloc)?)),
-            Ok(sizes) => Ok((RunEnd::Done, sizes_text(alloc, &sizes)?)),
-        },
+        Ok(script) => table_answer(alloc, &script),
+    }
+}
+
+/// How the run of a script ends, and what is written.
+fn table_answer(alloc: Global, script: &Script) -> Result<(RunEnd, Vec<u8>), AllocError>
+    ensures end { IfOk result (λ answer. answer.0 ≡ estimate_end (estimate_of (table_seen script.now))) }
+    ensures text { IfOk result (λ answer. answer.1.items ≡ estimate_text (estimate_of (table_seen script.now))) }
+{
+    let rows = script.rows.as_slice();
+    let records = IterRecords::new(rows, script.columns, Some(rows.len()));
+    match estimate(alloc, records, script.settings.as_slice()) {
+        Err(LayoutError::Memory) => Err(AllocError),
+        Err(LayoutError::OutOfTable(position)) => {
+            Ok((RunEnd::Refused, out_of_table_text(alloc, position)?))
+        }
+        Err(LayoutError::TooLarge) => Ok((RunEnd::Refused, too_large_text(alloc)?)),
+        Ok(sizes) => Ok((RunEnd::Done, sizes_text(alloc, &sizes)?)),
     }
 }
 

@@ -3,7 +3,7 @@ use lib.Utf8.{encode}
 use Rattle.std.specs.Fmt.{digits}
 use Rattle.std.specs.Str.{chars, is_utf8}
 use Rattle.unicode_width.specs.Width.{str_width, step, past_emoji}
-use Rattle.papergrid.specs.Texts.{unescaped, text_width, text_height}
+use Rattle.papergrid.specs.Texts.{unescaped}
 use Rattle.papergrid.specs.Grammar.{number_of, cell_entity, entity_of, sides_of, padding_of, keyword_says, text_says, said, script_lines}
 use Rattle.papergrid.specs.Calls.{decided_value}
 use Rattle.papergrid.specs.Scripts.{table_of}
@@ -12,7 +12,7 @@ use Rattle.papergrid.specs.Outputs.{output_of, end_of}
 use Rattle.papergrid.proofs.laws.worked_rows.Goals as goal
 
 pub returns : goal.returns
-unfolding output_of end_of table_of script_lines said text_says keyword_says padding_of sides_of entity_of cell_entity number_of unescaped chars is_utf8 encode estimate_of sizes_of decided_value text_width text_height str_width step past_emoji digits
+unfolding output_of end_of table_of script_lines said text_says keyword_says padding_of sides_of entity_of cell_entity number_of unescaped chars is_utf8 encode estimate_of sizes_of decided_value str_width step past_emoji digits
 returns c = record {
   first_run = record { written = refl; ended = refl };
   short_row = record { written = refl; ended = refl };
