@@ -1,5 +1,7 @@
 pub mod ColumnWidths
+pub mod Counted
 pub mod Held
+pub mod HeldRows
 pub mod Kept
 pub mod LinesLeft
 pub mod Measured

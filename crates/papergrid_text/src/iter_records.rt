@@ -2,6 +2,7 @@
 
 ghost use Rattle.std.specs.Prelude.{◌≡◌, ⊤};
 ghost use Rattle.std.specs.Borrow.{Bor};
+ghost use Rattle.papergrid_text.specs.Counted.{rows_iterated, counted, counted_rows, counted_columns, row_hint};
 ghost use Rattle.papergrid_text.specs.Records.{WalkIsShort, GivesRows};
 
 use crate::records::{IntoRecords, Records};
@@ -16,7 +17,7 @@ pub struct RowIter<I> {
 impl<I> RowIter<I> {
     /// The rows that the iterator gives. They are lawful where it ends and each of its items does.
     pub fn new(iter: I) -> RowIter<I>
-        ensures { result ≡ record { iter = iter } }
+        ensures { rows_iterated result ≡ iter }
     {
         RowIter { iter }
     }
@@ -33,9 +34,9 @@ where
 
     type IterRows = I;
 
-    ghost is_lawful = { λ s. WalkIsShort (λ w it. it ≡ w) I.can_next I.remaining I.next_gives (WalkIsShort I.Item.into_iter_gives I.Item.IntoIter.can_next I.Item.IntoIter.remaining I.Item.IntoIter.next_gives (λ _. ⊤)) s.iter };
+    ghost is_lawful = { λ s. WalkIsShort (λ w it. it ≡ w) I.can_next I.remaining I.next_gives (WalkIsShort I.Item.into_iter_gives I.Item.IntoIter.can_next I.Item.IntoIter.remaining I.Item.IntoIter.next_gives (λ _. ⊤)) (rows_iterated s) };
 
-    ghost tells = { λ s cells. GivesRows (λ w it. it ≡ w) I.next_gives I.Item.into_iter_gives I.Item.IntoIter.next_gives s.iter cells };
+    ghost tells = { λ s cells. GivesRows (λ w it. it ≡ w) I.next_gives I.Item.into_iter_gives I.Item.IntoIter.next_gives (rows_iterated s) cells };
 
     fn iter_rows(self) -> I {
         self.iter
@@ -53,7 +54,7 @@ pub struct IterRecords<I> {
 impl<I> IterRecords<I> {
     /// Records with this number of columns, and a number of rows where one is known.
     pub fn new(iter: I, count_columns: usize, count_rows: Option<usize>) -> IterRecords<I>
-        ensures { result ≡ record { iter = iter; count_columns = count_columns; count_rows = count_rows } }
+        ensures { result ≡ counted iter count_columns count_rows }
     {
         IterRecords {
             iter,
@@ -70,9 +71,9 @@ impl<I: IntoRecords + Drop> IntoRecords for IterRecords<I> {
 
     type IterRows = I::IterRows;
 
-    ghost is_lawful = { λ s. I.is_lawful s.iter };
+    ghost is_lawful = { λ s. I.is_lawful (counted_rows s) };
 
-    ghost tells = { λ s cells. I.tells s.iter cells };
+    ghost tells = { λ s cells. I.tells (counted_rows s) cells };
 
     fn iter_rows(self) -> I::IterRows {
         self.iter.iter_rows()
@@ -82,13 +83,13 @@ impl<I: IntoRecords + Drop> IntoRecords for IterRecords<I> {
 impl<I: IntoRecords + Drop> Records for IterRecords<I> {
     type Iter = I;
 
-    ghost is_lawful = { λ s. I.is_lawful s.iter };
+    ghost is_lawful = { λ s. I.is_lawful (counted_rows s) };
 
-    ghost tells = { λ s cells. I.tells s.iter cells };
+    ghost tells = { λ s cells. I.tells (counted_rows s) cells };
 
-    ghost columns = { λ s. s.count_columns };
+    ghost columns = { λ s. counted_columns s };
 
-    ghost hint = { λ s. s.count_rows };
+    ghost hint = { λ s. row_hint s };
 
     fn iter_rows(self) -> <I as IntoRecords>::IterRows {
         self.iter.iter_rows()
@@ -109,13 +110,13 @@ where
 {
     type Iter = &'a I;
 
-    ghost is_lawful = { λ s. (lent : Bor I) → lent.now ≡ s.now.iter → ⟦<&'a I as IntoRecords>⟧.is_lawful lent };
+    ghost is_lawful = { λ s. (lent : Bor I) → lent.now ≡ counted_rows s.now → ⟦<&'a I as IntoRecords>⟧.is_lawful lent };
 
-    ghost tells = { λ s cells. (lent : Bor I) × (lent.now ≡ s.now.iter) × ⟦<&'a I as IntoRecords>⟧.tells lent cells };
+    ghost tells = { λ s cells. (lent : Bor I) × (lent.now ≡ counted_rows s.now) × ⟦<&'a I as IntoRecords>⟧.tells lent cells };
 
-    ghost columns = { λ s. s.now.count_columns };
+    ghost columns = { λ s. counted_columns s.now };
 
-    ghost hint = { λ s. s.now.count_rows };
+    ghost hint = { λ s. row_hint s.now };
 
     fn iter_rows(self) -> <&'a I as IntoRecords>::IterRows {
         (&self.iter).iter_rows()

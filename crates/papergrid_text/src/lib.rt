@@ -1,4 +1,8 @@
 //! Texts, cells and records: what is measured, and where it comes from.
+//!
+//! `string` splits texts and measures them, in columns of a terminal. A `Cell` is a text with its lines
+//! and widths, and a `Text` a cell that was measured once. `Records` are rows of cells that are walked
+//! once; `PeekableRecords` are read by position.
 #![tactic(auto)]
 
 pub mod cell;

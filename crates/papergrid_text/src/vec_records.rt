@@ -2,6 +2,7 @@
 
 ghost use Rattle.std.specs.Prelude.{◌≡◌, map, length, ⊤, Some};
 ghost use Rattle.papergrid_text.specs.Held.{first_length};
+ghost use Rattle.papergrid_text.specs.HeldRows.{held, rows_held, row_count, column_count};
 
 use crate::cell::Cell;
 use crate::peekable::PeekableRecords;
@@ -22,7 +23,7 @@ pub struct VecRecords<T> {
 impl<T> VecRecords<T> {
     /// Records of these rows, with as many columns as the first row has cells, 0 where there is no row.
     pub fn new(rows: Vec<Vec<T>>) -> VecRecords<T>
-        ensures { result ≡ record { rows = rows; count_rows = length rows.items; count_cols = first_length rows.items } }
+        ensures { result ≡ held rows (length rows.items) (first_length rows.items) }
     {
         let count_cols = match rows.first() {
             Some(row) => row.len(),
@@ -34,7 +35,7 @@ impl<T> VecRecords<T> {
 
     /// Records of these rows, with these counts.
     pub fn with_size(rows: Vec<Vec<T>>, count_rows: usize, count_cols: usize) -> VecRecords<T>
-        ensures { result ≡ record { rows = rows; count_rows = count_rows; count_cols = count_cols } }
+        ensures { result ≡ held rows count_rows count_cols }
     {
         VecRecords {
             rows,
@@ -49,11 +50,11 @@ impl<T: Drop> Records for VecRecords<T> {
 
     ghost is_lawful = { λ _. ⊤ };
 
-    ghost tells = { λ s cells. cells ≡ map (λ row. row.items) s.rows.items };
+    ghost tells = { λ s cells. cells ≡ map (λ row. row.items) (rows_held s).items };
 
-    ghost columns = { λ s. s.count_cols };
+    ghost columns = { λ s. column_count s };
 
-    ghost hint = { λ s. Some s.count_rows };
+    ghost hint = { λ s. Some (row_count s) };
 
     fn iter_rows(self) -> Vec<Vec<T>> {
         let VecRecords {
@@ -78,11 +79,11 @@ impl<'a, T> Records for &'a VecRecords<T> {
 
     ghost is_lawful = { λ _. ⊤ };
 
-    ghost tells = { λ s cells. map (map (λ cell. cell.now)) cells ≡ map (λ row. row.items) s.now.rows.items };
+    ghost tells = { λ s cells. map (map (λ cell. cell.now)) cells ≡ map (λ row. row.items) (rows_held s.now).items };
 
-    ghost columns = { λ s. s.now.count_cols };
+    ghost columns = { λ s. column_count s.now };
 
-    ghost hint = { λ s. Some s.now.count_rows };
+    ghost hint = { λ s. Some (row_count s.now) };
 
     fn iter_rows(self) -> &'a [Vec<T>] {
         self.rows.as_slice().iter_rows()
@@ -98,7 +99,7 @@ impl<'a, T> Records for &'a VecRecords<T> {
 }
 
 impl<T> ExactRecords for VecRecords<T> {
-    ghost rows = { λ s. s.count_rows };
+    ghost rows = { λ s. row_count s };
 
     fn count_rows(&self) -> usize {
         self.count_rows
@@ -108,12 +109,13 @@ impl<T> ExactRecords for VecRecords<T> {
 impl<T: Cell> PeekableRecords for VecRecords<T> {
     ghost use Rattle.std.specs.Prelude.{◌≡◌, ◌<◌, [], length, slice_index_or, MatchOption};
     ghost use Rattle.papergrid_text.specs.Held.{HasCell, HoldsOfCell, cell_text};
+    ghost use Rattle.papergrid_text.specs.HeldRows.{rows_held};
 
-    ghost has = { λ s p. HasCell s.rows.items p.row p.col };
+    ghost has = { λ s p. HasCell (rows_held s).items p.row p.col };
 
-    ghost has_line = { λ s p n. HoldsOfCell (λ cell. n < length (T.lines cell)) s.rows.items p.row p.col };
+    ghost has_line = { λ s p n. HoldsOfCell (λ cell. n < length (T.lines cell)) (rows_held s).items p.row p.col };
 
-    ghost text = { λ s p. cell_text T.text s.rows.items p.row p.col };
+    ghost text = { λ s p. cell_text T.text (rows_held s).items p.row p.col };
 
     // The cells have lines and widths of their own.
     ghost is_plain = { λ _. ⊥ };
@@ -123,31 +125,31 @@ impl<T: Cell> PeekableRecords for VecRecords<T> {
     }
 
     fn get_line(&self, pos: Position, line: usize) -> &str
-        requires at { HasCell self.now.rows.items pos.row pos.col }
-        requires there { HoldsOfCell (λ cell. line < length (T.lines cell)) self.now.rows.items pos.row pos.col }
-        ensures { HoldsOfCell (λ cell. result.now ≡ (slice_index_or (T.lines cell) line ([], 0)).0) self.now.rows.items pos.row pos.col }
+        requires at { HasCell (rows_held self.now).items pos.row pos.col }
+        requires there { HoldsOfCell (λ cell. line < length (T.lines cell)) (rows_held self.now).items pos.row pos.col }
+        ensures { HoldsOfCell (λ cell. result.now ≡ (slice_index_or (T.lines cell) line ([], 0)).0) (rows_held self.now).items pos.row pos.col }
     {
         self.rows[pos.row][pos.col].line(line)
     }
 
     fn count_lines(&self, pos: Position) -> usize
-        requires { HasCell self.now.rows.items pos.row pos.col }
-        ensures { HoldsOfCell (λ cell. result ≡ length (T.lines cell)) self.now.rows.items pos.row pos.col }
+        requires { HasCell (rows_held self.now).items pos.row pos.col }
+        ensures { HoldsOfCell (λ cell. result ≡ length (T.lines cell)) (rows_held self.now).items pos.row pos.col }
     {
         self.rows[pos.row][pos.col].count_lines()
     }
 
     fn get_width(&self, pos: Position) -> usize
-        requires { HasCell self.now.rows.items pos.row pos.col }
-        ensures { HoldsOfCell (λ cell. result ≡ T.width cell) self.now.rows.items pos.row pos.col }
+        requires { HasCell (rows_held self.now).items pos.row pos.col }
+        ensures { HoldsOfCell (λ cell. result ≡ T.width cell) (rows_held self.now).items pos.row pos.col }
     {
         self.rows[pos.row][pos.col].width()
     }
 
     fn get_line_width(&self, pos: Position, line: usize) -> usize
-        requires at { HasCell self.now.rows.items pos.row pos.col }
-        requires there { HoldsOfCell (λ cell. line < length (T.lines cell)) self.now.rows.items pos.row pos.col }
-        ensures { HoldsOfCell (λ cell. result ≡ (slice_index_or (T.lines cell) line ([], 0)).1) self.now.rows.items pos.row pos.col }
+        requires at { HasCell (rows_held self.now).items pos.row pos.col }
+        requires there { HoldsOfCell (λ cell. line < length (T.lines cell)) (rows_held self.now).items pos.row pos.col }
+        ensures { HoldsOfCell (λ cell. result ≡ (slice_index_or (T.lines cell) line ([], 0)).1) (rows_held self.now).items pos.row pos.col }
     {
         self.rows[pos.row][pos.col].line_width(line)
     }
@@ -156,7 +158,7 @@ impl<T: Cell> PeekableRecords for VecRecords<T> {
 impl<T> Deref for VecRecords<T> {
     type Target = Vec<Vec<T>>;
 
-    ghost deref_gives = { λ s r. r ≡ s.rows };
+    ghost deref_gives = { λ s r. r ≡ rows_held s };
 
     fn deref(&self) -> &Vec<Vec<T>> {
         &self.rows
@@ -167,21 +169,22 @@ impl<T> Deref for VecRecords<T> {
 impl<T> DerefMut for VecRecords<T> {
     ghost use Rattle.std.specs.Prelude.{◌≡◌};
     ghost use Rattle.std.specs.Borrow.{Lends, sem};
+    ghost use Rattle.papergrid_text.specs.HeldRows.{rows_held, with_rows};
     ghost use Rattle.papergrid_text.specs.Rows.{rows_row};
     ghost use Rattle.papergrid_text.specs.contracts.vec_records.VecRecords.{the_row};
 
-    ghost deref_mut_gives = { λ s r. r ≡ s.rows };
+    ghost deref_mut_gives = { λ s r. r ≡ rows_held s };
 
     fn deref_mut(&mut self) -> &mut Vec<Vec<T>>
-        ensures* writes_back { sem 𝓛 (Lends (the_row T.row) (rows_row T.row) self.entry result (λ v. record self.old { rows = v })) }
-        ensures shows { result.now ≡ self.old.rows }
+        ensures* writes_back { sem 𝓛 (Lends (the_row T.row) (rows_row T.row) self.entry result (with_rows self.old)) }
+        ensures shows { result.now ≡ rows_held self.old }
     {
         &mut self.rows
     }
 }
 
 impl<T: Drop> From<VecRecords<T>> for Vec<Vec<T>> {
-    ghost from_gives = { λ s r. r ≡ s.rows };
+    ghost from_gives = { λ s r. r ≡ rows_held s };
 
     fn from(records: VecRecords<T>) -> Vec<Vec<T>> {
         let VecRecords {
@@ -194,7 +197,7 @@ impl<T: Drop> From<VecRecords<T>> for Vec<Vec<T>> {
 }
 
 impl<T> From<Vec<Vec<T>>> for VecRecords<T> {
-    ghost from_gives = { λ rows r. r ≡ record { rows = rows; count_rows = length rows.items; count_cols = first_length rows.items } };
+    ghost from_gives = { λ rows r. r ≡ held rows (length rows.items) (first_length rows.items) };
 
     fn from(rows: Vec<Vec<T>>) -> VecRecords<T> {
         VecRecords::new(rows)

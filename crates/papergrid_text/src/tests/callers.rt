@@ -2,6 +2,8 @@
 
 ghost use Rattle.std.specs.Prelude.{◌≡◌, map, IfOk, string_bytes};
 ghost use Rattle.papergrid_text.specs.ColumnWidths.{greatest_widths};
+ghost use Rattle.papergrid_text.specs.Counted.{counted_rows, counted_columns};
+ghost use Rattle.papergrid_text.specs.HeldRows.{rows_held, column_count};
 ghost use Rattle.papergrid_text.specs.Text.{text_width};
 
 use crate::iter_records::{IterRecords, RowIter};
@@ -58,7 +60,7 @@ pub fn of_nested(
     records: IterRecords<Vec<Vec<String>>>,
     columns: usize,
 ) -> Result<Vec<usize>, AllocError>
-    ensures { IfOk result (λ widths. widths.items ≡ greatest_widths columns (map (λ row. map (λ cell. text_width (string_bytes cell)) row.items) records.iter.items)) }
+    ensures { IfOk result (λ widths. widths.items ≡ greatest_widths columns (map (λ row. map (λ cell. text_width (string_bytes cell)) row.items) (counted_rows records).items)) }
 {
     widest(alloc, IterRecords::new(records, columns, None))
 }
@@ -67,13 +69,13 @@ pub fn of_lent_records(
     alloc: Global,
     records: &IterRecords<Vec<Vec<String>>>,
 ) -> Result<Vec<usize>, AllocError>
-    ensures { IfOk result (λ widths. widths.items ≡ greatest_widths records.now.count_columns (map (λ row. map (λ cell. text_width (string_bytes cell)) row.items) records.now.iter.items)) }
+    ensures { IfOk result (λ widths. widths.items ≡ greatest_widths (counted_columns records.now) (map (λ row. map (λ cell. text_width (string_bytes cell)) row.items) (counted_rows records.now).items)) }
 {
     widest(alloc, records)
 }
 
 pub fn of_held(alloc: Global, records: &VecRecords<String>) -> Result<Vec<usize>, AllocError>
-    ensures { IfOk result (λ widths. widths.items ≡ greatest_widths records.now.count_cols (map (λ row. map (λ cell. text_width (string_bytes cell)) row.items) records.now.rows.items)) }
+    ensures { IfOk result (λ widths. widths.items ≡ greatest_widths (column_count records.now) (map (λ row. map (λ cell. text_width (string_bytes cell)) row.items) (rows_held records.now).items)) }
 {
     widest(alloc, records)
 }

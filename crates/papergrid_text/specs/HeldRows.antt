@@ -1,0 +1,22 @@
+-- What is shown of a `VecRecords`.
+use Rattle.std.specs.Prelude.{ℕ, Vec}
+use Rattle.std.specs.declared.alloc.Global.{Global}
+use Rattle.papergrid_text.specs.declared.vec_records.VecRecords.{VecRecords}
+
+module _ {T : Type 0} where
+  -- records that hold these rows, and tell these counts
+  abbrev pub held : Vec (Vec T Global) Global → ℕ → ℕ → VecRecords T
+  held rows row_count column_count = record { rows = rows; count_rows = row_count; count_cols = column_count }
+
+  abbrev pub rows_held : VecRecords T → Vec (Vec T Global) Global
+  rows_held r = r.rows
+
+  abbrev pub row_count : VecRecords T → ℕ
+  row_count r = r.count_rows
+
+  abbrev pub column_count : VecRecords T → ℕ
+  column_count r = r.count_cols
+
+  -- the same counts with other rows
+  abbrev pub with_rows : VecRecords T → Vec (Vec T Global) Global → VecRecords T
+  with_rows r rows = record r { rows = rows }
