@@ -1,6 +1,6 @@
 -- Sizes that are raised to one need after another are the greatest needs.
 use Rattle.std.proofs.Common.{◌≡◌, ◌⊎◌, ◌≤◌, ◌<◌, ◌+◌, ◌^◌, ◌&&◌, ◌||◌, ◌++◌, ◌∷◌, [], ℕ, zero, suc, List, Bool, true, false, Some, None, map, length, take, drop, get_or, refl, sym, ap, ◌∙◌, subst, arith, inl, inr, nat_lt, nat_le, nat_eq}
-use Rattle.std.specs.Prelude.{max, sum, filter, replicate}
+use Rattle.std.specs.Prelude.{Result, Ok, Err, max, sum, filter, replicate}
 use Rattle.std.specs.List.{list_all, range_with_len}
 use Rattle.std.proofs.lemmas.Bool.Decides.{nat_tests}
 use Rattle.std.proofs.lemmas.List.{get_or-set_same, get_or-set_other, length-set, length-replicate, get_or-replicate}
@@ -11,13 +11,17 @@ use Rattle.std.proofs.lemmas.List.Sums.{AllPass-from_list_all}
 use Rattle.std.proofs.lemmas.Option.{none-some}
 use Rattle.std.proofs.Math.Seq.{take-append_seam}
 use borrow.Author.Tests.{eqb-true, eqb-false, ltb-true, ltb-false}
+use Rattle.papergrid.specs.declared.estimate.Sizes.{Sizes}
+use Rattle.papergrid.specs.declared.estimate.LayoutError.{LayoutError}
+use Rattle.papergrid.specs.declared.estimate.LayoutError.TheVariants as layout_errors
 use Rattle.papergrid_values.specs.declared.position.Position.{Position}
 use Rattle.papergrid_values.specs.declared.indent.Indent.{Indent}
 use Rattle.papergrid_values.specs.declared.sides.Sides.{Sides}
 use Rattle.papergrid.specs.Cells.{Measure, TableCell, measured, cells_of_row, cells_from, cells_of}
 use Rattle.papergrid.specs.Raising.{raised, raised_by, fits_in}
-use Rattle.papergrid.specs.Sizes.{OutOfTable, TooLarge, Sized, sizes_of, first_out, column_of, row_of, width_need, height_need, widths_of, heights_of, unless_out, estimate_of, greatest}
+use Rattle.papergrid.specs.Sizes.{Estimate, OutOfTable, TooLarge, Sized, sizes_of, first_out, column_of, row_of, width_need, height_need, widths_of, heights_of, unless_out, estimate_of, greatest}
 use Rattle.papergrid.specs.Scripts.{Table}
+use Rattle.papergrid.specs.Seen.{GivesEstimate}
 
 and_true : (a b : Bool) → a && b ≡ true → (a ≡ true) × (b ≡ true)
 and_true true b h = (refl, h)
@@ -200,3 +204,10 @@ pub estimate-sized : (table : Table) → None ≡ first_out table.columns (cells
     → estimate_of table ≡ Sized (widths_of table) (heights_of table)
 unfolding estimate_of
 estimate-sized table none narrow low = ap (λ o. unless_out o (widths_of table) (heights_of table)) (sym none) ∙ sized (widths_of table) (heights_of table) narrow low
+
+-- an estimate that is so is also what follows from it
+pub gives_also : (result : Result Sizes LayoutError) (IsSo IsAlso : Estimate → Type 0) → ((e : Estimate) → IsSo e → IsAlso e) → GivesEstimate result IsSo → GivesEstimate result IsAlso
+gives_also (Ok sizes) IsSo IsAlso follows so = follows _ so
+gives_also (Err (layout_errors.OutOfTable place)) IsSo IsAlso follows so = follows _ so
+gives_also (Err layout_errors.TooLarge) IsSo IsAlso follows so = follows _ so
+gives_also (Err layout_errors.Memory) IsSo IsAlso follows so = so

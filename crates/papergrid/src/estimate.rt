@@ -57,7 +57,11 @@ impl<T: Drop> From<AllocFailed<T>> for LayoutError {
 }
 
 /// The sizes of the table of these records, by these settings.
-pub fn estimate<R: Records + Drop>(alloc: Global, records: R, settings: &[Setting]) -> Result<Sizes, LayoutError>
+pub fn estimate<R: Records + Drop>(
+    alloc: Global,
+    records: R,
+    settings: &[Setting],
+) -> Result<Sizes, LayoutError>
 where
     <<R as Records>::Iter as IntoRecords>::Cell: AsStr + Drop,
     requires lawful { R.is_lawful records }

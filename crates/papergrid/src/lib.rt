@@ -27,7 +27,31 @@ pub mod ansi {
 /// What settings are made of.
 pub mod config {
     pub use papergrid_values::{
-        AlignmentHorizontal, AlignmentVertical, Border, Borders, Entity, EntityIterator, Formatting, HorizontalLine,
-        Indent, Offset, Position, Sides, VerticalLine,
+        AlignmentHorizontal, AlignmentVertical, Border, Borders, Entity, EntityIterator,
+        Formatting, HorizontalLine, Indent, Offset, Position, Sides, VerticalLine,
     };
+}
+
+/// Rows of cells.
+pub mod records {
+    pub use papergrid_text::{
+        ExactRecords, IntoRecords, IterRecords, PeekableRecords, Records, RowIter,
+    };
+
+    /// Rows of cells that are held.
+    pub mod vec_records {
+        pub use papergrid_text::{Cell, StrWithWidth, Text, VecRecords};
+    }
+}
+
+/// What helps with texts.
+pub mod util {
+    /// The measures of texts, their lines and their tabs.
+    pub mod string {
+        pub use papergrid_text::Lines;
+        pub use papergrid_text::string::{
+            count_lines, count_tabs, get_char_width, get_line_width, get_lines, get_string_width,
+            get_text_dimension, get_text_width, replace_tab,
+        };
+    }
 }

@@ -12,7 +12,10 @@ use std::convert::AsStr;
 use std::iter::{IntoIterator, Iterator};
 
 /// The number of lines and the width of each cell, row by row.
-pub fn measured<R: Records + Drop>(alloc: Global, records: R) -> Result<Vec<Vec<(usize, usize)>>, AllocError>
+pub fn measured<R: Records + Drop>(
+    alloc: Global,
+    records: R,
+) -> Result<Vec<Vec<(usize, usize)>>, AllocError>
 where
     <<R as Records>::Iter as IntoRecords>::Cell: AsStr + Drop,
     requires { R.is_lawful records }

@@ -1,6 +1,6 @@
 use Rattle.std.proofs.Common.{◌≤◌, ◌<◌, ◌+◌, Some, length, ap, sym, ◌∙◌, subst, arith, ◌++◌, ◌∷◌, [], take}
 use Rattle.std.specs.Prelude.{All}
-use Rattle.std.proofs.lemmas.List.{length-map, take_all, take_more}
+use Rattle.std.proofs.lemmas.List.{take_all, take_more}
 use Rattle.std.proofs.lemmas.List.Elements.{All-push}
 use Rattle.papergrid.specs.Seen.{measures_of}
 use Rattle.papergrid.specs.Sizes.{first_out}

@@ -1,4 +1,3 @@
-use Rattle.std.proofs.Common.{map, ap}
 use Rattle.papergrid.specs.Calls.{decided_value}
 use Rattle.papergrid.specs.Raising.{fits_in}
 use Rattle.papergrid.specs.Seen.{measures_of}

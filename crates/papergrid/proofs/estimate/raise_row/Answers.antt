@@ -1,4 +1,5 @@
-use Rattle.std.proofs.Common.{◌<◌, ◌^◌, arith, refl, ap, ◌∙◌}
+use Rattle.std.proofs.Common.{◌<◌, ◌^◌, get_or, arith, refl, ap, ◌∙◌}
+use Rattle.std.proofs.lemmas.List.{get_or_default}
 use Rattle.papergrid.specs.Calls.{decided_value}
 use Rattle.papergrid.specs.Raising.{fits_in}
 use Rattle.papergrid.specs.Sizes.{column_of, row_of, height_need, width_need}
@@ -6,21 +7,27 @@ use Rattle.papergrid.proofs.CellLemmas.{cell_at, row_goes, row_raises, row_stops
 use Rattle.papergrid.proofs.estimate.raise_row.Goals as goal
 
 pub returns-in_default-clause-fits : goal.returns-in_default-clause-fits
-returns-in_default-clause-fits c = ?
+returns-in_default-clause-fits c =
+    let padding = decided_value c.args.paddings.now.given c.args.paddings.now.calls.items in
+    let cell = cell_at c.args.row c.loop-col.col (get_or c.args.cells.now c.loop-col.col (0, 0)) in
+    let sides = c.get-padding.ensures ∙ ap (decided_value c.in_ok-row_paddings.row_paddings.given c.in_ok-row_paddings.row_paddings.calls.items) c.new.ensures
+    ∙ c.in_ok-row_paddings.ensures c.loop-col.col in
+    let need = wide_need padding cell.place cell.measure _ c.get-padding.result sides refl in
+    row_stops (fits_in padding) _ _ _ _ _ c.loop-col-test.true (get_or_default c.args.cells.now c.loop-col.col _ _ c.loop-col-test.true) (too_wide padding cell _ need c.in_default.ensures) c.loop-col.invariant.fits
 
 pub returns-in_default-need-clause-fits : goal.returns-in_default-need-clause-fits
 returns-in_default-need-clause-fits c =
     let padding = decided_value c.args.paddings.now.given c.args.paddings.now.calls.items in
-    let cell = cell_at c.args.row c.loop-col.col c.index-cells-col.result in
+    let cell = cell_at c.args.row c.loop-col.col (get_or c.args.cells.now c.loop-col.col (0, 0)) in
     let sides = c.get-padding.ensures ∙ ap (decided_value c.in_ok-row_paddings.row_paddings.given c.in_ok-row_paddings.row_paddings.calls.items) c.new.ensures
     ∙ c.in_ok-row_paddings.ensures c.loop-col.col in
     let need = high_need padding cell.place cell.measure _ c.get-padding.result sides refl in
-    row_stops (fits_in padding) _ _ _ _ _ c.loop-col-test.true c.index-cells-col.is (too_high padding cell _ need c.in_default-need.ensures) c.loop-col.invariant.fits
+    row_stops (fits_in padding) _ _ _ _ _ c.loop-col-test.true (get_or_default c.args.cells.now c.loop-col.col _ _ c.loop-col-test.true) (too_high padding cell _ need c.in_default-need.ensures) c.loop-col.invariant.fits
 
 pub loop-col-preserved : goal.loop-col-preserved
 loop-col-preserved c =
     let padding = decided_value c.args.paddings.now.given c.args.paddings.now.calls.items in
-    let cell = cell_at c.args.row c.loop-col.col c.index-cells-col.result in
+    let cell = cell_at c.args.row c.loop-col.col (get_or c.args.cells.now c.loop-col.col (0, 0)) in
     let sides = c.get-padding.ensures ∙ ap (decided_value c.in_ok-row_paddings.row_paddings.given c.in_ok-row_paddings.row_paddings.calls.items) c.new.ensures
     ∙ c.in_ok-row_paddings.ensures c.loop-col.col in
     let width = wide_need padding cell.place cell.measure c.in-Some.width c.get-padding.result sides c.in-Some.ensures.1 in
@@ -29,7 +36,7 @@ loop-col-preserved c =
     let low : c.in-Some-need.height < 2 ^ 64 = omega (arith, c.in-Some-need.ensures.0, c.in-Some-need.ensures.1) in
     let fit = both_fit padding cell _ _ width height narrow low in
     record {
-      fits = row_goes (fits_in padding) _ _ _ _ _ c.loop-col-test.true c.index-cells-col.is fit c.loop-col.invariant.fits;
-      widths = row_raises column_of (width_need padding) _ _ _ _ _ _ _ _ c.loop-col-test.true c.index-cells-col.is width c.raise.ensures c.loop-col.invariant.widths;
-      heights = row_raises row_of (height_need padding) _ _ _ _ _ _ _ _ c.loop-col-test.true c.index-cells-col.is height c.raise-in-loop-col.ensures c.loop-col.invariant.heights;
+      fits = row_goes (fits_in padding) _ _ _ _ _ c.loop-col-test.true (get_or_default c.args.cells.now c.loop-col.col _ _ c.loop-col-test.true) fit c.loop-col.invariant.fits;
+      widths = row_raises column_of (width_need padding) _ _ _ _ _ _ _ _ c.loop-col-test.true (get_or_default c.args.cells.now c.loop-col.col _ _ c.loop-col-test.true) width c.raise.ensures c.loop-col.invariant.widths;
+      heights = row_raises row_of (height_need padding) _ _ _ _ _ _ _ _ c.loop-col-test.true (get_or_default c.args.cells.now c.loop-col.col _ _ c.loop-col-test.true) height c.raise-in-loop-col.ensures c.loop-col.invariant.heights;
     }

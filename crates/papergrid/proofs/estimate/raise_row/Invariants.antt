@@ -1,4 +1,4 @@
-use Rattle.std.proofs.Common.{◌≡◌, drop, map}
+use Rattle.std.proofs.Common.{◌≡◌, drop}
 use Rattle.std.specs.List.{list_all}
 use Rattle.papergrid.specs.Calls.{decided_value}
 use Rattle.papergrid.specs.Cells.{cells_of_row}

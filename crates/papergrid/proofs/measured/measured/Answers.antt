@@ -26,10 +26,10 @@ loop-row-preserved g c =
         so_far.0 ++ row.0 ∷ [],
         zip_more _ c.loop-row.yielded so_far.0 c.in-Some.row row.0 so_far.1 row.1,
         ap (map measures_of) c.in_ok-push.ensures.items
-        ∙ map_push measures_of c.loop-row.rows.items c.in_ok-measures.measures
-        ∙ ap (λ ms. ms ++ measures_of c.in_ok-measures.measures ∷ []) so_far.2
-        ∙ ap (λ m. map (map (λ cell. text_dimension (g.R.Iter.Cell.AsStr.text cell))) so_far.0 ++ m ∷ []) row.2
-        ∙ sym (map_push (map (λ cell. text_dimension (g.R.Iter.Cell.AsStr.text cell))) so_far.0 row.0),
+            ∙ map_push measures_of c.loop-row.rows.items c.in_ok-measures.measures
+            ∙ ap (λ ms. ms ++ measures_of c.in_ok-measures.measures ∷ []) so_far.2
+            ∙ ap (λ m. map (map (λ cell. text_dimension (g.R.Iter.Cell.AsStr.text cell))) so_far.0 ++ m ∷ []) row.2
+            ∙ sym (map_push (map (λ cell. text_dimension (g.R.Iter.Cell.AsStr.text cell))) so_far.0 row.0),
       ),
     )
 

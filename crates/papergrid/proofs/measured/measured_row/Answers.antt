@@ -15,9 +15,9 @@ loop-cell-preserved g c =
       goes.0,
       goes.1,
       c.in_ok-push.ensures.items
-      ∙ ap (λ ms. ms ++ c.get_text_dimension.result ∷ []) c.loop-cell.invariant.2
-      ∙ ap (λ m. map (λ cell. text_dimension (g.W.Item.AsStr.text cell)) c.loop-cell.yielded ++ m ∷ []) measure
-      ∙ sym (map-append (λ cell. text_dimension (g.W.Item.AsStr.text cell)) c.loop-cell.yielded (c.in-Some.cell ∷ [])),
+          ∙ ap (λ ms. ms ++ c.get_text_dimension.result ∷ []) c.loop-cell.invariant.2
+          ∙ ap (λ m. map (λ cell. text_dimension (g.W.Item.AsStr.text cell)) c.loop-cell.yielded ++ m ∷ []) measure
+          ∙ sym (map-append (λ cell. text_dimension (g.W.Item.AsStr.text cell)) c.loop-cell.yielded (c.in-Some.cell ∷ [])),
     )
 
 pub returns : goal.returns
