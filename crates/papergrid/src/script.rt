@@ -1,6 +1,6 @@
 //! A whole script: its column count, its settings and its rows.
 
-ghost use Rattle.std.specs.Prelude.{◌≡◌, IfOk, Some, None, MatchBool, option_and_then};
+ghost use Rattle.std.specs.Prelude.{◌≡◌, [], IfOk, Some, None, MatchBool, option_and_then};
 ghost use Rattle.papergrid.specs.declared.script.ScriptError.TheVariants.{Memory};
 ghost use Rattle.papergrid.specs.Grammar.{said, without_cr};
 ghost use Rattle.papergrid.specs.Scripts.{table_of, with_line};
@@ -103,11 +103,25 @@ fn obey<'a>(
         ScriptLine::Empty => {}
         ScriptLine::Columns(count) => script.columns = count,
         ScriptLine::Set(setting) => script.settings.push(setting)?,
-        ScriptLine::Row => script.rows.push(Vec::new(alloc))?,
+        ScriptLine::Row => {
+            let row = next_row(alloc, script.rows.as_slice())?;
+            script.rows.push(row)?;
+        }
         ScriptLine::Cell(text) => match script.rows.last_mut() {
             None => return Ok(false),
             Some(row) => row.push(text)?,
         },
     }
     Ok(true)
+}
+
+/// A row without cells, with room for as many as the last row has.
+fn next_row<'a>(alloc: Global, rows: &[Vec<CowStr<'a>>]) -> Result<Vec<CowStr<'a>>, AllocError>
+    ensures { IfOk result (λ row. row.items ≡ []) }
+{
+    let count = match rows.last() {
+        Some(row) => row.len(),
+        None => 0,
+    };
+    Vec::with_capacity(alloc, count)
 }

@@ -5,8 +5,8 @@ use Rattle.papergrid.proofs.measured.measured_row.Goals as goal
 
 pub loop-cell-init : goal.loop-cell-init
 loop-cell-init g c =
-    let short = c.requires c.into_iter-cell-iterator.result c.into_iter-cell-iterator.ensures.into_iter_gives in
-    (short.may_start, short.ends, c.new-measures.ensures.items)
+    let short = c.requires.short c.into_iter-cell-iterator.result c.into_iter-cell-iterator.ensures.into_iter_gives in
+    (short.may_start, short.ends, c.requires.empty)
 
 pub loop-cell-preserved : goal.loop-cell-preserved
 loop-cell-preserved g c =
