@@ -1,0 +1,4 @@
+pub mod Keys
+pub mod MapCalls
+pub mod MapEq
+pub mod MapHeld

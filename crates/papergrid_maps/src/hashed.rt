@@ -1,0 +1,26 @@
+//! Single steps on hashed maps, told by what each key has.
+
+ghost use Rattle.std.specs.Prelude.{◌≡◌, ◌+◌, ◌<◌, ◌≤◌, Some, None};
+ghost use Rattle.std.specs.HashMap.{spare, Updates};
+
+use std::collections::HashMap;
+use std::hash::Hash;
+
+/// Writes a value where there is room, so that memory cannot be refused.
+pub(crate) fn put<K: Eq + Hash + Drop, T: Drop>(map: &mut HashMap<K, T>, key: K, value: T)
+    requires room { 0 < spare map.old }
+    ensures updates { Updates K.eq map.old map.new key (Some value) }
+    ensures spare { spare map.old ≤ spare map.new + 1 }
+{
+    match map.insert(key, value) {
+        Ok(_) => {}
+        Err(_) => unreachable!(),
+    }
+}
+
+/// Drops what a key has.
+pub(crate) fn take<K: Eq + Hash + Copy, T: Drop>(map: &mut HashMap<K, T>, key: K)
+    ensures { Updates K.eq map.old map.new key None }
+{
+    let _ = map.remove(&key);
+}

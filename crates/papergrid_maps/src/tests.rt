@@ -1,0 +1,145 @@
+//! Worked examples, each call run once, and refused memory.
+
+ghost use Rattle.std.specs.Prelude.{◌≡◌};
+
+use crate::{EntityMap, MapCall, Stopped};
+use papergrid_values::{Entity, Position};
+use std::alloc::{AllocError, Global};
+use std::process::Abort;
+use std::test::Fail;
+
+fn at(row: usize, col: usize) -> Position
+    ensures { result ≡ record { row = row; col = col } }
+{
+    Position::new(row, col)
+}
+
+// The cell's pin, then its row, its column and the cell's own removal.
+fn pinned(alloc: Global) -> Result<EntityMap<char>, AllocError> {
+    let mut map = EntityMap::new(alloc, 'g');
+    map.insert(Entity::Cell(0, 0), 'a')?;
+    map.insert(Entity::Row(0), 'b')?;
+    map.insert(Entity::Column(0), 'c')?;
+    map.remove(Entity::Cell(0, 0));
+    Ok(map)
+}
+
+#[test]
+fn older_pin_under_later_row(rt: HostRuntime) -> Result<(), Fail> {
+    let mut map = EntityMap::new(rt.alloc(), 'g');
+    map.insert(Entity::Cell(0, 0), 'a')?;
+    map.insert(Entity::Row(0), 'b')?;
+    assert_eq!(rt; *map.get(at(0, 0)), 'a');
+    map.insert(Entity::Column(0), 'c')?;
+    assert_eq!(rt; *map.get(at(0, 0)), 'c');
+    map.remove(Entity::Cell(0, 0));
+    assert_eq!(rt; *map.get(at(0, 0)), 'c');
+    assert!(rt; map == pinned(rt.alloc())?);
+    Ok(())
+}
+
+#[test]
+fn remove_column_keeps_value(rt: HostRuntime) -> Result<(), Fail> {
+    let calls = vec![in rt.alloc();
+        MapCall::Insert(Entity::Column(1), 'c'),
+        MapCall::Insert(Entity::Cell(0, 1), 'x'),
+        MapCall::Remove(Entity::Column(1)),
+    ]?;
+    let mut map = EntityMap::new(rt.alloc(), 'g');
+    assert!(rt; map.is_empty());
+    assert!(rt; map.apply_all(calls).is_ok());
+    assert_eq!(rt; *map.get(at(0, 1)), 'c');
+    assert_eq!(rt; *map.get(at(0, 0)), 'g');
+    assert!(rt; !map.is_empty());
+    map.remove(Entity::Global);
+    assert_eq!(rt; *map.get(at(0, 1)), 'g');
+    assert!(rt; map.is_empty());
+    Ok(())
+}
+
+#[test]
+fn into_map(rt: HostRuntime) -> Result<(), Fail> {
+    let all = pinned(rt.alloc())?.into_map()?;
+    assert_eq!(rt; all.get(&Entity::Global), Some(&'g'));
+    assert_eq!(rt; all.get(&Entity::Row(0)), Some(&'b'));
+    assert_eq!(rt; all.get(&Entity::Column(0)), Some(&'c'));
+    assert_eq!(rt; all.len(), 3);
+    Ok(())
+}
+
+#[test]
+fn held_values(rt: HostRuntime) -> Result<(), Fail> {
+    let map = pinned(rt.alloc())?;
+    assert_eq!(rt; *map.as_ref(), 'g');
+    assert!(rt; map.any_held(|value| *value == 'g'));
+    assert!(rt; map.any_held(|value| *value == 'b'));
+    assert!(rt; map.any_held(|value| *value == 'c'));
+    assert!(rt; !map.any_held(|value| *value == 'a'));
+    let copy = map.clone()?;
+    assert!(rt; copy == map);
+    let mut other = map.clone()?;
+    other.remove(Entity::Column(0));
+    assert!(rt; other == map);
+    other.insert(Entity::Cell(3, 4), 'x')?;
+    assert!(rt; !(other == map));
+    Ok(())
+}
+
+// Each of its requests for memory may be refused: then the map is as it was.
+fn inserts_or_keeps(
+    rt: &impl Abort,
+    map: &mut EntityMap<char>,
+    copy: &EntityMap<char>,
+    entity: Entity,
+    place: Position,
+) {
+    match map.insert(entity, 'n') {
+        Ok(()) => assert_eq!(rt; *map.get(place), 'n'),
+        Err(_) => assert!(rt; *map == *copy),
+    }
+}
+
+fn grown(alloc: Global) -> Result<EntityMap<char>, AllocError> {
+    let mut map = EntityMap::new(alloc, 'g');
+    for i in 0..14 {
+        map.insert(Entity::Column(i), 'c')?;
+        map.insert(Entity::Row(i), 'r')?;
+    }
+    Ok(map)
+}
+
+#[test]
+fn refused_insert(rt: HostRuntime) {
+    for entity in [Entity::Column(20), Entity::Row(20), Entity::Cell(20, 20)] {
+        let (Ok(mut map), Ok(copy)) = (grown(rt.alloc()), grown(rt.alloc())) else {
+            return;
+        };
+        let place = match entity {
+            Entity::Column(col) => at(5, col),
+            Entity::Row(row) => at(row, 5),
+            _ => at(20, 20),
+        };
+        inserts_or_keeps(&rt, &mut map, &copy, entity, place);
+        assert!(rt; map.insert(Entity::Global, 'z').is_ok());
+        assert!(rt; map.is_empty());
+    }
+}
+
+#[test]
+fn refused_calls(rt: HostRuntime) {
+    let mut map = EntityMap::new(rt.alloc(), 'g');
+    let Ok(calls) = vec![in rt.alloc();
+        MapCall::Insert(Entity::Row(1), 'r'),
+        MapCall::Insert(Entity::Column(1), 'c'),
+        MapCall::Insert(Entity::Cell(2, 2), 'x'),
+    ] else {
+        return;
+    };
+    let done = match map.apply_all(calls) {
+        Ok(()) => 3,
+        Err(Stopped { done }) => done,
+    };
+    assert_eq!(rt; *map.get(at(1, 0)), if done > 0 { 'r' } else { 'g' });
+    assert_eq!(rt; *map.get(at(0, 1)), if done > 1 { 'c' } else { 'g' });
+    assert_eq!(rt; *map.get(at(2, 2)), if done > 2 { 'x' } else { 'g' });
+}
