@@ -1,8 +1,12 @@
 pub mod AnyHeld
+pub mod AnyLemmas
+pub mod EqualLemmas
 pub mod IntoMap
 pub mod KeyLemmas
-pub mod MapEqLemmas
 pub mod MapHeldLemmas
 pub mod MapSteps
 pub mod MapTold
+pub mod SpanScans
+pub mod SpanTold
+pub mod SpanVisible
 pub mod WrittenCopies

@@ -3,7 +3,8 @@ use Rattle.std.proofs.Common.{◌≡◌, ℕ, Bool, true, false, cond, ◌&&◌,
 use Rattle.std.specs.Prelude.{◌↔◌, IsTrue, is_some}
 use Rattle.std.specs.Cmp.{IsEquivalence, nat_eq_equiv}
 use Rattle.std.proofs.lemmas.Bool.{and_parts, and_from, false≢true}
-use Rattle.std.specs.Prelude.{unwrap_or, reverse, Result, Ok, Err, OnErr, OnOk}
+use Rattle.std.specs.Prelude.{unwrap_or, reverse, Result, Ok, Err, OnErr, OnOk, IfOk}
+use Rattle.std.specs.Result.{MatchResult}
 use Rattle.std.specs.Map.{lookup}
 use Rattle.std.specs.FinMap.{get, from_entries}
 use Rattle.papergrid_maps.specs.Keys.{position_cmp, position_eq}
@@ -75,6 +76,10 @@ on_err (Err e) p = p
 pub on_ok_map : {A E : Type 0} (r : Result A E) {P Q : Type 0} → (P → Q) → OnOk r P → OnOk r Q
 on_ok_map (Ok x) f p = f p
 on_ok_map (Err e) f p = p
+
+pub ok_part : {A E : Type 0} (r : Result A E) (P : A → Type 0) (Q : E → Type 0) → MatchResult r P Q → IfOk r P
+ok_part (Ok x) P Q p = p
+ok_part (Err e) P Q q = tt
 
 -- what is held is what the calls decide
 pub held_decided : {T : Type 0} (given : T) (calls : List (MapCall T)) (held : Held T) → IsTold given calls held → (p : Position) → held_value held p ≡ decided_value given calls p

@@ -4,8 +4,10 @@
 pub mod entity_map;
 mod hashed;
 pub mod laws;
+pub mod span_table;
 
 pub use entity_map::{EntityMap, MapCall, Stopped};
+pub use span_table::SpanTable;
 
 #[cfg(test)]
 mod tests;

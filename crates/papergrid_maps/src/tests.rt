@@ -2,7 +2,7 @@
 
 ghost use Rattle.std.specs.Prelude.{◌≡◌};
 
-use crate::{EntityMap, MapCall, Stopped};
+use crate::{EntityMap, MapCall, SpanTable, Stopped};
 use papergrid_values::{Entity, Position};
 use std::alloc::{AllocError, Global};
 use std::process::Abort;
@@ -142,4 +142,85 @@ fn refused_calls(rt: HostRuntime) {
     assert_eq!(rt; *map.get(at(1, 0)), if done > 0 { 'r' } else { 'g' });
     assert_eq!(rt; *map.get(at(0, 1)), if done > 1 { 'c' } else { 'g' });
     assert_eq!(rt; *map.get(at(2, 2)), if done > 2 { 'x' } else { 'g' });
+}
+
+#[test]
+fn greatest_column_span(rt: HostRuntime) -> Result<(), Fail> {
+    let mut spans = SpanTable::new(rt.alloc());
+    spans.set_column(at(0, 5), usize::MAX)?;
+    assert!(rt; spans.covered_by_column(at(0, usize::MAX)));
+    assert!(rt; !spans.covered_by_column(at(0, 5)));
+    assert!(rt; !spans.covered_by_column(at(1, 6)));
+    Ok(())
+}
+
+#[test]
+fn rectangle_of_both_spans(rt: HostRuntime) -> Result<(), Fail> {
+    let mut spans = SpanTable::new(rt.alloc());
+    spans.set_row(at(0, 0), 2)?;
+    spans.set_column(at(0, 0), 2)?;
+    for hidden in [at(0, 1), at(1, 0), at(1, 1)] {
+        assert!(rt; !spans.is_visible(hidden));
+    }
+    for seen in [at(0, 0), at(0, 2), at(2, 2)] {
+        assert!(rt; spans.is_visible(seen));
+    }
+    assert!(rt; spans.covered_by_row(at(1, 0)) && !spans.covered_by_row(at(1, 1)));
+    assert!(rt; spans.covered_by_both(at(1, 1)) && !spans.covered_by_both(at(1, 0)));
+    Ok(())
+}
+
+#[test]
+fn held_spans(rt: HostRuntime) -> Result<(), Fail> {
+    let mut spans = SpanTable::new(rt.alloc());
+    assert!(rt; !spans.has_columns() && !spans.has_rows());
+    spans.set_column(at(1, 2), 3)?;
+    spans.set_row(at(1, 2), 4)?;
+    assert_eq!(rt; spans.get_column(at(1, 2)), Some(3));
+    assert_eq!(rt; spans.get_row(at(1, 2)), Some(4));
+    assert_eq!(rt; spans.columns()?.get(&at(1, 2)), Some(&3));
+    assert_eq!(rt; spans.rows()?.len(), 1);
+    let copy = spans.clone()?;
+    spans.set_column(at(1, 2), 0)?;
+    assert!(rt; copy == spans);
+    spans.set_column(at(1, 2), 1)?;
+    assert_eq!(rt; spans.get_column(at(1, 2)), None);
+    assert!(rt; !(copy == spans));
+    spans.set_column(at(0, 0), 2)?;
+    spans.remove_columns();
+    assert!(rt; !spans.has_columns() && spans.has_rows());
+    spans.remove_rows();
+    assert!(rt; spans == SpanTable::new(rt.alloc()));
+    Ok(())
+}
+
+fn anchors(alloc: Global) -> Result<SpanTable, AllocError> {
+    let mut spans = SpanTable::new(alloc);
+    for i in 0..14 {
+        spans.set_column(at(i, i), 2)?;
+        spans.set_row(at(i, i), 3)?;
+    }
+    Ok(spans)
+}
+
+#[test]
+fn refused_spans(rt: HostRuntime) {
+    let (Ok(mut spans), Ok(copy)) = (anchors(rt.alloc()), anchors(rt.alloc())) else {
+        return;
+    };
+    match spans.set_column(at(20, 20), 2) {
+        Ok(()) => assert_eq!(rt; spans.get_column(at(20, 20)), Some(2)),
+        Err(_) => assert!(rt; spans == copy),
+    }
+    assert!(rt; spans.set_column(at(20, 20), 1).is_ok());
+    match spans.set_row(at(20, 20), 2) {
+        Ok(()) => assert_eq!(rt; spans.get_row(at(20, 20)), Some(2)),
+        Err(_) => assert!(rt; spans == copy),
+    }
+    assert!(rt; spans.set_row(at(20, 20), 1).is_ok());
+    assert!(rt; spans == copy);
+    assert!(rt; spans.set_row(at(20, 20), 0).is_ok());
+    if let Ok(all) = spans.columns() {
+        assert_eq!(rt; all.len(), 14);
+    }
 }

@@ -1,4 +1,4 @@
--- Equality of what maps hold.
+-- Equality of finite maps, by the entries of hashed ones.
 use Rattle.std.proofs.Common.{◌≡◌, ℕ, Bool, true, false, ◌&&◌, List, eqb, Option, refl, sym, ap, ◌∙◌}
 use Rattle.std.specs.Prelude.{◌↔◌}
 use Rattle.std.specs.Option.{option_eq}
@@ -12,10 +12,8 @@ use Rattle.std.proofs.lemmas.Bool.{and_parts, and_from, true_from_ne_false, fals
 use Rattle.std_collections.specs.Layout.HashMap.{hash_map}
 use Rattle.std_collections.specs.HashMap.Eq.{hash_map_eq_symm, hash_map_eq_trans, hash_map_eq_from_get, get_from_hash_map_eq}
 use Rattle.papergrid_maps.specs.Keys.{position_cmp, position_eq}
-use Rattle.papergrid_maps.specs.MapHeld.{Held}
-use Rattle.papergrid_maps.specs.MapEq.{held_eq}
+use Rattle.papergrid_maps.specs.Equal.{numbers_eq, places_eq}
 use Rattle.papergrid_values.specs.declared.position.Position.{Position}
-use Rattle.papergrid_maps.proofs.MapHeldLemmas.{view_of}
 use Rattle.papergrid_maps.proofs.KeyLemmas.{get_at_number, get_at_position, find-lookup, position_equiv, position_ties}
 use Rattle.std.specs.Cmp.{unsigned_ties}
 
@@ -40,15 +38,15 @@ module _ {K X : Type 0} (E : K → K → Bool) (R : K → K → Ordering) (laws 
   at_entries : (es : List (K × X)) → ((q : K) → get (from_entries {R = R} es) q ≡ lookup (E q) es) → (q : K) → lookup (E q) (entries (from_entries {R = R} es)) ≡ lookup (E q) es
   at_entries es answers q = sym (find-lookup E R ties (entries (from_entries {R = R} es)) q) ∙ sym (get-entries (from_entries {R = R} es) q) ∙ answers q
 
--- equality of what maps hold, by the entries of their hash maps
-pub held_eq-view_of : {T : Type 0} (eq : T → T → Bool) (g h : T) (cs rs ds ss : List (ℕ × T)) (ks ls : List (Position × T))
-    → held_eq eq (view_of g cs rs ks) (view_of h ds ss ls)
-    ≡ (eq g h && (entries_eq eqb (λ p q. eq p.1 q.1) cs ds && (entries_eq eqb (λ p q. eq p.1 q.1) rs ss && entries_eq position_eq (λ p q. eq p.1 q.1) ks ls)))
-held_eq-view_of {T} eq g h cs rs ds ss ks ls =
-    let numbers = λ (es fs : List (ℕ × T)).
+-- equality of the finite maps with these entries
+pub numbers_eq-from_entries : {X : Type 0} (eq : X → X → Bool) (es fs : List (ℕ × X))
+    → numbers_eq eq (from_entries es) (from_entries fs) ≡ entries_eq eqb (λ p q. eq p.1 q.1) es fs
+numbers_eq-from_entries eq es fs =
     same_answers eqb nat_cmp nat_eq_equiv unsigned_ties eq _ _ es fs
-    (λ q. sym (at_entries eqb nat_cmp nat_eq_equiv unsigned_ties eq es (get_at_number es) q)) (λ q. sym (at_entries eqb nat_cmp nat_eq_equiv unsigned_ties eq fs (get_at_number fs) q)) in
-    let places = λ (es fs : List (Position × T)).
+    (λ q. sym (at_entries eqb nat_cmp nat_eq_equiv unsigned_ties eq es (get_at_number es) q)) (λ q. sym (at_entries eqb nat_cmp nat_eq_equiv unsigned_ties eq fs (get_at_number fs) q))
+
+pub places_eq-from_entries : {X : Type 0} (eq : X → X → Bool) (es fs : List (Position × X))
+    → places_eq eq (from_entries es) (from_entries fs) ≡ entries_eq position_eq (λ p q. eq p.1 q.1) es fs
+places_eq-from_entries eq es fs =
     same_answers position_eq position_cmp position_equiv position_ties eq _ _ es fs
-    (λ q. sym (at_entries position_eq position_cmp position_equiv position_ties eq es (get_at_position es) q)) (λ q. sym (at_entries position_eq position_cmp position_equiv position_ties eq fs (get_at_position fs) q)) in
-    λ i. eq g h && (numbers cs ds i && (numbers rs ss i && places ks ls i))
+    (λ q. sym (at_entries position_eq position_cmp position_equiv position_ties eq es (get_at_position es) q)) (λ q. sym (at_entries position_eq position_cmp position_equiv position_ties eq fs (get_at_position fs) q))
