@@ -35,12 +35,12 @@ none_is_not_some : {X : Type 0} {x : X} → ◌≡◌ {A = Option X} None (Some 
 none_is_not_some e = false≢true (ap is_some e)
 
 -- a list of entries in which no key has a value is empty
-no_entries : {K X : Type 0} (E : K → K → Bool) (laws : IsEquivalence E) (es : List (K × X)) → ((q : K) → lookup (E q) es ≡ None) → length es ≡ 0
+pub no_entries : {K X : Type 0} (E : K → K → Bool) (laws : IsEquivalence E) (es : List (K × X)) → ((q : K) → lookup (E q) es ≡ None) → length es ≡ 0
 no_entries E laws [] none = refl
 no_entries E laws (e ∷ es) none =
     absurd (none_is_not_some (sym (none e.0) ∙ ap (λ b. cond b (Some e.1) (lookup (E e.0) es)) (laws.refl e.0)))
 
-none_of_nothing : {K X : Type 0} (E : K → K → Bool) (es : List (K × X)) → length es ≡ 0 → (q : K) → lookup (E q) es ≡ None
+pub none_of_nothing : {K X : Type 0} (E : K → K → Bool) (es : List (K × X)) → length es ≡ 0 → (q : K) → lookup (E q) es ≡ None
 none_of_nothing E [] h q = refl
 none_of_nothing E (e ∷ es) h q = absurd (omega (arith, h))
 

@@ -1,10 +1,11 @@
 -- When two finite maps hold the same: at each key of either, both have a value and the two are equal.
-use Rattle.std.specs.Prelude.{◌≡◌, ℕ, Bool, true, ◌&&◌, List, nat_eq}
+use Rattle.std.specs.Prelude.{◌≡◌, ℕ, Bool, true, false, ◌&&◌, List, [], ◌∷◌, Option, Some, None, nat_eq, refl}
+use Rattle.std.specs.Option.{option_eq}
 use Rattle.std.specs.Cmp.{IsPartialEquivalence, IsEquivalence, nat_eq_equiv, and_equiv, on_equiv}
 use Rattle.std.specs.HashMap.{HashMap, entries_eq}
 use Rattle.std.specs.FinMap.{FinMap, entries}
 use Rattle.std.specs.Ordering.{nat_cmp}
-use Rattle.std.proofs.lemmas.Bool.{and_parts, and_from}
+use Rattle.std.proofs.lemmas.Bool.{and_parts, and_from, false≢true}
 use Rattle.std_collections.specs.Layout.HashMap.{hash_map}
 use Rattle.std_collections.specs.HashMap.Eq.{hash_map_eq_symm, hash_map_eq_trans}
 use Rattle.papergrid_maps.specs.Keys.{position_cmp, position_eq}
@@ -36,14 +37,45 @@ places_laws eq laws = record {
   trans = λ l m n. hash_map_eq_trans position_eq eq position_eq_equiv laws.trans (wrapped (entries l)) (wrapped (entries m)) (wrapped (entries n));
 }
 
-pub laws_of_both : {A : Type 0} (e f : A → A → Bool) → IsPartialEquivalence e → IsPartialEquivalence f → IsPartialEquivalence (λ x y. e x y && f x y)
-laws_of_both e f first second = record {
-  symm = λ x y i. first.symm x y i && second.symm x y i;
-  trans = λ x y z p q.
-      let a = and_parts _ _ p in
-      let b = and_parts _ _ q in
-      and_from _ _ (first.trans x y z a.0 b.0) (second.trans x y z a.1 b.1);
-}
+-- ---- parts that are set or not
 
-pub laws_of_part : {A B : Type 0} (g : A → B) (e : B → B → Bool) → IsPartialEquivalence e → IsPartialEquivalence (λ x y. e (g x) (g y))
-laws_of_part g e laws = record { symm = λ x y. laws.symm (g x) (g y); trans = λ x y z. laws.trans (g x) (g y) (g z) }
+option_symm : {X : Type 0} (eq : X → X → Bool) → IsPartialEquivalence eq → (a b : Option X) → option_eq eq a b ≡ option_eq eq b a
+option_symm eq laws None None = refl
+option_symm eq laws None (Some y) = refl
+option_symm eq laws (Some x) None = refl
+option_symm eq laws (Some x) (Some y) = laws.symm x y
+
+option_trans : {X : Type 0} (eq : X → X → Bool) → IsPartialEquivalence eq → (a b c : Option X) → option_eq eq a b ≡ true → option_eq eq b c ≡ true → option_eq eq a c ≡ true
+option_trans eq laws None None c p q = q
+option_trans eq laws None (Some y) c p q = absurd (false≢true p)
+option_trans eq laws (Some x) None c p q = absurd (false≢true p)
+option_trans eq laws (Some x) (Some y) None p q = q
+option_trans eq laws (Some x) (Some y) (Some z) p q = laws.trans x y z p q
+
+pub option_laws : {X : Type 0} (eq : X → X → Bool) → IsPartialEquivalence eq → IsPartialEquivalence (option_eq eq)
+option_laws eq laws = record { symm = option_symm eq laws; trans = option_trans eq laws }
+
+-- the same parts are set, to equal values
+abbrev pub parts_eq : {X : Type 0} → (X → X → Bool) → List (Option X) → List (Option X) → Bool
+parts_eq eq [] [] = true
+parts_eq eq (a ∷ xs) (b ∷ ys) = option_eq eq a b && parts_eq eq xs ys
+parts_eq eq xs ys = false
+
+parts_symm : {X : Type 0} (eq : X → X → Bool) → IsPartialEquivalence eq → (xs ys : List (Option X)) → parts_eq eq xs ys ≡ parts_eq eq ys xs
+parts_symm eq laws [] [] = refl
+parts_symm eq laws [] (b ∷ ys) = refl
+parts_symm eq laws (a ∷ xs) [] = refl
+parts_symm eq laws (a ∷ xs) (b ∷ ys) = λ i. option_symm eq laws a b i && parts_symm eq laws xs ys i
+
+parts_trans : {X : Type 0} (eq : X → X → Bool) → IsPartialEquivalence eq → (xs ys zs : List (Option X)) → parts_eq eq xs ys ≡ true → parts_eq eq ys zs ≡ true → parts_eq eq xs zs ≡ true
+parts_trans eq laws [] [] zs p q = q
+parts_trans eq laws [] (b ∷ ys) zs p q = absurd (false≢true p)
+parts_trans eq laws (a ∷ xs) [] zs p q = absurd (false≢true p)
+parts_trans eq laws (a ∷ xs) (b ∷ ys) [] p q = q
+parts_trans eq laws (a ∷ xs) (b ∷ ys) (c ∷ zs) p q =
+    let m = and_parts _ _ p in
+    let n = and_parts _ _ q in
+    and_from _ _ (option_trans eq laws a b c m.0 n.0) (parts_trans eq laws xs ys zs m.1 n.1)
+
+pub parts_laws : {X : Type 0} (eq : X → X → Bool) → IsPartialEquivalence eq → IsPartialEquivalence (parts_eq eq)
+parts_laws eq laws = record { symm = parts_symm eq laws; trans = parts_trans eq laws }

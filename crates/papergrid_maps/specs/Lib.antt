@@ -1,8 +1,15 @@
+pub mod BorderCalls
+pub mod BorderCodes
+pub mod BorderEq
+pub mod BorderHeld
+pub mod BorderScan
+pub mod Changes
 pub mod Equal
 pub mod Keys
 pub mod MapCalls
 pub mod MapEq
 pub mod MapHeld
+pub mod Places
 pub mod SpanEq
 pub mod SpanScan
 pub mod Spans

@@ -1,7 +1,7 @@
 -- When two maps hold the same.
 use Rattle.std.specs.Prelude.{Bool, ◌&&◌}
-use Rattle.std.specs.Cmp.{IsPartialEquivalence}
-use Rattle.papergrid_maps.specs.Equal.{numbers_eq, places_eq, numbers_laws, places_laws, laws_of_both, laws_of_part}
+use Rattle.std.specs.Cmp.{IsPartialEquivalence, and_per, on_per}
+use Rattle.papergrid_maps.specs.Equal.{numbers_eq, places_eq, numbers_laws, places_laws}
 use Rattle.papergrid_maps.specs.MapHeld.{Held}
 
 -- the global values are equal, and the columns, the rows and the cells have equal values
@@ -12,10 +12,6 @@ held_eq eq m n =
 
 pub held_eq_laws : {T : Type 0} (eq : T → T → Bool) → IsPartialEquivalence eq → IsPartialEquivalence (held_eq eq)
 held_eq_laws {T} eq laws =
-    laws_of_both (λ (m n : Held T). eq m.global n.global) (λ m n. numbers_eq eq m.columns n.columns && (numbers_eq eq m.rows n.rows && places_eq eq m.cells n.cells))
-    (laws_of_part (λ (m : Held T). m.global) eq laws)
-    (laws_of_both (λ (m n : Held T). numbers_eq eq m.columns n.columns) (λ m n. numbers_eq eq m.rows n.rows && places_eq eq m.cells n.cells)
-    (laws_of_part (λ (m : Held T). m.columns) (numbers_eq eq) (numbers_laws eq laws))
-    (laws_of_both (λ (m n : Held T). numbers_eq eq m.rows n.rows) (λ m n. places_eq eq m.cells n.cells)
-    (laws_of_part (λ (m : Held T). m.rows) (numbers_eq eq) (numbers_laws eq laws))
-    (laws_of_part (λ (m : Held T). m.cells) (places_eq eq) (places_laws eq laws))))
+    and_per (on_per (λ (m : Held T). m.global) laws)
+    (and_per (on_per (λ (m : Held T). m.columns) (numbers_laws eq laws))
+    (and_per (on_per (λ (m : Held T). m.rows) (numbers_laws eq laws)) (on_per (λ (m : Held T). m.cells) (places_laws eq laws))))

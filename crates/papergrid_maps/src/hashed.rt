@@ -1,8 +1,9 @@
 //! Single steps on hashed maps, told by what each key has.
 
-ghost use Rattle.std.specs.Prelude.{◌≡◌, ◌+◌, ◌<◌, ◌≤◌, Some, None};
-ghost use Rattle.std.specs.HashMap.{spare, Updates};
+ghost use Rattle.std.specs.Prelude.{◌≡◌, ◌+◌, ◌<◌, ◌≤◌, Some, None, OnOk, OnErr};
+ghost use Rattle.std.specs.HashMap.{spare, IsUnchanged, Updates};
 
+use std::alloc::AllocError;
 use std::collections::HashMap;
 use std::hash::Hash;
 
@@ -16,6 +17,19 @@ pub(crate) fn put<K: Eq + Hash + Drop, T: Drop>(map: &mut HashMap<K, T>, key: K,
         Ok(_) => {}
         Err(_) => unreachable!(),
     }
+}
+
+/// Writes a value, or leaves all as it was where memory is refused.
+pub(crate) fn write<K: Eq + Hash + Drop, T: Drop>(
+    map: &mut HashMap<K, T>,
+    key: K,
+    value: T,
+) -> Result<(), AllocError>
+    ensures ok { OnOk result (Updates K.eq map.old map.new key (Some value)) }
+    ensures err { OnErr result (IsUnchanged map.old map.new) }
+{
+    let _ = map.insert(key, value)?;
+    Ok(())
 }
 
 /// Drops what a key has.

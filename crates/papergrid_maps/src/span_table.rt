@@ -9,7 +9,7 @@ ghost use Rattle.papergrid_maps.specs.Keys.{position_eq};
 ghost use Rattle.papergrid_maps.specs.Spans.{IsTold, Appends, HasSpan, IsVisible, IsCoveredByColumn, IsCoveredByRow, IsCoveredByBoth, SetSpan, RemoveSpans, Columns, Rows, column_span, row_span, is_visible};
 ghost use Rattle.papergrid_maps.specs.SpanScan.{AreFromTwo, reaches_right, reaches_below, reaches_into, span_set};
 
-use crate::hashed::take;
+use crate::hashed::{take, write};
 use papergrid_values::Position;
 use std::alloc::{AllocError, Global};
 use std::collections::HashMap;
@@ -210,9 +210,7 @@ fn set_span(
     match span {
         0 => {}
         1 => take(spans, pos),
-        _ => {
-            let _ = spans.insert(pos, span)?;
-        }
+        _ => write(spans, pos, span)?,
     }
     Ok(())
 }
