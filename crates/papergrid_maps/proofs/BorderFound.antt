@@ -34,7 +34,7 @@ module _ {T : Type 0} where
   or_assoc None b c = refl
   or_assoc (Some x) b c = refl
 
-  both : (a b : Option (Bor T)) {r : Option (Bor T)} {A B : Option T} → r ≡ option_or a b → option_copied a ≡ A → option_copied b ≡ B → option_copied r ≡ option_or A B
+  pub both : (a b : Option (Bor T)) {r : Option (Bor T)} {A B : Option T} → r ≡ option_or a b → option_copied a ≡ A → option_copied b ≡ B → option_copied r ≡ option_or A B
   both a b is first second = ap option_copied is ∙ copied_or a b ∙ (λ i. option_or (first i) (second i))
 
   pub first_of_four : (a b c d : Option (Bor T)) {r s t : Option (Bor T)} {A B C D : Option T} → r ≡ option_or a b → s ≡ option_or r c → t ≡ option_or s d

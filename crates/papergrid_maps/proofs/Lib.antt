@@ -9,6 +9,7 @@ pub mod KeyLemmas
 pub mod MapHeldLemmas
 pub mod MapSteps
 pub mod MapTold
+pub mod OverrideTold
 pub mod PartCopies
 pub mod SpanScans
 pub mod SpanTold

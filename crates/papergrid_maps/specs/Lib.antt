@@ -9,6 +9,9 @@ pub mod Keys
 pub mod MapCalls
 pub mod MapEq
 pub mod MapHeld
+pub mod OffsetEq
+pub mod OverrideScan
+pub mod Overrides
 pub mod Places
 pub mod SpanEq
 pub mod SpanScan
