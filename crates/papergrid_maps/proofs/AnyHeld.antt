@@ -1,11 +1,10 @@
 -- A loop that looks for a value, and the values that a map holds.
-use Rattle.std.proofs.Common.{◌≡◌, ℕ, zero, suc, Bool, true, false, List, [], ◌∷◌, ◌++◌, map, eqb, Option, Some, refl, sym, ap, subst, ◌∙◌, append_assoc, length, arith, ◌<◌, inl, inr, ⊎_elim}
+use Rattle.std.proofs.Common.{◌≡◌, ℕ, zero, suc, Bool, true, false, List, [], ◌∷◌, ◌++◌, map, eqb, Some, sym, ap, subst, ◌∙◌, append_assoc, length, arith, ◌<◌, inl, inr, ⊎_elim}
 use Rattle.std.specs.Prelude.{All, Any, IfSome}
 use Rattle.std.specs.Bool.{OnTrue, OnFalse}
 use Rattle.std.specs.List.{IsDistinct, slice_get, slice_index_or}
 use Rattle.std.specs.Cmp.{IsEquivalence, nat_eq_equiv}
 use Rattle.std.specs.Map.{lookup, keys_of, values_of}
-use Rattle.std.specs.FinMap.{get}
 use Rattle.std.proofs.lemmas.Map.Entries.{lookup_from_place, All-lookup}
 use Rattle.papergrid_values.specs.declared.position.Position.{Position}
 use Rattle.papergrid_maps.specs.Keys.{position_eq}

@@ -1,5 +1,5 @@
 -- What is found in a border table, and which lines it has, by the entries of its maps.
-use Rattle.std.proofs.Common.{◌≡◌, ℕ, Bor, Bool, true, false, ◌&&◌, List, [], ◌∷◌, length, eqb, Option, Some, None, refl, sym, ap, subst, ◌∙◌, inl, inr, ⊎_elim}
+use Rattle.std.proofs.Common.{◌≡◌, ℕ, Bor, Bool, true, false, ◌&&◌, List, length, eqb, Option, Some, None, refl, sym, ap, ◌∙◌, inl, inr, ⊎_elim}
 use Rattle.std.specs.Prelude.{◌||◌, ◌⊎◌, ◌↔◌, IsTrue, IsSome, is_some, is_none, not}
 use Rattle.std.specs.Option.{option_or, option_copied}
 use Rattle.std.specs.List.{list_any, IsDistinct}
@@ -79,7 +79,7 @@ places_scan {T} along n es b is distinct =
     let test = λ (e : Position × T). eqb (along e.0) n in (
       (λ h. let found = any_found position_equiv test es distinct (sym is ∙ h) in (found.0, eqb-true _ _ found.3, ap is_some (get_at_position es found.0 ∙ found.2))),
       (λ h. let held = some_value (get (from_entries {R = position_cmp} es) h.0) h.2 in
-      is ∙ any_from_found position_equiv test es exact_position_eq h.0 held.0 (sym (get_at_position es h.0) ∙ held.1) (eq-eqb _ _ h.1)),
+          is ∙ any_from_found position_equiv test es exact_position_eq h.0 held.0 (sym (get_at_position es h.0) ∙ held.1) (eq-eqb _ _ h.1)),
     )
 
 pub key_scan : {L : Type 0} (es : List (ℕ × L)) (n : ℕ) (b : Bool) → b ≡ is_some (lookup (eqb n) es) → IsTrue b ↔ IsSome (get (from_entries {R = nat_cmp} es) n)
@@ -106,8 +106,8 @@ pub decided_by_fourth : {A B C D : Type 0} (a b c d : Bool) → (IsTrue a ↔ A)
 decided_by_fourth a b c d first second third fourth no_first no_second no_third = (
   (λ h. inr (inr (inr (fourth.0 h)))),
   (λ h. ⊎_elim (λ x. absurd (false≢true (sym no_first ∙ first.1 x)))
-  (λ rest. ⊎_elim (λ x. absurd (false≢true (sym no_second ∙ second.1 x)))
-  (λ rest. ⊎_elim (λ x. absurd (false≢true (sym no_third ∙ third.1 x))) (λ x. fourth.1 x) rest) rest) h),
+      (λ rest. ⊎_elim (λ x. absurd (false≢true (sym no_second ∙ second.1 x)))
+      (λ rest. ⊎_elim (λ x. absurd (false≢true (sym no_third ∙ third.1 x))) (λ x. fourth.1 x) rest) rest) h),
 )
 
 pub by_value : (a b : Bool) → a ≡ b → IsTrue a ↔ (b ≡ true)

@@ -1,16 +1,14 @@
 -- Equality of finite maps, by the entries of hashed ones.
-use Rattle.std.proofs.Common.{◌≡◌, ℕ, Bool, true, false, ◌&&◌, List, eqb, Option, refl, sym, ap, ◌∙◌}
-use Rattle.std.specs.Prelude.{◌↔◌}
+use Rattle.std.proofs.Common.{◌≡◌, ℕ, Bool, true, false, List, eqb, refl, sym, ◌∙◌}
 use Rattle.std.specs.Option.{option_eq}
-use Rattle.std.specs.Cmp.{IsEquivalence, IsPartialEquivalence, nat_eq_equiv}
+use Rattle.std.specs.Cmp.{IsEquivalence, nat_eq_equiv}
 use Rattle.std.specs.Map.{lookup}
-use Rattle.std.specs.HashMap.{HashMap, hash_map_eq, entries_eq}
-use Rattle.std.specs.FinMap.{FinMap, get, entries, from_entries, get-entries, get-from_entries, find}
+use Rattle.std.specs.HashMap.{HashMap, entries_eq}
+use Rattle.std.specs.FinMap.{get, entries, from_entries, get-entries}
 use Rattle.std.specs.Ordering.{eq_by_cmp, nat_cmp}
 use Rattle.std.specs.declared.cmp.Ordering.{Ordering}
-use Rattle.std.proofs.lemmas.Bool.{and_parts, and_from, true_from_ne_false, false≢true}
 use Rattle.std_collections.specs.Layout.HashMap.{hash_map}
-use Rattle.std_collections.specs.HashMap.Eq.{hash_map_eq_symm, hash_map_eq_trans, hash_map_eq_from_get, get_from_hash_map_eq}
+use Rattle.std_collections.specs.HashMap.Eq.{hash_map_eq_from_get, get_from_hash_map_eq}
 use Rattle.papergrid_maps.specs.Keys.{position_cmp, position_eq}
 use Rattle.papergrid_maps.specs.Equal.{numbers_eq, places_eq}
 use Rattle.papergrid_values.specs.declared.position.Position.{Position}

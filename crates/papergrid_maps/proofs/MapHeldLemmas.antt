@@ -1,13 +1,13 @@
 -- What a map holds, by the entries of its three maps.
-use Rattle.std.proofs.Common.{◌≡◌, ℕ, Bool, true, false, cond, ◌&&◌, List, [], ◌∷◌, length, eqb, Option, Some, None, refl, sym, ap, subst, ◌∙◌, arith}
+use Rattle.std.proofs.Common.{◌≡◌, ℕ, Bool, cond, ◌&&◌, List, [], ◌∷◌, length, eqb, Option, Some, None, refl, sym, ap, ◌∙◌, arith}
 use Rattle.std.specs.Prelude.{◌↔◌, IsTrue, is_some}
 use Rattle.std.specs.Cmp.{IsEquivalence, nat_eq_equiv}
 use Rattle.std.proofs.lemmas.Bool.{and_parts, and_from, false≢true}
-use Rattle.std.specs.Prelude.{unwrap_or, reverse, Result, Ok, Err, OnErr, OnOk, IfOk}
+use Rattle.std.specs.Prelude.{unwrap_or, Result, Ok, Err, OnErr, OnOk, IfOk}
 use Rattle.std.specs.Result.{MatchResult}
 use Rattle.std.specs.Map.{lookup}
-use Rattle.std.specs.FinMap.{get, from_entries}
-use Rattle.papergrid_maps.specs.Keys.{position_cmp, position_eq}
+use Rattle.std.specs.FinMap.{from_entries}
+use Rattle.papergrid_maps.specs.Keys.{position_eq}
 use Rattle.papergrid_maps.specs.MapHeld.{Held, HasNothing, held_value, IsTold}
 use Rattle.papergrid_maps.specs.MapCalls.{decided_value}
 use Rattle.papergrid_maps.specs.declared.entity_map.MapCall.{MapCall}

@@ -1,6 +1,6 @@
 -- Overrides, by the entries of their maps.
-use Rattle.std.proofs.Common.{◌≡◌, ℕ, Bool, true, false, cond, ◌&&◌, List, [], ◌∷◌, ◌++◌, length, eqb, ltb, Option, Some, None, refl, sym, ap, subst, ◌∙◌}
-use Rattle.std.specs.Prelude.{◌↔◌, reverse, IsTrue, IsSome, is_some, option_and_then, Result, Ok, Err, OnOk, OnErr}
+use Rattle.std.proofs.Common.{◌≡◌, ℕ, Bool, true, false, cond, ◌&&◌, List, [], ◌∷◌, length, eqb, ltb, Option, Some, None, refl, sym, ap, subst, ◌∙◌}
+use Rattle.std.specs.Prelude.{◌↔◌, IsTrue, IsSome, is_some, option_and_then, Result, Ok, Err, OnOk, OnErr}
 use Rattle.std.specs.List.{AllZip}
 use Rattle.std.specs.Option.{MatchOption, IsSomeAnd}
 use Rattle.std.specs.Map.{lookup}
@@ -13,9 +13,9 @@ use Rattle.std.proofs.lemmas.Map.Entries.{lookup_clone}
 use Rattle.papergrid_values.specs.declared.offset.Offset.{Offset}
 use Rattle.papergrid_values.specs.declared.offset.Offset.TheVariants.{Start, End}
 use Rattle.papergrid_values.specs.declared.position.Position.{Position}
-use Rattle.papergrid_maps.specs.Changes.{Change, Keeps, Removes, Writes, after, last}
+use Rattle.papergrid_maps.specs.Changes.{Keeps, Removes, Writes, after, last}
 use Rattle.papergrid_maps.specs.Keys.{position_cmp, position_eq}
-use Rattle.papergrid_maps.specs.Overrides.{HeldOffsets, OffsetCall, SetAt, RemoveAt, RemoveAll, AreSet, Appends, IsClear, IsOverridden, IsTold, at_offset, at_override, found_override, is_same_offset, override_at}
+use Rattle.papergrid_maps.specs.Overrides.{HeldOffsets, OffsetCall, SetAt, RemoveAt, RemoveAll, AreSet, Appends, IsClear, IsOverridden, IsTold, at_offset, at_override, is_same_offset, override_at}
 use Rattle.papergrid_maps.specs.OverrideScan.{AfterSet}
 use Rattle.papergrid_maps.proofs.KeyLemmas.{get_at_number, get_at_position, exact_position_eq, position_equiv}
 use Rattle.papergrid_maps.proofs.MapHeldLemmas.{none_of_nothing}
@@ -90,11 +90,11 @@ module _ {T : Type 0} where
       let same = is_same_offset offset o in
       let step : option_and_then (λ h. at_offset h o) (cond (position_eq pos p) (Some set.offsets) (lookup (position_eq p) es))
       ≡ after (cond (position_eq pos p && same) (Writes v) Keeps) (option_and_then (λ h. at_offset h o) (lookup (position_eq p) es)) =
-          elim (position_eq pos p) as (λ b. position_eq pos p ≡ b → option_and_then (λ h. at_offset h o) (cond b (Some set.offsets) (lookup (position_eq p) es))
-          ≡ after (cond (b && same) (Writes v) Keeps) (option_and_then (λ h. at_offset h o) (lookup (position_eq p) es))) [
-            | true ↦ λ e. set.held o ∙ ap (λ q. cond same (Some v) (option_and_then (λ h. at_offset h o) (lookup (position_eq q) es))) (exact_position_eq pos p e) ∙ sym (written same v _)
-            | false ↦ λ e. refl
-          ] refl in
+      elim (position_eq pos p) as (λ b. position_eq pos p ≡ b → option_and_then (λ h. at_offset h o) (cond b (Some set.offsets) (lookup (position_eq p) es))
+      ≡ after (cond (b && same) (Writes v) Keeps) (option_and_then (λ h. at_offset h o) (lookup (position_eq p) es))) [
+        | true ↦ λ e. set.held o ∙ ap (λ q. cond same (Some v) (option_and_then (λ h. at_offset h o) (lookup (position_eq q) es))) (exact_position_eq pos p e) ∙ sym (written same v _)
+        | false ↦ λ e. refl
+      ] refl in
       ap (λ h. option_and_then (λ offsets. at_offset offsets o) h) (get_at_position es' p ∙ set.others p)
       ∙ step
       ∙ ap (λ h. after (cond (position_eq pos p && same) (Writes v) Keeps) (option_and_then (λ offsets. at_offset offsets o) h)) (sym (get_at_position es p)))
@@ -125,7 +125,7 @@ module _ {T : Type 0} where
       → AfterSet pos offset v (λ p. lookup (position_eq p) es) (λ p. lookup (position_eq p) es') → AreSet es'
   kept_set es es' pos offset v set after p h is =
       let here : is_some (at_offset after.offsets offset) ≡ true =
-          ap is_some (after.held offset) ∙ ap (λ b. is_some (cond b (Some v) (option_and_then (λ h. at_offset h offset) (lookup (position_eq pos) es)))) (same_offset offset) in
+      ap is_some (after.held offset) ∙ ap (λ b. is_some (cond b (Some v) (option_and_then (λ h. at_offset h offset) (lookup (position_eq pos) es)))) (same_offset offset) in
       elim (position_eq pos p) as (λ b. cond b (Some after.offsets) (lookup (position_eq p) es) ≡ Some h → (o : Offset) × IsSome (at_offset h o)) [
         | true ↦ λ e. (offset, subst (λ (g : Option (HeldOffsets T)). is_some (option_and_then (λ k. at_offset k offset) g) ≡ true) e here)
         | false ↦ set p h

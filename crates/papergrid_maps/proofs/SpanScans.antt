@@ -1,14 +1,13 @@
 -- What a scan of the spans finds is what the rectangles say.
-use Rattle.std.proofs.Common.{◌≡◌, ℕ, ◌+◌, ◌-◌, ◌<◌, ◌≤◌, Bool, true, false, ◌&&◌, List, [], ◌∷◌, eqb, ltb, Option, Some, None, refl, sym, ap, subst, ◌∙◌, arith}
-use Rattle.std.specs.Prelude.{unwrap_or, not, ◌||◌, ◌≢◌, ◌↔◌}
+use Rattle.std.proofs.Common.{◌≡◌, ℕ, ◌+◌, ◌-◌, ◌<◌, ◌≤◌, Bool, true, false, List, eqb, ltb, Option, Some, None, refl, sym, ap, subst, ◌∙◌, arith}
+use Rattle.std.specs.Prelude.{unwrap_or, not, ◌≢◌, ◌↔◌}
 use Rattle.std.specs.List.{list_any, IsDistinct}
-use Rattle.std.specs.Cmp.{IsEquivalence}
 use Rattle.std.specs.Map.{lookup, keys_of}
 use Rattle.std.specs.FinMap.{get, from_entries}
 use Rattle.std.proofs.Common.{⊎_elim}
 use Rattle.std.proofs.lemmas.Bool.{false≢true, cases_eq, and_parts, and_from, eqb-true, eq-eqb, ltb-true, lt-ltb}
 use Rattle.papergrid_maps.specs.Keys.{position_cmp, position_eq}
-use Rattle.papergrid_maps.specs.Spans.{Spans, column_span, row_span, IsCoveredByColumn, IsCoveredByRow, IsCoveredByBoth, IsVisible, IsInRectangle}
+use Rattle.papergrid_maps.specs.Spans.{Spans, column_span, row_span, IsCoveredByColumn, IsCoveredByRow, IsCoveredByBoth, IsVisible}
 use Rattle.papergrid_maps.specs.SpanScan.{reaches_right, reaches_below, reaches_into, AreFromTwo}
 use Rattle.papergrid_values.specs.declared.position.Position.{Position}
 use Rattle.papergrid_maps.proofs.KeyLemmas.{get_at_position, position_equiv, exact_position_eq}

@@ -1,6 +1,6 @@
 -- One more call on spans.
 use Rattle.std.proofs.Common.{◌≡◌, ℕ, suc, ◌≤◌, Bool, true, false, cond, ◌&&◌, List, [], ◌∷◌, ◌++◌, Option, Some, None, refl, sym, ap, subst, ◌∙◌, arith, leb}
-use Rattle.std.specs.Prelude.{reverse, ◌↔◌, IsTrue, IsSome, IfSome, is_some, not, length}
+use Rattle.std.specs.Prelude.{reverse, ◌↔◌, IsTrue, IfSome, is_some, not, length}
 use Rattle.std.proofs.lemmas.List.{reverse-append}
 use Rattle.std.proofs.lemmas.Bool.{false≢true}
 use Rattle.std.specs.Map.{lookup}

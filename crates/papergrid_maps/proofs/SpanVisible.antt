@@ -1,9 +1,9 @@
 -- The test of visibility says what the rectangles say.
-use Rattle.std.proofs.Common.{◌≡◌, ℕ, ◌+◌, ◌<◌, ◌≤◌, Bool, true, false, ◌&&◌, List, [], ◌∷◌, ◌++◌, eqb, leb, ltb, Option, Some, None, refl, sym, ap, subst, ◌∙◌, arith, inl, inr, ⊎_elim}
+use Rattle.std.proofs.Common.{◌≡◌, ℕ, Bool, true, false, ◌&&◌, List, [], ◌∷◌, ◌++◌, Option, Some, None, refl, sym, subst, ◌∙◌, arith, inl, inr, ⊎_elim}
 use Rattle.std.specs.Prelude.{unwrap_or, not, is_some, ◌||◌, ◌≢◌, ◌↔◌, ◌⊎◌, IsTrue}
-use Rattle.std.specs.List.{list_any, slice_get}
+use Rattle.std.specs.List.{list_any}
 use Rattle.std.specs.FinMap.{FinMap, get, keys, contains_key-keys}
-use Rattle.std.proofs.lemmas.Bool.{false≢true, cases_eq, and_parts, and_from, or_left, or_right, leb-true, le-leb, ltb-true, lt-ltb, true_from_ne_false}
+use Rattle.std.proofs.lemmas.Bool.{false≢true, and_parts, and_from, or_right, leb-true, le-leb, ltb-true, lt-ltb}
 use Rattle.std.proofs.lemmas.Map.Keys.{any_passes_from_place}
 use Rattle.papergrid_values.specs.declared.position.Position.{Position}
 use Rattle.papergrid_maps.specs.Keys.{position_cmp, position_eq}
@@ -75,11 +75,11 @@ hides spans p anchor apart within =
     ⊎_elim (λ wide. any_append test (keys spans.columns) (keys spans.rows) (among spans.columns anchor test wide passes))
     (λ narrow. ⊎_elim (λ tall. any_prepend test (keys spans.columns) (keys spans.rows) (among spans.rows anchor test tall passes))
     (λ short.
-        let one_column : column_span spans anchor ≡ 1 = one_where_none (get spans.columns anchor) narrow in
-        let one_row : row_span spans anchor ≡ 1 = one_where_none (get spans.rows anchor) short in
-        let row : anchor.row ≡ p.row = omega (arith, one_row, within.below_top, within.above_bottom) in
-        let col : anchor.col ≡ p.col = omega (arith, one_column, within.after_left, within.before_right) in
-        absurd (apart (λ i. record { row = row i; col = col i })))
+    let one_column : column_span spans anchor ≡ 1 = one_where_none (get spans.columns anchor) narrow in
+    let one_row : row_span spans anchor ≡ 1 = one_where_none (get spans.rows anchor) short in
+    let row : anchor.row ≡ p.row = omega (arith, one_row, within.below_top, within.above_bottom) in
+    let col : anchor.col ≡ p.col = omega (arith, one_column, within.after_left, within.before_right) in
+    absurd (apart (λ i. record { row = row i; col = col i })))
     (held_or_not (get spans.rows anchor)))
     (held_or_not (get spans.columns anchor))
 

@@ -1,5 +1,5 @@
 -- Codes of what border tables hold, by which a proof tells values apart.
-use Rattle.std.specs.Prelude.{ℕ, Option, refl}
+use Rattle.std.specs.Prelude.{Option, refl}
 use Rattle.std.specs.Ordering.{nat_cmp}
 use Rattle.std.specs.FinMap.{FinMap, code}
 use Rattle.std.specs.Coded.{Coded, code_by, coded×, coded_ℕ, coded_option}

@@ -1,5 +1,5 @@
 -- What a place holds after calls, each of which leaves it, removes what it held, or writes to it.
-use Rattle.std.specs.Prelude.{List, [], ◌∷◌, reverse, Option, Some, None}
+use Rattle.std.specs.Prelude.{List, [], ◌∷◌, Option, Some, None}
 
 -- what a call does to a place
 pub data Change (A : Type 0) : Type 0 where

@@ -1,5 +1,5 @@
 -- When two finite maps hold the same: at each key of either, both have a value and the two are equal.
-use Rattle.std.specs.Prelude.{◌≡◌, ℕ, Bool, true, false, ◌&&◌, List, [], ◌∷◌, Option, Some, None, nat_eq, refl}
+use Rattle.std.specs.Prelude.{◌≡◌, Bool, true, false, ◌&&◌, List, [], ◌∷◌, Option, Some, None, nat_eq, refl}
 use Rattle.std.specs.Option.{option_eq}
 use Rattle.std.specs.Cmp.{IsPartialEquivalence, IsEquivalence, nat_eq_equiv, and_equiv, on_equiv}
 use Rattle.std.specs.HashMap.{HashMap, entries_eq}

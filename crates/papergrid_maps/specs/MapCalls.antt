@@ -1,5 +1,5 @@
 -- What a list of calls decides. Lists of calls are oldest first; the searches go from the newest call back.
-use Rattle.std.specs.Prelude.{◌≡◌, ℕ, ◌==◌, ◌&&◌, if◌then◌else◌, List, [], ◌∷◌, reverse, Option, Some, None, is_some, unwrap_or}
+use Rattle.std.specs.Prelude.{ℕ, ◌==◌, ◌&&◌, if◌then◌else◌, List, [], ◌∷◌, reverse, Option, Some, None, is_some, unwrap_or}
 use Rattle.papergrid_values.specs.declared.position.Position.{Position}
 use Rattle.papergrid_values.specs.declared.entity.Entity.TheVariants.{Global, Column, Row, Cell}
 use Rattle.papergrid_maps.specs.declared.entity_map.MapCall.{MapCall}

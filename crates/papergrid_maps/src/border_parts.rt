@@ -169,9 +169,7 @@ fn side<'a, T>(
 pub(crate) fn at_ends(place: usize, count: usize, first: bool, end: bool, inner: bool) -> bool
     ensures { result ≡ places.at_ends place count first end inner }
 {
-    (place == 0 && first)
-        || (place == count && end)
-        || (0 < place && place < count && inner)
+    (place == 0 && first) || (place == count && end) || (0 < place && place < count && inner)
 }
 
 // Whether the end of a line at a place is set.
@@ -190,9 +188,7 @@ pub(crate) fn ends_at_column<T>(
     ensures value { result ≡ list_any (λ e. has_end col count e.1.left e.1.right) lines.now.entries }
     ensures unique { IsUnique nat_eq lines.now }
 {
-    lines
-        .iter()
-        .any(|(_, line)| has_set_end(col, count, &line.left, &line.right))
+    lines.iter().any(|(_, line)| has_set_end(col, count, &line.left, &line.right))
 }
 
 /// Whether a vertical line that ends at a row has that end set.
@@ -204,9 +200,7 @@ pub(crate) fn ends_at_row<T>(
     ensures value { result ≡ list_any (λ e. has_end row count e.1.top e.1.bottom) lines.now.entries }
     ensures unique { IsUnique nat_eq lines.now }
 {
-    lines
-        .iter()
-        .any(|(_, line)| has_set_end(row, count, &line.top, &line.bottom))
+    lines.iter().any(|(_, line)| has_set_end(row, count, &line.top, &line.bottom))
 }
 
 /// Whether a place in a column has a value.
@@ -310,8 +304,8 @@ pub(crate) fn take_border<T: Drop>(
     ensures horizontal { (q : Position) → map_get position_eq horizontal.new q ≡ (if position_eq pos q || position_eq (below pos) q then None else map_get position_eq horizontal.old q) }
     ensures vertical { (q : Position) → map_get position_eq vertical.new q ≡ (if position_eq pos q || position_eq (right_of pos) q then None else map_get position_eq vertical.old q) }
     ensures corners { (q : Position) → map_get position_eq corners.new q ≡
-      (if (position_eq pos q || position_eq (right_of pos) q) || (position_eq (below pos) q || position_eq (below (right_of pos)) q) then None
-       else map_get position_eq corners.old q) }
+        (if (position_eq pos q || position_eq (right_of pos) q) || (position_eq (below pos) q || position_eq (below (right_of pos)) q) then None
+        else map_get position_eq corners.old q) }
 {
     let below = Position::new(pos.row + 1, pos.col);
     let right_of = Position::new(pos.row, pos.col + 1);

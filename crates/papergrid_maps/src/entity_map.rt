@@ -354,9 +354,11 @@ fn add_columns<T: Drop>(
 ) -> Result<(), AllocError>
     ensures { OnOk result ((e : Entity) → map_get entity_eq all.new e ≡ option_or (in_columns (map_get nat_eq columns) e) (map_get entity_eq all.old e)) }
 {
-    all.extend(columns
-        .into_iter()
-        .map(|(col, value)| (Entity::Column(col), value)))
+    all.extend(
+        columns
+            .into_iter()
+            .map(|(col, value)| (Entity::Column(col), value)),
+    )
 }
 
 fn add_rows<T: Drop>(
@@ -365,7 +367,10 @@ fn add_rows<T: Drop>(
 ) -> Result<(), AllocError>
     ensures { OnOk result ((e : Entity) → map_get entity_eq all.new e ≡ option_or (in_rows (map_get nat_eq rows) e) (map_get entity_eq all.old e)) }
 {
-    all.extend(rows.into_iter().map(|(row, value)| (Entity::Row(row), value)))
+    all.extend(
+        rows.into_iter()
+            .map(|(row, value)| (Entity::Row(row), value)),
+    )
 }
 
 fn add_cells<T: Drop>(
@@ -374,7 +379,5 @@ fn add_cells<T: Drop>(
 ) -> Result<(), AllocError>
     ensures { OnOk result ((e : Entity) → map_get entity_eq all.new e ≡ option_or (in_cells (map_get position_eq cells) e) (map_get entity_eq all.old e)) }
 {
-    all.extend(cells
-        .into_iter()
-        .map(|(place, value)| (Entity::Cell(place.row, place.col), value)))
+    all.extend(cells.into_iter().map(|(place, value)| (Entity::Cell(place.row, place.col), value)))
 }

@@ -291,20 +291,29 @@ fn table_borders_and_flags(rt: HostRuntime) -> Result<(), Fail> {
     table.insert_border(at(0, 0), Border::filled('x'))?;
     for _ in 0..2 {
         for shape in [(10, 10), (0, 0)] {
-            assert_eq!(rt; table.get_border(at(0, 0), shape).copied(), Border::filled('x'));
+            assert_eq!(rt;
+                table.get_border(at(0, 0), shape).copied(),
+                Border::filled('x')
+            );
         }
         for count in [10, 0] {
             assert!(rt; sets_first_lines(&table, count, 2));
         }
         table.set_global('l');
     }
-    assert_eq!(rt; table.get_border(at(2, 0), (10, 10)).copied(), Border::filled('l'));
+    assert_eq!(rt;
+        table.get_border(at(2, 0), (10, 10)).copied(),
+        Border::filled('l')
+    );
     let table = neighbours(rt.alloc())?;
     assert_eq!(rt;
         table.get_border(at(0, 1), (10, 10)).copied(),
         Border::full('w', 'q', 'w', 'w', 'w', 'w', 'q', 'q')
     );
-    assert_eq!(rt; table.get_border(at(1, 1), (10, 10)).copied(), Border::filled('q'));
+    assert_eq!(rt;
+        table.get_border(at(1, 1), (10, 10)).copied(),
+        Border::filled('q')
+    );
     assert!(rt; sets_first_lines(&table, 10, 3));
     Ok(())
 }
@@ -330,7 +339,10 @@ fn frames_and_lines(rt: HostRuntime) -> Result<(), Fail> {
     assert_eq!(rt; table.get_horizontal(at(0, 0), 1), Some(&'f'));
     table.insert_vertical_line(1, VerticalLine::filled('v'))?;
     assert_eq!(rt; table.get_vertical(at(0, 1), 2), Some(&'v'));
-    assert_eq!(rt; table.get_vertical_line(1), Some(&VerticalLine::filled('v')));
+    assert_eq!(rt;
+        table.get_vertical_line(1),
+        Some(&VerticalLine::filled('v'))
+    );
     assert_eq!(rt; table.get_vertical_lines()?.len(), 1);
     let copy = table.clone()?;
     assert!(rt; copy == table);

@@ -1,7 +1,6 @@
 use Rattle.std.proofs.Common.{◌≡◌, ◌∙◌, ℕ}
 use Rattle.std.specs.contracts.prelude.OptionClone.TheImpl.{by_variants}
 use Rattle.std.proofs.lemmas.Map.Entries.{entries_from_clone}
-use Rattle.papergrid_values.specs.declared.borders.Borders.{Borders}
 use Rattle.papergrid_values.specs.declared.horizontal_line.HorizontalLine.{HorizontalLine}
 use Rattle.papergrid_values.specs.declared.vertical_line.VerticalLine.{VerticalLine}
 use Rattle.papergrid_values.specs.declared.position.Position.{Position}
@@ -16,7 +15,7 @@ returns g c = record {
       let old = c.self.inside in
       let framed = c.in_ok-clone-2.ensures.cases in
       let global : c.in_ok-clone.field-0 ≡ old.global =
-          part_copy (by_variants g.row.T g.T.Clone g.T.Clone-dict g.T.Destruct-dict) (λ x k. k) (λ x k. k) same old.global c.in_ok-clone.field-0 c.in_ok-clone.ensures.cases in
+      part_copy (by_variants g.row.T g.T.Clone g.T.Clone-dict g.T.Destruct-dict) (λ x k. k) (λ x k. k) same old.global c.in_ok-clone.field-0 c.in_ok-clone.ensures.cases in
       let frame : c.in_ok-clone-2.field-0 ≡ old.frame = λ i. record {
         top = part_copy (by_variants g.row.T g.T.Clone g.T.Clone-dict g.T.Destruct-dict) (λ x k. k) (λ x k. k) same old.frame.top c.in_ok-clone-2.field-0.top framed.0 i;
         top_left = part_copy (by_variants g.row.T g.T.Clone g.T.Clone-dict g.T.Destruct-dict) (λ x k. k) (λ x k. k) same old.frame.top_left c.in_ok-clone-2.field-0.top_left framed.1.0 i;

@@ -12,13 +12,13 @@ returns g c =
     let t = c.other.inside in
     let frame = c.eq-frame.ensures ∙ frame_by_parts eq s.frame t.frame in
     let horizontal_lines =
-        c.eq-horizontal_lines.ensures
-        ∙ (λ i. entries_eq eqb (λ p q. horizontal_by_parts eq p.1 q.1 i) s.horizontal_lines.entries t.horizontal_lines.entries)
-        ∙ sym (numbers_eq-from_entries (horizontal_line_eq eq) s.horizontal_lines.entries t.horizontal_lines.entries) in
+    c.eq-horizontal_lines.ensures
+    ∙ (λ i. entries_eq eqb (λ p q. horizontal_by_parts eq p.1 q.1 i) s.horizontal_lines.entries t.horizontal_lines.entries)
+    ∙ sym (numbers_eq-from_entries (horizontal_line_eq eq) s.horizontal_lines.entries t.horizontal_lines.entries) in
     let vertical_lines =
-        c.eq-vertical_lines.ensures
-        ∙ (λ i. entries_eq eqb (λ p q. vertical_by_parts eq p.1 q.1 i) s.vertical_lines.entries t.vertical_lines.entries)
-        ∙ sym (numbers_eq-from_entries (vertical_line_eq eq) s.vertical_lines.entries t.vertical_lines.entries) in
+    c.eq-vertical_lines.ensures
+    ∙ (λ i. entries_eq eqb (λ p q. vertical_by_parts eq p.1 q.1 i) s.vertical_lines.entries t.vertical_lines.entries)
+    ∙ sym (numbers_eq-from_entries (vertical_line_eq eq) s.vertical_lines.entries t.vertical_lines.entries) in
     let horizontal_edges = c.eq-horizontal_edges.ensures ∙ sym (places_eq-from_entries eq s.horizontal_edges.entries t.horizontal_edges.entries) in
     let vertical_edges = c.eq-vertical_edges.ensures ∙ sym (places_eq-from_entries eq s.vertical_edges.entries t.vertical_edges.entries) in
     let corners = c.eq-corners.ensures ∙ sym (places_eq-from_entries eq s.corners.entries t.corners.entries) in

@@ -1,5 +1,4 @@
-use Rattle.std.proofs.Common.{Bool, true, false, ap, refl, inl, sym}
-use Rattle.std.specs.Fn.{FnReturnsAt}
+use Rattle.std.proofs.Common.{refl, inl}
 use Rattle.papergrid_maps.proofs.AnyHeld.{all_held, held_in_cells, held_in_columns, held_in_rows, on_false_map, on_true_map}
 use Rattle.papergrid_maps.proofs.entity_map.EntityMap.any_held.Goals as goal
 

@@ -1,4 +1,4 @@
-use Rattle.std.proofs.Common.{◌≡◌, ◌∙◌, ℕ, rules}
+use Rattle.std.proofs.Common.{◌∙◌, ℕ}
 use Rattle.std.proofs.lemmas.Map.Entries.{entries_from_clone}
 use Rattle.papergrid_values.specs.declared.position.Position.{Position}
 use Rattle.papergrid_maps.proofs.MapHeldLemmas.{view_of}

@@ -1,4 +1,4 @@
-use Rattle.std.proofs.Common.{◌≡◌, ◌∙◌, ℕ, ap, is_some}
+use Rattle.std.proofs.Common.{◌∙◌, ℕ, ap, is_some}
 use Rattle.std.proofs.lemmas.Map.Entries.{entries_from_clone}
 use Rattle.papergrid_maps.specs.Overrides.{HeldOffsets, at_offset}
 use Rattle.papergrid_maps.proofs.OverrideTold.{offsets_copied, offsets_of}
