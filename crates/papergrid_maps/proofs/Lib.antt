@@ -1,0 +1,17 @@
+pub mod AnyHeld
+pub mod AnyLemmas
+pub mod BorderEqual
+pub mod BorderFound
+pub mod BorderTold
+pub mod EqualLemmas
+pub mod IntoMap
+pub mod KeyLemmas
+pub mod MapHeldLemmas
+pub mod MapSteps
+pub mod MapTold
+pub mod OverrideTold
+pub mod PartCopies
+pub mod SpanScans
+pub mod SpanTold
+pub mod SpanVisible
+pub mod WrittenCopies

@@ -1,0 +1,86 @@
+-- What a map holds, by the entries of its three maps.
+use Rattle.std.proofs.Common.{◌≡◌, ℕ, Bool, cond, ◌&&◌, List, [], ◌∷◌, length, eqb, Option, Some, None, refl, sym, ap, ◌∙◌, arith}
+use Rattle.std.specs.Prelude.{◌↔◌, IsTrue, is_some}
+use Rattle.std.specs.Cmp.{IsEquivalence, nat_eq_equiv}
+use Rattle.std.proofs.lemmas.Bool.{and_parts, and_from, false≢true}
+use Rattle.std.specs.Prelude.{unwrap_or, Result, Ok, Err, OnErr, OnOk, IfOk}
+use Rattle.std.specs.Result.{MatchResult}
+use Rattle.std.specs.Map.{lookup}
+use Rattle.std.specs.FinMap.{from_entries}
+use Rattle.papergrid_maps.specs.Keys.{position_eq}
+use Rattle.papergrid_maps.specs.MapHeld.{Held, HasNothing, held_value, IsTold}
+use Rattle.papergrid_maps.specs.MapCalls.{decided_value}
+use Rattle.papergrid_maps.specs.declared.entity_map.MapCall.{MapCall}
+use Rattle.papergrid_values.specs.declared.position.Position.{Position}
+use Rattle.papergrid_maps.proofs.KeyLemmas.{get_at_number, get_at_position, position_equiv}
+
+module _ {T : Type 0} where
+  -- the map with these entries
+  abbrev pub view_of : T → List (ℕ × T) → List (ℕ × T) → List (Position × T) → Held T
+  view_of g cs rs ks = record { global = g; columns = from_entries cs; rows = from_entries rs; cells = from_entries ks }
+
+  pub held_value-view_of : (g : T) (cs rs : List (ℕ × T)) (ks : List (Position × T)) (p : Position)
+      → held_value (view_of g cs rs ks) p ≡ unwrap_or (lookup (position_eq p) ks) (unwrap_or (lookup (eqb p.col) cs) (unwrap_or (lookup (eqb p.row) rs) g))
+  held_value-view_of g cs rs ks p = λ i. unwrap_or (get_at_position ks p i) (unwrap_or (get_at_number cs p.col i) (unwrap_or (get_at_number rs p.row i) g))
+
+  pub new_told : (g : T) → IsTold g [] (view_of g [] [] [])
+  new_told g = record {
+    global = refl;
+    columns = λ c. get_at_number [] c;
+    rows = λ r. get_at_number [] r;
+    cells = λ p. get_at_position [] p;
+  }
+
+none_is_not_some : {X : Type 0} {x : X} → ◌≡◌ {A = Option X} None (Some x) → ⊥
+none_is_not_some e = false≢true (ap is_some e)
+
+-- a list of entries in which no key has a value is empty
+pub no_entries : {K X : Type 0} (E : K → K → Bool) (laws : IsEquivalence E) (es : List (K × X)) → ((q : K) → lookup (E q) es ≡ None) → length es ≡ 0
+no_entries E laws [] none = refl
+no_entries E laws (e ∷ es) none =
+    absurd (none_is_not_some (sym (none e.0) ∙ ap (λ b. cond b (Some e.1) (lookup (E e.0) es)) (laws.refl e.0)))
+
+pub none_of_nothing : {K X : Type 0} (E : K → K → Bool) (es : List (K × X)) → length es ≡ 0 → (q : K) → lookup (E q) es ≡ None
+none_of_nothing E [] h q = refl
+none_of_nothing E (e ∷ es) h q = absurd (omega (arith, h))
+
+-- nothing is held where the three maps are empty
+pub nothing_held : {T : Type 0} (g : T) (cs rs : List (ℕ × T)) (ks : List (Position × T)) (a b c : Bool)
+    → (IsTrue a ↔ (length cs ≡ 0)) → (IsTrue b ↔ (length rs ≡ 0)) → (IsTrue c ↔ (length ks ≡ 0)) → IsTrue (a && (b && c)) ↔ HasNothing (view_of g cs rs ks)
+nothing_held g cs rs ks a b c columns rows cells = (
+  (λ h.
+      let first = and_parts a (b && c) h in
+      let rest = and_parts b c first.1 in
+      record {
+        columns = λ q. get_at_number cs q ∙ none_of_nothing eqb cs (columns.0 first.0) q;
+        rows = λ q. get_at_number rs q ∙ none_of_nothing eqb rs (rows.0 rest.0) q;
+        cells = λ q. get_at_position ks q ∙ none_of_nothing position_eq ks (cells.0 rest.1) q;
+      }),
+  (λ nothing.
+      and_from _ _ (columns.1 (no_entries eqb nat_eq_equiv cs (λ q. sym (get_at_number cs q) ∙ nothing.columns q)))
+      (and_from _ _ (rows.1 (no_entries eqb nat_eq_equiv rs (λ q. sym (get_at_number rs q) ∙ nothing.rows q)))
+      (cells.1 (no_entries position_eq position_equiv ks (λ q. sym (get_at_position ks q) ∙ nothing.cells q))))),
+)
+
+-- the first option that is set gives the value
+pub unwrap_or_set : {T : Type 0} {v : T} {o : Option T} (d : T) → Some v ≡ o → v ≡ unwrap_or o d
+unwrap_or_set d e = ap (λ o. unwrap_or o d) e
+
+pub unwrap_or_unset : {T : Type 0} {v : T} {o : Option T} {d : T} → None ≡ o → v ≡ d → v ≡ unwrap_or o d
+unwrap_or_unset {d = d} e is = is ∙ ap (λ o. unwrap_or o d) e
+
+pub on_err : {A E : Type 0} (r : Result A E) {P : Type 0} → P → OnErr r P
+on_err (Ok x) p = tt
+on_err (Err e) p = p
+
+pub on_ok_map : {A E : Type 0} (r : Result A E) {P Q : Type 0} → (P → Q) → OnOk r P → OnOk r Q
+on_ok_map (Ok x) f p = f p
+on_ok_map (Err e) f p = p
+
+pub ok_part : {A E : Type 0} (r : Result A E) (P : A → Type 0) (Q : E → Type 0) → MatchResult r P Q → IfOk r P
+ok_part (Ok x) P Q p = p
+ok_part (Err e) P Q q = tt
+
+-- what is held is what the calls decide
+pub held_decided : {T : Type 0} (given : T) (calls : List (MapCall T)) (held : Held T) → IsTold given calls held → (p : Position) → held_value held p ≡ decided_value given calls p
+held_decided given calls held told p = λ i. unwrap_or (told.cells p i) (unwrap_or (told.columns p.col i) (unwrap_or (told.rows p.row i) (told.global i)))

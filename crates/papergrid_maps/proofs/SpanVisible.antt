@@ -1,0 +1,104 @@
+-- The test of visibility says what the rectangles say.
+use Rattle.std.proofs.Common.{◌≡◌, ℕ, Bool, true, false, ◌&&◌, List, [], ◌∷◌, ◌++◌, Option, Some, None, refl, sym, subst, ◌∙◌, arith, inl, inr, ⊎_elim}
+use Rattle.std.specs.Prelude.{unwrap_or, not, is_some, ◌||◌, ◌≢◌, ◌↔◌, ◌⊎◌, IsTrue}
+use Rattle.std.specs.List.{list_any}
+use Rattle.std.specs.FinMap.{FinMap, get, keys, contains_key-keys}
+use Rattle.std.proofs.lemmas.Bool.{false≢true, and_parts, and_from, or_right, leb-true, le-leb, ltb-true, lt-ltb}
+use Rattle.std.proofs.lemmas.Map.Keys.{any_passes_from_place}
+use Rattle.papergrid_values.specs.declared.position.Position.{Position}
+use Rattle.papergrid_maps.specs.Keys.{position_cmp, position_eq}
+use Rattle.papergrid_maps.specs.Spans.{Spans, column_span, row_span, is_hidden_by, is_in_rectangle, is_visible, IsVisible, IsInRectangle}
+use Rattle.papergrid_maps.proofs.AnyLemmas.{any_place}
+use Rattle.papergrid_maps.proofs.KeyLemmas.{exact_position_eq, position_ties, position_equiv}
+
+-- the test of a rectangle
+in_rectangle : (columns rows : Position → ℕ) (anchor p : Position) → is_in_rectangle columns rows anchor p ≡ true → IsInRectangle columns rows anchor p
+in_rectangle columns rows anchor p h =
+    let below = and_parts _ _ h in
+    let above = and_parts _ _ below.1 in
+    let right = and_parts _ _ above.1 in
+    record {
+      below_top = leb-true _ _ below.0;
+      above_bottom = ltb-true _ _ above.0;
+      after_left = leb-true _ _ right.0;
+      before_right = ltb-true _ _ right.1;
+    }
+
+tests_rectangle : (columns rows : Position → ℕ) (anchor p : Position) → IsInRectangle columns rows anchor p → is_in_rectangle columns rows anchor p ≡ true
+tests_rectangle columns rows anchor p within =
+    and_from _ _ (le-leb _ _ within.below_top) (and_from _ _ (lt-ltb _ _ within.above_bottom)
+    (and_from _ _ (le-leb _ _ within.after_left) (lt-ltb _ _ within.before_right)))
+
+not_true : (b : Bool) → not b ≡ true → b ≡ true → ⊥
+not_true true h e = false≢true h
+not_true false h e = false≢true e
+
+apart_by_test : (p q : Position) → p ≢ q → not (position_eq p q) ≡ true
+apart_by_test p q apart =
+    elim (position_eq p q) as (λ b. position_eq p q ≡ b → not b ≡ true) [
+      | true ↦ λ e. absurd (apart (exact_position_eq p q e))
+      | false ↦ λ e. refl
+    ] refl
+
+apart_from_test : (p q : Position) → not (position_eq p q) ≡ true → p ≢ q
+apart_from_test p q h e = not_true (position_eq p q) h (subst (λ x. position_eq p x ≡ true) e (position_equiv.refl p))
+
+any_append : {A : Type 0} (test : A → Bool) (xs ys : List A) → list_any test xs ≡ true → list_any test (xs ++ ys) ≡ true
+any_append test [] ys h = absurd (false≢true h)
+any_append test (x ∷ xs) ys h =
+    elim (test x) as (λ b. (b || list_any test xs) ≡ true → (b || list_any test (xs ++ ys)) ≡ true) [ true ↦ λ h. refl | false ↦ any_append test xs ys ] h
+
+any_prepend : {A : Type 0} (test : A → Bool) (xs ys : List A) → list_any test ys ≡ true → list_any test (xs ++ ys) ≡ true
+any_prepend test [] ys h = h
+any_prepend test (x ∷ xs) ys h = or_right (test x) _ (any_prepend test xs ys h)
+
+-- a position whose span is held is among the keys
+among : (spans : FinMap position_cmp ℕ) (anchor : Position) (test : Position → Bool) → is_some (get spans anchor) ≡ true → test anchor ≡ true → list_any test (keys spans) ≡ true
+among spans anchor test held passes =
+    let place = any_place _ (keys spans) (sym (contains_key-keys spans anchor) ∙ held) in
+    let same = exact_position_eq anchor place.1 (position_ties anchor place.1 ∙ place.3) in
+    any_passes_from_place test (keys spans) place.0 place.1 place.2 (subst (λ q. test q ≡ true) same passes)
+
+one_where_none : (o : Option ℕ) → (is_some o ≡ true → ⊥) → unwrap_or o 1 ≡ 1
+one_where_none None h = refl
+one_where_none (Some n) h = absurd (h refl)
+
+held_or_not : (o : Option ℕ) → (is_some o ≡ true) ⊎ (is_some o ≡ true → ⊥)
+held_or_not None = inr false≢true
+held_or_not (Some n) = inl refl
+
+hides : (spans : Spans) (p anchor : Position) → anchor ≢ p → IsInRectangle (column_span spans) (row_span spans) anchor p
+    → is_hidden_by (column_span spans) (row_span spans) (keys spans.columns ++ keys spans.rows) p ≡ true
+hides spans p anchor apart within =
+    let test : Position → Bool = λ q. not (position_eq q p) && is_in_rectangle (column_span spans) (row_span spans) q p in
+    let passes : test anchor ≡ true = and_from _ _ (apart_by_test anchor p apart) (tests_rectangle _ _ anchor p within) in
+    ⊎_elim (λ wide. any_append test (keys spans.columns) (keys spans.rows) (among spans.columns anchor test wide passes))
+    (λ narrow. ⊎_elim (λ tall. any_prepend test (keys spans.columns) (keys spans.rows) (among spans.rows anchor test tall passes))
+    (λ short.
+    let one_column : column_span spans anchor ≡ 1 = one_where_none (get spans.columns anchor) narrow in
+    let one_row : row_span spans anchor ≡ 1 = one_where_none (get spans.rows anchor) short in
+    let row : anchor.row ≡ p.row = omega (arith, one_row, within.below_top, within.above_bottom) in
+    let col : anchor.col ≡ p.col = omega (arith, one_column, within.after_left, within.before_right) in
+    absurd (apart (λ i. record { row = row i; col = col i })))
+    (held_or_not (get spans.rows anchor)))
+    (held_or_not (get spans.columns anchor))
+
+pub visible_test : (spans : Spans) (p : Position) → IsTrue (is_visible spans p) ↔ IsVisible (column_span spans) (row_span spans) p
+visible_test spans p = (
+  (λ h anchor apart within. not_true _ h (hides spans p anchor apart within)),
+  (λ visible.
+      let anchors = keys spans.columns ++ keys spans.rows in
+      elim (is_hidden_by (column_span spans) (row_span spans) anchors p) as (λ b. is_hidden_by (column_span spans) (row_span spans) anchors p ≡ b → not b ≡ true) [
+        | true ↦ λ hidden.
+            let place = any_place (λ q. not (position_eq q p) && is_in_rectangle (column_span spans) (row_span spans) q p) anchors hidden in
+            let parts = and_parts (not (position_eq place.1 p)) _ place.3 in
+            absurd (visible place.1 (apart_from_test place.1 p parts.0) (in_rectangle _ _ place.1 p parts.1))
+        | false ↦ λ seen. refl
+      ] refl),
+)
+
+-- two tests of one fact are equal
+pub same_answer : {V : Type 0} (a b : Bool) → (IsTrue a ↔ V) → (IsTrue b ↔ V) → a ≡ b
+same_answer true b f g = sym (g.1 (f.0 refl))
+same_answer false true f g = f.1 (g.0 refl)
+same_answer false false f g = refl

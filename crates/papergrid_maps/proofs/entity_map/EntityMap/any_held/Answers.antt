@@ -1,0 +1,21 @@
+use Rattle.std.proofs.Common.{refl, inl}
+use Rattle.papergrid_maps.proofs.AnyHeld.{all_held, held_in_cells, held_in_columns, held_in_rows, on_false_map, on_true_map}
+use Rattle.papergrid_maps.proofs.entity_map.EntityMap.any_held.Goals as goal
+
+pub returns-then-f-clause-yes : goal.returns-then-f-clause-yes
+returns-then-f-clause-yes g c = rw (← c.self.view_is)
+    (c.self.inside.global, inl refl, record { shown = _; shows = refl; says = record { met = c.if-f.ensures } })
+
+pub returns-then-any_value-clause-yes : goal.returns-then-any_value-clause-yes
+returns-then-any_value-clause-yes g c = rw (← c.self.view_is) (held_in_columns _ _ _ _ _ c.any_value.ensures.unique c.if-any_value.ensures.yes)
+
+pub returns-then-any_value-2-clause-yes : goal.returns-then-any_value-2-clause-yes
+returns-then-any_value-2-clause-yes g c = rw (← c.self.view_is) (held_in_rows _ _ _ _ _ c.any_value-2.ensures.unique c.if-any_value-2.ensures.yes)
+
+pub returns-clause-yes : goal.returns-clause-yes
+returns-clause-yes g c = rw (← c.self.view_is)
+    (on_true_map c.any_value-3.result (held_in_cells _ _ _ _ _ c.any_value-3.ensures.unique) c.any_value-3.ensures.yes)
+
+pub returns-clause-no : goal.returns-clause-no
+returns-clause-no g c = rw (← c.self.view_is)
+    (on_false_map c.any_value-3.result (all_held _ _ _ _ _ (record { shown = _; shows = refl; says = record { met = c.if-f.ensures } }) c.if-any_value.ensures.no c.if-any_value-2.ensures.no) c.any_value-3.ensures.no)

@@ -1,0 +1,7 @@
+use Rattle.std.specs.HashMap.{spare, get}
+use Rattle.papergrid_maps.specs.Keys.{position_eq}
+use Rattle.papergrid_maps.proofs.WrittenCopies.{Written}
+use Rattle.papergrid_maps.proofs.entity_map.write_copies.Given as goal
+
+abbrev pub invariant-loop-place : goal.invariant-loop-place
+invariant-loop-place g l = Written l.place-index l.places l.value l.copies.items (spare l.cells) (get position_eq l.cells) (get position_eq l.initial.cells)

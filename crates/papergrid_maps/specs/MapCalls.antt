@@ -1,0 +1,51 @@
+-- What a list of calls decides. Lists of calls are oldest first; the searches go from the newest call back.
+use Rattle.std.specs.Prelude.{ℕ, ◌==◌, ◌&&◌, if◌then◌else◌, List, [], ◌∷◌, reverse, Option, Some, None, is_some, unwrap_or}
+use Rattle.papergrid_values.specs.declared.position.Position.{Position}
+use Rattle.papergrid_values.specs.declared.entity.Entity.TheVariants.{Global, Column, Row, Cell}
+use Rattle.papergrid_maps.specs.declared.entity_map.MapCall.{MapCall}
+use Rattle.papergrid_maps.specs.declared.entity_map.MapCall.TheVariants.{Insert, Remove}
+
+-- a call of Global ends what stood before it
+module _ {T : Type 0} where
+  -- the value of a column that stands: its last insert since the last call of Global
+  abbrev pub column_value : ℕ → List (MapCall T) → Option T
+  column_value c [] = None
+  column_value c (Insert Global v ∷ older) = None
+  column_value c (Remove Global ∷ older) = None
+  column_value c (Insert (Column k) v ∷ older) = if k == c then Some v else column_value c older
+  column_value c (call ∷ older) = column_value c older
+
+  -- the same of a row
+  abbrev pub row_value : ℕ → List (MapCall T) → Option T
+  row_value r [] = None
+  row_value r (Insert Global v ∷ older) = None
+  row_value r (Remove Global ∷ older) = None
+  row_value r (Insert (Row k) v ∷ older) = if k == r then Some v else row_value r older
+  row_value r (call ∷ older) = row_value r older
+
+  -- the last value inserted for Global, or else the one given at first
+  abbrev pub global_value : T → List (MapCall T) → T
+  global_value given [] = given
+  global_value given (Insert Global v ∷ older) = v
+  global_value given (call ∷ older) = global_value given older
+
+  -- the last pin that counts: an insert of the cell, or one of its row (column) while its column (row) has a value,
+  -- since the last call of Global and the last remove of the cell, its row or its column
+  abbrev pub pinned_value : ℕ → ℕ → List (MapCall T) → Option T
+  pinned_value r c [] = None
+  pinned_value r c (Insert Global v ∷ older) = None
+  pinned_value r c (Remove Global ∷ older) = None
+  pinned_value r c (Insert (Cell i j) v ∷ older) = if i == r && j == c then Some v else pinned_value r c older
+  pinned_value r c (Insert (Row i) v ∷ older) = if i == r && is_some (column_value c older) then Some v else pinned_value r c older
+  pinned_value r c (Insert (Column j) v ∷ older) = if j == c && is_some (row_value r older) then Some v else pinned_value r c older
+  pinned_value r c (Remove (Cell i j) ∷ older) = if i == r && j == c then None else pinned_value r c older
+  pinned_value r c (Remove (Row i) ∷ older) = if i == r then None else pinned_value r c older
+  pinned_value r c (Remove (Column j) ∷ older) = if j == c then None else pinned_value r c older
+
+  -- the value that the calls decide at a position, where the map was made with the value given
+  abbrev pub decided_value : T → List (MapCall T) → Position → T
+  decided_value given calls p =
+      let newest_first = reverse calls in
+      unwrap_or (pinned_value p.row p.col newest_first)
+      (unwrap_or (column_value p.col newest_first)
+      (unwrap_or (row_value p.row newest_first) (global_value given newest_first)))

@@ -1,0 +1,115 @@
+-- Spans: what the calls decide, what is held, and what a rectangle hides.
+use Rattle.std.specs.Prelude.{◌≡◌, ℕ, ◌+◌, ◌<◌, ◌≤◌, ◌≢◌, ◌&&◌, not, nat_lt, nat_le, Bool, true, false, if◌then◌else◌, List, [], ◌∷◌, ◌++◌, reverse, Option, Some, None, IsSome, unwrap_or, refl}
+use Rattle.std.specs.List.{list_any}
+use Rattle.std.specs.FinMap.{FinMap, get, keys, code}
+use Rattle.std.specs.Coded.{Coded, code_by, coded×, coded_ℕ}
+use Rattle.papergrid_values.specs.declared.position.Position.{Position}
+use Rattle.papergrid_maps.specs.Keys.{position_cmp, position_eq, coded_position}
+
+-- along columns or along rows
+pub data Direction : Type 0 where
+  Columns : Direction
+  Rows : Direction
+
+abbrev pub is_same_direction : Direction → Direction → Bool
+is_same_direction Columns Columns = true
+is_same_direction Rows Rows = true
+is_same_direction a b = false
+
+-- the calls that change spans
+pub data SpanCall : Type 0 where
+  SetSpan : Direction → Position → ℕ → SpanCall
+  RemoveSpans : Direction → SpanCall
+
+-- the span of a position: the number of the last call for it with 1 or more, since the last
+-- removal of all spans of the direction, or 1; the newest call first
+abbrev pub span_from : Direction → Position → List SpanCall → ℕ
+span_from d p [] = 1
+span_from d p (RemoveSpans e ∷ older) = if is_same_direction e d then 1 else span_from d p older
+span_from d p (SetSpan e q n ∷ older) =
+    if is_same_direction e d && (nat_le 1 n && position_eq q p) then n else span_from d p older
+
+abbrev pub decided_span : Direction → Position → List SpanCall → ℕ
+decided_span d p calls = span_from d p (reverse calls)
+
+-- the spans held, by column and by row
+pub record Spans : Type 0 where
+  pub columns : FinMap position_cmp ℕ
+  pub rows : FinMap position_cmp ℕ
+
+abbrev pub spans_code : Coded Spans
+spans_code =
+    code_by (FinMap position_cmp ℕ × FinMap position_cmp ℕ) (coded× (code coded_position coded_ℕ) (code coded_position coded_ℕ))
+    (λ s. (s.columns, s.rows)) (λ p. record { columns = p.0; rows = p.1 }) (λ _. refl)
+
+abbrev pub spans_along : Direction → Spans → FinMap position_cmp ℕ
+spans_along Columns spans = spans.columns
+spans_along Rows spans = spans.rows
+
+-- a span is held where it is 2 or more
+abbrev pub from_two : ℕ → Option ℕ
+from_two n = if nat_le 2 n then Some n else None
+
+-- a new table that was given the calls holds this
+abbrev pub IsTold : List SpanCall → Spans → Type 0
+IsTold calls spans = (d : Direction) (p : Position) → get (spans_along d spans) p ≡ from_two (decided_span d p calls)
+
+-- told by any calls, the table is told by these and then the further ones
+abbrev pub Appends : Spans → Spans → List SpanCall → Type 0
+Appends old new further = (calls : List SpanCall) → IsTold calls old → IsTold (calls ++ further) new
+
+-- a span of the direction is held
+abbrev pub HasSpan : FinMap position_cmp ℕ → Type 0
+HasSpan spans = (p : Position) × IsSome (get spans p)
+
+-- the spans of all positions, 1 where none is held
+abbrev pub column_span : Spans → Position → ℕ
+column_span spans p = unwrap_or (get spans.columns p) 1
+
+abbrev pub row_span : Spans → Position → ℕ
+row_span spans p = unwrap_or (get spans.rows p) 1
+
+-- ---- rectangles, by the column spans and the row spans of all positions
+
+module _ (columns rows : Position → ℕ) where
+  -- the position lies in the anchor's rectangle
+  pub record IsInRectangle (anchor p : Position) : Type 0 where
+    pub below_top : anchor.row ≤ p.row
+    pub above_bottom : p.row < anchor.row + rows anchor
+    pub after_left : anchor.col ≤ p.col
+    pub before_right : p.col < anchor.col + columns anchor
+
+  -- in no rectangle of another anchor
+  abbrev pub IsVisible : Position → Type 0
+  IsVisible p = (anchor : Position) → anchor ≢ p → IsInRectangle anchor p → ⊥
+
+  -- right of an anchor in its row
+  abbrev pub IsCoveredByColumn : Position → Type 0
+  IsCoveredByColumn p =
+      (anchor : Position) × (anchor.row ≡ p.row) × (anchor.col < p.col) × (p.col < anchor.col + columns anchor)
+
+  -- below an anchor in its column
+  abbrev pub IsCoveredByRow : Position → Type 0
+  IsCoveredByRow p =
+      (anchor : Position) × (anchor.col ≡ p.col) × (anchor.row < p.row) × (p.row < anchor.row + rows anchor)
+
+  -- inside the rectangle of an anchor
+  abbrev pub IsCoveredByBoth : Position → Type 0
+  IsCoveredByBoth p =
+      (anchor : Position) × (anchor.row < p.row) × (p.row < anchor.row + rows anchor)
+      × (anchor.col < p.col) × (p.col < anchor.col + columns anchor)
+
+  -- whether the position lies in the anchor's rectangle
+  abbrev pub is_in_rectangle : Position → Position → Bool
+  is_in_rectangle anchor p =
+      nat_le anchor.row p.row && (nat_lt p.row (anchor.row + rows anchor)
+      && (nat_le anchor.col p.col && nat_lt p.col (anchor.col + columns anchor)))
+
+  -- whether one of these anchors, if it is another position, hides this one
+  abbrev pub is_hidden_by : List Position → Position → Bool
+  is_hidden_by anchors p = list_any (λ anchor. not (position_eq anchor p) && is_in_rectangle anchor p) anchors
+
+-- whether the position is visible: only where a span is held can another position hide it
+abbrev pub is_visible : Spans → Position → Bool
+is_visible spans p =
+    not (is_hidden_by (column_span spans) (row_span spans) (keys spans.columns ++ keys spans.rows) p)

@@ -1,0 +1,383 @@
+//! A value for each position, set by entity. Source: `config/spanned/entity_map.rs`.
+
+ghost use Rattle.std.specs.Prelude.{All, Any, true, false, nat_eq, List, ◌≡◌, ◌∷◌, [], map, length, IfOk, OnOk, OnErr, IsOk, IfErr, IsTrue, take, Some, if◌then◌else◌, filter, not, ◌==◌, ◌<◌, ◌↔◌};
+ghost use Rattle.std.specs.Bool.{OnTrue, OnFalse};
+ghost use Rattle.std.specs.Fn.{FnReturnsAt};
+ghost use Rattle.std.specs.HashMap.{IsUnique, keys, values, get as map_get};
+ghost use Rattle.std.specs.Option.{option_or};
+ghost use Rattle.std.specs.Set.{is_member};
+ghost use Rattle.papergrid_values.specs.declared.entity.Entity.{Entity};
+ghost use Rattle.papergrid_values.specs.declared.position.Position.{Position};
+ghost use Rattle.papergrid_maps.specs.Keys.{entity_eq, position_eq};
+ghost use Rattle.papergrid_maps.specs.MapCalls.{decided_value};
+ghost use Rattle.papergrid_maps.specs.MapHeld.{IsTold, Appends, HasNothing, Holds, held_for, held_value, in_cells, in_columns, in_rows};
+ghost use Rattle.papergrid_maps.specs.declared.entity_map.MapCall.{MapCall};
+
+use crate::hashed::{put, take};
+use papergrid_values::{Entity, Position};
+use std::alloc::{AllocError, Global};
+use std::collections::HashMap;
+use std::hash::Hash;
+use std::marker::Model;
+
+/// A call that changes an `EntityMap`.
+#[derive(Clone, Debug, Drop)]
+pub enum MapCall<T> {
+    /// Sets a value for an entity.
+    Insert(Entity, T),
+    /// Takes back what was set for an entity.
+    Remove(Entity),
+}
+
+/// How many calls of a list were done before one was refused for memory.
+#[derive(Clone, Copy, Debug, PartialEq, Eq)]
+pub struct Stopped {
+    pub done: usize,
+}
+
+/// A value for each position.
+#[derive(Drop)]
+pub struct EntityMap<T> {
+    alloc: Global,
+    global: T,
+    columns: HashMap<usize, T>,
+    rows: HashMap<usize, T>,
+    cells: HashMap<Position, T>,
+}
+
+impl<T> Model for EntityMap<T> {
+    ghost use Rattle.std.specs.FinMap as map;
+    ghost use Rattle.papergrid_maps.specs.MapHeld.{Held, held_code};
+
+    ghost Value = { Held T };
+
+    ghost coded = { held_code T.code };
+
+    ghost view = { λ m. record { global = m.global; columns = map.from_entries m.columns.entries; rows = map.from_entries m.rows.entries; cells = map.from_entries m.cells.entries } };
+}
+
+impl<T> EntityMap<T> {
+    /// The map that holds the value for the whole table alone. It takes no memory.
+    pub fn new(alloc: Global, global: T) -> Self
+        ensures { IsTold global [] result }
+    {
+        EntityMap {
+            alloc,
+            global,
+            columns: HashMap::new(alloc),
+            rows: HashMap::new(alloc),
+            cells: HashMap::new(alloc),
+        }
+    }
+
+    /// Whether nothing is held for a column, a row or a cell.
+    pub fn is_empty(&self) -> bool
+        ensures { IsTrue result ↔ HasNothing self.now }
+    {
+        let columns = self.columns.is_empty();
+        let rows = self.rows.is_empty();
+        let cells = self.cells.is_empty();
+        columns & (rows & cells)
+    }
+
+    /// The value held for the cell, else for its column, else for its row, else for the whole
+    /// table: where calls tell the map, the one that they decide.
+    pub fn get(&self, pos: Position) -> &T
+        ensures held { result.now ≡ held_value self.now pos }
+        ensures decided { (given : T) (calls : List (MapCall T)) → IsTold given calls self.now → result.now ≡ decided_value given calls pos }
+    {
+        self.value_at(pos)
+    }
+
+    /// Whether `f` is true of a value that is held, the one for the whole table among them.
+    /// Condition: `f` may be called.
+    pub fn any_held<F: Fn(&T) -> bool>(&self, f: F) -> bool
+    where
+        F: Drop,
+        requires { F.IsAlwaysCallable f }
+        ensures yes { OnTrue result ((v : T) × Holds self.now v × FnReturnsAt F.Fn f v true) }
+        ensures no { OnFalse result ((v : T) → Holds self.now v → FnReturnsAt F.Fn f v false) }
+    {
+        if f(&self.global) {
+            return true;
+        }
+        if any_value(&self.columns, &f) {
+            return true;
+        }
+        if any_value(&self.rows, &f) {
+            return true;
+        }
+        any_value(&self.cells, &f)
+    }
+
+    /// What is held for each entity, or want of memory.
+    pub fn into_map(self) -> Result<HashMap<Entity, T>, AllocError>
+    where
+        T: Drop,
+        ensures { IfOk result (λ all. (entity : Entity) → map_get entity_eq all entity ≡ held_for self entity) }
+    {
+        let EntityMap {
+            alloc,
+            global,
+            columns,
+            rows,
+            cells,
+        } = self;
+        let mut all = HashMap::new(alloc);
+        add_columns(&mut all, columns)?;
+        add_rows(&mut all, rows)?;
+        add_cells(&mut all, cells)?;
+        match all.insert(Entity::Global, global) {
+            Ok(_) => Ok(all),
+            Err(_) => Err(AllocError),
+        }
+    }
+
+    fn value_at(&self, pos: Position) -> &T
+        ensures { result.now ≡ held_value self.now pos }
+    {
+        if let Some(value) = self.cells.get(&pos) {
+            return value;
+        }
+        if let Some(value) = self.columns.get(&pos.col) {
+            return value;
+        }
+        if let Some(value) = self.rows.get(&pos.row) {
+            return value;
+        }
+        &self.global
+    }
+}
+
+impl<T> AsRef<T> for EntityMap<T> {
+    /// The value held for the whole table.
+    fn as_ref(&self) -> &T
+        ensures { result.now ≡ self.now.global }
+    {
+        &self.global
+    }
+}
+
+impl<T: Clone> Clone for EntityMap<T> {
+    // It is like its original where clones of the values are.
+    ghost is_clone = { λ m n. ((x y : T) → T.is_clone x y → y ≡ x) → n ≡ m };
+
+    fn clone(&self) -> Result<EntityMap<T>, AllocError> {
+        Ok(EntityMap {
+            alloc: self.alloc,
+            global: self.global.clone()?,
+            columns: self.columns.clone()?,
+            rows: self.rows.clone()?,
+            cells: self.cells.clone()?,
+        })
+    }
+}
+
+impl<T: PartialEq> PartialEq for EntityMap<T> {
+    ghost use Rattle.papergrid_maps.specs.MapEq.{held_eq, held_eq_laws};
+
+    ghost eq = { held_eq T.eq };
+
+    ghost laws = { held_eq_laws T.eq T.laws };
+
+    fn eq(&self, other: &EntityMap<T>) -> bool {
+        let global = self.global == other.global;
+        let columns = self.columns == other.columns;
+        let rows = self.rows == other.rows;
+        let cells = self.cells == other.cells;
+        global & (columns & (rows & cells))
+    }
+}
+
+impl<T: Drop> EntityMap<T> {
+    /// Takes back what was set.
+    pub fn remove(&mut self, entity: Entity)
+        ensures { Appends self.old self.new (MapCall.Remove entity ∷ []) }
+    {
+        match entity {
+            Entity::Global => {
+                self.columns.clear();
+                self.rows.clear();
+                self.cells.clear();
+            }
+            Entity::Column(col) => drop_column(&mut self.cells, col),
+            Entity::Row(row) => drop_row(&mut self.cells, row),
+            Entity::Cell(row, col) => take(&mut self.cells, Position { row, col }),
+        }
+    }
+}
+
+impl<T: Clone> EntityMap<T> {
+    /// Sets a value. A column's is written to its crossings with the rows that have one too, and a row's likewise.
+    pub fn insert(&mut self, entity: Entity, value: T) -> Result<(), AllocError>
+        requires equal_clones { (x y : T) → T.is_clone x y → y ≡ x }
+        ensures ok { OnOk result (Appends self.old self.new (MapCall.Insert entity value ∷ [])) }
+        ensures err { OnErr result (self.new ≡ self.old) }
+        ensures global { entity ≡ Entity.Global → IsOk result }
+    {
+        match entity {
+            Entity::Global => {
+                self.columns.clear();
+                self.rows.clear();
+                self.cells.clear();
+                self.global = value;
+            }
+            Entity::Column(col) => {
+                self.columns.reserve(1)?;
+                let crossings = crossings_of_column(self.alloc, &self.rows, col)?;
+                write_copies(self.alloc, &mut self.cells, crossings.as_slice(), &value)?;
+                put(&mut self.columns, col, value);
+            }
+            Entity::Row(row) => {
+                self.rows.reserve(1)?;
+                let crossings = crossings_of_row(self.alloc, &self.columns, row)?;
+                write_copies(self.alloc, &mut self.cells, crossings.as_slice(), &value)?;
+                put(&mut self.rows, row, value);
+            }
+            Entity::Cell(row, col) => {
+                self.cells.reserve(1)?;
+                put(&mut self.cells, Position { row, col }, value);
+            }
+        }
+        Ok(())
+    }
+
+    /// Makes the calls in order, up to one that is refused.
+    pub fn apply_all(&mut self, calls: Vec<MapCall<T>>) -> Result<(), Stopped>
+        requires equal_clones { (x y : T) → T.is_clone x y → y ≡ x }
+        ensures ok { OnOk result (Appends self.old self.new calls.items) }
+        ensures err { IfErr result (λ stopped. Appends self.old self.new (take stopped.done calls.items)) }
+        ensures refused { IfErr result (λ stopped. stopped.done < length calls.items) }
+    {
+        let mut done = 0;
+        for call in calls {
+            match self.apply(call) {
+                Ok(()) => done += 1,
+                Err(_) => return Err(Stopped { done }),
+            }
+        }
+        Ok(())
+    }
+
+    fn apply(&mut self, call: MapCall<T>) -> Result<(), AllocError>
+        requires equal_clones { (x y : T) → T.is_clone x y → y ≡ x }
+        ensures ok { OnOk result (Appends self.old self.new (call ∷ [])) }
+        ensures err { OnErr result (self.new ≡ self.old) }
+    {
+        match call {
+            MapCall::Insert(entity, value) => self.insert(entity, value),
+            MapCall::Remove(entity) => {
+                self.remove(entity);
+                Ok(())
+            }
+        }
+    }
+}
+
+// The cells of a column in the rows that have a value.
+fn crossings_of_column<T>(
+    alloc: Global,
+    rows: &HashMap<usize, T>,
+    col: usize,
+) -> Result<Vec<Position>, AllocError>
+    ensures { IfOk result (λ v. v.items ≡ map (λ r. record { row = r; col = col }) (keys rows.now)) }
+{
+    rows.keys()
+        .map(|row| Position { row: *row, col })
+        .collect(alloc)
+}
+
+// The cells of a row in the columns that have a value.
+fn crossings_of_row<T>(
+    alloc: Global,
+    columns: &HashMap<usize, T>,
+    row: usize,
+) -> Result<Vec<Position>, AllocError>
+    ensures { IfOk result (λ v. v.items ≡ map (λ c. record { row = row; col = c }) (keys columns.now)) }
+{
+    columns
+        .keys()
+        .map(|col| Position { row, col: *col })
+        .collect(alloc)
+}
+
+// Writes a copy of the value at each of the places, or changes nothing.
+fn write_copies<T: Clone>(
+    alloc: Global,
+    cells: &mut HashMap<Position, T>,
+    places: &[Position],
+    value: &T,
+) -> Result<(), AllocError>
+    requires equal_clones { (x y : T) → T.is_clone x y → y ≡ x }
+    ensures ok { OnOk result ((q : Position) → map_get position_eq cells.new q ≡ (if is_member position_eq places.now q then Some value.now else map_get position_eq cells.old q)) }
+    ensures err { OnErr result ((q : Position) → map_get position_eq cells.new q ≡ map_get position_eq cells.old q) }
+{
+    let mut copies = vec![in alloc; value.clone()?; places.len()]?;
+    cells.reserve(places.len())?;
+    for place in places {
+        let copy = copies.pop().unwrap();
+        put(cells, *place, copy);
+    }
+    Ok(())
+}
+
+fn drop_column<T: Drop>(cells: &mut HashMap<Position, T>, col: usize)
+    ensures { cells.new.entries ≡ filter (λ e. not (e.0.col == col)) cells.old.entries }
+{
+    cells.retain(|place, _| place.col != col);
+}
+
+fn drop_row<T: Drop>(cells: &mut HashMap<Position, T>, row: usize)
+    ensures { cells.new.entries ≡ filter (λ e. not (e.0.row == row)) cells.old.entries }
+{
+    cells.retain(|place, _| place.row != row);
+}
+
+// Whether `f` is true of a value of the map.
+fn any_value<K: Eq + Hash, T, F: Fn(&T) -> bool>(map: &HashMap<K, T>, f: &F) -> bool
+    requires { F.IsAlwaysCallable f.now }
+    ensures yes { OnTrue result (Any (λ v. FnReturnsAt F.Fn f.now v true) (values map.now)) }
+    ensures no { OnFalse result (All (λ v. FnReturnsAt F.Fn f.now v false) (values map.now)) }
+    ensures unique { IsUnique K.eq map.now }
+{
+    for value in map.values() {
+        if f(value) {
+            return true;
+        }
+    }
+    false
+}
+
+fn add_columns<T: Drop>(
+    all: &mut HashMap<Entity, T>,
+    columns: HashMap<usize, T>,
+) -> Result<(), AllocError>
+    ensures { OnOk result ((e : Entity) → map_get entity_eq all.new e ≡ option_or (in_columns (map_get nat_eq columns) e) (map_get entity_eq all.old e)) }
+{
+    all.extend(
+        columns
+            .into_iter()
+            .map(|(col, value)| (Entity::Column(col), value)),
+    )
+}
+
+fn add_rows<T: Drop>(
+    all: &mut HashMap<Entity, T>,
+    rows: HashMap<usize, T>,
+) -> Result<(), AllocError>
+    ensures { OnOk result ((e : Entity) → map_get entity_eq all.new e ≡ option_or (in_rows (map_get nat_eq rows) e) (map_get entity_eq all.old e)) }
+{
+    all.extend(
+        rows.into_iter()
+            .map(|(row, value)| (Entity::Row(row), value)),
+    )
+}
+
+fn add_cells<T: Drop>(
+    all: &mut HashMap<Entity, T>,
+    cells: HashMap<Position, T>,
+) -> Result<(), AllocError>
+    ensures { OnOk result ((e : Entity) → map_get entity_eq all.new e ≡ option_or (in_cells (map_get position_eq cells) e) (map_get entity_eq all.old e)) }
+{
+    all.extend(cells.into_iter().map(|(place, value)| (Entity::Cell(place.row, place.col), value)))
+}

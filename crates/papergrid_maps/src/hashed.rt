@@ -1,0 +1,40 @@
+//! Single steps on hashed maps, told by what each key has.
+
+ghost use Rattle.std.specs.Prelude.{◌≡◌, ◌+◌, ◌<◌, ◌≤◌, Some, None, OnOk, OnErr};
+ghost use Rattle.std.specs.HashMap.{spare, IsUnchanged, Updates};
+
+use std::alloc::AllocError;
+use std::collections::HashMap;
+use std::hash::Hash;
+
+/// Writes a value where there is room, so that memory cannot be refused.
+pub(crate) fn put<K: Eq + Hash + Drop, T: Drop>(map: &mut HashMap<K, T>, key: K, value: T)
+    requires room { 0 < spare map.old }
+    ensures updates { Updates K.eq map.old map.new key (Some value) }
+    ensures spare { spare map.old ≤ spare map.new + 1 }
+{
+    match map.insert(key, value) {
+        Ok(_) => {}
+        Err(_) => unreachable!(),
+    }
+}
+
+/// Writes a value, or leaves all as it was where memory is refused.
+pub(crate) fn write<K: Eq + Hash + Drop, T: Drop>(
+    map: &mut HashMap<K, T>,
+    key: K,
+    value: T,
+) -> Result<(), AllocError>
+    ensures ok { OnOk result (Updates K.eq map.old map.new key (Some value)) }
+    ensures err { OnErr result (IsUnchanged map.old map.new) }
+{
+    let _ = map.insert(key, value)?;
+    Ok(())
+}
+
+/// Drops what a key has.
+pub(crate) fn take<K: Eq + Hash + Copy, T: Drop>(map: &mut HashMap<K, T>, key: K)
+    ensures { Updates K.eq map.old map.new key None }
+{
+    let _ = map.remove(&key);
+}
