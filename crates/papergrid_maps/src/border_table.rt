@@ -17,7 +17,7 @@ use std::marker::Model;
 
 /// A value for all lines, a frame, horizontal lines by row, vertical lines by column, and the
 /// edges and corners of cells by position. Neighbouring cells share edges and corners.
-#[derive(Drop)]
+#[derive(Debug, Drop)]
 pub struct BorderTable<T> {
     global: Option<T>,
     frame: Borders<T>,

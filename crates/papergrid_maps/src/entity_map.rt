@@ -35,8 +35,8 @@ pub struct Stopped {
     pub done: usize,
 }
 
-/// A value for each position.
-#[derive(Drop)]
+/// A value for each position: one for the whole table, and values for some columns, rows and cells.
+#[derive(Debug, Drop)]
 pub struct EntityMap<T> {
     alloc: Global,
     global: T,
@@ -190,7 +190,8 @@ impl<T: PartialEq> PartialEq for EntityMap<T> {
 }
 
 impl<T: Drop> EntityMap<T> {
-    /// Takes back what was set.
+    /// Takes back what was set: for the whole table all but its own value, for a column or a row
+    /// the values of its cells alone, and for a cell its value. It takes no memory.
     pub fn remove(&mut self, entity: Entity)
         ensures { Appends self.old self.new (MapCall.Remove entity ∷ []) }
     {
@@ -208,7 +209,10 @@ impl<T: Drop> EntityMap<T> {
 }
 
 impl<T: Clone> EntityMap<T> {
-    /// Sets a value. A column's is written to its crossings with the rows that have one too, and a row's likewise.
+    /// Sets a value. One for the whole table drops all others, and is never refused. A column's is
+    /// also written to its cells in the rows that have a value, and a row's to its cells in the
+    /// columns that have one. Where memory is refused the map is as it was. Condition: a clone of a
+    /// value equals it.
     pub fn insert(&mut self, entity: Entity, value: T) -> Result<(), AllocError>
         requires equal_clones { (x y : T) → T.is_clone x y → y ≡ x }
         ensures ok { OnOk result (Appends self.old self.new (MapCall.Insert entity value ∷ [])) }
@@ -242,7 +246,8 @@ impl<T: Clone> EntityMap<T> {
         Ok(())
     }
 
-    /// Makes the calls in order, up to one that is refused.
+    /// Makes the calls in order, up to one that is refused for memory: then the map is that of the
+    /// calls done before it. Condition: a clone of a value equals it.
     pub fn apply_all(&mut self, calls: Vec<MapCall<T>>) -> Result<(), Stopped>
         requires equal_clones { (x y : T) → T.is_clone x y → y ≡ x }
         ensures ok { OnOk result (Appends self.old self.new calls.items) }

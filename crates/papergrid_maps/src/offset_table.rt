@@ -15,14 +15,14 @@ use std::collections::HashMap;
 use std::marker::Model;
 
 /// A value for each offset of a position that has one.
-#[derive(Drop)]
+#[derive(Debug, Drop)]
 pub struct OffsetTable<T> {
     alloc: Global,
     overrides: HashMap<Position, Overrides<T>>,
 }
 
 // The values of one position, by offsets from either end.
-#[derive(Drop)]
+#[derive(Debug, Drop)]
 struct Overrides<T> {
     from_start: HashMap<usize, T>,
     from_end: HashMap<usize, T>,

@@ -19,7 +19,7 @@ use std::marker::Model;
 ///
 /// The rectangle of an anchor at (r, c) has the rows from r up to r + row span, and the columns
 /// from c up to c + column span, however large these sums are.
-#[derive(Drop)]
+#[derive(Debug, Drop)]
 pub struct SpanTable {
     columns: HashMap<Position, usize>,
     rows: HashMap<Position, usize>,
