@@ -5,11 +5,19 @@ use Rattle.std.proofs.lemmas.List.{reverse-append, take_more, take_all}
 use Rattle.std.proofs.lemmas.Option.{same_Some, none-some, slice_get_cases, slice_get_within, get_or_from_slice_get}
 use borrow.Author.Tests.{eqb-true, eq-eqb}
 use Rattle.papergrid.proofs.ReadLemmas.{chosen}
+use Rattle.papergrid_values.specs.declared.position.Position.{Position}
 use Rattle.papergrid_values.specs.declared.entity.Entity.TheVariants.{Global, Column, Row, Cell}
-use Rattle.papergrid.specs.declared.entity_map.MapCall.{MapCall}
-use Rattle.papergrid.specs.declared.entity_map.MapCall.TheVariants.{Insert, Remove}
-use Rattle.papergrid.specs.Calls.{column_value, row_value, global_value, pinned_value, decided_by, decided_value}
+use Rattle.papergrid_maps.specs.declared.entity_map.MapCall.{MapCall}
+use Rattle.papergrid_maps.specs.declared.entity_map.MapCall.TheVariants.{Insert, Remove}
+use Rattle.papergrid_maps.specs.MapCalls.{column_value, row_value, global_value, pinned_value, decided_value}
 use Rattle.papergrid.specs.Decided.{concerns_column, concerns_row, sets_all, ends_pins, IsLast, ColumnStands, RowStands, IsPin, PinStands, TableStands, NoTable, NoPin, NoColumn, NoRow, IsDecided, ByPin, ByColumn, ByRow, ByTable, ByDefault}
+
+-- the value that these calls decide, newest first
+abbrev decided_by : {T : Type 0} → T → List (MapCall T) → Position → T
+decided_by given newest p =
+    unwrap_or (pinned_value p.row p.col newest)
+    (unwrap_or (column_value p.col newest)
+    (unwrap_or (row_value p.row newest) (global_value given newest)))
 
 earlier : (j n : ℕ) → j < suc n → (j < n) ⊎ (j ≡ n)
 earlier j n h = grind arith
@@ -396,10 +404,8 @@ module _ {T : Type 0} (calls : List (MapCall T)) where
   all_newest = ap reverse (take_all (length calls) calls (omega arith))
 
   pub decided_value-IsDecided : (given : T) (r c : ℕ) → IsDecided calls given r c (length calls) (decided_value given calls (record { row = r; col = c }))
-  unfolding decided_value
   decided_value-IsDecided given r c =
       subst (λ (ns : List (MapCall T)). IsDecided calls given r c (length calls) (decided_by given ns (record { row = r; col = c }))) all_newest (is_decided given r c (length calls) (omega arith))
 
   pub IsDecided-only : (given : T) (r c : ℕ) (v : T) → IsDecided calls given r c (length calls) v → v ≡ decided_value given calls (record { row = r; col = c })
-  unfolding decided_value
   IsDecided-only given r c v h = sym (decided_is given r c (length calls) v (omega arith) h) ∙ ap (λ ns. decided_by given ns (record { row = r; col = c })) all_newest

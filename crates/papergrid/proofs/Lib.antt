@@ -4,7 +4,6 @@ mod EscapeLemmas
 mod KnownLemmas
 mod LineLemmas
 mod ReadLemmas
-mod RowLemmas
 mod SizeLemmas
 mod SpellLemmas
 mod TellsLemmas

@@ -1,8 +1,8 @@
 -- What a list of calls decides for a cell, by places in the list: apart from any search.
 use Rattle.std.specs.Prelude.{◌≡◌, ◌⊎◌, ℕ, ◌<◌, ◌==◌, ◌&&◌, Bool, true, false, List, Some, slice_get}
 use Rattle.papergrid_values.specs.declared.entity.Entity.TheVariants.{Global, Column, Row, Cell}
-use Rattle.papergrid.specs.declared.entity_map.MapCall.{MapCall}
-use Rattle.papergrid.specs.declared.entity_map.MapCall.TheVariants.{Insert, Remove}
+use Rattle.papergrid_maps.specs.declared.entity_map.MapCall.{MapCall}
+use Rattle.papergrid_maps.specs.declared.entity_map.MapCall.TheVariants.{Insert, Remove}
 
 module _ {T : Type 0} where
   -- a call for the whole table

@@ -1,7 +1,5 @@
-pub mod Calls
 pub mod Cells
 pub mod Decided
-pub mod Deciding
 pub mod Grammar
 pub mod Outputs
 pub mod Raising

@@ -6,9 +6,9 @@ use Rattle.papergrid_values.specs.declared.indent.Indent.{Indent}
 use Rattle.papergrid_values.specs.declared.sides.Sides.{Sides}
 use Rattle.papergrid.specs.declared.setting.Setting.{Setting}
 use Rattle.papergrid.specs.declared.setting.Setting.TheVariants.{SetPadding}
-use Rattle.papergrid.specs.declared.entity_map.MapCall.{MapCall}
-use Rattle.papergrid.specs.declared.entity_map.MapCall.TheVariants.{Insert}
-use Rattle.papergrid.specs.Calls.{decided_value}
+use Rattle.papergrid_maps.specs.declared.entity_map.MapCall.{MapCall}
+use Rattle.papergrid_maps.specs.declared.entity_map.MapCall.TheVariants.{Insert}
+use Rattle.papergrid_maps.specs.MapCalls.{decided_value}
 use Rattle.papergrid.specs.Cells.{TableCell, cells_of, measured}
 use Rattle.papergrid.specs.Grammar.{spaces}
 use Rattle.papergrid.specs.Scripts.{Table}
@@ -22,7 +22,7 @@ abbrev pub no_padding : Sides Indent
 no_padding = record { top = spaces 0; bottom = spaces 0; left = spaces 0; right = spaces 0 }
 
 -- the padding that the settings decide for a cell
-abbrev pub padding_at : List Setting → Position → Sides Indent
+unfoldable pub padding_at : List Setting → Position → Sides Indent
 padding_at settings place = decided_value no_padding (flat_map padding_calls settings) place
 
 -- ---- needs and sizes

@@ -5,16 +5,16 @@ ghost use Rattle.std.specs.Bool.{OnTrue};
 ghost use Rattle.std.specs.List.{list_all};
 ghost use Rattle.std.specs.Option.{SomeIff};
 ghost use Rattle.papergrid.specs.declared.estimate.LayoutError.TheVariants.{Memory};
-ghost use Rattle.papergrid.specs.Calls.{decided_value};
+ghost use Rattle.papergrid_maps.specs.MapHeld.{IsTold, held_value};
 ghost use Rattle.papergrid.specs.Cells.{cells_of, cells_of_row, measured};
 ghost use Rattle.papergrid.specs.Raising.{fits_in, raised, raised_by};
 ghost use Rattle.papergrid.specs.Scripts.{Table};
 ghost use Rattle.papergrid.specs.Seen.{GivesEstimate, measures_of};
 ghost use Rattle.papergrid.specs.Sizes.{column_of, estimate_of, first_out, height_need, no_padding, padding_calls, row_of, sizes_of, width_need};
 
-use crate::entity_map::EntityMap;
 use crate::measured::measured;
 use crate::setting::Setting;
+use papergrid_maps::EntityMap;
 use papergrid_text::{IntoRecords, Records};
 use papergrid_values::{Indent, Position, Sides};
 use std::alloc::{AllocError, AllocFailed, Global};
@@ -123,8 +123,7 @@ fn first_out(rows: &[Vec<(usize, usize)>], columns: usize) -> Option<Position>
 
 /// The paddings of the cells.
 fn paddings(alloc: Global, settings: &[Setting]) -> Result<EntityMap<Sides<Indent>>, AllocError>
-    ensures given { IfOk result (λ paddings. paddings.given ≡ no_padding) }
-    ensures calls { IfOk result (λ paddings. paddings.calls.items ≡ flat_map padding_calls settings.now) }
+    ensures { IfOk result (λ paddings. IsTold no_padding (flat_map padding_calls settings.now) paddings) }
 {
     let mut paddings = EntityMap::new(alloc, Sides::filled(Indent::zero()));
     for setting in settings {
@@ -144,18 +143,18 @@ fn raised_sizes(
 ) -> Result<Option<(Vec<usize>, Vec<usize>)>, AllocError>
     requires inside { first_out columns (cells_of (map measures_of rows.now)) ≡ None }
     requires short { All (λ cells. length cells.items ≤ columns) rows.now }
-    ensures none { let padding = decided_value paddings.now.given paddings.now.calls.items in
+    ensures none { let padding = held_value paddings.now in
         IfOk result (λ found. IfNone found (list_all (fits_in padding) (cells_of (map measures_of rows.now)) ≡ false)) }
-    ensures widths { let padding = decided_value paddings.now.given paddings.now.calls.items in
+    ensures widths { let padding = held_value paddings.now in
         IfOk result (λ found. IfSome found (λ sizes.
         sizes.0.items ≡ sizes_of column_of (width_need padding) columns (cells_of (map measures_of rows.now)))) }
-    ensures heights { let padding = decided_value paddings.now.given paddings.now.calls.items in
+    ensures heights { let padding = held_value paddings.now in
         IfOk result (λ found. IfSome found (λ sizes.
         sizes.1.items ≡ sizes_of row_of (height_need padding) (length rows.now) (cells_of (map measures_of rows.now)))) }
 {
     let mut widths = vec![in alloc; 0; columns]?;
     let mut heights = vec![in alloc; 0; rows.len()]?;
-    if raise_all(alloc, paddings, rows, &mut widths, &mut heights)? {
+    if raise_all(paddings, rows, &mut widths, &mut heights) {
         Ok(Some((widths, heights)))
     } else {
         Ok(None)
@@ -164,61 +163,58 @@ fn raised_sizes(
 
 /// Raises the widths and heights to the needs of all cells; false where a need does not fit.
 fn raise_all(
-    alloc: Global,
     paddings: &EntityMap<Sides<Indent>>,
     rows: &[Vec<(usize, usize)>],
     widths: &mut [usize],
     heights: &mut [usize],
-) -> Result<bool, AllocError>
+) -> bool
     requires columns { All (λ cells. length cells.items ≤ length widths.old) rows.now }
     requires rows { length rows.now ≤ length heights.old }
-    ensures fits { let padding = decided_value paddings.now.given paddings.now.calls.items in
-        IfOk result (λ fits. fits ≡ list_all (fits_in padding) (cells_of (map measures_of rows.now))) }
-    ensures widths { let padding = decided_value paddings.now.given paddings.now.calls.items in
-        IfOk result (λ fits. OnTrue fits (widths.new ≡ raised_by column_of (width_need padding) widths.old (cells_of (map measures_of rows.now)))) }
-    ensures heights { let padding = decided_value paddings.now.given paddings.now.calls.items in
-        IfOk result (λ fits. OnTrue fits (heights.new ≡ raised_by row_of (height_need padding) heights.old (cells_of (map measures_of rows.now)))) }
+    ensures fits { let padding = held_value paddings.now in
+        result ≡ list_all (fits_in padding) (cells_of (map measures_of rows.now)) }
+    ensures widths { let padding = held_value paddings.now in
+        OnTrue result (widths.new ≡ raised_by column_of (width_need padding) widths.old (cells_of (map measures_of rows.now))) }
+    ensures heights { let padding = held_value paddings.now in
+        OnTrue result (heights.new ≡ raised_by row_of (height_need padding) heights.old (cells_of (map measures_of rows.now))) }
 {
     for (row, cells) in rows.iter().enumerate() {
-        if !raise_row(alloc, paddings, row, cells.as_slice(), widths, heights)? {
-            return Ok(false);
+        if !raise_row(paddings, row, cells.as_slice(), widths, heights) {
+            return false;
         }
     }
-    Ok(true)
+    true
 }
 
 /// Raises the widths and heights to the needs of the cells of a row; false where a need does not fit.
 fn raise_row(
-    alloc: Global,
     paddings: &EntityMap<Sides<Indent>>,
     row: usize,
     cells: &[(usize, usize)],
     widths: &mut [usize],
     heights: &mut [usize],
-) -> Result<bool, AllocError>
+) -> bool
     requires columns { length cells.now ≤ length widths.old }
     requires row { row < length heights.old }
-    ensures fits { let padding = decided_value paddings.now.given paddings.now.calls.items in
-        IfOk result (λ fits. fits ≡ list_all (fits_in padding) (cells_of_row row 0 cells.now)) }
-    ensures widths { let padding = decided_value paddings.now.given paddings.now.calls.items in
-        IfOk result (λ fits. OnTrue fits (widths.new ≡ raised_by column_of (width_need padding) widths.old (cells_of_row row 0 cells.now))) }
-    ensures heights { let padding = decided_value paddings.now.given paddings.now.calls.items in
-        IfOk result (λ fits. OnTrue fits (heights.new ≡ raised_by row_of (height_need padding) heights.old (cells_of_row row 0 cells.now))) }
+    ensures fits { let padding = held_value paddings.now in
+        result ≡ list_all (fits_in padding) (cells_of_row row 0 cells.now) }
+    ensures widths { let padding = held_value paddings.now in
+        OnTrue result (widths.new ≡ raised_by column_of (width_need padding) widths.old (cells_of_row row 0 cells.now)) }
+    ensures heights { let padding = held_value paddings.now in
+        OnTrue result (heights.new ≡ raised_by row_of (height_need padding) heights.old (cells_of_row row 0 cells.now)) }
 {
-    let row_paddings = paddings.row(alloc, row)?;
     for (col, cell) in cells.iter().enumerate() {
         let (lines, width) = *cell;
-        let padding = row_paddings.get(Position::new(row, col));
+        let padding = paddings.get(Position::new(row, col));
         let Some(width) = need(width, padding.left, padding.right) else {
-            return Ok(false);
+            return false;
         };
         let Some(height) = need(lines, padding.top, padding.bottom) else {
-            return Ok(false);
+            return false;
         };
         raise(widths, col, width);
         raise(heights, row, height);
     }
-    Ok(true)
+    true
 }
 
 /// The measure with the paddings before and after it, if it fits.

@@ -3,8 +3,8 @@
 ghost use Rattle.std.specs.Prelude.{◌≡◌, ◌⊎◌, ◌≤◌, ◌<◌, ◌+◌, ◌^◌, ℕ, Contains, IsUtf8, List, Some, Ok, Err, length, sum};
 ghost use Rattle.papergrid_values.specs.declared.entity.Entity.{Entity};
 ghost use Rattle.papergrid_values.specs.declared.position.Position.{Position};
-ghost use Rattle.papergrid.specs.declared.entity_map.MapCall.{MapCall};
-ghost use Rattle.papergrid.specs.Calls.{decided_value};
+ghost use Rattle.papergrid_maps.specs.declared.entity_map.MapCall.{MapCall};
+ghost use Rattle.papergrid_maps.specs.MapCalls.{decided_value};
 ghost use Rattle.papergrid.specs.Cells.{Measure, TableCell, cells_of, measured};
 ghost use Rattle.papergrid.specs.Decided.{IsDecided};
 ghost use Rattle.papergrid.specs.Grammar.{Said, entity_of, number_of, said, script_lines};

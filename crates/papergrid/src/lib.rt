@@ -1,7 +1,6 @@
 //! Widths of columns and heights of rows of a table of padded cells, and the script that tells such a table.
 #![tactic(auto)]
 
-mod entity_map;
 mod estimate;
 pub mod laws;
 mod measured;
@@ -30,6 +29,11 @@ pub mod config {
         AlignmentHorizontal, AlignmentVertical, Border, Borders, Entity, EntityIterator,
         Formatting, HorizontalLine, Indent, Offset, Position, Sides, VerticalLine,
     };
+
+    /// Settings by entity.
+    pub mod spanned {
+        pub use papergrid_maps::{EntityMap, MapCall, Stopped};
+    }
 }
 
 /// Rows of cells.

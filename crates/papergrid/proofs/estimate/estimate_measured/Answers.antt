@@ -6,9 +6,9 @@ use Rattle.papergrid_text.specs.Text.{text_dimension}
 use Rattle.papergrid_values.specs.declared.indent.Indent.{Indent}
 use Rattle.papergrid_values.specs.declared.position.Position.{Position}
 use Rattle.papergrid_values.specs.declared.sides.Sides.{Sides}
+use Rattle.papergrid_maps.proofs.MapHeldLemmas.{held_decided}
 use Rattle.papergrid.specs.declared.setting.Setting.{Setting}
-use Rattle.papergrid.specs.declared.entity_map.MapCall.{MapCall}
-use Rattle.papergrid.specs.Calls.{decided_value}
+use Rattle.papergrid_maps.specs.MapHeld.{Held, IsTold, held_value}
 use Rattle.papergrid.specs.Cells.{Measure, cells_of, measured}
 use Rattle.papergrid.specs.Raising.{fits_in}
 use Rattle.papergrid.specs.Scripts.{Table}
@@ -17,9 +17,9 @@ use Rattle.papergrid.specs.Sizes.{first_out, no_padding, padding_calls, padding_
 use Rattle.papergrid.proofs.SizeLemmas.{all_below, cells_in_columns, cells_in_rows, unfit_totals, estimate-out, estimate-large, estimate-sized}
 use Rattle.papergrid.proofs.estimate.estimate_measured.Goals as goal
 
-same_padding : (given : Sides Indent) (calls : List (MapCall (Sides Indent))) (settings slice : List Setting) → given ≡ no_padding → calls ≡ flat_map padding_calls slice → settings ≡ slice
-    → decided_value given calls ≡ padding_at settings
-same_padding given calls settings slice none told same = rw (none, told, same) refl
+same_padding : (held : Held (Sides Indent)) (settings slice : List Setting) → IsTold no_padding (flat_map padding_calls slice) held → settings ≡ slice → held_value held ≡ padding_at settings
+unfolding padding_at
+same_padding held settings slice told same = (λ i place. held_decided no_padding (flat_map padding_calls slice) held told place i) ∙ ap padding_at (sym same)
 
 both_same : {X Y Z : Type 0} (f : X → Y → Z) (a b : X) (c d : Y) → a ≡ b → c ≡ d → f a c ≡ f b d
 both_same f a b c d p q = rw (p, q) refl
@@ -48,7 +48,7 @@ returns-in-Some-clause-told c table columns settings rows =
 
 pub returns-in_default-2-clause-told : goal.returns-in_default-2-clause-told
 returns-in_default-2-clause-told c table columns settings rows =
-    let padding = same_padding _ _ table.settings _ c.in_ok-paddings.ensures.given c.in_ok-paddings.ensures.calls settings in
+    let padding = same_padding _ table.settings _ c.in_ok-paddings.ensures settings in
     let none = out_seen table _ _ columns rows _ c.in_default.ensures.first in
     let unfit = (rw c.in_default-2.is at c.in_ok-widths.ensures.none) in
     let fails = both_same (λ pad ms. list_all (fits_in pad) (cells_of ms)) _ _ _ _ (sym padding) rows ∙ unfit in
@@ -58,7 +58,7 @@ returns-in_default-2-clause-told c table columns settings rows =
 
 pub returns-in_default-total-clause-told : goal.returns-in_default-total-clause-told
 returns-in_default-total-clause-told c table columns settings rows =
-    let padding = same_padding _ _ table.settings _ c.in_ok-paddings.ensures.given c.in_ok-paddings.ensures.calls settings in
+    let padding = same_padding _ table.settings _ c.in_ok-paddings.ensures settings in
     let none = out_seen table _ _ columns rows _ c.in_default.ensures.first in
     let widths = widths_seen table _ _ columns rows _ _ padding (rw c.in-Some-2.is at c.in_ok-widths.ensures.widths) in
     let past : 2 ^ 64 ≤ sum c.as_slice.result.now = omega (arith, c.in_default-total.ensures) in
@@ -66,7 +66,7 @@ returns-in_default-total-clause-told c table columns settings rows =
 
 pub returns-in_default-total-2-clause-told : goal.returns-in_default-total-2-clause-told
 returns-in_default-total-2-clause-told c table columns settings rows =
-    let padding = same_padding _ _ table.settings _ c.in_ok-paddings.ensures.given c.in_ok-paddings.ensures.calls settings in
+    let padding = same_padding _ table.settings _ c.in_ok-paddings.ensures settings in
     let none = out_seen table _ _ columns rows _ c.in_default.ensures.first in
     let heights = heights_seen table _ _ columns rows _ _ _ padding (length-map c.args.rows.now measures_of) (rw c.in-Some-2.is at c.in_ok-widths.ensures.heights) in
     let past : 2 ^ 64 ≤ sum c.as_slice-2.result.now = omega (arith, c.in_default-total-2.ensures) in
@@ -74,7 +74,7 @@ returns-in_default-total-2-clause-told c table columns settings rows =
 
 pub returns-clause-told : goal.returns-clause-told
 returns-clause-told c table columns settings rows =
-    let padding = same_padding _ _ table.settings _ c.in_ok-paddings.ensures.given c.in_ok-paddings.ensures.calls settings in
+    let padding = same_padding _ table.settings _ c.in_ok-paddings.ensures settings in
     let none = out_seen table _ _ columns rows _ c.in_default.ensures.first in
     let widths = widths_seen table _ _ columns rows _ _ padding (rw c.in-Some-2.is at c.in_ok-widths.ensures.widths) in
     let heights = heights_seen table _ _ columns rows _ _ _ padding (length-map c.args.rows.now measures_of) (rw c.in-Some-2.is at c.in_ok-widths.ensures.heights) in
