@@ -172,7 +172,7 @@ impl<T> Border<T> {
 
     /// The border with what `f` answers at each part that is set. Condition: `f` may be called
     /// there.
-    pub fn map<F: Fn(T) -> T1, T1>(self, f: F) -> Border<T1>
+    pub fn map<F: Fn(T) -> U, U>(self, f: F) -> Border<U>
         requires { EachSet (F.pre f) (border_parts self) }
         ensures { PartsGive (F.post f) (border_parts self) (border_parts result) }
     {

@@ -158,10 +158,10 @@ impl<T> Borders<T> {
     }
 
     /// The frame with each part that is set converted.
-    pub fn convert_into<T1>(self) -> Borders<T1>
+    pub fn convert_into<U>(self) -> Borders<U>
     where
-        T1: From<T>,
-        ensures { PartsGive T1.from_gives (frame.frame_parts self) (frame.frame_parts result) }
+        U: From<T>,
+        ensures { PartsGive U.from_gives (frame.frame_parts self) (frame.frame_parts result) }
     {
         Borders {
             top: part::converted(self.top),
@@ -184,7 +184,7 @@ impl<T> Borders<T> {
 
     /// The frame with what `f` answers at each part that is set. Condition: `f` may be called
     /// there.
-    pub fn map<F: Fn(T) -> T1, T1>(self, f: F) -> Borders<T1>
+    pub fn map<F: Fn(T) -> U, U>(self, f: F) -> Borders<U>
         requires { EachSet (F.pre f) (frame.frame_parts self) }
         ensures { PartsGive (F.post f) (frame.frame_parts self) (frame.frame_parts result) }
     {

@@ -37,9 +37,9 @@ impl<T> Sides<T> {
     }
 
     /// The sides with each value converted.
-    pub fn convert_into<T1>(self) -> Sides<T1>
+    pub fn convert_into<U>(self) -> Sides<U>
     where
-        T: Into<T1>,
+        T: Into<U>,
         ensures left { T.converts self.left result.left }
         ensures right { T.converts self.right result.right }
         ensures top { T.converts self.top result.top }
@@ -54,7 +54,7 @@ impl<T> Sides<T> {
     }
 
     /// The sides with what `f` answers at each value. Condition: `f` may be called there.
-    pub fn map<F: Fn(T) -> T1, T1>(self, f: F) -> Sides<T1>
+    pub fn map<F: Fn(T) -> U, U>(self, f: F) -> Sides<U>
         requires left { F.pre f self.left }
         requires right { F.pre f self.right }
         requires top { F.pre f self.top }
