@@ -1,0 +1,5 @@
+pub mod Ranges
+pub mod Fits
+pub mod Sizes
+pub mod Chosen
+pub mod Rows
