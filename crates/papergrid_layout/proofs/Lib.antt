@@ -1,0 +1,13 @@
+pub mod Certified
+pub mod Counting
+pub mod Duality
+pub mod FitBound
+pub mod Greatest
+pub mod Groups
+pub mod Growers
+pub mod LoopLemmas
+pub mod Orders
+pub mod RangeLemmas
+pub mod Steps
+pub mod Theorems
+pub mod Upto
