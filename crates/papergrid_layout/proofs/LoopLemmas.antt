@@ -1,17 +1,17 @@
 -- What the loops over sizes and lines keep.
 use Rattle.std.proofs.Common.{◌≡◌, ℕ, zero, suc, ◌+◌, ◌-◌, ◌/◌, ◌%◌, ◌<◌, ◌≤◌, ◌≢◌, Bool, true, false, cond, inl, inr, List, [], ◌∷◌, length, get_or, set, take, drop, sum, count_by, fold, refl, sym, ap, ◌∙◌, arith, max, ◌&&◌, ◌==◌, ◌++◌, eqb, eq-eqb, ne_eqb, take-append-drop, ap₂}
-use Rattle.std.specs.Prelude.{IfNone, Option, Some, None}
-use Rattle.std.specs.Prelude.{All, Contains}
+use Rattle.std.specs.Prelude.{IfNone, Option, Some, None, replicate, map}
+use Rattle.std.specs.Prelude.{All}
 use Rattle.std.specs.List.{range_with_len, AllByRecursion}
-use Rattle.std.proofs.lemmas.List.Elements.{recursion_from_All, All-drop, All-contains}
+use Rattle.std.proofs.lemmas.List.Elements.{recursion_from_All, All-drop}
 use Rattle.std.proofs.lemmas.Bool.{cases_Bool, cases_eq, cases_lt, and_from, and_left, and_right}
-use Rattle.std.proofs.lemmas.List.{get_or-set_same, get_or-set_other, drop_more, take_more, take_all}
+use Rattle.std.proofs.lemmas.List.{length-set, get_or-set_same, get_or-set_other, drop_more, take_all}
 use Rattle.std.proofs.lemmas.List.Sums.{sum_by-cons, sum_by-take-le, sum_by-take-drop, fold-append, sum_by-append}
 use Rattle.std.proofs.lemmas.Grind.{same_number_lists}
 use Rattle.papergrid_layout.specs.declared.demand.Demand.{Demand}
 use Rattle.papergrid_layout.specs.Ranges.{line_at}
 use Rattle.papergrid_layout.specs.Ranges.{end_of, inner_lines, IsInTable, all_lines}
-use Rattle.papergrid_layout.specs.Fits.{range_sum, greatest_need, HasRoom, Fits, IsTooLarge}
+use Rattle.papergrid_layout.specs.Fits.{range_sum, greatest_need, HasRoom, IsTooLarge}
 use Rattle.papergrid_layout.specs.Sizes.{share, with_shares, lack, grown, base_size, base_sizes}
 use Rattle.papergrid_layout.proofs.Greatest.{length-base_sizes, get_or-base_sizes}
 use Rattle.papergrid_layout.proofs.Upto.{upto, upto-point, upto-ext, upto-add, sum-upto, within, holds_cases}
@@ -182,52 +182,60 @@ greatest_need_push test (c ∷ ds) d =
           elim (cases_Bool (test c)) [ inl u ↦ rw (f, u) (omega arith) | inr u ↦ rw (f, u) ih' ]
     ]
 
-pub base_size-more : (ds : List Demand) (i : ℕ) (e : Demand) (k : ℕ) → i < length ds →
-    base_size (take (i + 1) ds) k ≡ cond (eqb (get_or ds i e).span 1 && eqb (get_or ds i e).start k) (max (base_size (take i ds) k) (get_or ds i e).need) (base_size (take i ds) k)
-base_size-more ds i e k l =
-    ap (λ xs. base_size xs k) (take_more ds i e l) ∙ greatest_need_push (λ d. d.span == 1 && d.start == k) (take i ds) (get_or ds i e)
+pub base_size_push : (ds : List Demand) (d : Demand) (k : ℕ) →
+    base_size (ds ++ d ∷ []) k ≡ cond (eqb d.span 1 && eqb d.start k) (max (base_size ds k) d.need) (base_size ds k)
+base_size_push ds d k = greatest_need_push (λ e. e.span == 1 && e.start == k) ds d
 
--- at the end of the loop the list is the base sizes
-pub base_sizes-all : (count : ℕ) (ds : List Demand) (sizes : List ℕ) (i : ℕ) → length sizes ≡ count → length ds ≤ i →
-    ((k : ℕ) → k < count → get_or sizes k 0 ≡ base_size (take i ds) k) → sizes ≡ base_sizes count ds
-base_sizes-all count ds sizes i many le each =
-    same_number_lists sizes (base_sizes count ds) (many ∙ sym (length-base_sizes count ds))
-    (λ k l. each k (omega arith) ∙ ap (λ xs. base_size xs k) (take_all i ds le) ∙ sym (get_or-base_sizes count ds k (omega arith)))
+-- a cell that covers one number alone raises the base size there, and any other cell none
+pub base_sizes_push_alone : (n : ℕ) (ds : List Demand) (d : Demand) → d.start < n → d.span ≡ 1 →
+    set (base_sizes n ds) d.start (max (get_or (base_sizes n ds) d.start 0) d.need) ≡ base_sizes n (ds ++ d ∷ [])
+base_sizes_push_alone n ds d inside one =
+    same_number_lists (set (base_sizes n ds) d.start (max (get_or (base_sizes n ds) d.start 0) d.need)) (base_sizes n (ds ++ d ∷ []))
+    (length-set (base_sizes n ds) d.start (max (get_or (base_sizes n ds) d.start 0) d.need) ∙ length-base_sizes n ds ∙ sym (length-base_sizes n (ds ++ d ∷ [])))
+    (λ k l. each k (let e : length (set (base_sizes n ds) d.start (max (get_or (base_sizes n ds) d.start 0) d.need)) ≡ length (base_sizes n ds) = length-set (base_sizes n ds) d.start (max (get_or (base_sizes n ds) d.start 0) d.need) in let e' : length (base_sizes n ds) ≡ n = length-base_sizes n ds in omega arith))
+  where
+    each : (k : ℕ) → k < n → get_or (set (base_sizes n ds) d.start (max (get_or (base_sizes n ds) d.start 0) d.need)) k 0 ≡ get_or (base_sizes n (ds ++ d ∷ [])) k 0
+    each k l =
+        let v : ℕ = max (get_or (base_sizes n ds) d.start 0) d.need in
+        let at : get_or (base_sizes n (ds ++ d ∷ [])) k 0 ≡ cond (eqb d.span 1 && eqb d.start k) (max (base_size ds k) d.need) (base_size ds k) =
+        get_or-base_sizes n (ds ++ d ∷ []) k l ∙ base_size_push ds d k in
+        let many : length (base_sizes n ds) ≡ n = length-base_sizes n ds in
+        elim (cases_eq k d.start) [
+          | inl same ↦
+              let t : (eqb d.span 1 && eqb d.start k) ≡ true = and_from (eqb d.span 1) (eqb d.start k) (eq-eqb d.span 1 one) (eq-eqb d.start k (sym same)) in
+              let at' : get_or (base_sizes n (ds ++ d ∷ [])) k 0 ≡ max (base_size ds k) d.need = rw t at at in
+              let a : get_or (set (base_sizes n ds) d.start (max (get_or (base_sizes n ds) d.start 0) d.need)) d.start 0 ≡ max (get_or (base_sizes n ds) d.start 0) d.need =
+              get_or-set_same (base_sizes n ds) d.start (max (get_or (base_sizes n ds) d.start 0) d.need) 0 (omega arith) in
+              let b : get_or (base_sizes n ds) d.start 0 ≡ base_size ds k = get_or-base_sizes n ds d.start inside ∙ ap (base_size ds) (sym same) in
+              let c : get_or (set (base_sizes n ds) d.start (max (get_or (base_sizes n ds) d.start 0) d.need)) k 0 ≡ get_or (set (base_sizes n ds) d.start (max (get_or (base_sizes n ds) d.start 0) d.need)) d.start 0 =
+              ap (λ j. get_or (set (base_sizes n ds) d.start (max (get_or (base_sizes n ds) d.start 0) d.need)) j 0) same in
+              omega arith
+          | inr ne ↦
+              let f : (eqb d.span 1 && eqb d.start k) ≡ false = and_right (eqb d.span 1) (eqb d.start k) (ne_eqb d.start k (λ e. ne (sym e))) in
+              let at' : get_or (base_sizes n (ds ++ d ∷ [])) k 0 ≡ base_size ds k = rw f at at in
+              get_or-set_other (base_sizes n ds) d.start k (max (get_or (base_sizes n ds) d.start 0) d.need) 0 ne ∙ get_or-base_sizes n ds k l ∙ sym at'
+        ]
 
--- one more cell for the base sizes: it covers one number alone, or it does not
-pub base-more_yes : (ds : List Demand) (i : ℕ) (e : Demand) (sizes : List ℕ) (k : ℕ) → i < length ds → (get_or ds i e).span ≡ 1 → (get_or ds i e).start < length sizes →
-    get_or sizes k 0 ≡ base_size (take i ds) k →
-    get_or (set sizes (get_or ds i e).start (max (get_or sizes (get_or ds i e).start 0) (get_or ds i e).need)) k 0 ≡ base_size (take (i + 1) ds) k
-base-more_yes ds i e sizes k l one inside so_far =
-    let d : Demand = get_or ds i e in
-    let more : base_size (take (i + 1) ds) k ≡ cond (eqb (get_or ds i e).span 1 && eqb (get_or ds i e).start k) (max (base_size (take i ds) k) (get_or ds i e).need) (base_size (take i ds) k) =
-    base_size-more ds i e k l in
-    elim (cases_eq k (get_or ds i e).start) [
-      | inl same ↦
-          let t : (eqb (get_or ds i e).span 1 && eqb (get_or ds i e).start k) ≡ true =
-          and_from (eqb (get_or ds i e).span 1) (eqb (get_or ds i e).start k) (eq-eqb (get_or ds i e).span 1 one) (eq-eqb (get_or ds i e).start k (sym same)) in
-          let more' : base_size (take (i + 1) ds) k ≡ max (base_size (take i ds) k) (get_or ds i e).need = rw t at more in
-          let a : get_or (set sizes (get_or ds i e).start (max (get_or sizes (get_or ds i e).start 0) (get_or ds i e).need)) (get_or ds i e).start 0
-          ≡ max (get_or sizes (get_or ds i e).start 0) (get_or ds i e).need =
-          get_or-set_same sizes (get_or ds i e).start (max (get_or sizes (get_or ds i e).start 0) (get_or ds i e).need) 0 inside in
-          let b : get_or sizes (get_or ds i e).start 0 ≡ get_or sizes k 0 = ap (λ j. get_or sizes j 0) (sym same) in
-          let c : get_or (set sizes (get_or ds i e).start (max (get_or sizes (get_or ds i e).start 0) (get_or ds i e).need)) k 0
-          ≡ get_or (set sizes (get_or ds i e).start (max (get_or sizes (get_or ds i e).start 0) (get_or ds i e).need)) (get_or ds i e).start 0 =
-          ap (λ j. get_or (set sizes (get_or ds i e).start (max (get_or sizes (get_or ds i e).start 0) (get_or ds i e).need)) j 0) same in
-          omega arith
-      | inr ne ↦
-          let ne' : (get_or ds i e).start ≢ k = λ x. ne (sym x) in
-          let f : (eqb (get_or ds i e).span 1 && eqb (get_or ds i e).start k) ≡ false =
-          and_right (eqb (get_or ds i e).span 1) (eqb (get_or ds i e).start k) (ne_eqb (get_or ds i e).start k ne') in
-          let more' : base_size (take (i + 1) ds) k ≡ base_size (take i ds) k = rw f at more in
-          get_or-set_other sizes (get_or ds i e).start k (max (get_or sizes (get_or ds i e).start 0) (get_or ds i e).need) 0 ne ∙ so_far ∙ sym more'
-    ]
+pub base_sizes_push_long : (n : ℕ) (ds : List Demand) (d : Demand) → d.span ≢ 1 → base_sizes n ds ≡ base_sizes n (ds ++ d ∷ [])
+base_sizes_push_long n ds d long =
+    same_number_lists (base_sizes n ds) (base_sizes n (ds ++ d ∷ [])) (length-base_sizes n ds ∙ sym (length-base_sizes n (ds ++ d ∷ [])))
+    (λ k l. each k (let e : length (base_sizes n ds) ≡ n = length-base_sizes n ds in omega arith))
+  where
+    each : (k : ℕ) → k < n → get_or (base_sizes n ds) k 0 ≡ get_or (base_sizes n (ds ++ d ∷ [])) k 0
+    each k l =
+        let f : (eqb d.span 1 && eqb d.start k) ≡ false = and_left (eqb d.span 1) (eqb d.start k) (ne_eqb d.span 1 long) in
+        let at : get_or (base_sizes n (ds ++ d ∷ [])) k 0 ≡ cond (eqb d.span 1 && eqb d.start k) (max (base_size ds k) d.need) (base_size ds k) =
+        get_or-base_sizes n (ds ++ d ∷ []) k l ∙ base_size_push ds d k in
+        let at' : get_or (base_sizes n (ds ++ d ∷ [])) k 0 ≡ base_size ds k = rw f at at in
+        get_or-base_sizes n ds k l ∙ sym at'
 
-pub base-more_no : (ds : List Demand) (i : ℕ) (e : Demand) (k : ℕ) → i < length ds → (get_or ds i e).span ≢ 1 → base_size (take (i + 1) ds) k ≡ base_size (take i ds) k
-base-more_no ds i e k l ne =
-    let f : (eqb (get_or ds i e).span 1 && eqb (get_or ds i e).start k) ≡ false =
-    and_left (eqb (get_or ds i e).span 1) (eqb (get_or ds i e).start k) (ne_eqb (get_or ds i e).span 1 ne) in
-    base_size-more ds i e k l ∙ rw f refl
+-- of no cell they are zeros
+pub base_sizes-none : (n : ℕ) → replicate n 0 ≡ base_sizes n []
+base_sizes-none n = go 0 n
+  where
+    go : (a n : ℕ) → replicate n 0 ≡ map (base_size []) (range_with_len a n)
+    go a zero = refl
+    go a (suc n) = ap (λ xs. 0 ∷ xs) (go (a + 1) n)
 
 -- all lines of a list of lines
 pub all_lines-drawn : (lines : List Bool) (n : ℕ) → length lines ≡ n + 1 → count_by (λ x. x) lines ≡ all_lines (line_at lines) n

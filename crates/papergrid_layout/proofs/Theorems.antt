@@ -1,10 +1,13 @@
 -- What holds of the sizes along a direction.
-use Rattle.std.proofs.Common.{ℕ, ◌+◌, ◌<◌, ◌≤◌, Bool, List, get_or, sum, arith}
-use Rattle.std.specs.Prelude.{All, Contains}
+use Rattle.std.proofs.Common.{◌≡◌, ℕ, ◌+◌, ◌<◌, ◌≤◌, Bool, List, [], ◌∷◌, length, get_or, sum, arith, refl, sym, subst, inl, inr, le-ltb}
+use Rattle.std.specs.Prelude.{All, Contains, None}
+use Rattle.std.specs.List.{AllByRecursion}
+use Rattle.std.proofs.lemmas.Bool.{cases_lt}
 use Rattle.std.proofs.lemmas.List.Elements.{All-contains, All-weaker, All-from_recursion, recursion_from_All}
 use Rattle.papergrid_layout.specs.declared.demand.Demand.{Demand}
 use Rattle.papergrid_layout.specs.declared.direction.Direction.{Direction}
-use Rattle.papergrid_layout.specs.Ranges.{IsInTable, IsKeptApart, all_lines}
+use Rattle.papergrid_layout.specs.Answers.{AreSizes, NoneHolds}
+use Rattle.papergrid_layout.specs.Ranges.{IsInTable, IsKeptApart, all_lines, end_of, first_out}
 use Rattle.papergrid_layout.specs.Fits.{Fits, IsLeast, IsTooLarge, IsCertificate, top_need}
 use Rattle.papergrid_layout.specs.Sizes.{base_sizes, taken, sizes_of}
 use Rattle.papergrid_layout.specs.Chosen.{growing, chosen_of}
@@ -12,6 +15,11 @@ use Rattle.papergrid_layout.proofs.FitBound.{Fits-sizes_after, bound-sizes_after
 use Rattle.papergrid_layout.proofs.Orders.{TakesAll-taken, IsOrdered-taken, IsLaminar-from_ordered}
 use Rattle.papergrid_layout.proofs.Certified.{certificate_of, IsLeast-sizes_after}
 use Rattle.papergrid_layout.proofs.Growers.{growing-all}
+
+-- no cell of the table reaches out of it
+pub first_out-none : (n : ℕ) (ds : List Demand) → AllByRecursion (IsInTable n) ds → first_out n ds ≡ None
+first_out-none n [] table = refl
+first_out-none n (d ∷ ds) table = rw (le-ltb n (end_of d) table.0.ends_within) (first_out-none n ds table.1)
 
 module _ (direction : Direction) (line : ℕ → Bool) (n : ℕ) (demands : List Demand) (table : All (IsInTable n) demands) where
   pub Fits-sizes_of : Fits line n demands (sizes_of direction line n demands)
@@ -49,3 +57,31 @@ module _ (direction : Direction) (line : ℕ → Bool) (n : ℕ) (demands : List
   table-growing =
       All-from_recursion (IsInTable n) (growing line (base_sizes n demands) (taken direction n demands))
       (growing-all (IsInTable n) line (base_sizes n demands) (taken direction n demands) (recursion_from_All (IsInTable n) (taken direction n demands) table-taken))
+
+  -- ---- the answers
+
+  none_out : first_out n demands ≡ None
+  none_out = first_out-none n demands (recursion_from_All (IsInTable n) demands table)
+
+  pub AreSizes-sizes_of : (sizes : List ℕ) → sizes ≡ sizes_of direction line n demands → sum (sizes_of direction line n demands) + all_lines line n < 18446744073709551616 →
+      AreSizes direction line n demands sizes
+  AreSizes-sizes_of sizes e small = subst (AreSizes direction line n demands) (sym e) record {
+    none_out = none_out;
+    exact = refl;
+    total = small;
+    fits = Fits-sizes_of;
+    bound = λ i l. bound-sizes_of i (let many : length (sizes_of direction line n demands) ≡ n = Fits-sizes_of.one_each in omega arith);
+    least = IsLeast-sizes_of;
+  }
+
+  pub NoneHolds-sizes_of : (sum (sizes_of direction line n demands) + all_lines line n < 18446744073709551616 → ⊥) → NoneHolds direction line n demands
+  NoneHolds-sizes_of not_small =
+      let large : IsTooLarge line n (sizes_of direction line n demands) = elim (cases_lt (sum (sizes_of direction line n demands) + all_lines line n) 18446744073709551616) [
+        | inl small ↦ absurd (not_small small)
+        | inr le ↦ le
+      ] in
+      record {
+        none_out = none_out;
+        too_large = large;
+        none_holds = λ apart other fits. none_holds-sizes_of apart large other fits;
+      }

@@ -1,6 +1,6 @@
 -- How it is decided whether ranges are kept apart: for each number the last cell, of those that are taken, whose range
 -- holds it. Only contracts of private functions and proofs speak of this.
-use Rattle.std.specs.Prelude.{ℕ, ◌==◌, Bool, if◌then◌else◌, cond, ◌⊎◌, List, [], ◌∷◌, ⊤, Option, Some, None, slice_index, slice_index_or}
+use Rattle.std.specs.Prelude.{ℕ, ◌==◌, if◌then◌else◌, cond, ◌⊎◌, List, [], ◌∷◌, ⊤, Option, Some, None, slice_index, slice_index_or}
 use Rattle.std.specs.List.{AllByRecursion}
 use Rattle.papergrid_layout.specs.declared.demand.Demand.{Demand}
 use Rattle.papergrid_layout.specs.declared.direction.Direction.{Direction}

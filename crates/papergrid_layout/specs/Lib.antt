@@ -1,6 +1,7 @@
-pub mod Ranges
-pub mod Fits
-pub mod Sizes
+pub mod Answers
 pub mod Chosen
+pub mod Fits
 pub mod LastCells
+pub mod Ranges
 pub mod Rows
+pub mod Sizes

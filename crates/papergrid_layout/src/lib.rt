@@ -1,9 +1,14 @@
 //! Widths of columns and heights of rows of a table of cells, some of which span several.
 #![tactic(auto)]
 
+mod base;
 mod demand;
 mod direction;
 mod error;
+mod exact;
+mod grow;
 pub mod laws;
+mod order;
+mod sums;
 
 pub use error::LayoutError;
