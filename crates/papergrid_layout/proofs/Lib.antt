@@ -7,6 +7,7 @@ pub mod Groups
 pub mod Growers
 pub mod LoopLemmas
 pub mod Orders
+pub mod OutLemmas
 pub mod RangeLemmas
 pub mod Steps
 pub mod Theorems

@@ -4,4 +4,6 @@ pub mod Fits
 pub mod LastCells
 pub mod Ranges
 pub mod Rows
+pub mod Seen
+pub mod Sides
 pub mod Sizes

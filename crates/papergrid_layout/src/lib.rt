@@ -6,9 +6,11 @@ mod demand;
 mod direction;
 mod error;
 mod exact;
+mod finish;
 mod grow;
 pub mod laws;
 mod order;
+mod seen;
 mod sums;
 
 pub use error::LayoutError;
