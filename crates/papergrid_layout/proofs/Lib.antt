@@ -5,6 +5,8 @@ pub mod FitBound
 pub mod Greatest
 pub mod Groups
 pub mod Growers
+pub mod LastLemmas
+pub mod LastLoops
 pub mod LoopLemmas
 pub mod Orders
 pub mod OutLemmas

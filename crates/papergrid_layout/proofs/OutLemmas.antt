@@ -1,5 +1,5 @@
 -- The first cell out of the table, and needs past the greatest `usize`.
-use Rattle.std.proofs.Common.{◌≡◌, ℕ, ◌+◌, ◌<◌, ◌≤◌, Bool, true, false, List, [], ◌∷◌, ◌||◌, length, map, refl, ap, sym, ◌∙◌, arith, nat_lt, nat_le, get_or, drop, inl, inr}
+use Rattle.std.proofs.Common.{◌≡◌, ℕ, ◌+◌, ◌<◌, ◌≤◌, Bool, true, false, List, [], ◌∷◌, ◌||◌, length, map, refl, ap, sym, ◌∙◌, arith, nat_lt, get_or, drop, inl, inr}
 use Rattle.std.specs.Prelude.{Option, Some, None, is_some, All, if◌then◌else◌}
 use Rattle.std.specs.List.{list_any}
 use Rattle.std.proofs.lemmas.List.{drop_more}

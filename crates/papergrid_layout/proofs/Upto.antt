@@ -88,3 +88,9 @@ range_sum-within xs d =
 -- whether the range holds i
 pub holds_cases : (d : Demand) (i : ℕ) → ((holds d i ≡ true) × (d.start ≤ i) × (i < end_of d)) ⊎ ((holds d i ≡ false) × ((i < d.start) ⊎ (end_of d ≤ i)))
 holds_cases d i = grind (arith, nat_tests)
+
+pub holds-inside : (d : Demand) (i : ℕ) → d.start ≤ i → i < end_of d → holds d i ≡ true
+holds-inside d i l l' = elim (holds_cases d i) [
+  | inl h ↦ h.0
+  | inr h ↦ absurd (elim h.1 [ inl x ↦ omega arith | inr x ↦ omega arith ])
+]

@@ -1,5 +1,5 @@
 -- What a walk over cells keeps of their demands.
-use Rattle.std.specs.Prelude.{◌≡◌, ℕ, ◌≤◌, ◌^◌, Bool, false, List, ◌++◌, map, All, nat_le}
+use Rattle.std.specs.Prelude.{◌≡◌, ◌≤◌, ◌^◌, Bool, false, List, ◌++◌, map, All, nat_le}
 use Rattle.std.specs.List.{list_any}
 use Rattle.papergrid_layout.specs.declared.demand.Demand.{Demand}
 use Rattle.papergrid_layout.specs.declared.seen.Seen.{Seen}

@@ -8,6 +8,7 @@ mod error;
 mod exact;
 mod finish;
 mod grow;
+mod last_cells;
 pub mod laws;
 mod order;
 mod seen;

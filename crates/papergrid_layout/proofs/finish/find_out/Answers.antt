@@ -1,5 +1,5 @@
-use Rattle.std.proofs.Common.{arith, refl, sym, ap, ◌∙◌, ◌≡◌, ◌+◌, ℕ, List, [], length, drop, true, false, get_or}
-use Rattle.std.specs.Prelude.{Some, None, if◌then◌else◌}
+use Rattle.std.proofs.Common.{arith, refl, sym, ap, ◌∙◌, ◌+◌, drop, get_or}
+use Rattle.std.specs.Prelude.{Some, if◌then◌else◌}
 use Rattle.std.proofs.lemmas.List.{drop_all}
 use Rattle.papergrid_layout.specs.declared.demand.Demand.{Demand}
 use Rattle.papergrid_layout.specs.Ranges.{first_out, place_of}

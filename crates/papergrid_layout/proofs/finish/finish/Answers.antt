@@ -1,6 +1,5 @@
 use Rattle.std.proofs.Common.{◌∙◌, ap, sym}
 use Rattle.std.proofs.lemmas.List.Elements.{All-same}
-use Rattle.papergrid_layout.specs.Answers.{IsExact}
 use Rattle.papergrid_layout.specs.Ranges.{IsInTable, first_out, line_at}
 use Rattle.papergrid_layout.proofs.OutLemmas.{out_seen, table_seen, NoneHolds-large}
 use Rattle.papergrid_layout.proofs.finish.finish.Goals as goal
