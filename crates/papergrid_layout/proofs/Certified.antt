@@ -15,7 +15,7 @@ use Rattle.papergrid_layout.proofs.RangeLemmas.{Apart, AllPairs-from_Apart, cove
 use Rattle.papergrid_layout.proofs.Duality.{IsLeast-from_certificate}
 use Rattle.papergrid_layout.proofs.Greatest.{holds_alone, get_or-base_sizes, length-base_sizes}
 use Rattle.papergrid_layout.proofs.FitBound.{TakesAll, table_of_taken, Fits-sizes_after, length-taken, ByRecursion-weaker}
-use Rattle.papergrid_layout.proofs.Growers.{IsLaminar, IsTight, growing-all, outermost-all, size-not_covered, Apart-outermost, tight-outermost, covered-outermost}
+use Rattle.papergrid_layout.proofs.GrowLemmas.{IsLaminar, IsTight, growing-all, outermost-all, size-not_covered, Apart-outermost, tight-outermost, covered-outermost}
 use Rattle.papergrid_layout.proofs.Counting.{weight, sum_by-filter_map, filter_map-all, Apart-filter_map, find-all, sum-by_start, find-greatest}
 
 pub AreDisjoint-sym : (a b : Demand) → AreDisjoint a b → AreDisjoint b a

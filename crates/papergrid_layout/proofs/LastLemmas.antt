@@ -15,7 +15,7 @@ use Rattle.papergrid_layout.specs.Chosen.{lies_in, outermost, or_else, single_at
 use Rattle.papergrid_layout.proofs.Upto.{holds_cases}
 use Rattle.papergrid_layout.proofs.RangeLemmas.{covered, not_covered, not_both}
 use Rattle.papergrid_layout.proofs.Orders.{TakesAll-taken}
-use Rattle.papergrid_layout.proofs.Growers.{apart-from_outer, covered_by_later}
+use Rattle.papergrid_layout.proofs.GrowLemmas.{apart-from_outer, covered_by_later}
 use Rattle.papergrid_layout.proofs.Certified.{AreDisjoint-sym, holds_start, none_some, some_same}
 
 -- one more cell overwrites the table on its range

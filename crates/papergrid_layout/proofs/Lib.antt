@@ -4,7 +4,7 @@ pub mod Duality
 pub mod FitBound
 pub mod Greatest
 pub mod Groups
-pub mod Growers
+pub mod GrowLemmas
 pub mod LastLemmas
 pub mod LastLoops
 pub mod LoopLemmas
@@ -14,3 +14,4 @@ pub mod RangeLemmas
 pub mod Steps
 pub mod Theorems
 pub mod Upto
+pub mod WitnessLemmas

@@ -52,15 +52,18 @@ large_any line n sizes (d ∷ ds) e table room = elim (cases_Bool (is_large d)) 
   | inr f ↦ large_any line n sizes ds (ap (λ b. b || list_any is_large ds) (sym f) ∙ e) (All-tail (IsInTable n) d ds table) (All-tail (HasRoom line sizes) d ds room)
 ]
 
-module _ (direction : Direction) (line : ℕ → Bool) (n : ℕ) (seen : Seen) (demands : List Demand) (held : Holds seen demands) where
+module _ (n : ℕ) (seen : Seen) (demands : List Demand) (held : Holds seen demands) where
   pub out_seen : first_out n demands ≡ first_out n seen.demands.items
   out_seen = same_out n demands seen.demands.items (sym held.ranges)
 
-  pub table_demands : first_out n seen.demands.items ≡ None → All (IsInTable n) demands
+  table_demands : first_out n seen.demands.items ≡ None → All (IsInTable n) demands
   table_demands none = none_out n demands (out_seen ∙ none) held.spans
 
-  pub NoneHolds-large : first_out n seen.demands.items ≡ None → seen.is_large ≡ true → NoneHolds direction line n demands
-  NoneHolds-large none large =
+  pub table_seen : first_out n seen.demands.items ≡ None → seen.is_large ≡ false → All (IsInTable n) seen.demands.items
+  table_seen none small = All-same (IsInTable n) seen.demands.items demands (held.exact small) (table_demands none)
+
+  pub NoneHolds-large : (direction : Direction) (line : ℕ → Bool) → first_out n seen.demands.items ≡ None → seen.is_large ≡ true → NoneHolds direction line n demands
+  NoneHolds-large direction line none large =
       let table = table_demands none in
       let any = sym held.large ∙ large in
       record {
@@ -68,6 +71,3 @@ module _ (direction : Direction) (line : ℕ → Bool) (n : ℕ) (seen : Seen) (
         too_large = large_any line n (sizes_of direction line n demands) demands any table (Fits-sizes_of direction line n demands table).room;
         none_holds = λ apart other fits. large_any line n other demands any table fits.room;
       }
-
-  pub table_seen : first_out n seen.demands.items ≡ None → seen.is_large ≡ false → All (IsInTable n) seen.demands.items
-  table_seen none small = All-same (IsInTable n) seen.demands.items demands (held.exact small) (table_demands none)

@@ -14,7 +14,7 @@ use Rattle.papergrid_layout.specs.Chosen.{growing, chosen_of}
 use Rattle.papergrid_layout.proofs.FitBound.{Fits-sizes_after, bound-sizes_after}
 use Rattle.papergrid_layout.proofs.Orders.{TakesAll-taken, IsOrdered-taken, IsLaminar-from_ordered}
 use Rattle.papergrid_layout.proofs.Certified.{certificate_of, IsLeast-sizes_after}
-use Rattle.papergrid_layout.proofs.Growers.{growing-all}
+use Rattle.papergrid_layout.proofs.GrowLemmas.{growing-all}
 
 -- no cell of the table reaches out of it
 pub first_out-none : (n : ℕ) (ds : List Demand) → AllByRecursion (IsInTable n) ds → first_out n ds ≡ None

@@ -1,9 +1,10 @@
 //! The answer for a direction once all cells are seen.
 
-ghost use Rattle.std.specs.Prelude.{◌≡◌, ◌+◌, List, length, nat_lt, replicate};
+ghost use Rattle.std.specs.Prelude.{◌≡◌, ◌+◌, ℕ, All, Bool, IfNone, IfSome, List, false, length, nat_lt, replicate};
 ghost use Rattle.papergrid_layout.specs.declared.demand.Demand.{Demand};
-ghost use Rattle.papergrid_layout.specs.Answers.{IsExact};
-ghost use Rattle.papergrid_layout.specs.Ranges.{end_of, first_out, line_at};
+ghost use Rattle.papergrid_layout.specs.declared.direction.Direction.{Direction};
+ghost use Rattle.papergrid_layout.specs.Answers.{IsExact, IsRefused, IsWitness};
+ghost use Rattle.papergrid_layout.specs.Ranges.{IsInTable, end_of, first_out, line_at};
 ghost use Rattle.papergrid_layout.specs.Seen.{Holds};
 
 use crate::demand::Demand;
@@ -11,6 +12,7 @@ use crate::direction::Direction;
 use crate::error::LayoutError;
 use crate::exact::exact_sizes;
 use crate::seen::Seen;
+use crate::witness::exact_witness;
 use papergrid_values::Position;
 use std::alloc::Global;
 
@@ -36,6 +38,22 @@ pub fn find_out(count: usize, demands: &[Demand]) -> Option<Position>
     None
 }
 
+/// Why the seen cells have no sizes, where one of them reaches out or has a large need.
+fn refusal(count: usize, seen: &Seen) -> Option<LayoutError>
+    requires { (demands : List Demand) × Holds seen.now demands }
+    ensures refused { IfSome result (λ error. (direction : Direction) (line : ℕ → Bool) (demands : List Demand) → Holds seen.now demands → IsRefused direction line count demands error) }
+    ensures table { IfNone result (All (IsInTable count) seen.now.demands.items) }
+    ensures small { IfNone result (seen.now.is_large ≡ false) }
+{
+    if let Some(position) = find_out(count, &seen.demands) {
+        return Some(LayoutError::OutOfTable(position));
+    }
+    if seen.is_large {
+        return Some(LayoutError::TooLarge);
+    }
+    None
+}
+
 /// The sizes of `count` columns (rows) that the seen cells ask for, made of a list of as many zeros;
 /// `lines` tells of each of 0 to `count` whether there is a line before it.
 ///
@@ -56,11 +74,33 @@ pub fn finish(
     requires lines { length lines.now ≡ count + 1 }
     ensures { (demands : List Demand) → Holds seen.now demands → IsExact direction (line_at lines.now) count demands result }
 {
-    if let Some(position) = find_out(count, &seen.demands) {
-        return Err(LayoutError::OutOfTable(position));
+    match refusal(count, seen) {
+        Some(error) => Err(error),
+        None => exact_sizes(alloc, direction, count, zeros, &seen.demands, lines),
     }
-    if seen.is_large {
-        return Err(LayoutError::TooLarge);
+}
+
+/// The places of the cells that certify that the sizes which `finish` gives are least; none where
+/// longer ranges are not kept apart.
+///
+/// # Errors
+///
+/// As those of `finish`.
+pub fn finish_witness(
+    alloc: Global,
+    direction: Direction,
+    count: usize,
+    zeros: Vec<usize>,
+    seen: &Seen,
+    lines: &[bool],
+) -> Result<Option<Vec<Position>>, LayoutError>
+    requires zeros { zeros.items ≡ replicate count 0 }
+    requires held { (demands : List Demand) × Holds seen.now demands }
+    requires lines { length lines.now ≡ count + 1 }
+    ensures { (demands : List Demand) → Holds seen.now demands → IsWitness direction (line_at lines.now) count demands result }
+{
+    match refusal(count, seen) {
+        Some(error) => Err(error),
+        None => exact_witness(alloc, direction, count, zeros, &seen.demands, lines),
     }
-    exact_sizes(alloc, direction, count, zeros, &seen.demands, lines)
 }

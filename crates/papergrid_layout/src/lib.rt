@@ -2,16 +2,19 @@
 #![tactic(auto)]
 
 mod base;
+mod chosen;
 mod demand;
 mod direction;
 mod error;
 mod exact;
 mod finish;
 mod grow;
+mod growers;
 mod last_cells;
 pub mod laws;
 mod order;
 mod seen;
 mod sums;
+mod witness;
 
 pub use error::LayoutError;
