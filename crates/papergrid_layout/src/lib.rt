@@ -18,3 +18,6 @@ mod sums;
 mod witness;
 
 pub use error::LayoutError;
+
+#[cfg(test)]
+mod tests;
