@@ -10,7 +10,8 @@ use Rattle.papergrid_layout.specs.Sizes.{lack, grown, base_sizes, sizes_after, t
 abbrev pub growing : (ℕ → Bool) → List ℕ → List Demand → List Demand
 growing line sizes [] = []
 growing line sizes (d ∷ rest) =
-    if nat_lt 0 (lack line sizes d) then d ∷ growing line (grown line sizes d) rest else growing line (grown line sizes d) rest
+    if nat_lt 0 (lack line sizes d) then d ∷ growing line (grown line sizes d) rest
+    else growing line (grown line sizes d) rest
 
 abbrev pub lies_in : Demand → Demand → Bool
 lies_in a b = nat_le b.start a.start && nat_le (end_of a) (end_of b)
@@ -27,7 +28,8 @@ exact_single demands sizes i = find (λ d. d.span == 1 && d.start == i && d.need
 -- the same, where i is in no growing cell's range and its size is above 0
 abbrev pub single_at : List Demand → List Demand → List ℕ → ℕ → Option Demand
 single_at demands growers sizes i =
-    if list_any (λ d. holds d i) growers then None else (if slice_index sizes i == 0 then None else exact_single demands sizes i)
+    if list_any (λ d. holds d i) growers then None
+    else (if slice_index sizes i == 0 then None else exact_single demands sizes i)
 
 abbrev pub or_else : Option Demand → Option Demand → Option Demand
 or_else None other = other
@@ -36,7 +38,8 @@ or_else (Some d) other = Some d
 -- the outermost growing cells and the single ones, by the start of their ranges
 abbrev pub chosen : ℕ → List Demand → List Demand → List ℕ → List Demand
 chosen n demands growers sizes =
-    filter_map (λ i. or_else (find (λ d. d.start == i) (outermost growers)) (single_at demands growers sizes i)) (range_with_len 0 n)
+    filter_map (λ i. or_else (find (λ d. d.start == i) (outermost growers)) (single_at demands growers sizes i))
+    (range_with_len 0 n)
 
 -- the chosen cells where these are taken in this order
 abbrev pub chosen_after : (ℕ → Bool) → ℕ → List Demand → List Demand → List Demand

@@ -5,5 +5,4 @@ pub mod LastCells
 pub mod Ranges
 pub mod Rows
 pub mod Seen
-pub mod Sides
 pub mod Sizes

@@ -8,6 +8,16 @@ use Rattle.papergrid_layout.specs.declared.demand.Demand.{Demand}
 use Rattle.papergrid_layout.specs.declared.direction.Direction.{Direction}
 use Rattle.papergrid_layout.specs.declared.direction.Direction.TheVariants.{Columns, Rows}
 
+-- the number of a place's column, or of its row
+abbrev pub along : Direction → Position → ℕ
+along Columns place = place.col
+along Rows place = place.row
+
+-- what the cell at a place asks for along a direction, by its span and its need
+abbrev pub demand_of : Direction → Position → ℕ → ℕ → Demand
+demand_of direction place span need =
+    record { row = place.row; col = place.col; start = along direction place; span = span; need = need }
+
 -- where the range ends: the first number past it
 abbrev pub end_of : Demand → ℕ
 end_of d = d.start + d.span

@@ -1,4 +1,4 @@
--- The sizes along a direction: those of the cells that cover one number alone, and then what cells of longer ranges lack.
+-- The sizes along a direction: what the cells need that cover one number alone, and then what those of longer ranges lack.
 use Rattle.std.specs.Prelude.{ℕ, ◌+◌, ◌-◌, ◌/◌, ◌%◌, Bool, ◌&&◌, ◌==◌, nat_lt, if◌then◌else◌, List, [], ◌∷◌, map, filter, flat_map, fold}
 use Rattle.std.specs.List.{range_with_len}
 use Rattle.papergrid_layout.specs.declared.demand.Demand.{Demand}

@@ -19,7 +19,9 @@ fn raise(sizes: &mut [usize], index: usize, need: usize)
 /// Raises the base sizes of some cells to those of one more.
 fn raise_alone(sizes: &mut [usize], demand: Demand)
     requires { IsInTable (length sizes.old) demand }
-    ensures { (demands : List Demand) → sizes.old ≡ base_sizes (length sizes.old) demands → sizes.new ≡ base_sizes (length sizes.old) (demands ++ demand ∷ []) }
+    ensures { let count = length sizes.old in
+        (demands : List Demand) → sizes.old ≡ base_sizes count demands →
+        sizes.new ≡ base_sizes count (demands ++ demand ∷ []) }
 {
     if demand.span == 1 {
         raise(sizes, demand.start, demand.need);

@@ -1,6 +1,6 @@
 //! The cells that are chosen to certify the sizes.
 
-ghost use Rattle.std.specs.Prelude.{◌≡◌, ◌==◌, ◌&&◌, All, EachIndex, IfOk, None, Some, filter_map, if◌then◌else◌, length, map, slice_index, slice_index_or};
+ghost use Rattle.std.specs.Prelude.{◌≡◌, [], ◌∷◌, All, EachIndex, IfOk, None, filter_map, length, map, slice_index_or};
 ghost use Rattle.std.specs.List.{range_with_len};
 ghost use Rattle.papergrid_layout.specs.Chosen.{chosen, exact_single, or_else};
 ghost use Rattle.papergrid_layout.specs.LastCells.{IsLaminar, chosen_slot, slot_of};
@@ -16,7 +16,8 @@ use std::alloc::{AllocError, Global};
 fn keep_single(first: &mut [Option<Demand>], sizes: &[usize], demand: Demand)
     requires table { IsInTable (length sizes.now) demand }
     requires length { length first.old ≡ length sizes.now }
-    ensures { EachIndex first.new (λ k. slice_index_or first.new k None ≡ or_else (slice_index_or first.old k None) (if demand.span == 1 && demand.start == k && demand.need == slice_index sizes.now k then Some demand else None)) }
+    ensures { EachIndex first.new (λ k. slice_index_or first.new k None ≡
+        or_else (slice_index_or first.old k None) (exact_single (demand ∷ []) sizes.now k)) }
 {
     if demand.span == 1 {
         if demand.need == sizes[demand.start] {
@@ -32,7 +33,8 @@ fn keep_singles(first: &mut [Option<Demand>], sizes: &[usize], demands: &[Demand
     requires none { All (λ cell. cell ≡ None) first.old }
     requires length { length first.old ≡ length sizes.now }
     requires table { All (IsInTable (length sizes.now)) demands.now }
-    ensures { EachIndex first.new (λ i. slice_index_or first.new i None ≡ exact_single demands.now sizes.now i) }
+    ensures { EachIndex first.new (λ i.
+        slice_index_or first.new i None ≡ exact_single demands.now sizes.now i) }
 {
     for demand in demands {
         keep_single(first, sizes, *demand);
@@ -65,7 +67,8 @@ fn chosen_cells(
 ) -> Result<Vec<Demand>, AllocError>
     requires last { length last.now ≡ length sizes.now }
     requires first { length first.now ≡ length sizes.now }
-    ensures { IfOk result (λ cells. cells.items ≡ filter_map (chosen_slot last.now first.now sizes.now) (range_with_len 0 (length sizes.now))) }
+    ensures { let slots = chosen_slot last.now first.now sizes.now in
+        IfOk result (λ cells. cells.items ≡ filter_map slots (range_with_len 0 (length sizes.now))) }
 {
     let mut cells = Vec::new(alloc);
     for i in 0..sizes.len() {
@@ -86,7 +89,8 @@ fn choose(
     requires table { All (IsInTable (length sizes.now)) demands.now }
     requires growers { All (IsInTable (length sizes.now)) growers.now }
     requires laminar { IsLaminar growers.now }
-    ensures { IfOk result (λ cells. cells.items ≡ chosen (length sizes.now) demands.now growers.now sizes.now) }
+    ensures { let count = length sizes.now in
+        IfOk result (λ cells. cells.items ≡ chosen count demands.now growers.now sizes.now) }
 {
     let mut last = vec![in alloc; None; sizes.len()]?;
     write_all(&mut last, growers);
@@ -112,7 +116,8 @@ pub fn chosen_places(
     requires table { All (IsInTable (length sizes.now)) demands.now }
     requires growers { All (IsInTable (length sizes.now)) growers.now }
     requires laminar { IsLaminar growers.now }
-    ensures { IfOk result (λ places. places.items ≡ map place_of (chosen (length sizes.now) demands.now growers.now sizes.now)) }
+    ensures { let cells = chosen (length sizes.now) demands.now growers.now sizes.now in
+        IfOk result (λ places. places.items ≡ map place_of cells) }
 {
     let cells = choose(alloc, demands, growers, sizes)?;
     places(alloc, &cells)

@@ -27,8 +27,11 @@ fn fill(
     requires table { All (IsInTable count) demands.now }
     requires cells { All (IsInTable count) cells.now }
     requires lines { length lines.now ≡ count + 1 }
-    ensures sizes { OnTrue result (sizes.new ≡ sizes_after (line_at lines.now) count demands.now cells.now) }
-    ensures fits { IsTrue result ↔ (sum (sizes_after (line_at lines.now) count demands.now cells.now) + all_lines (line_at lines.now) count < 2 ^ 64) }
+    ensures sizes { let line = line_at lines.now in
+        OnTrue result (sizes.new ≡ sizes_after line count demands.now cells.now) }
+    ensures fits { let line = line_at lines.now in
+        IsTrue result ↔
+        (sum (sizes_after line count demands.now cells.now) + all_lines line count < 2 ^ 64) }
 {
     raise_all(sizes, count, demands);
     settle(sizes, lines, cells)

@@ -41,7 +41,9 @@ pub fn find_out(count: usize, demands: &[Demand]) -> Option<Position>
 /// Why the seen cells have no sizes, where one of them reaches out or has a large need.
 fn refusal(count: usize, seen: &Seen) -> Option<LayoutError>
     requires { (demands : List Demand) × Holds seen.now demands }
-    ensures refused { IfSome result (λ error. (direction : Direction) (line : ℕ → Bool) (demands : List Demand) → Holds seen.now demands → IsRefused direction line count demands error) }
+    ensures refused { IfSome result (λ error.
+        (direction : Direction) (line : ℕ → Bool) (demands : List Demand) →
+        Holds seen.now demands → IsRefused direction line count demands error) }
     ensures table { IfNone result (All (IsInTable count) seen.now.demands.items) }
     ensures small { IfNone result (seen.now.is_large ≡ false) }
 {
@@ -72,7 +74,8 @@ pub fn finish(
     requires zeros { zeros.items ≡ replicate count 0 }
     requires held { (demands : List Demand) × Holds seen.now demands }
     requires lines { length lines.now ≡ count + 1 }
-    ensures { (demands : List Demand) → Holds seen.now demands → IsExact direction (line_at lines.now) count demands result }
+    ensures { (demands : List Demand) → Holds seen.now demands →
+        IsExact direction (line_at lines.now) count demands result }
 {
     match refusal(count, seen) {
         Some(error) => Err(error),
@@ -97,7 +100,8 @@ pub fn finish_witness(
     requires zeros { zeros.items ≡ replicate count 0 }
     requires held { (demands : List Demand) × Holds seen.now demands }
     requires lines { length lines.now ≡ count + 1 }
-    ensures { (demands : List Demand) → Holds seen.now demands → IsWitness direction (line_at lines.now) count demands result }
+    ensures { (demands : List Demand) → Holds seen.now demands →
+        IsWitness direction (line_at lines.now) count demands result }
 {
     match refusal(count, seen) {
         Some(error) => Err(error),

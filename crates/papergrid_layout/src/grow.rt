@@ -28,7 +28,8 @@ pub fn grow(sizes: &mut [usize], total: usize, lines: &[bool], demand: Demand) -
     requires table { IsInTable (length sizes.old) demand }
     requires lines { length sizes.old ≤ length lines.now }
     requires total { total ≡ sum sizes.old }
-    ensures grown { IfSome result (λ after. sizes.new ≡ grown (line_at lines.now) sizes.old demand) }
+    ensures grown { let line = line_at lines.now in
+        IfSome result (λ after. sizes.new ≡ grown line sizes.old demand) }
     ensures total { IfSome result (λ after. after ≡ sum sizes.new) }
     ensures too_large { IfNone result (2 ^ 64 ≤ sum (grown (line_at lines.now) sizes.old demand)) }
 {
@@ -45,9 +46,11 @@ fn grow_all(sizes: &mut [usize], total: usize, lines: &[bool], cells: &[Demand])
     requires table { All (IsInTable (length sizes.old)) cells.now }
     requires lines { length sizes.old ≤ length lines.now }
     requires total { total ≡ sum sizes.old }
-    ensures grown { IfSome result (λ after. sizes.new ≡ fold (grown (line_at lines.now)) sizes.old cells.now) }
+    ensures grown { let line = line_at lines.now in
+        IfSome result (λ after. sizes.new ≡ fold (grown line) sizes.old cells.now) }
     ensures total { IfSome result (λ after. after ≡ sum sizes.new) }
-    ensures too_large { IfNone result (2 ^ 64 ≤ sum (fold (grown (line_at lines.now)) sizes.old cells.now)) }
+    ensures too_large { let line = line_at lines.now in
+        IfNone result (2 ^ 64 ≤ sum (fold (grown line) sizes.old cells.now)) }
 {
     let mut after = total;
     for demand in cells {
@@ -60,8 +63,11 @@ fn grow_all(sizes: &mut [usize], total: usize, lines: &[bool], cells: &[Demand])
 pub fn settle(sizes: &mut [usize], lines: &[bool], cells: &[Demand]) -> bool
     requires table { All (IsInTable (length sizes.old)) cells.now }
     requires lines { length lines.now ≡ length sizes.old + 1 }
-    ensures grown { OnTrue result (sizes.new ≡ fold (grown (line_at lines.now)) sizes.old cells.now) }
-    ensures fits { IsTrue result ↔ (sum (fold (grown (line_at lines.now)) sizes.old cells.now) + all_lines (line_at lines.now) (length sizes.old) < 2 ^ 64) }
+    ensures grown { let line = line_at lines.now in
+        OnTrue result (sizes.new ≡ fold (grown line) sizes.old cells.now) }
+    ensures fits { let line = line_at lines.now in
+        let total = sum (fold (grown line) sizes.old cells.now) in
+        IsTrue result ↔ (total + all_lines line (length sizes.old) < 2 ^ 64) }
 {
     let Some(total) = checked_sum(sizes) else {
         return false;

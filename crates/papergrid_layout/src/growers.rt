@@ -22,9 +22,15 @@ fn growing_cells(
     requires table { All (IsInTable (length sizes.old)) cells.now }
     requires lines { length sizes.old ≤ length lines.now }
     requires total { total ≡ sum sizes.old }
-    ensures growers { IfOk result (λ found. IfSome found (λ growers. growers.items ≡ growing (line_at lines.now) sizes.old cells.now)) }
-    ensures grown { IfOk result (λ found. IfSome found (λ growers. sizes.new ≡ fold (grown (line_at lines.now)) sizes.old cells.now)) }
-    ensures too_large { IfOk result (λ found. IfNone found (2 ^ 64 ≤ sum (fold (grown (line_at lines.now)) sizes.old cells.now))) }
+    ensures growers { let line = line_at lines.now in
+        IfOk result (λ found. IfSome found (λ growers.
+        growers.items ≡ growing line sizes.old cells.now)) }
+    ensures grown { let line = line_at lines.now in
+        IfOk result (λ found. IfSome found (λ growers.
+        sizes.new ≡ fold (grown line) sizes.old cells.now)) }
+    ensures too_large { let line = line_at lines.now in
+        IfOk result (λ found. IfNone found (
+        2 ^ 64 ≤ sum (fold (grown line) sizes.old cells.now))) }
 {
     let mut growers = Vec::new(alloc);
     let mut so_far = total;
@@ -45,7 +51,8 @@ fn growing_cells(
 /// Whether the total of the sizes with all lines fits.
 fn fits_with_lines(sizes: &[usize], lines: &[bool]) -> bool
     requires { length lines.now ≡ length sizes.now + 1 }
-    ensures { IsTrue result ↔ (sum sizes.now + all_lines (line_at lines.now) (length sizes.now) < 2 ^ 64) }
+    ensures { let line = line_at lines.now in
+        IsTrue result ↔ (sum sizes.now + all_lines line (length sizes.now) < 2 ^ 64) }
 {
     let Some(total) = checked_sum(sizes) else {
         return false;
@@ -67,10 +74,18 @@ pub fn fill_growing(
     requires table { All (IsInTable count) demands.now }
     requires cells { All (IsInTable count) cells.now }
     requires lines { length lines.now ≡ count + 1 }
-    ensures growers { IfOk result (λ found. IfSome found (λ growers. growers.items ≡ growing (line_at lines.now) (base_sizes count demands.now) cells.now)) }
-    ensures sizes { IfOk result (λ found. IfSome found (λ growers. sizes.new ≡ sizes_after (line_at lines.now) count demands.now cells.now)) }
-    ensures fits { IfOk result (λ found. IfSome found (λ growers. sum (sizes_after (line_at lines.now) count demands.now cells.now) + all_lines (line_at lines.now) count < 2 ^ 64)) }
-    ensures too_large { IfOk result (λ found. IfNone found (2 ^ 64 ≤ sum (sizes_after (line_at lines.now) count demands.now cells.now) + all_lines (line_at lines.now) count)) }
+    ensures growers { let line = line_at lines.now in
+        IfOk result (λ found. IfSome found (λ growers.
+        growers.items ≡ growing line (base_sizes count demands.now) cells.now)) }
+    ensures sizes { let line = line_at lines.now in
+        IfOk result (λ found. IfSome found (λ growers.
+        sizes.new ≡ sizes_after line count demands.now cells.now)) }
+    ensures fits { let line = line_at lines.now in
+        IfOk result (λ found. IfSome found (λ growers.
+        sum (sizes_after line count demands.now cells.now) + all_lines line count < 2 ^ 64)) }
+    ensures too_large { let line = line_at lines.now in
+        IfOk result (λ found. IfNone found (
+        2 ^ 64 ≤ sum (sizes_after line count demands.now cells.now) + all_lines line count)) }
 {
     raise_all(sizes, count, demands);
     let Some(total) = checked_sum(sizes) else {

@@ -11,7 +11,8 @@ use crate::direction::Direction;
 /// Writes the cell at each number of its range.
 fn write_over(last: &mut [Option<Demand>], demand: Demand)
     requires { IsInTable (length last.old) demand }
-    ensures { EachIndex last.new (λ k. slice_index_or last.new k None ≡ (if holds demand k then Some demand else slice_index_or last.old k None)) }
+    ensures { EachIndex last.new (λ k. slice_index_or last.new k None ≡
+        (if holds demand k then Some demand else slice_index_or last.old k None)) }
 {
     for i in demand.start..demand.start + demand.span {
         last[i] = Some(demand);
@@ -47,8 +48,11 @@ fn is_under(direction: Direction, earlier: Demand, later: Demand) -> bool
 /// Whether each cell that is written at a number of the range may come before this one.
 fn covers_all(direction: Direction, last: &[Option<Demand>], demand: Demand) -> bool
     requires table { IsInTable (length last.now) demand }
-    requires others { (i : ℕ) (o : Demand) → slice_index_or last.now i None ≡ Some o → IsInTable (length last.now) o }
-    ensures { IsTrue result ↔ ((i : ℕ) (o : Demand) → holds demand i ≡ true → slice_index_or last.now i None ≡ Some o → IsUnder direction o demand) }
+    requires others { (i : ℕ) (o : Demand) →
+        slice_index_or last.now i None ≡ Some o → IsInTable (length last.now) o }
+    ensures { IsTrue result ↔
+        ((i : ℕ) (o : Demand) → holds demand i ≡ true →
+        slice_index_or last.now i None ≡ Some o → IsUnder direction o demand) }
 {
     for i in demand.start..demand.start + demand.span {
         if let Some(other) = last[i] {

@@ -1,10 +1,9 @@
 //! What a walk over cells keeps of their demands.
 
-ghost use Rattle.std.specs.Prelude.{◌≡◌, ◌≤◌, [], ◌∷◌, List, OnOk};
+ghost use Rattle.std.specs.Prelude.{◌≡◌, ◌+◌, ◌<◌, ◌≤◌, ◌^◌, [], ◌∷◌, OnOk};
 ghost use Rattle.std.specs.Option.{SomeIff};
-ghost use Rattle.std.specs.Prelude.{◌+◌, ◌<◌, ◌^◌};
 ghost use Rattle.papergrid_layout.specs.Seen.{Adds, Holds};
-ghost use Rattle.papergrid_layout.specs.Sides.{along};
+ghost use Rattle.papergrid_layout.specs.Ranges.{along, demand_of};
 
 use crate::demand::Demand;
 use crate::direction::Direction;
@@ -60,7 +59,8 @@ pub fn keep(
     after: usize,
 ) -> Result<(), AllocError>
     requires { 1 ≤ span }
-    ensures { OnOk result (Adds seen.old seen.new (record { row = position.row; col = position.col; start = along direction position; span = span; need = measure + before + after } ∷ [])) }
+    ensures { let need = measure + before + after in
+        OnOk result (Adds seen.old seen.new (demand_of direction position span need ∷ [])) }
 {
     let start = number_of(direction, position);
     let need = need_of(measure, before, after);
