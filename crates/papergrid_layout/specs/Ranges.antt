@@ -72,3 +72,7 @@ all_lines line n = count_by line (range_with_len 0 (n + 1))
 -- whether a line is drawn, by a list that says so of each number; none past its end
 abbrev pub line_at : List Bool → ℕ → Bool
 line_at lines i = slice_index_or lines i false
+
+-- the lines at 0, 1 and so on up to n alone
+abbrev pub lines_to : (ℕ → Bool) → ℕ → ℕ → Bool
+lines_to line n i = nat_le i n && line i

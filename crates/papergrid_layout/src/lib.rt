@@ -1,8 +1,10 @@
 //! Widths of columns and heights of rows of a table of cells, some of which span several.
 #![tactic(auto)]
 
+mod axis;
 mod base;
 mod chosen;
+mod conclude;
 mod demand;
 mod direction;
 mod error;
@@ -12,6 +14,7 @@ mod grow;
 mod growers;
 mod last_cells;
 pub mod laws;
+mod lines;
 mod order;
 mod seen;
 mod sums;
