@@ -1,4 +1,6 @@
+pub mod AcceptLemmas
 pub mod Certified
+pub mod CheckLemmas
 pub mod Counting
 pub mod Duality
 pub mod FitBound
@@ -10,6 +12,7 @@ pub mod LastLoops
 pub mod LoopLemmas
 pub mod Orders
 pub mod OutLemmas
+pub mod PairLemmas
 pub mod RangeLemmas
 pub mod Steps
 pub mod Theorems

@@ -57,3 +57,11 @@ module _ (direction : Direction) (line : ℕ → Bool) (n : ℕ) (demands : List
     IsWitness (Ok None) = NoneChosen
     IsWitness (Ok (Some places)) = AreChosen places.items
     IsWitness (Err e) = IsRefused e
+
+-- what a checker accepts: no cell reaches out, the sizes fit, and the places are those of cells that certify them
+pub record IsAccepted (line : ℕ → Bool) (n : ℕ) (demands : List Demand) (sizes : List ℕ) (places : List Position) : Type 0 where
+  pub none_out : first_out n demands ≡ None
+  pub fits : Fits line n demands sizes
+  pub cells : List Demand
+  pub at_places : map place_of cells ≡ places
+  pub certificate : IsCertificate line demands sizes cells

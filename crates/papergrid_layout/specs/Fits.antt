@@ -1,7 +1,7 @@
 -- Room for each cell, the least total, and what shows that a total is least.
 use Rattle.std.specs.Prelude.{◌≡◌, ℕ, ◌+◌, ◌^◌, ◌≤◌, max, Bool, List, [], ◌∷◌, map, length, take, drop, filter, sum, sum_by, All, AllPairs, Contains}
 use Rattle.papergrid_layout.specs.declared.demand.Demand.{Demand}
-use Rattle.papergrid_layout.specs.Ranges.{end_of, holds, inner_lines, all_lines, AreDisjoint}
+use Rattle.papergrid_layout.specs.Ranges.{holds, inner_lines, all_lines, AreDisjoint}
 
 -- the sum of the sizes in the range
 abbrev pub range_sum : List ℕ → Demand → ℕ
@@ -43,9 +43,3 @@ pub record IsCertificate (line : ℕ → Bool) (demands : List Demand) (sizes : 
   pub visible : All (Contains demands) cells
   pub apart : AllPairs AreDisjoint cells
   pub adds_up : sum_by (λ d. d.need) cells ≡ sum sizes + sum_by (inner_lines line) cells
-
--- what a checker accepts: no cell reaches out, the sizes fit, and the cells are a certificate for them
-pub record IsAccepted (line : ℕ → Bool) (n : ℕ) (demands : List Demand) (sizes : List ℕ) (cells : List Demand) : Type 0 where
-  pub none_out : All (λ d. end_of d ≤ n) demands
-  pub fits : Fits line n demands sizes
-  pub certificate : IsCertificate line demands sizes cells

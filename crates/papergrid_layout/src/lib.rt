@@ -1,8 +1,10 @@
 //! Widths of columns and heights of rows of a table of cells, some of which span several.
 #![tactic(auto)]
 
+mod apart;
 mod axis;
 mod base;
+mod checked;
 mod chosen;
 mod conclude;
 mod demand;

@@ -5,9 +5,11 @@ ghost use Rattle.papergrid_layout.specs.declared.demand.Demand.{Demand};
 ghost use Rattle.papergrid_layout.specs.Seen.{Holds};
 
 use crate::LayoutError;
+use crate::axis::Axis;
+use crate::checked::{Checked, accepts, visit, wide_need};
+use crate::conclude::{conclude, conclude_witness};
 use crate::direction::Direction;
 use crate::direction::Direction::{Columns, Rows};
-use crate::finish::{finish, finish_witness};
 use crate::laws::worked_rows;
 use crate::seen::{Seen, keep};
 use papergrid_values::Position;
@@ -21,12 +23,73 @@ const HALF: usize = 9223372036854775807;
 /// A cell's row and column, its span, its measure and a padding.
 type Cell = (usize, usize, usize, usize, usize);
 
-/// Whether a line is drawn at each number of a table of so many columns (rows).
+/// The spans of two cells, and the lines: all or, by its number, one. All other cells have a span of
+/// one.
 #[derive(Clone, Copy)]
-enum Lines {
-    All,
-    None,
-    At(usize),
+struct Sample {
+    first: Position,
+    first_span: usize,
+    second: Position,
+    second_span: usize,
+    all: bool,
+    line: usize,
+}
+
+impl Axis for Sample {
+    ghost use Rattle.std.specs.Prelude.{◌==◌, ◌&&◌, ◌||◌, if◌then◌else◌, max};
+
+    ghost span_of = { λ s p. if p.row == s.first.row && p.col == s.first.col then max s.first_span 1
+        else (if p.row == s.second.row && p.col == s.second.col then max s.second_span 1 else 1) };
+
+    ghost line = { λ s i. s.all || i == s.line };
+
+    fn span(&self, position: Position) -> usize {
+        if position.row == self.first.row && position.col == self.first.col {
+            self.first_span.max(1)
+        } else if position.row == self.second.row && position.col == self.second.col {
+            self.second_span.max(1)
+        } else {
+            1
+        }
+    }
+
+    fn has_line(&self, i: usize) -> bool {
+        self.all || i == self.line
+    }
+}
+
+const ORIGIN: Position = Position { row: 0, col: 0 };
+
+/// No cell with a span, and all lines.
+const LINED: Sample = Sample {
+    first: ORIGIN,
+    first_span: 1,
+    second: ORIGIN,
+    second_span: 1,
+    all: true,
+    line: 0,
+};
+
+/// No cell with a span, and no line.
+const NONE: Sample = Sample {
+    first: ORIGIN,
+    first_span: 1,
+    second: ORIGIN,
+    second_span: 1,
+    all: false,
+    line: MAX,
+};
+
+/// No cell with a span, and one line.
+fn one_line(line: usize) -> Sample {
+    Sample {
+        first: ORIGIN,
+        first_span: 1,
+        second: ORIGIN,
+        second_span: 1,
+        all: false,
+        line,
+    }
 }
 
 const PICTURE: [Cell; 5] = [
@@ -66,6 +129,13 @@ const EVEN: [Cell; 8] = [
     (2, 2, 1, 1, 0),
 ];
 
+const CROSSING: [Cell; 4] = [
+    (0, 0, 2, 10, 0),
+    (0, 2, 1, 0, 0),
+    (1, 0, 1, 0, 0),
+    (1, 1, 2, 10, 0),
+];
+
 fn at(row: usize, col: usize) -> Position {
     Position::new(row, col)
 }
@@ -89,47 +159,51 @@ fn seen(alloc: Global, direction: Direction, cells: &[Cell]) -> Result<Seen, All
     Ok(seen)
 }
 
-fn drawn_lines(alloc: Global, count: usize, lines: Lines) -> Result<Vec<bool>, AllocError>
-    requires { count < 1000 }
-    ensures { IfOk result (λ lines. length lines.items ≡ count + 1) }
-{
-    let mut drawn = vec![in alloc; matches!(lines, Lines::All); count + 1]?;
-    if let Lines::At(i) = lines {
-        if i <= count {
-            drawn[i] = true;
-        }
-    }
-    Ok(drawn)
-}
-
 fn sizes(
     alloc: Global,
     direction: Direction,
     count: usize,
-    drawn: Lines,
+    axis: Sample,
     cells: &[Cell],
-) -> Result<Vec<usize>, LayoutError>
-    requires { count < 1000 }
-{
+) -> Result<Vec<usize>, LayoutError> {
     let seen = seen(alloc, direction, cells)?;
-    let zeros = vec![in alloc; 0; count]?;
-    let drawn = drawn_lines(alloc, count, drawn)?;
-    finish(alloc, direction, count, zeros, &seen, &drawn)
+    conclude(alloc, direction, count, &seen, &axis)
 }
 
 fn witness(
     alloc: Global,
     direction: Direction,
     count: usize,
-    drawn: Lines,
+    axis: Sample,
     cells: &[Cell],
-) -> Result<Option<Vec<Position>>, LayoutError>
-    requires { count < 1000 }
-{
+) -> Result<Option<Vec<Position>>, LayoutError> {
     let seen = seen(alloc, direction, cells)?;
-    let zeros = vec![in alloc; 0; count]?;
-    let drawn = drawn_lines(alloc, count, drawn)?;
-    finish_witness(alloc, direction, count, zeros, &seen, &drawn)
+    conclude_witness(alloc, direction, count, &seen, &axis)
+}
+
+/// Whether sizes and places are accepted for cells whose spans are those of the axis.
+fn check(
+    direction: Direction,
+    count: usize,
+    axis: Sample,
+    cells: &[Cell],
+    sizes: &[usize],
+    places: &[Position],
+) -> bool {
+    let mut checked = Checked::new();
+    for (row, col, _, measure, padding) in cells {
+        let need = wide_need(*measure, *padding, 0);
+        checked = visit(
+            checked,
+            direction,
+            &axis,
+            sizes,
+            places,
+            at(*row, *col),
+            need,
+        );
+    }
+    accepts(checked, direction, &axis, count, sizes, places)
 }
 
 #[test]
@@ -137,9 +211,9 @@ fn readme_picture(rt: HostRuntime) -> Result<(), Fail> {
     let alloc = rt.alloc();
     let widths = vec![in alloc; 17, 12, 16, 1]?;
     let cells = vec![in alloc; at(0, 0), at(0, 1), at(0, 2), at(0, 3)]?;
-    assert_eq!(rt; sizes(alloc, Columns, 4, Lines::All, &PICTURE), Ok(widths));
+    assert_eq!(rt; sizes(alloc, Columns, 4, LINED, &PICTURE), Ok(widths));
     assert_eq!(rt;
-        witness(alloc, Columns, 4, Lines::All, &PICTURE),
+        witness(alloc, Columns, 4, LINED, &PICTURE),
         Ok(Some(cells))
     );
     Ok(())
@@ -150,8 +224,8 @@ fn even_shares_over_inner_line(rt: HostRuntime) -> Result<(), Fail> {
     let alloc = rt.alloc();
     let heights = vec![in alloc; 3, 3, 1]?;
     let cells = vec![in alloc; at(0, 0), at(2, 0)]?;
-    assert_eq!(rt; sizes(alloc, Rows, 3, Lines::All, &EVEN), Ok(heights));
-    assert_eq!(rt; witness(alloc, Rows, 3, Lines::All, &EVEN), Ok(Some(cells)));
+    assert_eq!(rt; sizes(alloc, Rows, 3, LINED, &EVEN), Ok(heights));
+    assert_eq!(rt; witness(alloc, Rows, 3, LINED, &EVEN), Ok(Some(cells)));
     Ok(())
 }
 
@@ -160,11 +234,11 @@ fn remainder_to_first(rt: HostRuntime) -> Result<(), Fail> {
     let alloc = rt.alloc();
     let rows = [(0, 0, 2, 8, 0), (0, 1, 1, 1, 0), (1, 1, 1, 1, 0)];
     assert_eq!(rt;
-        sizes(alloc, Rows, 2, Lines::All, &rows),
+        sizes(alloc, Rows, 2, LINED, &rows),
         Ok(vec![in alloc; 4, 3]?)
     );
     let cells = vec![in alloc; at(0, 0)]?;
-    assert_eq!(rt; witness(alloc, Rows, 2, Lines::All, &rows), Ok(Some(cells)));
+    assert_eq!(rt; witness(alloc, Rows, 2, LINED, &rows), Ok(Some(cells)));
     Ok(())
 }
 
@@ -179,10 +253,10 @@ fn lines_alone_satisfy(rt: HostRuntime) -> Result<(), Fail> {
         (2, 2, 1, 1, 0),
     ];
     assert_eq!(rt;
-        sizes(alloc, Rows, 3, Lines::All, &rows),
+        sizes(alloc, Rows, 3, LINED, &rows),
         Ok(vec![in alloc; 0, 0, 1]?)
     );
-    assert_eq!(rt; witness(alloc, Rows, 3, Lines::All, &rows), Ok(None));
+    assert_eq!(rt; witness(alloc, Rows, 3, LINED, &rows), Ok(None));
     Ok(())
 }
 
@@ -191,11 +265,8 @@ fn nested_column_spans(rt: HostRuntime) -> Result<(), Fail> {
     let alloc = rt.alloc();
     let widths = vec![in alloc; 2, 4, 4]?;
     let cells = vec![in alloc; at(1, 0)]?;
-    assert_eq!(rt; sizes(alloc, Columns, 3, Lines::None, &NESTED), Ok(widths));
-    assert_eq!(rt;
-        witness(alloc, Columns, 3, Lines::None, &NESTED),
-        Ok(Some(cells))
-    );
+    assert_eq!(rt; sizes(alloc, Columns, 3, NONE, &NESTED), Ok(widths));
+    assert_eq!(rt; witness(alloc, Columns, 3, NONE, &NESTED), Ok(Some(cells)));
     Ok(())
 }
 
@@ -203,14 +274,8 @@ fn nested_column_spans(rt: HostRuntime) -> Result<(), Fail> {
 fn nested_row_spans(rt: HostRuntime) -> Result<(), Fail> {
     let alloc = rt.alloc();
     let heights = vec![in alloc; 4, 4, 4]?;
-    assert_eq!(rt;
-        sizes(alloc, Rows, 3, Lines::None, &NESTED_ROWS),
-        Ok(heights)
-    );
-    assert_eq!(rt;
-        witness(alloc, Rows, 3, Lines::None, &NESTED_ROWS),
-        Ok(None)
-    );
+    assert_eq!(rt; sizes(alloc, Rows, 3, NONE, &NESTED_ROWS), Ok(heights));
+    assert_eq!(rt; witness(alloc, Rows, 3, NONE, &NESTED_ROWS), Ok(None));
     Ok(())
 }
 
@@ -224,8 +289,8 @@ fn crossing_column_spans(rt: HostRuntime) -> Result<(), Fail> {
         (1, 1, 2, 10, 0),
     ];
     let widths = vec![in alloc; 5, 8, 2]?;
-    assert_eq!(rt; sizes(alloc, Columns, 3, Lines::None, &columns), Ok(widths));
-    assert_eq!(rt; witness(alloc, Columns, 3, Lines::None, &columns), Ok(None));
+    assert_eq!(rt; sizes(alloc, Columns, 3, NONE, &CROSSING), Ok(widths));
+    assert_eq!(rt; witness(alloc, Columns, 3, NONE, &CROSSING), Ok(None));
     Ok(())
 }
 
@@ -234,20 +299,14 @@ fn equal_ranges(rt: HostRuntime) -> Result<(), Fail> {
     let alloc = rt.alloc();
     let cells = [(0, 0, 2, 3, 0), (1, 0, 2, 6, 0)];
     assert_eq!(rt;
-        sizes(alloc, Columns, 2, Lines::None, &cells),
+        sizes(alloc, Columns, 2, NONE, &cells),
         Ok(vec![in alloc; 4, 2]?)
     );
     let places = vec![in alloc; at(1, 0)]?;
-    assert_eq!(rt;
-        witness(alloc, Columns, 2, Lines::None, &cells),
-        Ok(Some(places))
-    );
+    assert_eq!(rt; witness(alloc, Columns, 2, NONE, &cells), Ok(Some(places)));
     let rows = [(0, 0, 2, 6, 0), (0, 1, 2, 3, 0)];
     let places = vec![in alloc; at(0, 0)]?;
-    assert_eq!(rt;
-        witness(alloc, Rows, 2, Lines::None, &rows),
-        Ok(Some(places))
-    );
+    assert_eq!(rt; witness(alloc, Rows, 2, NONE, &rows), Ok(Some(places)));
     Ok(())
 }
 
@@ -256,22 +315,19 @@ fn greatest_size(rt: HostRuntime) -> Result<(), Fail> {
     let alloc = rt.alloc();
     let cell = [(0, 0, 1, 0, MAX)];
     assert_eq!(rt;
-        sizes(alloc, Columns, 1, Lines::None, &cell),
+        sizes(alloc, Columns, 1, NONE, &cell),
         Ok(vec![in alloc; MAX]?)
     );
     let places = vec![in alloc; at(0, 0)]?;
-    assert_eq!(rt;
-        witness(alloc, Columns, 1, Lines::None, &cell),
-        Ok(Some(places))
-    );
+    assert_eq!(rt; witness(alloc, Columns, 1, NONE, &cell), Ok(Some(places)));
     let too_large = Err(LayoutError::TooLarge);
-    assert_eq!(rt; sizes(alloc, Columns, 1, Lines::At(1), &cell), too_large);
+    assert_eq!(rt; sizes(alloc, Columns, 1, one_line(1), &cell), too_large);
     assert_eq!(rt;
-        sizes(alloc, Columns, 1, Lines::None, &[(0, 0, 1, 1, MAX)]),
+        sizes(alloc, Columns, 1, NONE, &[(0, 0, 1, 1, MAX)]),
         Err(LayoutError::TooLarge)
     );
     assert_eq!(rt;
-        witness(alloc, Columns, 1, Lines::All, &cell),
+        witness(alloc, Columns, 1, LINED, &cell),
         Err(LayoutError::TooLarge)
     );
     Ok(())
@@ -282,11 +338,11 @@ fn halves_of_the_greatest(rt: HostRuntime) -> Result<(), Fail> {
     let alloc = rt.alloc();
     let cell = [(0, 0, 2, 0, MAX)];
     let widths = vec![in alloc; HALF + 1, HALF]?;
-    assert_eq!(rt; sizes(alloc, Columns, 2, Lines::None, &cell), Ok(widths));
+    assert_eq!(rt; sizes(alloc, Columns, 2, NONE, &cell), Ok(widths));
     let widths = vec![in alloc; HALF, HALF]?;
-    assert_eq!(rt; sizes(alloc, Columns, 2, Lines::At(1), &cell), Ok(widths));
+    assert_eq!(rt; sizes(alloc, Columns, 2, one_line(1), &cell), Ok(widths));
     assert_eq!(rt;
-        sizes(alloc, Columns, 2, Lines::At(0), &cell),
+        sizes(alloc, Columns, 2, one_line(0), &cell),
         Err(LayoutError::TooLarge)
     );
     Ok(())
@@ -296,16 +352,13 @@ fn halves_of_the_greatest(rt: HostRuntime) -> Result<(), Fail> {
 fn out_of_table(rt: HostRuntime) -> Result<(), Fail> {
     let alloc = rt.alloc();
     let out = Err(LayoutError::OutOfTable(at(0, 0)));
-    assert_eq!(rt;
-        sizes(alloc, Columns, 2, Lines::None, &[(0, 0, 3, 1, 0)]),
-        out
-    );
+    assert_eq!(rt; sizes(alloc, Columns, 2, NONE, &[(0, 0, 3, 1, 0)]), out);
     let cells = [(0, 0, 1, 1, 0), (0, 1, 1, 1, 0)];
     let out = Err(LayoutError::OutOfTable(at(0, 1)));
-    assert_eq!(rt; witness(alloc, Columns, 1, Lines::None, &cells), out);
+    assert_eq!(rt; witness(alloc, Columns, 1, NONE, &cells), out);
     let greatest = Err(LayoutError::OutOfTable(at(0, 0)));
     assert_eq!(rt;
-        sizes(alloc, Columns, 1, Lines::None, &[(0, 0, MAX, 1, 0)]),
+        sizes(alloc, Columns, 1, NONE, &[(0, 0, MAX, 1, 0)]),
         greatest
     );
     Ok(())
@@ -316,22 +369,76 @@ fn out_before_too_large(rt: HostRuntime) -> Result<(), Fail> {
     let alloc = rt.alloc();
     let cells = [(0, 0, 1, 1, MAX), (0, 1, 1, 1, MAX)];
     let out = Err(LayoutError::OutOfTable(at(0, 1)));
-    assert_eq!(rt; sizes(alloc, Columns, 1, Lines::None, &cells), out);
+    assert_eq!(rt; sizes(alloc, Columns, 1, NONE, &cells), out);
     Ok(())
 }
 
 #[test]
 fn empty_tables(rt: HostRuntime) -> Result<(), Fail> {
     let alloc = rt.alloc();
+    assert_eq!(rt; sizes(alloc, Columns, 0, LINED, &[]), Ok(Vec::new(alloc)));
     assert_eq!(rt;
-        sizes(alloc, Columns, 0, Lines::All, &[]),
-        Ok(Vec::new(alloc))
-    );
-    assert_eq!(rt;
-        witness(alloc, Rows, 0, Lines::None, &[]),
+        witness(alloc, Rows, 0, NONE, &[]),
         Ok(Some(Vec::new(alloc)))
     );
     Ok(())
+}
+
+#[test]
+fn width_checker(rt: HostRuntime) {
+    let axis = Sample {
+        first: Position { row: 1, col: 0 },
+        first_span: 3,
+        second: Position { row: 2, col: 1 },
+        second_span: 2,
+        ..NONE
+    };
+    assert!(rt; check(Columns, 3, axis, &NESTED, &[2, 4, 4], &[at(1, 0)]));
+    assert!(rt; !check(Columns, 3, axis, &NESTED, &[2, 4, 4], &[at(0, 0), at(2, 1)]));
+    assert!(rt; !check(Columns, 3, axis, &NESTED, &[1, 4, 4], &[at(0, 0), at(2, 1)]));
+    let axis = Sample {
+        first: ORIGIN,
+        first_span: 2,
+        second: Position { row: 1, col: 1 },
+        second_span: 2,
+        ..NONE
+    };
+    assert!(rt;
+        !check(
+            Columns,
+            3,
+            axis,
+            &CROSSING,
+            &[10, 10, 0],
+            &[at(0, 0), at(1, 1)]
+        )
+    );
+}
+
+#[test]
+fn height_checker(rt: HostRuntime) {
+    let axis = Sample {
+        first_span: 2,
+        ..LINED
+    };
+    assert!(rt; check(Rows, 3, axis, &EVEN, &[3, 3, 1], &[at(0, 0), at(2, 0)]));
+    assert!(rt; !check(Rows, 3, axis, &EVEN, &[3, 3], &[at(0, 0), at(2, 0)]));
+    assert!(rt; !check(Rows, 3, axis, &EVEN, &[3, 3, 1], &[at(0, 0), at(1, 0)]));
+    assert!(rt;
+        !check(
+            Rows,
+            3,
+            axis,
+            &EVEN,
+            &[3, 3, 1],
+            &[at(0, 0), at(2, 0), at(9, 9)]
+        )
+    );
+}
+
+#[test]
+fn checker_on_empty_table(rt: HostRuntime) {
+    assert!(rt; check(Columns, 0, NONE, &[], &[], &[]));
 }
 
 #[test]
