@@ -122,9 +122,6 @@ pub record GrowersAre (line : ℕ → Bool) (n : ℕ) (demands growers : List De
   pub base : (i : ℕ) → i < n → covered growers i ≡ false → get_or sizes i 0 ≡ base_size demands i
 
 module _ (line : ℕ → Bool) (n : ℕ) (demands growers : List Demand) (sizes : List ℕ) (g : GrowersAre line n demands growers sizes) where
-  at_start : (i : ℕ) → Option Demand
-  at_start i = find (λ d. d.start == i) (outermost growers)
-
   spans : AllByRecursion (λ d. 1 ≤ d.span) (outermost growers)
   spans = ByRecursion-weaker (IsInTable n) (λ d. 1 ≤ d.span) (λ d t. t.covers_one) (outermost growers) g.table
 

@@ -1,6 +1,6 @@
 -- What the loops over the table of last cells keep.
 use Rattle.std.proofs.Common.{◌≡◌, ℕ, ◌+◌, ◌<◌, ◌≤◌, ◌≢◌, Bool, true, false, cond, ◌⊎◌, inl, inr, List, length, get_or, set, refl, sym, ap, ◌∙◌, arith, Option, Some, None, [], ◌∷◌, ◌++◌, ◌&&◌, ◌==◌, drop, take, sum, eqb, ltb, lt-ltb, le-ltb, append_assoc, ap₂, zero, suc}
-use Rattle.std.specs.Prelude.{find, filter_map, IfOk, IfSome, Result, Ok, Err}
+use Rattle.std.specs.Prelude.{find, filter_map}
 use Rattle.std.specs.List.{AllByRecursion, range_with_len, cons_option}
 use Rattle.std.proofs.lemmas.List.Elements.{filter_map-append}
 use Rattle.std.proofs.lemmas.Bool.{cases_Bool, cases_eq, cases_lt, true≢false}
@@ -164,11 +164,3 @@ pub chosen-by_slots : (demands growers : List Demand) (sizes : List ℕ) (last f
 chosen-by_slots demands growers sizes last first laminar ones lasts firsts =
     filter_map-agree (chosen_slot last first sizes) (λ i. or_else (find (λ d. d.start == i) (outermost growers)) (single_at demands growers sizes i)) 0 (length sizes)
     (λ i l l'. ap₂ (λ o p. slot_of o p (get_or sizes i 0) i) (lasts i (omega arith)) (firsts i (omega arith)) ∙ slot-chosen demands growers sizes i laminar ones)
-
-pub IfOk-both : {T E : Type 0} (r : Result T E) (P Q R : T → Type 0) → ((x : T) → P x → Q x → R x) → IfOk r P → IfOk r Q → IfOk r R
-IfOk-both (Ok x) P Q R h p q = h x p q
-IfOk-both (Err e) P Q R h p q = tt
-
-pub IfSome_both : {T : Type 0} (o : Option T) {P Q R : T → Type 0} → ((x : T) → P x → Q x → R x) → IfSome o P → IfSome o Q → IfSome o R
-IfSome_both None h p q = tt
-IfSome_both (Some x) h p q = h x p q

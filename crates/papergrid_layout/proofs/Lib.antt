@@ -1,4 +1,5 @@
 pub mod AcceptLemmas
+pub mod BothLemmas
 pub mod Certified
 pub mod CheckLemmas
 pub mod Counting

@@ -1,6 +1,6 @@
 -- What the loops over sizes and lines keep.
 use Rattle.std.proofs.Common.{◌≡◌, ℕ, zero, suc, ◌+◌, ◌-◌, ◌/◌, ◌%◌, ◌<◌, ◌≤◌, ◌≢◌, Bool, true, false, cond, inl, inr, List, [], ◌∷◌, length, get_or, set, take, drop, sum, count_by, fold, refl, sym, ap, ◌∙◌, arith, max, ◌&&◌, ◌==◌, ◌++◌, eqb, eq-eqb, ne_eqb, take-append-drop, ap₂}
-use Rattle.std.specs.Prelude.{IfNone, Option, Some, None, replicate, map}
+use Rattle.std.specs.Prelude.{replicate, map}
 use Rattle.std.specs.Prelude.{All}
 use Rattle.std.specs.List.{range_with_len, AllByRecursion}
 use Rattle.std.proofs.lemmas.List.Elements.{recursion_from_All, All-drop}
@@ -138,10 +138,6 @@ SharesAdded-all amount d old new next_share one same h =
     at : (k : ℕ) → k < length old → get_or (with_shares amount d 0 old) k 0 ≡ get_or old k 0 + share amount d k
     at k l = get_or-with_shares amount d 0 old k l ∙ ap (λ j. get_or old k 0 + share amount d j) (let e : 0 + k ≡ k = omega arith in e)
 
-pub IfNone-from : {X : Type 0} (o : Option X) (P : Type 0) → P → IfNone o P
-IfNone-from None P p = p
-IfNone-from (Some x) P p = tt
-
 -- the cells taken so far
 pub sum-taken_le : (line : ℕ → Bool) (sizes : List ℕ) (taken : List Demand) → AllByRecursion (IsInTable (length sizes)) taken → sum sizes ≤ sum (fold (grown line) sizes taken)
 sum-taken_le line sizes [] table = omega arith
@@ -276,7 +272,3 @@ large_need line n sizes d table large room =
     let b : inner_lines line d ≤ all_lines line n = inner_lines-le line n d table in
     let c : 18446744073709551616 ≤ sum sizes + all_lines line n = omega arith in
     c
-
--- two tests that agree everywhere are one, so what holds under the lines of a list holds under any test that agrees with it
-pub same_test : (line other : ℕ → Bool) → ((i : ℕ) → line i ≡ other i) → line ≡ other
-same_test line other h = λ t i. h i t

@@ -1,10 +1,10 @@
 -- One step: what the sizes are after a cell was taken.
 use Rattle.std.proofs.Common.{◌≡◌, ℕ, zero, suc, ◌+◌, ◌-◌, ◌*◌, ◌/◌, ◌%◌, ◌<◌, ◌≤◌, ◌≢◌, Bool, ◌⊎◌, inl, inr, List, [], ◌∷◌, length, get_or, refl, ap, ◌∙◌, arith, suc-mul, eq-eqb, ne_eqb}
 use Rattle.papergrid_layout.specs.declared.demand.Demand.{Demand}
-use Rattle.papergrid_layout.specs.Ranges.{end_of, AreDisjoint, inner_lines}
+use Rattle.papergrid_layout.specs.Ranges.{end_of, inner_lines}
 use Rattle.papergrid_layout.specs.Fits.{range_sum, HasRoom}
 use Rattle.papergrid_layout.specs.Sizes.{share, with_shares, lack, grown}
-use Rattle.papergrid_layout.proofs.Upto.{upto, upto-ext, upto-zero, upto-add, upto-split, within, range_sum-within, holds_cases}
+use Rattle.papergrid_layout.proofs.Upto.{upto, upto-ext, upto-add, upto-split, within, range_sum-within, holds_cases}
 
 pub length-with_shares : (amount : ℕ) (d : Demand) (i : ℕ) (xs : List ℕ) → length (with_shares amount d i xs) ≡ length xs
 length-with_shares amount d i [] = refl
@@ -79,15 +79,6 @@ pub range_sum-grown_self : (line : ℕ → Bool) (sizes : List ℕ) (d : Demand)
 range_sum-grown_self line sizes d one le =
     let a : range_sum (grown line sizes d) d ≡ range_sum sizes d + within (share (lack line sizes d) d) d = within-grown line sizes d d le in
     let b : within (share (lack line sizes d) d) d ≡ lack line sizes d = shares_sum (lack line sizes d) d one in
-    omega arith
-
-pub range_sum-grown_apart : (line : ℕ → Bool) (sizes : List ℕ) (d e : Demand) → 1 ≤ d.span → end_of e ≤ length sizes → AreDisjoint e d →
-    range_sum (grown line sizes d) e ≡ range_sum sizes e
-range_sum-grown_apart line sizes d e one le apart =
-    let a : range_sum (grown line sizes d) e ≡ range_sum sizes e + within (share (lack line sizes d) d) e = within-grown line sizes d e le in
-    let z : within (share (lack line sizes d) d) e ≡ 0 =
-    upto-zero (λ i. share (lack line sizes d) d (e.start + i)) e.span
-    (λ i l. share-out (lack line sizes d) d (e.start + i) one (elim apart [ inl x ↦ inl (omega arith) | inr x ↦ inr (omega arith) ])) in
     omega arith
 
 pub range_sum-grown_le : (line : ℕ → Bool) (sizes : List ℕ) (d e : Demand) → end_of e ≤ length sizes →

@@ -1,4 +1,5 @@
 pub mod Answers
+pub mod Both
 pub mod Checks
 pub mod Chosen
 pub mod Fits

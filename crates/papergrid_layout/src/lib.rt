@@ -4,6 +4,7 @@
 mod apart;
 mod axis;
 mod base;
+mod both;
 mod checked;
 mod chosen;
 mod conclude;

@@ -6,6 +6,7 @@ ghost use Rattle.papergrid_layout.specs.Seen.{Holds};
 
 use crate::LayoutError;
 use crate::axis::Axis;
+use crate::both::conclude_both;
 use crate::checked::{Checked, accepts, visit, wide_need};
 use crate::conclude::{conclude, conclude_witness};
 use crate::direction::Direction;
@@ -374,6 +375,30 @@ fn out_before_too_large(rt: HostRuntime) -> Result<(), Fail> {
 }
 
 #[test]
+fn first_out_in_each_direction(rt: HostRuntime) -> Result<(), Fail> {
+    let alloc = rt.alloc();
+    let wide = seen(
+        alloc,
+        Columns,
+        &[(0, 0, 1, 0, 0), (0, 1, 1, 0, 0), (1, 1, 2, 0, 0)],
+    )?;
+    let high = seen(
+        alloc,
+        Rows,
+        &[(0, 0, 3, 1, 0), (0, 1, 1, 1, 0), (1, 1, 1, 1, 0)],
+    )?;
+    let out = Err(LayoutError::OutOfTable(at(1, 1)));
+    assert_eq!(rt; conclude(alloc, Columns, 2, &wide, &NONE), out);
+    let both = conclude_both(alloc, 2, &wide, &NONE, 2, &high, &NONE);
+    assert_eq!(rt; both, Err(LayoutError::OutOfTable(at(0, 0))));
+    let both = conclude_both(alloc, 3, &wide, &NONE, 3, &high, &NONE);
+    let widths = vec![in alloc; 0, 0, 0]?;
+    let heights = vec![in alloc; 1, 1, 0]?;
+    assert_eq!(rt; both, Ok((widths, heights)));
+    Ok(())
+}
+
+#[test]
 fn empty_tables(rt: HostRuntime) -> Result<(), Fail> {
     let alloc = rt.alloc();
     assert_eq!(rt; sizes(alloc, Columns, 0, LINED, &[]), Ok(Vec::new(alloc)));
@@ -382,6 +407,14 @@ fn empty_tables(rt: HostRuntime) -> Result<(), Fail> {
         Ok(Some(Vec::new(alloc)))
     );
     Ok(())
+}
+
+// No block is that large, and nothing is counted up to the count.
+#[test]
+fn false_held_counts(rt: HostRuntime) {
+    let cell = [(0, 0, 1, 1, 0)];
+    let sizes = sizes(rt.alloc(), Columns, MAX, NONE, &cell);
+    assert!(rt; matches!(&sizes, Err(LayoutError::Memory(_))));
 }
 
 #[test]
