@@ -11,7 +11,7 @@ use crate::checked::{Checked, accepts, visit, wide_need};
 use crate::conclude::{conclude, conclude_witness};
 use crate::direction::Direction;
 use crate::direction::Direction::{Columns, Rows};
-use crate::laws::worked_rows;
+use crate::laws::{certified_are_least, sizes_by_needs, worked_rows};
 use crate::seen::{Seen, keep};
 use papergrid_values::Position;
 use std::alloc::{AllocError, Global};
@@ -477,4 +477,6 @@ fn checker_on_empty_table(rt: HostRuntime) {
 #[test]
 fn laws_run() {
     worked_rows();
+    certified_are_least();
+    sizes_by_needs();
 }
