@@ -31,8 +31,8 @@ fn is_ordered(
 }
 
 /// The places of the cells that certify that the sizes of `count` columns (rows) are least, by the
-/// starts of their ranges; none where longer ranges are not kept apart. It is made of a list of `count` zeros;
-/// `lines` tells of each of 0 to `count` whether there is a line before it.
+/// starts of their ranges; none where longer ranges are not kept apart. It is made of a list of
+/// `count` zeros; `lines` tells of each of 0 to `count` whether there is a line before it.
 ///
 /// # Errors
 ///
