@@ -1,0 +1,166 @@
+-- What the loops over the table of last cells keep.
+use Rattle.std.proofs.Common.{◌≡◌, ℕ, ◌+◌, ◌<◌, ◌≤◌, ◌≢◌, Bool, true, false, cond, ◌⊎◌, inl, inr, List, length, get_or, set, refl, sym, ap, ◌∙◌, arith, Option, Some, None, [], ◌∷◌, ◌++◌, ◌&&◌, ◌==◌, drop, take, sum, eqb, ltb, lt-ltb, le-ltb, append_assoc, ap₂, zero, suc}
+use Rattle.std.specs.Prelude.{find, filter_map}
+use Rattle.std.specs.List.{AllByRecursion, range_with_len, cons_option}
+use Rattle.std.proofs.lemmas.List.Elements.{filter_map-append}
+use Rattle.std.proofs.lemmas.Bool.{cases_Bool, cases_eq, cases_lt, true≢false}
+use Rattle.std.proofs.lemmas.List.{get_or-set_same, get_or-set_other, get_or_past, drop_more, take_more}
+use Rattle.papergrid_axis.specs.declared.demand.Demand.{Demand}
+use Rattle.papergrid_axis.specs.declared.direction.Direction.{Direction}
+use Rattle.papergrid_axis.specs.Ranges.{end_of, holds, IsInTable}
+use Rattle.papergrid_axis.specs.Sizes.{grown, lack}
+use Rattle.papergrid_axis.specs.Chosen.{growing, or_else, exact_single, single_at, outermost, chosen}
+use Rattle.papergrid_axis.proofs.RangeLemmas.{covered}
+use Rattle.papergrid_axis.proofs.LoopLemmas.{sum-grown, range_with_len-append}
+use Rattle.papergrid_axis.specs.LastCells.{IsUnder, IsOrdered, IsLaminar, last_holding, slot_of, chosen_slot}
+use Rattle.papergrid_axis.proofs.Upto.{holds_cases}
+use Rattle.papergrid_axis.proofs.FitBound.{ByRecursion-weaker}
+use Rattle.papergrid_axis.proofs.Certified.{none_some}
+use Rattle.papergrid_axis.proofs.LastLemmas.{chosen-at, starting_at, last_holding-some, last_holding-none, last_holding-all, last_holding_push, precedes-from_last, last-from_precedes, under-trans, IsOrdered-before, IsOrdered_push}
+
+-- the cell is written below i
+pub record WrittenOver (d : Demand) (old new : List (Option Demand)) (i : ℕ) : Type 0 where
+  pub inside : (k : ℕ) → d.start ≤ k → k < i → get_or new k None ≡ Some d
+  pub rest : (k : ℕ) → (k < d.start) ⊎ (i ≤ k) → get_or new k None ≡ get_or old k None
+
+pub WrittenOver-none : (d : Demand) (last : List (Option Demand)) → WrittenOver d last last d.start
+WrittenOver-none d last = record { inside = λ k l l'. absurd (omega arith); rest = λ k out. refl }
+
+pub WrittenOver-more : (d : Demand) (old new : List (Option Demand)) (i : ℕ) → d.start ≤ i → i < length new → WrittenOver d old new i → WrittenOver d old (set new i (Some d)) (i + 1)
+WrittenOver-more d old new i from inside h = record {
+  inside = λ k l l'. elim (cases_eq k i) [
+    | inl e ↦ rw e (get_or-set_same new i (Some d) None inside)
+    | inr ne ↦ get_or-set_other new i k (Some d) None ne ∙ h.inside k l (omega arith)
+  ];
+  rest = λ k out.
+      let ne : k ≢ i = elim out [ inl x ↦ omega arith | inr x ↦ omega arith ] in
+      get_or-set_other new i k (Some d) None ne ∙ h.rest k (elim out [ inl x ↦ inl x | inr x ↦ inr (omega arith) ]);
+}
+
+pub WrittenOver-all : (d : Demand) (old new : List (Option Demand)) → WrittenOver d old new (end_of d) → (k : ℕ) → get_or new k None ≡ cond (holds d k) (Some d) (get_or old k None)
+WrittenOver-all d old new h k = elim (holds_cases d k) [
+  | inl x ↦ rw x.0 (h.inside k x.1 x.2)
+  | inr x ↦ rw x.0 (h.rest k x.1)
+]
+
+-- the cells at the numbers of the range below i are under it
+abbrev pub AreUnder : Direction → Demand → List (Option Demand) → ℕ → Type 0
+AreUnder direction d last i = (k : ℕ) (o : Demand) → d.start ≤ k → k < i → get_or last k None ≡ Some o → IsUnder direction o d
+
+pub AreUnder-all : (direction : Direction) (d : Demand) (last : List (Option Demand)) → AreUnder direction d last (end_of d) → (i : ℕ) (o : Demand) → holds d i ≡ true → get_or last i None ≡ Some o → IsUnder direction o d
+AreUnder-all direction d last below i o h e = elim (holds_cases d i) [
+  | inl x ↦ below i o x.1 x.2 e
+  | inr x ↦ absurd (true≢false (sym h ∙ x.0))
+]
+
+-- the table of the cells looked at so far, of which each precedes all later ones
+pub record IsTableOf (direction : Direction) (n : ℕ) (ds : List Demand) (last : List (Option Demand)) : Type 0 where
+  pub many : length last ≡ n
+  pub holds_last : (k : ℕ) → k < n → get_or last k None ≡ last_holding ds k
+  pub ordered : IsOrdered (IsUnder direction) ds
+
+module _ (direction : Direction) (n : ℕ) (ds : List Demand) (last : List (Option Demand)) (table : AllByRecursion (IsInTable n) ds) (is : IsTableOf direction n ds last) where
+  -- what stands in the table is a cell of the list
+  pub table-cells : (i : ℕ) (o : Demand) → get_or last i None ≡ Some o → IsInTable (length last) o
+  table-cells i o e = elim (cases_lt i n) [
+    | inl l ↦
+        let same : length last ≡ n = is.many in
+        rw same (last_holding-all (IsInTable n) ds i o table (sym (is.holds_last i l) ∙ e)).1
+    | inr le ↦
+        let many : length last ≡ n = is.many in
+        absurd (none_some (sym (get_or_past last i None (omega arith)) ∙ e))
+  ]
+
+  ones : AllByRecursion (λ c. 1 ≤ c.span) ds
+  ones = ByRecursion-weaker (IsInTable n) (λ c. 1 ≤ c.span) (λ c t. t.covers_one) ds table
+
+  in_table : (d : Demand) (i : ℕ) → IsInTable n d → holds d i ≡ true → i < n
+  in_table d i t h = elim (holds_cases d i) [
+    | inl x ↦ let l : i < end_of d = x.2 in let le : end_of d ≤ n = t.ends_within in omega arith
+    | inr x ↦ absurd (true≢false (sym h ∙ x.0))
+  ]
+
+  -- one more cell
+  pub IsTableOf-more : (d : Demand) (new : List (Option Demand)) → IsInTable n d →
+      ((i : ℕ) (o : Demand) → holds d i ≡ true → get_or last i None ≡ Some o → IsUnder direction o d) → length new ≡ length last →
+      ((k : ℕ) → k < length new → get_or new k None ≡ cond (holds d k) (Some d) (get_or last k None)) → IsTableOf direction n (ds ++ d ∷ []) new
+  IsTableOf-more d new t covers same written =
+      let many : length last ≡ n = is.many in
+      record {
+        many = same ∙ many;
+        holds_last = λ k l. written k (omega arith) ∙ ap (cond (holds d k) (Some d)) (is.holds_last k l) ∙ sym (last_holding_push ds d k);
+        ordered = IsOrdered_push (IsUnder direction) ds d is.ordered
+            (precedes-from_last (IsUnder direction) (under-trans direction) ds d is.ordered t.covers_one ones (λ i o h e. covers i o h (is.holds_last i (in_table d i t h) ∙ e)));
+      }
+
+  -- where all the cells are ordered, what stands in the range of the next one is under it
+  pub under-from_ordered : (d : Demand) (es : List Demand) → IsInTable n d → IsOrdered (IsUnder direction) (ds ++ d ∷ es) → (i : ℕ) (o : Demand) → holds d i ≡ true → get_or last i None ≡ Some o → IsUnder direction o d
+  under-from_ordered d es t ordered i o h e =
+      last-from_precedes (IsUnder direction) ds d (IsOrdered-before (IsUnder direction) ds d es ordered) i o h (sym (is.holds_last i (in_table d i t h)) ∙ e)
+
+-- the cells that grow, one step on
+module _ (line : ℕ → Bool) (sizes : List ℕ) (taken cells all : List Demand) (i : ℕ) (e : Demand) (l : i < length taken) (t : IsInTable (length sizes) (get_or taken i e))
+    (so_far : cells ++ growing line sizes (drop i taken) ≡ all) where
+  step : growing line sizes (drop i taken) ≡ growing line sizes (get_or taken i e ∷ drop (i + 1) taken)
+  step = ap (growing line sizes) (drop_more taken i e l)
+
+  pub cells-more_yes : sum sizes < sum (grown line sizes (get_or taken i e)) → (cells ++ get_or taken i e ∷ []) ++ growing line (grown line sizes (get_or taken i e)) (drop (i + 1) taken) ≡ all
+  cells-more_yes grows =
+      let s : sum (grown line sizes (get_or taken i e)) ≡ sum sizes + lack line sizes (get_or taken i e) = sum-grown line sizes (get_or taken i e) t in
+      let y : ltb 0 (lack line sizes (get_or taken i e)) ≡ true = lt-ltb 0 (lack line sizes (get_or taken i e)) (omega arith) in
+      let step' : growing line sizes (drop i taken) ≡ get_or taken i e ∷ growing line (grown line sizes (get_or taken i e)) (drop (i + 1) taken) = rw y at step in
+      append_assoc cells (get_or taken i e ∷ []) (growing line (grown line sizes (get_or taken i e)) (drop (i + 1) taken)) ∙ ap (λ xs. cells ++ xs) (sym step') ∙ so_far
+
+  pub cells-more_no : sum (grown line sizes (get_or taken i e)) ≤ sum sizes → cells ++ growing line (grown line sizes (get_or taken i e)) (drop (i + 1) taken) ≡ all
+  cells-more_no stays =
+      let s : sum (grown line sizes (get_or taken i e)) ≡ sum sizes + lack line sizes (get_or taken i e) = sum-grown line sizes (get_or taken i e) t in
+      let n : ltb 0 (lack line sizes (get_or taken i e)) ≡ false = le-ltb 0 (lack line sizes (get_or taken i e)) (omega arith) in
+      let step' : growing line sizes (drop i taken) ≡ growing line (grown line sizes (get_or taken i e)) (drop (i + 1) taken) = rw n at step in
+      ap (λ xs. cells ++ xs) (sym step') ∙ so_far
+
+-- one more cell for the first exact ones
+pub find_push : (test : Demand → Bool) (ds : List Demand) (d : Demand) → find test (ds ++ d ∷ []) ≡ or_else (find test ds) (cond (test d) (Some d) None)
+find_push test [] d = refl
+find_push test (c ∷ ds) d = elim (cases_Bool (test c)) [ inl y ↦ rw y refl | inr n ↦ rw n (find_push test ds d) ]
+
+pub exact_single-more : (ds : List Demand) (i : ℕ) (e : Demand) (sizes : List ℕ) (k : ℕ) → i < length ds →
+    exact_single (take (i + 1) ds) sizes k ≡ or_else (exact_single (take i ds) sizes k)
+    (cond (eqb (get_or ds i e).span 1 && eqb (get_or ds i e).start k && eqb (get_or ds i e).need (get_or sizes k 0)) (Some (get_or ds i e)) None)
+exact_single-more ds i e sizes k l =
+    ap (λ xs. exact_single xs sizes k) (take_more ds i e l) ∙ find_push (λ d. d.span == 1 && d.start == k && d.need == get_or sizes k 0) (take i ds) (get_or ds i e)
+
+-- one more number for the chosen cells
+pub filter_map_slot_more : (h : ℕ → Option Demand) (i : ℕ) → filter_map h (range_with_len 0 (i + 1)) ≡ filter_map h (range_with_len 0 i) ++ cons_option (h i) []
+filter_map_slot_more h i =
+    ap (filter_map h) (range_with_len-append 0 i 1) ∙ filter_map-append h (range_with_len 0 i) (range_with_len (0 + i) 1)
+    ∙ ap (λ j. filter_map h (range_with_len 0 i) ++ cons_option (h j) []) (let e : 0 + i ≡ i = omega arith in e)
+
+filter_map-agree : (h g : ℕ → Option Demand) (a n : ℕ) → ((i : ℕ) → a ≤ i → i < a + n → h i ≡ g i) → filter_map h (range_with_len a n) ≡ filter_map g (range_with_len a n)
+filter_map-agree h g a zero same = refl
+filter_map-agree h g a (suc n) same =
+    ap₂ (λ o xs. cons_option o xs) (same a (omega arith) (omega arith)) (filter_map-agree h g (a + 1) n (λ i l l'. same i (omega arith) (omega arith)))
+
+or_else-none : (o : Option Demand) → or_else o None ≡ o
+or_else-none None = refl
+or_else-none (Some d) = refl
+
+-- the cell in the slot is the chosen one
+slot-chosen : (demands growers : List Demand) (sizes : List ℕ) (i : ℕ) → IsLaminar growers → AllByRecursion (λ d. 1 ≤ d.span) growers →
+    slot_of (last_holding growers i) (exact_single demands sizes i) (get_or sizes i 0) i
+    ≡ or_else (find (λ d. d.start == i) (outermost growers)) (single_at demands growers sizes i)
+slot-chosen demands growers sizes i laminar ones =
+    sym (chosen-at demands growers sizes i laminar ones
+    ∙ elim (cases_Bool (covered growers i)) [
+      | inl t ↦
+          let found : (d : Demand) × (last_holding growers i ≡ Some d) = last_holding-some growers i t in
+          rw (found.1, t) (or_else-none (starting_at i (Some found.0)))
+      | inr f ↦ rw (last_holding-none growers i f, f) refl
+    ])
+
+-- the cells by one look at each number are the chosen ones
+pub chosen-by_slots : (demands growers : List Demand) (sizes : List ℕ) (last first : List (Option Demand)) → IsLaminar growers → AllByRecursion (λ d. 1 ≤ d.span) growers →
+    ((i : ℕ) → i < length sizes → get_or last i None ≡ last_holding growers i) → ((i : ℕ) → i < length sizes → get_or first i None ≡ exact_single demands sizes i) →
+    filter_map (chosen_slot last first sizes) (range_with_len 0 (length sizes)) ≡ chosen (length sizes) demands growers sizes
+chosen-by_slots demands growers sizes last first laminar ones lasts firsts =
+    filter_map-agree (chosen_slot last first sizes) (λ i. or_else (find (λ d. d.start == i) (outermost growers)) (single_at demands growers sizes i)) 0 (length sizes)
+    (λ i l l'. ap₂ (λ o p. slot_of o p (get_or sizes i 0) i) (lasts i (omega arith)) (firsts i (omega arith)) ∙ slot-chosen demands growers sizes i laminar ones)

@@ -1,0 +1,274 @@
+-- What the loops over sizes and lines keep.
+use Rattle.std.proofs.Common.{◌≡◌, ℕ, zero, suc, ◌+◌, ◌-◌, ◌/◌, ◌%◌, ◌<◌, ◌≤◌, ◌≢◌, Bool, true, false, cond, inl, inr, List, [], ◌∷◌, length, get_or, set, take, drop, sum, count_by, fold, refl, sym, ap, ◌∙◌, arith, max, ◌&&◌, ◌==◌, ◌++◌, eqb, eq-eqb, ne_eqb, take-append-drop, ap₂}
+use Rattle.std.specs.Prelude.{replicate, map}
+use Rattle.std.specs.Prelude.{All}
+use Rattle.std.specs.List.{range_with_len, AllByRecursion}
+use Rattle.std.proofs.lemmas.List.Elements.{recursion_from_All, All-drop}
+use Rattle.std.proofs.lemmas.Bool.{cases_Bool, cases_eq, cases_lt, and_from, and_left, and_right}
+use Rattle.std.proofs.lemmas.List.{length-set, get_or-set_same, get_or-set_other, drop_more, take_all}
+use Rattle.std.proofs.lemmas.List.Sums.{sum_by-cons, sum_by-take-le, sum_by-take-drop, fold-append, sum_by-append}
+use Rattle.std.proofs.lemmas.Grind.{same_number_lists}
+use Rattle.papergrid_axis.specs.declared.demand.Demand.{Demand}
+use Rattle.papergrid_axis.specs.Ranges.{line_at}
+use Rattle.papergrid_axis.specs.Ranges.{end_of, inner_lines, IsInTable, all_lines}
+use Rattle.papergrid_axis.specs.Fits.{range_sum, greatest_need, HasRoom, IsTooLarge}
+use Rattle.papergrid_axis.specs.Sizes.{share, with_shares, lack, grown, base_size, base_sizes}
+use Rattle.papergrid_axis.proofs.Greatest.{length-base_sizes, get_or-base_sizes}
+use Rattle.papergrid_axis.proofs.Upto.{upto, upto-point, upto-ext, upto-add, sum-upto, within, holds_cases}
+use Rattle.papergrid_axis.proofs.RangeLemmas.{masked, masked_in, masked_out, masked_sum}
+use Rattle.papergrid_axis.proofs.FitBound.{length-grown, length-taken}
+use Rattle.papergrid_axis.proofs.Steps.{share-first, share-later, share-out, shares_sum, length-with_shares, get_or-with_shares, get_or-grown}
+
+-- the sum of a range is at most the whole
+pub range_sum-le : (sizes : List ℕ) (d : Demand) → range_sum sizes d ≤ sum sizes
+range_sum-le sizes d =
+    let a : sum (take d.span (drop d.start sizes)) ≤ sum (drop d.start sizes) = sum_by-take-le (λ x. x) (drop d.start sizes) d.span in
+    let b : sum (take d.start sizes) + sum (drop d.start sizes) ≡ sum sizes = sum_by-take-drop (λ x. x) sizes d.start in
+    omega arith
+
+-- the lines drawn in a part of the list
+pub drawn_from : (lines : List Bool) (a m : ℕ) → a + m ≤ length lines → count_by (λ x. x) (take m (drop a lines)) ≡ count_by (line_at lines) (range_with_len a m)
+drawn_from lines a zero le = refl
+drawn_from lines a (suc m) le =
+    let x : Bool = get_or lines a false in
+    let ys : List Bool = drop (a + 1) lines in
+    let e : drop a lines ≡ get_or lines a false ∷ drop (a + 1) lines = drop_more lines a false (omega arith) in
+    let b : count_by (λ x. x) (take (suc m) (drop a lines)) ≡ count_by (λ x. x) (get_or lines a false ∷ take m (drop (a + 1) lines)) =
+    ap (λ zs. count_by (λ x. x) (take (suc m) zs)) e in
+    let c : count_by (λ x. x) (get_or lines a false ∷ take m (drop (a + 1) lines)) ≡ cond (get_or lines a false) 1 0 + count_by (λ x. x) (take m (drop (a + 1) lines)) =
+    sum_by-cons (λ x. cond x 1 0) (get_or lines a false) (take m (drop (a + 1) lines)) in
+    let s : count_by (line_at lines) (range_with_len a (suc m)) ≡ cond (get_or lines a false) 1 0 + count_by (line_at lines) (range_with_len (a + 1) m) =
+    sum_by-cons (λ i. cond (line_at lines i) 1 0) a (range_with_len (a + 1) m) in
+    let ih : count_by (λ x. x) (take m (drop (a + 1) lines)) ≡ count_by (line_at lines) (range_with_len (a + 1) m) = drawn_from lines (a + 1) m (omega arith) in
+    omega arith
+
+-- the part of a list that a slice of a range is
+pub range_sum-slice : (sizes : List ℕ) (d : Demand) → sum (take (d.start + d.span - d.start) (drop d.start sizes)) ≡ range_sum sizes d
+range_sum-slice sizes d = ap (λ k. sum (take k (drop d.start sizes))) (let e : d.start + d.span - d.start ≡ d.span = omega arith in e)
+
+pub inner_lines-slice : (lines : List Bool) (d : Demand) → IsInTable (length lines) d →
+    count_by (λ x. x) (take (d.start + d.span - (d.start + 1)) (drop (d.start + 1) lines)) ≡ inner_lines (line_at lines) d
+inner_lines-slice lines d table =
+    let one : 1 ≤ d.span = table.covers_one in
+    let le : end_of d ≤ length lines = table.ends_within in
+    ap (λ k. count_by (λ x. x) (take k (drop (d.start + 1) lines))) (let e : d.start + d.span - (d.start + 1) ≡ d.span - 1 = omega arith in e)
+    ∙ drawn_from lines (d.start + 1) (d.span - 1) (omega arith)
+
+-- a step adds what the cell lacks to the total
+pub sum-grown : (line : ℕ → Bool) (sizes : List ℕ) (d : Demand) → IsInTable (length sizes) d → sum (grown line sizes d) ≡ sum sizes + lack line sizes d
+sum-grown line sizes d table =
+    let n : ℕ = length sizes in
+    let f : ℕ → ℕ = share (lack line sizes d) d in
+    let a : sum (grown line sizes d) ≡ upto (λ i. get_or (grown line sizes d) i 0) (length (grown line sizes d)) = sum-upto (grown line sizes d) in
+    let same : upto (λ i. get_or (grown line sizes d) i 0) (length (grown line sizes d)) ≡ upto (λ i. get_or (grown line sizes d) i 0) (length sizes) =
+    ap (upto (λ i. get_or (grown line sizes d) i 0)) (length-grown line sizes d) in
+    let b : upto (λ i. get_or (grown line sizes d) i 0) (length sizes) ≡ upto (λ i. get_or sizes i 0 + share (lack line sizes d) d i) (length sizes) =
+    upto-ext (λ i. get_or (grown line sizes d) i 0) (λ i. get_or sizes i 0 + share (lack line sizes d) d i) (length sizes) (get_or-grown line sizes d) in
+    let c : upto (λ i. get_or sizes i 0 + share (lack line sizes d) d i) (length sizes) ≡ upto (λ i. get_or sizes i 0) (length sizes) + upto (share (lack line sizes d) d) (length sizes) =
+    upto-add (λ i. get_or sizes i 0) (share (lack line sizes d) d) (length sizes) in
+    let m : upto (share (lack line sizes d) d) (length sizes) ≡ upto (masked (share (lack line sizes d) d) d) (length sizes) =
+    upto-ext (share (lack line sizes d) d) (masked (share (lack line sizes d) d) d) (length sizes) (λ i l. elim (holds_cases d i) [
+      | inl h ↦ sym (masked_in (share (lack line sizes d) d) d i h.1 h.2)
+      | inr h ↦ share-out (lack line sizes d) d i table.covers_one h.1 ∙ sym (masked_out (share (lack line sizes d) d) d i h.1)
+    ]) in
+    let w : upto (masked (share (lack line sizes d) d) d) (length sizes) ≡ within (share (lack line sizes d) d) d =
+    masked_sum (share (lack line sizes d) d) d (length sizes) table.ends_within in
+    let x : within (share (lack line sizes d) d) d ≡ lack line sizes d = shares_sum (lack line sizes d) d table.covers_one in
+    let y : sum sizes ≡ upto (λ i. get_or sizes i 0) (length sizes) = sum-upto sizes in
+    omega arith
+
+pub sum-grown_le : (line : ℕ → Bool) (sizes : List ℕ) (d : Demand) → IsInTable (length sizes) d → sum sizes ≤ sum (grown line sizes d)
+sum-grown_le line sizes d table = let e : sum (grown line sizes d) ≡ sum sizes + lack line sizes d = sum-grown line sizes d table in omega arith
+
+-- no share is more than the whole
+pub share-le : (amount : ℕ) (d : Demand) (i : ℕ) → 1 ≤ d.span → share amount d i ≤ amount
+share-le amount d i one = elim (holds_cases d i) [
+  | inl h ↦
+      let l : d.start ≤ i = h.1 in
+      let l' : i < end_of d = h.2 in
+      let e : d.start + (i - d.start) ≡ i = omega arith in
+      let p : share amount d (d.start + (i - d.start)) ≤ within (share amount d) d = upto-point (λ k. share amount d (d.start + k)) d.span (i - d.start) (omega arith) in
+      let p' : share amount d (d.start + (i - d.start)) ≡ share amount d i = ap (share amount d) e in
+      let s : within (share amount d) d ≡ amount = shares_sum amount d one in
+      omega arith
+  | inr h ↦ let z : share amount d i ≡ 0 = share-out amount d i one h.1 in omega arith
+]
+
+-- the shares are added below i
+pub record SharesAdded (amount : ℕ) (d : Demand) (old new : List ℕ) (i next_share : ℕ) : Type 0 where
+  pub below : (k : ℕ) → k < i → get_or new k 0 ≡ get_or old k 0 + share amount d k
+  pub rest : (k : ℕ) → i ≤ k → get_or new k 0 ≡ get_or old k 0
+  pub next : i < end_of d → next_share ≡ share amount d i
+
+pub SharesAdded-none : (amount : ℕ) (d : Demand) (sizes : List ℕ) → 1 ≤ d.span → SharesAdded amount d sizes sizes d.start (amount / d.span + amount % d.span)
+SharesAdded-none amount d sizes one = record {
+  below = λ k l. let z : share amount d k ≡ 0 = share-out amount d k one (inl l) in omega arith;
+  rest = λ k l. refl;
+  next = λ l. sym (share-first amount d d.start refl);
+}
+
+pub SharesAdded-more : (amount : ℕ) (d : Demand) (old new : List ℕ) (i next_share : ℕ) → length new ≡ length old → d.start ≤ i → i < end_of d → i < length new →
+    SharesAdded amount d old new i next_share → SharesAdded amount d old (set new i (get_or new i 0 + next_share)) (i + 1) (amount / d.span)
+SharesAdded-more amount d old new i next_share same from before inside h = record {
+  below = λ k l. elim (cases_eq k i) [
+    | inl e ↦
+        let a : get_or (set new i (get_or new i 0 + next_share)) i 0 ≡ get_or new i 0 + next_share = get_or-set_same new i (get_or new i 0 + next_share) 0 inside in
+        let b : get_or new i 0 ≡ get_or old i 0 = h.rest i (omega arith) in
+        let c : next_share ≡ share amount d i = h.next before in
+        rw e (omega arith)
+    | inr ne ↦ get_or-set_other new i k (get_or new i 0 + next_share) 0 ne ∙ h.below k (omega arith)
+  ];
+  rest = λ k l. let ne : k ≢ i = omega arith in get_or-set_other new i k (get_or new i 0 + next_share) 0 ne ∙ h.rest k (omega arith);
+  next = λ l. sym (share-later amount d (i + 1) (omega arith) l);
+}
+
+pub SharesAdded-all : (amount : ℕ) (d : Demand) (old new : List ℕ) (next_share : ℕ) → 1 ≤ d.span → length new ≡ length old →
+    SharesAdded amount d old new (end_of d) next_share → new ≡ with_shares amount d 0 old
+SharesAdded-all amount d old new next_share one same h =
+    same_number_lists new (with_shares amount d 0 old) (same ∙ sym (length-with_shares amount d 0 old))
+    (λ k l. elim (cases_lt k (end_of d)) [
+      | inl lt ↦ h.below k lt ∙ sym (at k (omega arith))
+      | inr le ↦
+          let z : share amount d k ≡ 0 = share-out amount d k one (inr le) in
+          let e : get_or (with_shares amount d 0 old) k 0 ≡ get_or old k 0 + share amount d k = at k (omega arith) in
+          let r : get_or new k 0 ≡ get_or old k 0 = h.rest k le in
+          omega arith
+    ])
+  where
+    at : (k : ℕ) → k < length old → get_or (with_shares amount d 0 old) k 0 ≡ get_or old k 0 + share amount d k
+    at k l = get_or-with_shares amount d 0 old k l ∙ ap (λ j. get_or old k 0 + share amount d j) (let e : 0 + k ≡ k = omega arith in e)
+
+-- the cells taken so far
+pub sum-taken_le : (line : ℕ → Bool) (sizes : List ℕ) (taken : List Demand) → AllByRecursion (IsInTable (length sizes)) taken → sum sizes ≤ sum (fold (grown line) sizes taken)
+sum-taken_le line sizes [] table = omega arith
+sum-taken_le line sizes (d ∷ rest) table =
+    let same : length (grown line sizes d) ≡ length sizes = length-grown line sizes d in
+    let table' : AllByRecursion (IsInTable (length (grown line sizes d))) rest = rw same table.1 in
+    let a : sum sizes ≤ sum (grown line sizes d) = sum-grown_le line sizes d table.0 in
+    let b : sum (grown line sizes d) ≤ sum (fold (grown line) (grown line sizes d) rest) = sum-taken_le line (grown line sizes d) rest table' in
+    omega arith
+
+-- the total so far is at most the last
+pub sum-taken_part : (line : ℕ → Bool) (sizes : List ℕ) (taken : List Demand) (i : ℕ) → All (IsInTable (length sizes)) taken →
+    sum (fold (grown line) sizes (take i taken)) ≤ sum (fold (grown line) sizes taken)
+sum-taken_part line sizes taken i table =
+    let front : List ℕ = fold (grown line) sizes (take i taken) in
+    let same : length (fold (grown line) sizes (take i taken)) ≡ length sizes = length-taken line sizes (take i taken) in
+    let rest : AllByRecursion (IsInTable (length sizes)) (drop i taken) = recursion_from_All (IsInTable (length sizes)) (drop i taken) (All-drop (IsInTable (length sizes)) i taken table) in
+    let rest' : AllByRecursion (IsInTable (length (fold (grown line) sizes (take i taken)))) (drop i taken) = rw same rest in
+    let a : sum (fold (grown line) sizes (take i taken)) ≤ sum (fold (grown line) (fold (grown line) sizes (take i taken)) (drop i taken)) =
+    sum-taken_le line (fold (grown line) sizes (take i taken)) (drop i taken) rest' in
+    let e : fold (grown line) (fold (grown line) sizes (take i taken)) (drop i taken) ≡ fold (grown line) sizes taken =
+    sym (fold-append (grown line) sizes (take i taken) (drop i taken)) ∙ ap (fold (grown line) sizes) (take-append-drop i taken) in
+    let e' : sum (fold (grown line) (fold (grown line) sizes (take i taken)) (drop i taken)) ≡ sum (fold (grown line) sizes taken) = ap sum e in
+    omega arith
+
+-- one more cell for the base sizes
+greatest_need_push : (test : Demand → Bool) (ds : List Demand) (d : Demand) →
+    greatest_need test (ds ++ d ∷ []) ≡ cond (test d) (max (greatest_need test ds) d.need) (greatest_need test ds)
+greatest_need_push test [] d = elim (cases_Bool (test d)) [ inl t ↦ rw t (omega arith) | inr f ↦ rw f refl ]
+greatest_need_push test (c ∷ ds) d =
+    let ih : greatest_need test (ds ++ d ∷ []) ≡ cond (test d) (max (greatest_need test ds) d.need) (greatest_need test ds) = greatest_need_push test ds d in
+    elim (cases_Bool (test d)) [
+      | inl t ↦
+          let ih' : greatest_need test (ds ++ d ∷ []) ≡ max (greatest_need test ds) d.need = rw t at ih in
+          elim (cases_Bool (test c)) [ inl u ↦ rw (t, u) (omega arith) | inr u ↦ rw (t, u) ih' ]
+      | inr f ↦
+          let ih' : greatest_need test (ds ++ d ∷ []) ≡ greatest_need test ds = rw f at ih in
+          elim (cases_Bool (test c)) [ inl u ↦ rw (f, u) (omega arith) | inr u ↦ rw (f, u) ih' ]
+    ]
+
+pub base_size_push : (ds : List Demand) (d : Demand) (k : ℕ) →
+    base_size (ds ++ d ∷ []) k ≡ cond (eqb d.span 1 && eqb d.start k) (max (base_size ds k) d.need) (base_size ds k)
+base_size_push ds d k = greatest_need_push (λ e. e.span == 1 && e.start == k) ds d
+
+-- a cell that covers one number alone raises the base size there, and any other cell none
+pub base_sizes_push_alone : (n : ℕ) (ds : List Demand) (d : Demand) → d.start < n → d.span ≡ 1 →
+    set (base_sizes n ds) d.start (max (get_or (base_sizes n ds) d.start 0) d.need) ≡ base_sizes n (ds ++ d ∷ [])
+base_sizes_push_alone n ds d inside one =
+    same_number_lists (set (base_sizes n ds) d.start (max (get_or (base_sizes n ds) d.start 0) d.need)) (base_sizes n (ds ++ d ∷ []))
+    (length-set (base_sizes n ds) d.start (max (get_or (base_sizes n ds) d.start 0) d.need) ∙ length-base_sizes n ds ∙ sym (length-base_sizes n (ds ++ d ∷ [])))
+    (λ k l. each k (let e : length (set (base_sizes n ds) d.start (max (get_or (base_sizes n ds) d.start 0) d.need)) ≡ length (base_sizes n ds) = length-set (base_sizes n ds) d.start (max (get_or (base_sizes n ds) d.start 0) d.need) in let e' : length (base_sizes n ds) ≡ n = length-base_sizes n ds in omega arith))
+  where
+    each : (k : ℕ) → k < n → get_or (set (base_sizes n ds) d.start (max (get_or (base_sizes n ds) d.start 0) d.need)) k 0 ≡ get_or (base_sizes n (ds ++ d ∷ [])) k 0
+    each k l =
+        let v : ℕ = max (get_or (base_sizes n ds) d.start 0) d.need in
+        let at : get_or (base_sizes n (ds ++ d ∷ [])) k 0 ≡ cond (eqb d.span 1 && eqb d.start k) (max (base_size ds k) d.need) (base_size ds k) =
+        get_or-base_sizes n (ds ++ d ∷ []) k l ∙ base_size_push ds d k in
+        let many : length (base_sizes n ds) ≡ n = length-base_sizes n ds in
+        elim (cases_eq k d.start) [
+          | inl same ↦
+              let t : (eqb d.span 1 && eqb d.start k) ≡ true = and_from (eqb d.span 1) (eqb d.start k) (eq-eqb d.span 1 one) (eq-eqb d.start k (sym same)) in
+              let at' : get_or (base_sizes n (ds ++ d ∷ [])) k 0 ≡ max (base_size ds k) d.need = rw t at at in
+              let a : get_or (set (base_sizes n ds) d.start (max (get_or (base_sizes n ds) d.start 0) d.need)) d.start 0 ≡ max (get_or (base_sizes n ds) d.start 0) d.need =
+              get_or-set_same (base_sizes n ds) d.start (max (get_or (base_sizes n ds) d.start 0) d.need) 0 (omega arith) in
+              let b : get_or (base_sizes n ds) d.start 0 ≡ base_size ds k = get_or-base_sizes n ds d.start inside ∙ ap (base_size ds) (sym same) in
+              let c : get_or (set (base_sizes n ds) d.start (max (get_or (base_sizes n ds) d.start 0) d.need)) k 0 ≡ get_or (set (base_sizes n ds) d.start (max (get_or (base_sizes n ds) d.start 0) d.need)) d.start 0 =
+              ap (λ j. get_or (set (base_sizes n ds) d.start (max (get_or (base_sizes n ds) d.start 0) d.need)) j 0) same in
+              omega arith
+          | inr ne ↦
+              let f : (eqb d.span 1 && eqb d.start k) ≡ false = and_right (eqb d.span 1) (eqb d.start k) (ne_eqb d.start k (λ e. ne (sym e))) in
+              let at' : get_or (base_sizes n (ds ++ d ∷ [])) k 0 ≡ base_size ds k = rw f at at in
+              get_or-set_other (base_sizes n ds) d.start k (max (get_or (base_sizes n ds) d.start 0) d.need) 0 ne ∙ get_or-base_sizes n ds k l ∙ sym at'
+        ]
+
+pub base_sizes_push_long : (n : ℕ) (ds : List Demand) (d : Demand) → d.span ≢ 1 → base_sizes n ds ≡ base_sizes n (ds ++ d ∷ [])
+base_sizes_push_long n ds d long =
+    same_number_lists (base_sizes n ds) (base_sizes n (ds ++ d ∷ [])) (length-base_sizes n ds ∙ sym (length-base_sizes n (ds ++ d ∷ [])))
+    (λ k l. each k (let e : length (base_sizes n ds) ≡ n = length-base_sizes n ds in omega arith))
+  where
+    each : (k : ℕ) → k < n → get_or (base_sizes n ds) k 0 ≡ get_or (base_sizes n (ds ++ d ∷ [])) k 0
+    each k l =
+        let f : (eqb d.span 1 && eqb d.start k) ≡ false = and_left (eqb d.span 1) (eqb d.start k) (ne_eqb d.span 1 long) in
+        let at : get_or (base_sizes n (ds ++ d ∷ [])) k 0 ≡ cond (eqb d.span 1 && eqb d.start k) (max (base_size ds k) d.need) (base_size ds k) =
+        get_or-base_sizes n (ds ++ d ∷ []) k l ∙ base_size_push ds d k in
+        let at' : get_or (base_sizes n (ds ++ d ∷ [])) k 0 ≡ base_size ds k = rw f at at in
+        get_or-base_sizes n ds k l ∙ sym at'
+
+-- of no cell they are zeros
+pub base_sizes-none : (n : ℕ) → replicate n 0 ≡ base_sizes n []
+base_sizes-none n = go 0 n
+  where
+    go : (a n : ℕ) → replicate n 0 ≡ map (base_size []) (range_with_len a n)
+    go a zero = refl
+    go a (suc n) = ap (λ xs. 0 ∷ xs) (go (a + 1) n)
+
+-- all lines of a list of lines
+pub all_lines-drawn : (lines : List Bool) (n : ℕ) → length lines ≡ n + 1 → count_by (λ x. x) lines ≡ all_lines (line_at lines) n
+all_lines-drawn lines n e =
+    ap (count_by (λ x. x)) (sym (take_all (n + 1) lines (omega arith))) ∙ drawn_from lines 0 (n + 1) (omega arith)
+
+-- numbers in a row, cut in two
+pub range_with_len-append : (a m k : ℕ) → range_with_len a (m + k) ≡ range_with_len a m ++ range_with_len (a + m) k
+range_with_len-append a zero k = ap₂ range_with_len (let e : a ≡ a + 0 = omega arith in e) (let e : 0 + k ≡ k = omega arith in e)
+range_with_len-append a (suc m) k =
+    ap (range_with_len a) (let e : suc m + k ≡ suc (m + k) = omega arith in e)
+    ∙ ap (λ xs. a ∷ xs) (range_with_len-append (a + 1) m k)
+    ∙ ap (λ j. a ∷ range_with_len (a + 1) m ++ range_with_len j k) (let e : a + 1 + m ≡ a + suc m = omega arith in e)
+
+-- the inner lines are among all lines
+pub inner_lines-le : (line : ℕ → Bool) (n : ℕ) (d : Demand) → IsInTable n d → inner_lines line d ≤ all_lines line n
+inner_lines-le line n d table =
+    let one : 1 ≤ d.span = table.covers_one in
+    let le : end_of d ≤ n = table.ends_within in
+    let e : n + 1 ≡ (d.start + 1) + ((d.span - 1) + (n + 1 - end_of d)) = omega arith in
+    let a : all_lines line n ≡ count_by line (range_with_len 0 ((d.start + 1) + ((d.span - 1) + (n + 1 - end_of d)))) = ap (λ m. count_by line (range_with_len 0 m)) e in
+    let b : count_by line (range_with_len 0 ((d.start + 1) + ((d.span - 1) + (n + 1 - end_of d))))
+    ≡ count_by line (range_with_len 0 (d.start + 1)) + count_by line (range_with_len (0 + (d.start + 1)) ((d.span - 1) + (n + 1 - end_of d))) =
+    ap (count_by line) (range_with_len-append 0 (d.start + 1) ((d.span - 1) + (n + 1 - end_of d)))
+    ∙ sum_by-append (λ i. cond (line i) 1 0) (range_with_len 0 (d.start + 1)) (range_with_len (0 + (d.start + 1)) ((d.span - 1) + (n + 1 - end_of d))) in
+    let c : count_by line (range_with_len (0 + (d.start + 1)) ((d.span - 1) + (n + 1 - end_of d)))
+    ≡ count_by line (range_with_len (0 + (d.start + 1)) (d.span - 1)) + count_by line (range_with_len (0 + (d.start + 1) + (d.span - 1)) (n + 1 - end_of d)) =
+    ap (count_by line) (range_with_len-append (0 + (d.start + 1)) (d.span - 1) (n + 1 - end_of d))
+    ∙ sum_by-append (λ i. cond (line i) 1 0) (range_with_len (0 + (d.start + 1)) (d.span - 1)) (range_with_len (0 + (d.start + 1) + (d.span - 1)) (n + 1 - end_of d)) in
+    let f : count_by line (range_with_len (0 + (d.start + 1)) (d.span - 1)) ≡ inner_lines line d =
+    ap (λ s. count_by line (range_with_len s (d.span - 1))) (let e : 0 + (d.start + 1) ≡ d.start + 1 = omega arith in e) in
+    omega arith
+
+-- a need past the greatest `usize`: every list that fits is too large
+pub large_need : (line : ℕ → Bool) (n : ℕ) (sizes : List ℕ) (d : Demand) → IsInTable n d → 18446744073709551615 < d.need → HasRoom line sizes d → IsTooLarge line n sizes
+large_need line n sizes d table large room =
+    let a : range_sum sizes d ≤ sum sizes = range_sum-le sizes d in
+    let b : inner_lines line d ≤ all_lines line n = inner_lines-le line n d table in
+    let c : 18446744073709551616 ≤ sum sizes + all_lines line n = omega arith in
+    c

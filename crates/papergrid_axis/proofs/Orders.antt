@@ -1,0 +1,165 @@
+-- Both orders take all cells of longer spans, and no cell after one that its range lies in.
+use Rattle.std.proofs.Common.{◌≡◌, ℕ, zero, suc, ◌+◌, ◌-◌, ◌<◌, ◌≤◌, Bool, true, ◌==◌, inl, inr, List, [], ◌∷◌, ◌++◌, length, get_or, filter, refl, arith, eqb, eq-eqb, eqb-true, lt-ltb, ltb-true}
+use Rattle.std.specs.Prelude.{All, Contains, flat_map, nat_lt}
+use Rattle.std.specs.List.{AllByRecursion, range_with_len}
+use Rattle.std.proofs.lemmas.Bool.{cases_Bool, cases_eq}
+use Rattle.std.proofs.lemmas.List.{get_or_default}
+use Rattle.std.proofs.lemmas.List.Elements.{recursion_from_All, All-from_recursion, All-contains, All-contains_itself, Contains-append_left, Contains-append_right}
+use Rattle.papergrid_axis.specs.declared.demand.Demand.{Demand}
+use Rattle.papergrid_axis.specs.declared.direction.Direction.{Direction}
+use Rattle.papergrid_axis.specs.declared.direction.Direction.TheVariants.{Columns, Rows}
+use Rattle.papergrid_axis.specs.Ranges.{end_of, IsInTable, LiesIn, HaveSameRange, AreCompatible, IsKeptApart}
+use Rattle.papergrid_axis.specs.Sizes.{by_place, by_span, taken}
+use Rattle.papergrid_axis.specs.LastCells.{IsUnder, Precedes, IsOrdered, IsLaminar}
+use Rattle.papergrid_axis.proofs.FitBound.{TakesAll, ByRecursion-weaker}
+
+Contains-later : (ds : List Demand) (c d : Demand) → Contains ds d → Contains (c ∷ ds) d
+Contains-later ds c d m = (suc m.0, omega (arith, m.1), m.2)
+
+-- what passes is in the filter
+Contains-filter : (test : Demand → Bool) (ds : List Demand) (d : Demand) → Contains ds d → test d ≡ true → Contains (filter test ds) d
+Contains-filter test ds d m t = at ds m.0 m.1 m.2
+  where
+    at : (ds : List Demand) (k : ℕ) → k < length ds → get_or ds k d ≡ d → Contains (filter test ds) d
+    at [] k l e = absurd (omega arith)
+    at (c ∷ ds) zero l e = rw (e, t) (0, omega arith, refl)
+    at (c ∷ ds) (suc k) l e =
+        let rest : Contains (filter test ds) d = at ds k (omega arith) e in
+        elim (cases_Bool (test c)) [
+          | inl y ↦ rw y (Contains-later (filter test ds) c d rest)
+          | inr n ↦ rw n rest
+        ]
+
+-- what is in the filter passes, and was there
+pub filter-all : (P : Demand → Type 0) (test : Demand → Bool) (ds : List Demand) → AllByRecursion P ds → AllByRecursion (λ d. (test d ≡ true) × P d) (filter test ds)
+filter-all P test [] all = tt
+filter-all P test (d ∷ ds) all = elim (cases_Bool (test d)) [
+  | inl y ↦ rw y ((y, all.0), filter-all P test ds all.1)
+  | inr n ↦ rw n (filter-all P test ds all.1)
+]
+
+ByRecursion-append : (P : Demand → Type 0) (xs ys : List Demand) → AllByRecursion P xs → AllByRecursion P ys → AllByRecursion P (xs ++ ys)
+ByRecursion-append P [] ys all all' = all'
+ByRecursion-append P (x ∷ xs) ys all all' = (all.0, ByRecursion-append P xs ys all.1 all')
+
+pub cells_themselves : (demands : List Demand) → AllByRecursion (Contains demands) demands
+cells_themselves demands = recursion_from_All (Contains demands) demands (All-contains_itself demands)
+
+Contains-get_or_self : (ds : List Demand) (k : ℕ) (d : Demand) → k < length ds → Contains ds (get_or ds k d)
+Contains-get_or_self ds k d l = (k, l, get_or_default ds k (get_or ds k d) d l)
+
+pub TakesAll-by_place : (demands : List Demand) → TakesAll demands (by_place demands)
+TakesAll-by_place demands = record {
+  cells = All-from_recursion (Contains demands) (by_place demands)
+      (ByRecursion-weaker (λ d. (nat_lt 1 d.span ≡ true) × Contains demands d) (Contains demands) (λ d h. h.1) (by_place demands)
+      (filter-all (Contains demands) (λ d. nat_lt 1 d.span) demands (cells_themselves demands)));
+  long = λ k d l two. Contains-filter (λ c. nat_lt 1 c.span) demands (get_or demands k d) (Contains-get_or_self demands k d l) (lt-ltb 1 (get_or demands k d).span (omega arith));
+}
+
+-- the cells of one span
+abbrev of_span : List Demand → ℕ → List Demand
+of_span demands span = filter (λ d. d.span == span) demands
+
+-- a cell of the table whose span is from a on
+record IsFrom (demands : List Demand) (a : ℕ) (d : Demand) : Type 0 where
+  cell : Contains demands d
+  long : a ≤ d.span
+
+of_span-all : (demands : List Demand) (a : ℕ) → AllByRecursion (λ d. (d.span ≡ a) × Contains demands d) (of_span demands a)
+of_span-all demands a =
+    ByRecursion-weaker (λ d. (eqb d.span a ≡ true) × Contains demands d) (λ d. (d.span ≡ a) × Contains demands d) (λ d h. (eqb-true d.span a h.0, h.1)) (of_span demands a)
+    (filter-all (Contains demands) (λ d. d.span == a) demands (cells_themselves demands))
+
+spans_from-all : (demands : List Demand) (a m : ℕ) → AllByRecursion (IsFrom demands a) (flat_map (of_span demands) (range_with_len a m))
+spans_from-all demands a zero = tt
+spans_from-all demands a (suc m) =
+    ByRecursion-append (IsFrom demands a) (of_span demands a) (flat_map (of_span demands) (range_with_len (a + 1) m))
+    (ByRecursion-weaker (λ d. (d.span ≡ a) × Contains demands d) (IsFrom demands a) (λ d h. let e : d.span ≡ a = h.0 in record { cell = h.1; long = omega arith }) (of_span demands a) (of_span-all demands a))
+    (ByRecursion-weaker (IsFrom demands (a + 1)) (IsFrom demands a) (λ d h. let l : a + 1 ≤ d.span = h.long in record { cell = h.cell; long = omega arith })
+    (flat_map (of_span demands) (range_with_len (a + 1) m)) (spans_from-all demands (a + 1) m))
+
+spans_from-contains : (demands : List Demand) (d : Demand) (a m : ℕ) → Contains demands d → a ≤ d.span → d.span < a + m → Contains (flat_map (of_span demands) (range_with_len a m)) d
+spans_from-contains demands d a zero c l l' = absurd (omega arith)
+spans_from-contains demands d a (suc m) c l l' = elim (cases_eq d.span a) [
+  | inl e ↦ Contains-append_left (of_span demands a) (flat_map (of_span demands) (range_with_len (a + 1) m)) d (Contains-filter (λ x. x.span == a) demands d c (eq-eqb d.span a e))
+  | inr ne ↦ Contains-append_right (of_span demands a) (flat_map (of_span demands) (range_with_len (a + 1) m)) d
+      (spans_from-contains demands d (a + 1) m c (omega arith) (omega arith))
+]
+
+pub TakesAll-by_span : (n : ℕ) (demands : List Demand) → All (IsInTable n) demands → TakesAll demands (by_span n demands)
+TakesAll-by_span n demands table = record {
+  cells = All-from_recursion (Contains demands) (by_span n demands)
+      (ByRecursion-weaker (IsFrom demands 2) (Contains demands) (λ d h. h.cell) (by_span n demands) (spans_from-all demands 2 (n - 1)));
+  long = λ k d l two.
+      let le : end_of (get_or demands k d) ≤ n = (All-contains (IsInTable n) demands (get_or demands k d) table (Contains-get_or_self demands k d l)).ends_within in
+      spans_from-contains demands (get_or demands k d) 2 (n - 1) (Contains-get_or_self demands k d l) two (omega arith);
+}
+
+-- where any two are so related, the order does not matter
+ordered_of_pairs : (under : Demand → Demand → Type 0) (P : Demand → Type 0) → ((a b : Demand) → P a → P b → Precedes under a b) → (ds : List Demand) → AllByRecursion P ds → IsOrdered under ds
+ordered_of_pairs under P related [] all = tt
+ordered_of_pairs under P related (d ∷ ds) all =
+    (ByRecursion-weaker P (Precedes under d) (λ e p. related d e all.0 p) ds all.1, ordered_of_pairs under P related ds all.1)
+
+ordered-append : (under : Demand → Demand → Type 0) (xs ys : List Demand) → IsOrdered under xs → IsOrdered under ys →
+    AllByRecursion (λ x. AllByRecursion (Precedes under x) ys) xs → IsOrdered under (xs ++ ys)
+ordered-append under [] ys lx ly cross = ly
+ordered-append under (x ∷ xs) ys lx ly cross = (ByRecursion-append (Precedes under x) xs ys lx.0 cross.0, ordered-append under xs ys lx.1 ly cross.1)
+
+IsOrdered-by_place : (demands : List Demand) → IsKeptApart Rows demands → IsOrdered HaveSameRange (by_place demands)
+IsOrdered-by_place demands kept_apart =
+    ordered_of_pairs HaveSameRange (λ d. (nat_lt 1 d.span ≡ true) × Contains demands d)
+    (λ a b p q. precedes a b (kept_apart a b p.1 q.1 (let l : 1 < a.span = ltb-true 1 a.span p.0 in omega arith) (let l : 1 < b.span = ltb-true 1 b.span q.0 in omega arith)))
+    (by_place demands) (filter-all (Contains demands) (λ d. nat_lt 1 d.span) demands (cells_themselves demands))
+  where
+    precedes : (a b : Demand) → AreCompatible Rows a b → Precedes HaveSameRange a b
+    precedes a b (inl e) = inr e
+    precedes a b (inr d) = inl d
+
+-- the smaller of two nested ranges lies in the larger
+smaller_first : (a b : Demand) → a.span ≤ b.span → AreCompatible Columns a b → Precedes LiesIn a b
+smaller_first a b le related = elim related [
+  | inl x ↦ inr x
+  | inr x ↦ elim x [
+    | inl y ↦ let p : a.start ≤ b.start = y.0 in let q : end_of b ≤ end_of a = y.1 in inr ((omega arith), (omega arith))
+    | inr y ↦ inl y
+  ]
+]
+
+ordered_from : (demands : List Demand) → IsKeptApart Columns demands → (a m : ℕ) → 2 ≤ a → IsOrdered LiesIn (flat_map (of_span demands) (range_with_len a m))
+ordered_from demands kept_apart a zero two = tt
+ordered_from demands kept_apart a (suc m) two =
+    ordered-append LiesIn (of_span demands a) (flat_map (of_span demands) (range_with_len (a + 1) m))
+    (ordered_of_pairs LiesIn (λ d. (d.span ≡ a) × Contains demands d)
+    (λ x y p q. let e : x.span ≡ a = p.0 in let e' : y.span ≡ a = q.0 in smaller_first x y (omega arith) (kept_apart x y p.1 q.1 (omega arith) (omega arith)))
+    (of_span demands a) (of_span-all demands a))
+    (ordered_from demands kept_apart (a + 1) m (omega arith))
+    (ByRecursion-weaker (λ d. (d.span ≡ a) × Contains demands d) (λ x. AllByRecursion (Precedes LiesIn x) (flat_map (of_span demands) (range_with_len (a + 1) m)))
+    (λ x p. ByRecursion-weaker (IsFrom demands (a + 1)) (Precedes LiesIn x)
+    (λ y q. let e : x.span ≡ a = p.0 in let l : a + 1 ≤ y.span = q.long in smaller_first x y (omega arith) (kept_apart x y p.1 q.cell (omega arith) (omega arith)))
+    (flat_map (of_span demands) (range_with_len (a + 1) m)) (spans_from-all demands (a + 1) m))
+    (of_span demands a) (of_span-all demands a))
+
+-- ---- for either direction
+
+pub TakesAll-taken : (direction : Direction) (n : ℕ) (demands : List Demand) → All (IsInTable n) demands → TakesAll demands (taken direction n demands)
+TakesAll-taken Columns n demands table = TakesAll-by_span n demands table
+TakesAll-taken Rows n demands table = TakesAll-by_place demands
+
+-- where the ranges are kept apart, no cell is taken after one that its range meets and that is not under it
+pub IsOrdered-taken : (direction : Direction) (n : ℕ) (demands : List Demand) → IsKeptApart direction demands → IsOrdered (IsUnder direction) (taken direction n demands)
+IsOrdered-taken Columns n demands kept_apart = ordered_from demands kept_apart 2 (n - 1) (omega arith)
+IsOrdered-taken Rows n demands kept_apart = IsOrdered-by_place demands kept_apart
+
+IsOrdered-weaker : (under over : Demand → Demand → Type 0) → ((a b : Demand) → under a b → over a b) → (ds : List Demand) → IsOrdered under ds → IsOrdered over ds
+IsOrdered-weaker under over h [] ordered = tt
+IsOrdered-weaker under over h (d ∷ ds) ordered =
+    (ByRecursion-weaker (Precedes under d) (Precedes over d) (λ e p. elim p [ inl x ↦ inl x | inr x ↦ inr (h d e x) ]) ds ordered.0, IsOrdered-weaker under over h ds ordered.1)
+
+-- what is under a cell lies in its range
+pub LiesIn-from_under : (direction : Direction) (a b : Demand) → IsUnder direction a b → LiesIn a b
+LiesIn-from_under Columns a b under = under
+LiesIn-from_under Rows a b under = let x : a.start ≡ b.start = under.0 in let y : a.span ≡ b.span = under.1 in ((omega arith), (omega arith))
+
+pub IsLaminar-from_ordered : (direction : Direction) (ds : List Demand) → IsOrdered (IsUnder direction) ds → IsLaminar ds
+IsLaminar-from_ordered direction ds ordered = IsOrdered-weaker (IsUnder direction) LiesIn (LiesIn-from_under direction) ds ordered

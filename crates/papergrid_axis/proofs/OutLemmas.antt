@@ -1,0 +1,73 @@
+-- The first cell out of the table, and needs past the greatest `usize`.
+use Rattle.std.proofs.Common.{◌≡◌, ℕ, ◌+◌, ◌<◌, ◌≤◌, Bool, true, false, List, [], ◌∷◌, ◌||◌, length, map, refl, ap, sym, ◌∙◌, arith, nat_lt, get_or, drop, inl, inr}
+use Rattle.std.specs.Prelude.{Option, Some, None, is_some, All, if◌then◌else◌}
+use Rattle.std.specs.List.{list_any}
+use Rattle.std.proofs.lemmas.List.{drop_more}
+use Rattle.std.proofs.lemmas.Bool.{false≢true, cases_Bool, ltb-false, leb-true}
+use Rattle.std.proofs.lemmas.List.Elements.{All-nil, All-cons, All-head, All-tail, All-same}
+use Rattle.papergrid_axis.specs.declared.demand.Demand.{Demand}
+use Rattle.papergrid_axis.specs.declared.direction.Direction.{Direction}
+use Rattle.papergrid_axis.specs.declared.seen.Seen.{Seen}
+use Rattle.papergrid_axis.specs.Answers.{NoneHolds}
+use Rattle.papergrid_axis.specs.Ranges.{IsInTable, end_of, first_out, place_of}
+use Rattle.papergrid_axis.specs.Fits.{HasRoom, IsTooLarge}
+use Rattle.papergrid_axis.specs.Seen.{Holds, is_large, without_need}
+use Rattle.papergrid_axis.specs.Sizes.{sizes_of}
+use Rattle.papergrid_axis.proofs.LoopLemmas.{large_need}
+use Rattle.papergrid_axis.proofs.Theorems.{Fits-sizes_of}
+
+pub out_at : (n : ℕ) (ds : List Demand) (i : ℕ) (d : Demand) → i < length ds →
+    first_out n (drop i ds) ≡ (if nat_lt n (end_of (get_or ds i d)) then Some (place_of (get_or ds i d)) else first_out n (drop (i + 1) ds))
+out_at n ds i d lt = ap (first_out n) (drop_more ds i d lt)
+
+first_out-ranges : (n : ℕ) (ds : List Demand) → first_out n (map without_need ds) ≡ first_out n ds
+first_out-ranges n [] = refl
+first_out-ranges n (d ∷ ds) = ap (λ rest. if nat_lt n (end_of d) then Some (place_of d) else rest) (first_out-ranges n ds)
+
+-- the needs do not matter
+same_out : (n : ℕ) (xs ys : List Demand) → map without_need xs ≡ map without_need ys → first_out n xs ≡ first_out n ys
+same_out n xs ys e = sym (first_out-ranges n xs) ∙ ap (first_out n) e ∙ first_out-ranges n ys
+
+if_none : {A : Type 0} (b : Bool) (x : A) (r : Option A) → (if b then Some x else r) ≡ None → (b ≡ false) × (r ≡ None)
+if_none true x r e = absurd (false≢true (sym (ap is_some e)))
+if_none false x r e = (refl, e)
+
+-- where no cell reaches out, all are in the table
+pub none_out : (n : ℕ) (ds : List Demand) → first_out n ds ≡ None → All (λ d. 1 ≤ d.span) ds → All (IsInTable n) ds
+none_out n [] e spans = All-nil (IsInTable n)
+none_out n (d ∷ ds) e spans =
+    let r = if_none (nat_lt n (end_of d)) (place_of d) (first_out n ds) e in
+    let within : d.start + d.span ≤ n = ltb-false n (end_of d) r.0 in
+    All-cons (IsInTable n) d ds record { covers_one = All-head (λ d. 1 ≤ d.span) d ds spans; ends_within = within }
+    (none_out n ds r.1 (All-tail (λ d. 1 ≤ d.span) d ds spans))
+
+-- one large need makes every list with room for all too large
+large_any : (line : ℕ → Bool) (n : ℕ) (sizes : List ℕ) (ds : List Demand) → list_any is_large ds ≡ true → All (IsInTable n) ds → All (HasRoom line sizes) ds →
+    IsTooLarge line n sizes
+large_any line n sizes [] e table room = absurd (false≢true e)
+large_any line n sizes (d ∷ ds) e table room = elim (cases_Bool (is_large d)) [
+  | inl t ↦
+      let m : 18446744073709551616 ≤ d.need = leb-true 18446744073709551616 d.need t in
+      large_need line n sizes d (All-head (IsInTable n) d ds table) (omega arith) (All-head (HasRoom line sizes) d ds room)
+  | inr f ↦ large_any line n sizes ds (ap (λ b. b || list_any is_large ds) (sym f) ∙ e) (All-tail (IsInTable n) d ds table) (All-tail (HasRoom line sizes) d ds room)
+]
+
+module _ (n : ℕ) (seen : Seen) (demands : List Demand) (held : Holds seen demands) where
+  pub out_seen : first_out n demands ≡ first_out n seen.demands.items
+  out_seen = same_out n demands seen.demands.items (sym held.ranges)
+
+  table_demands : first_out n seen.demands.items ≡ None → All (IsInTable n) demands
+  table_demands none = none_out n demands (out_seen ∙ none) held.spans
+
+  pub table_seen : first_out n seen.demands.items ≡ None → seen.is_large ≡ false → All (IsInTable n) seen.demands.items
+  table_seen none small = All-same (IsInTable n) seen.demands.items demands (held.exact small) (table_demands none)
+
+  pub NoneHolds-large : (direction : Direction) (line : ℕ → Bool) → first_out n seen.demands.items ≡ None → seen.is_large ≡ true → NoneHolds direction line n demands
+  NoneHolds-large direction line none large =
+      let table = table_demands none in
+      let any = sym held.large ∙ large in
+      record {
+        none_out = out_seen ∙ none;
+        too_large = large_any line n (sizes_of direction line n demands) demands any table (Fits-sizes_of direction line n demands table).room;
+        none_holds = λ apart other fits. large_any line n other demands any table fits.room;
+      }

@@ -1,0 +1,53 @@
+use Rattle.std.proofs.Common.{◌≡◌, ◌+◌, ◌<◌, ◌≤◌, ◌∙◌, sym, ap, ap₂, ℕ, Vec, Global, sum, length, get_or, fold, take, drop, List, ◌++◌, arith}
+use Rattle.std.proofs.lemmas.Grind.{common_steps}
+use Rattle.std.proofs.lemmas.List.Sums.{fold_more}
+use Rattle.papergrid_axis.specs.declared.demand.Demand.{Demand}
+use Rattle.papergrid_axis.specs.Chosen.{growing}
+use Rattle.papergrid_axis.specs.Ranges.{IsInTable}
+use Rattle.papergrid_axis.specs.Sizes.{grown}
+use Rattle.papergrid_axis.proofs.LastLoops.{cells-more_yes, cells-more_no}
+use Rattle.papergrid_axis.specs.Ranges.{line_at}
+use Rattle.papergrid_axis.proofs.LoopLemmas.{sum-taken_part}
+use Rattle.papergrid_axis.proofs.growers.growing_cells.Goals as goal
+use Rattle.papergrid_axis.proofs.growers.growing_cells.Goals.{then-so_far-after+in_ok-push-in-Some, else-so_far-after}
+
+pub returns-in-None-clause-too_large : goal.returns-in-None-clause-too_large
+returns-in-None-clause-too_large c =
+    grind (arith, common_steps, sum-taken_part (line_at c.args.lines.now) c.args.sizes.now c.args.cells.now (c.loop-demand.demand-index + 1) c.requires.table)
+
+abbrev no_demand : Demand
+no_demand = record { row = 0; col = 0; start = 0; span = 0; need = 0 }
+
+pub loop-demand-preserved : goal.loop-demand-preserved
+loop-demand-preserved c =
+    let d : Demand = get_or c.args.cells.now c.loop-demand.demand-index no_demand in
+    let g : c.grow.new.sizes ≡ grown (line_at c.args.lines.now) c.loop-demand.sizes (get_or c.args.cells.now c.loop-demand.demand-index no_demand) = c.in-Some.ensures.grown in
+    let t : c.in-Some.after ≡ sum c.grow.new.sizes = c.in-Some.ensures.total in
+    let f = fold_more (grown (line_at c.args.lines.now)) c.args.sizes.now c.args.cells.now c.loop-demand.demand-index no_demand c.loop-demand-test.true in
+    let table : IsInTable (length c.loop-demand.sizes) (get_or c.args.cells.now c.loop-demand.demand-index no_demand) =
+    rw c.loop-demand.auto.sizes (c.requires.table c.loop-demand.demand-index no_demand c.loop-demand-test.true) in
+    let total : c.in-Some.after ≡ sum (grown (line_at c.args.lines.now) c.loop-demand.sizes (get_or c.args.cells.now c.loop-demand.demand-index no_demand)) = t ∙ ap sum g in
+    let sizes : c.grow.new.sizes ≡ fold (grown (line_at c.args.lines.now)) c.args.sizes.now (take (c.loop-demand.demand-index + 1) c.args.cells.now) =
+    g ∙ ap (λ (xs : List ℕ). grown (line_at c.args.lines.now) xs (get_or c.args.cells.now c.loop-demand.demand-index no_demand)) c.loop-demand.invariant.1 ∙ sym f in
+    elim c.if-so_far-after.branch [
+      | then-so_far-after+in_ok-push-in-Some w ↦
+          let m = cells-more_yes (line_at c.args.lines.now) c.loop-demand.sizes c.args.cells.now c.loop-demand.growers.items (growing (line_at c.args.lines.now) c.args.sizes.now c.args.cells.now)
+          c.loop-demand.demand-index no_demand c.loop-demand-test.true table c.loop-demand.invariant.2 in
+          let lt : sum c.loop-demand.sizes < sum (grown (line_at c.args.lines.now) c.loop-demand.sizes (get_or c.args.cells.now c.loop-demand.demand-index no_demand)) =
+          omega (arith, total, c.loop-demand.invariant.0, w.if-so_far-after.true) in (
+            w.so_far-is ∙ t,
+            sizes,
+            ap₂ (λ (v : Vec Demand Global) (xs : List ℕ). v.items ++ growing (line_at c.args.lines.now) xs (drop (c.loop-demand.demand-index + 1) c.args.cells.now)) w.growers-is g
+                ∙ ap (λ (ys : List Demand). ys ++ growing (line_at c.args.lines.now) (grown (line_at c.args.lines.now) c.loop-demand.sizes (get_or c.args.cells.now c.loop-demand.demand-index no_demand)) (drop (c.loop-demand.demand-index + 1) c.args.cells.now)) w.in_ok-push-in-Some.ensures.items
+                ∙ m lt,
+          )
+      | else-so_far-after w ↦
+          let m = cells-more_no (line_at c.args.lines.now) c.loop-demand.sizes c.args.cells.now c.loop-demand.growers.items (growing (line_at c.args.lines.now) c.args.sizes.now c.args.cells.now)
+          c.loop-demand.demand-index no_demand c.loop-demand-test.true table c.loop-demand.invariant.2 in
+          let le : sum (grown (line_at c.args.lines.now) c.loop-demand.sizes (get_or c.args.cells.now c.loop-demand.demand-index no_demand)) ≤ sum c.loop-demand.sizes =
+          omega (arith, total, c.loop-demand.invariant.0, w.if-so_far-after.false) in (
+            w.so_far-is ∙ t,
+            sizes,
+            ap₂ (λ (v : Vec Demand Global) (xs : List ℕ). v.items ++ growing (line_at c.args.lines.now) xs (drop (c.loop-demand.demand-index + 1) c.args.cells.now)) w.growers-is g ∙ m le,
+          )
+    ]

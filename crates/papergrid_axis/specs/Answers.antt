@@ -1,0 +1,67 @@
+-- What an answer for a direction says of the cells' demands.
+use Rattle.std.specs.Prelude.{◌≡◌, ℕ, ◌+◌, ◌^◌, ◌<◌, ◌≤◌, Bool, List, EachIndex, slice_index, map, sum, Result, Ok, Err, Option, None, Some, Vec, ⊤}
+use Rattle.papergrid_values.specs.declared.position.Position.{Position}
+use Rattle.papergrid_axis.specs.declared.demand.Demand.{Demand}
+use Rattle.papergrid_axis.specs.declared.direction.Direction.{Direction}
+use Rattle.papergrid_axis.specs.declared.error.LayoutError.{LayoutError}
+use Rattle.papergrid_axis.specs.declared.error.LayoutError.TheVariants.{OutOfTable, TooLarge, Memory}
+use Rattle.papergrid_axis.specs.Ranges.{IsKeptApart, all_lines, first_out, place_of}
+use Rattle.papergrid_axis.specs.Fits.{Fits, IsLeast, IsTooLarge, IsCertificate, top_need}
+use Rattle.papergrid_axis.specs.Sizes.{sizes_of}
+use Rattle.papergrid_axis.specs.Chosen.{chosen_of}
+
+module _ (direction : Direction) (line : ℕ → Bool) (n : ℕ) (demands : List Demand) where
+  -- these are the sizes, and what holds of them
+  pub record AreSizes (sizes : List ℕ) : Type 0 where
+    pub none_out : first_out n demands ≡ None
+    pub exact : sizes ≡ sizes_of direction line n demands
+    pub total : sum sizes + all_lines line n < 2 ^ 64
+    pub fits : Fits line n demands sizes
+    pub bound : EachIndex sizes (λ i. slice_index sizes i ≤ top_need demands i)
+    pub least : IsKeptApart direction demands → IsLeast line n demands sizes
+
+  -- the sizes are too large, and where ranges are kept apart so is every list that fits
+  pub record NoneHolds : Type 0 where
+    pub none_out : first_out n demands ≡ None
+    pub too_large : IsTooLarge line n (sizes_of direction line n demands)
+    pub none_holds : IsKeptApart direction demands → (other : List ℕ) → Fits line n demands other → IsTooLarge line n other
+
+  -- out of the table by the first cell that reaches out, else too large; memory may be refused in place of any answer
+  abbrev pub IsRefused : LayoutError → Type 0
+  IsRefused (OutOfTable place) = first_out n demands ≡ Some place
+  IsRefused TooLarge = NoneHolds
+  IsRefused (Memory e) = ⊤
+
+  -- the places of the chosen cells, which certify the sizes
+  pub record AreChosen (places : List Position) : Type 0 where
+    pub none_out : first_out n demands ≡ None
+    pub total : sum (sizes_of direction line n demands) + all_lines line n < 2 ^ 64
+    pub kept_apart : IsKeptApart direction demands
+    pub exact : places ≡ map place_of (chosen_of direction line n demands)
+    pub certificate : IsCertificate line demands (sizes_of direction line n demands) (chosen_of direction line n demands)
+
+  -- there are sizes, and two longer ranges are not kept apart
+  pub record NoneChosen : Type 0 where
+    pub none_out : first_out n demands ≡ None
+    pub total : sum (sizes_of direction line n demands) + all_lines line n < 2 ^ 64
+    pub not_kept_apart : IsKeptApart direction demands → ⊥
+
+  module _ {Z : Type 0} where
+    -- the sizes, or why there are none
+    abbrev pub IsExact : Result (Vec ℕ Z) LayoutError → Type 0
+    IsExact (Ok sizes) = AreSizes sizes.items
+    IsExact (Err e) = IsRefused e
+
+    -- the places of the chosen cells, none where ranges are not kept apart, or why there are no sizes
+    abbrev pub IsWitness : Result (Option (Vec Position Z)) LayoutError → Type 0
+    IsWitness (Ok None) = NoneChosen
+    IsWitness (Ok (Some places)) = AreChosen places.items
+    IsWitness (Err e) = IsRefused e
+
+-- what a checker accepts: no cell reaches out, the sizes fit, and the places are those of cells that certify them
+pub record IsAccepted (line : ℕ → Bool) (n : ℕ) (demands : List Demand) (sizes : List ℕ) (places : List Position) : Type 0 where
+  pub none_out : first_out n demands ≡ None
+  pub fits : Fits line n demands sizes
+  pub cells : List Demand
+  pub at_places : map place_of cells ≡ places
+  pub certificate : IsCertificate line demands sizes cells

@@ -1,0 +1,67 @@
+-- What a checker keeps of the visible cells that it met, given sizes and a list of places. Only contracts of private
+-- functions and proofs speak of this.
+use Rattle.std.specs.Prelude.{◌≡◌, ℕ, ◌+◌, sum, ◌*◌, ◌^◌, ◌≤◌, Bool, true, false, ◌&&◌, ◌==◌, List, length, sum_by, count_by, ◌≢◌, All, AllPairs}
+use Rattle.papergrid_values.specs.declared.position.Position.{Position}
+use Rattle.papergrid_axis.specs.declared.checked.Checked.{Checked}
+use Rattle.papergrid_axis.specs.declared.demand.Demand.{Demand}
+use Rattle.papergrid_axis.specs.declared.direction.Direction.{Direction}
+use Rattle.papergrid_axis.specs.Ranges.{AreDisjoint, demand_of, end_of, inner_lines, place_of}
+use Rattle.papergrid_axis.specs.Fits.{HasRoom}
+
+-- a range with a need, wherever its cell stands
+abbrev pub range_of : ℕ → ℕ → ℕ → Demand
+range_of start span need = record { row = 0; col = 0; start = start; span = span; need = need }
+
+abbrev pub stands_at : Demand → Position → Bool
+stands_at d p = d.row == p.row && d.col == p.col
+
+-- how often the cell is listed
+abbrev pub times_listed : List Position → Demand → ℕ
+times_listed places d = count_by (stands_at d) places
+
+-- the sum of a number of each cell, taken as often as the cell is listed
+abbrev pub all_listed : (Demand → ℕ) → List Position → List Demand → ℕ
+all_listed number places demands = sum_by (λ d. number d * times_listed places d) demands
+
+-- the ranges at two places have no number in common
+abbrev pub AreApartAt : Direction → (Position → ℕ) → Position → Position → Type 0
+AreApartAt direction span_of p q = AreDisjoint (demand_of direction p (span_of p) 0) (demand_of direction q (span_of q) 0)
+
+-- no two cells stand at one place
+abbrev pub AreDistinct : List Demand → Type 0
+AreDistinct demands = AllPairs (λ a b. place_of a ≢ place_of b) demands
+
+-- no more cells were found than places are listed, so the sums are not too large
+pub record AreBounded (places : List Position) (checked : Checked) : Type 0 where
+  pub few : checked.found ≤ length places
+  pub needs : checked.needs ≤ 2 ^ 66 * checked.found
+  pub inner : checked.inner ≤ 2 ^ 64 * checked.found
+
+module _ (line : ℕ → Bool) (sizes : List ℕ) (places : List Position) where
+  -- all cells have room in the table, and these sums were kept of the listed ones
+  pub record AllHold (checked : Checked) (demands : List Demand) : Type 0 where
+    pub table : All (λ d. end_of d ≤ length sizes) demands
+    pub room : All (HasRoom line sizes) demands
+    pub found : checked.found ≡ all_listed (λ _. 1) places demands
+    pub needs : checked.needs ≡ all_listed (λ d. d.need) places demands
+    pub inner : checked.inner ≡ all_listed (inner_lines line) places demands
+
+  -- all cells have room in the table, and no more of them are listed than there are places
+  pub record CanHold (demands : List Demand) : Type 0 where
+    pub table : All (λ d. end_of d ≤ length sizes) demands
+    pub room : All (HasRoom line sizes) demands
+    pub few : all_listed (λ _. 1) places demands ≤ length places
+
+  -- what was kept of these cells, of which each has the span that its place has
+  pub record Checks (direction : Direction) (span_of : Position → ℕ) (checked : Checked) (demands : List Demand) : Type 0 where
+    pub ranged : All (λ d. d ≡ demand_of direction (place_of d) (span_of (place_of d)) d.need) demands
+    pub spans : All (λ d. 1 ≤ d.span) demands
+    pub holds : checked.holds ≡ true → AllHold checked demands
+    pub fails : checked.holds ≡ false → CanHold demands → ⊥
+    pub bounded : AreBounded places checked
+
+-- all cells have room, each place is a cell's, and the listed needs less their inner lines add up to the total
+pub record SumsAgree (checked : Checked) (sizes : List ℕ) (places : List Position) : Type 0 where
+  pub holds : checked.holds ≡ true
+  pub found : checked.found ≡ length places
+  pub adds_up : checked.needs ≡ sum sizes + checked.inner

@@ -1,0 +1,51 @@
+-- The cells that are chosen to certify that the sizes are least.
+use Rattle.std.specs.Prelude.{ℕ, Bool, ◌&&◌, ◌==◌, nat_lt, nat_le, if◌then◌else◌, List, [], ◌∷◌, filter_map, find, slice_index, Option, Some, None}
+use Rattle.std.specs.List.{range_with_len, list_any}
+use Rattle.papergrid_axis.specs.declared.demand.Demand.{Demand}
+use Rattle.papergrid_axis.specs.declared.direction.Direction.{Direction}
+use Rattle.papergrid_axis.specs.Ranges.{end_of, holds}
+use Rattle.papergrid_axis.specs.Sizes.{lack, grown, base_sizes, sizes_after, taken}
+
+-- the cells that grow, in the order in which they are taken: those that lack room when they are
+abbrev pub growing : (ℕ → Bool) → List ℕ → List Demand → List Demand
+growing line sizes [] = []
+growing line sizes (d ∷ rest) =
+    if nat_lt 0 (lack line sizes d) then d ∷ growing line (grown line sizes d) rest
+    else growing line (grown line sizes d) rest
+
+abbrev pub lies_in : Demand → Demand → Bool
+lies_in a b = nat_le b.start a.start && nat_le (end_of a) (end_of b)
+
+-- the cells whose range lies in no later cell's range
+abbrev pub outermost : List Demand → List Demand
+outermost [] = []
+outermost (d ∷ later) = if list_any (lies_in d) later then outermost later else d ∷ outermost later
+
+-- the first cell that covers i alone and needs its size
+abbrev pub exact_single : List Demand → List ℕ → ℕ → Option Demand
+exact_single demands sizes i = find (λ d. d.span == 1 && d.start == i && d.need == slice_index sizes i) demands
+
+-- the same, where i is in no growing cell's range and its size is above 0
+abbrev pub single_at : List Demand → List Demand → List ℕ → ℕ → Option Demand
+single_at demands growers sizes i =
+    if list_any (λ d. holds d i) growers then None
+    else (if slice_index sizes i == 0 then None else exact_single demands sizes i)
+
+abbrev pub or_else : Option Demand → Option Demand → Option Demand
+or_else None other = other
+or_else (Some d) other = Some d
+
+-- the outermost growing cells and the single ones, by the start of their ranges
+abbrev pub chosen : ℕ → List Demand → List Demand → List ℕ → List Demand
+chosen n demands growers sizes =
+    filter_map (λ i. or_else (find (λ d. d.start == i) (outermost growers)) (single_at demands growers sizes i))
+    (range_with_len 0 n)
+
+-- the chosen cells where these are taken in this order
+abbrev pub chosen_after : (ℕ → Bool) → ℕ → List Demand → List Demand → List Demand
+chosen_after line n demands cells =
+    chosen n demands (growing line (base_sizes n demands) cells) (sizes_after line n demands cells)
+
+-- the chosen cells of the direction
+abbrev pub chosen_of : Direction → (ℕ → Bool) → ℕ → List Demand → List Demand
+chosen_of direction line n demands = chosen_after line n demands (taken direction n demands)

@@ -1,0 +1,45 @@
+-- Room for each cell, the least total, and what shows that a total is least.
+use Rattle.std.specs.Prelude.{◌≡◌, ℕ, ◌+◌, ◌^◌, ◌≤◌, max, Bool, List, [], ◌∷◌, map, length, take, drop, filter, sum, sum_by, All, AllPairs, Contains}
+use Rattle.papergrid_axis.specs.declared.demand.Demand.{Demand}
+use Rattle.papergrid_axis.specs.Ranges.{holds, inner_lines, all_lines, AreDisjoint}
+
+-- the sum of the sizes in the range
+abbrev pub range_sum : List ℕ → Demand → ℕ
+range_sum sizes d = sum (take d.span (drop d.start sizes))
+
+-- the sizes in the cell's range, with the lines inside of it, come to its need
+abbrev pub HasRoom : (ℕ → Bool) → List ℕ → Demand → Type 0
+HasRoom line sizes d = d.need ≤ range_sum sizes d + inner_lines line d
+
+-- one size for each number, and room for each cell
+pub record Fits (line : ℕ → Bool) (n : ℕ) (demands : List Demand) (sizes : List ℕ) : Type 0 where
+  pub one_each : length sizes ≡ n
+  pub room : All (HasRoom line sizes) demands
+
+-- the sizes fit, and no list that fits has a smaller total
+pub record IsLeast (line : ℕ → Bool) (n : ℕ) (demands : List Demand) (sizes : List ℕ) : Type 0 where
+  pub fits : Fits line n demands sizes
+  pub least : (other : List ℕ) → Fits line n demands other → sum sizes ≤ sum other
+
+-- the total with all lines is past the greatest `usize`
+abbrev pub IsTooLarge : (ℕ → Bool) → ℕ → List ℕ → Type 0
+IsTooLarge line n sizes = 2 ^ 64 ≤ sum sizes + all_lines line n
+
+-- the greatest of some numbers, 0 where there is none
+abbrev pub greatest : List ℕ → ℕ
+greatest [] = 0
+greatest (x ∷ xs) = max x (greatest xs)
+
+-- the greatest need of the cells that pass the test
+abbrev pub greatest_need : (Demand → Bool) → List Demand → ℕ
+greatest_need test demands = greatest (map (λ d. d.need) (filter test demands))
+
+-- the greatest need of a cell whose range holds i
+abbrev pub top_need : List Demand → ℕ → ℕ
+top_need demands i = greatest_need (λ d. holds d i) demands
+
+-- visible cells of pairwise disjoint ranges, whose needs less their inner lines add up to the total
+pub record IsCertificate (line : ℕ → Bool) (demands : List Demand) (sizes : List ℕ) (cells : List Demand) : Type 0 where
+  pub visible : All (Contains demands) cells
+  pub apart : AllPairs AreDisjoint cells
+  pub adds_up : sum_by (λ d. d.need) cells ≡ sum sizes + sum_by (inner_lines line) cells

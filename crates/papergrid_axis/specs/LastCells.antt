@@ -1,0 +1,41 @@
+-- How it is decided whether ranges are kept apart: for each number the last cell, of those that are taken, whose range
+-- holds it. Only contracts of private functions and proofs speak of this.
+use Rattle.std.specs.Prelude.{ℕ, ◌==◌, if◌then◌else◌, cond, ◌⊎◌, List, [], ◌∷◌, ⊤, Option, Some, None, slice_index, slice_index_or}
+use Rattle.std.specs.List.{AllByRecursion}
+use Rattle.papergrid_axis.specs.declared.demand.Demand.{Demand}
+use Rattle.papergrid_axis.specs.declared.direction.Direction.{Direction}
+use Rattle.papergrid_axis.specs.declared.direction.Direction.TheVariants.{Columns, Rows}
+use Rattle.papergrid_axis.specs.Ranges.{holds, AreDisjoint, LiesIn, HaveSameRange}
+use Rattle.papergrid_axis.specs.Chosen.{or_else}
+
+-- what a cell has to be to a later one whose range meets its own
+abbrev pub IsUnder : Direction → Demand → Demand → Type 0
+IsUnder Columns earlier later = LiesIn earlier later
+IsUnder Rows earlier later = HaveSameRange earlier later
+
+-- a cell that is taken before another is disjoint from it or under it
+abbrev pub Precedes : (Demand → Demand → Type 0) → Demand → Demand → Type 0
+Precedes under earlier later = AreDisjoint earlier later ⊎ under earlier later
+
+-- each cell precedes all later ones
+abbrev pub IsOrdered : (Demand → Demand → Type 0) → List Demand → Type 0
+IsOrdered under [] = ⊤
+IsOrdered under (d ∷ rest) = AllByRecursion (Precedes under d) rest × IsOrdered under rest
+
+-- no cell comes after one whose range goes past its own: a laminar family, the inner ranges first
+abbrev pub IsLaminar : List Demand → Type 0
+IsLaminar ds = IsOrdered LiesIn ds
+
+-- the last of the cells whose range holds i
+abbrev pub last_holding : List Demand → ℕ → Option Demand
+last_holding [] i = None
+last_holding (d ∷ rest) i = or_else (last_holding rest i) (cond (holds d i) (Some d) None)
+
+-- the chosen cell at i: the last growing cell there, where its range starts there, or, where there is none, the first
+-- single one
+abbrev pub slot_of : Option Demand → Option Demand → ℕ → ℕ → Option Demand
+slot_of (Some d) first size i = if d.start == i then Some d else None
+slot_of None first size i = if size == 0 then None else first
+
+abbrev pub chosen_slot : List (Option Demand) → List (Option Demand) → List ℕ → ℕ → Option Demand
+chosen_slot last first sizes i = slot_of (slice_index_or last i None) (slice_index_or first i None) (slice_index sizes i) i

@@ -1,0 +1,78 @@
+-- Ranges along a direction, which has n columns (rows), numbered from 0. A visible cell's range has the numbers from
+-- `start` on, `span` of them. `line i` tells whether a line is drawn at i, before number i, and at n after the last.
+-- The demands of the visible cells stand by (row, column).
+use Rattle.std.specs.Prelude.{◌≡◌, ℕ, ◌+◌, ◌-◌, ◌≤◌, Bool, false, ◌&&◌, nat_lt, nat_le, if◌then◌else◌, ◌⊎◌, List, [], ◌∷◌, count_by, Contains, Option, Some, None, slice_index_or}
+use Rattle.std.specs.List.{range_with_len}
+use Rattle.papergrid_values.specs.declared.position.Position.{Position}
+use Rattle.papergrid_axis.specs.declared.demand.Demand.{Demand}
+use Rattle.papergrid_axis.specs.declared.direction.Direction.{Direction}
+use Rattle.papergrid_axis.specs.declared.direction.Direction.TheVariants.{Columns, Rows}
+
+-- the number of a place's column, or of its row
+abbrev pub along : Direction → Position → ℕ
+along Columns place = place.col
+along Rows place = place.row
+
+-- what the cell at a place asks for along a direction, by its span and its need
+abbrev pub demand_of : Direction → Position → ℕ → ℕ → Demand
+demand_of direction place span need =
+    record { row = place.row; col = place.col; start = along direction place; span = span; need = need }
+
+-- where the range ends: the first number past it
+abbrev pub end_of : Demand → ℕ
+end_of d = d.start + d.span
+
+-- whether the range holds i
+abbrev pub holds : Demand → ℕ → Bool
+holds d i = nat_le d.start i && nat_lt i (end_of d)
+
+-- the range has a number, and none at or past n
+pub record IsInTable (n : ℕ) (d : Demand) : Type 0 where
+  pub covers_one : 1 ≤ d.span
+  pub ends_within : end_of d ≤ n
+
+-- where the cell stands
+abbrev pub place_of : Demand → Position
+place_of d = record { row = d.row; col = d.col }
+
+-- the first cell that reaches out of the table: its range ends past n
+abbrev pub first_out : ℕ → List Demand → Option Position
+first_out n [] = None
+first_out n (d ∷ ds) = if nat_lt n (end_of d) then Some (place_of d) else first_out n ds
+
+-- ranges with no number in common
+abbrev pub AreDisjoint : Demand → Demand → Type 0
+AreDisjoint a b = (end_of a ≤ b.start) ⊎ (end_of b ≤ a.start)
+
+-- the range of a is part of the range of b
+abbrev pub LiesIn : Demand → Demand → Type 0
+LiesIn a b = (b.start ≤ a.start) × (end_of a ≤ end_of b)
+
+abbrev pub HaveSameRange : Demand → Demand → Type 0
+HaveSameRange a b = (a.start ≡ b.start) × (a.span ≡ b.span)
+
+-- columns: nested (equal ranges are) or disjoint; rows: equal or disjoint
+abbrev pub AreCompatible : Direction → Demand → Demand → Type 0
+AreCompatible Columns a b = LiesIn a b ⊎ LiesIn b a ⊎ AreDisjoint a b
+AreCompatible Rows a b = HaveSameRange a b ⊎ AreDisjoint a b
+
+-- any two ranges of two or more numbers are compatible
+abbrev pub IsKeptApart : Direction → List Demand → Type 0
+IsKeptApart direction demands =
+    (a b : Demand) → Contains demands a → Contains demands b → 2 ≤ a.span → 2 ≤ b.span → AreCompatible direction a b
+
+-- the lines strictly inside of the range
+abbrev pub inner_lines : (ℕ → Bool) → Demand → ℕ
+inner_lines line d = count_by line (range_with_len (d.start + 1) (d.span - 1))
+
+-- the lines at 0, 1 and so on up to n
+abbrev pub all_lines : (ℕ → Bool) → ℕ → ℕ
+all_lines line n = count_by line (range_with_len 0 (n + 1))
+
+-- whether a line is drawn, by a list that says so of each number; none past its end
+abbrev pub line_at : List Bool → ℕ → Bool
+line_at lines i = slice_index_or lines i false
+
+-- the lines at 0, 1 and so on up to n alone
+abbrev pub lines_to : (ℕ → Bool) → ℕ → ℕ → Bool
+lines_to line n i = nat_le i n && line i

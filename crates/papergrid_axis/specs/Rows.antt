@@ -1,0 +1,74 @@
+-- Worked tables: the sizes along one of their directions, and the cells that certify them.
+use Rattle.std.specs.Prelude.{◌≡◌, ℕ, ◌==◌, Bool, true, false, List, [], ◌∷◌, Some}
+use Rattle.papergrid_axis.specs.declared.demand.Demand.{Demand}
+use Rattle.papergrid_axis.specs.declared.direction.Direction.{Direction}
+use Rattle.papergrid_axis.specs.declared.direction.Direction.TheVariants.{Columns, Rows}
+use Rattle.papergrid_axis.specs.Ranges.{first_out}
+use Rattle.papergrid_axis.specs.Fits.{IsTooLarge}
+use Rattle.papergrid_axis.specs.Sizes.{sizes_of}
+use Rattle.papergrid_axis.specs.Chosen.{chosen_of}
+
+-- what the cell at (row, col) asks for along columns
+abbrev wide : ℕ → ℕ → ℕ → ℕ → Demand
+wide row col span need = record { row = row; col = col; start = col; span = span; need = need }
+
+-- what it asks for along rows
+abbrev high : ℕ → ℕ → ℕ → ℕ → Demand
+high row col span need = record { row = row; col = col; start = row; span = span; need = need }
+
+abbrev everywhere : ℕ → Bool
+everywhere i = true
+
+abbrev nowhere : ℕ → Bool
+nowhere i = false
+
+abbrev max : ℕ
+max = 18446744073709551615
+
+abbrev picture_columns : List Demand
+picture_columns = wide 0 0 1 17 ∷ wide 0 1 1 12 ∷ wide 0 2 1 16 ∷ wide 0 3 1 1 ∷ wide 1 1 3 14 ∷ []
+
+abbrev picture_rows : List Demand
+picture_rows = high 0 0 2 3 ∷ high 0 1 1 1 ∷ high 0 2 1 1 ∷ high 0 3 1 1 ∷ high 1 1 1 1 ∷ []
+
+abbrev even_rows : List Demand
+even_rows =
+    high 0 0 2 7 ∷ high 0 1 1 1 ∷ high 0 2 1 1 ∷ high 1 1 1 1 ∷ high 1 2 1 1 ∷ high 2 0 1 1 ∷ high 2 1 1 1 ∷ high 2 2 1 1 ∷ []
+
+abbrev remainder_rows : List Demand
+remainder_rows = high 0 0 2 8 ∷ high 0 1 1 1 ∷ high 1 1 1 1 ∷ []
+
+abbrev lined_rows : List Demand
+lined_rows = high 0 0 3 1 ∷ high 0 1 2 1 ∷ high 0 2 2 1 ∷ high 2 1 1 1 ∷ high 2 2 1 1 ∷ []
+
+abbrev nested_columns : List Demand
+nested_columns = wide 0 0 1 1 ∷ wide 0 1 1 1 ∷ wide 0 2 1 1 ∷ wide 1 0 3 10 ∷ wide 2 0 1 1 ∷ wide 2 1 2 8 ∷ []
+
+abbrev nested_rows : List Demand
+nested_rows = high 0 0 1 1 ∷ high 0 1 3 10 ∷ high 0 2 1 1 ∷ high 1 0 1 1 ∷ high 1 2 2 8 ∷ high 2 0 1 1 ∷ []
+
+abbrev crossing_columns : List Demand
+crossing_columns = wide 0 0 2 10 ∷ wide 0 2 1 0 ∷ wide 1 0 1 0 ∷ wide 1 1 2 10 ∷ []
+
+-- the sizes, and the chosen cells
+pub record Gives (direction : Direction) (line : ℕ → Bool) (n : ℕ) (demands : List Demand) (sizes : List ℕ) (cells : List Demand) : Type 0 where
+  pub sizes_are : sizes_of direction line n demands ≡ sizes
+  pub cells_are : chosen_of direction line n demands ≡ cells
+
+pub record WorkedRows : Type 0 where
+  pub readme_picture : Gives Columns everywhere 4 picture_columns (17 ∷ 12 ∷ 16 ∷ 1 ∷ []) (wide 0 0 1 17 ∷ wide 0 1 1 12 ∷ wide 0 2 1 16 ∷ wide 0 3 1 1 ∷ [])
+  pub readme_picture_rows : Gives Rows everywhere 2 picture_rows (1 ∷ 1 ∷ []) (high 0 1 1 1 ∷ high 1 1 1 1 ∷ [])
+  pub even_shares_over_inner_line : Gives Rows everywhere 3 even_rows (3 ∷ 3 ∷ 1 ∷ []) (high 0 0 2 7 ∷ high 2 0 1 1 ∷ [])
+  pub remainder_to_first : Gives Rows everywhere 2 remainder_rows (4 ∷ 3 ∷ []) (high 0 0 2 8 ∷ [])
+  pub lines_alone_satisfy : sizes_of Rows everywhere 3 lined_rows ≡ 0 ∷ 0 ∷ 1 ∷ []
+  pub nested_column_spans : Gives Columns nowhere 3 nested_columns (2 ∷ 4 ∷ 4 ∷ []) (wide 1 0 3 10 ∷ [])
+  pub nested_row_spans : sizes_of Rows nowhere 3 nested_rows ≡ 4 ∷ 4 ∷ 4 ∷ []
+  pub crossing_column_spans : sizes_of Columns nowhere 3 crossing_columns ≡ 5 ∷ 8 ∷ 2 ∷ []
+  pub equal_ranges : Gives Columns nowhere 2 (wide 0 0 2 3 ∷ wide 1 0 2 6 ∷ []) (4 ∷ 2 ∷ []) (wide 1 0 2 6 ∷ [])
+  pub halves_of_the_greatest : Gives Columns nowhere 2 (wide 0 0 2 max ∷ []) (9223372036854775808 ∷ 9223372036854775807 ∷ []) (wide 0 0 2 max ∷ [])
+  pub halves_with_a_line : Gives Columns (λ i. i == 1) 2 (wide 0 0 2 max ∷ []) (9223372036854775807 ∷ 9223372036854775807 ∷ []) (wide 0 0 2 max ∷ [])
+  pub greatest_size : Gives Columns nowhere 1 (wide 0 0 1 max ∷ []) (max ∷ []) (wide 0 0 1 max ∷ [])
+  pub greatest_size_and_lines : IsTooLarge everywhere 1 (sizes_of Columns everywhere 1 (wide 0 0 1 max ∷ []))
+  pub out_of_table : first_out 2 (wide 0 0 3 1 ∷ []) ≡ Some (record { row = 0; col = 0 })
+  pub first_out_in_each_direction : first_out 2 (wide 0 0 1 0 ∷ wide 0 1 1 0 ∷ wide 1 1 2 0 ∷ []) ≡ Some (record { row = 1; col = 1 })
+  pub empty_tables : Gives Columns everywhere 0 [] [] []

@@ -1,0 +1,222 @@
+//! Checking sizes and a list of places cell by cell, in no memory.
+
+ghost use Rattle.std.specs.Prelude.{ℕ, Bool, ◌==◌, ◌&&◌, ◌*◌, ◌-◌, true, false, ◌≡◌, ◌+◌, ◌<◌, ◌≤◌, ◌^◌, ◌↔◌, ◌∷◌, ◌++◌, [], All, AllPairs, IfNone, IfSome, IsTrue, List, count_by, length, sum};
+ghost use Rattle.papergrid_values.specs.declared.position.Position.{Position};
+ghost use Rattle.papergrid_axis.specs.declared.demand.Demand.{Demand};
+ghost use Rattle.papergrid_axis.specs.declared.direction.Direction.{Direction};
+ghost use Rattle.papergrid_axis.specs.Checks.{AreBounded, AreDistinct, Checks, SumsAgree, range_of};
+ghost use Rattle.papergrid_axis.specs.Answers.{IsAccepted};
+ghost use Rattle.papergrid_axis.specs.Fits.{HasRoom, IsLeast};
+ghost use Rattle.papergrid_axis.specs.Ranges.{demand_of, end_of, inner_lines, lines_to};
+
+use crate::apart::are_apart;
+use crate::axis::Axis;
+use crate::direction::Direction;
+use crate::seen::number_of;
+use papergrid_values::Position;
+
+/// What is kept of the visible cells met so far: whether all of them have room in the table, and of
+/// those that are listed how many they are, the sum of their needs and that of their inner lines.
+#[derive(Clone, Copy, Debug)]
+pub struct Checked {
+    pub holds: bool,
+    pub found: usize,
+    pub needs: u128,
+    pub inner: u128,
+}
+
+impl Checked {
+    /// No cell met.
+    pub fn new() -> Self
+        ensures bounded { (places : List Position) → AreBounded places result }
+        ensures checks { (line : ℕ → Bool) (sizes : List ℕ) (places : List Position)
+            (direction : Direction) (span : Position → ℕ) →
+            Checks line sizes places direction span result [] }
+    {
+        Checked {
+            holds: true,
+            found: 0,
+            needs: 0,
+            inner: 0,
+        }
+    }
+}
+
+/// The measure with the paddings before and after it.
+pub fn wide_need(measure: usize, before: usize, after: usize) -> u128
+    ensures sum { result ≡ measure + before + after }
+    ensures small { result ≤ 2 ^ 66 }
+{
+    measure as u128 + before as u128 + after as u128
+}
+
+/// The total of the sizes, of which there are never so many that it does not fit.
+fn wide_sum(sizes: &[usize]) -> u128
+    ensures sum { result ≡ sum sizes.now }
+    ensures room { result < 2 ^ 124 }
+{
+    let mut total = 0u128;
+    for size in sizes {
+        total += *size as u128;
+    }
+    total
+}
+
+/// The lines strictly inside of a range.
+fn count_inner<A: Axis>(axis: &A, start: usize, span: usize) -> usize
+    requires span { 1 ≤ span }
+    requires end { start + span < 2 ^ 64 }
+    ensures { result ≡ inner_lines (A.line axis.now) (range_of start span 0) }
+{
+    let mut inner = 0usize;
+    for i in start + 1..start + span {
+        if axis.has_line(i) {
+            inner += 1;
+        }
+    }
+    inner
+}
+
+/// The lines inside of a range, where it lies in the table and the sizes in it and these lines come
+/// to the need.
+fn room<A: Axis>(axis: &A, sizes: &[usize], start: usize, span: usize, need: u128) -> Option<usize>
+    requires { 1 ≤ span }
+    ensures inside { IfSome result (λ inner. start + span ≤ length sizes.now) }
+    ensures inner { let line = lines_to (A.line axis.now) (length sizes.now) in
+        IfSome result (λ inner. inner ≡ inner_lines line (range_of start span need)) }
+    ensures room { let line = lines_to (A.line axis.now) (length sizes.now) in
+        IfSome result (λ inner. HasRoom line sizes.now (range_of start span need)) }
+    ensures none { let line = lines_to (A.line axis.now) (length sizes.now) in
+        IfNone result (start + span ≤ length sizes.now →
+        HasRoom line sizes.now (range_of start span need) → ⊥) }
+{
+    if start > sizes.len() || span > sizes.len() - start {
+        return None;
+    }
+    let inner = count_inner(axis, start, span);
+    if need <= wide_sum(&sizes[start..start + span]) + inner as u128 {
+        Some(inner)
+    } else {
+        None
+    }
+}
+
+/// How often a position is listed.
+fn count_listed(places: &[Position], place: Position) -> usize
+    ensures { result ≡ count_by (λ p. place.row == p.row && place.col == p.col) places.now }
+{
+    places
+        .iter()
+        .filter(|listed| place.row == listed.row && place.col == listed.col)
+        .count()
+}
+
+/// What was kept, and that a cell fails.
+fn failed(checked: Checked) -> Checked
+    ensures { result ≡ record { holds = false; found = checked.found; needs = checked.needs; inner = checked.inner } }
+{
+    Checked {
+        holds: false,
+        found: checked.found,
+        needs: checked.needs,
+        inner: checked.inner,
+    }
+}
+
+/// What was kept, and a cell that is listed so often, with its need and its inner lines.
+fn with_cell(checked: Checked, times: usize, need: u128, inner: usize) -> Checked
+    requires found { checked.found + times < 2 ^ 59 }
+    requires needs { checked.needs ≤ 2 ^ 66 * checked.found }
+    requires inner { checked.inner ≤ 2 ^ 64 * checked.found }
+    requires need { need ≤ 2 ^ 66 }
+    ensures { result ≡ record { holds = true; found = checked.found + times; needs = checked.needs + need * times; inner = checked.inner + inner * times } }
+{
+    Checked {
+        holds: true,
+        found: checked.found + times,
+        needs: checked.needs + need * times as u128,
+        inner: checked.inner + inner as u128 * times as u128,
+    }
+}
+
+/// What is kept of the cells met and of one more, the visible cell at a position with its need.
+pub fn visit<A: Axis>(
+    checked: Checked,
+    direction: Direction,
+    axis: &A,
+    sizes: &[usize],
+    places: &[Position],
+    place: Position,
+    need: u128,
+) -> Checked
+    requires bounded { AreBounded places.now checked }
+    requires need { need ≤ 2 ^ 66 }
+    ensures bounded { AreBounded places.now result }
+    ensures checks { let line = lines_to (A.line axis.now) (length sizes.now) in
+        let span = A.span_of axis.now in
+        (demands : List Demand) →
+        Checks line sizes.now places.now direction span checked demands →
+        Checks line sizes.now places.now direction span result
+        (demands ++ demand_of direction place (span place) need ∷ []) }
+{
+    let start = number_of(direction, place);
+    let span = axis.span(place);
+    let times = count_listed(places, place);
+    match room(axis, sizes, start, span, need) {
+        Some(inner) => {
+            if times <= places.len() - checked.found && checked.holds {
+                with_cell(checked, times, need, inner)
+            } else {
+                failed(checked)
+            }
+        }
+        None => failed(checked),
+    }
+}
+
+/// Whether all cells have room, each position is a cell's, and the needs of the listed cells less
+/// their inner lines add up to the sizes.
+fn sums_agree(checked: Checked, sizes: &[usize], places: &[Position]) -> bool
+    requires { AreBounded places.now checked }
+    ensures { IsTrue result ↔ SumsAgree checked sizes.now places.now }
+{
+    if !checked.holds {
+        return false;
+    }
+    if checked.found != places.len() {
+        return false;
+    }
+    checked.needs == wide_sum(sizes) + checked.inner
+}
+
+/// Whether the sizes of `count` columns (rows) fit the visible cells met, of which none reaches out,
+/// and the positions are those of visible cells of disjoint ranges, whose needs less their inner
+/// lines add up to the sizes. Then no other choice of sizes has a smaller total.
+pub fn accepts<A: Axis>(
+    checked: Checked,
+    direction: Direction,
+    axis: &A,
+    count: usize,
+    sizes: &[usize],
+    places: &[Position],
+) -> bool
+    requires { AreBounded places.now checked }
+    ensures exact { let line = lines_to (A.line axis.now) in
+        let span = A.span_of axis.now in
+        (demands : List Demand) → AreDistinct demands →
+        Checks (line (length sizes.now)) sizes.now places.now direction span checked demands →
+        IsTrue result ↔ IsAccepted (line count) count demands sizes.now places.now }
+    ensures least { let line = lines_to (A.line axis.now) in
+        let span = A.span_of axis.now in
+        (demands : List Demand) → AreDistinct demands →
+        Checks (line (length sizes.now)) sizes.now places.now direction span checked demands →
+        IsTrue result → IsLeast (line count) count demands sizes.now }
+{
+    if sizes.len() != count {
+        return false;
+    }
+    if !sums_agree(checked, sizes, places) {
+        return false;
+    }
+    are_apart(direction, axis, places)
+}

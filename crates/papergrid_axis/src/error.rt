@@ -1,0 +1,28 @@
+//! Why there are no sizes.
+
+use papergrid_values::Position;
+use std::alloc::AllocError;
+
+/// Why a table has no sizes.
+#[derive(Clone, Copy, Debug, PartialEq, Eq)]
+pub enum LayoutError {
+    /// A visible cell's range ends past the last column (row) in a direction that is looked at. The
+    /// position is the first such cell's, by row and then by column.
+    OutOfTable(Position),
+    /// No cell reaches out, and in a direction that is looked at the sizes with all lines come to
+    /// more than the greatest `usize`.
+    TooLarge,
+    /// A growth was refused. It may come in place of any other answer.
+    Memory(AllocError),
+}
+
+impl From<AllocError> for LayoutError {
+    ghost use Rattle.std.specs.Prelude.{◌≡◌};
+    ghost use Rattle.papergrid_axis.specs.declared.error.LayoutError.TheVariants.{Memory};
+
+    ghost from_gives = { λ e error. error ≡ Memory e };
+
+    fn from(error: AllocError) -> LayoutError {
+        LayoutError::Memory(error)
+    }
+}

@@ -1,0 +1,36 @@
+//! Laws of the definitions, each the contract of a function that does nothing.
+
+ghost use Rattle.std.specs.Prelude.{ℕ, ◌<◌, ◌≤◌, All, Bool, List, slice_index};
+ghost use Rattle.papergrid_axis.specs.declared.demand.Demand.{Demand};
+ghost use Rattle.papergrid_axis.specs.declared.direction.Direction.{Direction};
+ghost use Rattle.papergrid_axis.specs.Chosen.{chosen_of};
+ghost use Rattle.papergrid_axis.specs.Fits.{Fits, IsCertificate, IsLeast, top_need};
+ghost use Rattle.papergrid_axis.specs.Ranges.{IsInTable, IsKeptApart};
+ghost use Rattle.papergrid_axis.specs.Rows.{WorkedRows};
+ghost use Rattle.papergrid_axis.specs.Sizes.{sizes_of};
+
+/// What the worked tables give, by the definitions alone.
+pub fn worked_rows()
+    ensures { WorkedRows }
+{}
+
+/// Sizes that fit and have a certificate are least.
+pub fn certified_are_least()
+    ensures { (line : ℕ → Bool) (n : ℕ) (demands cells : List Demand) (sizes : List ℕ) →
+        All (IsInTable n) demands → Fits line n demands sizes →
+        IsCertificate line demands sizes cells → IsLeast line n demands sizes }
+{}
+
+/// The sizes along a direction fit, and none is above the greatest need over its column (row); where
+/// ranges are kept apart, the chosen cells certify them.
+pub fn sizes_by_needs()
+    ensures fit { (direction : Direction) (line : ℕ → Bool) (n : ℕ) (demands : List Demand) →
+        All (IsInTable n) demands → Fits line n demands (sizes_of direction line n demands) }
+    ensures bound { (direction : Direction) (line : ℕ → Bool) (n : ℕ) (demands : List Demand) →
+        All (IsInTable n) demands → (i : ℕ) → i < n →
+        slice_index (sizes_of direction line n demands) i ≤ top_need demands i }
+    ensures certified { (direction : Direction) (line : ℕ → Bool) (n : ℕ) (demands : List Demand) →
+        All (IsInTable n) demands → IsKeptApart direction demands →
+        IsCertificate line demands (sizes_of direction line n demands)
+        (chosen_of direction line n demands) }
+{}

@@ -1,5 +1,0 @@
-use Rattle.papergrid_layout.proofs.last_cells.covers_all.Given as goal
-use Rattle.papergrid_layout.proofs.LastLoops.{AreUnder}
-
-abbrev pub invariant-loop-i : goal.invariant-loop-i
-invariant-loop-i l = AreUnder l.direction l.fn.demand l.last l.i

@@ -1,5 +1,0 @@
-use Rattle.papergrid_layout.proofs.Duality.{IsLeast-from_certificate}
-use Rattle.papergrid_layout.proofs.laws.certified_are_least.Goals as goal
-
-pub returns : goal.returns
-returns c = λ line n demands cells sizes table fits certificate. IsLeast-from_certificate line n demands cells sizes table fits certificate
