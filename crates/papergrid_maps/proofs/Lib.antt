@@ -6,6 +6,7 @@ pub mod BorderTold
 pub mod EqualLemmas
 pub mod IntoMap
 pub mod KeyLemmas
+pub mod LineTested
 pub mod MapHeldLemmas
 pub mod MapSteps
 pub mod MapTold

@@ -6,6 +6,7 @@ pub mod BorderScan
 pub mod Changes
 pub mod Equal
 pub mod Keys
+pub mod LineTests
 pub mod MapCalls
 pub mod MapEq
 pub mod MapHeld
