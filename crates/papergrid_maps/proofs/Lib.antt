@@ -1,5 +1,6 @@
 pub mod AnyHeld
 pub mod AnyLemmas
+pub mod Applied
 pub mod BorderEqual
 pub mod BorderFound
 pub mod BorderTold

@@ -1,0 +1,2 @@
+pub mod Applied
+pub mod Closures
