@@ -4,6 +4,8 @@ pub mod BorderEq
 pub mod BorderHeld
 pub mod BorderScan
 pub mod Changes
+pub mod ColorsHeld
+pub mod Compact
 pub mod Equal
 pub mod Keys
 pub mod LineTests
