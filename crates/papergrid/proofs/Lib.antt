@@ -1,4 +1,5 @@
 mod CellLemmas
+mod CutLemmas
 mod DecidedLemmas
 mod EscapeLemmas
 mod KnownLemmas

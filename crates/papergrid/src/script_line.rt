@@ -10,7 +10,6 @@ use crate::unescape::unescaped;
 use papergrid_values::{Entity, Indent, Sides};
 use std::alloc::{AllocError, Global};
 use std::borrow::CowStr;
-use std::str::from_utf8;
 
 /// What a line of a script says.
 #[derive(Drop)]
@@ -27,18 +26,14 @@ pub enum ScriptLine<'a> {
     Cell(CowStr<'a>),
 }
 
-/// The line that the bytes spell, if they are text that spells one.
-#[tactic(auto, unfolding(crate::specs::Grammar::said))]
-pub fn read_line<'a>(alloc: Global, bytes: &'a [u8]) -> Result<Option<ScriptLine<'a>>, AllocError>
-    ensures { IfOk result (λ found. option_map meaning found ≡ said bytes.now) }
+/// The line that the text spells, if it spells one.
+pub fn read_line<'a>(alloc: Global, text: &'a str) -> Result<Option<ScriptLine<'a>>, AllocError>
+    ensures { IfOk result (λ found. option_map meaning found ≡ said text.now) }
 {
-    match from_utf8(bytes) {
-        Ok(text) => text_line(alloc, text),
-        Err(_) => Ok(None),
-    }
+    text_line(alloc, text)
 }
 
-/// The line that the text spells, if it spells one.
+/// What `read_line` answers, where it is known that the line is text.
 #[tactic(auto, unfolding(crate::specs::Grammar::text_says))]
 fn text_line<'a>(alloc: Global, text: &'a str) -> Result<Option<ScriptLine<'a>>, AllocError>
     ensures { IfOk result (λ found. option_map meaning found ≡ text_says text.now) }
