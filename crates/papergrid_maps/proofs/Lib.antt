@@ -8,6 +8,7 @@ pub mod EqualLemmas
 pub mod IntoMap
 pub mod KeyLemmas
 pub mod LineTested
+pub mod MadeTables
 pub mod MapHeldLemmas
 pub mod MapSteps
 pub mod MapTold

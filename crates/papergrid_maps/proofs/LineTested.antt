@@ -31,16 +31,16 @@ module _ {K X : Type 0} {R : K → K → Ordering} (exact : (x y : K) → eq_by_
       let place = any_place _ (keys m) (sym (contains_key-keys m k) ∙ held) in
       any_passes_from_place test (keys m) place.0 place.1 place.2 (subst (λ q. test q ≡ true) (exact k place.1 place.3) passes)
 
-exact_number : (x y : ℕ) → eq_by_cmp nat_cmp x y ≡ true → x ≡ y
+pub exact_number : (x y : ℕ) → eq_by_cmp nat_cmp x y ≡ true → x ≡ y
 exact_number x y h = eqb-true x y (sym (unsigned_tied x y) ∙ h)
 
-number_ties : (x : ℕ) → eq_by_cmp nat_cmp x x ≡ true
+pub number_ties : (x : ℕ) → eq_by_cmp nat_cmp x x ≡ true
 number_ties x = unsigned_tied x x ∙ eq-eqb x x refl
 
-exact_position : (p q : Position) → eq_by_cmp position_cmp p q ≡ true → p ≡ q
+pub exact_position : (p q : Position) → eq_by_cmp position_cmp p q ≡ true → p ≡ q
 exact_position p q h = exact_position_eq p q (position_ties p q ∙ h)
 
-same_position : (p : Position) → eq_by_cmp position_cmp p p ≡ true
+pub same_position : (p : Position) → eq_by_cmp position_cmp p p ≡ true
 same_position p = sym (position_ties p p) ∙ position_equiv.refl p
 
 -- a place in a row or a column

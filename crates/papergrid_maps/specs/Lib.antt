@@ -9,6 +9,7 @@ pub mod Compact
 pub mod Equal
 pub mod Keys
 pub mod LineTests
+pub mod Made
 pub mod MapCalls
 pub mod MapEq
 pub mod MapHeld
