@@ -1,2 +1,3 @@
 pub mod Applied
 pub mod Closures
+pub mod FoundLemmas
