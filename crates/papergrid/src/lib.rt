@@ -23,12 +23,22 @@ pub mod ansi {
     pub use papergrid_values::{ANSIBuf, ANSIFmt, ANSIStr};
 }
 
+/// The colours of the texts of cells.
+pub mod colors {
+    pub use papergrid_maps::{Colors, NoColor, NoColors};
+}
+
 /// What settings are made of.
 pub mod config {
     pub use papergrid_values::{
         AlignmentHorizontal, AlignmentVertical, Border, Borders, Entity, EntityIterator,
         Formatting, HorizontalLine, Indent, Offset, Position, Sides, VerticalLine,
     };
+
+    /// Settings that all cells share.
+    pub mod compact {
+        pub use papergrid_maps::CompactConfig;
+    }
 
     /// Settings by entity.
     pub mod spanned {
