@@ -1,11 +1,12 @@
 //! Texts: their lines, their widths and their tabs. Source: `util/string.rs`.
 
-ghost use Rattle.std.specs.Prelude.{◌≡◌, ◌<◌, ◌==◌, ◌+◌, ◌++◌, ◌∷◌, ℕ, List, Option, count_by, length, replicate, string_bytes, false, IfOk, IfSome, IsUtf8};
+ghost use Rattle.std.specs.Prelude.{◌≡◌, ◌<◌, ◌≤◌, ◌==◌, ◌+◌, ◌++◌, ◌∷◌, ℕ, List, Option, count_by, length, replicate, string_bytes, false, IfOk, IfSome, IsUtf8};
 ghost use Rattle.std.specs.Cow.{cow_str_bytes, IsOwnedStr};
 ghost use Rattle.std.specs.Int.{is_in_range};
 ghost use Rattle.std.specs.Iterator.{YieldsFirstRef, item_count};
 ghost use Rattle.std.specs.List.{list_all, prefix_len};
 ghost use Rattle.std.specs.Option.{unwrap_or};
+ghost use Rattle.std.specs.Simd.Lanes.{chunk};
 ghost use Rattle.std.specs.Str.{encode_utf8_all};
 ghost use Rattle.unicode_width.specs.Width.{char_width};
 ghost use Rattle.papergrid_text.specs.LinesLeft.{lines_left, lines_of_rest};
@@ -14,7 +15,11 @@ ghost use Rattle.papergrid_text.specs.Text.{split_lines, width_of, text_width, t
 use std::alloc::{AllocError, Global};
 use std::borrow::CowStr;
 use std::iter::Iterator;
+use std::simd::prelude::*;
 use unicode_width::{UnicodeWidthChar, UnicodeWidthStr};
+
+// Bytes that are tested at once.
+const LANES: usize = 8;
 
 /// The lines of a text, as slices of it. It ends for good after the last one.
 #[derive(Clone, Debug, Drop)]
@@ -105,6 +110,36 @@ fn count_printable(text: &str) -> usize
     ensures { result ≡ prefix_len (is_in_range 0x20 0x7E) text.now }
 {
     let bytes = text.as_bytes();
+    let mut count = 0usize;
+    while LANES <= bytes.len() - count {
+        let run = count_printable_lanes(bytes, count);
+        count += run;
+        if run < LANES {
+            return count;
+        }
+    }
+    count + count_printable_bytes(&bytes[count..])
+}
+
+// The same of as many bytes as there are lanes, from a place on.
+fn count_printable_lanes(bytes: &[u8], from: usize) -> usize
+    requires { from + LANES ≤ length bytes.now }
+    ensures { result ≡ prefix_len (is_in_range 0x20 0x7E) (chunk from LANES bytes.now) }
+{
+    let lanes = u8x8::from_slice(&bytes[from..]);
+    let others = lanes.simd_lt(u8x8::splat(0x20)) | lanes.simd_ge(u8x8::splat(0x7F));
+    let mask = others.to_bitmask();
+    if mask == 0 {
+        LANES
+    } else {
+        mask.trailing_zeros() as usize
+    }
+}
+
+// The same, one byte after another.
+fn count_printable_bytes(bytes: &[u8]) -> usize
+    ensures { result ≡ prefix_len (is_in_range 0x20 0x7E) bytes.now }
+{
     let mut count = 0usize;
     for b in bytes {
         if *b < 0x20 || *b > 0x7E {
