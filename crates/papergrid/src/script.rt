@@ -105,7 +105,7 @@ fn empty_script<'a>(alloc: Global) -> Script<'a>
 fn without_cr(line: &str) -> &str
     ensures { result.now ≡ without_cr line.now }
 {
-    if line.ends_with('\r') {
+    if line.as_bytes().last() == Some(&b'\r') {
         &line[..line.len() - 1]
     } else {
         line

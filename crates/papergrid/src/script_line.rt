@@ -1,7 +1,7 @@
 //! The lines of a script, one at a time.
 
 ghost use Rattle.std.specs.Prelude.{◌≡◌, IfOk, option_map};
-ghost use Rattle.papergrid.specs.Grammar.{cell_entity, entity_of, keyword_says, padding_of, said, sides_of, text_says};
+ghost use Rattle.papergrid.specs.Grammar.{cell_entity, entity_of, keyword_says, padding_of, parted_at, said, sides_of, space, text_says};
 ghost use Rattle.papergrid.specs.Seen.{meaning};
 
 use crate::number::number;
@@ -42,11 +42,22 @@ fn text_line<'a>(alloc: Global, text: &'a str) -> Result<Option<ScriptLine<'a>>,
         "" => Ok(Some(ScriptLine::Empty)),
         "row" => Ok(Some(ScriptLine::Row)),
         "cell" => Ok(Some(ScriptLine::Cell(CowStr::Borrowed("")))),
-        _ => match text.split_once(' ') {
+        _ => match keyword_and_rest(text) {
             Some((keyword, rest)) => keyword_line(alloc, keyword, rest),
             None => Ok(None),
         },
     }
+}
+
+/// What stands before the first space, and what stands after it.
+fn keyword_and_rest(text: &str) -> Option<(&str, &str)>
+    ensures { option_map (λ parts. (parts.0.now, parts.1.now)) result ≡ parted_at space text.now }
+{
+    // Most lines are cells, where no space is searched for.
+    if let Some(("cell ", rest)) = text.split_at_checked(5) {
+        return Some(("cell", rest));
+    }
+    text.split_once(' ')
 }
 
 /// The line of a keyword, and what stands after it and a space.
