@@ -1,9 +1,11 @@
 mod CellLemmas
+mod CharacterLemmas
 mod CutLemmas
 mod DecidedLemmas
 mod EscapeLemmas
 mod KnownLemmas
 mod LineLemmas
+mod RangeLemmas
 mod ReadLemmas
 mod SizeLemmas
 mod SpellLemmas

@@ -4,19 +4,14 @@ use Rattle.std.specs.List.{range_with_len}
 use Rattle.papergrid_values.specs.declared.position.Position.{Position}
 use Rattle.papergrid_values.specs.declared.indent.Indent.{Indent}
 use Rattle.papergrid_values.specs.declared.sides.Sides.{Sides}
-use Rattle.papergrid.specs.declared.setting.Setting.{Setting}
-use Rattle.papergrid.specs.declared.setting.Setting.TheVariants.{SetPadding}
-use Rattle.papergrid_maps.specs.declared.entity_map.MapCall.{MapCall}
-use Rattle.papergrid_maps.specs.declared.entity_map.MapCall.TheVariants.{Insert}
 use Rattle.papergrid_maps.specs.MapCalls.{decided_value}
+use Rattle.papergrid_config.specs.declared.setting.Setting.{Setting}
+use Rattle.papergrid_config.specs.Parts.{padding_calls}
 use Rattle.papergrid.specs.Cells.{TableCell, cells_of, measured}
 use Rattle.papergrid.specs.Grammar.{spaces}
 use Rattle.papergrid.specs.Scripts.{Table}
 
 -- ---- paddings
-
-abbrev pub padding_calls : Setting → List (MapCall (Sides Indent))
-padding_calls (SetPadding entity sides) = Insert entity sides ∷ []
 
 abbrev pub no_padding : Sides Indent
 no_padding = record { top = spaces 0; bottom = spaces 0; left = spaces 0; right = spaces 0 }

@@ -6,14 +6,15 @@ ghost use Rattle.std.specs.List.{list_all};
 ghost use Rattle.std.specs.Option.{SomeIff};
 ghost use Rattle.papergrid.specs.declared.estimate.LayoutError.TheVariants.{Memory};
 ghost use Rattle.papergrid_maps.specs.MapHeld.{IsTold, held_value};
+ghost use Rattle.papergrid_config.specs.Parts.{padding_calls};
 ghost use Rattle.papergrid.specs.Cells.{cells_of, cells_of_row, measured};
 ghost use Rattle.papergrid.specs.Raising.{fits_in, raised, raised_by};
 ghost use Rattle.papergrid.specs.Scripts.{Table};
 ghost use Rattle.papergrid.specs.Seen.{GivesEstimate, measures_of};
-ghost use Rattle.papergrid.specs.Sizes.{column_of, estimate_of, first_out, height_need, no_padding, padding_calls, row_of, sizes_of, width_need};
+ghost use Rattle.papergrid.specs.Sizes.{column_of, estimate_of, first_out, height_need, no_padding, row_of, sizes_of, width_need};
 
 use crate::measured::measured;
-use crate::setting::Setting;
+use papergrid_config::Setting;
 use papergrid_maps::EntityMap;
 use papergrid_text::{IntoRecords, Records};
 use papergrid_values::{Indent, Position, Sides};
@@ -127,8 +128,8 @@ fn paddings(alloc: Global, settings: &[Setting]) -> Result<EntityMap<Sides<Inden
 {
     let mut paddings = EntityMap::new(alloc, Sides::filled(Indent::zero()));
     for setting in settings {
-        match setting {
-            Setting::SetPadding(entity, sides) => paddings.insert(*entity, *sides)?,
+        if let Setting::SetPadding(entity, sides) = setting {
+            paddings.insert(*entity, *sides)?;
         }
     }
     Ok(paddings)

@@ -9,7 +9,7 @@ mod output;
 mod running;
 mod script;
 mod script_line;
-mod setting;
+mod setting_line;
 #[cfg(test)]
 mod tests;
 mod transfer;

@@ -1,14 +1,15 @@
 //! A whole script: its column count, its settings and its rows.
 
-ghost use Rattle.std.specs.Prelude.{◌≡◌, [], IfOk, Some, None, MatchBool, option_and_then, option_map, ◌<◌, length, take};
+ghost use Rattle.std.specs.Prelude.{◌≡◌, [], true, All, IfOk, Some, None, MatchBool, option_and_then, option_map, ◌<◌, length, take};
 ghost use Rattle.std.specs.Str.{IsValidUpTo};
+ghost use Rattle.papergrid_config.specs.Applied.{is_in_range};
 ghost use Rattle.papergrid.specs.declared.script.ScriptError.TheVariants.{Memory};
 ghost use Rattle.papergrid.specs.Grammar.{without_cr};
 ghost use Rattle.papergrid.specs.Scripts.{empty_table, table_of, with_line};
 ghost use Rattle.papergrid.specs.Seen.{GivesTable, meaning, table_seen};
 
 use crate::script_line::{ScriptLine, read_line};
-use crate::setting::Setting;
+use papergrid_config::Setting;
 use papergrid_text::string::{count_lines, get_lines};
 use std::alloc::{AllocError, AllocFailed, Global};
 use std::borrow::CowStr;
@@ -52,7 +53,9 @@ impl<T: Drop> From<AllocFailed<T>> for ScriptError {
 
 /// The script that the input spells.
 pub fn read_script<'a>(alloc: Global, input: &'a [u8]) -> Result<Script<'a>, ScriptError>
-    ensures { GivesTable result (table_of input.now) }
+    ensures told { GivesTable result (table_of input.now) }
+    // What a list of settings must be, to be applied.
+    ensures in_range { IfOk result (λ script. All (λ setting. is_in_range setting ≡ true) script.settings.items) }
 {
     let text = text_in_front(input);
     let read = script_of_text(alloc, text);

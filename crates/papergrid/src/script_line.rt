@@ -1,13 +1,13 @@
 //! The lines of a script, one at a time.
 
 ghost use Rattle.std.specs.Prelude.{◌≡◌, IfOk, option_map};
-ghost use Rattle.papergrid.specs.Grammar.{cell_entity, entity_of, keyword_says, padding_of, said, sides_of, text_says};
+ghost use Rattle.papergrid.specs.Grammar.{keyword_says, said, text_says};
 ghost use Rattle.papergrid.specs.Seen.{meaning};
 
 use crate::number::number;
-use crate::setting::Setting;
+use crate::setting_line::line_setting;
 use crate::unescape::unescaped;
-use papergrid_values::{Entity, Indent, Sides};
+use papergrid_config::Setting;
 use std::alloc::{AllocError, Global};
 use std::borrow::CowStr;
 
@@ -67,61 +67,9 @@ fn keyword_line<'a>(
             Some(count) => Ok(Some(ScriptLine::Columns(count))),
             None => Ok(None),
         },
-        "pad" => match padding(rest) {
+        _ => match line_setting(keyword, rest) {
             Some(setting) => Ok(Some(ScriptLine::Set(setting))),
             None => Ok(None),
         },
-        _ => Ok(None),
     }
-}
-
-/// The setting of an entity and four numbers.
-#[tactic(auto, unfolding(crate::specs::Grammar::padding_of))]
-fn padding(spelled: &str) -> Option<Setting>
-    ensures { result ≡ padding_of spelled.now }
-{
-    let (first, rest) = spelled.split_once(' ')?;
-    Some(Setting::SetPadding(entity(first)?, sides(rest)?))
-}
-
-/// So many spaces for left, right, top and bottom.
-#[tactic(auto, unfolding(crate::specs::Grammar::sides_of))]
-fn sides(spelled: &str) -> Option<Sides<Indent>>
-    ensures { result ≡ sides_of spelled.now }
-{
-    let (left, rest) = spelled.split_once(' ')?;
-    let (right, rest) = rest.split_once(' ')?;
-    let (top, bottom) = rest.split_once(' ')?;
-    Some(Sides::new(
-        Indent::spaced(number(left)?),
-        Indent::spaced(number(right)?),
-        Indent::spaced(number(top)?),
-        Indent::spaced(number(bottom)?),
-    ))
-}
-
-/// The entity that the text spells: `*`, `c` or `r` with a number, or a row and a column with a comma.
-#[tactic(auto, unfolding(crate::specs::Grammar::entity_of))]
-fn entity(spelled: &str) -> Option<Entity>
-    ensures { result ≡ entity_of spelled.now }
-{
-    if spelled == "*" {
-        return Some(Entity::Global);
-    }
-    if let Some(digits) = spelled.strip_prefix("c") {
-        return number(digits).map(Entity::Column);
-    }
-    if let Some(digits) = spelled.strip_prefix("r") {
-        return number(digits).map(Entity::Row);
-    }
-    cell_entity(spelled)
-}
-
-/// The cell at a row and a column with a comma between them.
-#[tactic(auto, unfolding(crate::specs::Grammar::cell_entity))]
-fn cell_entity(spelled: &str) -> Option<Entity>
-    ensures { result ≡ cell_entity spelled.now }
-{
-    let (row, col) = spelled.split_once(',')?;
-    Some(Entity::Cell(number(row)?, number(col)?))
 }

@@ -7,13 +7,14 @@ use Rattle.papergrid_values.specs.declared.indent.Indent.{Indent}
 use Rattle.papergrid_values.specs.declared.position.Position.{Position}
 use Rattle.papergrid_values.specs.declared.sides.Sides.{Sides}
 use Rattle.papergrid_maps.proofs.MapHeldLemmas.{held_decided}
-use Rattle.papergrid.specs.declared.setting.Setting.{Setting}
+use Rattle.papergrid_config.specs.declared.setting.Setting.{Setting}
+use Rattle.papergrid_config.specs.Parts.{padding_calls}
 use Rattle.papergrid_maps.specs.MapHeld.{Held, IsTold, held_value}
 use Rattle.papergrid.specs.Cells.{Measure, cells_of, measured}
 use Rattle.papergrid.specs.Raising.{fits_in}
 use Rattle.papergrid.specs.Scripts.{Table}
 use Rattle.papergrid.specs.Seen.{measures_of}
-use Rattle.papergrid.specs.Sizes.{first_out, no_padding, padding_calls, padding_at, sizes_of, column_of, row_of, width_need, height_need, widths_of, heights_of}
+use Rattle.papergrid.specs.Sizes.{first_out, no_padding, padding_at, sizes_of, column_of, row_of, width_need, height_need, widths_of, heights_of}
 use Rattle.papergrid.proofs.SizeLemmas.{all_below, cells_in_columns, cells_in_rows, unfit_totals, estimate-out, estimate-large, estimate-sized}
 use Rattle.papergrid.proofs.estimate.estimate_measured.Goals as goal
 

@@ -4,7 +4,7 @@ use Rattle.std.specs.declared.alloc.Global.{Global}
 use Rattle.std.specs.declared.borrow.CowStr.{CowStr}
 use Rattle.papergrid_text.proofs.RowSteps.{told_by}
 use Rattle.papergrid.specs.declared.script.Script.{Script}
-use Rattle.papergrid.specs.declared.setting.Setting.{Setting}
+use Rattle.papergrid_config.specs.declared.setting.Setting.{Setting}
 use Rattle.papergrid.specs.Outputs.{estimate_end, estimate_text}
 use Rattle.papergrid.specs.Seen.{table_seen}
 use Rattle.papergrid.specs.Sizes.{Estimate, estimate_of}
