@@ -3,9 +3,11 @@ mod CharacterLemmas
 mod CutLemmas
 mod DecidedLemmas
 mod EscapeLemmas
+mod HeldLemmas
 mod KnownLemmas
 mod LineLemmas
 mod RangeLemmas
+mod ListedLemmas
 mod ReadLemmas
 mod SizeLemmas
 mod SpellLemmas

@@ -39,7 +39,7 @@ GivesTable (Err script_errors.Memory) told = Unit {0}
 
 -- what is estimated is so; want of memory says nothing
 abbrev pub GivesEstimate : Result Sizes LayoutError → (Estimate → Type 0) → Type 0
-GivesEstimate (Ok sizes) IsSo = IsSo (Sized sizes.widths.items sizes.heights.items)
+GivesEstimate (Ok sizes) IsSo = IsSo (Sized sizes.widths.items sizes.heights.items sizes.total_width sizes.total_height)
 GivesEstimate (Err (layout_errors.OutOfTable place)) IsSo = IsSo (OutOfTable place)
 GivesEstimate (Err layout_errors.TooLarge) IsSo = IsSo TooLarge
 GivesEstimate (Err layout_errors.Memory) IsSo = Unit {0}

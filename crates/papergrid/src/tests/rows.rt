@@ -62,6 +62,13 @@ fn greatest_size(rt: HostRuntime) -> Result<(), Fail> {
     check(
         &rt,
         rt.alloc(),
+        b"columns 1\npad * 18446744073709551615 0 0 0\nrow\ncell\nborder |\n",
+        "refused: too large\n",
+        RunEnd::Refused,
+    )?;
+    check(
+        &rt,
+        rt.alloc(),
         b"columns 1\npad * 18446744073709551615 0 0 0\nrow\ncell a\n",
         "refused: too large\n",
         RunEnd::Refused,
@@ -83,7 +90,39 @@ fn out_of_table(rt: HostRuntime) -> Result<(), Fail> {
 fn empty_tables(rt: HostRuntime) -> Result<(), Fail> {
     let output = "widths\nheights\ntotal 0 0\n";
     check(&rt, rt.alloc(), b"columns 0\n", output, RunEnd::Done)?;
-    check(&rt, rt.alloc(), b"", output, RunEnd::Done)
+    check(&rt, rt.alloc(), b"", output, RunEnd::Done)?;
+    check(
+        &rt,
+        rt.alloc(),
+        b"columns 0\nborder |\n",
+        "widths\nheights\ntotal 1 1\n",
+        RunEnd::Done,
+    )
+}
+
+#[test]
+fn script_lines(rt: HostRuntime) -> Result<(), Fail> {
+    check(
+        &rt,
+        rt.alloc(),
+        b"columns 2\nvline 1 |\nhline 7 -\nrow\ncell ab\ncell c\n",
+        "widths 2 1\nheights 1\ntotal 4 1\n",
+        RunEnd::Done,
+    )?;
+    check(
+        &rt,
+        rt.alloc(),
+        b"columns 2\nvline 1 |\nhline 7 -\nrow\ncell ab\ncell c\nnovline 1\n",
+        "widths 2 1\nheights 1\ntotal 3 1\n",
+        RunEnd::Done,
+    )?;
+    check(
+        &rt,
+        rt.alloc(),
+        b"columns 2\nborder |\nrow\ncell ab\ncell c\n",
+        "widths 2 1\nheights 1\ntotal 6 3\n",
+        RunEnd::Done,
+    )
 }
 
 #[test]
