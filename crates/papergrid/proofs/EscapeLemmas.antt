@@ -1,13 +1,14 @@
 -- Texts with escapes, cut at their first backslash.
-use Rattle.std.proofs.Common.{◌≡◌, ◌<◌, ◌+◌, ◌++◌, ◌∷◌, [], ℕ, zero, suc, List, Bool, true, false, not, cond, Option, Some, None, option_map, length, take, drop, nat_eq, refl, sym, ap, ◌∙◌, append_assoc, arith}
-use Rattle.std.specs.List.{position_or_len, before_first, after_first}
+use Rattle.std.proofs.Common.{◌≡◌, ◌<◌, ◌+◌, ◌||◌, ◌++◌, ◌∷◌, [], ℕ, zero, suc, List, Bool, true, false, not, cond, Option, Some, None, option_map, length, take, drop, nat_eq, refl, sym, ap, ◌∙◌, append_assoc, arith}
+use Rattle.std.specs.List.{list_any, position_or_len, before_first, after_first}
 use Rattle.std.proofs.Math.Utf8.{encode}
 use Rattle.std.proofs.lemmas.Option.{same_Some}
 use Rattle.std.proofs.lemmas.Str.{encode_ascii}
+use Rattle.std.proofs.lemmas.Bool.{true≢false}
 use borrow.Author.Tests.{eqb-true}
 use Rattle.papergrid.specs.Texts.{unescaped, escape_of, escape_at, put_first}
 
-abbrev is_backslash : ℕ → Bool
+abbrev pub is_backslash : ℕ → Bool
 is_backslash b = nat_eq b 92
 
 -- a byte that begins no escape stays
@@ -50,6 +51,15 @@ unescaped-whole [] none = refl
 unescaped-whole (b ∷ bs) none =
     let place = later_place (nat_eq b 92) _ (length bs) none in
     unescaped-plain b bs place.0 ∙ ap (option_map (λ rest. b ∷ rest)) (unescaped-whole bs place.1)
+
+pub unescaped-clear : (bs : List ℕ) → list_any is_backslash bs ≡ false → unescaped bs ≡ Some bs
+unfolding unescaped
+unescaped-clear [] none = refl
+unescaped-clear (b ∷ bs) none = here (nat_eq b 92) refl none (unescaped-clear bs)
+  where
+    here : (slash : Bool) → nat_eq b 92 ≡ slash → (slash || list_any is_backslash bs) ≡ false → (list_any is_backslash bs ≡ false → unescaped bs ≡ Some bs) → unescaped (b ∷ bs) ≡ Some (b ∷ bs)
+    here true e h rest = absurd (true≢false h)
+    here false e h rest = unescaped-plain b bs e ∙ ap (option_map (λ more. b ∷ more)) (rest h)
 
 put_mapped : (o : Option ℕ) (bs left : List ℕ) (meant : ℕ) → option_map {U = ℕ × List ℕ} (λ m. (m, bs)) o ≡ Some (meant, left) → put_first o (unescaped bs) ≡ option_map (λ more. meant ∷ more) (unescaped left)
 put_mapped None bs left meant h = cc

@@ -1,75 +1,98 @@
 //! The lines of a script, one at a time.
 
-ghost use Rattle.std.specs.Prelude.{◌≡◌, IfOk, option_map};
-ghost use Rattle.papergrid.specs.Grammar.{keyword_says, said, text_says};
-ghost use Rattle.papergrid.specs.Seen.{meaning};
+ghost use Rattle.std.specs.Prelude.{IfOk, option_map};
+ghost use Rattle.papergrid.specs.Grammar.{Cell, Set, keyword_says, said, setting_of, text_says};
+ghost use Rattle.papergrid.specs.Seen.{Takes, table_seen};
+ghost use Rattle.papergrid.specs.Texts.{unescaped};
 
 use crate::number::number;
+use crate::script::Script;
 use crate::setting_line::line_setting;
 use crate::unescape::unescaped;
-use papergrid_config::Setting;
 use std::alloc::{AllocError, Global};
 use std::borrow::CowStr;
 
-/// What a line of a script says.
-#[derive(Drop)]
-pub enum ScriptLine<'a> {
-    /// Nothing: the line is empty.
-    Empty,
-    /// The number of columns.
-    Columns(usize),
-    /// A setting.
-    Set(Setting),
-    /// A row begins.
-    Row,
-    /// A cell more in the last row, with this text.
-    Cell(CowStr<'a>),
-}
-
-/// The line that the text spells, if it spells one.
-pub fn read_line<'a>(alloc: Global, text: &'a str) -> Result<Option<ScriptLine<'a>>, AllocError>
-    ensures { IfOk result (λ found. option_map meaning found ≡ said text.now) }
+/// Takes what one more line says into the script; false, and the script as it was, where the line is a bad one.
+pub fn take_line<'a>(
+    alloc: Global,
+    script: &mut Script<'a>,
+    line: &'a str,
+) -> Result<bool, AllocError>
+    ensures { IfOk result (λ fits. Takes (table_seen script.old) (said line.now) fits (table_seen script.new)) }
 {
-    text_line(alloc, text)
+    take_text(alloc, script, line)
 }
 
-/// What `read_line` answers, where it is known that the line is text.
+/// What `take_line` does, where it is known that the line is text.
 #[tactic(auto, unfolding(crate::specs::Grammar::text_says))]
-fn text_line<'a>(alloc: Global, text: &'a str) -> Result<Option<ScriptLine<'a>>, AllocError>
-    ensures { IfOk result (λ found. option_map meaning found ≡ text_says text.now) }
+fn take_text<'a>(alloc: Global, script: &mut Script<'a>, line: &'a str) -> Result<bool, AllocError>
+    ensures { IfOk result (λ fits. Takes (table_seen script.old) (text_says line.now) fits (table_seen script.new)) }
 {
-    match text {
-        "" => Ok(Some(ScriptLine::Empty)),
-        "row" => Ok(Some(ScriptLine::Row)),
-        "cell" => Ok(Some(ScriptLine::Cell(CowStr::Borrowed("")))),
-        _ => match text.split_once(' ') {
-            Some((keyword, rest)) => keyword_line(alloc, keyword, rest),
-            None => Ok(None),
+    // Most lines are cells, and these need no search for the space.
+    if let Some(text) = line.strip_prefix("cell ") {
+        return take_cell(alloc, script, text);
+    }
+    match line {
+        "" => Ok(true),
+        "row" => {
+            script.add_row(alloc)?;
+            Ok(true)
+        }
+        "cell" => script.add_cell(CowStr::Borrowed("")),
+        _ => match line.split_once(' ') {
+            Some((keyword, rest)) => take_keyword(alloc, script, keyword, rest),
+            None => Ok(false),
         },
     }
 }
 
-/// The line of a keyword, and what stands after it and a space.
+/// Takes what a keyword says, and what stands after it and a space; false where that is nothing.
 #[tactic(auto, unfolding(crate::specs::Grammar::keyword_says))]
-fn keyword_line<'a>(
+fn take_keyword<'a>(
     alloc: Global,
+    script: &mut Script<'a>,
     keyword: &str,
     rest: &'a str,
-) -> Result<Option<ScriptLine<'a>>, AllocError>
-    ensures { IfOk result (λ found. option_map meaning found ≡ keyword_says keyword.now rest.now) }
+) -> Result<bool, AllocError>
+    ensures { IfOk result (λ fits. Takes (table_seen script.old) (keyword_says keyword.now rest.now) fits (table_seen script.new)) }
 {
     match keyword {
-        "cell" => match unescaped(alloc, rest)? {
-            Some(text) => Ok(Some(ScriptLine::Cell(text))),
-            None => Ok(None),
-        },
+        "cell" => take_cell(alloc, script, rest),
         "columns" => match number(rest) {
-            Some(count) => Ok(Some(ScriptLine::Columns(count))),
-            None => Ok(None),
+            Some(count) => {
+                script.columns = count;
+                Ok(true)
+            }
+            None => Ok(false),
         },
-        _ => match line_setting(keyword, rest) {
-            Some(setting) => Ok(Some(ScriptLine::Set(setting))),
-            None => Ok(None),
-        },
+        _ => take_setting(script, keyword, rest),
+    }
+}
+
+/// Takes a cell of the text that is meant; false where the spelling is bad, or there is no row.
+fn take_cell<'a>(
+    alloc: Global,
+    script: &mut Script<'a>,
+    spelled: &'a str,
+) -> Result<bool, AllocError>
+    ensures { IfOk result (λ fits. Takes (table_seen script.old) (option_map Cell (unescaped spelled.now)) fits (table_seen script.new)) }
+{
+    match unescaped(alloc, spelled)? {
+        Some(text) => script.add_cell(text),
+        None => Ok(false),
+    }
+}
+
+/// Takes the setting of a keyword, and of what stands after it and a space; false where there is none.
+/// A setting is large, so it has no place in what lines of other kinds go through.
+fn take_setting(script: &mut Script<'_>, keyword: &str, rest: &str) -> Result<bool, AllocError>
+    ensures { IfOk result (λ fits. Takes (table_seen script.old) (option_map Set (setting_of keyword.now rest.now)) fits (table_seen script.new)) }
+{
+    match line_setting(keyword, rest) {
+        Some(setting) => {
+            script.settings.push(setting)?;
+            Ok(true)
+        }
+        None => Ok(false),
     }
 }

@@ -11,10 +11,10 @@ use std::borrow::CowStr;
 pub fn unescaped<'a>(alloc: Global, spelled: &'a str) -> Result<Option<CowStr<'a>>, AllocError>
     ensures { IfOk result (λ found. option_map cow_str_bytes found ≡ unescaped spelled.now) }
 {
-    match spelled.split_once('\\') {
-        None => Ok(Some(CowStr::Borrowed(spelled))),
-        Some(_) => Ok(with_escapes(alloc, spelled)?.map(|text| CowStr::Owned(text))),
+    if !spelled.as_bytes().contains(&b'\\') {
+        return Ok(Some(CowStr::Borrowed(spelled)));
     }
+    Ok(with_escapes(alloc, spelled)?.map(|text| CowStr::Owned(text)))
 }
 
 /// The text that is meant, in memory of its own.

@@ -1,6 +1,8 @@
-use Rattle.std.proofs.Common.{sym, lit<}
-use Rattle.papergrid.proofs.EscapeLemmas.{unescaped-whole}
+use Rattle.std.proofs.Common.{ap, sym, ◌∙◌}
+use Rattle.std.specs.List.{list_any}
+use Rattle.papergrid.proofs.EscapeLemmas.{is_backslash, unescaped-clear}
 use Rattle.papergrid.proofs.unescape.unescaped.Goals as goal
 
-pub returns-in-None : goal.returns-in-None
-returns-in-None c = sym (unescaped-whole c.args.spelled.now (c.in-None.ensures.byte (lit< tt) (λ w o f. f)))
+pub returns-then-not-contains : goal.returns-then-not-contains
+returns-then-not-contains c =
+    sym (unescaped-clear c.args.spelled.now (ap (list_any is_backslash) (sym c.as_bytes.ensures.value) ∙ sym c.contains.ensures.value ∙ c.if-not-contains.true))
