@@ -9,7 +9,7 @@ mod output;
 mod running;
 mod script;
 mod script_line;
-mod setting;
+mod setting_line;
 #[cfg(test)]
 mod tests;
 mod transfer;
@@ -23,11 +23,6 @@ pub mod ansi {
     pub use papergrid_values::{ANSIBuf, ANSIFmt, ANSIStr};
 }
 
-/// The colours of the texts of cells.
-pub mod colors {
-    pub use papergrid_maps::{Colors, NoColor, NoColors};
-}
-
 /// What settings are made of.
 pub mod config {
     pub use papergrid_values::{
@@ -35,15 +30,20 @@ pub mod config {
         Formatting, HorizontalLine, Indent, Offset, Position, Sides, VerticalLine,
     };
 
-    /// Settings that all cells share.
+    /// The settings of a table whose cells all have the same ones.
     pub mod compact {
-        pub use papergrid_maps::CompactConfig;
+        pub use papergrid_config::CompactConfig;
     }
 
-    /// Settings by entity.
+    /// The settings of a table.
     pub mod spanned {
-        pub use papergrid_maps::{EntityMap, MapCall, Stopped};
+        pub use papergrid_config::{EntityMap, MapCall, Setting, SpannedConfig, Stopped};
     }
+}
+
+/// The colours of the texts of cells, by position.
+pub mod colors {
+    pub use papergrid_config::{Colors, NoColor, NoColors};
 }
 
 /// Rows of cells.

@@ -1,14 +1,16 @@
 //! A whole script: its column count, its settings and its rows.
 
-ghost use Rattle.std.specs.Prelude.{◌≡◌, [], IfOk, Some, None, MatchBool, option_and_then, option_map, ◌<◌, length, take};
+ghost use Rattle.std.specs.Prelude.{◌≡◌, [], true, All, IfOk, OnOk, Some, ◌<◌, length, take};
 ghost use Rattle.std.specs.Str.{IsValidUpTo};
+ghost use Rattle.papergrid_config.specs.Applied.{is_in_range};
 ghost use Rattle.papergrid.specs.declared.script.ScriptError.TheVariants.{Memory};
-ghost use Rattle.papergrid.specs.Grammar.{without_cr};
+ghost use Rattle.std.specs.Cow.{cow_str_bytes};
+ghost use Rattle.papergrid.specs.Grammar.{Row, Cell, without_cr};
 ghost use Rattle.papergrid.specs.Scripts.{empty_table, table_of, with_line};
-ghost use Rattle.papergrid.specs.Seen.{GivesTable, meaning, table_seen};
+ghost use Rattle.papergrid.specs.Seen.{GivesTable, Takes, table_seen};
 
-use crate::script_line::{ScriptLine, read_line};
-use crate::setting::Setting;
+use crate::script_line::take_line;
+use papergrid_config::Setting;
 use papergrid_text::string::{count_lines, get_lines};
 use std::alloc::{AllocError, AllocFailed, Global};
 use std::borrow::CowStr;
@@ -52,7 +54,9 @@ impl<T: Drop> From<AllocFailed<T>> for ScriptError {
 
 /// The script that the input spells.
 pub fn read_script<'a>(alloc: Global, input: &'a [u8]) -> Result<Script<'a>, ScriptError>
-    ensures { GivesTable result (table_of input.now) }
+    ensures told { GivesTable result (table_of input.now) }
+    // What a list of settings must be, to be applied.
+    ensures in_range { IfOk result (λ script. All (λ setting. is_in_range setting ≡ true) script.settings.items) }
 {
     let text = text_in_front(input);
     let read = script_of_text(alloc, text);
@@ -82,8 +86,7 @@ fn script_of_text<'a>(alloc: Global, input: &'a str) -> Result<Script<'a>, Scrip
     let mut number: usize = 0;
     for line in get_lines(input) {
         number += 1;
-        let read = read_line(alloc, without_cr(line))?;
-        if !take_line(alloc, &mut script, read)? {
+        if !take_line(alloc, &mut script, without_cr(line))? {
             return Err(ScriptError::Bad(number));
         }
     }
@@ -112,46 +115,28 @@ fn without_cr(line: &str) -> &str
     }
 }
 
-/// Takes what one more line says into the script; false, and the script as it was, where the line is a bad one.
-fn take_line<'a>(
-    alloc: Global,
-    script: &mut Script<'a>,
-    read: Option<ScriptLine<'a>>,
-) -> Result<bool, AllocError>
-    ensures { IfOk result (λ fits. MatchBool fits
-        (option_and_then (with_line (table_seen script.old)) (option_map meaning read.entry) ≡ Some (table_seen script.new))
-        (option_and_then (with_line (table_seen script.old)) (option_map meaning read.entry) ≡ None)) }
-{
-    match read {
-        None => Ok(false),
-        Some(line) => obey(alloc, script, line),
+impl<'a> Script<'a> {
+    /// Begins a row.
+    pub fn add_row(&mut self, alloc: Global) -> Result<(), AllocError>
+        ensures { OnOk result (with_line (table_seen self.old) Row ≡ Some (table_seen self.new)) }
+    {
+        let row = next_row(alloc, self.rows.as_slice())?;
+        self.rows.push(row)?;
+        Ok(())
     }
-}
 
-/// Does what the line says; false, and the script as it was, where a cell comes before the first row.
-fn obey<'a>(
-    alloc: Global,
-    script: &mut Script<'a>,
-    line: ScriptLine<'a>,
-) -> Result<bool, AllocError>
-    ensures { IfOk result (λ fits. MatchBool fits
-        (with_line (table_seen script.old) (meaning line.entry) ≡ Some (table_seen script.new))
-        (with_line (table_seen script.old) (meaning line.entry) ≡ None)) }
-{
-    match line {
-        ScriptLine::Empty => {}
-        ScriptLine::Columns(count) => script.columns = count,
-        ScriptLine::Set(setting) => script.settings.push(setting)?,
-        ScriptLine::Row => {
-            let row = next_row(alloc, script.rows.as_slice())?;
-            script.rows.push(row)?;
+    /// Adds a cell to the last row; false where there is none.
+    pub fn add_cell(&mut self, text: CowStr<'a>) -> Result<bool, AllocError>
+        ensures { IfOk result (λ fits. Takes (table_seen self.old) (Some (Cell (cow_str_bytes text.entry))) fits (table_seen self.new)) }
+    {
+        match self.rows.last_mut() {
+            None => Ok(false),
+            Some(row) => {
+                row.push(text)?;
+                Ok(true)
+            }
         }
-        ScriptLine::Cell(text) => match script.rows.last_mut() {
-            None => return Ok(false),
-            Some(row) => row.push(text)?,
-        },
     }
-    Ok(true)
 }
 
 /// A row without cells, with room for as many as the last row has.

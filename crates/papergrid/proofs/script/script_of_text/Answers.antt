@@ -20,13 +20,13 @@ overflow_add-number c =
 
 pub returns-then-not-branch : goal.returns-then-not-branch
 returns-then-not-branch c =
-    table_of-pieces c.args.input.now ∙ bad_line _ _ _ _ _ _ _ c.in-Some.ensures.steps (c.in_ok-read.ensures ∙ ap said c.without_cr.ensures) (rw c.if-not-branch.true at c.in_ok-take_line.ensures) c.loop-line.invariant.3
+    table_of-pieces c.args.input.now ∙ bad_line _ _ _ _ _ _ _ c.in-Some.ensures.steps (ap said c.without_cr.ensures) (rw c.if-not-branch.true at c.in_ok-take_line.ensures) c.loop-line.invariant.3
 
 pub loop-line-preserved : goal.loop-line-preserved
 loop-line-preserved c =
     let n = length-append c.loop-line.yielded (c.in-Some.line ∷ []) in
     let k = c.loop-line.invariant.2 in
-    (tt, tt, omega arith, good_line _ _ _ _ _ _ _ _ c.in-Some.ensures.steps (c.in_ok-read.ensures ∙ ap said c.without_cr.ensures) (rw c.if-not-branch.false at c.in_ok-take_line.ensures) c.loop-line.invariant.3)
+    (tt, tt, omega arith, good_line _ _ _ _ _ _ _ _ c.in-Some.ensures.steps (ap said c.without_cr.ensures) (rw c.if-not-branch.false at c.in_ok-take_line.ensures) c.loop-line.invariant.3)
 
 pub returns : goal.returns
 returns c = table_of-pieces c.args.input.now ∙ no_more_lines _ _ _ _ c.in-None.ensures.steps.0 c.loop-line.invariant.3

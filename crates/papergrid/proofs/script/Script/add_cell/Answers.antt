@@ -6,7 +6,7 @@ use Rattle.std.proofs.lemmas.List.{length-map, map-set, map-append}
 use Rattle.std.proofs.lemmas.Option.{slice_get-map, slice_get_read}
 use Rattle.papergrid.specs.Scripts.{onto_last}
 use Rattle.papergrid.specs.Seen.{texts_of, table_seen}
-use Rattle.papergrid.proofs.script.obey.Goals as goal
+use Rattle.papergrid.proofs.script.Script.add_cell.Goals as goal
 
 pushed : (rows : List (Vec (CowStr Global) Global)) (row new : Vec (CowStr Global) Global) (text : CowStr Global) → slice_get rows (length rows - 1) ≡ Some row
     → new.items ≡ row.items ++ text ∷ [] → onto_last (map texts_of rows) (cow_str_bytes text) ≡ Some (map texts_of (set rows (length rows - 1) new))
@@ -19,5 +19,5 @@ pushed_at rows n row new text len some at items =
     rw len (pushed rows row new text (rw len at found) items)
 
 pub returns-in_ok-push-in-Some : goal.returns-in_ok-push-in-Some
-returns-in_ok-push-in-Some c = rw c.in-Cell.is (ap (option_map (λ rows. record (table_seen c.args.script.now) { rows = rows }))
-    (pushed_at c.args.script.now.rows.items c.args.script.now.rows.len c.in-Some.row.now c.push-in-Some.new.self c.in-Cell.text c.args.script.now.rows.ok.0 (grind (arith, tests, c.in-Some.ensures.item.0)) c.in-Some.ensures.value c.in_ok-push-in-Some.ensures.items))
+returns-in_ok-push-in-Some c = ap (option_map (λ rows. record (table_seen c.args.self.now) { rows = rows }))
+    (pushed_at c.args.self.now.rows.items c.args.self.now.rows.len c.in-Some.row.now c.push.new.self c.args.text c.args.self.now.rows.ok.0 (grind (arith, tests, c.in-Some.ensures.item.0)) c.in-Some.ensures.value c.in_ok-push-in-Some.ensures.items)

@@ -2,7 +2,7 @@ use Rattle.std.proofs.Common.{◌≡◌, ℕ, List, false, codes, bytes_eq, nat_
 use Rattle.std.specs.List.{starts_with}
 use Rattle.std.proofs.lemmas.Str.Pattern.{starts_text}
 use Rattle.papergrid.specs.Grammar.{cell_entity, entity_of}
-use Rattle.papergrid.proofs.script_line.entity.Goals as goal
+use Rattle.papergrid.proofs.setting_line.entity.Goals as goal
 
 falls : (bs : List ℕ) → bytes_eq bs (codes "*") ≡ false → starts_with nat_eq bs (codes "c") ≡ false → starts_with nat_eq bs (codes "r") ≡ false → cell_entity bs ≡ entity_of bs
 unfolding entity_of
