@@ -153,11 +153,6 @@ means_spelled _ _ (Backslash spelled meant h) = ap (put_first (Some 92)) (means_
 
 -- ---- lines
 
--- a line that begins as a cell's
-pub cell_line : (line rest : List ℕ) → line ≡ codes "cell " ++ rest → option_map Cell (unescaped rest) ≡ text_says line
-unfolding text_says keyword_says
-cell_line line rest is = sym (subst (λ (l : List ℕ). text_says l ≡ option_map Cell (unescaped rest)) (sym is) (rw (parted_after 32 (codes "cell") rest refl) refl))
-
 text_spelled : (line : List ℕ) (s : Said) → IsLine line s → text_says line ≡ Some s
 unfolding text_says keyword_says
 text_spelled line Nothing h = subst (λ (l : List ℕ). text_says l ≡ Some Nothing) (sym h) refl

@@ -1,7 +1,7 @@
 //! The lines of a script, one at a time.
 
-ghost use Rattle.std.specs.Prelude.{IfOk, option_map};
-ghost use Rattle.papergrid.specs.Grammar.{Cell, Set, keyword_says, said, setting_of, text_says};
+ghost use Rattle.std.specs.Prelude.{◌≡◌, IfOk, option_map};
+ghost use Rattle.papergrid.specs.Grammar.{Cell, Set, keyword_says, parted_at, said, setting_of, space, text_says};
 ghost use Rattle.papergrid.specs.Seen.{Takes, table_seen};
 ghost use Rattle.papergrid.specs.Texts.{unescaped};
 
@@ -28,10 +28,6 @@ pub fn take_line<'a>(
 fn take_text<'a>(alloc: Global, script: &mut Script<'a>, line: &'a str) -> Result<bool, AllocError>
     ensures { IfOk result (λ fits. Takes (table_seen script.old) (text_says line.now) fits (table_seen script.new)) }
 {
-    // Most lines are cells, and these need no search for the space.
-    if let Some(text) = line.strip_prefix("cell ") {
-        return take_cell(alloc, script, text);
-    }
     match line {
         "" => Ok(true),
         "row" => {
@@ -39,11 +35,22 @@ fn take_text<'a>(alloc: Global, script: &mut Script<'a>, line: &'a str) -> Resul
             Ok(true)
         }
         "cell" => script.add_cell(CowStr::Borrowed("")),
-        _ => match line.split_once(' ') {
+        _ => match keyword_and_rest(line) {
             Some((keyword, rest)) => take_keyword(alloc, script, keyword, rest),
             None => Ok(false),
         },
     }
+}
+
+/// What stands before the first space, and what stands after it.
+fn keyword_and_rest(text: &str) -> Option<(&str, &str)>
+    ensures { option_map (λ parts. (parts.0.now, parts.1.now)) result ≡ parted_at space text.now }
+{
+    // Most lines are cells, where no space is searched for.
+    if let Some(("cell ", rest)) = text.split_at_checked(5) {
+        return Some(("cell", rest));
+    }
+    text.split_once(' ')
 }
 
 /// Takes what a keyword says, and what stands after it and a space; false where that is nothing.
