@@ -89,29 +89,34 @@ escape_at-ascii (c ∷ bs) left meant h = one_of_three (nat_eq c 110) (nat_eq c 
 abbrev pub IsCut : List ℕ → List ℕ → List ℕ → Type 0
 IsCut rest plain after = (plain ≡ before_first is_backslash rest) × (after ≡ after_first is_backslash rest) × (position_or_len is_backslash rest < length rest)
 
-cut_open : (rest plain after : List ℕ) → IsCut rest plain after → unescaped rest ≡ option_map (λ more. plain ++ more) (unescaped (92 ∷ after))
+pub cut_open : (rest plain after : List ℕ) → IsCut rest plain after → unescaped rest ≡ option_map (λ more. plain ++ more) (unescaped (92 ∷ after))
 cut_open rest plain after cut = unescaped-parted rest (position_or_len is_backslash rest) refl cut.2 ∙ rw (cut.0, cut.1) refl
 
-pub stopped : (R : Option (List ℕ)) (text rest plain after : List ℕ) → IsCut rest plain after → None ≡ escape_at after → R ≡ option_map (λ more. text ++ more) (unescaped rest) → None ≡ R
-stopped R text rest plain after cut none so_far =
-    let open_rest = cut_open rest plain after cut in
+-- what is meant is the text so far, and what an escape and the rest mean
+abbrev pub IsSoFar : Option (List ℕ) → List ℕ → List ℕ → Type 0
+IsSoFar meant text rest = meant ≡ option_map (λ more. text ++ more) (unescaped rest)
+
+pub stopped : (meant : Option (List ℕ)) (text after : List ℕ) → None ≡ escape_at after → IsSoFar meant text (92 ∷ after) → None ≡ meant
+stopped meant text after none so_far =
     let nothing = unescaped-no_escape after (sym none) in
-    sym (so_far ∙ rw (open_rest, nothing) refl)
+    sym (so_far ∙ rw nothing refl)
 
-joined : (text plain : List ℕ) (m : ℕ) (o : Option (List ℕ)) → option_map (λ more. text ++ more) (option_map (λ more. plain ++ more) (option_map (λ more. m ∷ more) o)) ≡ option_map (λ more. (text ++ plain ++ m ∷ []) ++ more) o
-joined text plain m None = refl
-joined text plain m (Some more) = ap Some (simp append_assoc)
+joined : (text piece : List ℕ) (o : Option (List ℕ)) → option_map (λ more. text ++ more) (option_map (λ more. piece ++ more) o) ≡ option_map (λ more. (text ++ piece) ++ more) o
+joined text piece None = refl
+joined text piece (Some more) = ap Some (simp append_assoc)
 
-pub moved : (R : Option (List ℕ)) (text rest plain after left middle new : List ℕ) (meant : ℕ) → IsCut rest plain after → Some (meant, left) ≡ escape_at after
-    → middle ≡ text ++ plain → new ≡ middle ++ encode meant
-    → R ≡ option_map (λ more. text ++ more) (unescaped rest) → R ≡ option_map (λ more. new ++ more) (unescaped left)
-moved R text rest plain after left middle new meant cut escape first then so_far =
+pub past_escape : (meant : Option (List ℕ)) (text after left new : List ℕ) (c : ℕ) → Some (c, left) ≡ escape_at after → new ≡ text ++ encode c → IsSoFar meant text (92 ∷ after) → IsSoFar meant new left
+past_escape meant text after left new c escape pushed so_far =
+    let then_left = unescaped-escape after left c (sym escape) in
+    let ascii = encode_ascii c (escape_at-ascii after left c (sym escape)) in
+    so_far ∙ rw (then_left, pushed, ascii) (joined text (c ∷ []) (unescaped left))
+
+pub past_plain : (meant : Option (List ℕ)) (text rest plain after new : List ℕ) → IsCut rest plain after → new ≡ text ++ plain → IsSoFar meant text rest → IsSoFar meant new (92 ∷ after)
+past_plain meant text rest plain after new cut pushed so_far =
     let open_rest = cut_open rest plain after cut in
-    let then_left = unescaped-escape after left meant (sym escape) in
-    let ascii = encode_ascii meant (escape_at-ascii after left meant (sym escape)) in
-    so_far ∙ rw (open_rest, then_left, then, first, ascii) (joined text plain meant (unescaped left))
+    so_far ∙ rw (open_rest, pushed) (joined text plain (unescaped (92 ∷ after)))
 
-pub finished : (R : Option (List ℕ)) (text rest new : List ℕ) → position_or_len is_backslash rest ≡ length rest → new ≡ text ++ rest → R ≡ option_map (λ more. text ++ more) (unescaped rest) → Some new ≡ R
-finished R text rest new none bytes so_far =
+pub finished : (meant : Option (List ℕ)) (text rest new : List ℕ) → position_or_len is_backslash rest ≡ length rest → new ≡ text ++ rest → IsSoFar meant text rest → Some new ≡ meant
+finished meant text rest new none pushed so_far =
     let whole = unescaped-whole rest none in
-    sym (so_far ∙ rw (whole, bytes) refl)
+    sym (so_far ∙ rw (whole, pushed) refl)

@@ -1,8 +1,13 @@
 mod CellLemmas
+mod CharacterLemmas
+mod CutLemmas
 mod DecidedLemmas
 mod EscapeLemmas
+mod HeldLemmas
 mod KnownLemmas
 mod LineLemmas
+mod RangeLemmas
+mod ListedLemmas
 mod ReadLemmas
 mod SizeLemmas
 mod SpellLemmas

@@ -5,7 +5,7 @@ use Rattle.std.specs.List.{slice_split}
 use Rattle.std.specs.Str.{chars, is_utf8}
 use Rattle.std.proofs.lemmas.Bool.Decides.{nat_tests}
 use Rattle.std.proofs.lemmas.List.{at_drop_more, at_drop_all}
-use Rattle.papergrid.specs.Grammar.{Nothing, said, text_says, without_cr, without_empty_last, script_lines}
+use Rattle.papergrid.specs.Grammar.{Said, Nothing, said, text_says, without_cr, without_empty_last, script_lines}
 use Rattle.papergrid.specs.Scripts.{Table, empty_table, with_line, or_bad, table_after, table_of}
 
 or_bad-same : (number : ℕ) (o : Option Table) (f g : Table → Result Table ℕ) → ((table : Table) → f table ≡ g table) → or_bad number o f ≡ or_bad number o g
@@ -29,23 +29,27 @@ pub table_of-pieces : (input : List ℕ) → table_of input ≡ table_after 1 em
 unfolding table_of script_lines
 table_of-pieces input = without_last 1 empty_table (slice_split (λ b. nat_eq b 10) input)
 
-next_line : (R : Result Table ℕ) (pieces : List (List ℕ)) (n k : ℕ) (line stripped : List ℕ) (old : Table) → (k < length pieces) × (line ≡ get_or pieces k line) → n ≡ k → stripped ≡ without_cr line
-    → R ≡ table_after (n + 1) old (map without_cr (drop n pieces))
-    → R ≡ or_bad (n + 1) (option_and_then (with_line old) (said stripped)) (λ next. table_after (n + 1 + 1) next (map without_cr (drop (n + 1) pieces)))
-next_line R pieces n k line stripped old at same is so_far =
-    so_far ∙ ap (λ j. table_after (j + 1) old (map without_cr (drop j pieces))) same
-    ∙ at_drop_more (λ rest. table_after (k + 1) old (map without_cr rest)) pieces k line at.0
-    ∙ ap (λ first. table_after (k + 1) old (map without_cr (first ∷ drop (k + 1) pieces))) (sym at.1) ∙ rw (is, same) refl
+next_line : (R : Result Table ℕ) (left more : List (List ℕ)) (n : ℕ) (line : List ℕ) (read : Option Said) (old : Table) → left ≡ line ∷ more → read ≡ said (without_cr line)
+    → R ≡ table_after n old (map without_cr left) → R ≡ or_bad n (option_and_then (with_line old) read) (λ next. table_after (n + 1) next (map without_cr more))
+next_line R left more n line read old cut is so_far = so_far ∙ rw (cut, is) refl
 
-pub good_line : (R : Result Table ℕ) (pieces : List (List ℕ)) (n k : ℕ) (line stripped : List ℕ) (old new : Table) → (k < length pieces) × (line ≡ get_or pieces k line) → n ≡ k → stripped ≡ without_cr line
-    → option_and_then (with_line old) (said stripped) ≡ Some new
-    → R ≡ table_after (n + 1) old (map without_cr (drop n pieces)) → R ≡ table_after (n + 1 + 1) new (map without_cr (drop (n + 1) pieces))
-good_line R pieces n k line stripped old new at same is good so_far = next_line R pieces n k line stripped old at same is so_far ∙ rw good refl
+pub good_line : (R : Result Table ℕ) (left more : List (List ℕ)) (n : ℕ) (line : List ℕ) (read : Option Said) (old new : Table) → left ≡ line ∷ more → read ≡ said (without_cr line)
+    → option_and_then (with_line old) read ≡ Some new
+    → R ≡ table_after n old (map without_cr left) → R ≡ table_after (n + 1) new (map without_cr more)
+good_line R left more n line read old new cut is good so_far = next_line R left more n line read old cut is so_far ∙ rw good refl
 
-pub bad_line : (R : Result Table ℕ) (pieces : List (List ℕ)) (n k : ℕ) (line stripped : List ℕ) (old : Table) → (k < length pieces) × (line ≡ get_or pieces k line) → n ≡ k → stripped ≡ without_cr line
-    → option_and_then (with_line old) (said stripped) ≡ None
-    → R ≡ table_after (n + 1) old (map without_cr (drop n pieces)) → R ≡ Err (n + 1)
-bad_line R pieces n k line stripped old at same is bad so_far = next_line R pieces n k line stripped old at same is so_far ∙ rw bad refl
+pub bad_line : (R : Result Table ℕ) (left more : List (List ℕ)) (n : ℕ) (line : List ℕ) (read : Option Said) (old : Table) → left ≡ line ∷ more → read ≡ said (without_cr line)
+    → option_and_then (with_line old) read ≡ None
+    → R ≡ table_after n old (map without_cr left) → R ≡ Err n
+bad_line R left more n line read old cut is bad so_far = next_line R left more n line read old cut is so_far ∙ rw bad refl
 
-pub no_more_lines : (R : Result Table ℕ) (pieces : List (List ℕ)) (n k : ℕ) (table : Table) → k ≡ length pieces → n ≡ k → R ≡ table_after (n + 1) table (map without_cr (drop n pieces)) → R ≡ Ok table
-no_more_lines R pieces n k table all same so_far = so_far ∙ at_drop_all (λ rest. table_after (n + 1) table (map without_cr rest)) pieces n (omega arith)
+pub no_more_lines : (R : Result Table ℕ) (left : List (List ℕ)) (n : ℕ) (table : Table) → left ≡ [] → R ≡ table_after n table (map without_cr left) → R ≡ Ok table
+no_more_lines R left n table none so_far = so_far ∙ rw none refl
+
+-- pieces from a place on
+pub cut_at : (pieces : List (List ℕ)) (n k : ℕ) (line : List ℕ) → (k < length pieces) × (line ≡ get_or pieces k line) → n ≡ k → drop n pieces ≡ line ∷ drop (n + 1) pieces
+cut_at pieces n k line at same =
+    ap (λ j. drop j pieces) same ∙ at_drop_more (λ rest. rest) pieces k line at.0 ∙ rw (sym at.1, same) refl
+
+pub cut_at_end : (pieces : List (List ℕ)) (n k : ℕ) → k ≡ length pieces → n ≡ k → drop n pieces ≡ []
+cut_at_end pieces n k all same = at_drop_all (λ rest. rest) pieces n (omega arith)

@@ -1,5 +1,5 @@
 -- What is read as a line of a script is spelled so.
-use Rattle.std.proofs.Common.{◌≡◌, ◌⊎◌, ◌<◌, ◌^◌, ◌&&◌, ◌++◌, ◌∷◌, [], ℕ, List, Bool, true, false, cond, Option, Some, None, option_map, length, drop, get_or, codes, bytes_eq, nat_eq, refl, sym, ap, ◌∙◌, subst, inl, inr}
+use Rattle.std.proofs.Common.{◌≡◌, ◌⊎◌, ◌<◌, ◌^◌, ◌&&◌, ◌++◌, ◌∷◌, [], ℕ, List, Bool, true, false, cond, Option, Some, None, option_map, length, drop, get_or, codes, bytes_eq, nat_eq, refl, sym, ap, ◌∙◌, subst, lit<, inl, inr}
 use Rattle.std.specs.List.{starts_with, before_first, after_first, position_or_len}
 use Rattle.std.specs.Prelude.{IsUtf8}
 use Rattle.std.specs.Str.{is_utf8}
@@ -12,10 +12,12 @@ use Rattle.papergrid_values.specs.declared.entity.Entity.{Entity}
 use Rattle.papergrid_values.specs.declared.entity.Entity.TheVariants as entities
 use Rattle.papergrid_values.specs.declared.indent.Indent.{Indent}
 use Rattle.papergrid_values.specs.declared.sides.Sides.{Sides}
-use Rattle.papergrid.specs.declared.setting.Setting.{Setting}
-use Rattle.papergrid.specs.declared.setting.Setting.TheVariants.{SetPadding}
-use Rattle.papergrid.specs.Grammar.{◌>>=◌, Said, Nothing, Columns, Set, Row, Cell, spaces, parted_at, number_of, cell_entity, entity_of, sides_of, padding_of, keyword_says, text_says, said}
-use Rattle.papergrid.specs.Spelling.{IsNumber, IsEntity, AreSides, Means, Ended, Plain, Newline, Tab, Backslash, IsLine}
+use Rattle.papergrid_values.specs.Borders.{frame_with}
+use Rattle.papergrid_config.specs.declared.setting.Setting.{Setting}
+use Rattle.papergrid_config.specs.declared.setting.Setting.TheVariants.{SetPadding, SetBorders, InsertVerticalLine, InsertHorizontalLine, RemoveVerticalLine, RemoveHorizontalLine}
+use Rattle.papergrid.specs.Grammar.{◌>>=◌, Said, Nothing, Columns, Set, Row, Cell, spaces, parted_at, number_of, cell_entity, entity_of, sides_of, padding_of, character_of, placed_character, vertical_main, horizontal_main, setting_of, keyword_says, text_says, said}
+use Rattle.papergrid.specs.Spelling.{IsNumber, IsEntity, AreSides, IsCharacter, IsSetting, Pad, Border, Vline, Hline, Novline, Nohline, Means, Ended, Plain, Newline, Tab, Backslash, IsLine}
+use Rattle.papergrid.proofs.CharacterLemmas.{character_read, text_behind}
 use Rattle.papergrid.specs.Texts.{unescaped, escape_of, put_first}
 
 -- ---- tests and options
@@ -116,14 +118,98 @@ sides_read bytes sides h =
           ∙ ap (λ rest. at_l.0.0 ++ 32 ∷ (at_r.0.0 ++ 32 ∷ rest)) (parted 32 at_r.0.1 at_t.0 at_t.1);
     })
 
-padding_read : (bytes : List ℕ) (setting : Setting) → padding_of bytes ≡ Some setting → IsLine (codes "pad " ++ bytes) (Set setting)
+padding_read : (bytes : List ℕ) (setting : Setting) → padding_of bytes ≡ Some setting → IsSetting (codes "pad " ++ bytes) setting
 unfolding padding_of
 padding_read bytes setting h =
     let parts = bind_some (λ (p : List ℕ × List ℕ). entity_of p.0 >>= λ entity. sides_of p.1 >>= λ sides. Some (SetPadding entity sides)) (parted_at 32 bytes) setting h in
     let entity = bind_some (λ entity. sides_of parts.0.1 >>= λ sides. Some (SetPadding entity sides)) (entity_of parts.0.0) setting parts.2 in
     let sides = bind_some (λ sides. Some (SetPadding entity.0 sides)) (sides_of parts.0.1) setting entity.2 in
-    subst (λ s. IsLine (codes "pad " ++ bytes) (Set s)) (same_Some _ _ sides.2)
-    (parts.0.0, parts.0.1, entity_read _ _ entity.1, sides_read _ _ sides.1, ap (λ b. codes "pad " ++ b) (parted 32 bytes parts.0 parts.1))
+    subst (IsSetting (codes "pad " ++ bytes)) (same_Some _ _ sides.2)
+    (subst (λ (b : List ℕ). IsSetting (codes "pad " ++ b) (SetPadding entity.0 sides.0)) (sym (parted 32 bytes parts.0 parts.1))
+    (Pad parts.0.0 parts.0.1 entity.0 sides.0 (entity_read _ _ entity.1) (sides_read _ _ sides.1)))
+
+-- ---- characters and lines
+
+record IsPlaced (bytes : List ℕ) (place c : ℕ) : Type 0 where
+  digits : List ℕ
+  x : List ℕ
+  is_number : IsNumber digits place
+  is_character : IsCharacter x c
+  spelled : bytes ≡ digits ++ 32 ∷ x
+
+placed_read : (bytes : List ℕ) (at : ℕ × ℕ) → IsUtf8 bytes → placed_character bytes ≡ Some at → IsPlaced bytes at.0 at.1
+unfolding placed_character
+placed_read bytes at text h =
+    let parts = bind_some (λ (p : List ℕ × List ℕ). number_of p.0 >>= λ n. character_of p.1 >>= λ c. Some (n, c)) (parted_at 32 bytes) at h in
+    let n = bind_some (λ n. character_of parts.0.1 >>= λ c. Some (n, c)) (number_of parts.0.0) at parts.2 in
+    let c = bind_some (λ c. Some (n.0, c)) (character_of parts.0.1) at n.2 in
+    let whole = parted 32 bytes parts.0 parts.1 in
+    let behind = text_behind parts.0.0 parts.0.1 32 (lit< tt) (subst IsUtf8 whole text) in
+    subst (λ (a : ℕ × ℕ). IsPlaced bytes a.0 a.1) (same_Some _ _ c.2) (record {
+      digits = parts.0.0;
+      x = parts.0.1;
+      is_number = number_read _ _ n.1;
+      is_character = character_read _ _ behind c.1;
+      spelled = whole;
+    })
+
+-- ---- settings
+
+worded : (keyword word rest : List ℕ) (setting : Setting) → bytes_eq keyword word ≡ true → IsSetting (word ++ 32 ∷ rest) setting → IsSetting (keyword ++ 32 ∷ rest) setting
+worded keyword word rest setting same h = subst (λ (w : List ℕ). IsSetting (w ++ 32 ∷ rest) setting) (sym (is_word keyword word same)) h
+
+border_read : (rest : List ℕ) (setting : Setting) → IsUtf8 rest → option_map (λ c. SetBorders (frame_with (Some c))) (character_of rest) ≡ Some setting → IsSetting (codes "border " ++ rest) setting
+border_read rest setting text h =
+    let c = map_some (λ c. SetBorders (frame_with (Some c))) (character_of rest) setting h in
+    subst (IsSetting (codes "border " ++ rest)) c.2 (Border rest c.0 (character_read rest c.0 text c.1))
+
+vline_read : (rest : List ℕ) (setting : Setting) → IsUtf8 rest → option_map (λ at. InsertVerticalLine at.0 (vertical_main at.1)) (placed_character rest) ≡ Some setting → IsSetting (codes "vline " ++ rest) setting
+vline_read rest setting text h =
+    let at = map_some (λ (at : ℕ × ℕ). InsertVerticalLine at.0 (vertical_main at.1)) (placed_character rest) setting h in
+    let is = placed_read rest at.0 text at.1 in
+    subst (IsSetting (codes "vline " ++ rest)) at.2
+    (subst (λ (r : List ℕ). IsSetting (codes "vline " ++ r) (InsertVerticalLine at.0.0 (vertical_main at.0.1))) (sym is.spelled)
+    (Vline is.digits is.x at.0.0 at.0.1 is.is_number is.is_character))
+
+hline_read : (rest : List ℕ) (setting : Setting) → IsUtf8 rest → option_map (λ at. InsertHorizontalLine at.0 (horizontal_main at.1)) (placed_character rest) ≡ Some setting → IsSetting (codes "hline " ++ rest) setting
+hline_read rest setting text h =
+    let at = map_some (λ (at : ℕ × ℕ). InsertHorizontalLine at.0 (horizontal_main at.1)) (placed_character rest) setting h in
+    let is = placed_read rest at.0 text at.1 in
+    subst (IsSetting (codes "hline " ++ rest)) at.2
+    (subst (λ (r : List ℕ). IsSetting (codes "hline " ++ r) (InsertHorizontalLine at.0.0 (horizontal_main at.0.1))) (sym is.spelled)
+    (Hline is.digits is.x at.0.0 at.0.1 is.is_number is.is_character))
+
+novline_read : (rest : List ℕ) (setting : Setting) → option_map (λ col. RemoveVerticalLine col 0) (number_of rest) ≡ Some setting → IsSetting (codes "novline " ++ rest) setting
+novline_read rest setting h =
+    let col = map_some (λ col. RemoveVerticalLine col 0) (number_of rest) setting h in
+    subst (IsSetting (codes "novline " ++ rest)) col.2 (Novline rest col.0 (number_read rest col.0 col.1))
+
+nohline_read : (rest : List ℕ) (setting : Setting) → option_map (λ row. RemoveHorizontalLine row 0) (number_of rest) ≡ Some setting → IsSetting (codes "nohline " ++ rest) setting
+nohline_read rest setting h =
+    let row = map_some (λ row. RemoveHorizontalLine row 0) (number_of rest) setting h in
+    subst (IsSetting (codes "nohline " ++ rest)) row.2 (Nohline rest row.0 (number_read rest row.0 row.1))
+
+setting_read : (keyword rest : List ℕ) (setting : Setting) → IsUtf8 rest → setting_of keyword rest ≡ Some setting → IsSetting (keyword ++ 32 ∷ rest) setting
+unfolding setting_of
+setting_read keyword rest setting text h = elim (chosen (bytes_eq keyword (codes "pad")) (padding_of rest) _ (Some setting) h) [
+  | inl pad ↦ worded keyword (codes "pad") rest setting pad.0 (padding_read rest setting pad.1)
+  | inr past_pad ↦ elim (chosen (bytes_eq keyword (codes "border")) (option_map (λ c. SetBorders (frame_with (Some c))) (character_of rest)) _ (Some setting) past_pad.1) [
+    | inl border ↦ worded keyword (codes "border") rest setting border.0 (border_read rest setting text border.1)
+    | inr past_border ↦ elim (chosen (bytes_eq keyword (codes "vline")) (option_map (λ at. InsertVerticalLine at.0 (vertical_main at.1)) (placed_character rest)) _ (Some setting) past_border.1) [
+      | inl vline ↦ worded keyword (codes "vline") rest setting vline.0 (vline_read rest setting text vline.1)
+      | inr past_vline ↦ elim (chosen (bytes_eq keyword (codes "hline")) (option_map (λ at. InsertHorizontalLine at.0 (horizontal_main at.1)) (placed_character rest)) _ (Some setting) past_vline.1) [
+        | inl hline ↦ worded keyword (codes "hline") rest setting hline.0 (hline_read rest setting text hline.1)
+        | inr past_hline ↦ elim (chosen (bytes_eq keyword (codes "novline")) (option_map (λ col. RemoveVerticalLine col 0) (number_of rest)) _ (Some setting) past_hline.1) [
+          | inl novline ↦ worded keyword (codes "novline") rest setting novline.0 (novline_read rest setting novline.1)
+          | inr past_novline ↦ elim (chosen (bytes_eq keyword (codes "nohline")) (option_map (λ row. RemoveHorizontalLine row 0) (number_of rest)) None (Some setting) past_novline.1) [
+            | inl nohline ↦ worded keyword (codes "nohline") rest setting nohline.0 (nohline_read rest setting nohline.1)
+            | inr none ↦ absurd (none-some setting none.1)
+          ]
+        ]
+      ]
+    ]
+  ]
+]
 
 -- ---- texts
 
@@ -174,29 +260,25 @@ means_read (b ∷ c ∷ bs) meant h =
 
 -- ---- lines
 
-keyword_read : (keyword rest : List ℕ) (s : Said) → keyword_says keyword rest ≡ Some s → IsLine (keyword ++ 32 ∷ rest) s
+keyword_read : (keyword rest : List ℕ) (s : Said) → IsUtf8 rest → keyword_says keyword rest ≡ Some s → IsLine (keyword ++ 32 ∷ rest) s
 unfolding keyword_says
-keyword_read keyword rest s h = elim (chosen (bytes_eq keyword (codes "cell")) (option_map Cell (unescaped rest)) _ (Some s) h) [
+keyword_read keyword rest s text h = elim (chosen (bytes_eq keyword (codes "cell")) (option_map Cell (unescaped rest)) _ (Some s) h) [
   | inl cell ↦
-      let text = map_some Cell (unescaped rest) s cell.1 in
-      subst (IsLine (keyword ++ 32 ∷ rest)) text.2 (inr (rest, means_read rest text.0 text.1, ap (λ w. w ++ 32 ∷ rest) (is_word keyword (codes "cell") cell.0)))
+      let meant = map_some Cell (unescaped rest) s cell.1 in
+      subst (IsLine (keyword ++ 32 ∷ rest)) meant.2 (inr (rest, means_read rest meant.0 meant.1, ap (λ w. w ++ 32 ∷ rest) (is_word keyword (codes "cell") cell.0)))
   | inr other ↦ elim (chosen (bytes_eq keyword (codes "columns")) (option_map Columns (number_of rest)) _ (Some s) other.1) [
     | inl columns ↦
         let n = map_some Columns (number_of rest) s columns.1 in
         subst (IsLine (keyword ++ 32 ∷ rest)) n.2 (rest, number_read rest n.0 n.1, ap (λ w. w ++ 32 ∷ rest) (is_word keyword (codes "columns") columns.0))
-    | inr more ↦ elim (chosen (bytes_eq keyword (codes "pad")) (option_map Set (padding_of rest)) None (Some s) more.1) [
-      | inl pad ↦
-          let setting = map_some Set (padding_of rest) s pad.1 in
-          subst (IsLine (keyword ++ 32 ∷ rest)) setting.2
-          (subst (λ (w : List ℕ). IsLine (w ++ 32 ∷ rest) (Set setting.0)) (sym (is_word keyword (codes "pad") pad.0)) (padding_read rest setting.0 setting.1))
-      | inr none ↦ absurd (none-some s none.1)
-    ]
+    | inr more ↦
+        let setting = map_some Set (setting_of keyword rest) s more.1 in
+        subst (IsLine (keyword ++ 32 ∷ rest)) setting.2 (setting_read keyword rest setting.0 text setting.1)
   ]
 ]
 
-text_read : (line : List ℕ) (s : Said) → text_says line ≡ Some s → IsLine line s
+text_read : (line : List ℕ) (s : Said) → IsUtf8 line → text_says line ≡ Some s → IsLine line s
 unfolding text_says
-text_read line s h = elim (chosen (bytes_eq line (codes "")) (Some Nothing) _ (Some s) h) [
+text_read line s text h = elim (chosen (bytes_eq line (codes "")) (Some Nothing) _ (Some s) h) [
   | inl empty ↦ subst (IsLine line) (same_Some _ _ empty.1) (is_word line (codes "") empty.0)
   | inr some ↦ elim (chosen (bytes_eq line (codes "row")) (Some Row) _ (Some s) some.1) [
     | inl row ↦ subst (IsLine line) (same_Some _ _ row.1) (is_word line (codes "row") row.0)
@@ -204,7 +286,9 @@ text_read line s h = elim (chosen (bytes_eq line (codes "")) (Some Nothing) _ (S
       | inl cell ↦ subst (IsLine line) (same_Some _ _ cell.1) (inl (is_word line (codes "cell") cell.0, refl))
       | inr worded ↦
           let parts = bind_some (λ (p : List ℕ × List ℕ). keyword_says p.0 p.1) (parted_at 32 line) s worded.1 in
-          subst (λ (l : List ℕ). IsLine l s) (sym (parted 32 line parts.0 parts.1)) (keyword_read parts.0.0 parts.0.1 s parts.2)
+          let whole = parted 32 line parts.0 parts.1 in
+          let behind = text_behind parts.0.0 parts.0.1 32 (lit< tt) (subst IsUtf8 whole text) in
+          subst (λ (l : List ℕ). IsLine l s) (sym whole) (keyword_read parts.0.0 parts.0.1 s behind parts.2)
     ]
   ]
 ]
@@ -212,6 +296,6 @@ text_read line s h = elim (chosen (bytes_eq line (codes "")) (Some Nothing) _ (S
 pub line_read : (line : List ℕ) (s : Said) → said line ≡ Some s → IsUtf8 line × IsLine line s
 unfolding said
 line_read line s h = elim (chosen (is_utf8 line) (text_says line) None (Some s) h) [
-  | inl text ↦ (IsUtf8-from_is_utf8 line text.0, text_read line s text.1)
+  | inl is ↦ let text = IsUtf8-from_is_utf8 line is.0 in (text, text_read line s text is.1)
   | inr none ↦ absurd (none-some s none.1)
 ]

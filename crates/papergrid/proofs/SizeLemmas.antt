@@ -17,10 +17,10 @@ use Rattle.papergrid.specs.declared.estimate.LayoutError.TheVariants as layout_e
 use Rattle.papergrid_values.specs.declared.position.Position.{Position}
 use Rattle.papergrid_values.specs.declared.indent.Indent.{Indent}
 use Rattle.papergrid_values.specs.declared.sides.Sides.{Sides}
-use Rattle.papergrid.specs.Cells.{Measure, TableCell, measured, cells_of_row, cells_from, cells_of}
+use Rattle.papergrid_maps.specs.BorderHeld.{HeldBorders}
+use Rattle.papergrid.specs.Cells.{Measure, TableCell, cells_of_row, cells_from, cells_of}
 use Rattle.papergrid.specs.Raising.{raised, raised_by, fits_in}
-use Rattle.papergrid.specs.Sizes.{Estimate, OutOfTable, TooLarge, Sized, sizes_of, first_out, column_of, row_of, width_need, height_need, widths_of, heights_of, unless_out, estimate_of, greatest}
-use Rattle.papergrid.specs.Scripts.{Table}
+use Rattle.papergrid.specs.Sizes.{Estimate, OutOfTable, TooLarge, Sized, sizes_of, first_out, column_of, row_of, width_need, height_need, widths_of, heights_of, vertical_lines_of, horizontal_lines_of, unless_large, unless_out, estimate_by, greatest}
 use Rattle.papergrid.specs.Seen.{GivesEstimate}
 
 and_true : (a b : Bool) → a && b ≡ true → (a ≡ true) × (b ≡ true)
@@ -94,6 +94,10 @@ module _ (along need : TableCell → ℕ) where
       let long : length new ≡ len = ap length same ∙ length-raised_by (replicate n 0) cells ∙ sym (many ∙ ap length zeros) in
       let seam : take len (new ++ drop (length new) items) ≡ new = rw (← long) (take-append_seam new (drop (length new) items)) in
       seam ∙ same ∙ raised_by-zeros n cells below
+
+  length-sizes_of : (n : ℕ) (cells : List TableCell) → length (sizes_of along need n cells) ≡ n
+  unfolding sizes_of
+  length-sizes_of n cells = length-map-range_with_len (λ i. top_at i cells) 0 n
 
   -- ---- a need that stands in the list is within the sum of the sizes
 
@@ -180,30 +184,62 @@ unfit_totals padding columns rows cells in_columns in_rows unfit =
 
 -- ---- what is estimated
 
-pub estimate-out : (table : Table) (place : Position) → Some place ≡ first_out table.columns (cells_of (measured table.rows)) → estimate_of table ≡ OutOfTable place
-unfolding estimate_of
-estimate-out table place first = ap (λ o. unless_out o (widths_of table) (heights_of table)) (sym first)
-
-large : (w h : List ℕ) → (2 ^ 64 ≤ sum w) ⊎ (2 ^ 64 ≤ sum h) → unless_out None w h ≡ TooLarge
-large w h past = elim past [
-  | inl wide ↦ let test : nat_le (2 ^ 64) (sum w) ≡ true = grind (arith, nat_tests) in rw test refl
-  | inr high ↦ let test : nat_le (2 ^ 64) (sum h) ≡ true = grind (arith, nat_tests) in rw (test, or_true) refl
+large : (w h : List ℕ) (m n : ℕ) → (2 ^ 64 ≤ m) ⊎ (2 ^ 64 ≤ n) → unless_large w h m n ≡ TooLarge
+large w h m n past = elim past [
+  | inl wide ↦ let test : nat_le (2 ^ 64) m ≡ true = grind (arith, nat_tests) in rw test refl
+  | inr high ↦ let test : nat_le (2 ^ 64) n ≡ true = grind (arith, nat_tests) in rw (test, or_true) refl
 ]
 
-pub estimate-large : (table : Table) → None ≡ first_out table.columns (cells_of (measured table.rows)) → (2 ^ 64 ≤ sum (widths_of table)) ⊎ (2 ^ 64 ≤ sum (heights_of table)) → estimate_of table ≡ TooLarge
-unfolding estimate_of
-estimate-large table none past = ap (λ o. unless_out o (widths_of table) (heights_of table)) (sym none) ∙ large (widths_of table) (heights_of table) past
-
-sized : (w h : List ℕ) → sum w < 2 ^ 64 → sum h < 2 ^ 64 → unless_out None w h ≡ Sized w h
-sized w h narrow low =
-    let wide : nat_le (2 ^ 64) (sum w) ≡ false = grind (arith, nat_tests) in
-    let high : nat_le (2 ^ 64) (sum h) ≡ false = grind (arith, nat_tests) in
+sized : (w h : List ℕ) (m n : ℕ) → m < 2 ^ 64 → n < 2 ^ 64 → unless_large w h m n ≡ Sized w h m n
+sized w h m n narrow low =
+    let wide : nat_le (2 ^ 64) m ≡ false = grind (arith, nat_tests) in
+    let high : nat_le (2 ^ 64) n ≡ false = grind (arith, nat_tests) in
     rw (wide, high) refl
 
-pub estimate-sized : (table : Table) → None ≡ first_out table.columns (cells_of (measured table.rows)) → sum (widths_of table) < 2 ^ 64 → sum (heights_of table) < 2 ^ 64
-    → estimate_of table ≡ Sized (widths_of table) (heights_of table)
-unfolding estimate_of
-estimate-sized table none narrow low = ap (λ o. unless_out o (widths_of table) (heights_of table)) (sym none) ∙ sized (widths_of table) (heights_of table) narrow low
+module _ (columns : ℕ) (rows : List (List Measure)) (padding : Position → Sides Indent) (borders : HeldBorders ℕ) where
+  -- the totals, with the lines
+  abbrev pub wide_total : ℕ
+  wide_total = sum (widths_of columns rows padding) + vertical_lines_of borders columns
+
+  abbrev pub high_total : ℕ
+  high_total = sum (heights_of columns rows padding) + horizontal_lines_of borders (length rows)
+
+  abbrev pub if_inside : Estimate
+  if_inside = unless_large (widths_of columns rows padding) (heights_of columns rows padding) wide_total high_total
+
+  -- the sum of the sizes and the lines that are counted where there are so many of them
+  pub wide_counted : (widths slice : List ℕ) (count lines : ℕ) → widths ≡ widths_of columns rows padding → slice ≡ widths → count ≡ length widths → lines ≡ vertical_lines_of borders count
+      → sum slice + lines ≡ wide_total
+  wide_counted widths slice count lines are lent many counted =
+      let as_many : count ≡ columns = many ∙ ap length are ∙ length-sizes_of column_of (width_need padding) columns (cells_of rows) in
+      ap (λ sizes. sum sizes + lines) (lent ∙ are) ∙ ap (λ n. sum (widths_of columns rows padding) + n) (counted ∙ ap (vertical_lines_of borders) as_many)
+
+  pub high_counted : (heights slice : List ℕ) (count lines : ℕ) → heights ≡ heights_of columns rows padding → slice ≡ heights → count ≡ length heights → lines ≡ horizontal_lines_of borders count
+      → sum slice + lines ≡ high_total
+  high_counted heights slice count lines are lent many counted =
+      let as_many : count ≡ length rows = many ∙ ap length are ∙ length-sizes_of row_of (height_need padding) (length rows) (cells_of rows) in
+      ap (λ sizes. sum sizes + lines) (lent ∙ are) ∙ ap (λ n. sum (heights_of columns rows padding) + n) (counted ∙ ap (horizontal_lines_of borders) as_many)
+
+  pub estimate-out : (place : Position) → Some place ≡ first_out columns (cells_of rows) → estimate_by columns rows padding borders ≡ OutOfTable place
+  unfolding estimate_by
+  estimate-out place first = ap (λ o. unless_out o if_inside) (sym first)
+
+  pub estimate-large : None ≡ first_out columns (cells_of rows) → (2 ^ 64 ≤ wide_total) ⊎ (2 ^ 64 ≤ high_total) → estimate_by columns rows padding borders ≡ TooLarge
+  unfolding estimate_by
+  estimate-large none past = ap (λ o. unless_out o if_inside) (sym none) ∙ large _ _ wide_total high_total past
+
+  pub estimate-sized : None ≡ first_out columns (cells_of rows) → wide_total < 2 ^ 64 → high_total < 2 ^ 64
+      → estimate_by columns rows padding borders ≡ Sized (widths_of columns rows padding) (heights_of columns rows padding) wide_total high_total
+  unfolding estimate_by
+  estimate-sized none narrow low = ap (λ o. unless_out o if_inside) (sym none) ∙ sized _ _ wide_total high_total narrow low
+
+  -- where a need does not fit, a total does not
+  pub estimate-unfit : None ≡ first_out columns (cells_of rows) → list_all (fits_in padding) (cells_of rows) ≡ false → estimate_by columns rows padding borders ≡ TooLarge
+  estimate-unfit none unfit =
+      estimate-large none (elim (unfit_totals padding columns (length rows) (cells_of rows) (cells_in_columns columns (cells_of rows) none) (cells_in_rows rows) unfit) [
+        | inl wide ↦ inl (omega (arith, wide))
+        | inr high ↦ inr (omega (arith, high))
+      ])
 
 -- an estimate that is so is also what follows from it
 pub gives_also : (result : Result Sizes LayoutError) (IsSo IsAlso : Estimate → Type 0) → ((e : Estimate) → IsSo e → IsAlso e) → GivesEstimate result IsSo → GivesEstimate result IsAlso

@@ -15,9 +15,11 @@ use Rattle.papergrid_values.specs.declared.entity.Entity.{Entity}
 use Rattle.papergrid_values.specs.declared.entity.Entity.TheVariants as entities
 use Rattle.papergrid_values.specs.declared.indent.Indent.{Indent}
 use Rattle.papergrid_values.specs.declared.sides.Sides.{Sides}
-use Rattle.papergrid.specs.declared.setting.Setting.TheVariants.{SetPadding}
-use Rattle.papergrid.specs.Grammar.{Said, Nothing, Columns, Set, Row, Cell, parted_at, number_of, cell_entity, entity_of, sides_of, padding_of, keyword_says, text_says, said}
-use Rattle.papergrid.specs.Spelling.{IsNumber, IsEntity, AreSides, Means, Ended, Plain, Newline, Tab, Backslash, IsLine}
+use Rattle.papergrid_config.specs.declared.setting.Setting.{Setting}
+use Rattle.papergrid_config.specs.declared.setting.Setting.TheVariants.{SetPadding}
+use Rattle.papergrid.specs.Grammar.{Said, Nothing, Columns, Set, Row, Cell, parted_at, number_of, cell_entity, entity_of, sides_of, padding_of, placed_character, setting_of, keyword_says, text_says, said}
+use Rattle.papergrid.specs.Spelling.{IsNumber, IsEntity, AreSides, IsCharacter, IsSetting, Pad, Border, Vline, Hline, Novline, Nohline, Means, Ended, Plain, Newline, Tab, Backslash, IsLine}
+use Rattle.papergrid.proofs.CharacterLemmas.{character_spelled}
 use Rattle.papergrid.specs.Texts.{unescaped, put_first}
 
 and_true : (a b : Bool) → a && b ≡ true → (a ≡ true) × (b ≡ true)
@@ -118,6 +120,25 @@ unfolding padding_of
 padding_spelled spelled rest entity sides is_entity are_sides =
     rw (parted_after 32 spelled rest (entity_lacks spelled entity is_entity), entity_spelled spelled entity is_entity, sides_spelled rest sides are_sides) refl
 
+-- ---- characters and lines
+
+placed_spelled : (digits x : List ℕ) (place c : ℕ) → IsNumber digits place → IsCharacter x c → placed_character (digits ++ 32 ∷ x) ≡ Some (place, c)
+unfolding placed_character
+placed_spelled digits x place c is_number is_character =
+    rw (parted_after 32 digits x (digits_lack 32 digits (lit< tt) is_number.digits_alone), number_spelled digits place is_number, character_spelled x c is_character) refl
+
+setting_spelled : (line : List ℕ) (setting : Setting) → IsSetting line setting → text_says line ≡ Some (Set setting)
+unfolding text_says keyword_says setting_of
+setting_spelled _ _ (Pad spelled rest entity sides is_entity are_sides) =
+    rw (parted_after 32 (codes "pad") (spelled ++ 32 ∷ rest) refl, padding_spelled spelled rest entity sides is_entity are_sides) refl
+setting_spelled _ _ (Border x c is_character) = rw (parted_after 32 (codes "border") x refl, character_spelled x c is_character) refl
+setting_spelled _ _ (Vline digits x col c is_number is_character) =
+    rw (parted_after 32 (codes "vline") (digits ++ 32 ∷ x) refl, placed_spelled digits x col c is_number is_character) refl
+setting_spelled _ _ (Hline digits x row c is_number is_character) =
+    rw (parted_after 32 (codes "hline") (digits ++ 32 ∷ x) refl, placed_spelled digits x row c is_number is_character) refl
+setting_spelled _ _ (Novline digits col is_number) = rw (parted_after 32 (codes "novline") digits refl, number_spelled digits col is_number) refl
+setting_spelled _ _ (Nohline digits row is_number) = rw (parted_after 32 (codes "nohline") digits refl, number_spelled digits row is_number) refl
+
 -- ---- texts
 
 means_spelled : (spelled meant : List ℕ) → Means spelled meant → unescaped spelled ≡ Some meant
@@ -137,8 +158,7 @@ unfolding text_says keyword_says
 text_spelled line Nothing h = subst (λ (l : List ℕ). text_says l ≡ Some Nothing) (sym h) refl
 text_spelled line (Columns n) h = subst (λ (l : List ℕ). text_says l ≡ Some (Columns n)) (sym h.2)
     (rw (parted_after 32 (codes "columns") h.0 refl) (ap (option_map Columns) (number_spelled h.0 n h.1)))
-text_spelled line (Set (SetPadding entity sides)) h = subst (λ (l : List ℕ). text_says l ≡ Some (Set (SetPadding entity sides))) (sym h.4)
-    (rw (parted_after 32 (codes "pad") (h.0 ++ 32 ∷ h.1) refl) (ap (option_map Set) (padding_spelled h.0 h.1 entity sides h.2 h.3)))
+text_spelled line (Set setting) h = setting_spelled line setting h
 text_spelled line Row h = subst (λ (l : List ℕ). text_says l ≡ Some Row) (sym h) refl
 text_spelled line (Cell text) h = elim h [
   | inl word ↦ subst (λ (l : List ℕ). text_says l ≡ Some (Cell text)) (sym word.0) (ap (λ t. Some (Cell t)) (sym word.1))

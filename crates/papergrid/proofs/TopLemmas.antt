@@ -9,12 +9,13 @@ use borrow.Author.Tests.{eqb-true, eq-eqb, ltb-true, ltb-false}
 use Rattle.std.proofs.lemmas.Option.{same_Some, none-some, slice_get-get_or, slice_get_within}
 use Rattle.papergrid_text.specs.Text.{text_dimension}
 use Rattle.papergrid_values.specs.declared.position.Position.{Position}
+use Rattle.papergrid_config.specs.Made.{characters_of}
 use Rattle.papergrid.specs.Cells.{Measure, TableCell, measured, cells_of_row, cells_from, cells_of}
 use Rattle.papergrid.specs.Scripts.{Table}
-use Rattle.papergrid.specs.Sizes.{Estimate, OutOfTable, TooLarge, Sized, sizes_of, first_out, column_of, row_of, padding_at, width_need, height_need, widths_of, heights_of, unless_out, estimate_of}
+use Rattle.papergrid.specs.Sizes.{Estimate, OutOfTable, TooLarge, Sized, sizes_of, first_out, column_of, row_of, padding_at, width_need, height_need, widths_of, heights_of, horizontal_lines, unless_large, unless_out, estimate_by, estimate_of}
 use Rattle.papergrid.proofs.CellLemmas.{cell_at, first_out-within, first_out-past}
-use Rattle.papergrid.proofs.SizeLemmas.{top_at}
-use Rattle.papergrid.specs.Tops.{IsCellOf, IsTopNeed, AreTopNeeds, IsFirstOut, NoneOut, AreSizes, AllFit}
+use Rattle.papergrid.proofs.SizeLemmas.{top_at, wide_total, high_total}
+use Rattle.papergrid.specs.Tops.{IsCellOf, IsTopNeed, AreTopNeeds, IsFirstOut, NoneOut, AreSizes, AreTotals, AllFit}
 
 -- a cell stands in a list of cells
 abbrev Among : List TableCell → TableCell → Type 0
@@ -233,67 +234,99 @@ is_none_out columns rows h cell there =
 
 -- ---- what is estimated
 
-estimate_cases : (o : Option Position) (w h : List ℕ) (e : Estimate) → unless_out o w h ≡ e
+estimate_cases : (o : Option Position) (w h : List ℕ) (m n : ℕ) (e : Estimate) → unless_out o (unless_large w h m n) ≡ e
     → ((place : Position) × (o ≡ Some place) × (e ≡ OutOfTable place))
-    ⊎ (((o ≡ None) × (e ≡ TooLarge) × ((2 ^ 64 ≤ sum w) ⊎ (2 ^ 64 ≤ sum h)))
-    ⊎ ((o ≡ None) × (e ≡ Sized w h) × (sum w < 2 ^ 64) × (sum h < 2 ^ 64)))
-estimate_cases (Some place) w h e is = inl (place, refl, sym is)
-estimate_cases None w h e is = elim (by_test (nat_le (2 ^ 64) (sum w)) (nat_le (2 ^ 64) (sum h)) refl refl) [
+    ⊎ (((o ≡ None) × (e ≡ TooLarge) × ((2 ^ 64 ≤ m) ⊎ (2 ^ 64 ≤ n)))
+    ⊎ ((o ≡ None) × (e ≡ Sized w h m n) × (m < 2 ^ 64) × (n < 2 ^ 64)))
+estimate_cases (Some place) w h m n e is = inl (place, refl, sym is)
+estimate_cases None w h m n e is = elim (by_test (nat_le (2 ^ 64) m) (nat_le (2 ^ 64) n) refl refl) [
   | inl large ↦ inr (inl (refl, large.0, large.1))
   | inr sized ↦ inr (inr (refl, sized.0, sized.1, sized.2))
 ]
   where
-    by_test : (a b : Bool) → nat_le (2 ^ 64) (sum w) ≡ a → nat_le (2 ^ 64) (sum h) ≡ b
-        → ((e ≡ TooLarge) × ((2 ^ 64 ≤ sum w) ⊎ (2 ^ 64 ≤ sum h))) ⊎ ((e ≡ Sized w h) × (sum w < 2 ^ 64) × (sum h < 2 ^ 64))
-    by_test true b wide high = let past : 2 ^ 64 ≤ sum w = grind (arith, nat_tests) in inl (sym is ∙ rw wide refl, inl past)
-    by_test false true wide high = let past : 2 ^ 64 ≤ sum h = grind (arith, nat_tests) in inl (sym is ∙ rw (wide, high) refl, inr past)
+    by_test : (a b : Bool) → nat_le (2 ^ 64) m ≡ a → nat_le (2 ^ 64) n ≡ b
+        → ((e ≡ TooLarge) × ((2 ^ 64 ≤ m) ⊎ (2 ^ 64 ≤ n))) ⊎ ((e ≡ Sized w h m n) × (m < 2 ^ 64) × (n < 2 ^ 64))
+    by_test true b wide high = let past : 2 ^ 64 ≤ m = grind (arith, nat_tests) in inl (sym is ∙ rw wide refl, inl past)
+    by_test false true wide high = let past : 2 ^ 64 ≤ n = grind (arith, nat_tests) in inl (sym is ∙ rw (wide, high) refl, inr past)
     by_test false false wide high =
-        let narrow : sum w < 2 ^ 64 = grind (arith, nat_tests) in
-        let low : sum h < 2 ^ 64 = grind (arith, nat_tests) in
+        let narrow : m < 2 ^ 64 = grind (arith, nat_tests) in
+        let low : n < 2 ^ 64 = grind (arith, nat_tests) in
         inr (sym is ∙ rw (wide, high) refl, narrow, low)
 
-are_sizes : (table : Table) → first_out table.columns (cells_of (measured table.rows)) ≡ None → AreSizes table (widths_of table) (heights_of table)
-are_sizes table none = record {
-  inside = is_none_out table.columns (measured table.rows) none;
-  widths_top = sizes_top column_of (width_need (padding_at table.settings)) (measured table.rows) table.columns;
-  heights_top = sizes_top row_of (height_need (padding_at table.settings)) (measured table.rows) (length table.rows);
-}
+module _ (table : Table) where
+  abbrev measures : List (List Measure)
+  measures = measured table.rows
 
-all_fit : (table : Table) (widths heights : List ℕ) → AreSizes table widths heights → AllFit table widths heights
-all_fit table widths heights are = record {
-  columns_fit = λ cell there.
-      let within = are.inside cell there in
-      (omega (arith, within, are.widths_top.as_many), (are.widths_top.tops cell.place.col within).enough cell there refl);
-  rows_fit = λ cell there.
-      let within : cell.place.row < length table.rows = subst (λ n. cell.place.row < n) (length-map table.rows (map text_dimension)) (slice_get_within (measured table.rows) cell.place.row there.measures there.row_there) in
-      (omega (arith, within, are.heights_top.as_many), (are.heights_top.tops cell.place.row within).enough cell there refl);
-}
+  abbrev widths : List ℕ
+  widths = widths_of table.columns measures (padding_at table.settings)
+
+  abbrev heights : List ℕ
+  heights = heights_of table.columns measures (padding_at table.settings)
+
+  abbrev total_width : ℕ
+  total_width = wide_total table.columns measures (padding_at table.settings) (characters_of table.settings)
+
+  abbrev total_height : ℕ
+  total_height = high_total table.columns measures (padding_at table.settings) (characters_of table.settings)
+
+  as_many_rows : length measures ≡ length table.rows
+  as_many_rows = length-map table.rows (map text_dimension)
+
+  are_sizes : first_out table.columns (cells_of measures) ≡ None → AreSizes table widths heights
+  are_sizes none = record {
+    inside = is_none_out table.columns measures none;
+    widths_top = sizes_top column_of (width_need (padding_at table.settings)) measures table.columns;
+    heights_top = subst (λ (n : ℕ). AreTopNeeds measures row_of (height_need (padding_at table.settings)) n heights) as_many_rows (sizes_top row_of (height_need (padding_at table.settings)) measures (length measures));
+  }
+
+  are_totals : AreTotals table widths heights total_width total_height
+  are_totals = record { is_width = refl; is_height = ap (λ n. sum heights + horizontal_lines table.settings n) as_many_rows }
+
+  all_fit : (ws hs : List ℕ) → AreSizes table ws hs → AllFit table ws hs
+  all_fit ws hs are = record {
+    columns_fit = λ cell there.
+        let within = are.inside cell there in
+        (omega (arith, within, are.widths_top.as_many), (are.widths_top.tops cell.place.col within).enough cell there refl);
+    rows_fit = λ cell there.
+        let within : cell.place.row < length table.rows = subst (λ n. cell.place.row < n) as_many_rows (slice_get_within measures cell.place.row there.measures there.row_there) in
+        (omega (arith, within, are.heights_top.as_many), (are.heights_top.tops cell.place.row within).enough cell there refl);
+  }
+
+  cases : (e : Estimate) → estimate_of table ≡ e
+      → ((place : Position) × (first_out table.columns (cells_of measures) ≡ Some place) × (e ≡ OutOfTable place))
+      ⊎ (((first_out table.columns (cells_of measures) ≡ None) × (e ≡ TooLarge) × ((2 ^ 64 ≤ total_width) ⊎ (2 ^ 64 ≤ total_height)))
+      ⊎ ((first_out table.columns (cells_of measures) ≡ None) × (e ≡ Sized widths heights total_width total_height) × (total_width < 2 ^ 64) × (total_height < 2 ^ 64)))
+  unfolding estimate_by
+  cases e is = estimate_cases (first_out table.columns (cells_of measures)) widths heights total_width total_height e is
 
 pub estimate_out : (table : Table) (place : Position) → estimate_of table ≡ OutOfTable place → IsFirstOut table.columns (measured table.rows) place
-unfolding estimate_of
-estimate_out table place h = elim (estimate_cases (first_out table.columns (cells_of (measured table.rows))) (widths_of table) (heights_of table) (OutOfTable place) h) [
+estimate_out table place h = elim (cases table (OutOfTable place) h) [
   | inl out ↦ let same : out.0 ≡ place = cc out.2 in is_first_out table.columns (measured table.rows) place (out.1 ∙ ap (λ p. Some p) same)
   | inr other ↦ elim other [ inl large ↦ cc large.1 | inr sized ↦ cc sized.1 ]
 ]
 
-pub estimate_too_large : (table : Table) → estimate_of table ≡ TooLarge → (widths : List ℕ) × (heights : List ℕ) × AreSizes table widths heights × ((2 ^ 64 ≤ sum widths) ⊎ (2 ^ 64 ≤ sum heights))
-unfolding estimate_of
-estimate_too_large table h = elim (estimate_cases (first_out table.columns (cells_of (measured table.rows))) (widths_of table) (heights_of table) TooLarge h) [
+pub estimate_too_large : (table : Table) → estimate_of table ≡ TooLarge
+    → (ws : List ℕ) × (hs : List ℕ) × (m : ℕ) × (n : ℕ) × AreSizes table ws hs × AreTotals table ws hs m n × ((2 ^ 64 ≤ m) ⊎ (2 ^ 64 ≤ n))
+estimate_too_large table h = elim (cases table TooLarge h) [
   | inl out ↦ cc out.2
-  | inr other ↦ elim other [ inl large ↦ (widths_of table, heights_of table, are_sizes table large.0, large.2) | inr sized ↦ cc sized.1 ]
+  | inr other ↦ elim other [
+    | inl large ↦ (widths table, heights table, total_width table, total_height table, are_sizes table large.0, are_totals table, large.2)
+    | inr sized ↦ cc sized.1
+  ]
 ]
 
-pub estimate_sized : (table : Table) (widths heights : List ℕ) → estimate_of table ≡ Sized widths heights
-    → AreSizes table widths heights × (sum widths < 2 ^ 64) × (sum heights < 2 ^ 64) × AllFit table widths heights
-unfolding estimate_of
-estimate_sized table widths heights h = elim (estimate_cases (first_out table.columns (cells_of (measured table.rows))) (widths_of table) (heights_of table) (Sized widths heights) h) [
+pub estimate_sized : (table : Table) (ws hs : List ℕ) (m n : ℕ) → estimate_of table ≡ Sized ws hs m n
+    → AreSizes table ws hs × AreTotals table ws hs m n × (m < 2 ^ 64) × (n < 2 ^ 64) × AllFit table ws hs
+estimate_sized table ws hs m n h = elim (cases table (Sized ws hs m n) h) [
   | inl out ↦ cc out.2
   | inr other ↦ elim other [
     | inl large ↦ cc large.1
     | inr sized ↦
-        let w : widths_of table ≡ widths = cc sized.1 in
-        let t : heights_of table ≡ heights = cc sized.1 in
-        let are : AreSizes table widths heights = subst (λ (l : List ℕ). AreSizes table l heights) w (subst (λ (l : List ℕ). AreSizes table (widths_of table) l) t (are_sizes table sized.0)) in
-        (are, rw (← w) sized.2, rw (← t) sized.3, all_fit table widths heights are)
+        let w : widths table ≡ ws = cc sized.1 in
+        let t : heights table ≡ hs = cc sized.1 in
+        let wide : total_width table ≡ m = cc sized.1 in
+        let high : total_height table ≡ n = cc sized.1 in
+        let are : AreSizes table ws hs = rw (← w, ← t) (are_sizes table sized.0) in
+        (are, rw (← w, ← t, ← wide, ← high) (are_totals table), rw (← wide) sized.2, rw (← high) sized.3, all_fit table ws hs are)
   ]
 ]

@@ -1,14 +1,17 @@
 -- What the lines of a script say.
 use Rattle.std.specs.Prelude.{ℕ, ◌-◌, ◌^◌, ◌&&◌, List, [], ◌∷◌, map, length, take, drop, Option, Some, None, option_map, ◌==◌, nat_lt, nat_eq, slice_index, if◌then◌else◌, codes, bytes_eq}
 use Rattle.std.specs.List.{slice_split, starts_with, before_first, after_first, position_or_len}
-use Rattle.std.specs.Str.{is_utf8, all_ascii_digits}
+use Rattle.std.specs.Str.{chars, is_utf8, all_ascii_digits}
 use Rattle.std.specs.Str.Parse.{digits_value}
 use Rattle.papergrid_values.specs.declared.entity.Entity.{Entity}
 use Rattle.papergrid_values.specs.declared.entity.Entity.TheVariants as entities
 use Rattle.papergrid_values.specs.declared.indent.Indent.{Indent}
 use Rattle.papergrid_values.specs.declared.sides.Sides.{Sides}
-use Rattle.papergrid.specs.declared.setting.Setting.{Setting}
-use Rattle.papergrid.specs.declared.setting.Setting.TheVariants.{SetPadding}
+use Rattle.papergrid_values.specs.declared.horizontal_line.HorizontalLine.{HorizontalLine}
+use Rattle.papergrid_values.specs.declared.vertical_line.VerticalLine.{VerticalLine}
+use Rattle.papergrid_values.specs.Borders.{frame_with}
+use Rattle.papergrid_config.specs.declared.setting.Setting.{Setting}
+use Rattle.papergrid_config.specs.declared.setting.Setting.TheVariants.{SetPadding, SetBorders, InsertVerticalLine, InsertHorizontalLine, RemoveVerticalLine, RemoveHorizontalLine}
 use Rattle.papergrid.specs.Texts.{newline, unescaped}
 
 infixl 10 ◌>>=◌
@@ -80,7 +83,46 @@ padding_of spelled = do
   sides ← sides_of parts.1
   Some (SetPadding entity sides)
 
--- ---- lines
+-- ---- borders and lines
+
+abbrev pub one_alone : List ℕ → Option ℕ
+one_alone [] = None
+one_alone (c ∷ []) = Some c
+one_alone (c ∷ next ∷ cs) = None
+
+-- the character that a text is, if it is exactly one
+unfoldable pub character_of : List ℕ → Option ℕ
+character_of spelled = one_alone (chars spelled)
+
+-- a number, and one character after it and a space
+unfoldable pub placed_character : List ℕ → Option (ℕ × ℕ)
+placed_character spelled = do
+  parts ← parted_at space spelled
+  place ← number_of parts.0
+  c ← character_of parts.1
+  Some (place, c)
+
+-- lines of one character, whose crossings and ends are not set
+abbrev pub vertical_main : ℕ → VerticalLine ℕ
+vertical_main c = record { main = Some c; intersection = None; top = None; bottom = None }
+
+abbrev pub horizontal_main : ℕ → HorizontalLine ℕ
+horizontal_main c = record { main = Some c; intersection = None; left = None; right = None }
+
+-- ---- settings
+
+-- a keyword, and what stands after it and a space
+unfoldable pub setting_of : List ℕ → List ℕ → Option Setting
+setting_of keyword rest =
+    if bytes_eq keyword (codes "pad") then padding_of rest
+    else if bytes_eq keyword (codes "border") then option_map (λ c. SetBorders (frame_with (Some c))) (character_of rest)
+    else if bytes_eq keyword (codes "vline") then option_map (λ at. InsertVerticalLine at.0 (vertical_main at.1)) (placed_character rest)
+    else if bytes_eq keyword (codes "hline") then option_map (λ at. InsertHorizontalLine at.0 (horizontal_main at.1)) (placed_character rest)
+    else if bytes_eq keyword (codes "novline") then option_map (λ col. RemoveVerticalLine col 0) (number_of rest)
+    else if bytes_eq keyword (codes "nohline") then option_map (λ row. RemoveHorizontalLine row 0) (number_of rest)
+    else None
+
+-- ---- lines of a script
 
 -- what a line of a script says
 pub data Said : Type 0 where
@@ -95,8 +137,7 @@ unfoldable pub keyword_says : List ℕ → List ℕ → Option Said
 keyword_says keyword rest =
     if bytes_eq keyword (codes "cell") then option_map Cell (unescaped rest)
     else if bytes_eq keyword (codes "columns") then option_map Columns (number_of rest)
-    else if bytes_eq keyword (codes "pad") then option_map Set (padding_of rest)
-    else None
+    else option_map Set (setting_of keyword rest)
 
 unfoldable pub text_says : List ℕ → Option Said
 text_says line =
@@ -109,7 +150,7 @@ text_says line =
 unfoldable pub said : List ℕ → Option Said
 said line = if is_utf8 line then text_says line else None
 
--- ---- the lines of a script
+-- ---- all lines of a script
 
 -- a CR at the end is dropped
 abbrev pub without_cr : List ℕ → List ℕ

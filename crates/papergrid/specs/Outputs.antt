@@ -1,5 +1,5 @@
 -- What the program writes for an input, and how it ends.
-use Rattle.std.specs.Prelude.{ℕ, List, [], ◌∷◌, ◌++◌, sum, Result, Ok, Err, codes, decimal, flat_map}
+use Rattle.std.specs.Prelude.{ℕ, List, [], ◌∷◌, ◌++◌, Result, Ok, Err, codes, decimal, flat_map}
 use Rattle.papergrid.specs.declared.running.RunEnd.{RunEnd}
 use Rattle.papergrid.specs.declared.running.RunEnd.TheVariants.{Done, Refused, BadScript}
 use Rattle.papergrid.specs.Grammar.{space, comma}
@@ -17,9 +17,9 @@ number_line word numbers = word ++ spaced numbers ++ newline ∷ []
 abbrev pub estimate_text : Estimate → List ℕ
 estimate_text (OutOfTable place) = codes "refused: out of table at " ++ (decimal place.row ++ (comma ∷ (decimal place.col ++ newline ∷ [])))
 estimate_text TooLarge = codes "refused: too large" ++ newline ∷ []
-estimate_text (Sized widths heights) =
+estimate_text (Sized widths heights total_width total_height) =
     number_line (codes "widths") widths ++ number_line (codes "heights") heights
-    ++ number_line (codes "total") (sum widths ∷ sum heights ∷ [])
+    ++ number_line (codes "total") (total_width ∷ total_height ∷ [])
 
 abbrev pub script_text : Result Table ℕ → List ℕ
 script_text (Err number) = codes "bad script at line " ++ decimal number ++ newline ∷ []
@@ -28,7 +28,7 @@ script_text (Ok table) = estimate_text (estimate_of table)
 abbrev pub estimate_end : Estimate → RunEnd
 estimate_end (OutOfTable place) = Refused
 estimate_end TooLarge = Refused
-estimate_end (Sized widths heights) = Done
+estimate_end (Sized widths heights total_width total_height) = Done
 
 abbrev pub script_end : Result Table ℕ → RunEnd
 script_end (Err number) = BadScript

@@ -16,8 +16,13 @@ pub record WorkedRows : Type 0 where
   pub row_pin_over_column : Gives (codes "pad c0 1 0 0 0\ncolumns 1\nrow\ncell\ncell\ncolumns 2\npad r0 0 5 0 0\n") (codes "widths 5 5\nheights 1\ntotal 10 1\n") Done
   pub greatest_size : Gives (codes "columns 1\npad * 18446744073709551615 0 0 0\nrow\ncell\n") (codes "widths 18446744073709551615\nheights 1\ntotal 18446744073709551615 1\n") Done
   pub greatest_size_and_one : Gives (codes "columns 1\npad * 18446744073709551615 0 0 0\nrow\ncell a\n") (codes "refused: too large\n") Refused
+  pub greatest_size_and_borders : Gives (codes "columns 1\npad * 18446744073709551615 0 0 0\nrow\ncell\nborder |\n") (codes "refused: too large\n") Refused
   pub out_of_table : Gives (codes "columns 1\nrow\ncell a\ncell b\n") (codes "refused: out of table at 0,1\n") Refused
   pub no_columns : Gives (codes "columns 0\n") (codes "widths\nheights\ntotal 0 0\n") Done
   pub empty_input : Gives (codes "") (codes "widths\nheights\ntotal 0 0\n") Done
+  pub borders_alone : Gives (codes "columns 0\nborder |\n") (codes "widths\nheights\ntotal 1 1\n") Done
+  pub one_line : Gives (codes "columns 2\nvline 1 |\nhline 7 -\nrow\ncell ab\ncell c\n") (codes "widths 2 1\nheights 1\ntotal 4 1\n") Done
+  pub no_line : Gives (codes "columns 2\nvline 1 |\nhline 7 -\nrow\ncell ab\ncell c\nnovline 1\n") (codes "widths 2 1\nheights 1\ntotal 3 1\n") Done
+  pub all_lines : Gives (codes "columns 2\nborder |\nrow\ncell ab\ncell c\n") (codes "widths 2 1\nheights 1\ntotal 6 3\n") Done
   pub cell_before_row : Gives (codes "cell a\n") (codes "bad script at line 1\n") BadScript
   pub bad_escape : Gives (codes "columns 2\n\nrow\ncell a\\x\n") (codes "bad script at line 4\n") BadScript

@@ -1,6 +1,6 @@
 -- What a whole script tells, or its first bad line.
 use Rattle.std.specs.Prelude.{ℕ, ◌+◌, ◌-◌, length, slice_get, slice_set, List, [], ◌∷◌, ◌++◌, Option, Some, None, option_map, option_and_then, Result, Ok, Err}
-use Rattle.papergrid.specs.declared.setting.Setting.{Setting}
+use Rattle.papergrid_config.specs.declared.setting.Setting.{Setting}
 use Rattle.papergrid.specs.Grammar.{Said, Nothing, Columns, Set, Row, Cell, said, script_lines}
 
 -- a column count, the settings in their order, and the texts of the cells of each row

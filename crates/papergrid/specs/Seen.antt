@@ -1,26 +1,17 @@
 -- What clauses see of the values that the program holds.
-use Rattle.std.specs.Prelude.{◌≡◌, ℕ, List, map, Result, Ok, Err, Vec}
+use Rattle.std.specs.Prelude.{◌≡◌, ℕ, Bool, List, map, MatchBool, Option, Some, None, option_and_then, Result, Ok, Err, Vec}
 use Rattle.std.specs.Cow.{cow_str_bytes}
 use Rattle.std.specs.declared.alloc.Global.{Global}
 use Rattle.std.specs.declared.borrow.CowStr.{CowStr}
-use Rattle.papergrid.specs.declared.script_line.ScriptLine.{ScriptLine}
-use Rattle.papergrid.specs.declared.script_line.ScriptLine.TheVariants as lines
 use Rattle.papergrid.specs.declared.script.Script.{Script}
 use Rattle.papergrid.specs.declared.script.ScriptError.{ScriptError}
 use Rattle.papergrid.specs.declared.script.ScriptError.TheVariants as script_errors
 use Rattle.papergrid.specs.declared.estimate.Sizes.{Sizes}
 use Rattle.papergrid.specs.declared.estimate.LayoutError.{LayoutError}
 use Rattle.papergrid.specs.declared.estimate.LayoutError.TheVariants as layout_errors
-use Rattle.papergrid.specs.Grammar.{Said, Nothing, Columns, Set, Row, Cell}
-use Rattle.papergrid.specs.Scripts.{Table}
+use Rattle.papergrid.specs.Grammar.{Said}
+use Rattle.papergrid.specs.Scripts.{Table, with_line}
 use Rattle.papergrid.specs.Sizes.{Estimate, OutOfTable, TooLarge, Sized}
-
-abbrev pub meaning : ScriptLine → Said
-meaning lines.Empty = Nothing
-meaning (lines.Columns n) = Columns n
-meaning (lines.Set setting) = Set setting
-meaning lines.Row = Row
-meaning (lines.Cell text) = Cell (cow_str_bytes text)
 
 abbrev pub texts_of : Vec (CowStr Global) Global → List (List ℕ)
 texts_of cells = map cow_str_bytes cells.items
@@ -31,6 +22,10 @@ measures_of row = row.items
 abbrev pub table_seen : Script → Table
 table_seen script = record { columns = script.columns; settings = script.settings.items; rows = map texts_of script.rows.items }
 
+-- what a line says fits, and makes the one table the other; or it does not fit
+abbrev pub Takes : Table → Option Said → Bool → Table → Type 0
+Takes old says fits new = MatchBool fits (option_and_then (with_line old) says ≡ Some new) (option_and_then (with_line old) says ≡ None)
+
 -- the table that a script tells, or a bad line; want of memory says nothing
 abbrev pub GivesTable : Result Script ScriptError → Result Table ℕ → Type 0
 GivesTable (Ok script) told = told ≡ Ok (table_seen script)
@@ -39,7 +34,7 @@ GivesTable (Err script_errors.Memory) told = Unit {0}
 
 -- what is estimated is so; want of memory says nothing
 abbrev pub GivesEstimate : Result Sizes LayoutError → (Estimate → Type 0) → Type 0
-GivesEstimate (Ok sizes) IsSo = IsSo (Sized sizes.widths.items sizes.heights.items)
+GivesEstimate (Ok sizes) IsSo = IsSo (Sized sizes.widths.items sizes.heights.items sizes.total_width sizes.total_height)
 GivesEstimate (Err (layout_errors.OutOfTable place)) IsSo = IsSo (OutOfTable place)
 GivesEstimate (Err layout_errors.TooLarge) IsSo = IsSo TooLarge
 GivesEstimate (Err layout_errors.Memory) IsSo = Unit {0}

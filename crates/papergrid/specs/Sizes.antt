@@ -1,29 +1,37 @@
--- The sizes of a table without spans and lines: each is the greatest need of its cells.
-use Rattle.std.specs.Prelude.{ℕ, ◌+◌, ◌^◌, ◌==◌, List, [], ◌∷◌, map, filter, find, flat_map, length, max, sum, Option, Some, None, option_map, nat_le, ◌||◌, if◌then◌else◌}
+-- The sizes of a table without spans, each the greatest need of its cells, and its totals, which count its lines.
+use Rattle.std.specs.Prelude.{ℕ, ◌+◌, ◌^◌, ◌==◌, List, [], ◌∷◌, map, filter, find, length, max, sum, Option, Some, None, option_map, nat_le, ◌||◌, if◌then◌else◌}
 use Rattle.std.specs.List.{range_with_len}
 use Rattle.papergrid_values.specs.declared.position.Position.{Position}
 use Rattle.papergrid_values.specs.declared.indent.Indent.{Indent}
 use Rattle.papergrid_values.specs.declared.sides.Sides.{Sides}
-use Rattle.papergrid.specs.declared.setting.Setting.{Setting}
-use Rattle.papergrid.specs.declared.setting.Setting.TheVariants.{SetPadding}
-use Rattle.papergrid_maps.specs.declared.entity_map.MapCall.{MapCall}
-use Rattle.papergrid_maps.specs.declared.entity_map.MapCall.TheVariants.{Insert}
-use Rattle.papergrid_maps.specs.MapCalls.{decided_value}
-use Rattle.papergrid.specs.Cells.{TableCell, cells_of, measured}
-use Rattle.papergrid.specs.Grammar.{spaces}
+use Rattle.papergrid_maps.specs.BorderHeld.{HeldBorders}
+use Rattle.papergrid_maps.specs.LineTests.{horizontal_line_at, vertical_line_at}
+use Rattle.papergrid_config.specs.declared.setting.Setting.{Setting}
+use Rattle.papergrid_config.specs.Decided as decided
+use Rattle.papergrid_config.specs.Lines.{count_lines}
+use Rattle.papergrid_config.specs.Made.{characters_of}
+use Rattle.papergrid.specs.Cells.{Measure, TableCell, cells_of, measured}
 use Rattle.papergrid.specs.Scripts.{Table}
 
--- ---- paddings
-
-abbrev pub padding_calls : Setting → List (MapCall (Sides Indent))
-padding_calls (SetPadding entity sides) = Insert entity sides ∷ []
-
-abbrev pub no_padding : Sides Indent
-no_padding = record { top = spaces 0; bottom = spaces 0; left = spaces 0; right = spaces 0 }
+-- ---- paddings and lines
 
 -- the padding that the settings decide for a cell
 unfoldable pub padding_at : List Setting → Position → Sides Indent
-padding_at settings place = decided_value no_padding (flat_map padding_calls settings) place
+padding_at settings place = decided.padding settings place
+
+-- how many vertical lines these borders make in a table of so many columns, and horizontal lines in one of so many rows
+abbrev pub vertical_lines_of : HeldBorders ℕ → ℕ → ℕ
+vertical_lines_of borders count = count_lines (λ col. vertical_line_at borders col count) count
+
+abbrev pub horizontal_lines_of : HeldBorders ℕ → ℕ → ℕ
+horizontal_lines_of borders count = count_lines (λ row. horizontal_line_at borders row count) count
+
+-- how many the settings make
+abbrev pub vertical_lines : List Setting → ℕ → ℕ
+vertical_lines settings count = vertical_lines_of (characters_of settings) count
+
+abbrev pub horizontal_lines : List Setting → ℕ → ℕ
+horizontal_lines settings count = horizontal_lines_of (characters_of settings) count
 
 -- ---- needs and sizes
 
@@ -50,28 +58,41 @@ column_of cell = cell.place.col
 abbrev pub row_of : TableCell → ℕ
 row_of cell = cell.place.row
 
-abbrev pub widths_of : Table → List ℕ
-widths_of table = sizes_of column_of (width_need (padding_at table.settings)) table.columns (cells_of (measured table.rows))
-
-abbrev pub heights_of : Table → List ℕ
-heights_of table = sizes_of row_of (height_need (padding_at table.settings)) (length table.rows) (cells_of (measured table.rows))
-
 -- ---- the estimate
 
 -- the first cell at or past the column count
 abbrev pub first_out : ℕ → List TableCell → Option Position
 first_out columns cells = option_map (λ cell. cell.place) (find (λ cell. nat_le columns cell.place.col) cells)
 
--- what an estimate answers
+-- what an estimate answers: the sizes are the widths, the heights, and the totals of both with the lines
 pub data Estimate : Type 0 where
   OutOfTable : Position → Estimate
   TooLarge : Estimate
-  Sized : List ℕ → List ℕ → Estimate
+  Sized : List ℕ → List ℕ → ℕ → ℕ → Estimate
 
-abbrev pub unless_out : Option Position → List ℕ → List ℕ → Estimate
-unless_out (Some place) widths heights = OutOfTable place
-unless_out None widths heights =
-    if nat_le (2 ^ 64) (sum widths) || nat_le (2 ^ 64) (sum heights) then TooLarge else Sized widths heights
+abbrev pub unless_large : List ℕ → List ℕ → ℕ → ℕ → Estimate
+unless_large widths heights total_width total_height =
+    if nat_le (2 ^ 64) total_width || nat_le (2 ^ 64) total_height then TooLarge else Sized widths heights total_width total_height
 
-unfoldable pub estimate_of : Table → Estimate
-estimate_of table = unless_out (first_out table.columns (cells_of (measured table.rows))) (widths_of table) (heights_of table)
+abbrev pub unless_out : Option Position → Estimate → Estimate
+unless_out (Some place) sized = OutOfTable place
+unless_out None sized = sized
+
+-- of rows of cells of these measures
+module _ (columns : ℕ) (rows : List (List Measure)) where
+  abbrev pub widths_of : (Position → Sides Indent) → List ℕ
+  widths_of padding = sizes_of column_of (width_need padding) columns (cells_of rows)
+
+  abbrev pub heights_of : (Position → Sides Indent) → List ℕ
+  heights_of padding = sizes_of row_of (height_need padding) (length rows) (cells_of rows)
+
+  -- where each place has this padding, and these borders make the lines
+  unfoldable pub estimate_by : (Position → Sides Indent) → HeldBorders ℕ → Estimate
+  estimate_by padding borders =
+      unless_out (first_out columns (cells_of rows))
+      (unless_large (widths_of padding) (heights_of padding)
+      (sum (widths_of padding) + vertical_lines_of borders columns) (sum (heights_of padding) + horizontal_lines_of borders (length rows)))
+
+-- of the table that a script tells
+abbrev pub estimate_of : Table → Estimate
+estimate_of table = estimate_by table.columns (measured table.rows) (padding_at table.settings) (characters_of table.settings)

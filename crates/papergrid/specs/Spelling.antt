@@ -1,13 +1,16 @@
 -- How the lines of a script are spelled: the grammar as a relation, apart from how a line is read.
-use Rattle.std.specs.Prelude.{◌≡◌, ◌≢◌, ◌⊎◌, ℕ, ◌<◌, ◌^◌, true, List, [], ◌∷◌, ◌++◌, length, codes}
+use Rattle.std.specs.Prelude.{◌≡◌, ◌≢◌, ◌⊎◌, ℕ, ◌<◌, ◌^◌, true, List, [], ◌∷◌, ◌++◌, Some, length, codes}
+use Rattle.std.specs.Char.{IsScalar, encode_utf8}
 use Rattle.std.specs.Str.{all_ascii_digits}
 use Rattle.std.specs.Str.Parse.{digits_value}
 use Rattle.papergrid_values.specs.declared.entity.Entity.{Entity}
 use Rattle.papergrid_values.specs.declared.entity.Entity.TheVariants as entities
 use Rattle.papergrid_values.specs.declared.indent.Indent.{Indent}
 use Rattle.papergrid_values.specs.declared.sides.Sides.{Sides}
-use Rattle.papergrid.specs.declared.setting.Setting.TheVariants.{SetPadding}
-use Rattle.papergrid.specs.Grammar.{Said, Nothing, Columns, Set, Row, Cell, space, comma, spaces}
+use Rattle.papergrid_values.specs.Borders.{frame_with}
+use Rattle.papergrid_config.specs.declared.setting.Setting.{Setting}
+use Rattle.papergrid_config.specs.declared.setting.Setting.TheVariants.{SetPadding, SetBorders, InsertVerticalLine, InsertHorizontalLine, RemoveVerticalLine, RemoveHorizontalLine}
+use Rattle.papergrid.specs.Grammar.{Said, Nothing, Columns, Set, Row, Cell, space, comma, spaces, vertical_main, horizontal_main}
 use Rattle.papergrid.specs.Texts.{newline, backslash}
 
 -- one or more digits, of a number that fits 64 bits
@@ -37,6 +40,23 @@ pub record AreSides (bytes : List ℕ) (sides : Sides Indent) : Type 0 where
   pub filled : sides ≡ record { top = spaces sides.top.size; bottom = spaces sides.bottom.size; left = spaces sides.left.size; right = spaces sides.right.size }
   pub spelled : bytes ≡ left ++ space ∷ (right ++ space ∷ (top ++ space ∷ bottom))
 
+-- one character
+pub record IsCharacter (bytes : List ℕ) (c : ℕ) : Type 0 where
+  pub scalar : IsScalar c
+  pub spelled : bytes ≡ encode_utf8 c
+
+-- a line that sets something, and what it sets
+pub data IsSetting : List ℕ → Setting → Type 0 where
+  Pad : (spelled rest : List ℕ) (entity : Entity) (sides : Sides Indent) → IsEntity spelled entity → AreSides rest sides
+      → IsSetting (codes "pad " ++ (spelled ++ space ∷ rest)) (SetPadding entity sides)
+  Border : (x : List ℕ) (c : ℕ) → IsCharacter x c → IsSetting (codes "border " ++ x) (SetBorders (frame_with (Some c)))
+  Vline : (digits x : List ℕ) (col c : ℕ) → IsNumber digits col → IsCharacter x c
+      → IsSetting (codes "vline " ++ (digits ++ space ∷ x)) (InsertVerticalLine col (vertical_main c))
+  Hline : (digits x : List ℕ) (row c : ℕ) → IsNumber digits row → IsCharacter x c
+      → IsSetting (codes "hline " ++ (digits ++ space ∷ x)) (InsertHorizontalLine row (horizontal_main c))
+  Novline : (digits : List ℕ) (col : ℕ) → IsNumber digits col → IsSetting (codes "novline " ++ digits) (RemoveVerticalLine col 0)
+  Nohline : (digits : List ℕ) (row : ℕ) → IsNumber digits row → IsSetting (codes "nohline " ++ digits) (RemoveHorizontalLine row 0)
+
 -- a spelled text and the text that it means: a backslash with an n is a newline, with a t a tab, with a backslash
 -- one backslash, and each other byte is itself
 pub data Means : List ℕ → List ℕ → Type 0 where
@@ -50,7 +70,6 @@ pub data Means : List ℕ → List ℕ → Type 0 where
 abbrev pub IsLine : List ℕ → Said → Type 0
 IsLine bytes Nothing = bytes ≡ []
 IsLine bytes (Columns n) = (digits : List ℕ) × IsNumber digits n × (bytes ≡ codes "columns " ++ digits)
-IsLine bytes (Set (SetPadding entity sides)) =
-    (spelled : List ℕ) × (rest : List ℕ) × IsEntity spelled entity × AreSides rest sides × (bytes ≡ codes "pad " ++ (spelled ++ space ∷ rest))
+IsLine bytes (Set setting) = IsSetting bytes setting
 IsLine bytes Row = bytes ≡ codes "row"
 IsLine bytes (Cell text) = ((bytes ≡ codes "cell") × (text ≡ [])) ⊎ ((spelled : List ℕ) × Means spelled text × (bytes ≡ codes "cell " ++ spelled))

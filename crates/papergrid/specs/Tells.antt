@@ -1,7 +1,7 @@
 -- What a whole script tells, apart from how its lines are taken one after another.
 use Rattle.std.specs.Prelude.{◌≡◌, ◌≢◌, ◌⊎◌, ℕ, ◌<◌, Bool, true, false, List, [], ◌∷◌, map, filter, flat_map, Option, Some, None, slice_get}
 use Rattle.std.specs.List.{filter_map}
-use Rattle.papergrid.specs.declared.setting.Setting.{Setting}
+use Rattle.papergrid_config.specs.declared.setting.Setting.{Setting}
 use Rattle.papergrid.specs.Grammar.{Said, Columns, Set, Row, Cell, said}
 use Rattle.papergrid.specs.Scripts.{Table}
 

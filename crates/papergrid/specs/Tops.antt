@@ -1,9 +1,9 @@
 -- What sizes and refusals are, apart from how they are found.
-use Rattle.std.specs.Prelude.{◌≡◌, ◌⊎◌, ℕ, ◌<◌, ◌≤◌, List, Some, slice_get, slice_index, length}
+use Rattle.std.specs.Prelude.{◌≡◌, ◌⊎◌, ℕ, ◌+◌, ◌<◌, ◌≤◌, List, Some, slice_get, slice_index, length, sum}
 use Rattle.papergrid_values.specs.declared.position.Position.{Position}
 use Rattle.papergrid.specs.Cells.{Measure, TableCell, measured}
 use Rattle.papergrid.specs.Scripts.{Table}
-use Rattle.papergrid.specs.Sizes.{column_of, row_of, padding_at, width_need, height_need}
+use Rattle.papergrid.specs.Sizes.{column_of, row_of, padding_at, width_need, height_need, vertical_lines, horizontal_lines}
 
 -- the rows have a cell of this measure at this row and column
 pub record IsCellOf (rows : List (List Measure)) (cell : TableCell) : Type 0 where
@@ -37,6 +37,11 @@ pub record AreSizes (table : Table) (widths heights : List ℕ) : Type 0 where
   pub inside : NoneOut table.columns (measured table.rows)
   pub widths_top : AreTopNeeds (measured table.rows) column_of (width_need (padding_at table.settings)) table.columns widths
   pub heights_top : AreTopNeeds (measured table.rows) row_of (height_need (padding_at table.settings)) (length table.rows) heights
+
+-- the totals of the sizes, with the lines of the table
+pub record AreTotals (table : Table) (widths heights : List ℕ) (total_width total_height : ℕ) : Type 0 where
+  pub is_width : total_width ≡ sum widths + vertical_lines table.settings table.columns
+  pub is_height : total_height ≡ sum heights + horizontal_lines table.settings (length table.rows)
 
 -- each cell stands in the table, and has room there
 pub record AllFit (table : Table) (widths heights : List ℕ) : Type 0 where

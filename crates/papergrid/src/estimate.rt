@@ -1,26 +1,26 @@
-//! The sizes of a table without spans and lines: each is the greatest need of its cells.
+//! The sizes of a table without spans: each is the greatest need of its cells; and its totals with lines.
 
-ghost use Rattle.std.specs.Prelude.{◌≡◌, ◌+◌, ◌≤◌, ◌<◌, ◌^◌, IfOk, IfNone, IfSome, All, List, flat_map, length, map, sum, false, None};
+ghost use Rattle.std.specs.Prelude.{◌≡◌, ◌+◌, ◌≤◌, ◌<◌, ◌^◌, IfOk, IfNone, IfSome, All, List, length, map, sum, false, None};
 ghost use Rattle.std.specs.Bool.{OnTrue};
 ghost use Rattle.std.specs.List.{list_all};
 ghost use Rattle.std.specs.Option.{SomeIff};
+ghost use Rattle.papergrid_maps.specs.MapHeld.{held_value};
+ghost use Rattle.papergrid_text.specs.Text.{text_dimension};
 ghost use Rattle.papergrid.specs.declared.estimate.LayoutError.TheVariants.{Memory};
-ghost use Rattle.papergrid_maps.specs.MapHeld.{IsTold, held_value};
-ghost use Rattle.papergrid.specs.Cells.{cells_of, cells_of_row, measured};
+ghost use Rattle.papergrid.specs.Cells.{cells_of, cells_of_row};
 ghost use Rattle.papergrid.specs.Raising.{fits_in, raised, raised_by};
-ghost use Rattle.papergrid.specs.Scripts.{Table};
 ghost use Rattle.papergrid.specs.Seen.{GivesEstimate, measures_of};
-ghost use Rattle.papergrid.specs.Sizes.{column_of, estimate_of, first_out, height_need, no_padding, padding_calls, row_of, sizes_of, width_need};
+ghost use Rattle.papergrid.specs.Sizes.{column_of, estimate_by, first_out, height_need, heights_of, row_of, width_need, widths_of};
 
 use crate::measured::measured;
-use crate::setting::Setting;
-use papergrid_maps::EntityMap;
+use papergrid_config::SpannedConfig;
 use papergrid_text::{IntoRecords, Records};
-use papergrid_values::{Indent, Position, Sides};
+use papergrid_values::{Indent, Position};
 use std::alloc::{AllocError, AllocFailed, Global};
 use std::convert::AsStr;
 
-/// The width of each column, in columns of a terminal, the height of each row, in lines, and their totals.
+/// The width of each column, in columns of a terminal, the height of each row, in lines, and the totals of
+/// both with the lines of the table.
 #[derive(Debug, Drop)]
 pub struct Sizes {
     pub widths: Vec<usize>,
@@ -56,23 +56,22 @@ impl<T: Drop> From<AllocFailed<T>> for LayoutError {
     }
 }
 
-/// The sizes of the table of these records, by these settings.
+/// The sizes of the table of these records, by this configuration.
 pub fn estimate<R: Records + Drop>(
     alloc: Global,
     records: R,
-    settings: &[Setting],
+    config: &SpannedConfig,
 ) -> Result<Sizes, LayoutError>
 where
     <<R as Records>::Iter as IntoRecords>::Cell: AsStr + Drop,
-    requires lawful { R.is_lawful records }
-    ensures told { GivesEstimate result (λ answer. (cells : List (List R.Iter.Cell)) × R.tells records cells
-        × (answer ≡ estimate_of (record { columns = R.columns records; settings = settings.now; rows = map (map R.Iter.Cell.text) cells }))) }
-    ensures total_width { IfOk result (λ sizes. sizes.total_width ≡ sum sizes.widths.items) }
-    ensures total_height { IfOk result (λ sizes. sizes.total_height ≡ sum sizes.heights.items) }
+    requires { R.is_lawful records }
+    ensures { GivesEstimate result (λ answer. (cells : List (List R.Iter.Cell)) × R.tells records cells
+        × (answer ≡ estimate_by (R.columns records) (map (map (λ cell. text_dimension (R.Iter.Cell.text cell))) cells)
+        (held_value config.now.padding) config.now.characters)) }
 {
     let columns = records.count_columns();
     let rows = measured(alloc, records)?;
-    estimate_measured(alloc, rows.as_slice(), columns, settings)
+    estimate_measured(alloc, rows.as_slice(), columns, config)
 }
 
 /// The sizes of the table of cells of these measures.
@@ -80,24 +79,23 @@ fn estimate_measured(
     alloc: Global,
     rows: &[Vec<(usize, usize)>],
     columns: usize,
-    settings: &[Setting],
+    config: &SpannedConfig,
 ) -> Result<Sizes, LayoutError>
-    ensures told { (table : Table) → table.columns ≡ columns → table.settings ≡ settings.now → measured table.rows ≡ map measures_of rows.now →
-        GivesEstimate result (λ answer. answer ≡ estimate_of table) }
-    ensures total_width { IfOk result (λ sizes. sizes.total_width ≡ sum sizes.widths.items) }
-    ensures total_height { IfOk result (λ sizes. sizes.total_height ≡ sum sizes.heights.items) }
+    ensures { GivesEstimate result (λ answer. answer ≡
+        estimate_by columns (map measures_of rows.now) (held_value config.now.padding) config.now.characters) }
 {
     if let Some(position) = first_out(rows, columns) {
         return Err(LayoutError::OutOfTable(position));
     }
-    let paddings = paddings(alloc, settings)?;
-    let Some((widths, heights)) = raised_sizes(alloc, &paddings, rows, columns)? else {
+    let Some((widths, heights)) = raised_sizes(alloc, config, rows, columns)? else {
         return Err(LayoutError::TooLarge);
     };
-    let Some(total_width) = total(widths.as_slice()) else {
+    // The sizes are there, so there are not too many lines to be counted.
+    let Some(total_width) = total(widths.as_slice(), config.count_vertical(widths.len())) else {
         return Err(LayoutError::TooLarge);
     };
-    let Some(total_height) = total(heights.as_slice()) else {
+    let Some(total_height) = total(heights.as_slice(), config.count_horizontal(heights.len()))
+    else {
         return Err(LayoutError::TooLarge);
     };
     Ok(Sizes {
@@ -121,40 +119,25 @@ fn first_out(rows: &[Vec<(usize, usize)>], columns: usize) -> Option<Position>
     None
 }
 
-/// The paddings of the cells.
-fn paddings(alloc: Global, settings: &[Setting]) -> Result<EntityMap<Sides<Indent>>, AllocError>
-    ensures { IfOk result (λ paddings. IsTold no_padding (flat_map padding_calls settings.now) paddings) }
-{
-    let mut paddings = EntityMap::new(alloc, Sides::filled(Indent::zero()));
-    for setting in settings {
-        match setting {
-            Setting::SetPadding(entity, sides) => paddings.insert(*entity, *sides)?,
-        }
-    }
-    Ok(paddings)
-}
-
 /// The widths and the heights; none where a need does not fit.
 fn raised_sizes(
     alloc: Global,
-    paddings: &EntityMap<Sides<Indent>>,
+    config: &SpannedConfig,
     rows: &[Vec<(usize, usize)>],
     columns: usize,
 ) -> Result<Option<(Vec<usize>, Vec<usize>)>, AllocError>
     requires inside { first_out columns (cells_of (map measures_of rows.now)) ≡ None }
     requires short { All (λ cells. length cells.items ≤ columns) rows.now }
-    ensures none { let padding = held_value paddings.now in
+    ensures none { let padding = held_value config.now.padding in
         IfOk result (λ found. IfNone found (list_all (fits_in padding) (cells_of (map measures_of rows.now)) ≡ false)) }
-    ensures widths { let padding = held_value paddings.now in
-        IfOk result (λ found. IfSome found (λ sizes.
-        sizes.0.items ≡ sizes_of column_of (width_need padding) columns (cells_of (map measures_of rows.now)))) }
-    ensures heights { let padding = held_value paddings.now in
-        IfOk result (λ found. IfSome found (λ sizes.
-        sizes.1.items ≡ sizes_of row_of (height_need padding) (length rows.now) (cells_of (map measures_of rows.now)))) }
+    ensures widths { IfOk result (λ found. IfSome found (λ sizes.
+        sizes.0.items ≡ widths_of columns (map measures_of rows.now) (held_value config.now.padding))) }
+    ensures heights { IfOk result (λ found. IfSome found (λ sizes.
+        sizes.1.items ≡ heights_of columns (map measures_of rows.now) (held_value config.now.padding))) }
 {
     let mut widths = vec![in alloc; 0; columns]?;
     let mut heights = vec![in alloc; 0; rows.len()]?;
-    if raise_all(paddings, rows, &mut widths, &mut heights) {
+    if raise_all(config, rows, &mut widths, &mut heights) {
         Ok(Some((widths, heights)))
     } else {
         Ok(None)
@@ -163,22 +146,22 @@ fn raised_sizes(
 
 /// Raises the widths and heights to the needs of all cells; false where a need does not fit.
 fn raise_all(
-    paddings: &EntityMap<Sides<Indent>>,
+    config: &SpannedConfig,
     rows: &[Vec<(usize, usize)>],
     widths: &mut [usize],
     heights: &mut [usize],
 ) -> bool
     requires columns { All (λ cells. length cells.items ≤ length widths.old) rows.now }
     requires rows { length rows.now ≤ length heights.old }
-    ensures fits { let padding = held_value paddings.now in
+    ensures fits { let padding = held_value config.now.padding in
         result ≡ list_all (fits_in padding) (cells_of (map measures_of rows.now)) }
-    ensures widths { let padding = held_value paddings.now in
+    ensures widths { let padding = held_value config.now.padding in
         OnTrue result (widths.new ≡ raised_by column_of (width_need padding) widths.old (cells_of (map measures_of rows.now))) }
-    ensures heights { let padding = held_value paddings.now in
+    ensures heights { let padding = held_value config.now.padding in
         OnTrue result (heights.new ≡ raised_by row_of (height_need padding) heights.old (cells_of (map measures_of rows.now))) }
 {
     for (row, cells) in rows.iter().enumerate() {
-        if !raise_row(paddings, row, cells.as_slice(), widths, heights) {
+        if !raise_row(config, row, cells.as_slice(), widths, heights) {
             return false;
         }
     }
@@ -187,7 +170,7 @@ fn raise_all(
 
 /// Raises the widths and heights to the needs of the cells of a row; false where a need does not fit.
 fn raise_row(
-    paddings: &EntityMap<Sides<Indent>>,
+    config: &SpannedConfig,
     row: usize,
     cells: &[(usize, usize)],
     widths: &mut [usize],
@@ -195,16 +178,16 @@ fn raise_row(
 ) -> bool
     requires columns { length cells.now ≤ length widths.old }
     requires row { row < length heights.old }
-    ensures fits { let padding = held_value paddings.now in
+    ensures fits { let padding = held_value config.now.padding in
         result ≡ list_all (fits_in padding) (cells_of_row row 0 cells.now) }
-    ensures widths { let padding = held_value paddings.now in
+    ensures widths { let padding = held_value config.now.padding in
         OnTrue result (widths.new ≡ raised_by column_of (width_need padding) widths.old (cells_of_row row 0 cells.now)) }
-    ensures heights { let padding = held_value paddings.now in
+    ensures heights { let padding = held_value config.now.padding in
         OnTrue result (heights.new ≡ raised_by row_of (height_need padding) heights.old (cells_of_row row 0 cells.now)) }
 {
     for (col, cell) in cells.iter().enumerate() {
         let (lines, width) = *cell;
-        let padding = paddings.get(Position::new(row, col));
+        let padding = config.get_padding(Position::new(row, col));
         let Some(width) = need(width, padding.left, padding.right) else {
             return false;
         };
@@ -234,11 +217,11 @@ fn raise(sizes: &mut [usize], index: usize, need: usize)
     }
 }
 
-/// The total of the sizes, if it fits.
-fn total(sizes: &[usize]) -> Option<usize>
-    ensures { SomeIff result (sum sizes.now < 2 ^ 64) (sum sizes.now) }
+/// The total of the sizes with so many lines, if it fits.
+fn total(sizes: &[usize], lines: usize) -> Option<usize>
+    ensures { let total = sum sizes.now + lines in SomeIff result (total < 2 ^ 64) total }
 {
-    let mut total: usize = 0;
+    let mut total = lines;
     for size in sizes {
         total = total.checked_add(*size)?;
     }

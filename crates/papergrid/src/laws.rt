@@ -1,6 +1,6 @@
 //! Laws of the definitions, each the contract of a function that does nothing.
 
-ghost use Rattle.std.specs.Prelude.{◌≡◌, ◌⊎◌, ◌≤◌, ◌<◌, ◌+◌, ◌^◌, ℕ, Contains, IsUtf8, List, Some, Ok, Err, length, sum};
+ghost use Rattle.std.specs.Prelude.{◌≡◌, ◌⊎◌, ◌≤◌, ◌<◌, ◌+◌, ◌^◌, ℕ, Contains, IsUtf8, List, Some, Ok, Err, length};
 ghost use Rattle.papergrid_values.specs.declared.entity.Entity.{Entity};
 ghost use Rattle.papergrid_values.specs.declared.position.Position.{Position};
 ghost use Rattle.papergrid_maps.specs.declared.entity_map.MapCall.{MapCall};
@@ -13,7 +13,7 @@ ghost use Rattle.papergrid.specs.Scripts.{Table, table_of};
 ghost use Rattle.papergrid.specs.Sizes.{OutOfTable, Sized, TooLarge, estimate_of};
 ghost use Rattle.papergrid.specs.Spelling.{IsEntity, IsLine, IsNumber};
 ghost use Rattle.papergrid.specs.Tells.{IsBad, IsFirstBad, Tells};
-ghost use Rattle.papergrid.specs.Tops.{AllFit, AreSizes, IsCellOf, IsFirstOut};
+ghost use Rattle.papergrid.specs.Tops.{AllFit, AreSizes, AreTotals, IsCellOf, IsFirstOut};
 
 /// What the worked scripts give, by the definitions alone.
 pub fn worked_rows()
@@ -63,12 +63,15 @@ pub fn cells_by_place()
 {}
 
 /// A table is refused for its first cell at or past the column count, and else where the top needs of its
-/// columns, or of its rows, add up to more than fits 64 bits; else its sizes are the top needs, and each cell
-/// stands in the table and has room there.
+/// columns and its vertical lines, or those of its rows and its horizontal lines, add up to more than fits 64
+/// bits; else its sizes are the top needs, its totals count the lines, and each cell stands in the table and
+/// has room there.
 pub fn estimate_by_needs()
     ensures out { (table : Table) (place : Position) → estimate_of table ≡ OutOfTable place → IsFirstOut table.columns (measured table.rows) place }
     ensures too_large { (table : Table) → estimate_of table ≡ TooLarge →
-        (widths : List ℕ) × (heights : List ℕ) × AreSizes table widths heights × ((2 ^ 64 ≤ sum widths) ⊎ (2 ^ 64 ≤ sum heights)) }
-    ensures sized { (table : Table) (widths heights : List ℕ) → estimate_of table ≡ Sized widths heights →
-        AreSizes table widths heights × (sum widths < 2 ^ 64) × (sum heights < 2 ^ 64) × AllFit table widths heights }
+        (widths : List ℕ) × (heights : List ℕ) × (total_width : ℕ) × (total_height : ℕ) × AreSizes table widths heights
+        × AreTotals table widths heights total_width total_height × ((2 ^ 64 ≤ total_width) ⊎ (2 ^ 64 ≤ total_height)) }
+    ensures sized { (table : Table) (widths heights : List ℕ) (total_width total_height : ℕ) → estimate_of table ≡ Sized widths heights total_width total_height →
+        AreSizes table widths heights × AreTotals table widths heights total_width total_height
+        × (total_width < 2 ^ 64) × (total_height < 2 ^ 64) × AllFit table widths heights }
 {}

@@ -9,7 +9,7 @@ mod output;
 mod running;
 mod script;
 mod script_line;
-mod setting;
+mod setting_line;
 #[cfg(test)]
 mod tests;
 mod transfer;
@@ -30,10 +30,20 @@ pub mod config {
         Formatting, HorizontalLine, Indent, Offset, Position, Sides, VerticalLine,
     };
 
-    /// Settings by entity.
-    pub mod spanned {
-        pub use papergrid_maps::{EntityMap, MapCall, Stopped};
+    /// The settings of a table whose cells all have the same ones.
+    pub mod compact {
+        pub use papergrid_config::CompactConfig;
     }
+
+    /// The settings of a table.
+    pub mod spanned {
+        pub use papergrid_config::{EntityMap, MapCall, Setting, SpannedConfig, Stopped};
+    }
+}
+
+/// The colours of the texts of cells, by position.
+pub mod colors {
+    pub use papergrid_config::{Colors, NoColor, NoColors};
 }
 
 /// Rows of cells.

@@ -1,6 +1,6 @@
 //! The text that the program writes.
 
-ghost use Rattle.std.specs.Prelude.{◌≡◌, ◌∷◌, ◌++◌, [], IfOk, OnOk, codes, decimal, sum};
+ghost use Rattle.std.specs.Prelude.{◌≡◌, ◌∷◌, ◌++◌, [], IfOk, OnOk, codes, decimal};
 ghost use Rattle.papergrid.specs.Outputs.{estimate_text, number_line};
 ghost use Rattle.papergrid.specs.Sizes.{OutOfTable, TooLarge, Sized};
 
@@ -10,9 +10,8 @@ use std::alloc::{AllocError, Global};
 
 /// The lines `widths`, `heights` and `total`.
 pub fn sizes_text(alloc: Global, sizes: &Sizes) -> Result<Vec<u8>, AllocError>
-    requires width { sizes.now.total_width ≡ sum sizes.now.widths.items }
-    requires height { sizes.now.total_height ≡ sum sizes.now.heights.items }
-    ensures { IfOk result (λ text. text.items ≡ estimate_text (Sized sizes.now.widths.items sizes.now.heights.items)) }
+    ensures { IfOk result (λ text. text.items ≡
+        estimate_text (Sized sizes.now.widths.items sizes.now.heights.items sizes.now.total_width sizes.now.total_height)) }
 {
     let mut text = Vec::new(alloc);
     push_line(alloc, &mut text, b"widths", sizes.widths.as_slice())?;

@@ -1,7 +1,9 @@
 //! The whole run: read to the end, judge, write.
 
-ghost use Rattle.std.specs.Prelude.{◌≡◌, ◌⊎◌, ℕ, take, true, false, IfOk, IfSome, OnOk, OnErr, IsErrOf};
+ghost use Rattle.std.specs.Prelude.{◌≡◌, ◌⊎◌, ℕ, All, take, true, false, IfOk, IfSome, OnOk, OnErr, IsErrOf};
 ghost use Rattle.std.specs.Io.KnownBytes.{Appends, Consumes, IsAtEnd, Keeps};
+ghost use Rattle.papergrid_config.specs.Applied.{is_in_range};
+ghost use Rattle.papergrid_config.specs.Told.{IsTold};
 ghost use Rattle.papergrid.specs.Outputs.{end_of, estimate_end, estimate_text, output_of};
 ghost use Rattle.papergrid.specs.Seen.{table_seen};
 ghost use Rattle.papergrid.specs.Sizes.{estimate_of};
@@ -11,6 +13,7 @@ use crate::estimate::{LayoutError, estimate};
 use crate::output::{bad_script_text, out_of_table_text, sizes_text, too_large_text};
 use crate::script::{Script, ScriptError, read_script};
 use crate::transfer::{Failed, Sink, Source};
+use papergrid_config::{Setting, SpannedConfig};
 use papergrid_text::IterRecords;
 use std::alloc::{AllocError, AllocFailed, Global};
 
@@ -99,24 +102,43 @@ fn answer(alloc: Global, input: &[u8]) -> Result<(RunEnd, Vec<u8>), AllocError>
     match read_script(alloc, input) {
         Err(ScriptError::Memory) => Err(AllocError),
         Err(ScriptError::Bad(number)) => Ok((RunEnd::BadScript, bad_script_text(alloc, number)?)),
-        Ok(script) => table_answer(alloc, &script),
+        Ok(script) => table_answer(alloc, script),
     }
 }
 
 /// How the run of a script ends, and what is written.
-fn table_answer(alloc: Global, script: &Script) -> Result<(RunEnd, Vec<u8>), AllocError>
-    ensures end { IfOk result (λ answer. answer.0 ≡ estimate_end (estimate_of (table_seen script.now))) }
-    ensures text { IfOk result (λ answer. answer.1.items ≡ estimate_text (estimate_of (table_seen script.now))) }
+fn table_answer(alloc: Global, script: Script<'_>) -> Result<(RunEnd, Vec<u8>), AllocError>
+    requires in_range { All (λ setting. is_in_range setting ≡ true) script.settings.items }
+    ensures end { IfOk result (λ answer. answer.0 ≡ estimate_end (estimate_of (table_seen script.entry))) }
+    ensures text { IfOk result (λ answer. answer.1.items ≡ estimate_text (estimate_of (table_seen script.entry))) }
 {
-    let rows = script.rows.as_slice();
-    let records = IterRecords::new(rows, script.columns, Some(rows.len()));
-    match estimate(alloc, records, script.settings.as_slice()) {
+    let Script {
+        columns,
+        settings,
+        rows,
+    } = script;
+    let config = configuration(alloc, settings)?;
+    let rows = rows.as_slice();
+    let records = IterRecords::new(rows, columns, Some(rows.len()));
+    match estimate(alloc, records, &config) {
         Err(LayoutError::Memory) => Err(AllocError),
         Err(LayoutError::OutOfTable(position)) => {
             Ok((RunEnd::Refused, out_of_table_text(alloc, position)?))
         }
         Err(LayoutError::TooLarge) => Ok((RunEnd::Refused, too_large_text(alloc)?)),
         Ok(sizes) => Ok((RunEnd::Done, sizes_text(alloc, &sizes)?)),
+    }
+}
+
+/// The configuration that the settings tell.
+fn configuration(alloc: Global, settings: Vec<Setting>) -> Result<SpannedConfig, AllocError>
+    requires { All (λ setting. is_in_range setting ≡ true) settings.items }
+    ensures { IfOk result (λ config. IsTold settings.items config) }
+{
+    let mut config = SpannedConfig::new(alloc);
+    match config.apply_all(settings) {
+        Ok(()) => Ok(config),
+        Err(_) => Err(AllocError),
     }
 }
 

@@ -1,15 +1,20 @@
 //! A whole script: its column count, its settings and its rows.
 
-ghost use Rattle.std.specs.Prelude.{◌≡◌, [], IfOk, Some, None, MatchBool, option_and_then};
+ghost use Rattle.std.specs.Prelude.{◌≡◌, [], true, All, IfOk, OnOk, Some, ◌<◌, length, take};
+ghost use Rattle.std.specs.Str.{IsValidUpTo};
+ghost use Rattle.papergrid_config.specs.Applied.{is_in_range};
 ghost use Rattle.papergrid.specs.declared.script.ScriptError.TheVariants.{Memory};
-ghost use Rattle.papergrid.specs.Grammar.{said, without_cr};
-ghost use Rattle.papergrid.specs.Scripts.{table_of, with_line};
-ghost use Rattle.papergrid.specs.Seen.{GivesTable, meaning, table_seen};
+ghost use Rattle.std.specs.Cow.{cow_str_bytes};
+ghost use Rattle.papergrid.specs.Grammar.{Row, Cell, without_cr};
+ghost use Rattle.papergrid.specs.Scripts.{empty_table, table_of, with_line};
+ghost use Rattle.papergrid.specs.Seen.{GivesTable, Takes, table_seen};
 
-use crate::script_line::{ScriptLine, read_line};
-use crate::setting::Setting;
+use crate::script_line::take_line;
+use papergrid_config::Setting;
+use papergrid_text::string::{count_lines, get_lines};
 use std::alloc::{AllocError, AllocFailed, Global};
 use std::borrow::CowStr;
+use std::str::from_utf8;
 
 /// What a script tells. Texts without escapes are lent from the input.
 #[derive(Drop)]
@@ -49,70 +54,89 @@ impl<T: Drop> From<AllocFailed<T>> for ScriptError {
 
 /// The script that the input spells.
 pub fn read_script<'a>(alloc: Global, input: &'a [u8]) -> Result<Script<'a>, ScriptError>
+    ensures told { GivesTable result (table_of input.now) }
+    // What a list of settings must be, to be applied.
+    ensures in_range { IfOk result (λ script. All (λ setting. is_in_range setting ≡ true) script.settings.items) }
+{
+    let text = text_in_front(input);
+    let read = script_of_text(alloc, text);
+    if text.len() < input.len() && read.is_ok() {
+        // The line where the text ends goes on with what is no text.
+        return Err(ScriptError::Bad(count_lines(text)));
+    }
+    read
+}
+
+/// The longest front that is text.
+fn text_in_front(input: &[u8]) -> &str
+    ensures front { result.now ≡ take (length result.now) input.now }
+    ensures longest { length result.now < length input.now → IsValidUpTo input.now (length result.now) }
+{
+    match from_utf8(input) {
+        Ok(text) => text,
+        Err(error) => from_utf8(&input[..error.valid_up_to()]).unwrap(),
+    }
+}
+
+/// The script that the text spells.
+fn script_of_text<'a>(alloc: Global, input: &'a str) -> Result<Script<'a>, ScriptError>
     ensures { GivesTable result (table_of input.now) }
 {
-    let mut script = Script {
-        columns: 0,
-        settings: Vec::new(alloc),
-        rows: Vec::new(alloc),
-    };
+    let mut script = empty_script(alloc);
     let mut number: usize = 0;
-    for piece in input.split(|byte| *byte == b'\n') {
+    for line in get_lines(input) {
         number += 1;
-        if !take_line(alloc, &mut script, without_cr(piece))? {
+        if !take_line(alloc, &mut script, without_cr(line))? {
             return Err(ScriptError::Bad(number));
         }
     }
     Ok(script)
 }
 
+/// The script of no lines.
+fn empty_script<'a>(alloc: Global) -> Script<'a>
+    ensures { table_seen result ≡ empty_table }
+{
+    Script {
+        columns: 0,
+        settings: Vec::new(alloc),
+        rows: Vec::new(alloc),
+    }
+}
+
 /// The line without one CR at its end.
-fn without_cr(line: &[u8]) -> &[u8]
+fn without_cr(line: &str) -> &str
     ensures { result.now ≡ without_cr line.now }
 {
-    if !line.is_empty() && line[line.len() - 1] == b'\r' {
+    if line.as_bytes().last() == Some(&b'\r') {
         &line[..line.len() - 1]
     } else {
         line
     }
 }
 
-/// Takes one more line into the script; false, and the script as it was, where it is a bad one.
-fn take_line<'a>(alloc: Global, script: &mut Script<'a>, line: &'a [u8]) -> Result<bool, AllocError>
-    ensures { IfOk result (λ fits. MatchBool fits
-        (option_and_then (with_line (table_seen script.old)) (said line.now) ≡ Some (table_seen script.new))
-        (option_and_then (with_line (table_seen script.old)) (said line.now) ≡ None)) }
-{
-    match read_line(alloc, line)? {
-        None => Ok(false),
-        Some(line) => obey(alloc, script, line),
+impl<'a> Script<'a> {
+    /// Begins a row.
+    pub fn add_row(&mut self, alloc: Global) -> Result<(), AllocError>
+        ensures { OnOk result (with_line (table_seen self.old) Row ≡ Some (table_seen self.new)) }
+    {
+        let row = next_row(alloc, self.rows.as_slice())?;
+        self.rows.push(row)?;
+        Ok(())
     }
-}
 
-/// Does what the line says; false, and the script as it was, where a cell comes before the first row.
-fn obey<'a>(
-    alloc: Global,
-    script: &mut Script<'a>,
-    line: ScriptLine<'a>,
-) -> Result<bool, AllocError>
-    ensures { IfOk result (λ fits. MatchBool fits
-        (with_line (table_seen script.old) (meaning line.entry) ≡ Some (table_seen script.new))
-        (with_line (table_seen script.old) (meaning line.entry) ≡ None)) }
-{
-    match line {
-        ScriptLine::Empty => {}
-        ScriptLine::Columns(count) => script.columns = count,
-        ScriptLine::Set(setting) => script.settings.push(setting)?,
-        ScriptLine::Row => {
-            let row = next_row(alloc, script.rows.as_slice())?;
-            script.rows.push(row)?;
+    /// Adds a cell to the last row; false where there is none.
+    pub fn add_cell(&mut self, text: CowStr<'a>) -> Result<bool, AllocError>
+        ensures { IfOk result (λ fits. Takes (table_seen self.old) (Some (Cell (cow_str_bytes text.entry))) fits (table_seen self.new)) }
+    {
+        match self.rows.last_mut() {
+            None => Ok(false),
+            Some(row) => {
+                row.push(text)?;
+                Ok(true)
+            }
         }
-        ScriptLine::Cell(text) => match script.rows.last_mut() {
-            None => return Ok(false),
-            Some(row) => row.push(text)?,
-        },
     }
-    Ok(true)
 }
 
 /// A row without cells, with room for as many as the last row has.

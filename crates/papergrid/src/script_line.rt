@@ -1,132 +1,105 @@
 //! The lines of a script, one at a time.
 
 ghost use Rattle.std.specs.Prelude.{◌≡◌, IfOk, option_map};
-ghost use Rattle.papergrid.specs.Grammar.{cell_entity, entity_of, keyword_says, padding_of, said, sides_of, text_says};
-ghost use Rattle.papergrid.specs.Seen.{meaning};
+ghost use Rattle.papergrid.specs.Grammar.{Cell, Set, keyword_says, parted_at, said, setting_of, space, text_says};
+ghost use Rattle.papergrid.specs.Seen.{Takes, table_seen};
+ghost use Rattle.papergrid.specs.Texts.{unescaped};
 
 use crate::number::number;
-use crate::setting::Setting;
+use crate::script::Script;
+use crate::setting_line::line_setting;
 use crate::unescape::unescaped;
-use papergrid_values::{Entity, Indent, Sides};
 use std::alloc::{AllocError, Global};
 use std::borrow::CowStr;
-use std::str::from_utf8;
 
-/// What a line of a script says.
-#[derive(Drop)]
-pub enum ScriptLine<'a> {
-    /// Nothing: the line is empty.
-    Empty,
-    /// The number of columns.
-    Columns(usize),
-    /// A setting.
-    Set(Setting),
-    /// A row begins.
-    Row,
-    /// A cell more in the last row, with this text.
-    Cell(CowStr<'a>),
-}
-
-/// The line that the bytes spell, if they are text that spells one.
-#[tactic(auto, unfolding(crate::specs::Grammar::said))]
-pub fn read_line<'a>(alloc: Global, bytes: &'a [u8]) -> Result<Option<ScriptLine<'a>>, AllocError>
-    ensures { IfOk result (λ found. option_map meaning found ≡ said bytes.now) }
+/// Takes what one more line says into the script; false, and the script as it was, where the line is a bad one.
+pub fn take_line<'a>(
+    alloc: Global,
+    script: &mut Script<'a>,
+    line: &'a str,
+) -> Result<bool, AllocError>
+    ensures { IfOk result (λ fits. Takes (table_seen script.old) (said line.now) fits (table_seen script.new)) }
 {
-    match from_utf8(bytes) {
-        Ok(text) => text_line(alloc, text),
-        Err(_) => Ok(None),
-    }
+    take_text(alloc, script, line)
 }
 
-/// The line that the text spells, if it spells one.
+/// What `take_line` does, where it is known that the line is text.
 #[tactic(auto, unfolding(crate::specs::Grammar::text_says))]
-fn text_line<'a>(alloc: Global, text: &'a str) -> Result<Option<ScriptLine<'a>>, AllocError>
-    ensures { IfOk result (λ found. option_map meaning found ≡ text_says text.now) }
+fn take_text<'a>(alloc: Global, script: &mut Script<'a>, line: &'a str) -> Result<bool, AllocError>
+    ensures { IfOk result (λ fits. Takes (table_seen script.old) (text_says line.now) fits (table_seen script.new)) }
 {
-    match text {
-        "" => Ok(Some(ScriptLine::Empty)),
-        "row" => Ok(Some(ScriptLine::Row)),
-        "cell" => Ok(Some(ScriptLine::Cell(CowStr::Borrowed("")))),
-        _ => match text.split_once(' ') {
-            Some((keyword, rest)) => keyword_line(alloc, keyword, rest),
-            None => Ok(None),
+    match line {
+        "" => Ok(true),
+        "row" => {
+            script.add_row(alloc)?;
+            Ok(true)
+        }
+        "cell" => script.add_cell(CowStr::Borrowed("")),
+        _ => match keyword_and_rest(line) {
+            Some((keyword, rest)) => take_keyword(alloc, script, keyword, rest),
+            None => Ok(false),
         },
     }
 }
 
-/// The line of a keyword, and what stands after it and a space.
+/// What stands before the first space, and what stands after it.
+fn keyword_and_rest(text: &str) -> Option<(&str, &str)>
+    ensures { option_map (λ parts. (parts.0.now, parts.1.now)) result ≡ parted_at space text.now }
+{
+    // Most lines are cells, where no space is searched for.
+    if let Some(("cell ", rest)) = text.split_at_checked(5) {
+        return Some(("cell", rest));
+    }
+    text.split_once(' ')
+}
+
+/// Takes what a keyword says, and what stands after it and a space; false where that is nothing.
 #[tactic(auto, unfolding(crate::specs::Grammar::keyword_says))]
-fn keyword_line<'a>(
+fn take_keyword<'a>(
     alloc: Global,
+    script: &mut Script<'a>,
     keyword: &str,
     rest: &'a str,
-) -> Result<Option<ScriptLine<'a>>, AllocError>
-    ensures { IfOk result (λ found. option_map meaning found ≡ keyword_says keyword.now rest.now) }
+) -> Result<bool, AllocError>
+    ensures { IfOk result (λ fits. Takes (table_seen script.old) (keyword_says keyword.now rest.now) fits (table_seen script.new)) }
 {
     match keyword {
-        "cell" => match unescaped(alloc, rest)? {
-            Some(text) => Ok(Some(ScriptLine::Cell(text))),
-            None => Ok(None),
-        },
+        "cell" => take_cell(alloc, script, rest),
         "columns" => match number(rest) {
-            Some(count) => Ok(Some(ScriptLine::Columns(count))),
-            None => Ok(None),
+            Some(count) => {
+                script.columns = count;
+                Ok(true)
+            }
+            None => Ok(false),
         },
-        "pad" => match padding(rest) {
-            Some(setting) => Ok(Some(ScriptLine::Set(setting))),
-            None => Ok(None),
-        },
-        _ => Ok(None),
+        _ => take_setting(script, keyword, rest),
     }
 }
 
-/// The setting of an entity and four numbers.
-#[tactic(auto, unfolding(crate::specs::Grammar::padding_of))]
-fn padding(spelled: &str) -> Option<Setting>
-    ensures { result ≡ padding_of spelled.now }
+/// Takes a cell of the text that is meant; false where the spelling is bad, or there is no row.
+fn take_cell<'a>(
+    alloc: Global,
+    script: &mut Script<'a>,
+    spelled: &'a str,
+) -> Result<bool, AllocError>
+    ensures { IfOk result (λ fits. Takes (table_seen script.old) (option_map Cell (unescaped spelled.now)) fits (table_seen script.new)) }
 {
-    let (first, rest) = spelled.split_once(' ')?;
-    Some(Setting::SetPadding(entity(first)?, sides(rest)?))
+    match unescaped(alloc, spelled)? {
+        Some(text) => script.add_cell(text),
+        None => Ok(false),
+    }
 }
 
-/// So many spaces for left, right, top and bottom.
-#[tactic(auto, unfolding(crate::specs::Grammar::sides_of))]
-fn sides(spelled: &str) -> Option<Sides<Indent>>
-    ensures { result ≡ sides_of spelled.now }
+/// Takes the setting of a keyword, and of what stands after it and a space; false where there is none.
+/// A setting is large, so it has no place in what lines of other kinds go through.
+fn take_setting(script: &mut Script<'_>, keyword: &str, rest: &str) -> Result<bool, AllocError>
+    ensures { IfOk result (λ fits. Takes (table_seen script.old) (option_map Set (setting_of keyword.now rest.now)) fits (table_seen script.new)) }
 {
-    let (left, rest) = spelled.split_once(' ')?;
-    let (right, rest) = rest.split_once(' ')?;
-    let (top, bottom) = rest.split_once(' ')?;
-    Some(Sides::new(
-        Indent::spaced(number(left)?),
-        Indent::spaced(number(right)?),
-        Indent::spaced(number(top)?),
-        Indent::spaced(number(bottom)?),
-    ))
-}
-
-/// The entity that the text spells: `*`, `c` or `r` with a number, or a row and a column with a comma.
-#[tactic(auto, unfolding(crate::specs::Grammar::entity_of))]
-fn entity(spelled: &str) -> Option<Entity>
-    ensures { result ≡ entity_of spelled.now }
-{
-    if spelled == "*" {
-        return Some(Entity::Global);
+    match line_setting(keyword, rest) {
+        Some(setting) => {
+            script.settings.push(setting)?;
+            Ok(true)
+        }
+        None => Ok(false),
     }
-    if let Some(digits) = spelled.strip_prefix("c") {
-        return number(digits).map(Entity::Column);
-    }
-    if let Some(digits) = spelled.strip_prefix("r") {
-        return number(digits).map(Entity::Row);
-    }
-    cell_entity(spelled)
-}
-
-/// The cell at a row and a column with a comma between them.
-#[tactic(auto, unfolding(crate::specs::Grammar::cell_entity))]
-fn cell_entity(spelled: &str) -> Option<Entity>
-    ensures { result ≡ cell_entity spelled.now }
-{
-    let (row, col) = spelled.split_once(',')?;
-    Some(Entity::Cell(number(row)?, number(col)?))
 }

@@ -1,8 +1,8 @@
 //! The text of a cell as a script spells it.
 
-ghost use Rattle.std.specs.Prelude.{◌≡◌, IfOk, IfSome, IsUtf8, option_map, string_bytes};
+ghost use Rattle.std.specs.Prelude.{◌≡◌, ◌++◌, ◌∷◌, IfOk, IfSome, IsUtf8, option_map, string_bytes};
 ghost use Rattle.std.specs.Cow.{cow_str_bytes};
-ghost use Rattle.papergrid.specs.Texts.{escape_at, unescaped};
+ghost use Rattle.papergrid.specs.Texts.{backslash, escape_at, unescaped};
 
 use std::alloc::{AllocError, Global};
 use std::borrow::CowStr;
@@ -13,26 +13,33 @@ pub fn unescaped<'a>(alloc: Global, spelled: &'a str) -> Result<Option<CowStr<'a
 {
     match spelled.split_once('\\') {
         None => Ok(Some(CowStr::Borrowed(spelled))),
-        Some(_) => Ok(with_escapes(alloc, spelled)?.map(|text| CowStr::Owned(text))),
+        Some((plain, escape)) => {
+            Ok(with_escapes(alloc, plain, escape)?.map(|text| CowStr::Owned(text)))
+        }
     }
 }
 
-/// The text that is meant, in memory of its own.
-fn with_escapes(alloc: Global, spelled: &str) -> Result<Option<String>, AllocError>
-    ensures { IfOk result (λ found. option_map string_bytes found ≡ unescaped spelled.now) }
+/// The text that is meant, in memory of its own: by plain text, and what stands after a first backslash.
+fn with_escapes(alloc: Global, plain: &str, escape: &str) -> Result<Option<String>, AllocError>
+    ensures { IfOk result (λ found. option_map string_bytes found ≡ option_map (λ more. plain.now ++ more) (unescaped (backslash ∷ escape.now))) }
 {
-    let mut text = String::with_capacity(alloc, spelled.len())?;
-    let mut rest = spelled;
-    while let Some((plain, escape)) = rest.split_once('\\') {
-        let Some((meant, left)) = escaped(escape) else {
-            return Ok(None);
-        };
-        text.push_str(plain)?;
+    let mut text = String::with_capacity(alloc, plain.len() + escape.len())?;
+    text.push_str(plain)?;
+    let mut after = escape;
+    while let Some((meant, left)) = escaped(after) {
         text.push(meant)?;
-        rest = left;
+        match left.split_once('\\') {
+            None => {
+                text.push_str(left)?;
+                return Ok(Some(text));
+            }
+            Some((plain, escape)) => {
+                text.push_str(plain)?;
+                after = escape;
+            }
+        }
     }
-    text.push_str(rest)?;
-    Ok(Some(text))
+    Ok(None)
 }
 
 /// The character that an escape means, by what stands after its backslash, and what is left behind it.

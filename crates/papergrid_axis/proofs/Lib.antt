@@ -1,5 +1,4 @@
 pub mod AcceptLemmas
-pub mod BothLemmas
 pub mod Certified
 pub mod CheckLemmas
 pub mod Counting

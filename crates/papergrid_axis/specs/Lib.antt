@@ -1,5 +1,4 @@
 pub mod Answers
-pub mod Both
 pub mod Checks
 pub mod Chosen
 pub mod Fits

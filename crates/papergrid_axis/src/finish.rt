@@ -17,7 +17,7 @@ use papergrid_values::Position;
 use std::alloc::Global;
 
 /// Whether the range of a cell ends past the last of `count` columns (rows).
-fn reaches_out(count: usize, demand: Demand) -> bool
+pub fn reaches_out(count: usize, demand: Demand) -> bool
     ensures { result ≡ nat_lt count (end_of demand) }
 {
     match demand.start.checked_add(demand.span) {

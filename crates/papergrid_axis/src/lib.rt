@@ -1,29 +1,34 @@
-//! Widths of columns and heights of rows of a table of cells, some of which span several.
+//! The sizes along one direction of a table, from what its visible cells ask for: widths of columns
+//! or heights of rows, where some cells span several.
 #![tactic(auto)]
 
 mod apart;
-mod axis;
+pub mod axis;
 mod base;
-mod both;
-mod checked;
+pub mod checked;
 mod chosen;
-mod conclude;
-mod demand;
-mod direction;
-mod error;
+pub mod conclude;
+pub mod demand;
+pub mod direction;
+pub mod error;
 mod exact;
-mod finish;
+pub mod finish;
 mod grow;
 mod growers;
 mod last_cells;
 pub mod laws;
 mod lines;
 mod order;
-mod seen;
+pub mod seen;
 mod sums;
 mod witness;
 
+pub use axis::Axis;
+pub use checked::Checked;
+pub use demand::Demand;
+pub use direction::Direction;
 pub use error::LayoutError;
+pub use seen::Seen;
 
 #[cfg(test)]
 mod tests;

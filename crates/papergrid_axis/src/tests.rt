@@ -6,7 +6,6 @@ ghost use Rattle.papergrid_axis.specs.Seen.{Holds};
 
 use crate::LayoutError;
 use crate::axis::Axis;
-use crate::both::conclude_both;
 use crate::checked::{Checked, accepts, visit, wide_need};
 use crate::conclude::{conclude, conclude_witness};
 use crate::direction::Direction;
@@ -389,12 +388,8 @@ fn first_out_in_each_direction(rt: HostRuntime) -> Result<(), Fail> {
     )?;
     let out = Err(LayoutError::OutOfTable(at(1, 1)));
     assert_eq!(rt; conclude(alloc, Columns, 2, &wide, &NONE), out);
-    let both = conclude_both(alloc, 2, &wide, &NONE, 2, &high, &NONE);
-    assert_eq!(rt; both, Err(LayoutError::OutOfTable(at(0, 0))));
-    let both = conclude_both(alloc, 3, &wide, &NONE, 3, &high, &NONE);
-    let widths = vec![in alloc; 0, 0, 0]?;
-    let heights = vec![in alloc; 1, 1, 0]?;
-    assert_eq!(rt; both, Ok((widths, heights)));
+    let out = Err(LayoutError::OutOfTable(at(0, 0)));
+    assert_eq!(rt; conclude(alloc, Rows, 2, &high, &NONE), out);
     Ok(())
 }
 

@@ -50,7 +50,7 @@ module _ {T : Type 0} where
 
 -- ---- scans
 
-has_end_is : {T : Type 0} (place count : ℕ) (first end : Option T) → IsTrue (has_end place count first end) ↔ HasEnd place count first end
+pub has_end_is : {T : Type 0} (place count : ℕ) (first end : Option T) → IsTrue (has_end place count first end) ↔ HasEnd place count first end
 has_end_is place count first end = (
   (λ h. elim (eqb place 0 && is_some first) as (λ b. (eqb place 0 && is_some first) ≡ b → (b || (eqb place count && is_some end)) ≡ true → HasEnd place count first end) [
     | true ↦ λ is _. let parts = and_parts _ _ is in inl (eqb-true place 0 parts.0, parts.1)
@@ -59,7 +59,7 @@ has_end_is place count first end = (
   (λ h. ⊎_elim (λ here. or_left _ _ (and_from _ _ (eq-eqb place 0 here.0) here.1)) (λ there. or_right _ _ (and_from _ _ (eq-eqb place count there.0) there.1)) h),
 )
 
-some_value : {A : Type 0} (o : Option A) → IsSome o → (x : A) × (o ≡ Some x)
+pub some_value : {A : Type 0} (o : Option A) → IsSome o → (x : A) × (o ≡ Some x)
 some_value None h = absurd (false≢true h)
 some_value (Some x) h = (x, refl)
 

@@ -1,11 +1,14 @@
 pub mod AnyHeld
 pub mod AnyLemmas
+pub mod Applied
 pub mod BorderEqual
 pub mod BorderFound
 pub mod BorderTold
 pub mod EqualLemmas
 pub mod IntoMap
 pub mod KeyLemmas
+pub mod LineTested
+pub mod MadeTables
 pub mod MapHeldLemmas
 pub mod MapSteps
 pub mod MapTold

@@ -44,6 +44,10 @@ pub none_of_nothing : {K X : Type 0} (E : K → K → Bool) (es : List (K × X))
 none_of_nothing E [] h q = refl
 none_of_nothing E (e ∷ es) h q = absurd (omega (arith, h))
 
+-- a test for no entries tells whether no key has a value
+pub empty_where_none : {K X P : Type 0} (E : K → K → Bool) (laws : IsEquivalence E) (es : List (K × X)) → P ↔ (length es ≡ 0) → P ↔ ((q : K) → lookup (E q) es ≡ None)
+empty_where_none E laws es empty = ((λ h. none_of_nothing E es (empty.0 h)), (λ none. empty.1 (no_entries E laws es none)))
+
 -- nothing is held where the three maps are empty
 pub nothing_held : {T : Type 0} (g : T) (cs rs : List (ℕ × T)) (ks : List (Position × T)) (a b c : Bool)
     → (IsTrue a ↔ (length cs ≡ 0)) → (IsTrue b ↔ (length rs ≡ 0)) → (IsTrue c ↔ (length ks ≡ 0)) → IsTrue (a && (b && c)) ↔ HasNothing (view_of g cs rs ks)

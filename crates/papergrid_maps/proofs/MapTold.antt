@@ -106,21 +106,3 @@ module _ {T : Type 0} where
 
   pub appends_more : {old between new : Held T} (xs ys : List (MapCall T)) → Appends old between xs → Appends between new ys → Appends old new (xs ++ ys)
   appends_more {new = new} xs ys first next given calls told = subst (λ zs. IsTold given zs new) (append_assoc calls xs ys) (next given (calls ++ xs) (first given calls told))
-
-  -- the calls done, of all, with those that are left
-  pub record AppliedSoFar (old now : Held T) (calls left all : List (MapCall T)) (done : ℕ) : Type 0 where
-    pub counted : done ≡ length calls
-    pub split : calls ++ left ≡ all
-    pub told : Appends old now calls
-
-  pub applied_more : {old now new : Held T} {calls left left' all : List (MapCall T)} {done : ℕ} (call : MapCall T) → left ≡ call ∷ left'
-      → Appends now new (call ∷ []) → AppliedSoFar old now calls left all done → AppliedSoFar old new (calls ++ call ∷ []) left' all (done + 1)
-  applied_more {calls = calls} {left' = left'} call is step so_far = record {
-    counted = grind (arith, length-append {A = MapCall T} calls (call ∷ []), so_far.counted);
-    split = append_assoc calls (call ∷ []) left' ∙ ap (λ xs. calls ++ xs) (sym is) ∙ so_far.split;
-    told = appends_more calls (call ∷ []) so_far.told step;
-  }
-
-  pub told_so_far : {old now : Held T} {calls left all : List (MapCall T)} {done : ℕ} → AppliedSoFar old now calls left all done → Appends old now (take done all)
-  told_so_far {old = old} {now = now} {calls = calls} {left = left} {done = done} so_far =
-      subst (λ xs. Appends old now xs) (sym (ap (λ xs. take done xs) (sym so_far.split) ∙ ap (λ n. take n (calls ++ left)) so_far.counted ∙ take-append-le (length calls) calls left (omega arith) ∙ take_all (length calls) calls (omega arith))) so_far.told

@@ -4,8 +4,12 @@ pub mod BorderEq
 pub mod BorderHeld
 pub mod BorderScan
 pub mod Changes
+pub mod ColorsHeld
+pub mod Compact
 pub mod Equal
 pub mod Keys
+pub mod LineTests
+pub mod Made
 pub mod MapCalls
 pub mod MapEq
 pub mod MapHeld

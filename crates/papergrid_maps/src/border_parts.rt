@@ -6,7 +6,7 @@ ghost use Rattle.std.specs.HashMap.{IsUnique, spare, get as map_get};
 ghost use Rattle.std.specs.List.{list_any};
 ghost use Rattle.papergrid_values.specs.declared.position.Position.{Position};
 ghost use Rattle.papergrid_maps.specs.BorderCalls.{at_place, below, right_of, horizontal_part, vertical_part, corner_part};
-ghost use Rattle.papergrid_maps.specs.BorderScan.{at_side, has_end, of_frame_by_row};
+ghost use Rattle.papergrid_maps.specs.BorderScan.{has_end};
 ghost use Rattle.papergrid_maps.specs.Keys.{position_eq};
 ghost use Rattle.papergrid_maps.specs.Places as places;
 
@@ -19,10 +19,7 @@ use std::collections::HashMap;
 pub(crate) fn vertical_main<T>(lines: &HashMap<usize, VerticalLine<T>>, col: usize) -> Option<&T>
     ensures { option_copied result ≡ option_and_then (λ line. line.main) (map_get nat_eq lines.now col) }
 {
-    match lines.get(&col) {
-        Some(line) => line.main.as_ref(),
-        None => None,
-    }
+    lines.get(&col)?.main.as_ref()
 }
 
 /// The main part of the horizontal line at a row.
@@ -32,10 +29,7 @@ pub(crate) fn horizontal_main<T>(
 ) -> Option<&T>
     ensures { option_copied result ≡ option_and_then (λ line. line.main) (map_get nat_eq lines.now row) }
 {
-    match lines.get(&row) {
-        Some(line) => line.main.as_ref(),
-        None => None,
-    }
+    lines.get(&row)?.main.as_ref()
 }
 
 /// The part of the horizontal line at a position's row, where the position's column crosses it.
@@ -46,10 +40,8 @@ pub(crate) fn of_horizontal_line<T>(
 ) -> Option<&T>
     ensures { option_copied result ≡ option_and_then (places.of_horizontal_line pos.col cols) (map_get nat_eq lines.now pos.row) }
 {
-    match lines.get(&pos.row) {
-        Some(line) => crossed(pos.col, cols, &line.left, &line.right, &line.intersection),
-        None => None,
-    }
+    let line = lines.get(&pos.row)?;
+    crossed(pos.col, cols, &line.left, &line.right, &line.intersection)
 }
 
 /// The part of the vertical line at a position's column, where the position's row crosses it.
@@ -60,10 +52,8 @@ pub(crate) fn of_vertical_line<T>(
 ) -> Option<&T>
     ensures { option_copied result ≡ option_and_then (places.of_vertical_line pos.row rows) (map_get nat_eq lines.now pos.col) }
 {
-    match lines.get(&pos.col) {
-        Some(line) => crossed(pos.row, rows, &line.top, &line.bottom, &line.intersection),
-        None => None,
-    }
+    let line = lines.get(&pos.col)?;
+    crossed(pos.row, rows, &line.top, &line.bottom, &line.intersection)
 }
 
 // The first part that is set, of those that count at a place of a line.
@@ -104,64 +94,38 @@ pub(crate) fn frame_vertical<T>(frame: &Borders<T>, col: usize, count: usize) ->
 pub(crate) fn frame_horizontal<T>(frame: &Borders<T>, row: usize, count: usize) -> Option<&T>
     ensures { option_copied result ≡ places.frame_horizontal frame.now row count }
 {
-    side(row, count, &frame.top, &frame.bottom, &frame.horizontal)
+    if row == 0 {
+        frame.top.as_ref()
+    } else if row == count {
+        frame.bottom.as_ref()
+    } else {
+        frame.horizontal.as_ref()
+    }
 }
 
 /// The frame's part where two lines cross.
 pub(crate) fn of_frame<T>(frame: &Borders<T>, pos: Position, shape: (usize, usize)) -> Option<&T>
     ensures { option_copied result ≡ places.of_frame frame.now pos shape.0 shape.1 }
 {
-    of_row(frame, pos, shape)
-}
-
-// The same, by the row first.
-fn of_row<T>(frame: &Borders<T>, pos: Position, shape: (usize, usize)) -> Option<&T>
-    ensures { option_copied result ≡ of_frame_by_row frame.now pos shape.0 shape.1 }
-{
     let (rows, cols) = shape;
-    if pos.row == 0 {
-        side(
-            pos.col,
-            cols,
-            &frame.top_left,
-            &frame.top_right,
-            &frame.top_intersection,
-        )
+    if pos.row == 0 && pos.col == 0 {
+        frame.top_left.as_ref()
+    } else if pos.row == 0 && pos.col == cols {
+        frame.top_right.as_ref()
+    } else if pos.row == rows && pos.col == 0 {
+        frame.bottom_left.as_ref()
+    } else if pos.row == rows && pos.col == cols {
+        frame.bottom_right.as_ref()
+    } else if pos.row == 0 {
+        frame.top_intersection.as_ref()
     } else if pos.row == rows {
-        side(
-            pos.col,
-            cols,
-            &frame.bottom_left,
-            &frame.bottom_right,
-            &frame.bottom_intersection,
-        )
+        frame.bottom_intersection.as_ref()
+    } else if pos.col == 0 {
+        frame.left_intersection.as_ref()
+    } else if pos.col == cols {
+        frame.right_intersection.as_ref()
     } else {
-        side(
-            pos.col,
-            cols,
-            &frame.left_intersection,
-            &frame.right_intersection,
-            &frame.intersection,
-        )
-    }
-}
-
-// The part for the first place, for the last one, or for those between.
-fn side<'a, T>(
-    place: usize,
-    count: usize,
-    first: &'a Option<T>,
-    end: &'a Option<T>,
-    inner: &'a Option<T>,
-) -> Option<&'a T>
-    ensures { option_copied result ≡ at_side place count first.now end.now inner.now }
-{
-    if place == 0 {
-        first.as_ref()
-    } else if place == count {
-        end.as_ref()
-    } else {
-        inner.as_ref()
+        frame.intersection.as_ref()
     }
 }
 
@@ -255,30 +219,17 @@ pub(crate) fn put_border<T: Drop>(
     ensures vertical { (q : Position) → map_get position_eq vertical.new q ≡ option_or (vertical_part pos border q) (map_get position_eq vertical.old q) }
     ensures corners { (q : Position) → map_get position_eq corners.new q ≡ option_or (corner_part pos border q) (map_get position_eq corners.old q) }
 {
-    let Border {
-        top,
-        bottom,
-        left,
-        right,
-        left_top_corner,
-        left_bottom_corner,
-        right_top_corner,
-        right_bottom_corner,
-    } = border;
     let below = Position::new(pos.row + 1, pos.col);
     let right_of = Position::new(pos.row, pos.col + 1);
-    put_part(horizontal, below, bottom);
-    put_part(horizontal, pos, top);
-    put_part(vertical, right_of, right);
-    put_part(vertical, pos, left);
-    put_part(
-        corners,
-        Position::new(pos.row + 1, pos.col + 1),
-        right_bottom_corner,
-    );
-    put_part(corners, below, left_bottom_corner);
-    put_part(corners, right_of, right_top_corner);
-    put_part(corners, pos, left_top_corner);
+    let opposite = Position::new(pos.row + 1, pos.col + 1);
+    put_part(horizontal, below, border.bottom);
+    put_part(horizontal, pos, border.top);
+    put_part(vertical, right_of, border.right);
+    put_part(vertical, pos, border.left);
+    put_part(corners, opposite, border.right_bottom_corner);
+    put_part(corners, below, border.left_bottom_corner);
+    put_part(corners, right_of, border.right_top_corner);
+    put_part(corners, pos, border.left_top_corner);
 }
 
 // Writes a part if it is set, where there is room.
@@ -309,6 +260,7 @@ pub(crate) fn take_border<T: Drop>(
 {
     let below = Position::new(pos.row + 1, pos.col);
     let right_of = Position::new(pos.row, pos.col + 1);
+    let opposite = Position::new(pos.row + 1, pos.col + 1);
     take(horizontal, pos);
     take(horizontal, below);
     take(vertical, pos);
@@ -316,5 +268,5 @@ pub(crate) fn take_border<T: Drop>(
     take(corners, pos);
     take(corners, right_of);
     take(corners, below);
-    take(corners, Position::new(pos.row + 1, pos.col + 1));
+    take(corners, opposite);
 }

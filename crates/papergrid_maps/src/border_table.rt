@@ -6,6 +6,7 @@ ghost use Rattle.std.specs.FinMap.{get as value_at};
 ghost use Rattle.papergrid_values.specs.Borders.{border_map};
 ghost use Rattle.papergrid_maps.specs.BorderCalls.{BorderCall, Clear, InsertBorder, RemoveBorder, InsertHorizontalLine, RemoveHorizontalLine, InsertVerticalLine, RemoveVerticalLine, SetBorders, SetGlobal};
 ghost use Rattle.papergrid_maps.specs.BorderHeld.{IsTold, Appends, places_of};
+ghost use Rattle.papergrid_maps.specs.LineTests.{horizontal_line_at, vertical_line_at};
 ghost use Rattle.papergrid_maps.specs.Places.{IsBare, HasHorizontal, HasVertical, IsHorizontalSet, IsVerticalSet, found_border, found_horizontal, found_intersection, found_vertical};
 
 use crate::border_parts as parts;
@@ -173,6 +174,13 @@ impl<T> BorderTable<T> {
     /// Whether there is a vertical line at a column, where there are so many columns: a value for
     /// all lines, a part of the frame, or `is_vertical_set`.
     pub fn has_vertical(&self, col: usize, count: usize) -> bool
+        ensures line { IsTrue result ↔ HasVertical (places_of self.now) col count }
+        ensures test { result ≡ vertical_line_at self.now col count }
+    {
+        self.is_vertical_line(col, count)
+    }
+
+    fn is_vertical_line(&self, col: usize, count: usize) -> bool
         ensures { IsTrue result ↔ HasVertical (places_of self.now) col count }
     {
         if self.global.is_some() {
@@ -194,6 +202,13 @@ impl<T> BorderTable<T> {
     /// Whether there is a horizontal line at a row, where there are so many rows: a value for all
     /// lines, a part of the frame, or `is_horizontal_set`.
     pub fn has_horizontal(&self, row: usize, count: usize) -> bool
+        ensures line { IsTrue result ↔ HasHorizontal (places_of self.now) row count }
+        ensures test { result ≡ horizontal_line_at self.now row count }
+    {
+        self.is_horizontal_line(row, count)
+    }
+
+    fn is_horizontal_line(&self, row: usize, count: usize) -> bool
         ensures { IsTrue result ↔ HasHorizontal (places_of self.now) row count }
     {
         if self.global.is_some() {

@@ -86,7 +86,16 @@ impl<T> EntityMap<T> {
         ensures held { result.now ≡ held_value self.now pos }
         ensures decided { (given : T) (calls : List (MapCall T)) → IsTold given calls self.now → result.now ≡ decided_value given calls pos }
     {
-        self.value_at(pos)
+        if let Some(value) = self.cells.get(&pos) {
+            return value;
+        }
+        if let Some(value) = self.columns.get(&pos.col) {
+            return value;
+        }
+        if let Some(value) = self.rows.get(&pos.row) {
+            return value;
+        }
+        &self.global
     }
 
     /// Whether `f` is true of a value that is held, the one for the whole table among them.
@@ -131,21 +140,6 @@ impl<T> EntityMap<T> {
             Ok(_) => Ok(all),
             Err(_) => Err(AllocError),
         }
-    }
-
-    fn value_at(&self, pos: Position) -> &T
-        ensures { result.now ≡ held_value self.now pos }
-    {
-        if let Some(value) = self.cells.get(&pos) {
-            return value;
-        }
-        if let Some(value) = self.columns.get(&pos.col) {
-            return value;
-        }
-        if let Some(value) = self.rows.get(&pos.row) {
-            return value;
-        }
-        &self.global
     }
 }
 

@@ -1,14 +1,79 @@
 //! Laws over the definitions that the contracts cite.
 
-ghost use Rattle.std.specs.Prelude.{◌≡◌, List};
+ghost use Rattle.std.specs.Prelude.{◌≡◌, ◌∷◌, ◌++◌, [], List, None};
+ghost use Rattle.std.specs.List.{list_all};
 ghost use Rattle.papergrid_values.specs.declared.position.Position.{Position};
 ghost use Rattle.papergrid_maps.specs.declared.entity_map.MapCall.{MapCall};
+ghost use Rattle.papergrid_maps.specs.Compact.{first_difference};
+ghost use Rattle.papergrid_maps.specs.declared.compact.CompactConfig.{CompactConfig};
+ghost use Rattle.papergrid_maps.specs.BorderCalls.{BorderCall};
+ghost use Rattle.papergrid_maps.specs.BorderHeld as borders;
+ghost use Rattle.papergrid_maps.specs.BorderHeld.{HeldBorders};
+ghost use Rattle.papergrid_maps.specs.Made.{borders_made, spans_made};
 ghost use Rattle.papergrid_maps.specs.MapCalls.{decided_value};
 ghost use Rattle.papergrid_maps.specs.MapHeld.{Held, IsTold, held_value};
+
+ghost use Rattle.papergrid_maps.specs.Spans as spans;
+ghost use Rattle.papergrid_maps.specs.Spans.{SpanCall, Spans};
+
+use crate::{Colors, CompactConfig};
+use papergrid_values::{ANSIStr, AlignmentHorizontal, Borders, Indent, Sides};
+use std::hash::Hash;
 
 /// A map that was made with a value and is told by the calls has at each position the value that
 /// they decide.
 pub fn told_decides<T>()
     ensures { (given : T) (calls : List (MapCall T)) (held : Held T) → IsTold given calls held →
         (pos : Position) → held_value held pos ≡ decided_value given calls pos }
+{}
+
+/// The border table that calls make is told by them, and no other is.
+pub fn told_makes_borders<T>()
+    ensures told { (calls : List (BorderCall T)) → borders.IsTold calls (borders_made calls) }
+    ensures only { (calls : List (BorderCall T)) (held : HeldBorders T) → borders.IsTold calls held → held ≡ borders_made calls }
+{}
+
+/// The spans that calls make are told by them, and no others are.
+pub fn told_makes_spans()
+    ensures told { (calls : List SpanCall) → spans.IsTold calls (spans_made calls) }
+    ensures only { (calls : List SpanCall) (held : Spans) → spans.IsTold calls held → held ≡ spans_made calls }
+{}
+
+/// Colours that are empty have none at any position.
+pub fn empty_colors<C: Colors>()
+    ensures { (colors : C) (pos : Position) → C.is_blank colors → C.color_at colors pos ≡ None }
+{}
+
+/// Compact configurations are ordered by the first field that differs, in this order: the frame,
+/// its colours, the margin, its colours, the padding, its colours, the alignment. They are equal
+/// where each field is, hash their fields in this order, and equal their clones.
+pub fn compact_by_fields()
+    ensures ordered { (x y : CompactConfig) →
+        ⟦<CompactConfig as Ord>⟧.cmp x y ≡ first_difference (
+        ⟦<Borders<char> as Ord>⟧.cmp x.borders y.borders
+        ∷ ⟦<Borders<ANSIStr<'static>> as Ord>⟧.cmp x.border_colors y.border_colors
+        ∷ ⟦<Sides<Indent> as Ord>⟧.cmp x.margin y.margin
+        ∷ ⟦<Sides<ANSIStr<'static>> as Ord>⟧.cmp x.margin_color y.margin_color
+        ∷ ⟦<Sides<Indent> as Ord>⟧.cmp x.padding y.padding
+        ∷ ⟦<Sides<ANSIStr<'static>> as Ord>⟧.cmp x.padding_color y.padding_color
+        ∷ ⟦<AlignmentHorizontal as Ord>⟧.cmp x.alignment y.alignment ∷ []) }
+    ensures equal { (x y : CompactConfig) →
+        ⟦<CompactConfig as PartialEq>⟧.eq x y ≡ list_all (λ same. same) (
+        ⟦<Borders<char> as PartialEq>⟧.eq x.borders y.borders
+        ∷ ⟦<Borders<ANSIStr<'static>> as PartialEq>⟧.eq x.border_colors y.border_colors
+        ∷ ⟦<Sides<Indent> as PartialEq>⟧.eq x.margin y.margin
+        ∷ ⟦<Sides<ANSIStr<'static>> as PartialEq>⟧.eq x.margin_color y.margin_color
+        ∷ ⟦<Sides<Indent> as PartialEq>⟧.eq x.padding y.padding
+        ∷ ⟦<Sides<ANSIStr<'static>> as PartialEq>⟧.eq x.padding_color y.padding_color
+        ∷ ⟦<AlignmentHorizontal as PartialEq>⟧.eq x.alignment y.alignment ∷ []) }
+    ensures hashed { (x : CompactConfig) →
+        ⟦<CompactConfig as Hash>⟧.hash_input x
+        ≡ ⟦<Borders<char> as Hash>⟧.hash_input x.borders
+        ++ ⟦<Borders<ANSIStr<'static>> as Hash>⟧.hash_input x.border_colors
+        ++ ⟦<Sides<Indent> as Hash>⟧.hash_input x.margin
+        ++ ⟦<Sides<ANSIStr<'static>> as Hash>⟧.hash_input x.margin_color
+        ++ ⟦<Sides<Indent> as Hash>⟧.hash_input x.padding
+        ++ ⟦<Sides<ANSIStr<'static>> as Hash>⟧.hash_input x.padding_color
+        ++ ⟦<AlignmentHorizontal as Hash>⟧.hash_input x.alignment }
+    ensures cloned { (x y : CompactConfig) → ⟦<CompactConfig as Clone>⟧.is_clone x y → y ≡ x }
 {}

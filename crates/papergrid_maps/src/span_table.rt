@@ -154,13 +154,6 @@ impl SpanTable {
         ensures visible { IsTrue result ↔ IsVisible (column_span self.now) (row_span self.now) pos }
         ensures test { result ≡ is_visible self.now pos }
     {
-        self.is_uncovered(pos)
-    }
-
-    // Whether it is covered in none of the three ways.
-    fn is_uncovered(&self, pos: Position) -> bool
-        ensures { IsTrue result ↔ IsVisible (column_span self.now) (row_span self.now) pos }
-    {
         let _held = &self.columns;
         if self.covered_by_column(pos) {
             return false;

@@ -1,5 +1,8 @@
 //! Worked examples, each call run once, and refused memory.
 
+mod colors;
+mod compact;
+
 ghost use Rattle.std.specs.Prelude.{◌≡◌};
 
 use crate::{BorderTable, EntityMap, MapCall, OffsetTable, SpanTable, Stopped};

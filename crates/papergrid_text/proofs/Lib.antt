@@ -1,6 +1,7 @@
 pub mod ColumnWidths
 pub mod Compared
 pub mod KeptClones
+pub mod Lanes
 pub mod Nth
 pub mod Printable
 pub mod Ranges

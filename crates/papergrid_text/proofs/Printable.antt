@@ -1,19 +1,21 @@
 -- Texts of printable ASCII.
-use Rattle.std.proofs.Common.{◌≡◌, ℕ, ◌<◌, List, [], ◌∷◌, length, refl, ap, ◌∙◌, arith, true, false, max, IsAscii}
+use Rattle.std.proofs.Common.{◌≡◌, ℕ, suc, ◌+◌, ◌<◌, ◌&&◌, Bool, cond, nat_eq, List, [], ◌∷◌, length, take, get_or, refl, sym, ap, ◌∙◌, subst, arith, true, false, max, IsAscii}
 use Rattle.std.specs.Prelude.{◌==◌}
 use Rattle.std.specs.Int.{is_in_range}
-use Rattle.std.specs.List.{list_all, All}
+use Rattle.std.specs.List.{list_all, prefix_len, position_or_len, All}
 use Rattle.std.specs.Str.Lines.{lines_of_parts}
-use Rattle.std.proofs.Math.Dec.{eqb-suc-zero}
-use Rattle.std.proofs.lemmas.Bool.{and_parts}
+use Rattle.std.proofs.Math.Dec.{eqb-suc-suc, eqb-suc-zero}
+use Rattle.std.proofs.lemmas.Bool.{and_parts, eq-eqb}
 use Rattle.std.proofs.lemmas.Bool.Decides.{nat_tests}
+use Rattle.std.proofs.lemmas.List.{length-take-le}
+use Rattle.std.proofs.lemmas.List.Sums.{prefix_len-le-length}
 use Rattle.std.proofs.lemmas.List.Elements.{All-nil, All-cons}
 use Rattle.std.proofs.lemmas.List.Splits.{slice_split_none}
 use Rattle.std.proofs.lemmas.Str.{chars-IsAscii}
 use Rattle.std.proofs.lemmas.Str.Ascii.{IsAscii-nil, IsAscii-cons}
 use Rattle.unicode_width.proofs.Rules.{str_width-printable}
 use Rattle.unicode_width.specs.Width.{str_width}
-use Rattle.papergrid_text.specs.Text.{width_of, greatest_width, split_lines, text_width, text_dimension}
+use Rattle.papergrid_text.specs.Text.{width_of, greatest_width, split_lines, text_width}
 
 below_128 : (b : ℕ) → is_in_range 0x20 0x7E b ≡ true → b < 128
 below_128 b h = grind (arith, nat_tests)
@@ -36,7 +38,7 @@ no_newlines (b ∷ bs) h =
     let parts = and_parts (is_in_range 0x20 0x7E b) (list_all (is_in_range 0x20 0x7E) bs) h in
     All-cons (λ c. (c == 10) ≡ false) b bs (no_newline b parts.0) (no_newlines bs parts.1)
 
-one_line : (text : List ℕ) → list_all (is_in_range 0x20 0x7E) text ≡ true → split_lines text ≡ text ∷ []
+pub one_line : (text : List ℕ) → list_all (is_in_range 0x20 0x7E) text ≡ true → split_lines text ≡ text ∷ []
 one_line text h = slice_split_none (λ b. b == 10) text (no_newlines text h)
 
 one_width : (text : List ℕ) → list_all (is_in_range 0x20 0x7E) text ≡ true → greatest_width (text ∷ []) ≡ length text
@@ -46,5 +48,51 @@ pub text_width-printable : (text : List ℕ) → list_all (is_in_range 0x20 0x7E
 text_width-printable [] h = refl
 text_width-printable (b ∷ bs) h = ap (λ parts. greatest_width (lines_of_parts parts)) (one_line (b ∷ bs) h) ∙ rw (eqb-suc-zero (length bs)) (one_width (b ∷ bs) h)
 
-pub text_dimension-printable : (text : List ℕ) → list_all (is_in_range 0x20 0x7E) text ≡ true → text_dimension text ≡ (1, length text)
-text_dimension-printable text h = ap (λ lines. (length lines, greatest_width lines)) (one_line text h) ∙ ap (λ w. (1, w)) (one_width text h)
+-- ---- the printable bytes at the front
+
+all_step : (v rest : Bool) (n m : ℕ) → nat_eq n m ≡ rest → nat_eq (cond v (1 + n) 0) (suc m) ≡ v && rest
+all_step true rest n m h = let next : 1 + n ≡ suc n = omega arith in ap (λ k. nat_eq k (suc m)) next ∙ eqb-suc-suc n m ∙ h
+all_step false rest n m h = grind (arith, nat_tests)
+
+pub all_printable : (text : List ℕ) → nat_eq (prefix_len (is_in_range 0x20 0x7E) text) (length text) ≡ list_all (is_in_range 0x20 0x7E) text
+all_printable [] = refl
+all_printable (b ∷ bs) = all_step (is_in_range 0x20 0x7E b) _ _ _ (all_printable bs)
+
+front_step : (v : Bool) (b : ℕ) (bs : List ℕ) → is_in_range 0x20 0x7E b ≡ v → list_all (is_in_range 0x20 0x7E) (take (prefix_len (is_in_range 0x20 0x7E) bs) bs) ≡ true
+    → list_all (is_in_range 0x20 0x7E) (take (cond v (1 + prefix_len (is_in_range 0x20 0x7E) bs) 0) (b ∷ bs)) ≡ true
+front_step true b bs is h =
+    let n : ℕ = prefix_len (is_in_range 0x20 0x7E) bs in
+    let next : 1 + n ≡ suc n = omega arith in
+    ap (λ k. list_all (is_in_range 0x20 0x7E) (take k (b ∷ bs))) next ∙ ap (λ v. v && list_all (is_in_range 0x20 0x7E) (take n bs)) is ∙ h
+front_step false b bs is h = refl
+
+front_printable : (text : List ℕ) → list_all (is_in_range 0x20 0x7E) (take (prefix_len (is_in_range 0x20 0x7E) text) text) ≡ true
+front_printable [] = refl
+front_printable (b ∷ bs) = front_step (is_in_range 0x20 0x7E b) b bs refl (front_printable bs)
+
+-- a printable front is as wide as it is long
+pub front_width : (text : List ℕ) (n : ℕ) → n ≡ prefix_len (is_in_range 0x20 0x7E) text → n ≡ width_of (take n text)
+front_width text n is =
+    let printable = subst (λ k. list_all (is_in_range 0x20 0x7E) (take k text) ≡ true) (sym is) (front_printable text) in
+    let bound = prefix_len-le-length (is_in_range 0x20 0x7E) text in
+    sym (width_of-printable (take n text) printable ∙ length-take-le n text (omega arith))
+
+newline_step : (v : Bool) (b : ℕ) (bs : List ℕ) → is_in_range 0x20 0x7E b ≡ v → cond v (1 + prefix_len (is_in_range 0x20 0x7E) bs) 0 < suc (length bs)
+    → get_or (b ∷ bs) (cond v (1 + prefix_len (is_in_range 0x20 0x7E) bs) 0) 0 ≡ 10
+    → (prefix_len (is_in_range 0x20 0x7E) bs < length bs → get_or bs (prefix_len (is_in_range 0x20 0x7E) bs) 0 ≡ 10 → position_or_len (λ c. c == 10) bs ≡ prefix_len (is_in_range 0x20 0x7E) bs)
+    → position_or_len (λ c. c == 10) (b ∷ bs) ≡ cond v (1 + prefix_len (is_in_range 0x20 0x7E) bs) 0
+newline_step true b bs is within at later =
+    let n : ℕ = prefix_len (is_in_range 0x20 0x7E) bs in
+    let next : suc n ≡ 1 + n = omega arith in
+    rw (no_newline b is) (ap (λ k. 1 + k) (later (omega arith) (ap (λ k. get_or (b ∷ bs) k 0) next ∙ at)))
+newline_step false b bs is within at later = rw at refl
+
+-- where a newline ends it, that is the first one
+pub first_newline : (text : List ℕ) → prefix_len (is_in_range 0x20 0x7E) text < length text → get_or text (prefix_len (is_in_range 0x20 0x7E) text) 0 ≡ 10
+    → position_or_len (λ c. c == 10) text ≡ prefix_len (is_in_range 0x20 0x7E) text
+first_newline [] within at = absurd (omega arith)
+first_newline (b ∷ bs) within at = newline_step (is_in_range 0x20 0x7E b) b bs refl within at (first_newline bs)
+
+-- where it is as long as the text, that is the whole
+pub whole_printable : (text : List ℕ) (n : ℕ) → n ≡ prefix_len (is_in_range 0x20 0x7E) text → n ≡ length text → list_all (is_in_range 0x20 0x7E) text ≡ true
+whole_printable text n is whole = sym (all_printable text) ∙ eq-eqb _ _ (sym is ∙ whole)

@@ -1,20 +1,25 @@
 //! Texts: their lines, their widths and their tabs. Source: `util/string.rs`.
 
-ghost use Rattle.std.specs.Prelude.{◌≡◌, ◌<◌, ◌==◌, ◌+◌, ◌++◌, Option, count_by, length, replicate, string_bytes, false, IfOk};
+ghost use Rattle.std.specs.Prelude.{◌≡◌, ◌<◌, ◌≤◌, ◌==◌, ◌+◌, ◌++◌, ◌∷◌, ℕ, List, Option, count_by, length, replicate, string_bytes, false, IfOk, IfSome, IsUtf8};
 ghost use Rattle.std.specs.Cow.{cow_str_bytes, IsOwnedStr};
 ghost use Rattle.std.specs.Int.{is_in_range};
 ghost use Rattle.std.specs.Iterator.{YieldsFirstRef, item_count};
-ghost use Rattle.std.specs.List.{list_all};
+ghost use Rattle.std.specs.List.{list_all, prefix_len};
 ghost use Rattle.std.specs.Option.{unwrap_or};
+ghost use Rattle.std.specs.Simd.Lanes.{chunk};
 ghost use Rattle.std.specs.Str.{encode_utf8_all};
 ghost use Rattle.unicode_width.specs.Width.{char_width};
-ghost use Rattle.papergrid_text.specs.LinesLeft.{lines_left};
+ghost use Rattle.papergrid_text.specs.LinesLeft.{lines_left, lines_of_rest};
 ghost use Rattle.papergrid_text.specs.Text.{split_lines, width_of, text_width, text_dimension, is_spaced, in_place_of, tabs_replaced};
 
 use std::alloc::{AllocError, Global};
 use std::borrow::CowStr;
 use std::iter::Iterator;
+use std::simd::prelude::*;
 use unicode_width::{UnicodeWidthChar, UnicodeWidthStr};
+
+// Bytes that are tested at once.
+const LANES: usize = 8;
 
 /// The lines of a text, as slices of it. It ends for good after the last one.
 #[derive(Clone, Debug, Drop)]
@@ -30,17 +35,21 @@ impl<'a> Iterator for Lines<'a> {
     ghost remaining = { item_count lines_left };
 
     fn next(&mut self) -> Option<&'a str> {
-        let text = self.rest?;
-        match text.split_once('\n') {
-            Some((line, rest)) => {
-                self.rest = Some(rest);
-                Some(line)
-            }
-            None => {
-                self.rest = None;
-                Some(text)
-            }
-        }
+        let (line, rest) = cut_line(self.rest?);
+        self.rest = rest;
+        Some(line)
+    }
+}
+
+// The first line, and what stands after its newline.
+fn cut_line(text: &str) -> (&str, Option<&str>)
+    ensures lines { split_lines text.now ≡ result.0.now ∷ lines_of_rest result.1 }
+    ensures line { IsUtf8 result.0.now }
+    ensures rest { IfSome result.1 (λ rest. IsUtf8 rest.now) }
+{
+    match text.split_once('\n') {
+        Some((line, rest)) => (line, Some(rest)),
+        None => (text, None),
     }
 }
 
@@ -93,13 +102,52 @@ pub fn get_string_width(text: &str) -> usize
 fn is_printable(text: &str) -> bool
     ensures { result ≡ list_all (is_in_range 0x20 0x7E) text.now }
 {
+    count_printable(text) == text.len()
+}
+
+// How many bytes from the front on are printable ASCII.
+fn count_printable(text: &str) -> usize
+    ensures { result ≡ prefix_len (is_in_range 0x20 0x7E) text.now }
+{
     let bytes = text.as_bytes();
-    for b in bytes {
-        if *b < 0x20 || *b > 0x7E {
-            return false;
+    let mut count = 0usize;
+    while LANES <= bytes.len() - count {
+        let run = count_printable_lanes(bytes, count);
+        count += run;
+        if run < LANES {
+            return count;
         }
     }
-    true
+    count + count_printable_bytes(&bytes[count..])
+}
+
+// The same of as many bytes as there are lanes, from a place on.
+fn count_printable_lanes(bytes: &[u8], from: usize) -> usize
+    requires { from + LANES ≤ length bytes.now }
+    ensures { result ≡ prefix_len (is_in_range 0x20 0x7E) (chunk from LANES bytes.now) }
+{
+    let lanes = u8x8::from_slice(&bytes[from..]);
+    let others = lanes.simd_lt(u8x8::splat(0x20)) | lanes.simd_ge(u8x8::splat(0x7F));
+    let mask = others.to_bitmask();
+    if mask == 0 {
+        LANES
+    } else {
+        mask.trailing_zeros() as usize
+    }
+}
+
+// The same, one byte after another.
+fn count_printable_bytes(bytes: &[u8]) -> usize
+    ensures { result ≡ prefix_len (is_in_range 0x20 0x7E) bytes.now }
+{
+    let mut count = 0usize;
+    for b in bytes {
+        if *b < 0x20 || *b > 0x7E {
+            return count;
+        }
+        count += 1;
+    }
+    count
 }
 
 /// How many columns of a terminal the line takes.
@@ -136,16 +184,32 @@ pub fn get_text_width(text: &str) -> usize
 pub fn get_text_dimension(text: &str) -> (usize, usize)
     ensures { result ≡ text_dimension text.now }
 {
-    if is_printable(text) {
-        return (1, text.len());
-    }
     let mut count = 0usize;
     let mut width = 0usize;
-    for line in get_lines(text) {
+    let mut rest = Some(text);
+    while let Some(left) = rest {
+        let (line_width, after) = measure_first_line(left);
         count += 1;
-        width = width.max(get_line_width(line));
+        width = width.max(line_width);
+        rest = after;
     }
     (count, width)
+}
+
+// The width of the first line, and what stands after its newline. A printable line is looked at once.
+fn measure_first_line(text: &str) -> (usize, Option<&str>)
+    ensures first { (line : List ℕ) × (split_lines text.now ≡ line ∷ lines_of_rest result.1) × (result.0 ≡ width_of line) }
+    ensures text { IfSome result.1 (λ rest. IsUtf8 rest.now) }
+{
+    let printable = count_printable(text);
+    if printable == text.len() {
+        return (printable, None);
+    }
+    if text.as_bytes()[printable] == b'\n' {
+        return (printable, Some(&text[printable + 1..]));
+    }
+    let (line, rest) = cut_line(text);
+    (line.width(), rest)
 }
 
 /// The text with `n` spaces in place of each tab. Where `n` is not 4, a tab right after a backslash

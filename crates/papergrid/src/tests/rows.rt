@@ -2,6 +2,8 @@
 
 use super::check;
 use crate::RunEnd;
+use std::alloc::Global;
+use std::process::Abort;
 use std::test::Fail;
 
 #[test]
@@ -60,6 +62,13 @@ fn greatest_size(rt: HostRuntime) -> Result<(), Fail> {
     check(
         &rt,
         rt.alloc(),
+        b"columns 1\npad * 18446744073709551615 0 0 0\nrow\ncell\nborder |\n",
+        "refused: too large\n",
+        RunEnd::Refused,
+    )?;
+    check(
+        &rt,
+        rt.alloc(),
         b"columns 1\npad * 18446744073709551615 0 0 0\nrow\ncell a\n",
         "refused: too large\n",
         RunEnd::Refused,
@@ -81,7 +90,39 @@ fn out_of_table(rt: HostRuntime) -> Result<(), Fail> {
 fn empty_tables(rt: HostRuntime) -> Result<(), Fail> {
     let output = "widths\nheights\ntotal 0 0\n";
     check(&rt, rt.alloc(), b"columns 0\n", output, RunEnd::Done)?;
-    check(&rt, rt.alloc(), b"", output, RunEnd::Done)
+    check(&rt, rt.alloc(), b"", output, RunEnd::Done)?;
+    check(
+        &rt,
+        rt.alloc(),
+        b"columns 0\nborder |\n",
+        "widths\nheights\ntotal 1 1\n",
+        RunEnd::Done,
+    )
+}
+
+#[test]
+fn script_lines(rt: HostRuntime) -> Result<(), Fail> {
+    check(
+        &rt,
+        rt.alloc(),
+        b"columns 2\nvline 1 |\nhline 7 -\nrow\ncell ab\ncell c\n",
+        "widths 2 1\nheights 1\ntotal 4 1\n",
+        RunEnd::Done,
+    )?;
+    check(
+        &rt,
+        rt.alloc(),
+        b"columns 2\nvline 1 |\nhline 7 -\nrow\ncell ab\ncell c\nnovline 1\n",
+        "widths 2 1\nheights 1\ntotal 3 1\n",
+        RunEnd::Done,
+    )?;
+    check(
+        &rt,
+        rt.alloc(),
+        b"columns 2\nborder |\nrow\ncell ab\ncell c\n",
+        "widths 2 1\nheights 1\ntotal 6 3\n",
+        RunEnd::Done,
+    )
 }
 
 #[test]
@@ -116,20 +157,84 @@ fn first_bad_line(rt: HostRuntime) -> Result<(), Fail> {
         b"pad * 1 2 3",
         b"pad x1 1 2 3 4",
         b"colspan 0,0 2",
-        b"border |",
+        b"rowspan 0,0 2",
         b"cell a",
     ];
     for line in second {
-        let script = [b"columns 1\n", line, b"\n\xff\n"].concat(rt.alloc())?;
-        check(
-            &rt,
-            rt.alloc(),
-            script.as_slice(),
-            "bad script at line 2\n",
-            RunEnd::BadScript,
-        )?;
+        check_bad_second(&rt, rt.alloc(), line)?;
     }
     Ok(())
+}
+
+/// A border or a line is of exactly one character, and stands at a number.
+#[test]
+fn bad_line_characters(rt: HostRuntime) -> Result<(), Fail> {
+    let second: [&[u8]; 16] = [
+        b"border",
+        b"border ",
+        b"border \r",
+        b"border xy",
+        b"border  |",
+        b"border |\xcc\x81",
+        b"border \xcc",
+        b"borders |",
+        b"vline 1",
+        b"vline 1 ",
+        b"vline x |",
+        b"vline  1 |",
+        b"vline 1  |",
+        b"vline 18446744073709551616 |",
+        b"hline 1",
+        b"hline -1 -",
+    ];
+    for line in second {
+        check_bad_second(&rt, rt.alloc(), line)?;
+    }
+    Ok(())
+}
+
+/// A removed line has a number and nothing else.
+#[test]
+fn bad_removals(rt: HostRuntime) -> Result<(), Fail> {
+    let second: [&[u8]; 8] = [
+        b"novline",
+        b"novline ",
+        b"novline 1 ",
+        b"novline 1 |",
+        b"novline c1",
+        b"nohline",
+        b"nohline 1 2",
+        b"nohline 18446744073709551616",
+    ];
+    for line in second {
+        check_bad_second(&rt, rt.alloc(), line)?;
+    }
+    Ok(())
+}
+
+/// Lines that are good, a space, a tab and a character of several bytes among theirs: only the line
+/// after them is bad.
+#[test]
+fn good_lines(rt: HostRuntime) -> Result<(), Fail> {
+    check(
+        &rt,
+        rt.alloc(),
+        b"border |\nborder  \nborder \xe2\x94\x82\r\nborder \r\r\nvline 007 |\nvline 1  \nvline 18446744073709551615 \xf0\x9f\x98\x8e\nhline 1  \nhline 1 \t\nnovline 1\nnohline 00\nborder\n",
+        "bad script at line 12\n",
+        RunEnd::BadScript,
+    )
+}
+
+/// Checks that the line is bad where it is the second one.
+fn check_bad_second(rt: &impl Abort, alloc: Global, line: &[u8]) -> Result<(), Fail> {
+    let script = [b"columns 1\n", line, b"\n\xff\n"].concat(alloc)?;
+    check(
+        rt,
+        alloc,
+        script.as_slice(),
+        "bad script at line 2\n",
+        RunEnd::BadScript,
+    )
 }
 
 /// CR LF, leading zeros, a last line without a newline, and a tab and a CR in a text.

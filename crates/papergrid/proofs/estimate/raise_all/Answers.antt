@@ -7,7 +7,7 @@ use Rattle.papergrid.proofs.estimate.raise_all.Goals as goal
 
 pub loop-row-preserved : goal.loop-row-preserved
 loop-row-preserved c =
-    let padding = held_value c.args.paddings.now in
+    let padding = held_value c.args.config.now.padding in
     let same = c.as_slice.ensures.value in
     let fits = c.if-not-raise_row.false in
     record {

@@ -8,27 +8,27 @@ use Rattle.papergrid.proofs.estimate.raise_row.Goals as goal
 
 pub returns-in_default-clause-fits : goal.returns-in_default-clause-fits
 returns-in_default-clause-fits c =
-    let padding = held_value c.args.paddings.now in
+    let padding = held_value c.args.config.now.padding in
     let cell = cell_at c.args.row c.loop-col.col (get_or c.args.cells.now c.loop-col.col (0, 0)) in
-    let sides = c.get-padding.ensures.held ∙ ap (held_value c.args.paddings.now) c.new.ensures in
-    let need = wide_need padding cell.place cell.measure _ c.get-padding.result.now sides refl in
+    let sides = c.get_padding-padding.ensures.held ∙ ap (held_value c.args.config.now.padding) c.new.ensures in
+    let need = wide_need padding cell.place cell.measure _ c.get_padding-padding.result.now sides refl in
     row_stops (fits_in padding) _ _ _ _ _ c.loop-col-test.true (get_or_default c.args.cells.now c.loop-col.col _ _ c.loop-col-test.true) (too_wide padding cell _ need c.in_default.ensures) c.loop-col.invariant.fits
 
 pub returns-in_default-need-clause-fits : goal.returns-in_default-need-clause-fits
 returns-in_default-need-clause-fits c =
-    let padding = held_value c.args.paddings.now in
+    let padding = held_value c.args.config.now.padding in
     let cell = cell_at c.args.row c.loop-col.col (get_or c.args.cells.now c.loop-col.col (0, 0)) in
-    let sides = c.get-padding.ensures.held ∙ ap (held_value c.args.paddings.now) c.new.ensures in
-    let need = high_need padding cell.place cell.measure _ c.get-padding.result.now sides refl in
+    let sides = c.get_padding-padding.ensures.held ∙ ap (held_value c.args.config.now.padding) c.new.ensures in
+    let need = high_need padding cell.place cell.measure _ c.get_padding-padding.result.now sides refl in
     row_stops (fits_in padding) _ _ _ _ _ c.loop-col-test.true (get_or_default c.args.cells.now c.loop-col.col _ _ c.loop-col-test.true) (too_high padding cell _ need c.in_default-need.ensures) c.loop-col.invariant.fits
 
 pub loop-col-preserved : goal.loop-col-preserved
 loop-col-preserved c =
-    let padding = held_value c.args.paddings.now in
+    let padding = held_value c.args.config.now.padding in
     let cell = cell_at c.args.row c.loop-col.col (get_or c.args.cells.now c.loop-col.col (0, 0)) in
-    let sides = c.get-padding.ensures.held ∙ ap (held_value c.args.paddings.now) c.new.ensures in
-    let width = wide_need padding cell.place cell.measure c.in-Some.width c.get-padding.result.now sides c.in-Some.ensures.1 in
-    let height = high_need padding cell.place cell.measure c.in-Some-need.height c.get-padding.result.now sides c.in-Some-need.ensures.1 in
+    let sides = c.get_padding-padding.ensures.held ∙ ap (held_value c.args.config.now.padding) c.new.ensures in
+    let width = wide_need padding cell.place cell.measure c.in-Some.width c.get_padding-padding.result.now sides c.in-Some.ensures.1 in
+    let height = high_need padding cell.place cell.measure c.in-Some-need.height c.get_padding-padding.result.now sides c.in-Some-need.ensures.1 in
     let narrow : c.in-Some.width < 2 ^ 64 = omega (arith, c.in-Some.ensures.0, c.in-Some.ensures.1) in
     let low : c.in-Some-need.height < 2 ^ 64 = omega (arith, c.in-Some-need.ensures.0, c.in-Some-need.ensures.1) in
     let fit = both_fit padding cell _ _ width height narrow low in

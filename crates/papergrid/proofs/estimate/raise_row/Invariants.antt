@@ -9,10 +9,10 @@ use Rattle.papergrid.proofs.estimate.raise_row.Given as goal
 -- what the whole row does is what its rest does from here
 abbrev pub invariant-loop-col : goal.invariant-loop-col
 invariant-loop-col l = record {
-  fits : list_all (fits_in (held_value l.paddings)) (cells_of_row l.row 0 l.cells)
-      ≡ list_all (fits_in (held_value l.paddings)) (cells_of_row l.row l.col (drop l.col l.cells));
-  widths : raised_by column_of (width_need (held_value l.paddings)) l.fn.widths (cells_of_row l.row 0 l.cells)
-      ≡ raised_by column_of (width_need (held_value l.paddings)) l.widths (cells_of_row l.row l.col (drop l.col l.cells));
-  heights : raised_by row_of (height_need (held_value l.paddings)) l.fn.heights (cells_of_row l.row 0 l.cells)
-      ≡ raised_by row_of (height_need (held_value l.paddings)) l.heights (cells_of_row l.row l.col (drop l.col l.cells));
+  fits : list_all (fits_in (held_value l.config.padding)) (cells_of_row l.row 0 l.cells)
+      ≡ list_all (fits_in (held_value l.config.padding)) (cells_of_row l.row l.col (drop l.col l.cells));
+  widths : raised_by column_of (width_need (held_value l.config.padding)) l.fn.widths (cells_of_row l.row 0 l.cells)
+      ≡ raised_by column_of (width_need (held_value l.config.padding)) l.widths (cells_of_row l.row l.col (drop l.col l.cells));
+  heights : raised_by row_of (height_need (held_value l.config.padding)) l.fn.heights (cells_of_row l.row 0 l.cells)
+      ≡ raised_by row_of (height_need (held_value l.config.padding)) l.heights (cells_of_row l.row l.col (drop l.col l.cells));
 }

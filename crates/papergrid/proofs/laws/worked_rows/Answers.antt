@@ -4,24 +4,29 @@ use Rattle.std.specs.Fmt.{digits}
 use Rattle.std.specs.Str.{chars, is_utf8}
 use Rattle.unicode_width.specs.Width.{str_width, step, past_emoji}
 use Rattle.papergrid.specs.Texts.{unescaped}
-use Rattle.papergrid.specs.Grammar.{number_of, cell_entity, entity_of, sides_of, padding_of, keyword_says, text_says, said, script_lines}
+use Rattle.papergrid.specs.Grammar.{number_of, cell_entity, entity_of, sides_of, padding_of, character_of, placed_character, setting_of, keyword_says, text_says, said, script_lines}
 use Rattle.papergrid.specs.Scripts.{table_of}
-use Rattle.papergrid.specs.Sizes.{padding_at, sizes_of, estimate_of}
-use Rattle.papergrid.specs.Outputs.{output_of, end_of}
+use Rattle.papergrid.specs.Sizes.{padding_at, sizes_of}
+use Rattle.papergrid.proofs.ListedLemmas.{worked}
 use Rattle.papergrid.proofs.laws.worked_rows.Goals as goal
 
 pub returns : goal.returns
-unfolding output_of end_of table_of script_lines said text_says keyword_says padding_of sides_of entity_of cell_entity number_of unescaped chars is_utf8 encode estimate_of sizes_of padding_at str_width step past_emoji digits
+unfolding table_of script_lines said text_says keyword_says setting_of placed_character character_of padding_of sides_of entity_of cell_entity number_of unescaped chars is_utf8 encode sizes_of padding_at str_width step past_emoji digits
 returns c = record {
-  first_run = record { written = refl; ended = refl };
-  short_row = record { written = refl; ended = refl };
-  out_before_too_large = record { written = refl; ended = refl };
-  row_pin_over_column = record { written = refl; ended = refl };
-  greatest_size = record { written = refl; ended = refl };
-  greatest_size_and_one = record { written = refl; ended = refl };
-  out_of_table = record { written = refl; ended = refl };
-  no_columns = record { written = refl; ended = refl };
-  empty_input = record { written = refl; ended = refl };
-  cell_before_row = record { written = refl; ended = refl };
-  bad_escape = record { written = refl; ended = refl };
+  first_run = worked _ _ _ refl refl;
+  short_row = worked _ _ _ refl refl;
+  out_before_too_large = worked _ _ _ refl refl;
+  row_pin_over_column = worked _ _ _ refl refl;
+  greatest_size = worked _ _ _ refl refl;
+  greatest_size_and_one = worked _ _ _ refl refl;
+  greatest_size_and_borders = worked _ _ _ refl refl;
+  out_of_table = worked _ _ _ refl refl;
+  no_columns = worked _ _ _ refl refl;
+  empty_input = worked _ _ _ refl refl;
+  borders_alone = worked _ _ _ refl refl;
+  one_line = worked _ _ _ refl refl;
+  no_line = worked _ _ _ refl refl;
+  all_lines = worked _ _ _ refl refl;
+  cell_before_row = worked _ _ _ refl refl;
+  bad_escape = worked _ _ _ refl refl;
 }

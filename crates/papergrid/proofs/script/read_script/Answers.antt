@@ -1,34 +1,26 @@
-use Rattle.std.proofs.Common.{◌+◌, nat_eq, ap, sym, ◌∙◌, rules, tests}
-use Rattle.std.specs.Slice.Iter as slice
-use Rattle.std.proofs.lemmas.List.{length_push}
-use Rattle.std.proofs.lemmas.Iterator.Consumers.{YieldsList-turn, YieldsList-end}
-use Rattle.std.proofs.lemmas.Iterator.Splits.{YieldsList-from_slice_split}
-use Rattle.papergrid.proofs.LineLemmas.{table_of-pieces, good_line, bad_line, no_more_lines}
+use Rattle.std.proofs.Common.{Err, ap, arith, sym, ◌∙◌}
+use Rattle.papergrid.specs.Scripts.{table_of}
+use Rattle.papergrid.specs.Seen.{GivesTable}
+use Rattle.papergrid.proofs.CutLemmas.{all_given, fault_given, line_given}
+use Rattle.papergrid.proofs.RangeLemmas.{given_in_range}
+use Rattle.papergrid.proofs.script.read_script.Goals.{else-text-input-via-then-text-input+else-is_ok, else-text-input-via-else-text-input}
 use Rattle.papergrid.proofs.script.read_script.Goals as goal
 
-pub returns-then-not-branch : goal.returns-then-not-branch
-returns-then-not-branch c =
-    let turn = YieldsList-turn (YieldsList-from_slice_split _ (λ b. nat_eq b 10) c.args.input.now (ap slice.split_rest c.into_iter-piece-iterator.ensures.into_iter_gives ∙ c.split-piece-items.ensures.rest)
-    (ap slice.split_done c.into_iter-piece-iterator.ensures.into_iter_gives ∙ c.split-piece-items.ensures.done)
-    (ap slice.split_callee c.into_iter-piece-iterator.ensures.into_iter_gives ∙ c.split-piece-items.ensures.closure) (λ x r q k. search (rules, tests)))
-    c.loop-piece.yielded _ c.loop-piece.yielded_by _ _ c.in-Some.piece c.in-Some.is c.next.ensures.steps in
-    table_of-pieces c.args.input.now ∙ bad_line _ _ _ _ _ _ _ turn c.loop-piece.invariant.counted c.without_cr.ensures (rw c.if-not-branch.true at c.in_ok-take_line.ensures) c.loop-piece.invariant.told
+pub returns-then-is_ok-clause-told : goal.returns-then-is_ok-clause-told
+returns-then-is_ok-clause-told c =
+    let front = c.text_in_front-text.ensures in
+    line_given _ _ c.script_of_text-read.result front.front (front.longest c.if-text-input.true) (sym c.is_ok.ensures.value ∙ c.if-is_ok.true) c.script_of_text-read.ensures
+    ∙ ap (λ n. Err n) (sym c.count_lines.ensures.lines)
 
-pub loop-piece-preserved : goal.loop-piece-preserved
-loop-piece-preserved c =
-    let turn = YieldsList-turn (YieldsList-from_slice_split _ (λ b. nat_eq b 10) c.args.input.now (ap slice.split_rest c.into_iter-piece-iterator.ensures.into_iter_gives ∙ c.split-piece-items.ensures.rest)
-    (ap slice.split_done c.into_iter-piece-iterator.ensures.into_iter_gives ∙ c.split-piece-items.ensures.done)
-    (ap slice.split_callee c.into_iter-piece-iterator.ensures.into_iter_gives ∙ c.split-piece-items.ensures.closure) (λ x r q k. search (rules, tests)))
-    c.loop-piece.yielded _ c.loop-piece.yielded_by _ _ c.in-Some.piece c.in-Some.is c.next.ensures.steps in
-    record {
-      counted = ap (λ n. n + 1) c.loop-piece.invariant.counted ∙ sym (length_push c.loop-piece.yielded c.in-Some.piece);
-      told = good_line _ _ _ _ _ _ _ _ turn c.loop-piece.invariant.counted c.without_cr.ensures (rw c.if-not-branch.false at c.in_ok-take_line.ensures) c.loop-piece.invariant.told;
-    }
+pub returns-then-is_ok-clause-in_range : goal.returns-then-is_ok-clause-in_range
+returns-then-is_ok-clause-in_range c = tt
 
 pub returns : goal.returns
 returns c =
-    let end = YieldsList-end (YieldsList-from_slice_split _ (λ b. nat_eq b 10) c.args.input.now (ap slice.split_rest c.into_iter-piece-iterator.ensures.into_iter_gives ∙ c.split-piece-items.ensures.rest)
-    (ap slice.split_done c.into_iter-piece-iterator.ensures.into_iter_gives ∙ c.split-piece-items.ensures.done)
-    (ap slice.split_callee c.into_iter-piece-iterator.ensures.into_iter_gives ∙ c.split-piece-items.ensures.closure) (λ x r q k. search (rules, tests)))
-    c.loop-piece.yielded _ c.loop-piece.yielded_by _ _ c.in-None.is c.next.ensures.steps in
-    table_of-pieces c.args.input.now ∙ no_more_lines _ _ _ _ _ end.1 c.loop-piece.invariant.counted c.loop-piece.invariant.told
+    let front = c.text_in_front-text.ensures in
+    let told : GivesTable c.script_of_text-read.result (table_of c.args.input.now) =
+    elim c.else-text-input.branch [
+      | else-text-input-via-then-text-input+else-is_ok w ↦ fault_given _ _ c.script_of_text-read.result front.front (front.longest w.if-text-input.true) (sym w.is_ok.ensures.value ∙ w.if-is_ok.false) c.script_of_text-read.ensures
+      | else-text-input-via-else-text-input w ↦ all_given _ _ c.script_of_text-read.result front.front (let e = w.if-text-input.false in omega arith) c.script_of_text-read.ensures
+    ] in
+    record { told = told; in_range = given_in_range c.script_of_text-read.result c.args.input.now told }

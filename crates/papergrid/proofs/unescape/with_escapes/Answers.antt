@@ -1,17 +1,18 @@
-use Rattle.std.proofs.Common.{lit<}
-use Rattle.papergrid.proofs.EscapeLemmas.{stopped, moved, finished}
+use Rattle.std.proofs.Common.{lit<, rules}
+use Rattle.papergrid.proofs.EscapeLemmas.{stopped, past_escape, past_plain, finished}
 use Rattle.papergrid.proofs.unescape.with_escapes.Goals as goal
 
-pub returns-in_default-escaped : goal.returns-in_default-escaped
-returns-in_default-escaped c =
-    stopped _ _ _ _ _ (c.in-Some.ensures.byte (lit< tt) (λ w o f. f)) c.in_default-escaped.ensures.escape c.loop-plain.invariant.meant
+pub returns-in-None : goal.returns-in-None
+returns-in-None c =
+    finished _ _ _ _ (c.in-None.ensures.byte (lit< tt) (λ w o f. f)) c.in_ok-push_str-in-None.ensures.bytes
+    (past_escape _ _ _ _ _ _ c.in-Some.ensures.escape c.in_ok-push.ensures.bytes c.loop-meant.invariant.meant)
 
-pub loop-plain-preserved : goal.loop-plain-preserved
-loop-plain-preserved c = record {
-  text = c.in-Some-escaped.ensures.text;
-  meant = moved _ _ _ _ _ _ _ _ _ (c.in-Some.ensures.byte (lit< tt) (λ w o f. f)) c.in-Some-escaped.ensures.escape
-      c.in_ok-push_str.ensures.bytes c.in_ok-push.ensures.bytes c.loop-plain.invariant.meant;
+pub loop-meant-preserved : goal.loop-meant-preserved
+loop-meant-preserved c = record {
+  text = search rules;
+  meant = past_plain _ _ _ _ _ _ (c.in-Some-split_once.ensures.byte (lit< tt) (λ w o f. f)) c.in_ok-push_str-in-Some-split_once.ensures.bytes
+      (past_escape _ _ _ _ _ _ c.in-Some.ensures.escape c.in_ok-push.ensures.bytes c.loop-meant.invariant.meant);
 }
 
 pub returns : goal.returns
-returns c = finished _ _ _ _ (c.in_default.ensures.byte (lit< tt) (λ w o f. f)) c.in_ok-push_str-2.ensures.bytes c.loop-plain.invariant.meant
+returns c = stopped _ _ _ c.in_default.ensures.escape c.loop-meant.invariant.meant

@@ -1,20 +1,6 @@
-use Rattle.std.proofs.Common.{◌∙◌, subst, sym}
-use Rattle.std.specs.Prelude.{◌↔◌, IsTrue}
-use Rattle.papergrid_maps.specs.BorderHeld.{places_of}
-use Rattle.papergrid_maps.specs.Places.{IsHorizontalSet, at_ends}
-use Rattle.papergrid_maps.proofs.BorderFound.{by_value, decided_by_third, holds_first, holds_second}
+use Rattle.papergrid_maps.proofs.LineTested.{horizontal_tested}
+use Rattle.papergrid_maps.proofs.SpanVisible.{same_answer}
 use Rattle.papergrid_maps.proofs.border_table.BorderTable.has_horizontal.Goals as goal
 
-pub returns-then-is_some : goal.returns-then-is_some
-returns-then-is_some g c = rw (← c.self.view_is) (holds_first _ (by_value _ _ c.is_some.ensures) c.if-is_some.true)
-
-pub returns-then-at_ends : goal.returns-then-at_ends
-returns-then-at_ends g c = rw (← c.self.view_is) (holds_second _
-    (by_value _ _ (c.at_ends.ensures ∙ (λ i. at_ends c.args.row c.args.count (c.has_top.ensures i) (c.has_bottom.ensures i) (c.has_horizontal.ensures i)))) c.if-at_ends.true)
-
-pub returns : goal.returns
-returns g c = rw (← c.self.view_is) (decided_by_third _ _ _
-    (by_value _ _ c.is_some.ensures)
-    (by_value _ _ (c.at_ends.ensures ∙ (λ i. at_ends c.args.row c.args.count (c.has_top.ensures i) (c.has_bottom.ensures i) (c.has_horizontal.ensures i))))
-    (subst (λ s. IsTrue c.is_horizontal_set.result ↔ IsHorizontalSet (places_of s) c.args.row c.args.count) (sym c.self.view_is) c.is_horizontal_set.ensures)
-    c.if-is_some.false c.if-at_ends.false)
+pub returns-clause-test : goal.returns-clause-test
+returns-clause-test g c = same_answer _ _ c.is_horizontal_line.ensures (horizontal_tested c.args.self.now c.args.row c.args.count)

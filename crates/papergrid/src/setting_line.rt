@@ -1,0 +1,106 @@
+//! The lines of a script that set something of its table.
+
+ghost use Rattle.std.specs.Prelude.{◌≡◌};
+ghost use Rattle.papergrid.specs.Grammar.{cell_entity, character_of, entity_of, padding_of, placed_character, setting_of, sides_of};
+
+use crate::number::number;
+use papergrid_config::Setting;
+use papergrid_values::{Borders, Entity, HorizontalLine, Indent, Sides, VerticalLine};
+
+/// The setting of a keyword, and of what stands after it and a space.
+#[tactic(auto, unfolding(crate::specs::Grammar::setting_of))]
+pub fn line_setting(keyword: &str, rest: &str) -> Option<Setting>
+    ensures { result ≡ setting_of keyword.now rest.now }
+{
+    match keyword {
+        "pad" => padding(rest),
+        "border" => Some(Setting::SetBorders(Borders::filled(character(rest)?))),
+        "vline" => {
+            let (col, c) = placed_character(rest)?;
+            let line = VerticalLine::new(Some(c), None, None, None);
+            Some(Setting::InsertVerticalLine(col, line))
+        }
+        "hline" => {
+            let (row, c) = placed_character(rest)?;
+            let line = HorizontalLine::new(Some(c), None, None, None);
+            Some(Setting::InsertHorizontalLine(row, line))
+        }
+        // How many columns or rows there are makes no difference to the line.
+        "novline" => Some(Setting::RemoveVerticalLine(number(rest)?, 0)),
+        "nohline" => Some(Setting::RemoveHorizontalLine(number(rest)?, 0)),
+        _ => None,
+    }
+}
+
+/// The character that the text is, if it is exactly one.
+#[tactic(auto, unfolding(crate::specs::Grammar::character_of))]
+fn character(spelled: &str) -> Option<char>
+    ensures { result ≡ character_of spelled.now }
+{
+    let mut chars = spelled.chars();
+    let first = chars.next()?;
+    match chars.next() {
+        None => Some(first),
+        Some(_) => None,
+    }
+}
+
+/// A number, and one character after it and a space.
+#[tactic(auto, unfolding(crate::specs::Grammar::placed_character))]
+fn placed_character(spelled: &str) -> Option<(usize, char)>
+    ensures { result ≡ placed_character spelled.now }
+{
+    let (place, rest) = spelled.split_once(' ')?;
+    Some((number(place)?, character(rest)?))
+}
+
+/// The setting of an entity and four numbers.
+#[tactic(auto, unfolding(crate::specs::Grammar::padding_of))]
+fn padding(spelled: &str) -> Option<Setting>
+    ensures { result ≡ padding_of spelled.now }
+{
+    let (first, rest) = spelled.split_once(' ')?;
+    Some(Setting::SetPadding(entity(first)?, sides(rest)?))
+}
+
+/// So many spaces for left, right, top and bottom.
+#[tactic(auto, unfolding(crate::specs::Grammar::sides_of))]
+fn sides(spelled: &str) -> Option<Sides<Indent>>
+    ensures { result ≡ sides_of spelled.now }
+{
+    let (left, rest) = spelled.split_once(' ')?;
+    let (right, rest) = rest.split_once(' ')?;
+    let (top, bottom) = rest.split_once(' ')?;
+    Some(Sides::new(
+        Indent::spaced(number(left)?),
+        Indent::spaced(number(right)?),
+        Indent::spaced(number(top)?),
+        Indent::spaced(number(bottom)?),
+    ))
+}
+
+/// The entity that the text spells: `*`, `c` or `r` with a number, or a row and a column with a comma.
+#[tactic(auto, unfolding(crate::specs::Grammar::entity_of))]
+fn entity(spelled: &str) -> Option<Entity>
+    ensures { result ≡ entity_of spelled.now }
+{
+    if spelled == "*" {
+        return Some(Entity::Global);
+    }
+    if let Some(digits) = spelled.strip_prefix("c") {
+        return number(digits).map(Entity::Column);
+    }
+    if let Some(digits) = spelled.strip_prefix("r") {
+        return number(digits).map(Entity::Row);
+    }
+    cell_entity(spelled)
+}
+
+/// The cell at a row and a column with a comma between them.
+#[tactic(auto, unfolding(crate::specs::Grammar::cell_entity))]
+fn cell_entity(spelled: &str) -> Option<Entity>
+    ensures { result ≡ cell_entity spelled.now }
+{
+    let (row, col) = spelled.split_once(',')?;
+    Some(Entity::Cell(number(row)?, number(col)?))
+}

@@ -1,0 +1,112 @@
+-- A character is found only on a line that is there.
+use Rattle.std.proofs.Common.{◌≡◌, ℕ, ◌<◌, ◌≤◌, Bool, true, false, cond, ◌&&◌, eqb, ltb, Option, Some, None, refl, sym, ap, subst, ◌∙◌, arith, inl, inr, ⊎_elim}
+use Rattle.std.specs.Prelude.{◌||◌, ◌⊎◌, ◌↔◌, IsSome, is_some, option_and_then}
+use Rattle.std.specs.Option.{option_or}
+use Rattle.std.proofs.lemmas.Bool.{false≢true, and_from, or_left, or_right, eq-eqb, ne_eqb, lt-ltb, cases_eq, cond-true, cond-false}
+use Rattle.papergrid_values.specs.declared.borders.Borders.{Borders}
+use Rattle.papergrid_values.specs.declared.position.Position.{Position}
+use Rattle.papergrid_values.specs.Borders.{has_left, has_right, has_top, has_bottom, has_horizontal, has_vertical}
+use Rattle.papergrid_maps.specs.BorderHeld.{HeldBorders, places_of}
+use Rattle.papergrid_maps.specs.LineTests.{horizontal_line_at, vertical_line_at}
+use Rattle.papergrid_maps.specs.Places.{Places, HasHorizontal, HasVertical, at_ends, found_horizontal, found_intersection, found_vertical, frame_horizontal, frame_vertical}
+use Rattle.papergrid_maps.proofs.LineTested.{horizontal_tested, vertical_tested}
+use Rattle.papergrid_config.specs.Lines.{shown, shown_horizontal, shown_intersection, shown_vertical}
+
+module _ {T : Type 0} where
+  some_or : (a b : Option T) → IsSome (option_or a b) → IsSome a ⊎ IsSome b
+  some_or None b h = inr h
+  some_or (Some x) b h = inl refl
+
+  some_then : {L : Type 0} (f : L → Option T) (o : Option L) → IsSome (option_and_then f o) → IsSome o
+  some_then f None h = h
+  some_then f (Some line) h = refl
+
+-- the parts at the ends of a direction, and between them
+between : (place count : ℕ) (first end inner : Bool) → (place ≡ 0 → ⊥) → place ≤ count → (place ≡ count → ⊥) → inner ≡ true → at_ends place count first end inner ≡ true
+between place count first end inner later within inside h =
+    or_right _ _ (or_right _ _ (and_from _ _ (lt-ltb 0 place (omega (arith, later))) (and_from _ _ (lt-ltb place count (omega (arith, within, inside))) h)))
+
+at_first : (place count : ℕ) (first end inner : Bool) → place ≡ 0 → first ≡ true → at_ends place count first end inner ≡ true
+at_first place count first end inner here h = or_left _ _ (and_from _ _ (eq-eqb place 0 here) h)
+
+at_end : (place count : ℕ) (first end inner : Bool) → place ≡ count → end ≡ true → at_ends place count first end inner ≡ true
+at_end place count first end inner there h = or_right _ _ (or_left _ _ (and_from _ _ (eq-eqb place count there) h))
+
+module _ {T : Type 0} (frame : Borders T) where
+  vertical_part_found : (c count : ℕ) → c ≤ count → IsSome (frame_vertical frame c count) → at_ends c count (has_left frame) (has_right frame) (has_vertical frame) ≡ true
+  vertical_part_found c count within h =
+      ⊎_elim
+      (λ (last : c ≡ count). at_end c count (has_left frame) (has_right frame) (has_vertical frame) last (or_left _ _ (subst (λ o. IsSome o) (cond-true (eqb c count) _ _ (eq-eqb c count last)) h)))
+      (λ (inside : c ≡ count → ⊥).
+      let rest : IsSome (cond (eqb c 0) frame.left frame.vertical) = subst (λ o. IsSome o) (cond-false (eqb c count) _ _ (ne_eqb c count inside)) h in
+      ⊎_elim
+      (λ (first : c ≡ 0). at_first c count (has_left frame) (has_right frame) (has_vertical frame) first (or_left _ _ (subst (λ o. IsSome o) (cond-true (eqb c 0) _ _ (eq-eqb c 0 first)) rest)))
+      (λ (later : c ≡ 0 → ⊥). between c count (has_left frame) (has_right frame) (has_vertical frame) later within inside (or_left _ _ (subst (λ o. IsSome o) (cond-false (eqb c 0) _ _ (ne_eqb c 0 later)) rest)))
+      (cases_eq c 0))
+      (cases_eq c count)
+
+  horizontal_part_found : (r count : ℕ) → r ≤ count → IsSome (frame_horizontal frame r count) → at_ends r count (has_top frame) (has_bottom frame) (has_horizontal frame) ≡ true
+  horizontal_part_found r count within h =
+      ⊎_elim
+      (λ (first : r ≡ 0). at_first r count (has_top frame) (has_bottom frame) (has_horizontal frame) first (or_left _ _ (subst (λ o. IsSome o) (cond-true (eqb r 0) _ _ (eq-eqb r 0 first)) h)))
+      (λ (later : r ≡ 0 → ⊥).
+      let rest : IsSome (cond (eqb r count) frame.bottom frame.horizontal) = subst (λ o. IsSome o) (cond-false (eqb r 0) _ _ (ne_eqb r 0 later)) h in
+      ⊎_elim
+      (λ (last : r ≡ count). at_end r count (has_top frame) (has_bottom frame) (has_horizontal frame) last (or_left _ _ (subst (λ o. IsSome o) (cond-true (eqb r count) _ _ (eq-eqb r count last)) rest)))
+      (λ (inside : r ≡ count → ⊥). between r count (has_top frame) (has_bottom frame) (has_horizontal frame) later within inside (or_left _ _ (subst (λ o. IsSome o) (cond-false (eqb r count) _ _ (ne_eqb r count inside)) rest)))
+      (cases_eq r count))
+      (cases_eq r 0)
+
+module _ {T : Type 0} (places : Places T) (p : Position) (count : ℕ) where
+  found_on_vertical : p.col ≤ count → IsSome (found_vertical places p count) → HasVertical places p.col count
+  found_on_vertical within h =
+      ⊎_elim
+      (λ edge. inr (inr (inr (inr (inl (p, refl, edge))))))
+      (λ h. ⊎_elim
+      (λ line. inr (inr (inr (inl (some_then (λ l. l.main) (places.vertical_line p.col) line)))))
+      (λ h. ⊎_elim (λ part. inr (inl (vertical_part_found places.frame p.col count within part))) (λ global. inl global) (some_or (frame_vertical places.frame p.col count) places.global h))
+      (some_or (option_and_then (λ l. l.main) (places.vertical_line p.col)) _ h))
+      (some_or (places.vertical_edge p) _ h)
+
+  found_on_horizontal : p.row ≤ count → IsSome (found_horizontal places p count) → HasHorizontal places p.row count
+  found_on_horizontal within h =
+      ⊎_elim
+      (λ edge. inr (inr (inr (inr (inl (p, refl, edge))))))
+      (λ h. ⊎_elim
+      (λ line. inr (inr (inr (inl (some_then (λ l. l.main) (places.horizontal_line p.row) line)))))
+      (λ h. ⊎_elim (λ part. inr (inl (horizontal_part_found places.frame p.row count within part))) (λ global. inl global) (some_or (frame_horizontal places.frame p.row count) places.global h))
+      (some_or (option_and_then (λ l. l.main) (places.horizontal_line p.row)) _ h))
+      (some_or (places.horizontal_edge p) _ h)
+
+-- what is shown is found, or the line is there
+found_or_line : (found : Option ℕ) (is_line : Bool) (missing : ℕ) → IsSome (shown found is_line missing) → IsSome found ⊎ (is_line ≡ true)
+found_or_line None true missing h = inr refl
+found_or_line None false missing h = absurd (false≢true h)
+found_or_line (Some c) is_line missing h = inl refl
+
+shown_on_line : (found : Option ℕ) (is_line : Bool) (missing : ℕ) → is_line ≡ true → IsSome (shown found is_line missing)
+shown_on_line None true missing h = refl
+shown_on_line None false missing h = absurd (false≢true h)
+shown_on_line (Some c) is_line missing h = refl
+
+module _ (characters : HeldBorders ℕ) (missing : ℕ) (p : Position) where
+  pub vertical_shown : (count : ℕ) → p.col ≤ count → IsSome (shown_vertical characters missing p count) ↔ HasVertical (places_of characters) p.col count
+  vertical_shown count within =
+      let found = found_vertical (places_of characters) p count in
+      let tested = vertical_tested characters p.col count in (
+        (λ h. ⊎_elim (λ set. found_on_vertical (places_of characters) p count within set) (λ line. tested.0 line) (found_or_line found (vertical_line_at characters p.col count) missing h)),
+        (λ line. shown_on_line found (vertical_line_at characters p.col count) missing (tested.1 line)),
+      )
+
+  pub horizontal_shown : (count : ℕ) → p.row ≤ count → IsSome (shown_horizontal characters missing p count) ↔ HasHorizontal (places_of characters) p.row count
+  horizontal_shown count within =
+      let found = found_horizontal (places_of characters) p count in
+      let tested = horizontal_tested characters p.row count in (
+        (λ h. ⊎_elim (λ set. found_on_horizontal (places_of characters) p count within set) (λ line. tested.0 line) (found_or_line found (horizontal_line_at characters p.row count) missing h)),
+        (λ line. shown_on_line found (horizontal_line_at characters p.row count) missing (tested.1 line)),
+      )
+
+  pub crossing_shown : (rows cols : ℕ) → HasHorizontal (places_of characters) p.row rows → HasVertical (places_of characters) p.col cols → IsSome (shown_intersection characters missing p rows cols)
+  crossing_shown rows cols horizontal vertical =
+      shown_on_line (found_intersection (places_of characters) p rows cols) (horizontal_line_at characters p.row rows && vertical_line_at characters p.col cols) missing
+      (and_from _ _ ((horizontal_tested characters p.row rows).1 horizontal) ((vertical_tested characters p.col cols).1 vertical))

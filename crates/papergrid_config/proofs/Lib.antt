@@ -1,0 +1,3 @@
+pub mod Applied
+pub mod Closures
+pub mod FoundLemmas

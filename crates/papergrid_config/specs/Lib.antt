@@ -1,0 +1,9 @@
+-- The definitions that the contracts cite.
+pub mod Applied
+pub mod Decided
+pub mod Laws
+pub mod Lines
+pub mod Made
+pub mod Parts
+pub mod Queries
+pub mod Told

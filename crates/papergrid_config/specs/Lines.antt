@@ -1,0 +1,29 @@
+-- The lines of a configuration, and what is shown on them.
+use Rattle.std.specs.Prelude.{ℕ, ◌+◌, ◌&&◌, Bool, if◌then◌else◌, Option, Some, None}
+use Rattle.std.specs.Option.{option_or}
+use Rattle.std.specs.List.{count_by, range_with_len}
+use Rattle.papergrid_values.specs.declared.border.Border.{Border}
+use Rattle.papergrid_values.specs.declared.position.Position.{Position}
+use Rattle.papergrid_maps.specs.BorderHeld.{HeldBorders, places_of}
+use Rattle.papergrid_maps.specs.LineTests.{horizontal_line_at, vertical_line_at}
+use Rattle.papergrid_maps.specs.Places.{found_horizontal, found_intersection, found_vertical}
+
+-- what is found, or where nothing is found and there is a line the missing character
+abbrev pub shown : Option ℕ → Bool → ℕ → Option ℕ
+shown found is_line missing = option_or found (if is_line then Some missing else None)
+
+module _ (characters : HeldBorders ℕ) (missing : ℕ) where
+  abbrev pub shown_vertical : Position → ℕ → Option ℕ
+  shown_vertical p count = shown (found_vertical (places_of characters) p count) (vertical_line_at characters p.col count) missing
+
+  abbrev pub shown_horizontal : Position → ℕ → Option ℕ
+  shown_horizontal p count = shown (found_horizontal (places_of characters) p count) (horizontal_line_at characters p.row count) missing
+
+  -- where both lines cross
+  abbrev pub shown_intersection : Position → ℕ → ℕ → Option ℕ
+  shown_intersection p rows cols =
+      shown (found_intersection (places_of characters) p rows cols) (horizontal_line_at characters p.row rows && vertical_line_at characters p.col cols) missing
+
+-- how many lines there are from 0 up to the count
+abbrev pub count_lines : (ℕ → Bool) → ℕ → ℕ
+count_lines is_line count = count_by is_line (range_with_len 0 (count + 1))

@@ -1,0 +1,108 @@
+//! Settings as values, applied one at a time or as a list.
+
+ghost use Rattle.std.specs.Prelude.{◌≡◌, ◌∷◌, [], ◌<◌, All, true, false, OnOk, OnErr, IfErr, IsOk, length, take};
+ghost use Rattle.papergrid_config.specs.Applied.{is_free, is_in_range, may_grow};
+ghost use Rattle.papergrid_config.specs.Told.{Appends};
+
+use crate::setting::Setting;
+use crate::spanned::SpannedConfig;
+use papergrid_maps::Stopped;
+use std::alloc::AllocError;
+
+impl SpannedConfig {
+    /// Makes the call that the setting is. Where memory is refused the configuration is as it was;
+    /// margins, removals, the frame, the defaults, values for the whole table and spans below 2
+    /// take none. Condition: the setting is in range.
+    pub fn apply(&mut self, setting: Setting) -> Result<(), AllocError>
+        requires { is_in_range setting ≡ true }
+        ensures ok { OnOk result (Appends self.old self.new (setting ∷ [])) }
+        ensures err { OnErr result (self.new ≡ self.old) }
+        ensures free { is_free setting ≡ true → IsOk result }
+    {
+        match setting {
+            Setting::InsertHorizontalLine(row, line) => self.insert_horizontal_line(row, line),
+            Setting::InsertVerticalLine(col, line) => self.insert_vertical_line(col, line),
+            Setting::SetHorizontalChar(pos, offset, c) => self.set_horizontal_char(pos, offset, c),
+            Setting::SetVerticalChar(pos, offset, c) => self.set_vertical_char(pos, offset, c),
+            Setting::SetHorizontalCharColor(pos, offset, color) => {
+                self.set_horizontal_char_color(pos, offset, color)
+            }
+            Setting::SetVerticalCharColor(pos, offset, color) => {
+                self.set_vertical_char_color(pos, offset, color)
+            }
+            Setting::SetPadding(entity, padding) => self.set_padding(entity, padding),
+            Setting::SetPaddingColor(entity, colors) => self.set_padding_color(entity, colors),
+            Setting::SetTrimHorizontal(entity, on) => self.set_trim_horizontal(entity, on),
+            Setting::SetTrimVertical(entity, on) => self.set_trim_vertical(entity, on),
+            Setting::SetLineAlignment(entity, on) => self.set_line_alignment(entity, on),
+            Setting::SetAlignmentHorizontal(entity, alignment) => {
+                self.set_alignment_horizontal(entity, alignment)
+            }
+            Setting::SetAlignmentVertical(entity, alignment) => {
+                self.set_alignment_vertical(entity, alignment)
+            }
+            Setting::SetJustification(entity, c) => self.set_justification(entity, c),
+            Setting::SetJustificationColor(entity, c) => self.set_justification_color(entity, c),
+            Setting::SetBorder(pos, border) => self.set_border(pos, border),
+            Setting::SetBorderColor(pos, border) => self.set_border_color(pos, border),
+            Setting::SetColumnSpan(pos, span) => self.set_column_span(pos, span),
+            Setting::SetRowSpan(pos, span) => self.set_row_span(pos, span),
+            other => {
+                self.apply_free(other);
+                Ok(())
+            }
+        }
+    }
+
+    /// Makes the calls in order, up to one that is refused for memory: then the configuration is
+    /// that of the settings done before it. Condition: each setting is in range.
+    pub fn apply_all(&mut self, settings: Vec<Setting>) -> Result<(), Stopped>
+        requires { All (λ setting. is_in_range setting ≡ true) settings.items }
+        ensures ok { OnOk result (Appends self.old self.new settings.items) }
+        ensures err { IfErr result (λ stopped. Appends self.old self.new (take stopped.done settings.items)) }
+        ensures refused { IfErr result (λ stopped. stopped.done < length settings.items) }
+        ensures free { All (λ setting. is_free setting ≡ true) settings.items → IsOk result }
+    {
+        let mut done = 0;
+        for setting in settings {
+            match self.apply(setting) {
+                Ok(()) => done += 1,
+                Err(_) => return Err(Stopped { done }),
+            }
+        }
+        Ok(())
+    }
+
+    // Makes one of the calls that never ask for memory.
+    fn apply_free(&mut self, setting: Setting)
+        requires free { may_grow setting ≡ false }
+        requires range { is_in_range setting ≡ true }
+        ensures { Appends self.old self.new (setting ∷ []) }
+    {
+        match setting {
+            Setting::SetMargin(margin) => self.set_margin(margin),
+            Setting::SetMarginColor(colors) => self.set_margin_color(colors),
+            Setting::SetMarginOffset(offsets) => self.set_margin_offset(offsets),
+            Setting::RemoveBorders => self.remove_borders(),
+            Setting::RemoveBordersColors => self.remove_borders_colors(),
+            Setting::RemoveColorLineHorizontal => self.remove_color_line_horizontal(),
+            Setting::RemoveColorLineVertical => self.remove_color_line_vertical(),
+            Setting::RemoveHorizontalChars => self.remove_horizontal_chars(),
+            Setting::RemoveVerticalChars => self.remove_vertical_chars(),
+            Setting::SetBorders(borders) => self.set_borders(borders),
+            Setting::SetBorderDefault(c) => self.set_border_default(c),
+            Setting::SetBordersColor(colors) => self.set_borders_color(colors),
+            Setting::SetBorderColorDefault(color) => self.set_border_color_default(color),
+            Setting::SetBordersMissing(c) => self.set_borders_missing(c),
+            Setting::RemoveHorizontalLine(row, count) => self.remove_horizontal_line(row, count),
+            Setting::RemoveVerticalLine(col, count) => self.remove_vertical_line(col, count),
+            Setting::RemoveOverriddenHorizontal(pos) => self.remove_overridden_horizontal(pos),
+            Setting::RemoveOverriddenVertical(pos) => self.remove_overridden_vertical(pos),
+            Setting::RemoveBorder(pos, shape) => self.remove_border(pos, shape),
+            Setting::RemoveBorderColor(pos, shape) => self.remove_border_color(pos, shape),
+            Setting::RemoveColumnSpans => self.remove_column_spans(),
+            Setting::RemoveRowSpans => self.remove_row_spans(),
+            _ => {}
+        }
+    }
+}

@@ -1,0 +1,221 @@
+//! The characters and the colours of lines: the frame, the defaults, lines, and the borders of
+//! cells. Source: `config/spanned/mod.rs`.
+
+ghost use Rattle.std.specs.Prelude.{◌≡◌, ◌∷◌, [], ◌+◌, ◌<◌, ◌^◌, nat_eq, ℕ, OnOk, OnErr, IfOk, option_copied};
+ghost use Rattle.std.specs.HashMap.{get as map_get};
+ghost use Rattle.std.specs.FinMap.{get as value_at};
+ghost use Rattle.papergrid_values.specs.Borders.{border_map};
+ghost use Rattle.papergrid_maps.specs.BorderHeld.{places_of};
+ghost use Rattle.papergrid_maps.specs.Places.{found_border};
+ghost use Rattle.papergrid_config.specs.Told.{Appends};
+ghost use Rattle.papergrid_config.specs.declared.setting.Setting.{Setting};
+
+use crate::spanned::SpannedConfig;
+use papergrid_maps::BorderTable;
+use papergrid_values::{ANSIBuf, Border, Borders, HorizontalLine, Position, VerticalLine};
+use std::alloc::AllocError;
+use std::collections::HashMap;
+
+// The shape (rows, columns) and the counts that removals take decide nothing.
+impl SpannedConfig {
+    /// Sets the characters of the frame.
+    pub fn set_borders(&mut self, borders: Borders<char>)
+        ensures { Appends self.old self.new (Setting.SetBorders borders ∷ []) }
+    {
+        self.characters.set_borders(borders);
+    }
+
+    /// The characters of the frame.
+    pub fn get_borders(&self) -> &Borders<char>
+        ensures { result.now ≡ self.now.characters.frame }
+    {
+        self.characters.get_borders()
+    }
+
+    /// Sets the colours of the frame.
+    pub fn set_borders_color(&mut self, colors: Borders<ANSIBuf>)
+        ensures { Appends self.old self.new (Setting.SetBordersColor colors ∷ []) }
+    {
+        self.colors.set_borders(colors);
+    }
+
+    /// The colours of the frame.
+    pub fn get_color_borders(&self) -> &Borders<ANSIBuf>
+        ensures { result.now ≡ self.now.colors.frame }
+    {
+        self.colors.get_borders()
+    }
+
+    /// Sets the character of all lines.
+    pub fn set_border_default(&mut self, character: char)
+        ensures { Appends self.old self.new (Setting.SetBorderDefault character ∷ []) }
+    {
+        self.characters.set_global(character);
+    }
+
+    /// The character of all lines.
+    pub fn get_border_default(&self) -> Option<&char>
+        ensures { option_copied result ≡ self.now.characters.global }
+    {
+        self.characters.get_global()
+    }
+
+    /// Sets the colour of all lines, and drops all other colours of lines.
+    pub fn set_border_color_default(&mut self, color: ANSIBuf)
+        ensures { Appends self.old self.new (Setting.SetBorderColorDefault color ∷ []) }
+    {
+        self.remove_borders_colors();
+        self.colors.set_global(color);
+    }
+
+    /// The colour of all lines.
+    pub fn get_border_color_default(&self) -> Option<&ANSIBuf>
+        ensures { option_copied result ≡ self.now.colors.global }
+    {
+        self.colors.get_global()
+    }
+
+    /// Drops all characters of lines, and keeps the missing character.
+    pub fn remove_borders(&mut self)
+        ensures { Appends self.old self.new (Setting.RemoveBorders ∷ []) }
+    {
+        self.characters = BorderTable::new(self.alloc);
+    }
+
+    /// Drops all colours of lines.
+    pub fn remove_borders_colors(&mut self)
+        ensures { Appends self.old self.new (Setting.RemoveBordersColors ∷ []) }
+    {
+        self.colors = BorderTable::new(self.alloc);
+    }
+
+    /// Sets the characters round a cell that are set here, and leaves the others. Where memory is
+    /// refused the configuration is as it was. Condition: the next row and column exist in `usize`.
+    pub fn set_border(&mut self, pos: Position, border: Border<char>) -> Result<(), AllocError>
+        requires row { pos.row + 1 < 2 ^ 64 }
+        requires col { pos.col + 1 < 2 ^ 64 }
+        ensures ok { OnOk result (Appends self.old self.new (Setting.SetBorder pos border ∷ [])) }
+        ensures err { OnErr result (self.new ≡ self.old) }
+    {
+        self.characters.insert_border(pos, border)
+    }
+
+    /// Sets the colours round a cell, as `set_border` does the characters.
+    pub fn set_border_color(
+        &mut self,
+        pos: Position,
+        border: Border<ANSIBuf>,
+    ) -> Result<(), AllocError>
+        requires row { pos.row + 1 < 2 ^ 64 }
+        requires col { pos.col + 1 < 2 ^ 64 }
+        ensures ok { OnOk result (Appends self.old self.new (Setting.SetBorderColor pos border ∷ [])) }
+        ensures err { OnErr result (self.new ≡ self.old) }
+    {
+        self.colors.insert_border(pos, border)
+    }
+
+    /// The characters found round a cell, in a table of so many rows and columns. The missing
+    /// character is not among them. Condition: the next row and column exist in `usize`.
+    pub fn get_border(&self, pos: Position, shape: (usize, usize)) -> Border<char>
+        requires row { pos.row + 1 < 2 ^ 64 }
+        requires col { pos.col + 1 < 2 ^ 64 }
+        ensures { result ≡ found_border (places_of self.now.characters) pos shape.0 shape.1 }
+    {
+        self.characters.get_border(pos, shape).copied()
+    }
+
+    /// The colours found round a cell, likewise.
+    pub fn get_border_color(&self, pos: Position, shape: (usize, usize)) -> Border<&ANSIBuf>
+        requires row { pos.row + 1 < 2 ^ 64 }
+        requires col { pos.col + 1 < 2 ^ 64 }
+        ensures { border_map (λ part. part.now) result ≡ found_border (places_of self.now.colors) pos shape.0 shape.1 }
+    {
+        self.colors.get_border(pos, shape)
+    }
+
+    /// Removes the characters round a cell: of the edges and corners, not of lines, the frame or
+    /// all lines. Condition: the next row and column exist in `usize`.
+    pub fn remove_border(&mut self, pos: Position, shape: (usize, usize))
+        requires row { pos.row + 1 < 2 ^ 64 }
+        requires col { pos.col + 1 < 2 ^ 64 }
+        ensures { Appends self.old self.new (Setting.RemoveBorder pos shape ∷ []) }
+    {
+        self.characters.remove_border(pos, shape);
+    }
+
+    /// Removes the colours round a cell, likewise.
+    pub fn remove_border_color(&mut self, pos: Position, shape: (usize, usize))
+        requires row { pos.row + 1 < 2 ^ 64 }
+        requires col { pos.col + 1 < 2 ^ 64 }
+        ensures { Appends self.old self.new (Setting.RemoveBorderColor pos shape ∷ []) }
+    {
+        self.colors.remove_border(pos, shape);
+    }
+
+    /// Sets the horizontal line above a row, in place of the one held. Where memory is refused the
+    /// configuration is as it was.
+    pub fn insert_horizontal_line(
+        &mut self,
+        row: usize,
+        line: HorizontalLine<char>,
+    ) -> Result<(), AllocError>
+        ensures ok { OnOk result (Appends self.old self.new (Setting.InsertHorizontalLine row line ∷ [])) }
+        ensures err { OnErr result (self.new ≡ self.old) }
+    {
+        self.characters.insert_horizontal_line(row, line)
+    }
+
+    /// Sets the vertical line left of a column, likewise.
+    pub fn insert_vertical_line(
+        &mut self,
+        col: usize,
+        line: VerticalLine<char>,
+    ) -> Result<(), AllocError>
+        ensures ok { OnOk result (Appends self.old self.new (Setting.InsertVerticalLine col line ∷ [])) }
+        ensures err { OnErr result (self.new ≡ self.old) }
+    {
+        self.characters.insert_vertical_line(col, line)
+    }
+
+    /// Removes the horizontal line above a row.
+    pub fn remove_horizontal_line(&mut self, row: usize, count: usize)
+        ensures { Appends self.old self.new (Setting.RemoveHorizontalLine row count ∷ []) }
+    {
+        self.characters.remove_horizontal_line(row, count);
+    }
+
+    /// Removes the vertical line left of a column.
+    pub fn remove_vertical_line(&mut self, col: usize, count: usize)
+        ensures { Appends self.old self.new (Setting.RemoveVerticalLine col count ∷ []) }
+    {
+        self.characters.remove_vertical_line(col, count);
+    }
+
+    /// The horizontal line held above a row.
+    pub fn get_horizontal_line(&self, row: usize) -> Option<&HorizontalLine<char>>
+        ensures { option_copied result ≡ value_at self.now.characters.horizontal_lines row }
+    {
+        self.characters.get_horizontal_line(row)
+    }
+
+    /// The vertical line held left of a column.
+    pub fn get_vertical_line(&self, col: usize) -> Option<&VerticalLine<char>>
+        ensures { option_copied result ≡ value_at self.now.characters.vertical_lines col }
+    {
+        self.characters.get_vertical_line(col)
+    }
+
+    /// All horizontal lines that are held, by row, or want of memory.
+    pub fn get_horizontal_lines(&self) -> Result<HashMap<usize, HorizontalLine<char>>, AllocError>
+        ensures { IfOk result (λ all. (n : ℕ) → map_get nat_eq all n ≡ value_at self.now.characters.horizontal_lines n) }
+    {
+        self.characters.get_horizontal_lines()
+    }
+
+    /// All vertical lines that are held, by column, or want of memory.
+    pub fn get_vertical_lines(&self) -> Result<HashMap<usize, VerticalLine<char>>, AllocError>
+        ensures { IfOk result (λ all. (n : ℕ) → map_get nat_eq all n ≡ value_at self.now.characters.vertical_lines n) }
+    {
+        self.characters.get_vertical_lines()
+    }
+}

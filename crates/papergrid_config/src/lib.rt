@@ -1,0 +1,23 @@
+//! The settings of a table: what each cell, line and margin is set to, by a list of calls.
+#![tactic(auto)]
+
+pub mod laws;
+pub mod setting;
+pub mod spanned;
+
+mod apply;
+mod borders;
+mod compact;
+mod found;
+mod margins;
+mod overrides;
+mod per_cell;
+mod queries;
+mod spans;
+
+pub use papergrid_maps::{Colors, CompactConfig, EntityMap, MapCall, NoColor, NoColors, Stopped};
+pub use setting::Setting;
+pub use spanned::SpannedConfig;
+
+#[cfg(test)]
+mod tests;

@@ -1,0 +1,155 @@
+//! Characters and colours at offsets along the lines of single cells. Source:
+//! `config/spanned/mod.rs`.
+
+ghost use Rattle.std.specs.Prelude.{◌≡◌, ◌∷◌, [], ◌↔◌, OnOk, OnErr, IsTrue, option_copied};
+ghost use Rattle.papergrid_maps.specs.Overrides.{IsOverridden, found_override, override_at};
+ghost use Rattle.papergrid_config.specs.Told.{Appends};
+ghost use Rattle.papergrid_config.specs.declared.setting.Setting.{Setting};
+
+use crate::spanned::SpannedConfig;
+use papergrid_values::{ANSIBuf, Offset, Position};
+use std::alloc::AllocError;
+
+// A horizontal line of a cell is the one above it, its vertical line the one left of it. Offsets
+// count columns of a terminal and lines, from the start of the line or back from its end.
+impl SpannedConfig {
+    /// Sets the character at an offset of the line above a cell. Where memory is refused the
+    /// configuration is as it was.
+    pub fn set_horizontal_char(
+        &mut self,
+        pos: Position,
+        offset: Offset,
+        character: char,
+    ) -> Result<(), AllocError>
+        ensures ok { OnOk result (Appends self.old self.new (Setting.SetHorizontalChar pos offset character ∷ [])) }
+        ensures err { OnErr result (self.new ≡ self.old) }
+    {
+        self.horizontal_chars.set(pos, offset, character)
+    }
+
+    /// The character set at an offset of the line above a cell, where the line is so long.
+    pub fn lookup_horizontal_char(&self, pos: Position, offset: usize, end: usize) -> Option<char>
+        ensures { result ≡ found_override (override_at self.now.horizontal_chars pos) offset end }
+    {
+        self.horizontal_chars.lookup(pos, offset, end).copied()
+    }
+
+    /// Whether a character is set on the line above a cell.
+    pub fn is_overridden_horizontal(&self, pos: Position) -> bool
+        ensures { IsTrue result ↔ IsOverridden self.now.horizontal_chars pos }
+    {
+        self.horizontal_chars.is_overridden(pos)
+    }
+
+    /// Removes the characters set on the line above a cell.
+    pub fn remove_overridden_horizontal(&mut self, pos: Position)
+        ensures { Appends self.old self.new (Setting.RemoveOverriddenHorizontal pos ∷ []) }
+    {
+        self.horizontal_chars.remove(pos);
+    }
+
+    /// Removes the characters set on the lines above cells.
+    pub fn remove_horizontal_chars(&mut self)
+        ensures { Appends self.old self.new (Setting.RemoveHorizontalChars ∷ []) }
+    {
+        self.horizontal_chars.clear();
+    }
+
+    /// Sets the colour at an offset of the line above a cell. Where memory is refused the
+    /// configuration is as it was.
+    pub fn set_horizontal_char_color(
+        &mut self,
+        pos: Position,
+        offset: Offset,
+        color: ANSIBuf,
+    ) -> Result<(), AllocError>
+        ensures ok { OnOk result (Appends self.old self.new (Setting.SetHorizontalCharColor pos offset color ∷ [])) }
+        ensures err { OnErr result (self.new ≡ self.old) }
+    {
+        self.horizontal_colors.set(pos, offset, color)
+    }
+
+    /// The colour set at an offset of the line above a cell, where the line is so long.
+    pub fn lookup_horizontal_color(&self, pos: Position, offset: usize, end: usize) -> Option<&ANSIBuf>
+        ensures { option_copied result ≡ found_override (override_at self.now.horizontal_colors pos) offset end }
+    {
+        self.horizontal_colors.lookup(pos, offset, end)
+    }
+
+    /// Removes the colours set on the lines above cells.
+    pub fn remove_color_line_horizontal(&mut self)
+        ensures { Appends self.old self.new (Setting.RemoveColorLineHorizontal ∷ []) }
+    {
+        self.horizontal_colors.clear();
+    }
+
+    /// Sets the character at an offset of the line left of a cell. Where memory is refused the
+    /// configuration is as it was.
+    pub fn set_vertical_char(
+        &mut self,
+        pos: Position,
+        offset: Offset,
+        character: char,
+    ) -> Result<(), AllocError>
+        ensures ok { OnOk result (Appends self.old self.new (Setting.SetVerticalChar pos offset character ∷ [])) }
+        ensures err { OnErr result (self.new ≡ self.old) }
+    {
+        self.vertical_chars.set(pos, offset, character)
+    }
+
+    /// The character set at an offset of the line left of a cell, where the line is so long.
+    pub fn lookup_vertical_char(&self, pos: Position, offset: usize, end: usize) -> Option<char>
+        ensures { result ≡ found_override (override_at self.now.vertical_chars pos) offset end }
+    {
+        self.vertical_chars.lookup(pos, offset, end).copied()
+    }
+
+    /// Whether a character is set on the line left of a cell.
+    pub fn is_overridden_vertical(&self, pos: Position) -> bool
+        ensures { IsTrue result ↔ IsOverridden self.now.vertical_chars pos }
+    {
+        self.vertical_chars.is_overridden(pos)
+    }
+
+    /// Removes the characters set on the line left of a cell.
+    pub fn remove_overridden_vertical(&mut self, pos: Position)
+        ensures { Appends self.old self.new (Setting.RemoveOverriddenVertical pos ∷ []) }
+    {
+        self.vertical_chars.remove(pos);
+    }
+
+    /// Removes the characters set on the lines left of cells.
+    pub fn remove_vertical_chars(&mut self)
+        ensures { Appends self.old self.new (Setting.RemoveVerticalChars ∷ []) }
+    {
+        self.vertical_chars.clear();
+    }
+
+    /// Sets the colour at an offset of the line left of a cell. Where memory is refused the
+    /// configuration is as it was.
+    pub fn set_vertical_char_color(
+        &mut self,
+        pos: Position,
+        offset: Offset,
+        color: ANSIBuf,
+    ) -> Result<(), AllocError>
+        ensures ok { OnOk result (Appends self.old self.new (Setting.SetVerticalCharColor pos offset color ∷ [])) }
+        ensures err { OnErr result (self.new ≡ self.old) }
+    {
+        self.vertical_colors.set(pos, offset, color)
+    }
+
+    /// The colour set at an offset of the line left of a cell, where the line is so long.
+    pub fn lookup_vertical_color(&self, pos: Position, offset: usize, end: usize) -> Option<&ANSIBuf>
+        ensures { option_copied result ≡ found_override (override_at self.now.vertical_colors pos) offset end }
+    {
+        self.vertical_colors.lookup(pos, offset, end)
+    }
+
+    /// Removes the colours set on the lines left of cells.
+    pub fn remove_color_line_vertical(&mut self)
+        ensures { Appends self.old self.new (Setting.RemoveColorLineVertical ∷ []) }
+    {
+        self.vertical_colors.clear();
+    }
+}

@@ -1,0 +1,204 @@
+//! What is set by entity and asked for by position. Source: `config/spanned/mod.rs`.
+
+ghost use Rattle.std.specs.Prelude.{◌≡◌, ◌∷◌, [], List, OnOk, OnErr, IsOk, option_copied};
+ghost use Rattle.papergrid_values.specs.declared.entity.Entity.{Entity};
+ghost use Rattle.papergrid_maps.specs.MapHeld.{held_value};
+ghost use Rattle.papergrid_config.specs.Decided as decided;
+ghost use Rattle.papergrid_config.specs.Told.{Appends, IsTold};
+ghost use Rattle.papergrid_config.specs.declared.setting.Setting.{Setting};
+
+use crate::spanned::SpannedConfig;
+use papergrid_values::{
+    ANSIBuf, AlignmentHorizontal, AlignmentVertical, Entity, Formatting, Indent, Position, Sides,
+};
+use std::alloc::AllocError;
+
+// Each value is set for an entity: for the whole table, a column, a row or a cell. One for the
+// whole table is never refused; where memory is refused the configuration is as it was. Of a cell
+// the value is the one that the settings decide, as `EntityMap` has it.
+impl SpannedConfig {
+    /// Sets the room round an entity's cells, in columns of a terminal (left, right) and lines (top, bottom).
+    pub fn set_padding(&mut self, entity: Entity, padding: Sides<Indent>) -> Result<(), AllocError>
+        ensures ok { OnOk result (Appends self.old self.new (Setting.SetPadding entity padding ∷ [])) }
+        ensures err { OnErr result (self.new ≡ self.old) }
+        ensures global { entity ≡ Entity.Global → IsOk result }
+    {
+        self.padding.insert(entity, padding)
+    }
+
+    /// The room round a cell.
+    pub fn get_padding(&self, pos: Position) -> &Sides<Indent>
+        ensures held { result.now ≡ held_value self.now.padding pos }
+        ensures decided { (settings : List Setting) → IsTold settings self.now → result.now ≡ decided.padding settings pos }
+    {
+        self.padding.get(pos)
+    }
+
+    /// Sets the colours of the room round an entity's cells.
+    pub fn set_padding_color(
+        &mut self,
+        entity: Entity,
+        colors: Sides<Option<ANSIBuf>>,
+    ) -> Result<(), AllocError>
+        ensures ok { OnOk result (Appends self.old self.new (Setting.SetPaddingColor entity colors ∷ [])) }
+        ensures err { OnErr result (self.new ≡ self.old) }
+        ensures global { entity ≡ Entity.Global → IsOk result }
+    {
+        self.padding_color.insert(entity, colors)
+    }
+
+    /// The colours of the room round a cell.
+    pub fn get_padding_color(&self, pos: Position) -> &Sides<Option<ANSIBuf>>
+        ensures held { result.now ≡ held_value self.now.padding_color pos }
+        ensures decided { (settings : List Setting) → IsTold settings self.now → result.now ≡ decided.padding_color settings pos }
+    {
+        self.padding_color.get(pos)
+    }
+
+    /// Sets whether spaces of an entity's texts are trimmed left and right.
+    pub fn set_trim_horizontal(&mut self, entity: Entity, on: bool) -> Result<(), AllocError>
+        ensures ok { OnOk result (Appends self.old self.new (Setting.SetTrimHorizontal entity on ∷ [])) }
+        ensures err { OnErr result (self.new ≡ self.old) }
+        ensures global { entity ≡ Entity.Global → IsOk result }
+    {
+        self.trim_horizontal.insert(entity, on)
+    }
+
+    /// Whether spaces of a cell's text are trimmed left and right. The name is the original's.
+    pub fn get_trim_horizonal(&self, pos: Position) -> bool
+        ensures held { result ≡ held_value self.now.trim_horizontal pos }
+        ensures decided { (settings : List Setting) → IsTold settings self.now → result ≡ decided.trim_horizontal settings pos }
+    {
+        *self.trim_horizontal.get(pos)
+    }
+
+    /// Sets whether blank lines of an entity's texts are trimmed at the top and the bottom.
+    pub fn set_trim_vertical(&mut self, entity: Entity, on: bool) -> Result<(), AllocError>
+        ensures ok { OnOk result (Appends self.old self.new (Setting.SetTrimVertical entity on ∷ [])) }
+        ensures err { OnErr result (self.new ≡ self.old) }
+        ensures global { entity ≡ Entity.Global → IsOk result }
+    {
+        self.trim_vertical.insert(entity, on)
+    }
+
+    /// Whether blank lines of a cell's text are trimmed at the top and the bottom.
+    pub fn get_trim_vertical(&self, pos: Position) -> bool
+        ensures held { result ≡ held_value self.now.trim_vertical pos }
+        ensures decided { (settings : List Setting) → IsTold settings self.now → result ≡ decided.trim_vertical settings pos }
+    {
+        *self.trim_vertical.get(pos)
+    }
+
+    /// Sets whether each line of an entity's texts is aligned by itself.
+    pub fn set_line_alignment(&mut self, entity: Entity, on: bool) -> Result<(), AllocError>
+        ensures ok { OnOk result (Appends self.old self.new (Setting.SetLineAlignment entity on ∷ [])) }
+        ensures err { OnErr result (self.new ≡ self.old) }
+        ensures global { entity ≡ Entity.Global → IsOk result }
+    {
+        self.line_alignment.insert(entity, on)
+    }
+
+    /// Whether each line of a cell's text is aligned by itself.
+    pub fn get_line_alignment(&self, pos: Position) -> bool
+        ensures held { result ≡ held_value self.now.line_alignment pos }
+        ensures decided { (settings : List Setting) → IsTold settings self.now → result ≡ decided.line_alignment settings pos }
+    {
+        *self.line_alignment.get(pos)
+    }
+
+    /// The three flags of a cell's text.
+    pub fn get_formatting(&self, pos: Position) -> Formatting
+        ensures held { result ≡ record {
+          horizontal_trim = held_value self.now.trim_horizontal pos;
+          vertical_trim = held_value self.now.trim_vertical pos;
+          allow_lines_alignment = held_value self.now.line_alignment pos;
+        } }
+        ensures decided { (settings : List Setting) → IsTold settings self.now → result ≡ decided.formatting settings pos }
+    {
+        Formatting::new(
+            self.get_trim_horizonal(pos),
+            self.get_trim_vertical(pos),
+            self.get_line_alignment(pos),
+        )
+    }
+
+    /// Sets where an entity's texts stand between left and right.
+    pub fn set_alignment_horizontal(
+        &mut self,
+        entity: Entity,
+        alignment: AlignmentHorizontal,
+    ) -> Result<(), AllocError>
+        ensures ok { OnOk result (Appends self.old self.new (Setting.SetAlignmentHorizontal entity alignment ∷ [])) }
+        ensures err { OnErr result (self.new ≡ self.old) }
+        ensures global { entity ≡ Entity.Global → IsOk result }
+    {
+        self.alignment_horizontal.insert(entity, alignment)
+    }
+
+    /// Where a cell's text stands between left and right.
+    pub fn get_alignment_horizontal(&self, pos: Position) -> &AlignmentHorizontal
+        ensures held { result.now ≡ held_value self.now.alignment_horizontal pos }
+        ensures decided { (settings : List Setting) → IsTold settings self.now → result.now ≡ decided.alignment_horizontal settings pos }
+    {
+        self.alignment_horizontal.get(pos)
+    }
+
+    /// Sets where an entity's texts stand between top and bottom.
+    pub fn set_alignment_vertical(
+        &mut self,
+        entity: Entity,
+        alignment: AlignmentVertical,
+    ) -> Result<(), AllocError>
+        ensures ok { OnOk result (Appends self.old self.new (Setting.SetAlignmentVertical entity alignment ∷ [])) }
+        ensures err { OnErr result (self.new ≡ self.old) }
+        ensures global { entity ≡ Entity.Global → IsOk result }
+    {
+        self.alignment_vertical.insert(entity, alignment)
+    }
+
+    /// Where a cell's text stands between top and bottom.
+    pub fn get_alignment_vertical(&self, pos: Position) -> &AlignmentVertical
+        ensures held { result.now ≡ held_value self.now.alignment_vertical pos }
+        ensures decided { (settings : List Setting) → IsTold settings self.now → result.now ≡ decided.alignment_vertical settings pos }
+    {
+        self.alignment_vertical.get(pos)
+    }
+
+    /// Sets the character that fills up the lines of an entity's texts.
+    pub fn set_justification(&mut self, entity: Entity, character: char) -> Result<(), AllocError>
+        ensures ok { OnOk result (Appends self.old self.new (Setting.SetJustification entity character ∷ [])) }
+        ensures err { OnErr result (self.new ≡ self.old) }
+        ensures global { entity ≡ Entity.Global → IsOk result }
+    {
+        self.justification.insert(entity, character)
+    }
+
+    /// The character that fills up the lines of a cell's text.
+    pub fn get_justification(&self, pos: Position) -> char
+        ensures held { result ≡ held_value self.now.justification pos }
+        ensures decided { (settings : List Setting) → IsTold settings self.now → result ≡ decided.justification settings pos }
+    {
+        *self.justification.get(pos)
+    }
+
+    /// Sets the colour of that character.
+    pub fn set_justification_color(
+        &mut self,
+        entity: Entity,
+        color: Option<ANSIBuf>,
+    ) -> Result<(), AllocError>
+        ensures ok { OnOk result (Appends self.old self.new (Setting.SetJustificationColor entity color ∷ [])) }
+        ensures err { OnErr result (self.new ≡ self.old) }
+        ensures global { entity ≡ Entity.Global → IsOk result }
+    {
+        self.justification_color.insert(entity, color)
+    }
+
+    /// The colour of that character.
+    pub fn get_justification_color(&self, pos: Position) -> Option<&ANSIBuf>
+        ensures held { option_copied result ≡ held_value self.now.justification_color pos }
+        ensures decided { (settings : List Setting) → IsTold settings self.now → option_copied result ≡ decided.justification_color settings pos }
+    {
+        self.justification_color.get(pos).as_ref()
+    }
+}

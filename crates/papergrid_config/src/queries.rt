@@ -1,0 +1,84 @@
+//! Whether something of a kind is set at all. Source: `config/spanned/mod.rs`.
+
+ghost use Rattle.std.specs.Prelude.{◌≡◌, ◌↔◌, IsTrue, not};
+ghost use Rattle.papergrid_values.specs.Keys.{sides_parts};
+ghost use Rattle.papergrid_values.specs.Parts.{none_set};
+ghost use Rattle.papergrid_maps.specs.MapHeld.{HasNothing};
+ghost use Rattle.papergrid_config.specs.Queries.{HasBorderColors, HasFormatting, HasJustification, HasOffsetChars, HasSetSide};
+
+use crate::spanned::SpannedConfig;
+use papergrid_values::{ANSIBuf, Sides};
+
+impl SpannedConfig {
+    /// Whether the table of border colours holds something.
+    pub fn has_border_colors(&self) -> bool
+        ensures { IsTrue result ↔ HasBorderColors self.now }
+    {
+        !self.colors.is_empty()
+    }
+
+    /// Whether a character is set at an offset of a line.
+    pub fn has_offset_chars(&self) -> bool
+        ensures { IsTrue result ↔ HasOffsetChars self.now }
+    {
+        let horizontal = self.horizontal_chars.is_empty();
+        let vertical = self.vertical_chars.is_empty();
+        !(horizontal && vertical)
+    }
+
+    /// Whether a justification or its colour is set for a column, a row or a cell, or the colour
+    /// for the whole table.
+    pub fn has_justification(&self) -> bool
+        ensures { IsTrue result ↔ HasJustification self.now }
+    {
+        let character = self.justification.is_empty();
+        let color = self.justification_color.is_empty();
+        let global = self.justification_color.as_ref().is_none();
+        !(character && (color && global))
+    }
+
+    /// Whether a padding is set for a column, a row or a cell.
+    pub fn has_padding(&self) -> bool
+        ensures { IsTrue result ↔ (HasNothing self.now.padding → ⊥) }
+    {
+        !self.padding.is_empty()
+    }
+
+    /// Whether a colour of a padding's side is set, for the whole table, a column, a row or a cell.
+    pub fn has_padding_color(&self) -> bool
+        ensures { IsTrue result ↔ HasSetSide self.now.padding_color }
+    {
+        self.padding_color.any_held(has_set_side)
+    }
+
+    /// Whether one of the three flags of texts is set for a column, a row or a cell.
+    pub fn has_formatting(&self) -> bool
+        ensures { IsTrue result ↔ HasFormatting self.now }
+    {
+        let horizontal = self.trim_horizontal.is_empty();
+        let vertical = self.trim_vertical.is_empty();
+        let lines = self.line_alignment.is_empty();
+        !(horizontal && (vertical && lines))
+    }
+
+    /// Whether a vertical alignment is set for a column, a row or a cell.
+    pub fn has_alignment_vertical(&self) -> bool
+        ensures { IsTrue result ↔ (HasNothing self.now.alignment_vertical → ⊥) }
+    {
+        !self.alignment_vertical.is_empty()
+    }
+
+    /// Whether a horizontal alignment is set for a column, a row or a cell.
+    pub fn has_alignment_horizontal(&self) -> bool
+        ensures { IsTrue result ↔ (HasNothing self.now.alignment_horizontal → ⊥) }
+    {
+        !self.alignment_horizontal.is_empty()
+    }
+}
+
+// Whether a side is set.
+fn has_set_side(sides: &Sides<Option<ANSIBuf>>) -> bool
+    ensures { result ≡ not (none_set (sides_parts sides.now)) }
+{
+    !sides.is_empty()
+}

@@ -1,0 +1,126 @@
+//! Spans, and which cells they hide. Source: `config/spanned/mod.rs`.
+
+ghost use Rattle.std.specs.Prelude.{◌≡◌, ◌∷◌, [], ◌↔◌, ◌<◌, ◌≤◌, OnOk, OnErr, IfOk, IfSome, IsOk, IsTrue};
+ghost use Rattle.std.specs.HashMap.{get as map_get};
+ghost use Rattle.std.specs.FinMap.{get as value_at};
+ghost use Rattle.papergrid_values.specs.declared.position.Position.{Position};
+ghost use Rattle.papergrid_maps.specs.Keys.{position_eq};
+ghost use Rattle.papergrid_maps.specs.Spans.{HasSpan, IsCoveredByBoth, IsCoveredByColumn, IsCoveredByRow, IsVisible, column_span, is_visible, row_span};
+ghost use Rattle.papergrid_config.specs.Told.{Appends};
+ghost use Rattle.papergrid_config.specs.declared.setting.Setting.{Setting};
+
+use crate::spanned::SpannedConfig;
+use papergrid_values::Position;
+use std::alloc::AllocError;
+use std::collections::HashMap;
+
+// The rectangle of an anchor at (r, c) has the rows from r up to r + row span, and the columns from
+// c up to c + column span, however large these sums are. A span that is not held is 1.
+impl SpannedConfig {
+    /// Sets the number of columns that a cell spans: 0 does nothing and 1 removes the span that is
+    /// held, so that neither takes memory. Where memory is refused the configuration is as it was.
+    pub fn set_column_span(&mut self, pos: Position, span: usize) -> Result<(), AllocError>
+        ensures ok { OnOk result (Appends self.old self.new (Setting.SetColumnSpan pos span ∷ [])) }
+        ensures err { OnErr result (self.new ≡ self.old) }
+        ensures small { span < 2 → IsOk result }
+    {
+        self.spans.set_column(pos, span)
+    }
+
+    /// Sets the number of rows that a cell spans, likewise.
+    pub fn set_row_span(&mut self, pos: Position, span: usize) -> Result<(), AllocError>
+        ensures ok { OnOk result (Appends self.old self.new (Setting.SetRowSpan pos span ∷ [])) }
+        ensures err { OnErr result (self.new ≡ self.old) }
+        ensures small { span < 2 → IsOk result }
+    {
+        self.spans.set_row(pos, span)
+    }
+
+    /// The column span held at a position, of 2 or more.
+    pub fn get_column_span(&self, pos: Position) -> Option<usize>
+        ensures held { result ≡ value_at self.now.spans.columns pos }
+        ensures from_two { IfSome result (λ n. 2 ≤ n) }
+    {
+        self.spans.get_column(pos)
+    }
+
+    /// The row span held at a position, of 2 or more.
+    pub fn get_row_span(&self, pos: Position) -> Option<usize>
+        ensures held { result ≡ value_at self.now.spans.rows pos }
+        ensures from_two { IfSome result (λ n. 2 ≤ n) }
+    {
+        self.spans.get_row(pos)
+    }
+
+    /// All column spans that are held, or want of memory.
+    pub fn get_column_spans(&self) -> Result<HashMap<Position, usize>, AllocError>
+        ensures { IfOk result (λ all. (p : Position) → map_get position_eq all p ≡ value_at self.now.spans.columns p) }
+    {
+        self.spans.columns()
+    }
+
+    /// All row spans that are held, or want of memory.
+    pub fn get_row_spans(&self) -> Result<HashMap<Position, usize>, AllocError>
+        ensures { IfOk result (λ all. (p : Position) → map_get position_eq all p ≡ value_at self.now.spans.rows p) }
+    {
+        self.spans.rows()
+    }
+
+    /// Whether a column span is held.
+    pub fn has_column_spans(&self) -> bool
+        ensures { IsTrue result ↔ HasSpan self.now.spans.columns }
+    {
+        self.spans.has_columns()
+    }
+
+    /// Whether a row span is held.
+    pub fn has_row_spans(&self) -> bool
+        ensures { IsTrue result ↔ HasSpan self.now.spans.rows }
+    {
+        self.spans.has_rows()
+    }
+
+    /// Removes all column spans.
+    pub fn remove_column_spans(&mut self)
+        ensures { Appends self.old self.new (Setting.RemoveColumnSpans ∷ []) }
+    {
+        self.spans.remove_columns();
+    }
+
+    /// Removes all row spans.
+    pub fn remove_row_spans(&mut self)
+        ensures { Appends self.old self.new (Setting.RemoveRowSpans ∷ []) }
+    {
+        self.spans.remove_rows();
+    }
+
+    /// Whether the position lies in no rectangle of another anchor. An anchor need not be a cell
+    /// of the table, and a hidden one still hides.
+    pub fn is_cell_visible(&self, pos: Position) -> bool
+        ensures visible { IsTrue result ↔ IsVisible (column_span self.now.spans) (row_span self.now.spans) pos }
+        ensures test { result ≡ is_visible self.now.spans pos }
+    {
+        self.spans.is_visible(pos)
+    }
+
+    /// Whether the position stands right of an anchor, in its row and its rectangle.
+    pub fn is_cell_covered_by_column_span(&self, pos: Position) -> bool
+        ensures { IsTrue result ↔ IsCoveredByColumn (column_span self.now.spans) (row_span self.now.spans) pos }
+    {
+        self.spans.covered_by_column(pos)
+    }
+
+    /// Whether the position stands below an anchor, in its column and its rectangle.
+    pub fn is_cell_covered_by_row_span(&self, pos: Position) -> bool
+        ensures { IsTrue result ↔ IsCoveredByRow (column_span self.now.spans) (row_span self.now.spans) pos }
+    {
+        self.spans.covered_by_row(pos)
+    }
+
+    /// Whether the position stands below and right of an anchor, in its rectangle.
+    pub fn is_cell_covered_by_both_spans(&self, pos: Position) -> bool
+        ensures { IsTrue result ↔ IsCoveredByBoth (column_span self.now.spans) (row_span self.now.spans) pos }
+    {
+        self.spans.covered_by_both(pos)
+    }
+}

@@ -1,0 +1,41 @@
+-- What a new compact configuration has, and how two of them compare.
+use Rattle.std.specs.Prelude.{◌≡◌, ℕ, List, [], ◌∷◌, None}
+use Rattle.std.specs.declared.cmp.Ordering.{Ordering}
+use Rattle.std.specs.declared.cmp.Ordering.TheVariants.{Equal}
+use Rattle.std.specs.Ordering.{ordering_then}
+use Rattle.papergrid_values.specs.declared.alignment.AlignmentHorizontal.TheVariants.{Left}
+use Rattle.papergrid_values.specs.declared.ansi_str.ANSIStr.{ANSIStr}
+use Rattle.papergrid_values.specs.declared.indent.Indent.{Indent}
+use Rattle.papergrid_values.specs.declared.sides.Sides.{Sides}
+use Rattle.papergrid_values.specs.Borders.{frame_with}
+use Rattle.papergrid_values.specs.Colors.{texts_of}
+use Rattle.papergrid_maps.specs.declared.compact.CompactConfig.{CompactConfig}
+
+-- so many spaces
+abbrev pub spaces : ℕ → Indent
+spaces n = record { fill = 32; size = n }
+
+-- both texts are empty
+abbrev pub IsEmptyColor : ANSIStr → Type 0
+IsEmptyColor color = texts_of color ≡ ([], [])
+
+-- the colour of each side is of two empty texts
+pub record AreEmptyColors (colors : Sides ANSIStr) : Type 0 where
+  pub top : IsEmptyColor colors.top
+  pub bottom : IsEmptyColor colors.bottom
+  pub left : IsEmptyColor colors.left
+  pub right : IsEmptyColor colors.right
+
+pub record IsNew (config : CompactConfig) : Type 0 where
+  pub borders : config.borders ≡ frame_with None
+  pub border_colors : config.border_colors ≡ frame_with None
+  pub margin : config.margin ≡ record { top = spaces 0; bottom = spaces 0; left = spaces 0; right = spaces 0 }
+  pub margin_color : AreEmptyColors config.margin_color
+  pub padding : config.padding ≡ record { top = spaces 0; bottom = spaces 0; left = spaces 1; right = spaces 1 }
+  pub padding_color : AreEmptyColors config.padding_color
+  pub alignment : config.alignment ≡ Left
+
+-- how two values compare, given how their fields do: by the first that differs
+abbrev pub first_difference : List Ordering → Ordering
+first_difference [] = Equal
+first_difference (field ∷ fields) = ordering_then field (first_difference fields)

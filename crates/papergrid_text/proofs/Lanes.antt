@@ -1,0 +1,50 @@
+-- From the mask of one load of bytes to how many of them pass a test, from the front on.
+use Rattle.std.proofs.Common.{◌≡◌, ◌+◌, ◌<◌, ◌≤◌, ◌%◌, ◌^◌, ℕ, List, [], ◌∷◌, Bool, true, not, cond, map, length, drop, get_or, Fits, w8, refl, ap, ap₂, sym, ◌∙◌, arith}
+use Rattle.std.specs.List.{prefix_len}
+use Rattle.std.proofs.lemmas.Bool.{agree_below, agree_below_at, cond-true, eq-eqb}
+use Rattle.std.proofs.lemmas.List.{length-map, take-append-drop, drop-drop}
+use Rattle.std.proofs.lemmas.List.Folds.{prefix_len-append}
+use Rattle.std.proofs.lemmas.List.Sums.{prefix_len-le-length}
+use Rattle.std.proofs.lemmas.Simd.{map-map, mask_l-mod, length-chunk, chunk-fits, below_from_Fits, leading_from_mask_l, trailing_mask_l}
+use lib.Count.{count_trailing_zeros}
+use lib.Lanes.{Each1, chunk, mask_l, top}
+
+-- tests that agree at bytes
+same_front : (p q : ℕ → Bool) (bytes : List ℕ) → agree_below p q 256 ≡ true → Each1 (λ x. x < 256) bytes → prefix_len p bytes ≡ prefix_len q bytes
+same_front p q [] agree each = refl
+same_front p q (b ∷ bytes) agree each = ap₂ (λ v n. cond v (1 + n) 0) (agree_below_at p q 256 b agree each.0) (same_front p q bytes agree each.1)
+
+module _ (q : ℕ → Bool) (d : List ℕ) (i n : ℕ) (z : List ℕ) (room : i + n ≤ length d) (few : n ≤ 64) (fits : (k : ℕ) → Fits w8 (get_or d k 0))
+    (f : ℕ → ℕ) (lanes : z ≡ map f (chunk i n d)) (agree : agree_below (λ x. not (top 7 (f x))) q 256 ≡ true) where
+  abbrev stops : ℕ → Bool
+  stops x = top 7 (f x)
+
+  long : length (chunk i n d) ≡ n
+  long = length-chunk i n d room
+
+  mask : mask_l (map (top 7) z) % 2 ^ 64 ≡ mask_l (map stops (chunk i n d))
+  mask =
+      let v = chunk i n d in
+      ap (λ l. mask_l l % 2 ^ 64) (ap (map (top 7)) lanes ∙ map-map (top 7) f v) ∙ mask_l-mod (map stops v) 64 (omega (arith, length-map v stops, long))
+
+  same : prefix_len (λ x. not (stops x)) (chunk i n d) ≡ prefix_len q (chunk i n d)
+  same = same_front (λ x. not (stops x)) q (chunk i n d) agree (below_from_Fits w8 (chunk i n d) (chunk-fits w8 i n d fits))
+
+  pub all_pass : mask_l (map (top 7) z) % 2 ^ 64 ≡ 0 → n ≡ prefix_len q (chunk i n d)
+  all_pass none = sym long ∙ sym (leading_from_mask_l stops (chunk i n d) (sym mask ∙ none)) ∙ same
+
+  pub first_other : ¬ (mask_l (map (top 7) z) % 2 ^ 64 ≡ 0) → count_trailing_zeros 64 (mask_l (map (top 7) z) % 2 ^ 64) ≡ prefix_len q (chunk i n d)
+  first_other some = ap (count_trailing_zeros 64) mask ∙ trailing_mask_l stops 64 (chunk i n d) (omega (arith, long)) (omega (arith, mask)) ∙ same
+
+-- where all of a load pass, the bytes after it are counted on
+pub counted_on : (q : ℕ → Bool) (bytes : List ℕ) (i n r : ℕ) → i + n ≤ length bytes → r ≡ prefix_len q (chunk i n bytes) → n ≤ r → (r ≡ n) × (prefix_len q (drop i bytes) ≡ r + prefix_len q (drop (i + r) bytes))
+counted_on q bytes i n r room is all =
+    let long = length-chunk i n bytes room in
+    let bound = prefix_len-le-length q (chunk i n bytes) in
+    let same : r ≡ n = omega arith in
+    let full : prefix_len q (chunk i n bytes) ≡ length (chunk i n bytes) = omega arith in (
+      same,
+      ap (prefix_len q) (sym (take-append-drop n (drop i bytes))) ∙ prefix_len-append q (chunk i n bytes) (drop n (drop i bytes))
+          ∙ cond-true _ _ _ (eq-eqb _ _ full) ∙ ap (λ k. k + prefix_len q (drop n (drop i bytes))) (long ∙ sym same)
+          ∙ ap (λ rest. r + prefix_len q rest) (drop-drop n i bytes ∙ ap (λ k. drop (i + k) bytes) (sym same)),
+    )
