@@ -1,6 +1,6 @@
 -- A character is found only on a line that is there.
-use Rattle.std.proofs.Common.{◌≡◌, ℕ, ◌<◌, ◌≤◌, Bool, true, false, cond, ◌&&◌, eqb, ltb, Option, Some, None, refl, sym, ap, subst, ◌∙◌, arith, inl, inr, ⊎_elim}
-use Rattle.std.specs.Prelude.{◌||◌, ◌⊎◌, ◌↔◌, IsSome, is_some, option_and_then}
+use Rattle.std.proofs.Common.{◌≡◌, ℕ, ◌≤◌, Bool, true, false, cond, ◌&&◌, eqb, Option, Some, None, refl, subst, arith, inl, inr, ⊎_elim}
+use Rattle.std.specs.Prelude.{◌⊎◌, ◌↔◌, IsSome, option_and_then}
 use Rattle.std.specs.Option.{option_or}
 use Rattle.std.proofs.lemmas.Bool.{false≢true, and_from, or_left, or_right, eq-eqb, ne_eqb, lt-ltb, cases_eq, cond-true, cond-false}
 use Rattle.papergrid_values.specs.declared.borders.Borders.{Borders}

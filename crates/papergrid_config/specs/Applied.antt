@@ -1,5 +1,5 @@
 -- Which settings may be applied, and which need no memory.
-use Rattle.std.specs.Prelude.{ℕ, ◌+◌, ◌^◌, ◌&&◌, nat_lt, not, Bool, true, false}
+use Rattle.std.specs.Prelude.{◌+◌, ◌^◌, ◌&&◌, nat_lt, not, Bool, true, false}
 use Rattle.papergrid_values.specs.declared.entity.Entity.{Entity}
 use Rattle.papergrid_values.specs.declared.entity.Entity.TheVariants.{Global}
 use Rattle.papergrid_values.specs.declared.position.Position.{Position}

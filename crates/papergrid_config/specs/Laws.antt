@@ -4,7 +4,6 @@ use Rattle.papergrid_values.specs.declared.position.Position.{Position}
 use Rattle.papergrid_maps.specs.MapHeld.{held_value}
 use Rattle.papergrid_config.specs.Decided as decided
 use Rattle.papergrid_config.specs.Made.{characters_of, spans_of}
-use Rattle.papergrid_config.specs.Told.{IsTold}
 use Rattle.papergrid_config.specs.declared.setting.Setting.{Setting}
 use Rattle.papergrid_config.specs.declared.spanned.SpannedConfig.{SpannedConfig}
 

@@ -1,5 +1,5 @@
 -- What a configuration holds after a list of settings.
-use Rattle.std.specs.Prelude.{◌≡◌, ℕ, false, List, [], ◌∷◌, ◌++◌, reverse, Option, None}
+use Rattle.std.specs.Prelude.{◌≡◌, false, List, [], ◌∷◌, ◌++◌, reverse, None}
 use Rattle.std.specs.List.{flat_map}
 use Rattle.papergrid_values.specs.declared.alignment.AlignmentHorizontal.TheVariants.{Left}
 use Rattle.papergrid_values.specs.declared.alignment.AlignmentVertical.TheVariants.{Top}

@@ -73,14 +73,26 @@ fn copy_frame(
     copy_part(alloc, &colors.bottom, &mut frame.bottom)?;
     copy_part(alloc, &colors.bottom_left, &mut frame.bottom_left)?;
     copy_part(alloc, &colors.bottom_right, &mut frame.bottom_right)?;
-    copy_part(alloc, &colors.bottom_intersection, &mut frame.bottom_intersection)?;
+    copy_part(
+        alloc,
+        &colors.bottom_intersection,
+        &mut frame.bottom_intersection,
+    )?;
     copy_part(alloc, &colors.horizontal, &mut frame.horizontal)?;
     copy_part(alloc, &colors.vertical, &mut frame.vertical)?;
     copy_part(alloc, &colors.intersection, &mut frame.intersection)?;
     copy_part(alloc, &colors.left, &mut frame.left)?;
-    copy_part(alloc, &colors.left_intersection, &mut frame.left_intersection)?;
+    copy_part(
+        alloc,
+        &colors.left_intersection,
+        &mut frame.left_intersection,
+    )?;
     copy_part(alloc, &colors.right, &mut frame.right)?;
-    copy_part(alloc, &colors.right_intersection, &mut frame.right_intersection)?;
+    copy_part(
+        alloc,
+        &colors.right_intersection,
+        &mut frame.right_intersection,
+    )?;
     Ok(())
 }
 

@@ -42,9 +42,8 @@ impl SpannedConfig {
     {
         match self.characters.get_intersection(pos, shape) {
             Some(character) => Some(*character),
-            None if self.has_horizontal(pos.row, shape.0) && self.has_vertical(pos.col, shape.1) => {
-                Some(self.missing)
-            }
+            None if self.has_horizontal(pos.row, shape.0) && self.has_vertical(pos.col, shape.1) =>
+                { Some(self.missing) }
             None => None,
         }
     }
@@ -92,7 +91,9 @@ impl SpannedConfig {
         requires { count < 2 ^ 64 - 1 }
         ensures { result ≡ count_lines (λ col. vertical_line_at self.now.characters col count) count }
     {
-        (0..count + 1).filter(|col| self.has_vertical(*col, count)).count()
+        (0..count + 1)
+            .filter(|col| self.has_vertical(*col, count))
+            .count()
     }
 
     /// How many horizontal lines a table of so many rows has. Condition: their number is below the
@@ -101,6 +102,8 @@ impl SpannedConfig {
         requires { count < 2 ^ 64 - 1 }
         ensures { result ≡ count_lines (λ row. horizontal_line_at self.now.characters row count) count }
     {
-        (0..count + 1).filter(|row| self.has_horizontal(*row, count)).count()
+        (0..count + 1)
+            .filter(|row| self.has_horizontal(*row, count))
+            .count()
     }
 }

@@ -1,18 +1,17 @@
 //! The settings of a table: what each cell, line and margin is set to, by a list of calls.
 #![tactic(auto)]
 
-pub mod laws;
-pub mod setting;
-pub mod spanned;
-
 mod apply;
 mod borders;
 mod compact;
 mod found;
+pub mod laws;
 mod margins;
 mod overrides;
 mod per_cell;
 mod queries;
+pub mod setting;
+pub mod spanned;
 mod spans;
 
 pub use papergrid_maps::{Colors, CompactConfig, EntityMap, MapCall, NoColor, NoColors, Stopped};

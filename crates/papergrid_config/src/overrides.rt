@@ -70,7 +70,12 @@ impl SpannedConfig {
     }
 
     /// The colour set at an offset of the line above a cell, where the line is so long.
-    pub fn lookup_horizontal_color(&self, pos: Position, offset: usize, end: usize) -> Option<&ANSIBuf>
+    pub fn lookup_horizontal_color(
+        &self,
+        pos: Position,
+        offset: usize,
+        end: usize,
+    ) -> Option<&ANSIBuf>
         ensures { option_copied result ≡ found_override (override_at self.now.horizontal_colors pos) offset end }
     {
         self.horizontal_colors.lookup(pos, offset, end)
@@ -140,7 +145,12 @@ impl SpannedConfig {
     }
 
     /// The colour set at an offset of the line left of a cell, where the line is so long.
-    pub fn lookup_vertical_color(&self, pos: Position, offset: usize, end: usize) -> Option<&ANSIBuf>
+    pub fn lookup_vertical_color(
+        &self,
+        pos: Position,
+        offset: usize,
+        end: usize,
+    ) -> Option<&ANSIBuf>
         ensures { option_copied result ≡ found_override (override_at self.now.vertical_colors pos) offset end }
     {
         self.vertical_colors.lookup(pos, offset, end)

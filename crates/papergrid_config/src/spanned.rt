@@ -4,9 +4,7 @@ ghost use Rattle.std.specs.Prelude.{[]};
 ghost use Rattle.papergrid_config.specs.Told.{IsTold};
 
 use papergrid_maps::{BorderTable, EntityMap, OffsetTable, SpanTable};
-use papergrid_values::{
-    ANSIBuf, AlignmentHorizontal, AlignmentVertical, Indent, Offset, Sides,
-};
+use papergrid_values::{ANSIBuf, AlignmentHorizontal, AlignmentVertical, Indent, Offset, Sides};
 use std::alloc::Global;
 
 /// The settings of a table: of each cell by entity, of the lines by place, overrides of their

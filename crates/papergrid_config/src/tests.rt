@@ -174,7 +174,11 @@ fn settings_in_range(rt: HostRuntime) {
 #[test]
 fn empty_line_is_missing_character(rt: HostRuntime) {
     let mut config = SpannedConfig::new(rt.alloc());
-    assert!(rt; config.insert_vertical_line(2, VerticalLine::empty()).is_ok());
+    assert!(rt;
+        config
+            .insert_vertical_line(2, VerticalLine::empty())
+            .is_ok()
+    );
     assert_eq!(rt; config.count_vertical(1), 0);
     assert_eq!(rt; config.count_vertical(2), 1);
     assert_eq!(rt; config.get_vertical(at(0, 2), 2), Some(' '));
@@ -187,9 +191,17 @@ fn empty_line_is_missing_character(rt: HostRuntime) {
 fn missing_character(rt: HostRuntime) {
     let mut config = SpannedConfig::new(rt.alloc());
     config.set_borders_missing('?');
-    assert!(rt; config.insert_vertical_line(2, VerticalLine::empty()).is_ok());
+    assert!(rt;
+        config
+            .insert_vertical_line(2, VerticalLine::empty())
+            .is_ok()
+    );
     assert_eq!(rt; config.get_intersection(at(1, 2), (3, 2)), None);
-    assert!(rt; config.insert_horizontal_line(1, HorizontalLine::empty()).is_ok());
+    assert!(rt;
+        config
+            .insert_horizontal_line(1, HorizontalLine::empty())
+            .is_ok()
+    );
     assert_eq!(rt; config.get_borders_missing(), '?');
     assert_eq!(rt; config.get_vertical(at(0, 2), 2), Some('?'));
     assert_eq!(rt; config.get_horizontal(at(1, 0), 3), Some('?'));
@@ -220,9 +232,17 @@ fn formatting(rt: HostRuntime) {
 fn alignments(rt: HostRuntime) {
     let mut config = SpannedConfig::new(rt.alloc());
     let center = AlignmentHorizontal::Center;
-    assert!(rt; config.set_alignment_horizontal(Entity::Cell(1, 1), center).is_ok());
+    assert!(rt;
+        config
+            .set_alignment_horizontal(Entity::Cell(1, 1), center)
+            .is_ok()
+    );
     let bottom = AlignmentVertical::Bottom;
-    assert!(rt; config.set_alignment_vertical(Entity::Row(1), bottom).is_ok());
+    assert!(rt;
+        config
+            .set_alignment_vertical(Entity::Row(1), bottom)
+            .is_ok()
+    );
     assert!(rt; config.has_alignment_horizontal() && config.has_alignment_vertical());
     assert_eq!(rt; *config.get_alignment_horizontal(at(1, 1)), center);
     assert_eq!(rt;
@@ -231,7 +251,11 @@ fn alignments(rt: HostRuntime) {
     );
     assert_eq!(rt; *config.get_alignment_vertical(at(1, 9)), bottom);
     let middle = AlignmentVertical::Center;
-    assert!(rt; config.set_alignment_vertical(Entity::Global, middle).is_ok());
+    assert!(rt;
+        config
+            .set_alignment_vertical(Entity::Global, middle)
+            .is_ok()
+    );
     assert!(rt; !config.has_alignment_vertical());
     assert_eq!(rt; *config.get_alignment_vertical(at(1, 9)), middle);
 }
@@ -247,7 +271,11 @@ fn justification(rt: HostRuntime) -> Result<(), Fail> {
     assert!(rt; config.has_justification());
     assert!(rt; config.set_justification(Entity::Global, ' ').is_ok());
     assert!(rt; !config.has_justification());
-    assert!(rt; config.set_justification_color(Entity::Global, Some(color)).is_ok());
+    assert!(rt;
+        config
+            .set_justification_color(Entity::Global, Some(color))
+            .is_ok()
+    );
     assert!(rt; config.has_justification());
     assert!(rt; is_red(config.get_justification_color(at(7, 2))));
     Ok(())
@@ -257,18 +285,12 @@ fn justification(rt: HostRuntime) -> Result<(), Fail> {
 fn margins(rt: HostRuntime) -> Result<(), Fail> {
     let colors = Sides::new(Some(red(rt.alloc())?), None, None, None);
     let mut config = SpannedConfig::new(rt.alloc());
-    assert_eq!(rt;
-        config.get_margin_offset(),
-        Sides::filled(Offset::Start(0))
-    );
+    assert_eq!(rt; config.get_margin_offset(), Sides::filled(Offset::Start(0)));
     config.set_margin(padding(4));
     config.set_margin_offset(Sides::filled(Offset::End(2)));
     config.set_margin_color(colors);
     assert_eq!(rt; config.get_margin(), padding(4));
-    assert_eq!(rt;
-        config.get_margin_offset(),
-        Sides::filled(Offset::End(2))
-    );
+    assert_eq!(rt; config.get_margin_offset(), Sides::filled(Offset::End(2)));
     assert!(rt; is_red(config.get_margin_color().left));
     assert!(rt; config.get_margin_color().right.is_none());
     Ok(())
@@ -327,8 +349,16 @@ fn characters_of_lines(rt: HostRuntime) {
 #[test]
 fn overridden_characters(rt: HostRuntime) {
     let mut config = SpannedConfig::new(rt.alloc());
-    assert!(rt; config.set_horizontal_char(at(0, 0), Offset::Start(1), 'h').is_ok());
-    assert!(rt; config.set_vertical_char(at(0, 0), Offset::End(0), 'v').is_ok());
+    assert!(rt;
+        config
+            .set_horizontal_char(at(0, 0), Offset::Start(1), 'h')
+            .is_ok()
+    );
+    assert!(rt;
+        config
+            .set_vertical_char(at(0, 0), Offset::End(0), 'v')
+            .is_ok()
+    );
     assert!(rt; config.has_offset_chars());
     assert_eq!(rt; config.lookup_horizontal_char(at(0, 0), 1, 5), Some('h'));
     assert_eq!(rt; config.lookup_vertical_char(at(0, 0), 4, 5), Some('v'));
@@ -337,7 +367,11 @@ fn overridden_characters(rt: HostRuntime) {
     config.remove_overridden_horizontal(at(0, 0));
     config.remove_vertical_chars();
     assert!(rt; !config.has_offset_chars());
-    assert!(rt; config.set_vertical_char(at(0, 0), Offset::End(0), 'v').is_ok());
+    assert!(rt;
+        config
+            .set_vertical_char(at(0, 0), Offset::End(0), 'v')
+            .is_ok()
+    );
     config.remove_overridden_vertical(at(0, 0));
     config.remove_horizontal_chars();
     assert!(rt; !config.has_offset_chars());
@@ -348,8 +382,16 @@ fn overridden_characters(rt: HostRuntime) {
 fn overridden_colours(rt: HostRuntime) -> Result<(), Fail> {
     let (first, second) = (red(rt.alloc())?, red(rt.alloc())?);
     let mut config = SpannedConfig::new(rt.alloc());
-    assert!(rt; config.set_horizontal_char_color(at(0, 1), Offset::Start(0), first).is_ok());
-    assert!(rt; config.set_vertical_char_color(at(1, 0), Offset::Start(0), second).is_ok());
+    assert!(rt;
+        config
+            .set_horizontal_char_color(at(0, 1), Offset::Start(0), first)
+            .is_ok()
+    );
+    assert!(rt;
+        config
+            .set_vertical_char_color(at(1, 0), Offset::Start(0), second)
+            .is_ok()
+    );
     assert!(rt; is_red(config.lookup_horizontal_color(at(0, 1), 0, 5)));
     assert!(rt; is_red(config.lookup_vertical_color(at(1, 0), 0, 5)));
     assert!(rt; !config.is_overridden_horizontal(at(0, 1)) && !config.has_offset_chars());

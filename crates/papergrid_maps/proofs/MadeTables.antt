@@ -1,22 +1,20 @@
 -- The tables that calls make are told by them, and no others are.
 use Rattle.std.proofs.Common.{◌≡◌, ℕ, Bool, true, false, cond, ◌&&◌, List, [], ◌∷◌, ◌++◌, Option, Some, None, refl, sym, ap, ◌∙◌, eqb, leb}
-use Rattle.std.specs.Prelude.{◌||◌, flat_map, reverse, is_some, unwrap_or}
+use Rattle.std.specs.Prelude.{◌||◌, flat_map, reverse, is_some}
 use Rattle.std.specs.Cmp.{IsTotalOrder, nat_cmp_total, unsigned_tied}
 use Rattle.std.specs.List.{list_any}
 use Rattle.std.specs.Option.{option_or}
 use Rattle.std.specs.Ordering.{eq_by_cmp, nat_cmp}
 use Rattle.std.specs.declared.cmp.Ordering.{Ordering}
-use Rattle.std.specs.FinMap.{FinMap, IsAntisymmetric, get, get-empty, get-insert, nat_cmp-IsAntisymmetric, same_map}
+use Rattle.std.specs.FinMap.{FinMap, get, get-empty, get-insert, nat_cmp-IsAntisymmetric, same_map}
 use Rattle.std.proofs.lemmas.Bool.{false≢true, or_left, or_right, eqb-true, eq-eqb}
-use Rattle.std.proofs.lemmas.List.{reverse-append}
-use Rattle.papergrid_values.specs.declared.border.Border.{Border}
 use Rattle.papergrid_values.specs.declared.position.Position.{Position}
 use Rattle.papergrid_maps.specs.BorderCalls.{at_place, below, right_of, BorderCall, InsertBorder, RemoveBorder, InsertHorizontalLine, RemoveHorizontalLine, InsertVerticalLine, RemoveVerticalLine, SetBorders, SetGlobal, Clear, at_horizontal_line, at_vertical_line, at_horizontal_edge, at_vertical_edge, at_corner}
 use Rattle.papergrid_maps.specs.BorderHeld.{HeldBorders, IsTold, places_of}
 use Rattle.papergrid_maps.specs.Changes.{Change, Keeps, Removes, Writes, after, if_set, last}
 use Rattle.papergrid_maps.specs.Keys.{position_cmp, position_eq}
 use Rattle.papergrid_maps.specs.Made.{with_value, borders_made, named_anchors, named_columns, named_places, named_rows, spans_made, tabulated}
-use Rattle.papergrid_maps.specs.Places.{Places, places_from}
+use Rattle.papergrid_maps.specs.Places.{places_from}
 use Rattle.papergrid_maps.specs.Spans as spans
 use Rattle.papergrid_maps.specs.Spans.{Columns, Direction, RemoveSpans, Rows, SetSpan, SpanCall, Spans, decided_span, from_two, is_same_direction, span_from}
 use Rattle.papergrid_maps.proofs.KeyLemmas.{exact_positions, position_equiv, position_ties, position_total}
@@ -233,7 +231,7 @@ anchor_named d q (RemoveSpans e ∷ older) h =
     ] h
 anchor_named d q (SetSpan e p n ∷ older) h =
     elim (position_eq p q) as (λ b. position_eq p q ≡ b → is_some (from_two (cond (is_same_direction e d && (leb 1 n && b)) n (span_from d q older))) ≡ true
-        → (eq_by_cmp position_cmp q p || list_any (eq_by_cmp position_cmp q) (flat_map named_anchors older)) ≡ true) [
+    → (eq_by_cmp position_cmp q p || list_any (eq_by_cmp position_cmp q) (flat_map named_anchors older)) ≡ true) [
       | true ↦ λ here _. or_left _ _ (sym (position_ties q p) ∙ position_equiv.symm q p ∙ here)
       | false ↦ λ apart set. or_right _ _ (anchor_named d q older (ap (λ b. is_some (from_two (cond b n (span_from d q older)))) (sym (never_both (is_same_direction e d) (leb 1 n))) ∙ set))
     ] refl h

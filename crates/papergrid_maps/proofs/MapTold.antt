@@ -1,8 +1,8 @@
 -- One more call: what it makes of each part, and that the list of calls says the same.
-use Rattle.std.proofs.Common.{length, take, arith, ◌+◌, ◌≡◌, ℕ, ◌&&◌, List, [], ◌∷◌, ◌++◌, Option, Some, None, refl, sym, ap, subst, ◌∙◌}
+use Rattle.std.proofs.Common.{◌≡◌, ℕ, ◌&&◌, List, [], ◌∷◌, ◌++◌, Option, Some, None, refl, sym, ap, subst, ◌∙◌}
 use Rattle.std.specs.Prelude.{◌==◌, if◌then◌else◌, is_some, reverse}
 use Rattle.std.proofs.Common.{append_assoc}
-use Rattle.std.proofs.lemmas.List.{reverse-append, append-nil, length-append, take-append-le, take_all}
+use Rattle.std.proofs.lemmas.List.{reverse-append, append-nil}
 use Rattle.std.specs.FinMap.{get}
 use Rattle.papergrid_maps.specs.MapCalls.{column_value, row_value, global_value, pinned_value}
 use Rattle.papergrid_maps.specs.MapHeld.{Held, IsTold, Appends}

@@ -1,5 +1,5 @@
 -- The tables that calls make: what the calls leave, at each place that one of them names.
-use Rattle.std.specs.Prelude.{ℕ, List, [], ◌∷◌, flat_map, reverse, Option, Some, None, unwrap_or}
+use Rattle.std.specs.Prelude.{ℕ, List, [], ◌∷◌, flat_map, reverse, Option, Some, None}
 use Rattle.std.specs.declared.cmp.Ordering.{Ordering}
 use Rattle.std.specs.FinMap.{FinMap, empty, insert}
 use Rattle.papergrid_values.specs.declared.position.Position.{Position}

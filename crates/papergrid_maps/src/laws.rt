@@ -12,7 +12,6 @@ ghost use Rattle.papergrid_maps.specs.BorderHeld.{HeldBorders};
 ghost use Rattle.papergrid_maps.specs.Made.{borders_made, spans_made};
 ghost use Rattle.papergrid_maps.specs.MapCalls.{decided_value};
 ghost use Rattle.papergrid_maps.specs.MapHeld.{Held, IsTold, held_value};
-
 ghost use Rattle.papergrid_maps.specs.Spans as spans;
 ghost use Rattle.papergrid_maps.specs.Spans.{SpanCall, Spans};
 

@@ -3,8 +3,8 @@
 use crate::tests::{applied, at, is_red, padding, red};
 use crate::{CompactConfig, Setting, SpannedConfig};
 use papergrid_values::{
-    ANSIBuf, ANSIStr, AlignmentHorizontal, AlignmentVertical, Border, Borders, Entity, HorizontalLine,
-    Offset, Sides, VerticalLine,
+    ANSIBuf, ANSIStr, AlignmentHorizontal, AlignmentVertical, Border, Borders, Entity,
+    HorizontalLine, Offset, Sides, VerticalLine,
 };
 use std::alloc::{AllocError, Global};
 use std::process::Abort;

@@ -14,11 +14,11 @@ returns c =
     let margin_color = c.in_ok-owned_sides.ensures ∙ ap colored_sides c.get_margin_color.ensures in
     let frame_color = c.in_ok-owned_frame.ensures ∙ ap colored_frame c.get_borders_color.ensures in
     subst (λ settings. IsTold settings c.set_borders_color.new.self) (λ i.
-        SetPadding Global (c.get_padding.ensures i)
-        ∷ SetPaddingColor Global (padding_color i)
-        ∷ SetAlignmentHorizontal Global (c.get_alignment_horizontal.ensures i)
-        ∷ SetMargin (c.get_margin.ensures i)
-        ∷ SetMarginColor (margin_color i)
-        ∷ SetBorders (c.get_borders.ensures i)
-        ∷ SetBordersColor (frame_color i)
-        ∷ []) told
+    SetPadding Global (c.get_padding.ensures i)
+    ∷ SetPaddingColor Global (padding_color i)
+    ∷ SetAlignmentHorizontal Global (c.get_alignment_horizontal.ensures i)
+    ∷ SetMargin (c.get_margin.ensures i)
+    ∷ SetMarginColor (margin_color i)
+    ∷ SetBorders (c.get_borders.ensures i)
+    ∷ SetBordersColor (frame_color i)
+    ∷ []) told

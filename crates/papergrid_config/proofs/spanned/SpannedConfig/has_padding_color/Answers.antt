@@ -1,4 +1,4 @@
-use Rattle.std.proofs.Common.{rules, ◌≡◌, true, false, subst, ap, sym, ◌∙◌}
+use Rattle.std.proofs.Common.{◌≡◌, false, subst, ap, ◌∙◌}
 use Rattle.papergrid_values.specs.Keys.{sides_parts}
 use Rattle.papergrid_values.specs.Parts.{none_set}
 use Rattle.papergrid_config.proofs.Closures.{told_by_both, from_not, not_both}
