@@ -1,6 +1,9 @@
 -- What sizes and refusals are, apart from how they are found.
-use Rattle.std.specs.Prelude.{◌≡◌, ◌⊎◌, ℕ, ◌+◌, ◌<◌, ◌≤◌, List, Some, slice_get, slice_index, length, sum}
+use Rattle.std.specs.Prelude.{◌≡◌, ◌⊎◌, ℕ, ◌+◌, ◌<◌, ◌≤◌, List, Some, flat_map, reverse, slice_get, slice_index, length, sum}
 use Rattle.papergrid_values.specs.declared.position.Position.{Position}
+use Rattle.papergrid_maps.specs.Places.{Places, places_from}
+use Rattle.papergrid_config.specs.declared.setting.Setting.{Setting}
+use Rattle.papergrid_config.specs.Parts.{character_calls}
 use Rattle.papergrid.specs.Cells.{Measure, TableCell, measured}
 use Rattle.papergrid.specs.Scripts.{Table}
 use Rattle.papergrid.specs.Sizes.{column_of, row_of, padding_at, width_need, height_need, vertical_lines, horizontal_lines}
@@ -37,6 +40,10 @@ pub record AreSizes (table : Table) (widths heights : List ℕ) : Type 0 where
   pub inside : NoneOut table.columns (measured table.rows)
   pub widths_top : AreTopNeeds (measured table.rows) column_of (width_need (padding_at table.settings)) table.columns widths
   pub heights_top : AreTopNeeds (measured table.rows) row_of (height_need (padding_at table.settings)) (length table.rows) heights
+
+-- what the settings leave at each place of the lines
+abbrev pub lines_left : List Setting → Places ℕ
+lines_left settings = places_from (reverse (flat_map character_calls settings))
 
 -- the totals of the sizes, with the lines of the table
 pub record AreTotals (table : Table) (widths heights : List ℕ) (total_width total_height : ℕ) : Type 0 where

@@ -1,10 +1,14 @@
 //! Laws of the definitions, each the contract of a function that does nothing.
 
-ghost use Rattle.std.specs.Prelude.{◌≡◌, ◌⊎◌, ◌≤◌, ◌<◌, ◌+◌, ◌^◌, ℕ, Contains, IsUtf8, List, Some, Ok, Err, length};
+ghost use Rattle.std.specs.Prelude.{◌≡◌, ◌↔◌, ◌⊎◌, ◌≤◌, ◌<◌, ◌+◌, ◌^◌, ℕ, Contains, IsTrue, IsUtf8, List, Some, Ok, Err, length};
 ghost use Rattle.papergrid_values.specs.declared.entity.Entity.{Entity};
 ghost use Rattle.papergrid_values.specs.declared.position.Position.{Position};
 ghost use Rattle.papergrid_maps.specs.declared.entity_map.MapCall.{MapCall};
 ghost use Rattle.papergrid_maps.specs.MapCalls.{decided_value};
+ghost use Rattle.papergrid_maps.specs.LineTests.{horizontal_line_at, vertical_line_at};
+ghost use Rattle.papergrid_maps.specs.Places.{HasHorizontal, HasVertical};
+ghost use Rattle.papergrid_config.specs.Made.{characters_of};
+ghost use Rattle.papergrid_config.specs.declared.setting.Setting.{Setting};
 ghost use Rattle.papergrid.specs.Cells.{Measure, TableCell, cells_of, measured};
 ghost use Rattle.papergrid.specs.Decided.{IsDecided};
 ghost use Rattle.papergrid.specs.Grammar.{Said, entity_of, number_of, said, script_lines};
@@ -13,7 +17,7 @@ ghost use Rattle.papergrid.specs.Scripts.{Table, table_of};
 ghost use Rattle.papergrid.specs.Sizes.{OutOfTable, Sized, TooLarge, estimate_of};
 ghost use Rattle.papergrid.specs.Spelling.{IsEntity, IsLine, IsNumber};
 ghost use Rattle.papergrid.specs.Tells.{IsBad, IsFirstBad, Tells};
-ghost use Rattle.papergrid.specs.Tops.{AllFit, AreSizes, AreTotals, IsCellOf, IsFirstOut};
+ghost use Rattle.papergrid.specs.Tops.{AllFit, AreSizes, AreTotals, IsCellOf, IsFirstOut, lines_left};
 
 /// What the worked scripts give, by the definitions alone.
 pub fn worked_rows()
@@ -60,6 +64,14 @@ pub fn script_by_lines()
 pub fn cells_by_place()
     ensures there { (rows : List (List Measure)) (cell : TableCell) → IsCellOf rows cell → Contains (cells_of rows) cell }
     ensures only { (rows : List (List Measure)) (cell : TableCell) → Contains (cells_of rows) cell → IsCellOf rows cell }
+{}
+
+/// A line is counted in the totals exactly where what the settings leave has one.
+pub fn lines_by_place()
+    ensures vertical { (settings : List Setting) (col count : ℕ) →
+        IsTrue (vertical_line_at (characters_of settings) col count) ↔ HasVertical (lines_left settings) col count }
+    ensures horizontal { (settings : List Setting) (row count : ℕ) →
+        IsTrue (horizontal_line_at (characters_of settings) row count) ↔ HasHorizontal (lines_left settings) row count }
 {}
 
 /// A table is refused for its first cell at or past the column count, and else where the top needs of its
