@@ -1,6 +1,6 @@
 //! Steps on the maps of a `BorderTable`.
 
-ghost use Rattle.std.specs.Prelude.{◌≡◌, ◌+◌, ◌<◌, ◌≤◌, ◌^◌, ◌==◌, ◌||◌, OnOk, None, if◌then◌else◌, nat_eq, option_copied, option_and_then};
+ghost use Rattle.std.specs.Prelude.{◌≡◌, ◌+◌, ◌<◌, ◌≤◌, ◌^◌, ◌==◌, ◌||◌, OnOk, None, if◌then◌else◌, is_some, nat_eq, option_copied, option_and_then};
 ghost use Rattle.std.specs.Option.{option_or};
 ghost use Rattle.std.specs.HashMap.{IsUnique, spare, get as map_get};
 ghost use Rattle.std.specs.List.{list_any};
@@ -165,6 +165,36 @@ pub(crate) fn ends_at_row<T>(
     ensures unique { IsUnique nat_eq lines.now }
 {
     lines.iter().any(|(_, line)| has_set_end(row, count, &line.top, &line.bottom))
+}
+
+/// Whether a horizontal line has its left end set.
+pub(crate) fn any_left<T>(lines: &HashMap<usize, HorizontalLine<T>>) -> bool
+    ensures value { result ≡ list_any (λ e. is_some e.1.left) lines.now.entries }
+    ensures unique { IsUnique nat_eq lines.now }
+{
+    lines.iter().any(|(_, line)| line.left.is_some())
+}
+
+/// Whether a horizontal line has its right end set.
+pub(crate) fn any_right<T>(lines: &HashMap<usize, HorizontalLine<T>>) -> bool
+    ensures { result ≡ list_any (λ e. is_some e.1.right) lines.now.entries }
+{
+    lines.iter().any(|(_, line)| line.right.is_some())
+}
+
+/// Whether a vertical line has its top end set.
+pub(crate) fn any_top<T>(lines: &HashMap<usize, VerticalLine<T>>) -> bool
+    ensures value { result ≡ list_any (λ e. is_some e.1.top) lines.now.entries }
+    ensures unique { IsUnique nat_eq lines.now }
+{
+    lines.iter().any(|(_, line)| line.top.is_some())
+}
+
+/// Whether a vertical line has its bottom end set.
+pub(crate) fn any_bottom<T>(lines: &HashMap<usize, VerticalLine<T>>) -> bool
+    ensures { result ≡ list_any (λ e. is_some e.1.bottom) lines.now.entries }
+{
+    lines.iter().any(|(_, line)| line.bottom.is_some())
 }
 
 /// Whether a place in a column has a value.
