@@ -7,6 +7,7 @@ pub mod BorderTold
 pub mod EqualLemmas
 pub mod IntoMap
 pub mod KeyLemmas
+pub mod LineMarked
 pub mod LineTested
 pub mod MadeTables
 pub mod MapHeldLemmas

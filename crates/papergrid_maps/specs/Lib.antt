@@ -8,6 +8,7 @@ pub mod ColorsHeld
 pub mod Compact
 pub mod Equal
 pub mod Keys
+pub mod LineMarks
 pub mod LineTests
 pub mod Made
 pub mod MapCalls

@@ -1,6 +1,6 @@
 //! Steps on the maps of a `BorderTable`.
 
-ghost use Rattle.std.specs.Prelude.{◌≡◌, ◌+◌, ◌<◌, ◌≤◌, ◌^◌, ◌==◌, ◌||◌, OnOk, None, if◌then◌else◌, nat_eq, option_copied, option_and_then};
+ghost use Rattle.std.specs.Prelude.{◌≡◌, ◌+◌, ◌<◌, ◌≤◌, ◌^◌, ◌==◌, ◌||◌, OnOk, None, if◌then◌else◌, is_some, nat_eq, option_copied, option_and_then};
 ghost use Rattle.std.specs.Option.{option_or};
 ghost use Rattle.std.specs.HashMap.{IsUnique, spare, get as map_get};
 ghost use Rattle.std.specs.List.{list_any};
@@ -136,6 +136,13 @@ pub(crate) fn at_ends(place: usize, count: usize, first: bool, end: bool, inner:
     (place == 0 && first) || (place == count && end) || (0 < place && place < count && inner)
 }
 
+// Whether a place is the first or the last one.
+fn is_end(place: usize, count: usize) -> bool
+    ensures { result ≡ (place == 0 || place == count) }
+{
+    place == 0 || place == count
+}
+
 // Whether the end of a line at a place is set.
 fn has_set_end<T>(place: usize, count: usize, first: &Option<T>, end: &Option<T>) -> bool
     ensures { result ≡ has_end place count first.now end.now }
@@ -152,7 +159,8 @@ pub(crate) fn ends_at_column<T>(
     ensures value { result ≡ list_any (λ e. has_end col count e.1.left e.1.right) lines.now.entries }
     ensures unique { IsUnique nat_eq lines.now }
 {
-    lines.iter().any(|(_, line)| has_set_end(col, count, &line.left, &line.right))
+    let mut held = lines.iter();
+    is_end(col, count) && held.any(|(_, line)| has_set_end(col, count, &line.left, &line.right))
 }
 
 /// Whether a vertical line that ends at a row has that end set.
@@ -164,7 +172,38 @@ pub(crate) fn ends_at_row<T>(
     ensures value { result ≡ list_any (λ e. has_end row count e.1.top e.1.bottom) lines.now.entries }
     ensures unique { IsUnique nat_eq lines.now }
 {
-    lines.iter().any(|(_, line)| has_set_end(row, count, &line.top, &line.bottom))
+    let mut held = lines.iter();
+    is_end(row, count) && held.any(|(_, line)| has_set_end(row, count, &line.top, &line.bottom))
+}
+
+/// Whether a horizontal line has its left end set.
+pub(crate) fn any_left<T>(lines: &HashMap<usize, HorizontalLine<T>>) -> bool
+    ensures value { result ≡ list_any (λ e. is_some e.1.left) lines.now.entries }
+    ensures unique { IsUnique nat_eq lines.now }
+{
+    lines.iter().any(|(_, line)| line.left.is_some())
+}
+
+/// Whether a horizontal line has its right end set.
+pub(crate) fn any_right<T>(lines: &HashMap<usize, HorizontalLine<T>>) -> bool
+    ensures { result ≡ list_any (λ e. is_some e.1.right) lines.now.entries }
+{
+    lines.iter().any(|(_, line)| line.right.is_some())
+}
+
+/// Whether a vertical line has its top end set.
+pub(crate) fn any_top<T>(lines: &HashMap<usize, VerticalLine<T>>) -> bool
+    ensures value { result ≡ list_any (λ e. is_some e.1.top) lines.now.entries }
+    ensures unique { IsUnique nat_eq lines.now }
+{
+    lines.iter().any(|(_, line)| line.top.is_some())
+}
+
+/// Whether a vertical line has its bottom end set.
+pub(crate) fn any_bottom<T>(lines: &HashMap<usize, VerticalLine<T>>) -> bool
+    ensures { result ≡ list_any (λ e. is_some e.1.bottom) lines.now.entries }
+{
+    lines.iter().any(|(_, line)| line.bottom.is_some())
 }
 
 /// Whether a place in a column has a value.

@@ -1,6 +1,6 @@
 //! Values for the edges, corners and lines of a table. Source: `config/spanned/borders_config.rs`.
 
-ghost use Rattle.std.specs.Prelude.{◌≡◌, ◌∷◌, [], ◌+◌, ◌<◌, ◌^◌, ◌↔◌, ◌++◌, List, ℕ, OnOk, OnErr, IfOk, IsTrue, nat_eq, option_copied};
+ghost use Rattle.std.specs.Prelude.{◌≡◌, ◌∷◌, [], ◌+◌, ◌<◌, ◌^◌, ◌↔◌, ◌++◌, List, ℕ, OnOk, OnErr, IfOk, IsTrue, EachIndex, false, length, nat_eq, option_copied, slice_index_or};
 ghost use Rattle.std.specs.HashMap.{get as map_get};
 ghost use Rattle.std.specs.FinMap.{get as value_at};
 ghost use Rattle.papergrid_values.specs.Borders.{border_map};
@@ -11,6 +11,7 @@ ghost use Rattle.papergrid_maps.specs.Places.{IsBare, HasHorizontal, HasVertical
 
 use crate::border_parts as parts;
 use crate::hashed::{take, write};
+use crate::line_marks::{Across, Ends, mark_lines, mark_places};
 use papergrid_values::{Border, Borders, HorizontalLine, Position, VerticalLine};
 use std::alloc::{AllocError, Global};
 use std::collections::HashMap;
@@ -259,6 +260,51 @@ impl<T> BorderTable<T> {
             return true;
         }
         parts::stands_in_row(&self.corners, row)
+    }
+
+    /// Tells of each vertical line from the first on, as many as there are marks, whether it is
+    /// there in a table of so many columns. All lines are answered by one look at each edge and
+    /// corner held. Condition: their numbers exist in `usize`.
+    pub fn mark_vertical(&self, first: usize, count: usize, marks: &mut [bool])
+        requires { first + length marks.old < 2 ^ 64 }
+        ensures length { length marks.new ≡ length marks.old }
+        ensures marks { EachIndex marks.new (λ k. slice_index_or marks.new k false ≡ vertical_line_at self.now (first + k) count) }
+    {
+        if self.global.is_some() {
+            marks.fill(true);
+            return;
+        }
+        let frame = &self.frame;
+        let ends = Ends {
+            first: frame.has_left() | parts::any_left(&self.horizontal_lines),
+            end: frame.has_right() | parts::any_right(&self.horizontal_lines),
+            inner: frame.has_vertical(),
+        };
+        mark_lines(&self.vertical_lines, ends, first, count, marks);
+        mark_places(&self.vertical_edges, Across::Columns, first, marks);
+        mark_places(&self.corners, Across::Columns, first, marks);
+    }
+
+    /// Tells of each horizontal line from the first on, as many as there are marks, whether it is
+    /// there in a table of so many rows, likewise.
+    pub fn mark_horizontal(&self, first: usize, count: usize, marks: &mut [bool])
+        requires { first + length marks.old < 2 ^ 64 }
+        ensures length { length marks.new ≡ length marks.old }
+        ensures marks { EachIndex marks.new (λ k. slice_index_or marks.new k false ≡ horizontal_line_at self.now (first + k) count) }
+    {
+        if self.global.is_some() {
+            marks.fill(true);
+            return;
+        }
+        let frame = &self.frame;
+        let ends = Ends {
+            first: frame.has_top() | parts::any_top(&self.vertical_lines),
+            end: frame.has_bottom() | parts::any_bottom(&self.vertical_lines),
+            inner: frame.has_horizontal(),
+        };
+        mark_lines(&self.horizontal_lines, ends, first, count, marks);
+        mark_places(&self.horizontal_edges, Across::Rows, first, marks);
+        mark_places(&self.corners, Across::Rows, first, marks);
     }
 }
 

@@ -9,6 +9,7 @@ pub mod compact;
 pub mod entity_map;
 mod hashed;
 pub mod laws;
+mod line_marks;
 pub mod offset_table;
 pub mod span_table;
 

@@ -242,6 +242,21 @@ fn removed_border_over_line(rt: HostRuntime) -> Result<(), Fail> {
 }
 
 #[test]
+fn marked_lines(rt: HostRuntime) -> Result<(), Fail> {
+    let mut table = BorderTable::new(rt.alloc());
+    table.insert_vertical_line(2, VerticalLine::filled('v'))?;
+    table.insert_border(at(0, 3), Border::filled('x'))?;
+    let mut marks = [true; 4];
+    table.mark_vertical(1, 5, &mut marks);
+    assert_eq!(rt; marks, [false, true, true, true]);
+    table.mark_horizontal(0, 5, &mut marks);
+    assert_eq!(rt; marks, [true, true, false, false]);
+    table.mark_horizontal(3, 5, &mut marks);
+    assert_eq!(rt; marks, [false, false, true, false]);
+    Ok(())
+}
+
+#[test]
 fn intersection_without_line(rt: HostRuntime) -> Result<(), Fail> {
     let mut table = BorderTable::new(rt.alloc());
     let line = HorizontalLine::new(Some('-'), Some('x'), None, None);
