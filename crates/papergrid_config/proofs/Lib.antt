@@ -1,3 +1,4 @@
 pub mod Applied
 pub mod Closures
+pub mod CountedLines
 pub mod FoundLemmas

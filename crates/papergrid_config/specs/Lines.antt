@@ -6,6 +6,8 @@ use Rattle.papergrid_values.specs.declared.position.Position.{Position}
 use Rattle.papergrid_maps.specs.BorderHeld.{HeldBorders, places_of}
 use Rattle.papergrid_maps.specs.LineTests.{horizontal_line_at, vertical_line_at}
 use Rattle.papergrid_maps.specs.Places.{found_horizontal, found_intersection, found_vertical}
+use Rattle.papergrid_config.specs.declared.found.Direction.{Direction}
+use Rattle.papergrid_config.specs.declared.found.Direction.TheVariants.{Vertical, Horizontal}
 
 -- what is found, or where nothing is found and there is a line the missing character
 abbrev pub shown : Option ℕ → Bool → ℕ → Option ℕ
@@ -22,6 +24,11 @@ module _ (characters : HeldBorders ℕ) (missing : ℕ) where
   abbrev pub shown_intersection : Position → ℕ → ℕ → Option ℕ
   shown_intersection p rows cols =
       shown (found_intersection (places_of characters) p rows cols) (horizontal_line_at characters p.row rows && vertical_line_at characters p.col cols) missing
+
+-- the line of either direction at a place
+abbrev pub line_at : Direction → HeldBorders ℕ → ℕ → ℕ → Bool
+line_at Vertical = vertical_line_at
+line_at Horizontal = horizontal_line_at
 
 -- how many lines there are from 0 up to the count
 abbrev pub count_lines : (ℕ → Bool) → ℕ → ℕ
