@@ -1,0 +1,177 @@
+-- What the laws rest on.
+use Rattle.std.proofs.Common.{◌≡◌, ◌∙◌, ℕ, ◌+◌, Bool, true, false, List, [], ◌∷◌, ◌++◌, ◌&&◌, length, refl, ap, sym, inl, inr, nat_le}
+use Rattle.std.specs.Prelude.{All, if◌then◌else◌, flat_map, reverse}
+use Rattle.std.proofs.lemmas.Bool.{cases_Bool, false≢true}
+use Rattle.std.proofs.lemmas.Grind.{flat_map-append}
+use Rattle.std.proofs.lemmas.List.{append_assoc, length-map, reverse-append}
+use Rattle.std.proofs.lemmas.List.Concat.{flat_map-cons}
+use Rattle.std.proofs.lemmas.List.Elements.{All-head, All-tail}
+use Rattle.papergrid_values.specs.declared.position.Position.{Position}
+use Rattle.papergrid_text.specs.Kept.{answered_lines}
+use Rattle.papergrid_text.specs.Measured.{Measured}
+use Rattle.papergrid_text.specs.Text.{split_lines, with_width}
+use Rattle.papergrid_text.proofs.Widths.{all_answered}
+use Rattle.papergrid_axis.specs.declared.direction.Direction.{Direction}
+use Rattle.papergrid_axis.specs.Ranges.{demand_of}
+use Rattle.papergrid_maps.specs.Keys.{position_eq}
+use Rattle.papergrid_maps.specs.Made.{borders_made}
+use Rattle.papergrid_maps.specs.MapCalls.{decided_value}
+use Rattle.papergrid_maps.specs.MapHeld.{held_value}
+use Rattle.papergrid_maps.specs.Spans as spans
+use Rattle.papergrid_maps.specs.Spans.{SetSpan, RemoveSpans, SpanCall, from_two, is_same_direction, is_visible, span_from}
+use Rattle.papergrid_maps.proofs.KeyLemmas.{exact_position_eq}
+use Rattle.papergrid_maps.proofs.MadeTables.{told_borders, told_spans}
+use Rattle.papergrid_maps.proofs.MapHeldLemmas.{held_decided}
+use Rattle.papergrid_config.specs.Parts.{character_calls, padding_calls, span_calls}
+use Rattle.papergrid_config.specs.Told.{IsTold, all_sides, no_room}
+use Rattle.papergrid_config.specs.declared.setting.Setting.{Setting}
+use Rattle.papergrid_config.specs.declared.spanned.SpannedConfig.{SpannedConfig}
+use Rattle.papergrid_layout.specs.Cells.{asked_by, demands_of, placed_from, placed_row, side}
+use Rattle.papergrid_layout.specs.Laws.{AreSwapped, IsNewText, TellTheSame, set_span}
+use Rattle.papergrid_layout.specs.Looks.{Look, line_along, size_after, size_before, span_along, spanned_look}
+use Rattle.papergrid_layout.specs.Measures.{cell_measure, line_measure}
+use Rattle.papergrid_layout.proofs.Steps.{asked_by-append}
+
+-- ---- measures
+
+module _ {C : Type 0} (direction : Direction) (look : Look) (f g : C → ℕ × ℕ) (P : C → Type 0) (same : (x : C) → P x → f x ≡ g x) where
+  same_row : (r c : ℕ) (cells : List C) → All P cells → asked_by direction look f (placed_row r c cells) ≡ asked_by direction look g (placed_row r c cells)
+  same_row r c [] all = refl
+  same_row r c (x ∷ cells) all =
+      let one = same x (All-head P x cells all) in
+      let rest = same_row r (c + 1) cells (All-tail P x cells all) in
+      let p : Position = record { row = r; col = c } in
+      elim (cases_Bool (look.shows p)) [
+        | inl t ↦ rw t (λ k. demand_of direction p (look.span direction p) (side direction (one k) + look.before direction p + look.after direction p) ∷ rest k)
+        | inr t ↦ rw t rest
+      ]
+
+  same_from : (r : ℕ) (rows : List (List C)) → All (All P) rows → asked_by direction look f (placed_from r rows) ≡ asked_by direction look g (placed_from r rows)
+  same_from r [] all = refl
+  same_from r (row ∷ rows) all =
+      let one = same_row r 0 row (All-head (All P) row rows all) in
+      let rest = same_from (r + 1) rows (All-tail (All P) row rows all) in
+      asked_by-append direction look f (placed_row r 0 row) (placed_from (r + 1) rows)
+      ∙ (λ k. one k ++ rest k)
+      ∙ sym (asked_by-append direction look g (placed_row r 0 row) (placed_from (r + 1) rows))
+
+  -- where two measures agree on each cell, the cells ask for the same
+  pub same_measures : (rows : List (List C)) → All (All P) rows → demands_of direction look f rows ≡ demands_of direction look g rows
+  same_measures rows all = same_from 0 rows all
+
+pub new_text_measures : {S : Type 0} (text : S → List ℕ) (t : Measured S) → IsNewText text t →
+    cell_measure (λ u. u.width) (λ u. answered_lines (text u.text) u.width u.lines) t ≡ line_measure (λ u. text u.text) t
+new_text_measures text t is =
+    let width = ap (λ u. u.width) is in
+    let lines = ap (λ u. length (answered_lines (text t.text) u.width u.lines)) is ∙ ap length (all_answered (text t.text) (split_lines (text t.text)) refl) ∙ length-map (split_lines (text t.text)) with_width in
+    (λ k. (width k, lines k))
+
+-- ---- spans
+
+-- what is read of two configurations that are told the same
+pub same_look : (settings other : List Setting) → TellTheSame settings other → (x y : SpannedConfig) → IsTold settings x → IsTold other y → spanned_look x ≡ spanned_look y
+same_look settings other same x y told also =
+    let calls = flat_map span_calls settings in
+    let spans_same = told_spans calls x.spans told.spans ∙ sym (told_spans calls y.spans (λ d p. also.spans d p ∙ ap from_two (sym (same.spans d p)))) in
+    let lines_same =
+    told_borders (flat_map character_calls settings) x.characters told.characters ∙ same.characters
+    ∙ sym (told_borders (flat_map character_calls other) y.characters also.characters) in
+    let padding_same : (p : Position) → held_value x.padding p ≡ held_value y.padding p
+    = λ p. held_decided _ _ _ told.padding p ∙ same.padding p ∙ sym (held_decided _ _ _ also.padding p) in
+    λ k. record {
+      shows = is_visible (spans_same k);
+      span = span_along (spans_same k);
+      before = λ direction p. size_before direction (padding_same p k);
+      after = λ direction p. size_after direction (padding_same p k);
+      draws = line_along (lines_same k);
+    }
+
+around : {A : Type 0} (f : Setting → List A) (before after : List Setting) (a b : Setting) →
+    flat_map f (before ++ a ∷ b ∷ after) ≡ flat_map f before ++ (f a ++ (f b ++ flat_map f after))
+around f before after a b =
+    flat_map-append f before (a ∷ b ∷ after)
+    ∙ ap (λ rest. flat_map f before ++ rest) (flat_map-cons f a (b ∷ after) ∙ ap (λ rest. f a ++ rest) (flat_map-cons f b after))
+
+-- settings that a part does not have may change places
+apart : {A : Type 0} (f : Setting → List A) (before after : List Setting) (a b : Setting) → f a ≡ [] → f b ≡ [] →
+    flat_map f (before ++ a ∷ b ∷ after) ≡ flat_map f (before ++ b ∷ a ∷ after)
+apart f before after a b none nothing =
+    around f before after a b
+    ∙ (λ k. flat_map f before ++ (none k ++ (nothing k ++ flat_map f after)))
+    ∙ sym (λ k. flat_map f before ++ (nothing k ++ (none k ++ flat_map f after)))
+    ∙ sym (around f before after b a)
+
+and_right : (a b : Bool) → (a && b) ≡ true → b ≡ true
+and_right true b e = e
+and_right false b e = absurd (false≢true e)
+
+turned : (a b : Bool) (m n rest : ℕ) → (a ≡ true → b ≡ true → ⊥) → (if a then m else (if b then n else rest)) ≡ (if b then n else (if a then m else rest))
+turned true true m n rest h = absurd (h refl refl)
+turned true false m n rest h = refl
+turned false true m n rest h = refl
+turned false false m n rest h = refl
+
+module _ (d : spans.Direction) (r : Position) where
+  span_from-tail : (newer xs ys : List SpanCall) → span_from d r xs ≡ span_from d r ys → span_from d r (newer ++ xs) ≡ span_from d r (newer ++ ys)
+  span_from-tail [] xs ys e = e
+  span_from-tail (RemoveSpans e ∷ newer) xs ys same = ap (λ v. if is_same_direction e d then 1 else v) (span_from-tail newer xs ys same)
+  span_from-tail (SetSpan e q n ∷ newer) xs ys same = ap (λ v. if is_same_direction e d && (nat_le 1 n && position_eq q r) then n else v) (span_from-tail newer xs ys same)
+
+  turned_calls : (e f : spans.Direction) (p q : Position) (m n : ℕ) (older : List SpanCall) → (p ≡ q → ⊥) →
+      span_from d r (SetSpan e p m ∷ SetSpan f q n ∷ older) ≡ span_from d r (SetSpan f q n ∷ SetSpan e p m ∷ older)
+  turned_calls e f p q m n older differ =
+      turned (is_same_direction e d && (nat_le 1 m && position_eq p r)) (is_same_direction f d && (nat_le 1 n && position_eq q r)) m n (span_from d r older)
+      (λ here there. differ (exact_position_eq p r (and_right (nat_le 1 m) (position_eq p r) (and_right (is_same_direction e d) (nat_le 1 m && position_eq p r) here))
+      ∙ sym (exact_position_eq q r (and_right (nat_le 1 n) (position_eq q r) (and_right (is_same_direction f d) (nat_le 1 n && position_eq q r) there)))))
+
+reversed : (before after : List SpanCall) (a b : SpanCall) → reverse (before ++ a ∷ b ∷ after) ≡ reverse after ++ b ∷ a ∷ reverse before
+reversed before after a b =
+    reverse-append before (a ∷ b ∷ after)
+    ∙ ap (λ xs. xs ++ reverse before) (reverse-append (a ∷ b ∷ []) after)
+    ∙ append_assoc (reverse after) (b ∷ a ∷ []) (reverse before)
+
+span_calls-set : (d : spans.Direction) (p : Position) (n : ℕ) → span_calls (set_span d p n) ≡ SetSpan d p n ∷ []
+span_calls-set spans.Columns p n = refl
+span_calls-set spans.Rows p n = refl
+
+padding_calls-set : (d : spans.Direction) (p : Position) (n : ℕ) → padding_calls (set_span d p n) ≡ []
+padding_calls-set spans.Columns p n = refl
+padding_calls-set spans.Rows p n = refl
+
+character_calls-set : (d : spans.Direction) (p : Position) (n : ℕ) → character_calls (set_span d p n) ≡ []
+character_calls-set spans.Columns p n = refl
+character_calls-set spans.Rows p n = refl
+
+module _ (before after : List Setting) (e f : spans.Direction) (p q : Position) (m n : ℕ) where
+  calls_around : flat_map span_calls (before ++ set_span e p m ∷ set_span f q n ∷ after) ≡ flat_map span_calls before ++ SetSpan e p m ∷ SetSpan f q n ∷ flat_map span_calls after
+  calls_around =
+      around span_calls before after (set_span e p m) (set_span f q n)
+      ∙ (λ k. flat_map span_calls before ++ (span_calls-set e p m k ++ (span_calls-set f q n k ++ flat_map span_calls after)))
+
+  pub decided_around : (d : spans.Direction) (r : Position) → spans.decided_span d r (flat_map span_calls (before ++ set_span e p m ∷ set_span f q n ∷ after))
+      ≡ span_from d r (reverse (flat_map span_calls after) ++ SetSpan f q n ∷ SetSpan e p m ∷ reverse (flat_map span_calls before))
+  decided_around d r = ap (λ calls. span_from d r (reverse calls)) calls_around ∙ ap (span_from d r) (reversed (flat_map span_calls before) (flat_map span_calls after) (SetSpan e p m) (SetSpan f q n))
+
+pub swapped_tell : (settings other : List Setting) → AreSwapped settings other → TellTheSame settings other
+swapped_tell settings other s =
+    let a = set_span s.first_way s.first_cell s.first_span in
+    let b = set_span s.second_way s.second_cell s.second_span in
+    record {
+      spans = λ d r.
+          ap (λ xs. spans.decided_span d r (flat_map span_calls xs)) s.one_order
+          ∙ decided_around s.before s.after s.first_way s.second_way s.first_cell s.second_cell s.first_span s.second_span d r
+          ∙ span_from-tail d r (reverse (flat_map span_calls s.after)) _ _
+          (sym (turned_calls d r s.first_way s.second_way s.first_cell s.second_cell s.first_span s.second_span (reverse (flat_map span_calls s.before)) s.differ))
+          ∙ sym (decided_around s.before s.after s.second_way s.first_way s.second_cell s.first_cell s.second_span s.first_span d r)
+          ∙ sym (ap (λ xs. spans.decided_span d r (flat_map span_calls xs)) s.other_order);
+      padding = λ p.
+          ap (λ calls. decided_value (all_sides no_room) calls p)
+          (ap (flat_map padding_calls) s.one_order
+          ∙ apart padding_calls s.before s.after a b (padding_calls-set s.first_way s.first_cell s.first_span) (padding_calls-set s.second_way s.second_cell s.second_span)
+          ∙ sym (ap (flat_map padding_calls) s.other_order));
+      characters =
+          ap borders_made
+          (ap (flat_map character_calls) s.one_order
+          ∙ apart character_calls s.before s.after a b (character_calls-set s.first_way s.first_cell s.first_span) (character_calls-set s.second_way s.second_cell s.second_span)
+          ∙ sym (ap (flat_map character_calls) s.other_order));
+    }

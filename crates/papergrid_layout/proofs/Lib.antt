@@ -1,0 +1,6 @@
+pub mod AnswerLemmas
+pub mod LawLemmas
+pub mod PairLemmas
+pub mod Steps
+pub mod Told
+pub mod TotalLemmas

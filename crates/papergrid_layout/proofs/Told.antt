@@ -1,0 +1,45 @@
+-- What a caller that knows its rows reads of an answer: the cells told are seen through a view, as lent cells are.
+use Rattle.std.proofs.Common.{◌≡◌, ◌∙◌, ℕ, ◌+◌, List, [], ◌∷◌, ◌++◌, length, map, refl, ap, sym, inl, inr, subst}
+use Rattle.std.proofs.lemmas.Bool.{cases_Bool}
+use Rattle.std.proofs.lemmas.List.{length-map}
+use Rattle.papergrid_axis.specs.declared.direction.Direction.{Direction}
+use Rattle.papergrid_axis.specs.declared.direction.Direction.TheVariants.{Columns, Rows}
+use Rattle.papergrid_axis.specs.Answers.{AreSizes}
+use Rattle.papergrid_layout.specs.Answers.{AreBothSizes, AreSizesOf, count_along, drawn_along}
+use Rattle.papergrid_layout.specs.Cells.{asked, asked_by, demands_of, placed_from, placed_row}
+use Rattle.papergrid_layout.specs.Looks.{Look}
+use Rattle.papergrid_layout.proofs.Steps.{asked_by-append}
+
+module _ {A B : Type 0} (look : Look) (v : A → B) (f : B → ℕ × ℕ) where
+  told_row : (direction : Direction) (r c : ℕ) (cells : List A) → asked_by direction look (λ x. f (v x)) (placed_row r c cells) ≡ asked_by direction look f (placed_row r c (map v cells))
+  told_row direction r c [] = refl
+  told_row direction r c (x ∷ cells) =
+      let rest = told_row direction r (c + 1) cells in
+      elim (cases_Bool (look.shows (record { row = r; col = c }))) [
+        | inl t ↦ rw t (ap (λ ds. asked direction look f (record { row = r; col = c }, v x) ∷ ds) rest)
+        | inr t ↦ rw t rest
+      ]
+
+  told_from : (direction : Direction) (r : ℕ) (rows : List (List A)) → asked_by direction look (λ x. f (v x)) (placed_from r rows) ≡ asked_by direction look f (placed_from r (map (map v) rows))
+  told_from direction r [] = refl
+  told_from direction r (row ∷ rows) =
+      let one = told_row direction r 0 row in
+      let rest = told_from direction (r + 1) rows in
+      asked_by-append direction look (λ x. f (v x)) (placed_row r 0 row) (placed_from (r + 1) rows)
+      ∙ (λ k. one k ++ rest k)
+      ∙ sym (asked_by-append direction look f (placed_row r 0 (map v row)) (placed_from (r + 1) (map (map v) rows)))
+
+  module _ (cells : List (List A)) (rows : List (List B)) (same : map (map v) cells ≡ rows) where
+    pub demands_told : (direction : Direction) → demands_of direction look (λ x. f (v x)) cells ≡ demands_of direction look f rows
+    demands_told direction = told_from direction 0 cells ∙ ap (demands_of direction look f) same
+
+    as_many : length cells ≡ length rows
+    as_many = sym (length-map cells (map v)) ∙ ap length same
+
+    pub sizes_told : (direction : Direction) (columns : ℕ) (sizes : List ℕ) → AreSizesOf look (λ x. f (v x)) columns cells direction sizes → AreSizesOf look f columns rows direction sizes
+    sizes_told direction columns sizes are =
+        subst (λ n. AreSizes direction (drawn_along direction look (count_along direction columns n)) (count_along direction columns n) (demands_of direction look f rows) sizes) as_many
+        (subst (λ ds. AreSizes direction (drawn_along direction look (count_along direction columns (length cells))) (count_along direction columns (length cells)) ds sizes) (demands_told direction) are)
+
+    pub both_told : (columns : ℕ) (wide high : List ℕ) → AreBothSizes look (λ x. f (v x)) columns cells wide high → AreBothSizes look f columns rows wide high
+    both_told columns wide high are = record { widths = sizes_told Columns columns wide are.widths; heights = sizes_told Rows columns high are.heights }

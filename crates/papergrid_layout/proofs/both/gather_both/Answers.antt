@@ -1,0 +1,49 @@
+use Rattle.std.proofs.Common.{arith, refl, [], ◌∷◌, ◌++◌, ◌∙◌, length-append}
+use Rattle.papergrid_text.proofs.RowSteps.{one_more_fits, zip_more}
+use Rattle.papergrid_axis.specs.declared.direction.Direction.TheVariants.{Columns, Rows}
+use Rattle.papergrid_layout.proofs.Steps.{step-row, zip_length}
+use Rattle.papergrid_layout.proofs.both.gather_both.Goals as goal
+
+pub loop-row-init : goal.loop-row-init
+loop-row-init g c =
+    let short = c.iter_rows-row-items.ensures.finite c.requires c.into_iter-row-iterator.result c.into_iter-row-iterator.ensures.into_iter_gives in
+    (short.may_start, short.ends, refl, ([], tt, c.new.ensures, c.new-2.ensures))
+
+pub visit_row_both-requires : goal.visit_row_both-requires
+visit_row_both-requires g c =
+    let rows = c.iter_rows-row-items.ensures.finite c.requires c.into_iter-row-iterator.result c.into_iter-row-iterator.ensures.into_iter_gives in
+    rows.each c.loop-row.yielded c.loop-row.row-iterator c.in-Some.row c.next.new.self c.loop-row.yielded_by c.in-Some.ensures.steps
+
+pub overflow_add-count : goal.overflow_add-count
+overflow_add-count g c =
+    let rows = c.iter_rows-row-items.ensures.finite c.requires c.into_iter-row-iterator.result c.into_iter-row-iterator.ensures.into_iter_gives in
+    let n = one_more_fits rows c.loop-row.row-iterator c.next.new.self c.loop-row.yielded c.in-Some.row c.loop-row.yielded_by c.in-Some.ensures.steps in
+    let e = c.loop-row.invariant.2 in
+    omega arith
+
+pub loop-row-preserved : goal.loop-row-preserved
+loop-row-preserved g c =
+    let goes = c.in-Some.ensures.goes.on c.loop-row.invariant.1 in
+    let same = c.loop-row.invariant.2 in
+    let n = length-append c.loop-row.yielded (c.in-Some.row ∷ []) in
+    let so_far = c.loop-row.invariant.3 in
+    let row = c.in_ok-visit_row_both.ensures in
+    let look = g.S.Settings.look c.args.settings.now in
+    let many = zip_length _ c.loop-row.yielded so_far.0 so_far.1 in (
+      goes.0,
+      goes.1,
+      omega arith,
+      (
+        so_far.0 ++ row.0 ∷ [],
+        zip_more _ c.loop-row.yielded so_far.0 c.in-Some.row row.0 so_far.1 row.1,
+        step-row Columns look g.M.Measure.measured c.loop-row.both.columns c.visit_row_both.new.both.columns c.loop-row.count so_far.0 row.0 (same ∙ many) so_far.2 row.2,
+        step-row Rows look g.M.Measure.measured c.loop-row.both.rows c.visit_row_both.new.both.rows c.loop-row.count so_far.0 row.0 (same ∙ many) so_far.3 row.3,
+      ),
+    )
+
+pub returns : goal.returns
+returns g c =
+    let same = c.loop-row.invariant.2 in
+    let so_far = c.loop-row.invariant.3 in
+    let many = zip_length _ c.loop-row.yielded so_far.0 so_far.1 in
+    (so_far.0, c.iter_rows-row-items.ensures.told so_far.0 record { rows = c.loop-row.yielded; walk = record { iterator = c.into_iter-row-iterator.result; made = c.into_iter-row-iterator.ensures.into_iter_gives; walked = (c.next.new.self, (c.loop-row.row-iterator, c.loop-row.yielded_by, c.in-None.ensures.steps)) }; each = so_far.1 }, so_far.2, so_far.3, same ∙ many)

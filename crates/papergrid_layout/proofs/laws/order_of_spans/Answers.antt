@@ -1,0 +1,14 @@
+use Rattle.std.proofs.Common.{ap}
+use Rattle.papergrid_layout.specs.Laws.{sizes_told}
+use Rattle.papergrid_layout.proofs.LawLemmas.{same_look, swapped_tell}
+use Rattle.papergrid_layout.proofs.laws.order_of_spans.Goals as goal
+
+pub returns-clause-sizes : goal.returns-clause-sizes
+returns-clause-sizes g c = λ settings other swapped x y told also direction measure n rows.
+    ap (λ look. sizes_told direction look measure n rows) (same_look settings other (swapped_tell settings other swapped) x y told also)
+
+pub returns-clause-swapped : goal.returns-clause-swapped
+returns-clause-swapped g c = swapped_tell
+
+pub returns-clause-read : goal.returns-clause-read
+returns-clause-read g c = same_look

@@ -1,0 +1,13 @@
+use Rattle.std.proofs.Common.{◌∙◌}
+use Rattle.papergrid_layout.specs.Answers.{count_along}
+use Rattle.papergrid_layout.specs.Cells.{demands_of}
+use Rattle.papergrid_layout.proofs.AnswerLemmas.{sized, unless}
+use Rattle.papergrid_layout.proofs.sizes.sizes.Goals as goal
+
+pub returns : goal.returns
+returns g c =
+    let look = g.S.Settings.look c.args.settings.now in
+    let found = c.in_ok-seen.ensures in
+    let same = c.count_of-count.ensures ∙ (λ k. count_along c.args.direction (c.count_columns-columns.ensures k) (found.3 k)) in
+    unless c.conclude.result _
+    (found.0, found.1, sized look g.M.Measure.measured _ found.0 c.args.direction c.conclude.result c.count_of-count.result same (c.conclude.ensures (demands_of c.args.direction look g.M.Measure.measured found.0) found.2))

@@ -1,0 +1,47 @@
+use Rattle.std.proofs.Common.{arith, refl, [], ◌∷◌, ◌++◌, ◌∙◌, length-append}
+use Rattle.papergrid_text.proofs.RowSteps.{one_more_fits, zip_more}
+use Rattle.papergrid_layout.proofs.Steps.{step-row, zip_length}
+use Rattle.papergrid_layout.proofs.walk.gather.Goals as goal
+
+pub loop-row-init : goal.loop-row-init
+loop-row-init g c =
+    let short = c.iter_rows-row-items.ensures.finite c.requires c.into_iter-row-iterator.result c.into_iter-row-iterator.ensures.into_iter_gives in
+    (short.may_start, short.ends, refl, ([], tt, c.new-seen.ensures))
+
+pub visit_row-requires : goal.visit_row-requires
+visit_row-requires g c =
+    let rows = c.iter_rows-row-items.ensures.finite c.requires c.into_iter-row-iterator.result c.into_iter-row-iterator.ensures.into_iter_gives in
+    rows.each c.loop-row.yielded c.loop-row.row-iterator c.in-Some.row c.next.new.self c.loop-row.yielded_by c.in-Some.ensures.steps
+
+pub overflow_add-count : goal.overflow_add-count
+overflow_add-count g c =
+    let rows = c.iter_rows-row-items.ensures.finite c.requires c.into_iter-row-iterator.result c.into_iter-row-iterator.ensures.into_iter_gives in
+    let n = one_more_fits rows c.loop-row.row-iterator c.next.new.self c.loop-row.yielded c.in-Some.row c.loop-row.yielded_by c.in-Some.ensures.steps in
+    let e = c.loop-row.invariant.2 in
+    omega arith
+
+pub loop-row-preserved : goal.loop-row-preserved
+loop-row-preserved g c =
+    let goes = c.in-Some.ensures.goes.on c.loop-row.invariant.1 in
+    let same = c.loop-row.invariant.2 in
+    let n = length-append c.loop-row.yielded (c.in-Some.row ∷ []) in
+    let so_far = c.loop-row.invariant.3 in
+    let row = c.in_ok-visit_row.ensures in
+    let many = zip_length _ c.loop-row.yielded so_far.0 so_far.1 in (
+      goes.0,
+      goes.1,
+      omega arith,
+      (
+        so_far.0 ++ row.0 ∷ [],
+        zip_more _ c.loop-row.yielded so_far.0 c.in-Some.row row.0 so_far.1 row.1,
+        step-row c.args.direction (g.S.Settings.look c.args.settings.now) g.M.Measure.measured
+            c.loop-row.seen c.visit_row.new.seen c.loop-row.count so_far.0 row.0 (same ∙ many) so_far.2 row.2,
+      ),
+    )
+
+pub returns : goal.returns
+returns g c =
+    let same = c.loop-row.invariant.2 in
+    let so_far = c.loop-row.invariant.3 in
+    let many = zip_length _ c.loop-row.yielded so_far.0 so_far.1 in
+    (so_far.0, c.iter_rows-row-items.ensures.told so_far.0 record { rows = c.loop-row.yielded; walk = record { iterator = c.into_iter-row-iterator.result; made = c.into_iter-row-iterator.ensures.into_iter_gives; walked = (c.next.new.self, (c.loop-row.row-iterator, c.loop-row.yielded_by, c.in-None.ensures.steps)) }; each = so_far.1 }, so_far.2, same ∙ many)

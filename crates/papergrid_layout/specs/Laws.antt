@@ -1,0 +1,54 @@
+-- What the laws are about.
+use Rattle.std.specs.Prelude.{◌≡◌, ◌≢◌, ℕ, List, ◌∷◌, ◌++◌}
+use Rattle.std.specs.List.{flat_map}
+use Rattle.papergrid_values.specs.declared.position.Position.{Position}
+use Rattle.papergrid_text.specs.Measured.{Measured}
+use Rattle.papergrid_text.specs.Text.{greatest_width, kept_by_new, split_lines}
+use Rattle.papergrid_axis.specs.declared.direction.Direction.{Direction}
+use Rattle.papergrid_axis.specs.Sizes.{sizes_of}
+use Rattle.papergrid_maps.specs.Spans as spans
+use Rattle.papergrid_maps.specs.Spans.{Columns, Rows}
+use Rattle.papergrid_config.specs.Decided as decided
+use Rattle.papergrid_config.specs.Made.{characters_of}
+use Rattle.papergrid_config.specs.Parts.{span_calls}
+use Rattle.papergrid_config.specs.declared.setting.Setting.{Setting}
+use Rattle.papergrid_config.specs.declared.setting.Setting.TheVariants.{SetColumnSpan, SetRowSpan}
+use Rattle.papergrid_layout.specs.Answers.{drawn_along}
+use Rattle.papergrid_layout.specs.Cells.{demands_of}
+use Rattle.papergrid_layout.specs.Looks.{Look}
+
+-- a text as `Text::new` keeps it
+abbrev pub IsNewText : {S : Type 0} → (S → List ℕ) → Measured S → Type 0
+IsNewText text t =
+    t ≡ record { text = t.text; width = greatest_width (split_lines (text t.text)); lines = kept_by_new (split_lines (text t.text)) }
+
+-- the sizes along a direction, of so many columns (rows), that told rows have
+abbrev pub sizes_told : {C : Type 0} → Direction → Look → (C → ℕ × ℕ) → ℕ → List (List C) → List ℕ
+sizes_told direction look measure n rows =
+    sizes_of direction (drawn_along direction look n) n (demands_of direction look measure rows)
+
+-- the same spans, paddings and lines
+pub record TellTheSame (settings other : List Setting) : Type 0 where
+  pub spans : (direction : spans.Direction) (p : Position) →
+      spans.decided_span direction p (flat_map span_calls settings) ≡ spans.decided_span direction p (flat_map span_calls other)
+  pub padding : (p : Position) → decided.padding settings p ≡ decided.padding other p
+  pub characters : characters_of settings ≡ characters_of other
+
+-- what sets the column span, or the row span, of a cell
+abbrev pub set_span : spans.Direction → Position → ℕ → Setting
+set_span Columns p n = SetColumnSpan p n
+set_span Rows p n = SetRowSpan p n
+
+-- two lists that set the spans of two cells in opposite orders, and otherwise the same
+pub record AreSwapped (settings other : List Setting) : Type 0 where
+  pub before : List Setting
+  pub after : List Setting
+  pub first_way : spans.Direction
+  pub second_way : spans.Direction
+  pub first_cell : Position
+  pub second_cell : Position
+  pub first_span : ℕ
+  pub second_span : ℕ
+  pub differ : first_cell ≢ second_cell
+  pub one_order : settings ≡ before ++ set_span first_way first_cell first_span ∷ set_span second_way second_cell second_span ∷ after
+  pub other_order : other ≡ before ++ set_span second_way second_cell second_span ∷ set_span first_way first_cell first_span ∷ after

@@ -1,0 +1,7 @@
+-- The definitions that the contracts cite.
+pub mod Answers
+pub mod Cells
+pub mod Laws
+pub mod Looks
+pub mod Measures
+pub mod Pairs

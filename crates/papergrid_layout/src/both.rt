@@ -1,0 +1,197 @@
+//! The walk over records for both directions, and the sizes along both.
+
+ghost use Rattle.std.specs.Prelude.{◌≡◌, ◌||◌, ◌∷◌, [], ⊤, IfOk, List, OnOk, length, nat_lt};
+ghost use Rattle.papergrid_text.specs.Records.{Gives, WalkIsShort};
+ghost use Rattle.papergrid_axis.specs.declared.demand.Demand.{Demand};
+ghost use Rattle.papergrid_axis.specs.declared.direction.Direction.TheVariants.{Columns, Rows};
+ghost use Rattle.papergrid_axis.specs.Ranges.{end_of};
+ghost use Rattle.papergrid_axis.specs.Seen.{Adds, Holds};
+ghost use Rattle.papergrid_layout.specs.Answers.{AreBothSized, UnlessMemory};
+ghost use Rattle.papergrid_layout.specs.Cells.{asked_by, demands_of, placed_row};
+ghost use Rattle.papergrid_layout.specs.Pairs.{first_of_pairs};
+
+use crate::measure::Measure;
+use crate::settings::Settings;
+use crate::sizes::Along;
+use crate::walk::{ask, measure_shown};
+use papergrid_axis::conclude::conclude;
+use papergrid_axis::finish::reaches_out;
+use papergrid_axis::{Demand, Direction, LayoutError, Seen};
+use papergrid_text::{IntoRecords, Records};
+use papergrid_values::Position;
+use std::alloc::{AllocError, Global};
+use std::iter::{IntoIterator, Iterator};
+
+/// What a walk keeps for both directions.
+#[derive(Drop)]
+pub struct Both {
+    pub columns: Seen,
+    pub rows: Seen,
+}
+
+/// Keeps what a cell asks for along both directions, where it is visible. It is measured once.
+fn visit_both<M: Measure<C>, C, S: Settings>(
+    both: &mut Both,
+    settings: &S,
+    pos: Position,
+    cell: &C,
+) -> Result<(), AllocError>
+    ensures columns { OnOk result (Adds both.old.columns both.new.columns
+        (asked_by Columns (S.look settings.now) M.measured ((pos, cell.now) ∷ []))) }
+    ensures rows { OnOk result (Adds both.old.rows both.new.rows
+        (asked_by Rows (S.look settings.now) M.measured ((pos, cell.now) ∷ []))) }
+{
+    if let Some(measure) = measure_shown::<M, C, S>(settings, pos, cell) {
+        ask(
+            &mut both.columns,
+            settings,
+            Direction::Columns,
+            pos,
+            measure,
+        )?;
+        ask(&mut both.rows, settings, Direction::Rows, pos, measure)?;
+    }
+    Ok(())
+}
+
+/// Keeps what the visible cells of a row ask for along both directions.
+fn visit_row_both<M, W: IntoIterator, S: Settings>(
+    both: &mut Both,
+    settings: &S,
+    number: usize,
+    row: W,
+) -> Result<(), AllocError>
+where
+    M: Measure<<W as IntoIterator>::Item>,
+    <W as IntoIterator>::Item: Drop,
+    requires { WalkIsShort W.into_iter_gives W.IntoIter.can_next W.IntoIter.remaining W.IntoIter.next_gives (λ _. ⊤) row }
+    ensures { OnOk result ((cells : List W.Item) × Gives W.into_iter_gives W.IntoIter.next_gives row cells
+        × Adds both.old.columns both.new.columns (asked_by Columns (S.look settings.now) M.measured (placed_row number 0 cells))
+        × Adds both.old.rows both.new.rows (asked_by Rows (S.look settings.now) M.measured (placed_row number 0 cells))) }
+{
+    let mut column = 0usize;
+    for cell in row {
+        let pos = Position {
+            row: number,
+            col: column,
+        };
+        visit_both::<M, _, S>(both, settings, pos, &cell)?;
+        column += 1;
+    }
+    Ok(())
+}
+
+/// What the visible cells of the records ask for along both directions, and the number of rows.
+fn gather_both<M, R: Records + Drop, S: Settings>(
+    alloc: Global,
+    records: R,
+    settings: &S,
+) -> Result<(Both, usize), AllocError>
+where
+    M: Measure<<<R as Records>::Iter as IntoRecords>::Cell>,
+    <<R as Records>::Iter as IntoRecords>::Cell: Drop,
+    requires { R.is_lawful records }
+    ensures { IfOk result (λ found. (cells : List (List R.Iter.Cell)) × R.tells records cells
+        × Holds found.0.columns (demands_of Columns (S.look settings.now) M.measured cells)
+        × Holds found.0.rows (demands_of Rows (S.look settings.now) M.measured cells) × (found.1 ≡ length cells)) }
+{
+    let mut both = Both {
+        columns: Seen::new(alloc),
+        rows: Seen::new(alloc),
+    };
+    let mut count = 0usize;
+    for row in records.iter_rows() {
+        visit_row_both::<M, _, S>(&mut both, settings, count, row)?;
+        count += 1;
+    }
+    Ok((both, count))
+}
+
+/// Whether a cell reaches out of the table, by its range along columns or by that along rows.
+fn is_out(columns: usize, rows: usize, wide: Demand, high: Demand) -> bool
+    ensures { result ≡ (nat_lt columns (end_of wide) || nat_lt rows (end_of high)) }
+{
+    reaches_out(columns, wide) || reaches_out(rows, high)
+}
+
+/// The position of the first cell that reaches out of the table, by its range along columns or by
+/// that along rows.
+fn find_out_of_both(
+    columns: usize,
+    rows: usize,
+    wide: &[Demand],
+    high: &[Demand],
+) -> Option<Position>
+    requires { length wide.now ≡ length high.now }
+    ensures { result ≡ first_of_pairs columns rows wide.now high.now }
+{
+    for i in 0..wide.len() {
+        if is_out(columns, rows, wide[i], high[i]) {
+            return Some(wide[i].place());
+        }
+    }
+    None
+}
+
+/// The widths and the heights that the cells ask for which were seen of a table of so many columns
+/// and rows.
+fn conclude_both<M: Measure<C>, C, S: Settings>(
+    alloc: Global,
+    columns: usize,
+    rows: usize,
+    both: &Both,
+    settings: &S,
+) -> Result<(Vec<usize>, Vec<usize>), LayoutError>
+    requires { (cells : List (List C)) × (rows ≡ length cells)
+        × Holds both.now.columns (demands_of Columns (S.look settings.now) M.measured cells)
+        × Holds both.now.rows (demands_of Rows (S.look settings.now) M.measured cells) }
+    ensures { (cells : List (List C)) → rows ≡ length cells →
+        Holds both.now.columns (demands_of Columns (S.look settings.now) M.measured cells) →
+        Holds both.now.rows (demands_of Rows (S.look settings.now) M.measured cells) →
+        AreBothSized (S.look settings.now) M.measured columns cells result }
+{
+    if let Some(pos) = find_out_of_both(columns, rows, &both.columns.demands, &both.rows.demands) {
+        return Err(LayoutError::OutOfTable(pos));
+    }
+    let across = Along {
+        settings,
+        direction: Direction::Columns,
+        count: columns,
+    };
+    let down = Along {
+        settings,
+        direction: Direction::Rows,
+        count: rows,
+    };
+    match conclude(alloc, Direction::Columns, columns, &both.columns, &across) {
+        Err(no_widths) => Err(no_widths),
+        Ok(widths) => match conclude(alloc, Direction::Rows, rows, &both.rows, &down) {
+            Err(no_heights) => Err(no_heights),
+            Ok(heights) => Ok((widths, heights)),
+        },
+    }
+}
+
+/// The widths of the columns and the heights of the rows of the records.
+///
+/// # Errors
+///
+/// `OutOfTable` with the first visible cell that reaches out along columns or rows, else `TooLarge`
+/// where the sizes along one of them come, with all lines, to more than the greatest `usize`;
+/// `Memory` in place of any answer.
+pub fn both_sizes<M, R: Records + Drop, S: Settings>(
+    alloc: Global,
+    records: R,
+    settings: &S,
+) -> Result<(Vec<usize>, Vec<usize>), LayoutError>
+where
+    M: Measure<<<R as Records>::Iter as IntoRecords>::Cell>,
+    <<R as Records>::Iter as IntoRecords>::Cell: Drop,
+    requires { R.is_lawful records }
+    ensures { UnlessMemory result ((cells : List (List R.Iter.Cell)) × R.tells records cells
+        × AreBothSized (S.look settings.now) M.measured (R.columns records) cells result) }
+{
+    let columns = records.count_columns();
+    let (both, rows) = gather_both::<M, R, S>(alloc, records, settings)?;
+    conclude_both::<M, _, S>(alloc, columns, rows, &both, settings)
+}

@@ -1,0 +1,151 @@
+//! The sizes of records whose cells are all visible, alike and in one row and column each. Source:
+//! `dimension/compact.rs`.
+
+ghost use Rattle.std.specs.Prelude.{◌≡◌, [], List};
+ghost use Rattle.papergrid_axis.specs.declared.direction.Direction.TheVariants.{Columns, Rows};
+ghost use Rattle.papergrid_layout.specs.Answers.{AreBothSized, IsSized, UnlessMemory};
+ghost use Rattle.papergrid_layout.specs.Looks.{compact_look};
+ghost use Rattle.papergrid_layout.specs.Measures.{std_line_measure};
+
+use crate::both::both_sizes;
+use crate::dimension::{Dimension, Estimate};
+use crate::measure::ByStdLines;
+use crate::size_list::SizeList;
+use crate::sizes::sizes;
+use papergrid_axis::{Direction, LayoutError};
+use papergrid_config::CompactConfig;
+use papergrid_text::{IntoRecords, Records};
+use std::alloc::Global;
+use std::convert::AsStr;
+
+/// Widths of columns. A cell is as wide as the widest of std's lines of its text, and as high as there
+/// are lines between newlines. No lines of a table are counted.
+#[derive(Clone, Debug, PartialEq, Drop)]
+pub struct CompactGridDimension {
+    alloc: Global,
+    widths: SizeList,
+}
+
+impl CompactGridDimension {
+    /// No sizes. It takes no memory.
+    pub fn new(alloc: Global) -> CompactGridDimension
+        ensures { result.widths ≡ [] }
+    {
+        CompactGridDimension {
+            alloc,
+            widths: SizeList::new(alloc),
+        }
+    }
+
+    /// The widths of the columns of the records, in columns of a terminal.
+    ///
+    /// # Errors
+    ///
+    /// `OutOfTable` with the first cell past the last column, else `TooLarge` where the widths come to
+    /// more than the greatest `usize`; `Memory` in place of any answer.
+    pub fn width<R: Records + Drop>(
+        alloc: Global,
+        records: R,
+        config: &CompactConfig,
+    ) -> Result<Vec<usize>, LayoutError>
+    where
+        <<R as Records>::Iter as IntoRecords>::Cell: AsStr + Drop,
+        requires { R.is_lawful records }
+        ensures { UnlessMemory result ((cells : List (List R.Iter.Cell)) × R.tells records cells
+            × IsSized (compact_look config.now) (std_line_measure R.Iter.Cell.text) (R.columns records) cells Columns result) }
+    {
+        sizes::<ByStdLines, R, CompactConfig>(alloc, records, config, Direction::Columns)
+    }
+
+    /// The heights of the rows of the records, in lines.
+    ///
+    /// # Errors
+    ///
+    /// `TooLarge` where the heights come to more than the greatest `usize`; `Memory` in place of any
+    /// answer.
+    pub fn height<R: Records + Drop>(
+        alloc: Global,
+        records: R,
+        config: &CompactConfig,
+    ) -> Result<Vec<usize>, LayoutError>
+    where
+        <<R as Records>::Iter as IntoRecords>::Cell: AsStr + Drop,
+        requires { R.is_lawful records }
+        ensures { UnlessMemory result ((cells : List (List R.Iter.Cell)) × R.tells records cells
+            × IsSized (compact_look config.now) (std_line_measure R.Iter.Cell.text) (R.columns records) cells Rows result) }
+    {
+        sizes::<ByStdLines, R, CompactConfig>(alloc, records, config, Direction::Rows)
+    }
+
+    /// The widths of the columns and the heights of the rows of the records.
+    ///
+    /// # Errors
+    ///
+    /// `OutOfTable` with the first cell past the last column, else `TooLarge` where the widths, or the
+    /// heights, come to more than the greatest `usize`; `Memory` in place of any answer.
+    pub fn dimension<R: Records + Drop>(
+        alloc: Global,
+        records: R,
+        config: &CompactConfig,
+    ) -> Result<(Vec<usize>, Vec<usize>), LayoutError>
+    where
+        <<R as Records>::Iter as IntoRecords>::Cell: AsStr + Drop,
+        requires { R.is_lawful records }
+        ensures { UnlessMemory result ((cells : List (List R.Iter.Cell)) × R.tells records cells
+            × AreBothSized (compact_look config.now) (std_line_measure R.Iter.Cell.text) (R.columns records) cells result) }
+    {
+        both_sizes::<ByStdLines, R, CompactConfig>(alloc, records, config)
+    }
+}
+
+// Each row is taken for one line high.
+impl Dimension for CompactGridDimension {
+    ghost use Rattle.std.specs.Prelude.{◌<◌, ⊤, length, slice_index};
+
+    ghost has_column = { λ d column. column < length d.widths };
+
+    ghost has_row = { λ _ _. ⊤ };
+
+    ghost width_of = { λ d column. slice_index d.widths column };
+
+    ghost height_of = { λ _ _. 1 };
+
+    fn get_width(&self, column: usize) -> usize {
+        self.widths.get(column)
+    }
+
+    fn get_height(&self, _row: usize) -> usize {
+        let _dimension = self;
+        1
+    }
+}
+
+// Columns alone are looked at.
+impl<R: Records + Drop> Estimate<R, CompactConfig> for CompactGridDimension
+where
+    <<R as Records>::Iter as IntoRecords>::Cell: AsStr + Drop,
+{
+    ghost use Rattle.std.specs.Prelude.{List};
+    ghost use Rattle.papergrid_axis.specs.declared.direction.Direction.TheVariants.{Columns};
+    ghost use Rattle.papergrid_layout.specs.Answers.{AreSizesOf, IsRefusedFor, UnlessWant};
+    ghost use Rattle.papergrid_layout.specs.Looks.{compact_look};
+    ghost use Rattle.papergrid_layout.specs.Measures.{std_line_measure};
+
+    ghost accepts = { R.is_lawful };
+
+    ghost is_estimate = { λ d records config. (cells : List (List R.Iter.Cell)) × R.tells records cells
+        × AreSizesOf (compact_look config) (std_line_measure R.Iter.Cell.text) (R.columns records) cells Columns d.widths };
+
+    ghost is_refused = { λ _ records config error. UnlessWant error ((cells : List (List R.Iter.Cell)) × R.tells records cells
+        × IsRefusedFor (compact_look config) (std_line_measure R.Iter.Cell.text) (R.columns records) cells Columns error) };
+
+    fn estimate(&mut self, records: R, config: &CompactConfig) -> Result<(), LayoutError> {
+        match CompactGridDimension::width(self.alloc, records, config) {
+            Ok(widths) => {
+                self.widths = SizeList::of(widths);
+                Ok(())
+            }
+            Err(refused) => Err(refused),
+        }
+    }
+}

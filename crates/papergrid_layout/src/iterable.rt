@@ -1,0 +1,195 @@
+//! The sizes of records whose cells are texts. Source: `dimension/iterable.rs`.
+
+ghost use Rattle.std.specs.Prelude.{◌≡◌, ◌<◌, ◌^◌, [], List, length, sum};
+ghost use Rattle.papergrid_axis.specs.declared.direction.Direction.TheVariants.{Columns, Rows};
+ghost use Rattle.papergrid_layout.specs.Answers.{IsSized, IsTotalled, UnlessMemory};
+ghost use Rattle.papergrid_layout.specs.Looks.{spanned_look};
+ghost use Rattle.papergrid_layout.specs.Measures.{line_measure};
+
+use crate::both::both_sizes;
+use crate::dimension::{Dimension, Estimate};
+use crate::measure::ByLines;
+use crate::size_list::SizeList;
+use crate::sizes::sizes;
+use papergrid_axis::{Direction, LayoutError};
+use papergrid_config::SpannedConfig;
+use papergrid_text::{IntoRecords, Records};
+use std::alloc::Global;
+use std::convert::AsStr;
+
+/// Widths of columns and heights of rows. A cell is as wide as the widest of its lines between
+/// newlines, and as high as there are lines.
+#[derive(Clone, Debug, PartialEq, Drop)]
+pub struct IterGridDimension {
+    alloc: Global,
+    widths: SizeList,
+    heights: SizeList,
+}
+
+impl IterGridDimension {
+    /// No sizes. It takes no memory.
+    pub fn new(alloc: Global) -> IterGridDimension
+        ensures widths { result.widths ≡ [] }
+        ensures heights { result.heights ≡ [] }
+    {
+        IterGridDimension {
+            alloc,
+            widths: SizeList::new(alloc),
+            heights: SizeList::new(alloc),
+        }
+    }
+
+    /// The widths of the columns of the records, in columns of a terminal.
+    ///
+    /// # Errors
+    ///
+    /// `OutOfTable` with the first visible cell that reaches out along columns, else `TooLarge` where
+    /// the widths and the vertical lines come to more than the greatest `usize`; `Memory` in place of
+    /// any answer.
+    pub fn width<R: Records + Drop>(
+        alloc: Global,
+        records: R,
+        config: &SpannedConfig,
+    ) -> Result<Vec<usize>, LayoutError>
+    where
+        <<R as Records>::Iter as IntoRecords>::Cell: AsStr + Drop,
+        requires { R.is_lawful records }
+        ensures { UnlessMemory result ((cells : List (List R.Iter.Cell)) × R.tells records cells
+            × IsSized (spanned_look config.now) (line_measure R.Iter.Cell.text) (R.columns records) cells Columns result) }
+    {
+        sizes::<ByLines, R, SpannedConfig>(alloc, records, config, Direction::Columns)
+    }
+
+    /// The heights of the rows of the records, in lines.
+    ///
+    /// # Errors
+    ///
+    /// As those of `width`, along rows and with the horizontal lines.
+    pub fn height<R: Records + Drop>(
+        alloc: Global,
+        records: R,
+        config: &SpannedConfig,
+    ) -> Result<Vec<usize>, LayoutError>
+    where
+        <<R as Records>::Iter as IntoRecords>::Cell: AsStr + Drop,
+        requires { R.is_lawful records }
+        ensures { UnlessMemory result ((cells : List (List R.Iter.Cell)) × R.tells records cells
+            × IsSized (spanned_look config.now) (line_measure R.Iter.Cell.text) (R.columns records) cells Rows result) }
+    {
+        sizes::<ByLines, R, SpannedConfig>(alloc, records, config, Direction::Rows)
+    }
+
+    /// The width of the records' table: the sum of the widths and of the vertical lines.
+    ///
+    /// # Errors
+    ///
+    /// As those of `width`.
+    pub fn width_total<R: Records + Drop>(
+        alloc: Global,
+        records: R,
+        config: &SpannedConfig,
+    ) -> Result<usize, LayoutError>
+    where
+        <<R as Records>::Iter as IntoRecords>::Cell: AsStr + Drop,
+        requires { R.is_lawful records }
+        ensures { UnlessMemory result ((cells : List (List R.Iter.Cell)) × R.tells records cells
+            × IsTotalled (spanned_look config.now) (line_measure R.Iter.Cell.text) (R.columns records) cells Columns result) }
+    {
+        match IterGridDimension::width(alloc, records, config) {
+            Ok(widths) => Ok(sum_of(&widths) + config.count_vertical(widths.len())),
+            Err(error) => Err(error),
+        }
+    }
+
+    /// The height of the records' table: the sum of the heights and of the horizontal lines.
+    ///
+    /// # Errors
+    ///
+    /// As those of `height`.
+    pub fn height_total<R: Records + Drop>(
+        alloc: Global,
+        records: R,
+        config: &SpannedConfig,
+    ) -> Result<usize, LayoutError>
+    where
+        <<R as Records>::Iter as IntoRecords>::Cell: AsStr + Drop,
+        requires { R.is_lawful records }
+        ensures { UnlessMemory result ((cells : List (List R.Iter.Cell)) × R.tells records cells
+            × IsTotalled (spanned_look config.now) (line_measure R.Iter.Cell.text) (R.columns records) cells Rows result) }
+    {
+        match IterGridDimension::height(alloc, records, config) {
+            Ok(heights) => Ok(sum_of(&heights) + config.count_horizontal(heights.len())),
+            Err(error) => Err(error),
+        }
+    }
+
+    /// The widths and the heights.
+    pub fn get_values(self) -> (Vec<usize>, Vec<usize>)
+        ensures widths { result.0.items ≡ self.widths }
+        ensures heights { result.1.items ≡ self.heights }
+    {
+        let IterGridDimension {
+            alloc: _,
+            widths,
+            heights,
+        } = self;
+        (widths.into_vec(), heights.into_vec())
+    }
+}
+
+/// The sum of the sizes.
+fn sum_of(sizes: &[usize]) -> usize
+    requires { sum sizes.now < 2 ^ 64 }
+    ensures { result ≡ sum sizes.now }
+{
+    sizes.iter().sum()
+}
+
+impl Dimension for IterGridDimension {
+    ghost use Rattle.std.specs.Prelude.{◌<◌, length, slice_index};
+
+    ghost has_column = { λ d column. column < length d.widths };
+
+    ghost has_row = { λ d row. row < length d.heights };
+
+    ghost width_of = { λ d column. slice_index d.widths column };
+
+    ghost height_of = { λ d row. slice_index d.heights row };
+
+    fn get_width(&self, column: usize) -> usize {
+        self.widths.get(column)
+    }
+
+    fn get_height(&self, row: usize) -> usize {
+        self.heights.get(row)
+    }
+}
+
+impl<R: Records + Drop> Estimate<R, SpannedConfig> for IterGridDimension
+where
+    <<R as Records>::Iter as IntoRecords>::Cell: AsStr + Drop,
+{
+    ghost use Rattle.std.specs.Prelude.{List};
+    ghost use Rattle.papergrid_layout.specs.Answers.{AreBothSizes, IsBothRefused, UnlessWant};
+    ghost use Rattle.papergrid_layout.specs.Looks.{spanned_look};
+    ghost use Rattle.papergrid_layout.specs.Measures.{line_measure};
+
+    ghost accepts = { R.is_lawful };
+
+    ghost is_estimate = { λ d records config. (cells : List (List R.Iter.Cell)) × R.tells records cells
+        × AreBothSizes (spanned_look config) (line_measure R.Iter.Cell.text) (R.columns records) cells d.widths d.heights };
+
+    ghost is_refused = { λ d records config error. UnlessWant error ((cells : List (List R.Iter.Cell)) × R.tells records cells
+        × IsBothRefused (spanned_look config) (line_measure R.Iter.Cell.text) (R.columns records) cells error) };
+
+    fn estimate(&mut self, records: R, config: &SpannedConfig) -> Result<(), LayoutError> {
+        match both_sizes::<ByLines, R, SpannedConfig>(self.alloc, records, config) {
+            Ok((widths, heights)) => {
+                self.widths = SizeList::of(widths);
+                self.heights = SizeList::of(heights);
+                Ok(())
+            }
+            Err(refused) => Err(refused),
+        }
+    }
+}

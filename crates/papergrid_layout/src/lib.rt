@@ -1,0 +1,23 @@
+//! Widths of columns and heights of rows, of records by a configuration.
+#![tactic(auto)]
+
+mod both;
+pub mod compact;
+pub mod dimension;
+pub mod iterable;
+pub mod laws;
+mod measure;
+pub mod peekable;
+mod settings;
+mod size_list;
+mod sizes;
+mod walk;
+
+pub use compact::CompactGridDimension;
+pub use dimension::{Dimension, Estimate};
+pub use iterable::IterGridDimension;
+pub use papergrid_axis::LayoutError;
+pub use peekable::PeekableGridDimension;
+
+#[cfg(test)]
+mod tests;

@@ -1,0 +1,162 @@
+//! The sizes of records whose cells know their width and their lines. Source: `dimension/peekable.rs`.
+
+ghost use Rattle.std.specs.Prelude.{◌≡◌, [], List, length};
+ghost use Rattle.papergrid_axis.specs.declared.direction.Direction.TheVariants.{Columns, Rows};
+ghost use Rattle.papergrid_layout.specs.Answers.{AreBothSized, IsSized, UnlessMemory};
+ghost use Rattle.papergrid_layout.specs.Looks.{spanned_look};
+ghost use Rattle.papergrid_layout.specs.Measures.{cell_measure};
+
+use crate::both::both_sizes;
+use crate::dimension::{Dimension, Estimate};
+use crate::measure::ByCell;
+use crate::size_list::SizeList;
+use crate::sizes::sizes;
+use papergrid_axis::{Direction, LayoutError};
+use papergrid_config::SpannedConfig;
+use papergrid_text::{Cell, IntoRecords, Records};
+use std::alloc::Global;
+
+/// Widths of columns and heights of rows. A cell is as wide as it says, and as high as it has lines.
+#[derive(Clone, Debug, PartialEq, Drop)]
+pub struct PeekableGridDimension {
+    alloc: Global,
+    widths: SizeList,
+    heights: SizeList,
+}
+
+impl PeekableGridDimension {
+    /// No sizes. It takes no memory.
+    pub fn new(alloc: Global) -> PeekableGridDimension
+        ensures widths { result.widths ≡ [] }
+        ensures heights { result.heights ≡ [] }
+    {
+        PeekableGridDimension {
+            alloc,
+            widths: SizeList::new(alloc),
+            heights: SizeList::new(alloc),
+        }
+    }
+
+    /// The widths of the columns of the records, in columns of a terminal.
+    ///
+    /// # Errors
+    ///
+    /// `OutOfTable` with the first visible cell that reaches out along columns, else `TooLarge` where
+    /// the widths and the vertical lines come to more than the greatest `usize`; `Memory` in place of
+    /// any answer.
+    pub fn width<R: Records + Drop>(
+        alloc: Global,
+        records: R,
+        config: &SpannedConfig,
+    ) -> Result<Vec<usize>, LayoutError>
+    where
+        <<R as Records>::Iter as IntoRecords>::Cell: Cell + Drop,
+        requires { R.is_lawful records }
+        ensures { UnlessMemory result ((cells : List (List R.Iter.Cell)) × R.tells records cells
+            × IsSized (spanned_look config.now) (cell_measure R.Iter.Cell.width R.Iter.Cell.lines) (R.columns records) cells Columns result) }
+    {
+        sizes::<ByCell, R, SpannedConfig>(alloc, records, config, Direction::Columns)
+    }
+
+    /// The heights of the rows of the records, in lines.
+    ///
+    /// # Errors
+    ///
+    /// As those of `width`, along rows and with the horizontal lines.
+    pub fn height<R: Records + Drop>(
+        alloc: Global,
+        records: R,
+        config: &SpannedConfig,
+    ) -> Result<Vec<usize>, LayoutError>
+    where
+        <<R as Records>::Iter as IntoRecords>::Cell: Cell + Drop,
+        requires { R.is_lawful records }
+        ensures { UnlessMemory result ((cells : List (List R.Iter.Cell)) × R.tells records cells
+            × IsSized (spanned_look config.now) (cell_measure R.Iter.Cell.width R.Iter.Cell.lines) (R.columns records) cells Rows result) }
+    {
+        sizes::<ByCell, R, SpannedConfig>(alloc, records, config, Direction::Rows)
+    }
+
+    /// The widths of the columns and the heights of the rows of the records.
+    ///
+    /// # Errors
+    ///
+    /// `OutOfTable` with the first visible cell that reaches out along columns or rows, else `TooLarge`
+    /// where the sizes along one of them come, with all lines, to more than the greatest `usize`;
+    /// `Memory` in place of any answer.
+    pub fn dimension<R: Records + Drop>(
+        alloc: Global,
+        records: R,
+        config: &SpannedConfig,
+    ) -> Result<(Vec<usize>, Vec<usize>), LayoutError>
+    where
+        <<R as Records>::Iter as IntoRecords>::Cell: Cell + Drop,
+        requires { R.is_lawful records }
+        ensures { UnlessMemory result ((cells : List (List R.Iter.Cell)) × R.tells records cells
+            × AreBothSized (spanned_look config.now) (cell_measure R.Iter.Cell.width R.Iter.Cell.lines) (R.columns records) cells result) }
+    {
+        both_sizes::<ByCell, R, SpannedConfig>(alloc, records, config)
+    }
+
+    /// The widths and the heights.
+    pub fn get_values(self) -> (Vec<usize>, Vec<usize>)
+        ensures widths { result.0.items ≡ self.widths }
+        ensures heights { result.1.items ≡ self.heights }
+    {
+        let PeekableGridDimension {
+            alloc: _,
+            widths,
+            heights,
+        } = self;
+        (widths.into_vec(), heights.into_vec())
+    }
+}
+
+impl Dimension for PeekableGridDimension {
+    ghost use Rattle.std.specs.Prelude.{◌<◌, length, slice_index};
+
+    ghost has_column = { λ d column. column < length d.widths };
+
+    ghost has_row = { λ d row. row < length d.heights };
+
+    ghost width_of = { λ d column. slice_index d.widths column };
+
+    ghost height_of = { λ d row. slice_index d.heights row };
+
+    fn get_width(&self, column: usize) -> usize {
+        self.widths.get(column)
+    }
+
+    fn get_height(&self, row: usize) -> usize {
+        self.heights.get(row)
+    }
+}
+
+impl<R: Records + Drop> Estimate<R, SpannedConfig> for PeekableGridDimension
+where
+    <<R as Records>::Iter as IntoRecords>::Cell: Cell + Drop,
+{
+    ghost use Rattle.std.specs.Prelude.{List};
+    ghost use Rattle.papergrid_layout.specs.Answers.{AreBothSizes, IsBothRefused, UnlessWant};
+    ghost use Rattle.papergrid_layout.specs.Looks.{spanned_look};
+    ghost use Rattle.papergrid_layout.specs.Measures.{cell_measure};
+
+    ghost accepts = { R.is_lawful };
+
+    ghost is_estimate = { λ d records config. (cells : List (List R.Iter.Cell)) × R.tells records cells
+        × AreBothSizes (spanned_look config) (cell_measure R.Iter.Cell.width R.Iter.Cell.lines) (R.columns records) cells d.widths d.heights };
+
+    ghost is_refused = { λ d records config error. UnlessWant error ((cells : List (List R.Iter.Cell)) × R.tells records cells
+        × IsBothRefused (spanned_look config) (cell_measure R.Iter.Cell.width R.Iter.Cell.lines) (R.columns records) cells error) };
+
+    fn estimate(&mut self, records: R, config: &SpannedConfig) -> Result<(), LayoutError> {
+        match both_sizes::<ByCell, R, SpannedConfig>(self.alloc, records, config) {
+            Ok((widths, heights)) => {
+                self.widths = SizeList::of(widths);
+                self.heights = SizeList::of(heights);
+                Ok(())
+            }
+            Err(refused) => Err(refused),
+        }
+    }
+}

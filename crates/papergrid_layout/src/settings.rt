@@ -1,0 +1,117 @@
+//! What a walk reads of a configuration.
+
+ghost use Rattle.std.specs.Prelude.{◌≡◌, ◌≤◌};
+ghost use Rattle.papergrid_layout.specs.Looks.{Look, compact_look, size_after, size_before, spanned_look};
+
+use papergrid_axis::Direction;
+use papergrid_config::{CompactConfig, SpannedConfig};
+use papergrid_values::{Indent, Position, Sides};
+
+/// The visible positions, the spans, the paddings and the lines.
+pub trait Settings {
+    // What the settings say.
+    ghost look: { Self → Look };
+
+    /// Whether the cell at a position is visible.
+    fn is_visible(&self, pos: Position) -> bool
+        ensures { result ≡ (look self.now).shows pos };
+
+    /// How many columns (rows) the cell at a position spans.
+    fn span(&self, direction: Direction, pos: Position) -> usize
+        ensures value { result ≡ (look self.now).span direction pos }
+        ensures positive { 1 ≤ result };
+
+    /// The padding left of the text of the cell at a position (above it).
+    fn padding_before(&self, direction: Direction, pos: Position) -> usize
+        ensures { result ≡ (look self.now).before direction pos };
+
+    /// The padding right of the text (below it).
+    fn padding_after(&self, direction: Direction, pos: Position) -> usize
+        ensures { result ≡ (look self.now).after direction pos };
+
+    /// Whether there is a line before column (row) `i` of so many, or, at their count, after the last.
+    fn has_line(&self, direction: Direction, count: usize, i: usize) -> bool
+        ensures { result ≡ (look self.now).draws direction count i };
+}
+
+/// The padding left of a text (above it).
+fn before(direction: Direction, padding: &Sides<Indent>) -> usize
+    ensures { result ≡ size_before direction padding.now }
+{
+    match direction {
+        Direction::Columns => padding.left.size,
+        Direction::Rows => padding.top.size,
+    }
+}
+
+/// The padding right of a text (below it).
+fn after(direction: Direction, padding: &Sides<Indent>) -> usize
+    ensures { result ≡ size_after direction padding.now }
+{
+    match direction {
+        Direction::Columns => padding.right.size,
+        Direction::Rows => padding.bottom.size,
+    }
+}
+
+impl Settings for SpannedConfig {
+    ghost look = { spanned_look };
+
+    // Each visible position is looked for in all spans.
+    fn is_visible(&self, pos: Position) -> bool {
+        self.is_cell_visible(pos)
+    }
+
+    fn span(&self, direction: Direction, pos: Position) -> usize {
+        let held = match direction {
+            Direction::Columns => self.get_column_span(pos),
+            Direction::Rows => self.get_row_span(pos),
+        };
+        match held {
+            Some(span) => span,
+            None => 1,
+        }
+    }
+
+    fn padding_before(&self, direction: Direction, pos: Position) -> usize {
+        before(direction, self.get_padding(pos))
+    }
+
+    fn padding_after(&self, direction: Direction, pos: Position) -> usize {
+        after(direction, self.get_padding(pos))
+    }
+
+    fn has_line(&self, direction: Direction, count: usize, i: usize) -> bool {
+        match direction {
+            Direction::Columns => self.has_vertical(i, count),
+            Direction::Rows => self.has_horizontal(i, count),
+        }
+    }
+}
+
+impl Settings for CompactConfig {
+    ghost look = { compact_look };
+
+    fn is_visible(&self, _pos: Position) -> bool {
+        let _config = self;
+        true
+    }
+
+    fn span(&self, _direction: Direction, _pos: Position) -> usize {
+        let _config = self;
+        1
+    }
+
+    fn padding_before(&self, direction: Direction, _pos: Position) -> usize {
+        before(direction, self.get_padding())
+    }
+
+    fn padding_after(&self, direction: Direction, _pos: Position) -> usize {
+        after(direction, self.get_padding())
+    }
+
+    fn has_line(&self, _direction: Direction, _count: usize, _i: usize) -> bool {
+        let _config = self;
+        false
+    }
+}

@@ -1,0 +1,75 @@
+//! The sizes that a dimension keeps along a direction.
+
+ghost use Rattle.std.specs.Prelude.{◌≡◌, ◌<◌, ◌^◌, [], length, slice_index, sum};
+
+use std::alloc::{AllocError, Global};
+use std::marker::Model;
+
+/// A size for each column (row).
+#[derive(Debug, Drop)]
+pub struct SizeList {
+    sizes: Vec<usize>,
+}
+
+impl Model for SizeList {
+    ghost use Rattle.std.specs.Prelude.{List, ℕ};
+
+    ghost Value = { List ℕ };
+
+    ghost view = { λ s. s.sizes.items };
+}
+
+impl SizeList {
+    /// No sizes. It takes no memory.
+    pub fn new(alloc: Global) -> SizeList
+        ensures { result ≡ [] }
+    {
+        SizeList {
+            sizes: Vec::new(alloc),
+        }
+    }
+
+    pub fn of(sizes: Vec<usize>) -> SizeList
+        ensures { result ≡ sizes.items }
+    {
+        SizeList { sizes }
+    }
+
+    pub fn get(&self, index: usize) -> usize
+        requires { index < length self.now }
+        ensures { result ≡ slice_index self.now index }
+    {
+        self.sizes[index]
+    }
+
+    pub fn into_vec(self) -> Vec<usize>
+        ensures { result.items ≡ self }
+    {
+        let SizeList { sizes } = self;
+        sizes
+    }
+}
+
+impl Clone for SizeList {
+    ghost is_clone = { λ x y. y ≡ x };
+
+    fn clone(&self) -> Result<SizeList, AllocError> {
+        Ok(SizeList {
+            sizes: self.sizes.clone()?,
+        })
+    }
+}
+
+impl PartialEq for SizeList {
+    ghost use Rattle.std.specs.Prelude.{nat_eq};
+    ghost use Rattle.std.specs.Cmp.{nat_eq_equiv, partial_equiv_from_equiv};
+    ghost use Rattle.std.specs.Cmp.Lexicographic.{lists_per, pointwise};
+
+    ghost eq = { pointwise nat_eq };
+
+    ghost laws = { lists_per (partial_equiv_from_equiv nat_eq_equiv) };
+
+    fn eq(&self, other: &SizeList) -> bool {
+        self.sizes == other.sizes
+    }
+}

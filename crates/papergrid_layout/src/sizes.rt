@@ -1,0 +1,77 @@
+//! The sizes along one direction.
+
+ghost use Rattle.std.specs.Prelude.{◌≡◌, ◌≤◌, List, length};
+ghost use Rattle.papergrid_axis.specs.Answers.{IsExact};
+ghost use Rattle.papergrid_axis.specs.Ranges.{lines_to};
+ghost use Rattle.papergrid_layout.specs.Answers.{IsSized, UnlessMemory, count_along};
+
+use crate::measure::Measure;
+use crate::settings::Settings;
+use crate::walk::gather;
+use papergrid_axis::conclude::conclude;
+use papergrid_axis::{Axis, Direction, LayoutError};
+use papergrid_text::{IntoRecords, Records};
+use papergrid_values::Position;
+use std::alloc::Global;
+
+/// Settings along one direction of a table with so many columns (rows).
+#[derive(Clone, Copy)]
+pub struct Along<'a, S> {
+    pub settings: &'a S,
+    pub direction: Direction,
+    pub count: usize,
+}
+
+impl<'a, S: Settings> Axis for Along<'a, S> {
+    ghost span_of = { λ s p. (S.look s.settings.now).span s.direction p };
+
+    ghost line = { λ s i. (S.look s.settings.now).draws s.direction s.count i };
+
+    fn span(&self, position: Position) -> usize {
+        self.settings.span(self.direction, position)
+    }
+
+    fn has_line(&self, i: usize) -> bool {
+        self.settings.has_line(self.direction, self.count, i)
+    }
+}
+
+/// The number of columns, or of rows.
+fn count_of(direction: Direction, columns: usize, rows: usize) -> usize
+    ensures { result ≡ count_along direction columns rows }
+{
+    match direction {
+        Direction::Columns => columns,
+        Direction::Rows => rows,
+    }
+}
+
+/// The sizes of the records along a direction.
+///
+/// # Errors
+///
+/// `OutOfTable` with the first visible cell that reaches out, else `TooLarge` where the sizes with
+/// all lines come to more than the greatest `usize`; `Memory` in place of any answer.
+pub fn sizes<M, R: Records + Drop, S: Settings>(
+    alloc: Global,
+    records: R,
+    settings: &S,
+    direction: Direction,
+) -> Result<Vec<usize>, LayoutError>
+where
+    M: Measure<<<R as Records>::Iter as IntoRecords>::Cell>,
+    <<R as Records>::Iter as IntoRecords>::Cell: Drop,
+    requires { R.is_lawful records }
+    ensures { UnlessMemory result ((cells : List (List R.Iter.Cell)) × R.tells records cells
+        × IsSized (S.look settings.now) M.measured (R.columns records) cells direction result) }
+{
+    let columns = records.count_columns();
+    let (seen, rows) = gather::<M, R, S>(alloc, records, settings, direction)?;
+    let count = count_of(direction, columns, rows);
+    let axis = Along {
+        settings,
+        direction,
+        count,
+    };
+    conclude(alloc, direction, count, &seen, &axis)
+}

@@ -1,0 +1,124 @@
+//! The walk over records, for one direction.
+
+ghost use Rattle.std.specs.Prelude.{◌≡◌, ◌∷◌, [], ⊤, if◌then◌else◌, IfOk, List, None, OnOk, Some, length};
+ghost use Rattle.papergrid_text.specs.Records.{Gives, WalkIsShort};
+ghost use Rattle.papergrid_axis.specs.Seen.{Adds, Holds};
+ghost use Rattle.papergrid_layout.specs.Cells.{asked, asked_by, demands_of, placed_row, side};
+
+use crate::measure::Measure;
+use crate::settings::Settings;
+use papergrid_axis::seen::keep;
+use papergrid_axis::{Direction, Seen};
+use papergrid_text::{IntoRecords, Records};
+use papergrid_values::Position;
+use std::alloc::{AllocError, Global};
+use std::iter::{IntoIterator, Iterator};
+
+/// The width, or the height, of a measure.
+fn side_of(direction: Direction, measure: (usize, usize)) -> usize
+    ensures { result ≡ side direction measure }
+{
+    match direction {
+        Direction::Columns => measure.0,
+        Direction::Rows => measure.1,
+    }
+}
+
+/// The measure of a cell, if it is visible.
+pub fn measure_shown<M: Measure<C>, C, S: Settings>(
+    settings: &S,
+    pos: Position,
+    cell: &C,
+) -> Option<(usize, usize)>
+    ensures { result ≡ (if (S.look settings.now).shows pos then Some (M.measured cell.now) else None) }
+{
+    if settings.is_visible(pos) {
+        Some(M::measure(cell))
+    } else {
+        None
+    }
+}
+
+/// Keeps what the visible cell at a position asks for along a direction.
+pub fn ask<S: Settings>(
+    seen: &mut Seen,
+    settings: &S,
+    direction: Direction,
+    pos: Position,
+    measure: (usize, usize),
+) -> Result<(), AllocError>
+    ensures { OnOk result (Adds seen.old seen.new (asked direction (S.look settings.now) (λ _. measure) (pos, measure) ∷ [])) }
+{
+    let need = side_of(direction, measure);
+    let span = settings.span(direction, pos);
+    let before = settings.padding_before(direction, pos);
+    let after = settings.padding_after(direction, pos);
+    keep(seen, direction, pos, span, need, before, after)
+}
+
+/// Keeps what a cell asks for, where it is visible.
+fn visit<M: Measure<C>, C, S: Settings>(
+    seen: &mut Seen,
+    settings: &S,
+    direction: Direction,
+    pos: Position,
+    cell: &C,
+) -> Result<(), AllocError>
+    ensures { OnOk result (Adds seen.old seen.new
+        (asked_by direction (S.look settings.now) M.measured ((pos, cell.now) ∷ []))) }
+{
+    match measure_shown::<M, C, S>(settings, pos, cell) {
+        Some(measure) => ask(seen, settings, direction, pos, measure),
+        None => Ok(()),
+    }
+}
+
+/// Keeps what the visible cells of a row ask for.
+fn visit_row<M, W: IntoIterator, S: Settings>(
+    seen: &mut Seen,
+    settings: &S,
+    direction: Direction,
+    number: usize,
+    row: W,
+) -> Result<(), AllocError>
+where
+    M: Measure<<W as IntoIterator>::Item>,
+    <W as IntoIterator>::Item: Drop,
+    requires { WalkIsShort W.into_iter_gives W.IntoIter.can_next W.IntoIter.remaining W.IntoIter.next_gives (λ _. ⊤) row }
+    ensures { OnOk result ((cells : List W.Item) × Gives W.into_iter_gives W.IntoIter.next_gives row cells
+        × Adds seen.old seen.new (asked_by direction (S.look settings.now) M.measured (placed_row number 0 cells))) }
+{
+    let mut column = 0usize;
+    for cell in row {
+        let pos = Position {
+            row: number,
+            col: column,
+        };
+        visit::<M, _, S>(seen, settings, direction, pos, &cell)?;
+        column += 1;
+    }
+    Ok(())
+}
+
+/// What the visible cells of the records ask for along one direction, and the number of rows.
+pub fn gather<M, R: Records + Drop, S: Settings>(
+    alloc: Global,
+    records: R,
+    settings: &S,
+    direction: Direction,
+) -> Result<(Seen, usize), AllocError>
+where
+    M: Measure<<<R as Records>::Iter as IntoRecords>::Cell>,
+    <<R as Records>::Iter as IntoRecords>::Cell: Drop,
+    requires { R.is_lawful records }
+    ensures { IfOk result (λ found. (cells : List (List R.Iter.Cell)) × R.tells records cells
+        × Holds found.0 (demands_of direction (S.look settings.now) M.measured cells) × (found.1 ≡ length cells)) }
+{
+    let mut seen = Seen::new(alloc);
+    let mut count = 0usize;
+    for row in records.iter_rows() {
+        visit_row::<M, _, S>(&mut seen, settings, direction, count, row)?;
+        count += 1;
+    }
+    Ok((seen, count))
+}
