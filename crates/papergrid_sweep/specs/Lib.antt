@@ -1,0 +1,3 @@
+pub mod Levels
+pub mod Hidden
+pub mod Anchors
