@@ -1,6 +1,7 @@
 -- What the anchors hide is what the spans do not leave visible.
-use Rattle.std.proofs.Common.{arith, sym, subst, inl, inr, ◌≢◌, ◌↔◌, IsTrue, ℕ, List}
-use Rattle.std.proofs.lemmas.Bool.{cases_lt}
+use Rattle.std.proofs.Common.{arith, refl, sym, subst, inl, inr, ◌≡◌, ◌≢◌, ◌↔◌, IsTrue, ℕ, List, Bool, true, false}
+use Rattle.std.specs.Prelude.{not}
+use Rattle.std.proofs.lemmas.Bool.{cases_lt, false≢true, false_from_ne_true}
 use Rattle.papergrid_values.specs.declared.position.Position.{Position}
 use Rattle.papergrid_sweep.specs.declared.anchor.Anchor.{Anchor}
 use Rattle.papergrid_sweep.specs.Hidden.{IsHidden}
@@ -59,3 +60,11 @@ test-by-hidden spans anchors p are =
     let tested = visible_test spans p in
     let shown = visible-by-hidden (column_span spans) (row_span spans) anchors p are in
     (λ t. shown.0 (tested.0 t), λ h. tested.1 (shown.1 h))
+
+-- the test of visibility is the contrary of what the walk answers
+pub visible-answer : (spans : Spans) (anchors : List Anchor) (p : Position) (hidden : Bool) → AreAnchors (column_span spans) (row_span spans) anchors
+    → (IsTrue hidden ↔ IsHidden anchors p) → not hidden ≡ is_visible spans p
+visible-answer spans anchors p true are h =
+    sym (false_from_ne_true _ (λ t. (test-by-hidden spans anchors p are).0 t (h.0 refl)))
+visible-answer spans anchors p false are h =
+    sym ((test-by-hidden spans anchors p are).1 (λ hidden. false≢true (h.1 hidden)))

@@ -3,11 +3,13 @@
 #![tactic(auto)]
 
 pub mod anchor;
+pub mod build;
 pub mod laws;
 mod levels;
 pub mod sweep;
 
 pub use anchor::Anchor;
+pub use build::anchors_of;
 pub use sweep::Sweep;
 
 #[cfg(test)]

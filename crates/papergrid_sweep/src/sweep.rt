@@ -2,6 +2,8 @@
 
 ghost use Rattle.std.specs.Prelude.{◌≡◌, ℕ, ◌+◌, ◌-◌, ◌^◌, ◌<◌, ◌≤◌, ◌↔◌, IsTrue, IfOk, OnOk, OnErr, Some, length, slice_get, vec_len};
 ghost use Rattle.papergrid_values.specs.declared.position.Position.{Position};
+ghost use Rattle.papergrid_maps.specs.Spans.{Spans, column_span, is_visible, row_span};
+ghost use Rattle.papergrid_sweep.specs.Anchors.{AreAnchors};
 ghost use Rattle.papergrid_sweep.specs.declared.anchor.Anchor.{Anchor};
 ghost use Rattle.papergrid_sweep.specs.Levels.{Fits, end_at};
 ghost use Rattle.papergrid_sweep.specs.Hidden.{AllBefore, Holds, IsAhead, IsBefore, IsHidden, IsSorted, IsSwept, cut, end_with, least};
@@ -85,6 +87,20 @@ impl Sweep {
             position,
         );
         position.row < self.levels.end_at(position.col)
+    }
+
+    /// Whether the position lies in no rectangle of another anchor, as the spans whose anchors
+    /// these are say it. Positions are asked for as by `is_hidden`.
+    pub fn is_visible(&mut self, position: Position) -> bool
+        requires ahead { IsAhead self.old position }
+        requires row_in { position.row < 2 ^ 64 - 1 }
+        requires col_in { position.col < self.old.columns }
+        ensures visible { (spans : Spans) → AreAnchors (column_span spans) (row_span spans) self.old.anchors → result ≡ is_visible spans position }
+        ensures later { (q : Position) → IsBefore position q → IsAhead self.new q }
+        ensures anchors { self.new.anchors ≡ self.old.anchors }
+        ensures columns { self.new.columns ≡ self.old.columns }
+    {
+        !self.is_hidden(position)
     }
 }
 

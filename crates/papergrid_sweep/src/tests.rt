@@ -5,8 +5,10 @@ ghost use Rattle.papergrid_values.specs.declared.position.Position.{Position};
 ghost use Rattle.papergrid_sweep.specs.Hidden.{IsAhead, IsSorted};
 
 use crate::anchor::{Anchor, are_sorted};
+use crate::build::anchors_of;
 use crate::laws::visible_where_not_hidden;
 use crate::sweep::Sweep;
+use papergrid_maps::SpanTable;
 use papergrid_values::Position;
 use std::alloc::{AllocError, Global};
 use std::test::Fail;
@@ -168,5 +170,30 @@ fn anchors_out_of_order(rt: HostRuntime) -> Result<(), Fail> {
     assert!(rt; !are_sorted(&[anchor(0, 1, 2, 2), anchor(0, 1, 3, 3)]));
     assert!(rt; !are_sorted(&[anchor(1, 0, 2, 2), anchor(0, 9, 2, 2)]));
     assert!(rt; are_sorted(&[anchor(0, 9, 2, 2), anchor(1, 0, 2, 2)]));
+    Ok(())
+}
+
+// A span of one is not held, and one of both directions has one anchor.
+#[test]
+fn anchors_of_a_table(rt: HostRuntime) -> Result<(), Fail> {
+    let alloc = rt.alloc();
+    let mut spans = SpanTable::new(alloc);
+    spans.set_column(at(2, 0), 3)?;
+    spans.set_row(at(0, 5), 4)?;
+    spans.set_column(at(0, 2), 1)?;
+    spans.set_row(at(1, 0), MAX)?;
+    spans.set_column(at(0, 5), 2)?;
+    let columns = spans.columns()?;
+    let rows = spans.rows()?;
+    let anchors = vec![in alloc;
+        anchor(0, 5, 4, 2),
+        anchor(1, 0, MAX, 1),
+        anchor(2, 0, 1, 3),
+    ]?;
+    assert_eq!(rt; anchors_of(alloc, &columns, &rows)?, anchors);
+    let mut walk = Sweep::new(alloc, anchors_of(alloc, &columns, &rows)?, 7)?;
+    let pos = at(0, 6);
+    assert_eq!(rt; walk.is_visible(pos), spans.is_visible(pos));
+    assert!(rt; walk.columns() == 7);
     Ok(())
 }
