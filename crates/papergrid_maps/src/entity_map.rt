@@ -13,7 +13,7 @@ ghost use Rattle.papergrid_maps.specs.MapCalls.{decided_value};
 ghost use Rattle.papergrid_maps.specs.MapHeld.{IsTold, Appends, HasNothing, Holds, held_for, held_value, in_cells, in_columns, in_rows};
 ghost use Rattle.papergrid_maps.specs.declared.entity_map.MapCall.{MapCall};
 
-use crate::hashed::{put, take};
+use crate::hashed::{look_up, put, take};
 use papergrid_values::{Entity, Position};
 use std::alloc::{AllocError, Global};
 use std::collections::HashMap;
@@ -86,13 +86,13 @@ impl<T> EntityMap<T> {
         ensures held { result.now ≡ held_value self.now pos }
         ensures decided { (given : T) (calls : List (MapCall T)) → IsTold given calls self.now → result.now ≡ decided_value given calls pos }
     {
-        if let Some(value) = self.cells.get(&pos) {
+        if let Some(value) = look_up(&self.cells, pos) {
             return value;
         }
-        if let Some(value) = self.columns.get(&pos.col) {
+        if let Some(value) = look_up(&self.columns, pos.col) {
             return value;
         }
-        if let Some(value) = self.rows.get(&pos.row) {
+        if let Some(value) = look_up(&self.rows, pos.row) {
             return value;
         }
         &self.global

@@ -1,11 +1,18 @@
 //! Single steps on hashed maps, told by what each key has.
 
-ghost use Rattle.std.specs.Prelude.{◌≡◌, ◌+◌, ◌<◌, ◌≤◌, Some, None, OnOk, OnErr};
-ghost use Rattle.std.specs.HashMap.{spare, IsUnchanged, Updates};
+ghost use Rattle.std.specs.Prelude.{◌≡◌, ◌+◌, ◌<◌, ◌≤◌, Some, None, OnOk, OnErr, option_copied};
+ghost use Rattle.std.specs.HashMap.{spare, IsUnchanged, Updates, get as map_get};
 
 use std::alloc::AllocError;
 use std::collections::HashMap;
 use std::hash::Hash;
+
+/// What a key has. Where the map is empty, as most are, no hash is made.
+pub(crate) fn look_up<K: Eq + Hash + Copy, T>(map: &HashMap<K, T>, key: K) -> Option<&T>
+    ensures value { option_copied result ≡ map_get K.eq map.now key }
+{
+    if map.is_empty() { None } else { map.get(&key) }
+}
 
 /// Writes a value where there is room, so that memory cannot be refused.
 pub(crate) fn put<K: Eq + Hash + Drop, T: Drop>(map: &mut HashMap<K, T>, key: K, value: T)

@@ -9,7 +9,7 @@ ghost use Rattle.papergrid_maps.specs.Keys.{position_eq};
 ghost use Rattle.papergrid_maps.specs.Spans.{IsTold, Appends, HasSpan, IsVisible, IsCoveredByColumn, IsCoveredByRow, IsCoveredByBoth, SetSpan, RemoveSpans, Columns, Rows, column_span, row_span, is_visible};
 ghost use Rattle.papergrid_maps.specs.SpanScan.{AreFromTwo, reaches_right, reaches_below, reaches_into, span_set};
 
-use crate::hashed::{take, write};
+use crate::hashed::{look_up, take, write};
 use papergrid_values::Position;
 use std::alloc::{AllocError, Global};
 use std::collections::HashMap;
@@ -75,7 +75,7 @@ impl SpanTable {
         ensures held { result ≡ value_at self.now.columns pos }
         ensures from_two { IfSome result (λ n. 2 ≤ n) }
     {
-        self.columns.get(&pos).copied()
+        look_up(&self.columns, pos).copied()
     }
 
     /// The row span held at a position, of 2 or more.
@@ -83,7 +83,7 @@ impl SpanTable {
         ensures held { result ≡ value_at self.now.rows pos }
         ensures from_two { IfSome result (λ n. 2 ≤ n) }
     {
-        self.rows.get(&pos).copied()
+        look_up(&self.rows, pos).copied()
     }
 
     /// Removes all column spans.
