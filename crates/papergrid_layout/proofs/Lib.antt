@@ -1,6 +1,7 @@
 pub mod AnswerLemmas
 pub mod LawLemmas
 pub mod PairLemmas
+pub mod ShownLemmas
 pub mod Steps
 pub mod Told
 pub mod TotalLemmas

@@ -1,6 +1,6 @@
 //! The walk over records for both directions, and the sizes along both.
 
-ghost use Rattle.std.specs.Prelude.{◌≡◌, ◌||◌, ◌∷◌, [], ⊤, IfOk, List, OnOk, length, nat_lt};
+ghost use Rattle.std.specs.Prelude.{◌≡◌, ◌+◌, ◌-◌, ◌<◌, ◌^◌, ◌||◌, ◌∷◌, [], ⊤, IfOk, List, OnOk, length, nat_lt};
 ghost use Rattle.papergrid_text.specs.Records.{Gives, WalkIsShort};
 ghost use Rattle.papergrid_axis.specs.declared.demand.Demand.{Demand};
 ghost use Rattle.papergrid_axis.specs.declared.direction.Direction.TheVariants.{Columns, Rows};
@@ -9,14 +9,17 @@ ghost use Rattle.papergrid_axis.specs.Seen.{Adds, Holds};
 ghost use Rattle.papergrid_layout.specs.Answers.{AreBothSized, UnlessMemory};
 ghost use Rattle.papergrid_layout.specs.Cells.{asked_by, demands_of, placed_row};
 ghost use Rattle.papergrid_layout.specs.Pairs.{first_of_pairs};
+ghost use Rattle.papergrid_layout.specs.Shown.{Shows};
 
 use crate::measure::Measure;
 use crate::settings::Settings;
+use crate::shown::shown;
 use crate::sizes::Along;
 use crate::walk::{ask, measure_shown};
 use papergrid_axis::conclude::conclude;
 use papergrid_axis::finish::reaches_out;
 use papergrid_axis::{Demand, Direction, LayoutError, Seen};
+use papergrid_sweep::Sweep;
 use papergrid_text::{IntoRecords, Records};
 use papergrid_values::Position;
 use std::alloc::{AllocError, Global};
@@ -31,17 +34,23 @@ pub struct Both {
 
 /// Keeps what a cell asks for along both directions, where it is visible. It is measured once.
 fn visit_both<M: Measure<C>, C, S: Settings>(
+    alloc: Global,
     both: &mut Both,
+    walk: &mut Sweep,
     settings: &S,
     pos: Position,
     cell: &C,
 ) -> Result<(), AllocError>
+    requires asked { Shows (S.look settings.now).shows walk.old pos.row pos.col }
+    requires row_in { pos.row < 2 ^ 64 - 1 }
+    requires col_in { pos.col < 2 ^ 64 - 1 }
     ensures columns { OnOk result (Adds both.old.columns both.new.columns
         (asked_by Columns (S.look settings.now) M.measured ((pos, cell.now) ∷ []))) }
     ensures rows { OnOk result (Adds both.old.rows both.new.rows
         (asked_by Rows (S.look settings.now) M.measured ((pos, cell.now) ∷ []))) }
+    ensures later { OnOk result (Shows (S.look settings.now).shows walk.new pos.row (pos.col + 1)) }
 {
-    if let Some(measure) = measure_shown::<M, C, S>(settings, pos, cell) {
+    if let Some(measure) = measure_shown::<M, C, S>(alloc, walk, settings, pos, cell)? {
         ask(
             &mut both.columns,
             settings,
@@ -56,7 +65,9 @@ fn visit_both<M: Measure<C>, C, S: Settings>(
 
 /// Keeps what the visible cells of a row ask for along both directions.
 fn visit_row_both<M, W: IntoIterator, S: Settings>(
+    alloc: Global,
     both: &mut Both,
+    walk: &mut Sweep,
     settings: &S,
     number: usize,
     row: W,
@@ -64,10 +75,13 @@ fn visit_row_both<M, W: IntoIterator, S: Settings>(
 where
     M: Measure<<W as IntoIterator>::Item>,
     <W as IntoIterator>::Item: Drop,
-    requires { WalkIsShort W.into_iter_gives W.IntoIter.can_next W.IntoIter.remaining W.IntoIter.next_gives (λ _. ⊤) row }
-    ensures { OnOk result ((cells : List W.Item) × Gives W.into_iter_gives W.IntoIter.next_gives row cells
+    requires short { WalkIsShort W.into_iter_gives W.IntoIter.can_next W.IntoIter.remaining W.IntoIter.next_gives (λ _. ⊤) row }
+    requires asked { Shows (S.look settings.now).shows walk.old number 0 }
+    requires row_in { number < 2 ^ 64 - 1 }
+    ensures adds { OnOk result ((cells : List W.Item) × Gives W.into_iter_gives W.IntoIter.next_gives row cells
         × Adds both.old.columns both.new.columns (asked_by Columns (S.look settings.now) M.measured (placed_row number 0 cells))
         × Adds both.old.rows both.new.rows (asked_by Rows (S.look settings.now) M.measured (placed_row number 0 cells))) }
+    ensures later { OnOk result (Shows (S.look settings.now).shows walk.new (number + 1) 0) }
 {
     let mut column = 0usize;
     for cell in row {
@@ -75,7 +89,7 @@ where
             row: number,
             col: column,
         };
-        visit_both::<M, _, S>(both, settings, pos, &cell)?;
+        visit_both::<M, _, S>(alloc, both, walk, settings, pos, &cell)?;
         column += 1;
     }
     Ok(())
@@ -99,9 +113,10 @@ where
         columns: Seen::new(alloc),
         rows: Seen::new(alloc),
     };
+    let mut walk = shown(alloc, settings)?;
     let mut count = 0usize;
     for row in records.iter_rows() {
-        visit_row_both::<M, _, S>(&mut both, settings, count, row)?;
+        visit_row_both::<M, _, S>(alloc, &mut both, &mut walk, settings, count, row)?;
         count += 1;
     }
     Ok((both, count))

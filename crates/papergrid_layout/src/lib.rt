@@ -9,6 +9,7 @@ pub mod laws;
 mod measure;
 pub mod peekable;
 mod settings;
+mod shown;
 mod size_list;
 mod sizes;
 mod walk;

@@ -1,11 +1,15 @@
 //! What a walk reads of a configuration.
 
-ghost use Rattle.std.specs.Prelude.{◌≡◌, ◌≤◌};
+ghost use Rattle.std.specs.Prelude.{◌≡◌, ◌≤◌, IfOk};
 ghost use Rattle.papergrid_layout.specs.Looks.{Look, compact_look, size_after, size_before, spanned_look};
+ghost use Rattle.papergrid_layout.specs.Shown.{AreAnchorsOf};
+ghost use Rattle.papergrid_sweep.specs.Hidden.{IsSorted};
 
 use papergrid_axis::Direction;
 use papergrid_config::{CompactConfig, SpannedConfig};
+use papergrid_sweep::{Anchor, anchors_of};
 use papergrid_values::{Indent, Position, Sides};
+use std::alloc::{AllocError, Global};
 
 /// The visible positions, the spans, the paddings and the lines.
 pub trait Settings {
@@ -15,6 +19,11 @@ pub trait Settings {
     /// Whether the cell at a position is visible.
     fn is_visible(&self, pos: Position) -> bool
         ensures { result ≡ (look self.now).shows pos };
+
+    /// What hides cells: the anchors of all spans, by row and then by column.
+    fn anchors(&self, alloc: Global) -> Result<Vec<Anchor>, AllocError>
+        ensures sorted { IfOk result (λ anchors. IsSorted anchors.items) }
+        ensures shows { IfOk result (λ anchors. AreAnchorsOf (look self.now).shows anchors.items) };
 
     /// How many columns (rows) the cell at a position spans.
     fn span(&self, direction: Direction, pos: Position) -> usize
@@ -62,6 +71,12 @@ impl Settings for SpannedConfig {
         self.is_cell_visible(pos)
     }
 
+    fn anchors(&self, alloc: Global) -> Result<Vec<Anchor>, AllocError> {
+        let columns = self.get_column_spans()?;
+        let rows = self.get_row_spans()?;
+        anchors_of(alloc, &columns, &rows)
+    }
+
     fn span(&self, direction: Direction, pos: Position) -> usize {
         let held = match direction {
             Direction::Columns => self.get_column_span(pos),
@@ -95,6 +110,11 @@ impl Settings for CompactConfig {
     fn is_visible(&self, _pos: Position) -> bool {
         let _config = self;
         true
+    }
+
+    fn anchors(&self, alloc: Global) -> Result<Vec<Anchor>, AllocError> {
+        let _config = self;
+        Ok(Vec::new(alloc))
     }
 
     fn span(&self, _direction: Direction, _pos: Position) -> usize {

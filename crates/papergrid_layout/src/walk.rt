@@ -1,14 +1,17 @@
 //! The walk over records, for one direction.
 
-ghost use Rattle.std.specs.Prelude.{◌≡◌, ◌∷◌, [], ⊤, if◌then◌else◌, IfOk, List, None, OnOk, Some, length};
+ghost use Rattle.std.specs.Prelude.{◌≡◌, ◌+◌, ◌-◌, ◌<◌, ◌^◌, ◌∷◌, [], ⊤, if◌then◌else◌, IfOk, List, None, OnOk, Some, length};
 ghost use Rattle.papergrid_text.specs.Records.{Gives, WalkIsShort};
 ghost use Rattle.papergrid_axis.specs.Seen.{Adds, Holds};
 ghost use Rattle.papergrid_layout.specs.Cells.{asked, asked_by, demands_of, placed_row, side};
+ghost use Rattle.papergrid_layout.specs.Shown.{Shows};
 
 use crate::measure::Measure;
 use crate::settings::Settings;
+use crate::shown::{is_shown, shown};
 use papergrid_axis::seen::keep;
 use papergrid_axis::{Direction, Seen};
+use papergrid_sweep::Sweep;
 use papergrid_text::{IntoRecords, Records};
 use papergrid_values::Position;
 use std::alloc::{AllocError, Global};
@@ -26,16 +29,22 @@ fn side_of(direction: Direction, measure: (usize, usize)) -> usize
 
 /// The measure of a cell, if it is visible.
 pub fn measure_shown<M: Measure<C>, C, S: Settings>(
+    alloc: Global,
+    walk: &mut Sweep,
     settings: &S,
     pos: Position,
     cell: &C,
-) -> Option<(usize, usize)>
-    ensures { result ≡ (if (S.look settings.now).shows pos then Some (M.measured cell.now) else None) }
+) -> Result<Option<(usize, usize)>, AllocError>
+    requires asked { Shows (S.look settings.now).shows walk.old pos.row pos.col }
+    requires row_in { pos.row < 2 ^ 64 - 1 }
+    requires col_in { pos.col < 2 ^ 64 - 1 }
+    ensures measure { IfOk result (λ measure. measure ≡ (if (S.look settings.now).shows pos then Some (M.measured cell.now) else None)) }
+    ensures later { IfOk result (λ _. Shows (S.look settings.now).shows walk.new pos.row (pos.col + 1)) }
 {
-    if settings.is_visible(pos) {
-        Some(M::measure(cell))
+    if is_shown(walk, alloc, pos)? {
+        Ok(Some(M::measure(cell)))
     } else {
-        None
+        Ok(None)
     }
 }
 
@@ -58,16 +67,22 @@ pub fn ask<S: Settings>(
 
 /// Keeps what a cell asks for, where it is visible.
 fn visit<M: Measure<C>, C, S: Settings>(
+    alloc: Global,
     seen: &mut Seen,
+    walk: &mut Sweep,
     settings: &S,
     direction: Direction,
     pos: Position,
     cell: &C,
 ) -> Result<(), AllocError>
-    ensures { OnOk result (Adds seen.old seen.new
+    requires asked { Shows (S.look settings.now).shows walk.old pos.row pos.col }
+    requires row_in { pos.row < 2 ^ 64 - 1 }
+    requires col_in { pos.col < 2 ^ 64 - 1 }
+    ensures adds { OnOk result (Adds seen.old seen.new
         (asked_by direction (S.look settings.now) M.measured ((pos, cell.now) ∷ []))) }
+    ensures later { OnOk result (Shows (S.look settings.now).shows walk.new pos.row (pos.col + 1)) }
 {
-    match measure_shown::<M, C, S>(settings, pos, cell) {
+    match measure_shown::<M, C, S>(alloc, walk, settings, pos, cell)? {
         Some(measure) => ask(seen, settings, direction, pos, measure),
         None => Ok(()),
     }
@@ -75,7 +90,9 @@ fn visit<M: Measure<C>, C, S: Settings>(
 
 /// Keeps what the visible cells of a row ask for.
 fn visit_row<M, W: IntoIterator, S: Settings>(
+    alloc: Global,
     seen: &mut Seen,
+    walk: &mut Sweep,
     settings: &S,
     direction: Direction,
     number: usize,
@@ -84,9 +101,12 @@ fn visit_row<M, W: IntoIterator, S: Settings>(
 where
     M: Measure<<W as IntoIterator>::Item>,
     <W as IntoIterator>::Item: Drop,
-    requires { WalkIsShort W.into_iter_gives W.IntoIter.can_next W.IntoIter.remaining W.IntoIter.next_gives (λ _. ⊤) row }
-    ensures { OnOk result ((cells : List W.Item) × Gives W.into_iter_gives W.IntoIter.next_gives row cells
+    requires short { WalkIsShort W.into_iter_gives W.IntoIter.can_next W.IntoIter.remaining W.IntoIter.next_gives (λ _. ⊤) row }
+    requires asked { Shows (S.look settings.now).shows walk.old number 0 }
+    requires row_in { number < 2 ^ 64 - 1 }
+    ensures adds { OnOk result ((cells : List W.Item) × Gives W.into_iter_gives W.IntoIter.next_gives row cells
         × Adds seen.old seen.new (asked_by direction (S.look settings.now) M.measured (placed_row number 0 cells))) }
+    ensures later { OnOk result (Shows (S.look settings.now).shows walk.new (number + 1) 0) }
 {
     let mut column = 0usize;
     for cell in row {
@@ -94,7 +114,7 @@ where
             row: number,
             col: column,
         };
-        visit::<M, _, S>(seen, settings, direction, pos, &cell)?;
+        visit::<M, _, S>(alloc, seen, walk, settings, direction, pos, &cell)?;
         column += 1;
     }
     Ok(())
@@ -115,9 +135,10 @@ where
         × Holds found.0 (demands_of direction (S.look settings.now) M.measured cells) × (found.1 ≡ length cells)) }
 {
     let mut seen = Seen::new(alloc);
+    let mut walk = shown(alloc, settings)?;
     let mut count = 0usize;
     for row in records.iter_rows() {
-        visit_row::<M, _, S>(&mut seen, settings, direction, count, row)?;
+        visit_row::<M, _, S>(alloc, &mut seen, &mut walk, settings, direction, count, row)?;
         count += 1;
     }
     Ok((seen, count))

@@ -49,6 +49,13 @@ impl Sweep {
         })
     }
 
+    /// The anchors, by row and then by column.
+    pub fn anchors(&self) -> &[Anchor]
+        ensures { result.now ≡ self.now.anchors }
+    {
+        self.anchors.as_slice()
+    }
+
     /// How many columns the table has.
     pub fn columns(&self) -> usize
         ensures { result ≡ self.now.columns }

@@ -7,12 +7,19 @@ use Rattle.papergrid_layout.proofs.both.gather_both.Goals as goal
 pub loop-row-init : goal.loop-row-init
 loop-row-init g c =
     let short = c.iter_rows-row-items.ensures.finite c.requires c.into_iter-row-iterator.result c.into_iter-row-iterator.ensures.into_iter_gives in
-    (short.may_start, short.ends, refl, ([], tt, c.new.ensures, c.new-2.ensures))
+    (short.may_start, short.ends, refl, c.in_ok-walk.ensures, ([], tt, c.new.ensures, c.new-2.ensures))
 
-pub visit_row_both-requires : goal.visit_row_both-requires
-visit_row_both-requires g c =
+pub visit_row_both-requires-clause-short : goal.visit_row_both-requires-clause-short
+visit_row_both-requires-clause-short g c =
     let rows = c.iter_rows-row-items.ensures.finite c.requires c.into_iter-row-iterator.result c.into_iter-row-iterator.ensures.into_iter_gives in
     rows.each c.loop-row.yielded c.loop-row.row-iterator c.in-Some.row c.next.new.self c.loop-row.yielded_by c.in-Some.ensures.steps
+
+pub visit_row_both-requires-clause-row_in : goal.visit_row_both-requires-clause-row_in
+visit_row_both-requires-clause-row_in g c =
+    let rows = c.iter_rows-row-items.ensures.finite c.requires c.into_iter-row-iterator.result c.into_iter-row-iterator.ensures.into_iter_gives in
+    let n = one_more_fits rows c.loop-row.row-iterator c.next.new.self c.loop-row.yielded c.in-Some.row c.loop-row.yielded_by c.in-Some.ensures.steps in
+    let e = c.loop-row.invariant.2 in
+    omega arith
 
 pub overflow_add-count : goal.overflow_add-count
 overflow_add-count g c =
@@ -26,13 +33,14 @@ loop-row-preserved g c =
     let goes = c.in-Some.ensures.goes.on c.loop-row.invariant.1 in
     let same = c.loop-row.invariant.2 in
     let n = length-append c.loop-row.yielded (c.in-Some.row ∷ []) in
-    let so_far = c.loop-row.invariant.3 in
-    let row = c.in_ok-visit_row_both.ensures in
+    let so_far = c.loop-row.invariant.4 in
+    let row = c.in_ok-visit_row_both.ensures.adds in
     let look = g.S.Settings.look c.args.settings.now in
     let many = zip_length _ c.loop-row.yielded so_far.0 so_far.1 in (
       goes.0,
       goes.1,
       omega arith,
+      c.in_ok-visit_row_both.ensures.later,
       (
         so_far.0 ++ row.0 ∷ [],
         zip_more _ c.loop-row.yielded so_far.0 c.in-Some.row row.0 so_far.1 row.1,
@@ -44,6 +52,6 @@ loop-row-preserved g c =
 pub returns : goal.returns
 returns g c =
     let same = c.loop-row.invariant.2 in
-    let so_far = c.loop-row.invariant.3 in
+    let so_far = c.loop-row.invariant.4 in
     let many = zip_length _ c.loop-row.yielded so_far.0 so_far.1 in
     (so_far.0, c.iter_rows-row-items.ensures.told so_far.0 record { rows = c.loop-row.yielded; walk = record { iterator = c.into_iter-row-iterator.result; made = c.into_iter-row-iterator.ensures.into_iter_gives; walked = (c.next.new.self, (c.loop-row.row-iterator, c.loop-row.yielded_by, c.in-None.ensures.steps)) }; each = so_far.1 }, so_far.2, so_far.3, same ∙ many)

@@ -4,6 +4,7 @@ use Rattle.papergrid_text.specs.Records.{Gives}
 use Rattle.papergrid_axis.specs.declared.direction.Direction.TheVariants.{Columns, Rows}
 use Rattle.papergrid_axis.specs.Seen.{Holds}
 use Rattle.papergrid_layout.specs.Cells.{demands_of}
+use Rattle.papergrid_layout.specs.Shown.{Shows}
 use Rattle.papergrid_layout.proofs.both.gather_both.Given as goal
 
 abbrev pub invariant-loop-row : goal.invariant-loop-row
@@ -11,6 +12,7 @@ invariant-loop-row g l =
     (goal.iterator-loop-row g).can_next l.row-iterator ×
     (goal.iterator-loop-row g).is_finite l.row-iterator ×
     (l.count ≡ length l.yielded) ×
+    Shows (g.S.Settings.look l.settings).shows l.walk l.count 0 ×
     ((cells : _) × AllZip (Gives g.R.Iter.IterColumns.IntoIterator.into_iter_gives g.R.Iter.IterColumns.IntoIter.Iterator.next_gives) l.yielded cells
     × Holds l.both.columns (demands_of Columns (g.S.Settings.look l.settings) g.M.Measure.measured cells)
     × Holds l.both.rows (demands_of Rows (g.S.Settings.look l.settings) g.M.Measure.measured cells))

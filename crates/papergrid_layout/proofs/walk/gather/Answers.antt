@@ -6,12 +6,19 @@ use Rattle.papergrid_layout.proofs.walk.gather.Goals as goal
 pub loop-row-init : goal.loop-row-init
 loop-row-init g c =
     let short = c.iter_rows-row-items.ensures.finite c.requires c.into_iter-row-iterator.result c.into_iter-row-iterator.ensures.into_iter_gives in
-    (short.may_start, short.ends, refl, ([], tt, c.new-seen.ensures))
+    (short.may_start, short.ends, refl, c.in_ok-walk.ensures, ([], tt, c.new-seen.ensures))
 
-pub visit_row-requires : goal.visit_row-requires
-visit_row-requires g c =
+pub visit_row-requires-clause-short : goal.visit_row-requires-clause-short
+visit_row-requires-clause-short g c =
     let rows = c.iter_rows-row-items.ensures.finite c.requires c.into_iter-row-iterator.result c.into_iter-row-iterator.ensures.into_iter_gives in
     rows.each c.loop-row.yielded c.loop-row.row-iterator c.in-Some.row c.next.new.self c.loop-row.yielded_by c.in-Some.ensures.steps
+
+pub visit_row-requires-clause-row_in : goal.visit_row-requires-clause-row_in
+visit_row-requires-clause-row_in g c =
+    let rows = c.iter_rows-row-items.ensures.finite c.requires c.into_iter-row-iterator.result c.into_iter-row-iterator.ensures.into_iter_gives in
+    let n = one_more_fits rows c.loop-row.row-iterator c.next.new.self c.loop-row.yielded c.in-Some.row c.loop-row.yielded_by c.in-Some.ensures.steps in
+    let e = c.loop-row.invariant.2 in
+    omega arith
 
 pub overflow_add-count : goal.overflow_add-count
 overflow_add-count g c =
@@ -25,12 +32,13 @@ loop-row-preserved g c =
     let goes = c.in-Some.ensures.goes.on c.loop-row.invariant.1 in
     let same = c.loop-row.invariant.2 in
     let n = length-append c.loop-row.yielded (c.in-Some.row ∷ []) in
-    let so_far = c.loop-row.invariant.3 in
-    let row = c.in_ok-visit_row.ensures in
+    let so_far = c.loop-row.invariant.4 in
+    let row = c.in_ok-visit_row.ensures.adds in
     let many = zip_length _ c.loop-row.yielded so_far.0 so_far.1 in (
       goes.0,
       goes.1,
       omega arith,
+      c.in_ok-visit_row.ensures.later,
       (
         so_far.0 ++ row.0 ∷ [],
         zip_more _ c.loop-row.yielded so_far.0 c.in-Some.row row.0 so_far.1 row.1,
@@ -42,6 +50,6 @@ loop-row-preserved g c =
 pub returns : goal.returns
 returns g c =
     let same = c.loop-row.invariant.2 in
-    let so_far = c.loop-row.invariant.3 in
+    let so_far = c.loop-row.invariant.4 in
     let many = zip_length _ c.loop-row.yielded so_far.0 so_far.1 in
     (so_far.0, c.iter_rows-row-items.ensures.told so_far.0 record { rows = c.loop-row.yielded; walk = record { iterator = c.into_iter-row-iterator.result; made = c.into_iter-row-iterator.ensures.into_iter_gives; walked = (c.next.new.self, (c.loop-row.row-iterator, c.loop-row.yielded_by, c.in-None.ensures.steps)) }; each = so_far.1 }, so_far.2, same ∙ many)

@@ -3,6 +3,7 @@ use Rattle.std.specs.List.{AllZip}
 use Rattle.papergrid_text.specs.Records.{Gives}
 use Rattle.papergrid_axis.specs.Seen.{Holds}
 use Rattle.papergrid_layout.specs.Cells.{demands_of}
+use Rattle.papergrid_layout.specs.Shown.{Shows}
 use Rattle.papergrid_layout.proofs.walk.gather.Given as goal
 
 abbrev pub invariant-loop-row : goal.invariant-loop-row
@@ -10,5 +11,6 @@ invariant-loop-row g l =
     (goal.iterator-loop-row g).can_next l.row-iterator ×
     (goal.iterator-loop-row g).is_finite l.row-iterator ×
     (l.count ≡ length l.yielded) ×
+    Shows (g.S.Settings.look l.settings).shows l.walk l.count 0 ×
     ((cells : _) × AllZip (Gives g.R.Iter.IterColumns.IntoIterator.into_iter_gives g.R.Iter.IterColumns.IntoIter.Iterator.next_gives) l.yielded cells
     × Holds l.seen (demands_of l.direction (g.S.Settings.look l.settings) g.M.Measure.measured cells))
