@@ -1,6 +1,6 @@
 //! The answer for a direction once all cells are seen.
 
-ghost use Rattle.std.specs.Prelude.{◌≡◌, ◌+◌, ℕ, All, Bool, IfNone, IfSome, List, false, length, nat_lt, replicate};
+ghost use Rattle.std.specs.Prelude.{◌≡◌, ◌+◌, ℕ, All, Bool, IfNone, IfSome, List, None, false, length, nat_lt, replicate};
 ghost use Rattle.papergrid_axis.specs.declared.demand.Demand.{Demand};
 ghost use Rattle.papergrid_axis.specs.declared.direction.Direction.{Direction};
 ghost use Rattle.papergrid_axis.specs.Answers.{IsExact, IsRefused, IsWitness};
@@ -81,6 +81,32 @@ pub fn finish(
         Some(error) => Err(error),
         None => exact_sizes(alloc, direction, count, zeros, &seen.demands, lines),
     }
+}
+
+/// The same where no seen cell reaches out.
+///
+/// # Errors
+///
+/// `TooLarge` where the sizes with all lines come to more than the greatest `usize`.
+pub fn finish_inside(
+    alloc: Global,
+    direction: Direction,
+    count: usize,
+    zeros: Vec<usize>,
+    seen: &Seen,
+    lines: &[bool],
+) -> Result<Vec<usize>, LayoutError>
+    requires zeros { zeros.items ≡ replicate count 0 }
+    requires held { (demands : List Demand) × Holds seen.now demands }
+    requires inside { first_out count seen.now.demands.items ≡ None }
+    requires lines { length lines.now ≡ count + 1 }
+    ensures { (demands : List Demand) → Holds seen.now demands →
+        IsExact direction (line_at lines.now) count demands result }
+{
+    if seen.is_large {
+        return Err(LayoutError::TooLarge);
+    }
+    exact_sizes(alloc, direction, count, zeros, &seen.demands, lines)
 }
 
 /// The places of the cells that certify that the sizes which `finish` gives are least; none where
