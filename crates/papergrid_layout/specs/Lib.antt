@@ -5,3 +5,4 @@ pub mod Laws
 pub mod Looks
 pub mod Measures
 pub mod Pairs
+pub mod Witnesses

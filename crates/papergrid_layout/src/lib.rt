@@ -2,6 +2,8 @@
 #![tactic(auto)]
 
 mod both;
+mod certificates;
+mod check;
 pub mod compact;
 pub mod dimension;
 pub mod iterable;
@@ -12,6 +14,7 @@ mod settings;
 mod size_list;
 mod sizes;
 mod walk;
+mod witness;
 
 pub use compact::CompactGridDimension;
 pub use dimension::{Dimension, Estimate};
