@@ -7,6 +7,7 @@ pub mod FitBound
 pub mod Greatest
 pub mod Groups
 pub mod GrowLemmas
+pub mod KeptApartLemmas
 pub mod LastLemmas
 pub mod LastLoops
 pub mod LoopLemmas

@@ -17,7 +17,7 @@ Contains-later : (ds : List Demand) (c d : Demand) → Contains ds d → Contain
 Contains-later ds c d m = (suc m.0, omega (arith, m.1), m.2)
 
 -- what passes is in the filter
-Contains-filter : (test : Demand → Bool) (ds : List Demand) (d : Demand) → Contains ds d → test d ≡ true → Contains (filter test ds) d
+pub Contains-filter : (test : Demand → Bool) (ds : List Demand) (d : Demand) → Contains ds d → test d ≡ true → Contains (filter test ds) d
 Contains-filter test ds d m t = at ds m.0 m.1 m.2
   where
     at : (ds : List Demand) (k : ℕ) → k < length ds → get_or ds k d ≡ d → Contains (filter test ds) d

@@ -2,6 +2,7 @@ pub mod Answers
 pub mod Checks
 pub mod Chosen
 pub mod Fits
+pub mod KeptApart
 pub mod LastCells
 pub mod Ranges
 pub mod Rows

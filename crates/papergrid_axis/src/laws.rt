@@ -1,10 +1,11 @@
 //! Laws of the definitions, each the contract of a function that does nothing.
 
-ghost use Rattle.std.specs.Prelude.{ℕ, ◌<◌, ◌≤◌, All, Bool, List, slice_index};
+ghost use Rattle.std.specs.Prelude.{ℕ, ◌<◌, ◌≤◌, ◌↔◌, All, Bool, IsTrue, List, slice_index};
 ghost use Rattle.papergrid_axis.specs.declared.demand.Demand.{Demand};
 ghost use Rattle.papergrid_axis.specs.declared.direction.Direction.{Direction};
 ghost use Rattle.papergrid_axis.specs.Chosen.{chosen_of};
 ghost use Rattle.papergrid_axis.specs.Fits.{Fits, IsCertificate, IsLeast, top_need};
+ghost use Rattle.papergrid_axis.specs.KeptApart.{is_kept_apart};
 ghost use Rattle.papergrid_axis.specs.Ranges.{IsInTable, IsKeptApart};
 ghost use Rattle.papergrid_axis.specs.Rows.{WorkedRows};
 ghost use Rattle.papergrid_axis.specs.Sizes.{sizes_of};
@@ -33,4 +34,10 @@ pub fn sizes_by_needs()
         All (IsInTable n) demands → IsKeptApart direction demands →
         IsCertificate line demands (sizes_of direction line n demands)
         (chosen_of direction line n demands) }
+{}
+
+/// Whether longer ranges are kept apart can be computed.
+pub fn kept_apart_is_computed()
+    ensures { (direction : Direction) (demands : List Demand) →
+        IsTrue (is_kept_apart direction demands) ↔ IsKeptApart direction demands }
 {}

@@ -1,4 +1,6 @@
 pub mod AnswerLemmas
+pub mod CheckSteps
+pub mod Distinct
 pub mod LawLemmas
 pub mod PairLemmas
 pub mod ShownLemmas

@@ -17,7 +17,7 @@ zip_length R (a ∷ xs) [] z = absurd z
 zip_length R (a ∷ xs) (b ∷ ys) z = ap (λ n. suc n) (zip_length R xs ys z.1)
 
 module _ {C : Type 0} where
-  placed_row-more : (r c : ℕ) (cells : List C) (cell : C) →
+  pub placed_row-more : (r c : ℕ) (cells : List C) (cell : C) →
       placed_row r c (cells ++ cell ∷ []) ≡ placed_row r c cells ++ (record { row = r; col = c + length cells }, cell) ∷ []
   placed_row-more r c [] cell = let e : c ≡ c + 0 = omega arith in ap (λ k. (record { row = r; col = k }, cell) ∷ []) e
   placed_row-more r c (x ∷ cells) cell =
@@ -25,7 +25,7 @@ module _ {C : Type 0} where
       let e : c + 1 + length cells ≡ c + suc (length cells) = omega arith in
       ap (λ ps. (record { row = r; col = c }, x) ∷ ps) (rest ∙ ap (λ k. placed_row r (c + 1) cells ++ (record { row = r; col = k }, cell) ∷ []) e)
 
-  placed_from-more : (r : ℕ) (rows : List (List C)) (row : List C) →
+  pub placed_from-more : (r : ℕ) (rows : List (List C)) (row : List C) →
       placed_from r (rows ++ row ∷ []) ≡ placed_from r rows ++ placed_row (r + length rows) 0 row
   placed_from-more r [] row = let e : r ≡ r + 0 = omega arith in append-nil (placed_row r 0 row) ∙ ap (λ k. placed_row k 0 row) e
   placed_from-more r (x ∷ rows) row =

@@ -6,3 +6,4 @@ pub mod Looks
 pub mod Measures
 pub mod Pairs
 pub mod Shown
+pub mod Witnesses

@@ -7,6 +7,9 @@ ghost use Rattle.papergrid_layout.specs.Looks.{spanned_look};
 ghost use Rattle.papergrid_layout.specs.Measures.{line_measure};
 
 use crate::both::both_sizes;
+pub use crate::certificates::{
+    check_height_witness, check_width_witness, height_witness, width_witness,
+};
 use crate::dimension::{Dimension, Estimate};
 use crate::measure::ByLines;
 use crate::size_list::SizeList;

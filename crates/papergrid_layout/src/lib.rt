@@ -2,6 +2,8 @@
 #![tactic(auto)]
 
 mod both;
+mod certificates;
+mod check;
 pub mod compact;
 pub mod dimension;
 pub mod iterable;
@@ -13,6 +15,7 @@ mod shown;
 mod size_list;
 mod sizes;
 mod walk;
+mod witness;
 
 pub use compact::CompactGridDimension;
 pub use dimension::{Dimension, Estimate};

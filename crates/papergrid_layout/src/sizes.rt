@@ -37,7 +37,7 @@ impl<'a, S: Settings> Axis for Along<'a, S> {
 }
 
 /// The number of columns, or of rows.
-fn count_of(direction: Direction, columns: usize, rows: usize) -> usize
+pub fn count_of(direction: Direction, columns: usize, rows: usize) -> usize
     ensures { result ≡ count_along direction columns rows }
 {
     match direction {

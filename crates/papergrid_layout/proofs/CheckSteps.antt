@@ -1,0 +1,91 @@
+-- The steps of a checker's walk, and what it concludes.
+use Rattle.std.proofs.Common.{◌≡◌, ℕ, ◌+◌, Bool, true, false, inl, inr, List, [], ◌∷◌, ◌++◌, length, refl, ap, sym, ◌∙◌, arith, subst}
+use Rattle.std.specs.Prelude.{All, AllPairs, IsTrue, ◌↔◌, ◌≢◌}
+use Rattle.std.proofs.lemmas.Bool.{cases_Bool}
+use Rattle.std.proofs.lemmas.List.{append-nil, append_assoc}
+use Rattle.papergrid_values.specs.declared.position.Position.{Position}
+use Rattle.papergrid_axis.specs.declared.checked.Checked.{Checked}
+use Rattle.papergrid_axis.specs.declared.demand.Demand.{Demand}
+use Rattle.papergrid_axis.specs.declared.direction.Direction.{Direction}
+use Rattle.papergrid_axis.specs.Answers.{IsAccepted}
+use Rattle.papergrid_axis.specs.Fits.{IsLeast}
+use Rattle.papergrid_axis.specs.Ranges.{demand_of, lines_to}
+use Rattle.papergrid_layout.specs.Cells.{asked_by, demands_of, placed, placed_row, side}
+use Rattle.papergrid_layout.specs.Looks.{Look}
+use Rattle.papergrid_layout.specs.Answers.{count_along, drawn_along}
+use Rattle.papergrid_layout.specs.Witnesses.{ChecksBy, ChecksMore, IsChecked}
+use Rattle.papergrid_layout.proofs.Steps.{asked_by-append, placed_from-more, placed_row-more}
+
+module _ (look : Look) (direction : Direction) (sizes : List ℕ) (places : List Position) where
+  -- nothing more
+  pub check_none : (checked : Checked) → ChecksMore look direction sizes places checked checked []
+  check_none checked = λ demands before. subst (ChecksBy look direction sizes places checked) (sym (append-nil demands)) before
+
+  module _ {C : Type 0} (measure : C → ℕ × ℕ) where
+    -- a hidden cell is passed over
+    pub check_hidden : (checked : Checked) (pos : Position) (cell : C) → look.shows pos ≡ false →
+        ChecksMore look direction sizes places checked checked (asked_by direction look measure ((pos, cell) ∷ []))
+    check_hidden checked pos cell f = rw f (check_none checked)
+
+    -- a visible one is not
+    pub check_shown : (old new : Checked) (pos : Position) (cell : C) (need : ℕ) → look.shows pos ≡ true →
+        need ≡ side direction (measure cell) + look.before direction pos + look.after direction pos →
+        ChecksMore look direction sizes places old new (demand_of direction pos (look.span direction pos) need ∷ []) →
+        ChecksMore look direction sizes places old new (asked_by direction look measure ((pos, cell) ∷ []))
+    check_shown old new pos cell need t same more =
+        rw t (subst (λ n. ChecksMore look direction sizes places old new (demand_of direction pos (look.span direction pos) n ∷ [])) same more)
+
+    -- one more cell of a row
+    pub check-cell : (old mid new : Checked) (r c : ℕ) (cells : List C) (cell : C) → c ≡ length cells →
+        ChecksMore look direction sizes places old mid (asked_by direction look measure (placed_row r 0 cells)) →
+        ChecksMore look direction sizes places mid new (asked_by direction look measure ((record { row = r; col = c }, cell) ∷ [])) →
+        ChecksMore look direction sizes places old new (asked_by direction look measure (placed_row r 0 (cells ++ cell ∷ [])))
+    check-cell old mid new r c cells cell same before further = λ demands held.
+        let k = further _ (before demands held) in
+        let at : 0 + length cells ≡ c = omega arith in
+        let p : placed_row r 0 (cells ++ cell ∷ []) ≡ placed_row r 0 cells ++ (record { row = r; col = c }, cell) ∷ [] =
+        placed_row-more r 0 cells cell ∙ ap (λ k. placed_row r 0 cells ++ (record { row = r; col = k }, cell) ∷ []) at in
+        let a : asked_by direction look measure (placed_row r 0 (cells ++ cell ∷ [])) ≡ asked_by direction look measure (placed_row r 0 cells) ++ asked_by direction look measure ((record { row = r; col = c }, cell) ∷ []) =
+        ap (asked_by direction look measure) p ∙ asked_by-append direction look measure (placed_row r 0 cells) ((record { row = r; col = c }, cell) ∷ []) in
+        subst (ChecksBy look direction sizes places new) (sym (ap (λ ds. demands ++ ds) a ∙ sym (append_assoc demands _ _))) k
+
+    -- one more row
+    pub check-row : (old new : Checked) (r : ℕ) (rows : List (List C)) (row : List C) → r ≡ length rows →
+        ChecksBy look direction sizes places old (demands_of direction look measure rows) →
+        ChecksMore look direction sizes places old new (asked_by direction look measure (placed_row r 0 row)) →
+        ChecksBy look direction sizes places new (demands_of direction look measure (rows ++ row ∷ []))
+    check-row old new r rows row same before further =
+        let k = further _ before in
+        let at : 0 + length rows ≡ r = omega arith in
+        let p : placed (rows ++ row ∷ []) ≡ placed rows ++ placed_row r 0 row = placed_from-more 0 rows row ∙ ap (λ k. placed rows ++ placed_row k 0 row) at in
+        let a : demands_of direction look measure (rows ++ row ∷ []) ≡ demands_of direction look measure rows ++ asked_by direction look measure (placed_row r 0 row) =
+        ap (asked_by direction look measure) p ∙ asked_by-append direction look measure (placed rows) (placed_row r 0 row) in
+        subst (ChecksBy look direction sizes places new) (sym a) k
+
+-- what is found of a table with as many columns (rows) as sizes holds of the table itself, since the sizes are as many
+module _ (direction : Direction) (look : Look) (count : ℕ) (demands : List Demand) (sizes : List ℕ) (places : List Position) where
+  abbrev IsAcceptedBy : ℕ → Type 0
+  IsAcceptedBy n = IsAccepted (lines_to (look.draws direction n) count) count demands sizes places
+
+  pub accepted-of : (answer : Bool) → IsTrue answer ↔ IsAcceptedBy (length sizes) → IsTrue answer ↔ IsAcceptedBy count
+  accepted-of answer same = (
+    λ t. let a = same.0 t in subst IsAcceptedBy a.fits.one_each a,
+    λ a. same.1 (subst IsAcceptedBy (sym a.fits.one_each) a),
+  )
+
+  pub least-of : (answer : Bool) → (IsTrue answer → IsLeast (lines_to (look.draws direction (length sizes)) count) count demands sizes) →
+      IsTrue answer → IsLeast (lines_to (look.draws direction count) count) count demands sizes
+  least-of answer then t = let a = then t in subst (λ n. IsLeast (lines_to (look.draws direction n) count) count demands sizes) a.fits.one_each a
+
+-- the answer for the number of columns, or of rows
+pub checked-of : {C : Type 0} (look : Look) (measure : C → ℕ × ℕ) (columns : ℕ) (cells : List (List C)) (direction : Direction) (sizes : List ℕ) (places : List Position) (answer : Bool) (count : ℕ) →
+    count ≡ count_along direction columns (length cells) →
+    IsTrue answer ↔ IsAccepted (lines_to (look.draws direction (length sizes)) count) count (demands_of direction look measure cells) sizes places →
+    (IsTrue answer → IsLeast (lines_to (look.draws direction (length sizes)) count) count (demands_of direction look measure cells) sizes) →
+    IsChecked look measure columns cells direction sizes places answer
+checked-of look measure columns cells direction sizes places answer count same exact least = record {
+  exact = subst (λ n. IsTrue answer ↔ IsAccepted (drawn_along direction look n) n (demands_of direction look measure cells) sizes places) same
+      (accepted-of direction look count (demands_of direction look measure cells) sizes places answer exact);
+  least = subst (λ n. IsTrue answer → IsLeast (drawn_along direction look n) n (demands_of direction look measure cells) sizes) same
+      (least-of direction look count (demands_of direction look measure cells) sizes places answer least);
+}

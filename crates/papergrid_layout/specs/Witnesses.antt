@@ -1,0 +1,38 @@
+-- What witnesses and checkers say of the rows told.
+use Rattle.std.specs.Prelude.{◌↔◌, ◌++◌, ℕ, Bool, IsTrue, List, length, Option, Result, Vec}
+use Rattle.papergrid_values.specs.declared.position.Position.{Position}
+use Rattle.papergrid_axis.specs.declared.checked.Checked.{Checked}
+use Rattle.papergrid_axis.specs.declared.demand.Demand.{Demand}
+use Rattle.papergrid_axis.specs.declared.direction.Direction.{Direction}
+use Rattle.papergrid_axis.specs.declared.error.LayoutError.{LayoutError}
+use Rattle.papergrid_axis.specs.Answers.{IsAccepted, IsWitness}
+use Rattle.papergrid_axis.specs.Checks.{Checks}
+use Rattle.papergrid_axis.specs.Fits.{IsLeast}
+use Rattle.papergrid_layout.specs.Answers.{count_along, drawn_along}
+use Rattle.papergrid_layout.specs.Cells.{demands_of}
+use Rattle.papergrid_layout.specs.Looks.{Look}
+
+module _ {C : Type 0} (look : Look) (measure : C → ℕ × ℕ) (columns : ℕ) (cells : List (List C)) (direction : Direction) where
+  -- the number of columns, or of rows
+  abbrev count : ℕ
+  count = count_along direction columns (length cells)
+
+  -- the places of the chosen cells, none where ranges are not kept apart, or why there are no sizes
+  abbrev pub IsWitnessed : {Z : Type 0} → Result (Option (Vec Position Z)) LayoutError → Type 0
+  IsWitnessed result = IsWitness direction (drawn_along direction look count) count (demands_of direction look measure cells) result
+
+  -- whether these sizes, with these places of cells that certify them, are accepted; those that are, are least
+  pub record IsChecked (sizes : List ℕ) (places : List Position) (answer : Bool) : Type 0 where
+    pub exact : IsTrue answer ↔ IsAccepted (drawn_along direction look count) count (demands_of direction look measure cells) sizes places
+    pub least : IsTrue answer → IsLeast (drawn_along direction look count) count (demands_of direction look measure cells) sizes
+
+-- what a checker kept of the demands of some cells, by the sizes and places that it was given. Only contracts of private
+-- functions and proofs speak of this
+abbrev pub ChecksBy : Look → Direction → List ℕ → List Position → Checked → List Demand → Type 0
+ChecksBy look direction sizes places checked demands =
+    Checks (drawn_along direction look (length sizes)) sizes places direction (look.span direction) checked demands
+
+-- whatever was kept, these further demands were checked besides
+abbrev pub ChecksMore : Look → Direction → List ℕ → List Position → Checked → Checked → List Demand → Type 0
+ChecksMore look direction sizes places old new further =
+    (demands : List Demand) → ChecksBy look direction sizes places old demands → ChecksBy look direction sizes places new (demands ++ further)

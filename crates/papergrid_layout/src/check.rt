@@ -1,0 +1,170 @@
+//! The check that sizes along one direction are least, by a list of positions.
+
+ghost use Rattle.std.specs.Prelude.{◌≡◌, ◌+◌, ◌^◌, ◌≤◌, ◌∷◌, [], ⊤, List, length};
+ghost use Rattle.papergrid_text.specs.Records.{Gives, WalkIsShort};
+ghost use Rattle.papergrid_axis.specs.Checks.{AreBounded};
+ghost use Rattle.papergrid_layout.specs.Cells.{asked_by, demands_of, placed_row, side};
+ghost use Rattle.papergrid_layout.specs.Witnesses.{ChecksBy, ChecksMore, IsChecked};
+
+use crate::measure::Measure;
+use crate::settings::Settings;
+use crate::sizes::{Along, count_of};
+use papergrid_axis::checked::{accepts, visit, wide_need};
+use papergrid_axis::{Checked, Direction};
+use papergrid_text::{IntoRecords, Records};
+use papergrid_values::Position;
+use std::iter::{IntoIterator, Iterator};
+
+/// What is checked: sizes along a direction, and the places of cells that are to certify that they
+/// are least.
+#[derive(Clone, Copy)]
+struct Claim<'a> {
+    direction: Direction,
+    sizes: &'a [usize],
+    places: &'a [Position],
+}
+
+/// What the cell at a position needs along a direction, by its measure.
+fn need_along<S: Settings>(
+    settings: &S,
+    direction: Direction,
+    pos: Position,
+    measure: (usize, usize),
+) -> u128
+    ensures sum { let look = S.look settings.now in
+        result ≡ side direction measure + look.before direction pos + look.after direction pos }
+    ensures small { result ≤ 2 ^ 66 }
+{
+    let size = match direction {
+        Direction::Columns => measure.0,
+        Direction::Rows => measure.1,
+    };
+    let before = settings.padding_before(direction, pos);
+    let after = settings.padding_after(direction, pos);
+    wide_need(size, before, after)
+}
+
+/// What is kept of the cells met and of one more, if that is visible.
+fn check_cell<M: Measure<C>, C, S: Settings>(
+    checked: Checked,
+    settings: &S,
+    claim: &Claim<'_>,
+    pos: Position,
+    cell: &C,
+) -> Checked
+    requires { AreBounded claim.now.places.now checked }
+    ensures bounded { AreBounded claim.now.places.now result }
+    ensures checks { let look = S.look settings.now in
+        ChecksMore look claim.now.direction claim.now.sizes.now claim.now.places.now checked result
+        (asked_by claim.now.direction look M.measured ((pos, cell.now) ∷ [])) }
+{
+    if !settings.is_visible(pos) {
+        return checked;
+    }
+    let axis = Along {
+        settings,
+        direction: claim.direction,
+        count: claim.sizes.len(),
+    };
+    let need = need_along(settings, claim.direction, pos, M::measure(cell));
+    visit(
+        checked,
+        claim.direction,
+        &axis,
+        claim.sizes,
+        claim.places,
+        pos,
+        need,
+    )
+}
+
+/// What is kept of the cells met and of the visible ones of one more row.
+fn check_row<M, W: IntoIterator, S: Settings>(
+    before: Checked,
+    settings: &S,
+    claim: &Claim<'_>,
+    number: usize,
+    row: W,
+) -> Checked
+where
+    M: Measure<<W as IntoIterator>::Item>,
+    <W as IntoIterator>::Item: Drop,
+    requires short { WalkIsShort W.into_iter_gives W.IntoIter.can_next W.IntoIter.remaining W.IntoIter.next_gives (λ _. ⊤) row }
+    requires bounded { AreBounded claim.now.places.now before }
+    ensures bounded { AreBounded claim.now.places.now result }
+    ensures checks { let look = S.look settings.now in
+        (cells : List W.Item) × Gives W.into_iter_gives W.IntoIter.next_gives row cells
+        × ChecksMore look claim.now.direction claim.now.sizes.now claim.now.places.now before result
+        (asked_by claim.now.direction look M.measured (placed_row number 0 cells)) }
+{
+    let mut checked = before;
+    let mut column = 0usize;
+    for cell in row {
+        let pos = Position {
+            row: number,
+            col: column,
+        };
+        checked = check_cell::<M, _, S>(checked, settings, claim, pos, &cell);
+        column += 1;
+    }
+    checked
+}
+
+/// What is kept of the visible cells of the records, and the number of rows.
+fn check_rows<M, R: Records + Drop, S: Settings>(
+    records: R,
+    settings: &S,
+    claim: &Claim<'_>,
+) -> (Checked, usize)
+where
+    M: Measure<<<R as Records>::Iter as IntoRecords>::Cell>,
+    <<R as Records>::Iter as IntoRecords>::Cell: Drop,
+    requires { R.is_lawful records }
+    ensures bounded { AreBounded claim.now.places.now result.0 }
+    ensures checks { let look = S.look settings.now in
+        (cells : List (List R.Iter.Cell)) × R.tells records cells
+        × ChecksBy look claim.now.direction claim.now.sizes.now claim.now.places.now result.0 (demands_of claim.now.direction look M.measured cells)
+        × (result.1 ≡ length cells) }
+{
+    let mut checked = Checked::new();
+    let mut count = 0usize;
+    for row in records.iter_rows() {
+        checked = check_row::<M, _, S>(checked, settings, claim, count, row);
+        count += 1;
+    }
+    (checked, count)
+}
+
+/// Whether no visible cell of the records reaches out, the sizes are as many as the columns (rows)
+/// and give each visible cell room, and the places are those of visible cells of disjoint ranges,
+/// whose needs less the lines inside of them add up to the sizes. Then no other choice of sizes has
+/// a smaller total. It takes no memory.
+pub fn check<M, R: Records + Drop, S: Settings>(
+    records: R,
+    settings: &S,
+    direction: Direction,
+    sizes: &[usize],
+    places: &[Position],
+) -> bool
+where
+    M: Measure<<<R as Records>::Iter as IntoRecords>::Cell>,
+    <<R as Records>::Iter as IntoRecords>::Cell: Drop,
+    requires { R.is_lawful records }
+    ensures { (cells : List (List R.Iter.Cell)) × R.tells records cells
+        × IsChecked (S.look settings.now) M.measured (R.columns records) cells direction sizes.now places.now result }
+{
+    let columns = records.count_columns();
+    let claim = Claim {
+        direction,
+        sizes,
+        places,
+    };
+    let (checked, rows) = check_rows::<M, R, S>(records, settings, &claim);
+    let count = count_of(direction, columns, rows);
+    let axis = Along {
+        settings,
+        direction,
+        count: sizes.len(),
+    };
+    accepts(checked, direction, &axis, count, sizes, places)
+}
