@@ -1,14 +1,15 @@
 -- What holds of an answer.
-use Rattle.std.proofs.Common.{◌≡◌, ◌∙◌, ℕ, List, length, subst, sym, ap, inl, inr, Vec}
+use Rattle.std.proofs.Common.{arith, ◌≡◌, ◌∙◌, ℕ, Bool, List, length, subst, sum, sym, ap, inl, inr, Vec}
 use Rattle.std.specs.Prelude.{Result, Ok, Err, Option, None, Some, is_some}
 use Rattle.std.proofs.lemmas.Bool.{false≢true}
 use Rattle.papergrid_axis.specs.declared.direction.Direction.{Direction}
 use Rattle.papergrid_axis.specs.declared.direction.Direction.TheVariants.{Columns, Rows}
 use Rattle.papergrid_axis.specs.declared.error.LayoutError.{LayoutError}
 use Rattle.papergrid_axis.specs.declared.error.LayoutError.TheVariants.{OutOfTable, TooLarge, Memory}
-use Rattle.papergrid_axis.specs.Answers.{AreSizes, IsExact, IsRefused}
+use Rattle.papergrid_axis.specs.declared.demand.Demand.{Demand}
+use Rattle.papergrid_axis.specs.Answers.{AreSizes, IsExact, IsRefused, NoneHolds}
 use Rattle.papergrid_axis.specs.Ranges.{first_out}
-use Rattle.papergrid_layout.specs.Answers.{IsBothRefused, IsSized, UnlessMemory, UnlessWant, count_along, drawn_along, first_out_of_table}
+use Rattle.papergrid_layout.specs.Answers.{AreSizesOf, IsBothRefused, IsSized, UnlessMemory, UnlessWant, count_along, drawn_along, first_out_of_table}
 use Rattle.papergrid_layout.specs.Cells.{demands_of}
 use Rattle.papergrid_layout.specs.Looks.{Look}
 
@@ -24,6 +25,11 @@ unless (Err e) P p = unless_want e P p
 
 some_is_not_none : {A : Type 0} (x : A) (r : Option A) → r ≡ Some x → r ≡ None → ⊥
 some_is_not_none x r e n = false≢true (ap is_some (sym n ∙ e))
+
+fits_not_large : (direction : Direction) (line : ℕ → Bool) (n : ℕ) (demands : List Demand) (sizes : List ℕ) → AreSizes direction line n demands sizes → NoneHolds direction line n demands → ⊥
+fits_not_large direction line n demands sizes are large =
+    let same = ap sum are.exact in
+    omega (arith, are.total, large.too_large, same)
 
 module _ {C : Type 0} (look : Look) (measure : C → ℕ × ℕ) (columns : ℕ) (cells : List (List C)) where
   -- the answer for the number of columns, or of rows
@@ -44,3 +50,14 @@ module _ {C : Type 0} (look : Look) (measure : C → ℕ × ℕ) (columns : ℕ)
   refused_rows none inside (OutOfTable p) out = absurd (some_is_not_none p (first_out (length cells) (demands_of Rows look measure cells)) out inside)
   refused_rows none inside TooLarge large = (none, inr large)
   refused_rows none inside (Memory e) any = tt
+
+  -- where there are sizes along a direction, nothing but want of memory is refused there
+  pub refused_anyway : (direction : Direction) (sizes : List ℕ) → AreSizesOf look measure columns cells direction sizes →
+      (count : ℕ) → count ≡ count_along direction columns (length cells) → (e : LayoutError) →
+      IsRefused direction (drawn_along direction look count) count (demands_of direction look measure cells) e → IsBothRefused look measure columns cells e
+  refused_anyway direction sizes are count same (OutOfTable p) out =
+      absurd (some_is_not_none p (first_out (count_along direction columns (length cells)) (demands_of direction look measure cells)) ((λ k. first_out (sym same k) (demands_of direction look measure cells)) ∙ out) are.none_out)
+  refused_anyway direction sizes are count same TooLarge large =
+      let there = subst (λ n. NoneHolds direction (drawn_along direction look n) n (demands_of direction look measure cells)) same large in
+      absurd (fits_not_large direction (drawn_along direction look (count_along direction columns (length cells))) (count_along direction columns (length cells)) (demands_of direction look measure cells) sizes are there)
+  refused_anyway direction sizes are count same (Memory e) any = tt

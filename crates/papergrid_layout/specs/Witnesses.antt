@@ -1,16 +1,18 @@
 -- What witnesses and checkers say of the rows told.
-use Rattle.std.specs.Prelude.{◌↔◌, ◌++◌, ℕ, Bool, IsTrue, List, length, Option, Result, Vec}
+use Rattle.std.specs.Prelude.{◌↔◌, ◌⊎◌, ◌++◌, ℕ, Bool, IsTrue, List, length, Option, Result, Ok, Err, Vec}
 use Rattle.papergrid_values.specs.declared.position.Position.{Position}
 use Rattle.papergrid_axis.specs.declared.checked.Checked.{Checked}
 use Rattle.papergrid_axis.specs.declared.demand.Demand.{Demand}
 use Rattle.papergrid_axis.specs.declared.direction.Direction.{Direction}
+use Rattle.papergrid_axis.specs.declared.direction.Direction.TheVariants.{Columns, Rows}
 use Rattle.papergrid_axis.specs.declared.error.LayoutError.{LayoutError}
-use Rattle.papergrid_axis.specs.Answers.{IsAccepted, IsWitness}
+use Rattle.papergrid_axis.specs.Answers.{IsAccepted, IsRefused, IsWitness}
 use Rattle.papergrid_axis.specs.Checks.{Checks}
 use Rattle.papergrid_axis.specs.Fits.{IsLeast}
-use Rattle.papergrid_layout.specs.Answers.{count_along, drawn_along}
+use Rattle.papergrid_layout.specs.Answers.{AreBothSizes, IsBothRefused, count_along, drawn_along}
 use Rattle.papergrid_layout.specs.Cells.{demands_of}
 use Rattle.papergrid_layout.specs.Looks.{Look}
+use Rattle.papergrid_layout.specs.declared.certified.Certified.{Certified}
 
 module _ {C : Type 0} (look : Look) (measure : C → ℕ × ℕ) (columns : ℕ) (cells : List (List C)) (direction : Direction) where
   -- the number of columns, or of rows
@@ -36,3 +38,24 @@ ChecksBy look direction sizes places checked demands =
 abbrev pub ChecksMore : Look → Direction → List ℕ → List Position → Checked → Checked → List Demand → Type 0
 ChecksMore look direction sizes places old new further =
     (demands : List Demand) → ChecksBy look direction sizes places old demands → ChecksBy look direction sizes places new (demands ++ further)
+
+module _ {C : Type 0} (look : Look) (measure : C → ℕ × ℕ) (columns : ℕ) (cells : List (List C)) where
+  -- exactly the widths and the heights, and what witnesses say along both directions
+  pub record AreCertified (certified : Certified) : Type 0 where
+    pub sizes : AreBothSizes look measure columns cells certified.widths.items certified.heights.items
+    pub widths : IsWitnessed look measure columns cells Columns (Ok certified.width_witness)
+    pub heights : IsWitnessed look measure columns cells Rows (Ok certified.height_witness)
+
+  -- the sizes with their witnesses, or why there are none
+  abbrev pub IsCertified : Result Certified LayoutError → Type 0
+  IsCertified (Ok certified) = AreCertified certified
+  IsCertified (Err e) = IsBothRefused look measure columns cells e
+
+-- what witnesses say along both directions, by the demands of some cells. Only contracts of private functions and proofs
+-- speak of this
+abbrev pub AreWitnesses : {Z Y : Type 0} → Look → ℕ → ℕ → List Demand → List Demand → Result (Option (Vec Position Z) × Option (Vec Position Y)) LayoutError → Type 0
+AreWitnesses look columns rows wide high (Ok found) =
+    IsWitness Columns (drawn_along Columns look columns) columns wide (Ok found.0)
+    × IsWitness Rows (drawn_along Rows look rows) rows high (Ok found.1)
+AreWitnesses look columns rows wide high (Err e) =
+    IsRefused Columns (drawn_along Columns look columns) columns wide e ⊎ IsRefused Rows (drawn_along Rows look rows) rows high e

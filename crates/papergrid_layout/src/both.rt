@@ -96,7 +96,7 @@ where
 }
 
 /// What the visible cells of the records ask for along both directions, and the number of rows.
-fn gather_both<M, R: Records + Drop, S: Settings>(
+pub fn gather_both<M, R: Records + Drop, S: Settings>(
     alloc: Global,
     records: R,
     settings: &S,
@@ -150,7 +150,7 @@ fn find_out_of_both(
 
 /// The widths and the heights that the cells ask for which were seen of a table of so many columns
 /// and rows.
-fn conclude_both<M: Measure<C>, C, S: Settings>(
+pub fn conclude_both<M: Measure<C>, C, S: Settings>(
     alloc: Global,
     columns: usize,
     rows: usize,

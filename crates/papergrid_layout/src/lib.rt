@@ -2,6 +2,7 @@
 #![tactic(auto)]
 
 mod both;
+pub mod certified;
 mod certificates;
 mod check;
 pub mod compact;
