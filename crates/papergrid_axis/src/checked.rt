@@ -16,7 +16,7 @@ use papergrid_values::Position;
 
 /// What is kept of the visible cells met so far: whether all of them have room in the table, and of
 /// those that are listed how many they are, the sum of their needs and that of their inner lines.
-#[derive(Clone, Copy, Debug, PartialEq, Eq)]
+#[derive(Clone, Copy, Debug)]
 pub struct Checked {
     pub holds: bool,
     pub found: usize,
@@ -165,6 +165,16 @@ pub fn visit<A: Axis>(
         }
         None => failed(checked),
     }
+}
+
+/// Whether a visit changed nothing.
+pub fn is_unchanged(before: Checked, after: Checked) -> bool
+    ensures { IsTrue result → after ≡ before }
+{
+    if before.holds != after.holds {
+        return false;
+    }
+    before.found == after.found && before.needs == after.needs && before.inner == after.inner
 }
 
 /// Whether all cells have room, each position is a cell's, and the needs of the listed cells less
