@@ -15,10 +15,12 @@ use Rattle.papergrid_axis.specs.declared.direction.Direction.{Direction}
 use Rattle.papergrid_axis.specs.Answers.{IsAccepted}
 use Rattle.papergrid_axis.specs.Checks.{AreApartAt, AreDistinct, Checks, SumsAgree, all_listed, stands_at, times_listed}
 use Rattle.papergrid_axis.specs.Fits.{IsLeast}
-use Rattle.papergrid_axis.specs.Ranges.{AreDisjoint, IsInTable, along, demand_of, inner_lines, place_of}
+use Rattle.papergrid_axis.specs.Ranges.{AreDisjoint, IsInTable, along, demand_of, end_of, inner_lines, place_of}
 use Rattle.papergrid_axis.proofs.Duality.{IsLeast-from_certificate}
 use Rattle.papergrid_axis.proofs.OutLemmas.{none_out}
+use Rattle.papergrid_axis.proofs.RangeLemmas.{Apart-from_AllPairs, outside, partition}
 use Rattle.papergrid_axis.proofs.Theorems.{first_out-none}
+use Rattle.papergrid_axis.proofs.Upto.{upto, within}
 
 at_place : (d : Demand) (p : Position) → stands_at d p ≡ true → place_of d ≡ p
 at_place d p t =
@@ -267,3 +269,32 @@ module _ (line : ℕ → Bool) (sizes : List ℕ) (places : List Position) (dire
 pub IsLeast-accepted : (line : ℕ → Bool) (n : ℕ) (ds : List Demand) (sizes : List ℕ) (places : List Position) → All (λ d. 1 ≤ d.span) ds → IsAccepted line n ds sizes places → IsLeast line n ds sizes
 IsLeast-accepted line n ds sizes places spans a =
     IsLeast-from_certificate line n ds a.cells sizes (none_out n ds a.none_out spans) a.fits a.certificate
+
+-- ---- how many places are accepted
+
+upto_ones : (n : ℕ) → upto (λ _. 1) n ≡ n
+upto_ones zero = refl
+upto_ones (suc n) = let e : upto (λ _. 1) n ≡ n = upto_ones n in omega arith
+
+ones_below : (cells : List Demand) → AllByRecursion (λ d. 1 ≤ d.span) cells → length cells ≤ sum_by (within (λ _. 1)) cells
+ones_below [] spans = omega arith
+ones_below (c ∷ cells) spans =
+    let s : sum_by (within (λ _. 1)) (c ∷ cells) ≡ within (λ _. 1) c + sum_by (within (λ _. 1)) cells = sum_by-cons (within (λ _. 1)) c cells in
+    let w : within (λ _. 1) c ≡ c.span = upto_ones c.span in
+    let l : 1 ≤ c.span = spans.0 in
+    let ih : length cells ≤ sum_by (within (λ _. 1)) cells = ones_below cells spans.1 in
+    omega arith
+
+-- ranges of a table that have no number in common are no more than its numbers
+pub few_places : (line : ℕ → Bool) (n : ℕ) (ds : List Demand) (sizes : List ℕ) (places : List Position) → All (λ d. 1 ≤ d.span) ds → IsAccepted line n ds sizes places → length places ≤ n
+few_places line n ds sizes places spans a =
+    let table : All (IsInTable n) ds = none_out n ds a.none_out spans in
+    let cells : All (IsInTable n) a.cells = All-weaker (Contains ds) (IsInTable n) (λ d m. All-contains (IsInTable n) ds d table m) a.cells a.certificate.visible in
+    let inside : AllByRecursion (λ d. end_of d ≤ n) a.cells = recursion_from_All (λ d. end_of d ≤ n) a.cells (All-weaker (IsInTable n) (λ d. end_of d ≤ n) (λ d h. h.ends_within) a.cells cells) in
+    let long : AllByRecursion (λ d. 1 ≤ d.span) a.cells = recursion_from_All (λ d. 1 ≤ d.span) a.cells (All-weaker (IsInTable n) (λ d. 1 ≤ d.span) (λ d h. h.covers_one) a.cells cells) in
+    let p : upto (λ _. 1) n ≡ sum_by (within (λ _. 1)) a.cells + upto (outside a.cells (λ _. 1)) n = partition (λ _. 1) n a.cells inside (Apart-from_AllPairs a.cells a.certificate.apart) in
+    let few : length a.cells ≤ sum_by (within (λ _. 1)) a.cells = ones_below a.cells long in
+    let all : upto (λ _. 1) n ≡ n = upto_ones n in
+    let many : length (map place_of a.cells) ≡ length a.cells = length-map a.cells place_of in
+    let same : length (map place_of a.cells) ≡ length places = ap length a.at_places in
+    omega arith

@@ -1,6 +1,7 @@
 pub mod AcceptLemmas
 pub mod Certified
 pub mod CheckLemmas
+pub mod ClaimLemmas
 pub mod Counting
 pub mod Duality
 pub mod FitBound

@@ -1,11 +1,12 @@
 -- What a checker keeps of the visible cells that it met, given sizes and a list of places. Only contracts of private
 -- functions and proofs speak of this.
-use Rattle.std.specs.Prelude.{◌≡◌, ℕ, ◌+◌, sum, ◌*◌, ◌^◌, ◌≤◌, Bool, true, false, ◌&&◌, ◌==◌, List, length, sum_by, count_by, ◌≢◌, All, AllPairs}
+use Rattle.std.specs.Prelude.{◌≡◌, ℕ, ◌+◌, sum, ◌*◌, ◌^◌, ◌<◌, ◌≤◌, Bool, true, false, ◌&&◌, ◌==◌, List, length, sum_by, count_by, ◌≢◌, All, AllPairs}
 use Rattle.papergrid_values.specs.declared.position.Position.{Position}
 use Rattle.papergrid_axis.specs.declared.checked.Checked.{Checked}
+use Rattle.papergrid_axis.specs.declared.claim.Claim.{Claim}
 use Rattle.papergrid_axis.specs.declared.demand.Demand.{Demand}
 use Rattle.papergrid_axis.specs.declared.direction.Direction.{Direction}
-use Rattle.papergrid_axis.specs.Ranges.{AreDisjoint, demand_of, end_of, inner_lines, place_of}
+use Rattle.papergrid_axis.specs.Ranges.{AreDisjoint, along, demand_of, end_of, inner_lines, place_of}
 use Rattle.papergrid_axis.specs.Fits.{HasRoom}
 
 -- a range with a need, wherever its cell stands
@@ -26,6 +27,18 @@ all_listed number places demands = sum_by (λ d. number d * times_listed places 
 -- the ranges at two places have no number in common
 abbrev pub AreApartAt : Direction → (Position → ℕ) → Position → Position → Type 0
 AreApartAt direction span_of p q = AreDisjoint (demand_of direction p (span_of p) 0) (demand_of direction q (span_of q) 0)
+
+-- one place's number is below another's
+abbrev pub AreRising : Direction → Position → Position → Type 0
+AreRising direction p q = along direction p < along direction q
+
+-- and its range ends there, or before
+abbrev pub AreInOrder : Direction → (Position → ℕ) → Position → Position → Type 0
+AreInOrder direction span_of p q = AreRising direction p q × (along direction p + span_of p ≤ along direction q)
+
+-- a claim that is said to be in order is so
+abbrev pub IsClaim : (Position → ℕ) → Claim → Type 0
+IsClaim span_of claim = claim.is_ordered ≡ true → AllPairs (AreInOrder claim.direction span_of) claim.places.now
 
 -- no two cells stand at one place
 abbrev pub AreDistinct : List Demand → Type 0

@@ -9,7 +9,7 @@ use crate::seen::number_of;
 use papergrid_values::Position;
 
 /// Whether a range ends at or before a number.
-fn ends_by(start: usize, span: usize, number: usize) -> bool
+pub fn ends_by(start: usize, span: usize, number: usize) -> bool
     ensures { IsTrue result ↔ (start + span ≤ number) }
 {
     start <= number && span <= number - start

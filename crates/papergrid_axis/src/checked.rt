@@ -4,14 +4,13 @@ ghost use Rattle.std.specs.Prelude.{ℕ, Bool, ◌==◌, ◌&&◌, ◌*◌, ◌-
 ghost use Rattle.papergrid_values.specs.declared.position.Position.{Position};
 ghost use Rattle.papergrid_axis.specs.declared.demand.Demand.{Demand};
 ghost use Rattle.papergrid_axis.specs.declared.direction.Direction.{Direction};
-ghost use Rattle.papergrid_axis.specs.Checks.{AreBounded, AreDistinct, Checks, SumsAgree, range_of};
+ghost use Rattle.papergrid_axis.specs.Checks.{AreBounded, AreDistinct, Checks, IsClaim, SumsAgree, range_of};
 ghost use Rattle.papergrid_axis.specs.Answers.{IsAccepted};
 ghost use Rattle.papergrid_axis.specs.Fits.{HasRoom, IsLeast};
 ghost use Rattle.papergrid_axis.specs.Ranges.{demand_of, end_of, inner_lines, lines_to};
 
-use crate::apart::are_apart;
 use crate::axis::Axis;
-use crate::direction::Direction;
+use crate::claim::{Claim, are_disjoint, count_listed};
 use crate::seen::number_of;
 use papergrid_values::Position;
 
@@ -101,16 +100,6 @@ fn room<A: Axis>(axis: &A, sizes: &[usize], start: usize, span: usize, need: u12
     }
 }
 
-/// How often a position is listed.
-fn count_listed(places: &[Position], place: Position) -> usize
-    ensures { result ≡ count_by (λ p. place.row == p.row && place.col == p.col) places.now }
-{
-    places
-        .iter()
-        .filter(|listed| place.row == listed.row && place.col == listed.col)
-        .count()
-}
-
 /// What was kept, and that a cell fails.
 fn failed(checked: Checked) -> Checked
     ensures { result ≡ record { holds = false; found = checked.found; needs = checked.needs; inner = checked.inner } }
@@ -140,31 +129,35 @@ fn with_cell(checked: Checked, times: usize, need: u128, inner: usize) -> Checke
 }
 
 /// What is kept of the cells met and of one more, the visible cell at a position with its need.
+/// Nothing changes by a cell that has room and is not listed, nor after one that fails.
 pub fn visit<A: Axis>(
     checked: Checked,
-    direction: Direction,
+    claim: &Claim<'_>,
     axis: &A,
-    sizes: &[usize],
-    places: &[Position],
     place: Position,
     need: u128,
 ) -> Checked
-    requires bounded { AreBounded places.now checked }
+    requires bounded { AreBounded claim.now.places.now checked }
+    requires ordered { IsClaim (A.span_of axis.now) claim.now }
     requires need { need ≤ 2 ^ 66 }
-    ensures bounded { AreBounded places.now result }
-    ensures checks { let line = lines_to (A.line axis.now) (length sizes.now) in
+    ensures bounded { AreBounded claim.now.places.now result }
+    ensures checks { let sizes = claim.now.sizes.now in
+        let line = lines_to (A.line axis.now) (length sizes) in
         let span = A.span_of axis.now in
         (demands : List Demand) →
-        Checks line sizes.now places.now direction span checked demands →
-        Checks line sizes.now places.now direction span result
-        (demands ++ demand_of direction place (span place) need ∷ []) }
+        Checks line sizes claim.now.places.now claim.now.direction span checked demands →
+        Checks line sizes claim.now.places.now claim.now.direction span result
+        (demands ++ demand_of claim.now.direction place (span place) need ∷ []) }
 {
-    let start = number_of(direction, place);
     let span = axis.span(place);
-    let times = count_listed(places, place);
-    match room(axis, sizes, start, span, need) {
+    if !checked.holds {
+        return failed(checked);
+    }
+    let start = number_of(claim.direction, place);
+    let times = count_listed(claim, place);
+    match room(axis, claim.sizes, start, span, need) {
         Some(inner) => {
-            if times <= places.len() - checked.found && checked.holds {
+            if times <= claim.places.len() - checked.found {
                 with_cell(checked, times, need, inner)
             } else {
                 failed(checked)
@@ -172,6 +165,16 @@ pub fn visit<A: Axis>(
         }
         None => failed(checked),
     }
+}
+
+/// Whether a visit changed nothing.
+pub fn is_unchanged(before: Checked, after: Checked) -> bool
+    ensures { IsTrue result → after ≡ before }
+{
+    if before.holds != after.holds {
+        return false;
+    }
+    before.found == after.found && before.needs == after.needs && before.inner == after.inner
 }
 
 /// Whether all cells have room, each position is a cell's, and the needs of the listed cells less
@@ -192,31 +195,27 @@ fn sums_agree(checked: Checked, sizes: &[usize], places: &[Position]) -> bool
 /// Whether the sizes of `count` columns (rows) fit the visible cells met, of which none reaches out,
 /// and the positions are those of visible cells of disjoint ranges, whose needs less their inner
 /// lines add up to the sizes. Then no other choice of sizes has a smaller total.
-pub fn accepts<A: Axis>(
-    checked: Checked,
-    direction: Direction,
-    axis: &A,
-    count: usize,
-    sizes: &[usize],
-    places: &[Position],
-) -> bool
-    requires { AreBounded places.now checked }
-    ensures exact { let line = lines_to (A.line axis.now) in
+pub fn accepts<A: Axis>(checked: Checked, claim: &Claim<'_>, axis: &A, count: usize) -> bool
+    requires bounded { AreBounded claim.now.places.now checked }
+    requires ordered { IsClaim (A.span_of axis.now) claim.now }
+    ensures exact { let sizes = claim.now.sizes.now in
+        let line = lines_to (A.line axis.now) in
         let span = A.span_of axis.now in
         (demands : List Demand) → AreDistinct demands →
-        Checks (line (length sizes.now)) sizes.now places.now direction span checked demands →
-        IsTrue result ↔ IsAccepted (line count) count demands sizes.now places.now }
-    ensures least { let line = lines_to (A.line axis.now) in
+        Checks (line (length sizes)) sizes claim.now.places.now claim.now.direction span checked demands →
+        IsTrue result ↔ IsAccepted (line count) count demands sizes claim.now.places.now }
+    ensures least { let sizes = claim.now.sizes.now in
+        let line = lines_to (A.line axis.now) in
         let span = A.span_of axis.now in
         (demands : List Demand) → AreDistinct demands →
-        Checks (line (length sizes.now)) sizes.now places.now direction span checked demands →
-        IsTrue result → IsLeast (line count) count demands sizes.now }
+        Checks (line (length sizes)) sizes claim.now.places.now claim.now.direction span checked demands →
+        IsTrue result → IsLeast (line count) count demands sizes }
 {
-    if sizes.len() != count {
+    if claim.sizes.len() != count {
         return false;
     }
-    if !sums_agree(checked, sizes, places) {
+    if !sums_agree(checked, claim.sizes, claim.places) {
         return false;
     }
-    are_apart(direction, axis, places)
+    are_disjoint(claim, axis)
 }

@@ -7,6 +7,7 @@ pub mod axis;
 mod base;
 pub mod checked;
 mod chosen;
+pub mod claim;
 pub mod conclude;
 pub mod demand;
 pub mod direction;
@@ -25,6 +26,7 @@ mod witness;
 
 pub use axis::Axis;
 pub use checked::Checked;
+pub use claim::Claim;
 pub use demand::Demand;
 pub use direction::Direction;
 pub use error::LayoutError;

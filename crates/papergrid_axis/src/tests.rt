@@ -7,6 +7,7 @@ ghost use Rattle.papergrid_axis.specs.Seen.{Holds};
 use crate::LayoutError;
 use crate::axis::Axis;
 use crate::checked::{Checked, accepts, visit, wide_need};
+use crate::claim::{Claim, are_in_order};
 use crate::conclude::{conclude, conclude_witness};
 use crate::direction::Direction;
 use crate::direction::Direction::{Columns, Rows};
@@ -190,20 +191,18 @@ fn check(
     sizes: &[usize],
     places: &[Position],
 ) -> bool {
+    let claim = Claim {
+        direction,
+        sizes,
+        places,
+        is_ordered: are_in_order(direction, &axis, places),
+    };
     let mut checked = Checked::new();
     for (row, col, _, measure, padding) in cells {
         let need = wide_need(*measure, *padding, 0);
-        checked = visit(
-            checked,
-            direction,
-            &axis,
-            sizes,
-            places,
-            at(*row, *col),
-            need,
-        );
+        checked = visit(checked, &claim, &axis, at(*row, *col), need);
     }
-    accepts(checked, direction, &axis, count, sizes, places)
+    accepts(checked, &claim, &axis, count)
 }
 
 #[test]

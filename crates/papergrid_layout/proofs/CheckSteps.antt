@@ -1,7 +1,7 @@
 -- The steps of a checker's walk, and what it concludes.
-use Rattle.std.proofs.Common.{◌≡◌, ℕ, ◌+◌, Bool, true, false, inl, inr, List, [], ◌∷◌, ◌++◌, length, refl, ap, sym, ◌∙◌, arith, subst}
+use Rattle.std.proofs.Common.{◌≡◌, ℕ, ◌+◌, ◌<◌, ◌≤◌, Bool, true, false, inl, inr, List, [], ◌∷◌, ◌++◌, length, refl, ap, sym, ◌∙◌, arith, subst}
 use Rattle.std.specs.Prelude.{All, AllPairs, IsTrue, ◌↔◌, ◌≢◌}
-use Rattle.std.proofs.lemmas.Bool.{cases_Bool}
+use Rattle.std.proofs.lemmas.Bool.{cases_Bool, false≢true}
 use Rattle.std.proofs.lemmas.List.{append-nil, append_assoc}
 use Rattle.papergrid_values.specs.declared.position.Position.{Position}
 use Rattle.papergrid_axis.specs.declared.checked.Checked.{Checked}
@@ -10,6 +10,7 @@ use Rattle.papergrid_axis.specs.declared.direction.Direction.{Direction}
 use Rattle.papergrid_axis.specs.Answers.{IsAccepted}
 use Rattle.papergrid_axis.specs.Fits.{IsLeast}
 use Rattle.papergrid_axis.specs.Ranges.{demand_of, lines_to}
+use Rattle.papergrid_axis.proofs.AcceptLemmas.{few_places}
 use Rattle.papergrid_layout.specs.Cells.{asked_by, demands_of, placed, placed_row, side}
 use Rattle.papergrid_layout.specs.Looks.{Look}
 use Rattle.papergrid_layout.specs.Answers.{count_along, drawn_along}
@@ -34,6 +35,16 @@ module _ (look : Look) (direction : Direction) (sizes : List ℕ) (places : List
         ChecksMore look direction sizes places old new (asked_by direction look measure ((pos, cell) ∷ []))
     check_shown old new pos cell need t same more =
         rw t (subst (λ n. ChecksMore look direction sizes places old new (demand_of direction pos (look.span direction pos) n ∷ [])) same more)
+
+    -- one that changes nothing may be either
+    pub check_same : (old new : Checked) (pos : Position) (cell : C) (need : ℕ) → new ≡ old →
+        need ≡ side direction (measure cell) + look.before direction pos + look.after direction pos →
+        ChecksMore look direction sizes places old new (demand_of direction pos (look.span direction pos) need ∷ []) →
+        ChecksMore look direction sizes places old old (asked_by direction look measure ((pos, cell) ∷ []))
+    check_same old new pos cell need unchanged same more = elim (cases_Bool (look.shows pos)) [
+      | inl t ↦ check_shown old old pos cell need t same (subst (λ kept. ChecksMore look direction sizes places old kept (demand_of direction pos (look.span direction pos) need ∷ [])) unchanged more)
+      | inr f ↦ check_hidden old pos cell f
+    ]
 
     -- one more cell of a row
     pub check-cell : (old mid new : Checked) (r c : ℕ) (cells : List C) (cell : C) → c ≡ length cells →
@@ -88,4 +99,20 @@ checked-of look measure columns cells direction sizes places answer count same e
       (accepted-of direction look count (demands_of direction look measure cells) sizes places answer exact);
   least = subst (λ n. IsTrue answer → IsLeast (drawn_along direction look n) n (demands_of direction look measure cells) sizes) same
       (least-of direction look count (demands_of direction look measure cells) sizes places answer least);
+}
+
+-- a list that is longer than the sizes is never that of a certificate
+pub long-of : {C : Type 0} (look : Look) (measure : C → ℕ × ℕ) (columns : ℕ) (cells : List (List C)) (direction : Direction) (sizes : List ℕ) (places : List Position) →
+    All (λ d. 1 ≤ d.span) (demands_of direction look measure cells) → length sizes < length places →
+    IsChecked look measure columns cells direction sizes places false
+long-of look measure columns cells direction sizes places spans long = record {
+  exact = (
+    λ t. absurd (false≢true t),
+    λ accepted.
+        let few : length places ≤ count_along direction columns (length cells) =
+        few_places (drawn_along direction look (count_along direction columns (length cells))) (count_along direction columns (length cells)) (demands_of direction look measure cells) sizes places spans accepted in
+        let many : length sizes ≡ count_along direction columns (length cells) = accepted.fits.one_each in
+        absurd (omega (arith, few, many, long)),
+  );
+  least = λ t. absurd (false≢true t);
 }

@@ -1,14 +1,35 @@
 -- What a caller that knows its rows reads of an answer: the cells told are seen through a view, as lent cells are.
-use Rattle.std.proofs.Common.{◌≡◌, ◌∙◌, ℕ, ◌+◌, List, [], ◌∷◌, ◌++◌, length, map, refl, ap, sym, inl, inr, subst}
+use Rattle.std.proofs.Common.{◌≡◌, ◌∙◌, ℕ, ◌+◌, Bool, true, List, [], ◌∷◌, ◌++◌, length, map, refl, ap, sym, inl, inr, subst, Vec}
+use Rattle.std.specs.Prelude.{None, Ok, Option, Some, if◌then◌else◌}
+use Rattle.std.specs.Option.{option_map}
 use Rattle.std.proofs.lemmas.Bool.{cases_Bool}
 use Rattle.std.proofs.lemmas.List.{length-map}
+use Rattle.papergrid_values.specs.declared.position.Position.{Position}
+use Rattle.papergrid_axis.specs.declared.demand.Demand.{Demand}
 use Rattle.papergrid_axis.specs.declared.direction.Direction.{Direction}
 use Rattle.papergrid_axis.specs.declared.direction.Direction.TheVariants.{Columns, Rows}
-use Rattle.papergrid_axis.specs.Answers.{AreSizes}
+use Rattle.papergrid_axis.specs.Answers.{AreSizes, IsWitness}
+use Rattle.papergrid_axis.specs.Chosen.{chosen_of}
+use Rattle.papergrid_axis.specs.KeptApart.{is_kept_apart}
+use Rattle.papergrid_axis.specs.Ranges.{place_of}
+use Rattle.papergrid_axis.proofs.KeptApartLemmas.{Decides-is_kept_apart}
 use Rattle.papergrid_layout.specs.Answers.{AreBothSizes, AreSizesOf, count_along, drawn_along}
 use Rattle.papergrid_layout.specs.Cells.{asked, asked_by, demands_of, placed_from, placed_row}
+use Rattle.papergrid_layout.specs.Laws.{witness_told}
 use Rattle.papergrid_layout.specs.Looks.{Look}
+use Rattle.papergrid_layout.specs.Witnesses.{IsWitnessed}
 use Rattle.papergrid_layout.proofs.Steps.{asked_by-append}
+
+-- the places that a witness gives, by the test of ranges that are kept apart
+chosen-by_test : {Z : Type 0} (direction : Direction) (line : ℕ → Bool) (n : ℕ) (demands : List Demand) (found : Option (Vec Position Z)) → IsWitness direction line n demands (Ok found) →
+    option_map (λ places. places.items) found ≡ (if is_kept_apart direction demands then Some (map place_of (chosen_of direction line n demands)) else None)
+chosen-by_test direction line n demands None none = elim (cases_Bool (is_kept_apart direction demands)) [
+  | inl t ↦ absurd (none.not_kept_apart ((Decides-is_kept_apart direction demands).0 t))
+  | inr f ↦ rw f refl
+]
+chosen-by_test direction line n demands (Some places) chosen =
+    let t : is_kept_apart direction demands ≡ true = (Decides-is_kept_apart direction demands).1 chosen.kept_apart in
+    rw t (ap Some chosen.exact)
 
 module _ {A B : Type 0} (look : Look) (v : A → B) (f : B → ℕ × ℕ) where
   told_row : (direction : Direction) (r c : ℕ) (cells : List A) → asked_by direction look (λ x. f (v x)) (placed_row r c cells) ≡ asked_by direction look f (placed_row r c (map v cells))
@@ -43,3 +64,11 @@ module _ {A B : Type 0} (look : Look) (v : A → B) (f : B → ℕ × ℕ) where
 
     pub both_told : (columns : ℕ) (wide high : List ℕ) → AreBothSizes look (λ x. f (v x)) columns cells wide high → AreBothSizes look f columns rows wide high
     both_told columns wide high are = record { widths = sizes_told Columns columns wide are.widths; heights = sizes_told Rows columns high are.heights }
+
+    -- an answer of a witness is the one that the rows have
+    pub witness_is_told : {Z : Type 0} (direction : Direction) (columns : ℕ) (found : Option (Vec Position Z)) → IsWitnessed look (λ x. f (v x)) columns cells direction (Ok found) →
+        option_map (λ places. places.items) found ≡ witness_told direction look f (count_along direction columns (length rows)) rows
+    witness_is_told direction columns found witnessed =
+        chosen-by_test direction (drawn_along direction look (count_along direction columns (length rows))) (count_along direction columns (length rows)) (demands_of direction look f rows) found
+        (subst (λ n. IsWitness direction (drawn_along direction look (count_along direction columns n)) (count_along direction columns n) (demands_of direction look f rows) (Ok found)) as_many
+        (subst (λ ds. IsWitness direction (drawn_along direction look (count_along direction columns (length cells))) (count_along direction columns (length cells)) ds (Ok found)) (demands_told direction) witnessed))

@@ -1,10 +1,13 @@
 -- What the laws are about.
-use Rattle.std.specs.Prelude.{◌≡◌, ◌≢◌, ℕ, List, ◌∷◌, ◌++◌}
+use Rattle.std.specs.Prelude.{◌≡◌, ◌≢◌, ℕ, if◌then◌else◌, List, ◌∷◌, ◌++◌, map, None, Option, Some}
 use Rattle.std.specs.List.{flat_map}
 use Rattle.papergrid_values.specs.declared.position.Position.{Position}
 use Rattle.papergrid_text.specs.Measured.{Measured}
 use Rattle.papergrid_text.specs.Text.{greatest_width, kept_by_new, split_lines}
 use Rattle.papergrid_axis.specs.declared.direction.Direction.{Direction}
+use Rattle.papergrid_axis.specs.Chosen.{chosen_of}
+use Rattle.papergrid_axis.specs.KeptApart.{is_kept_apart}
+use Rattle.papergrid_axis.specs.Ranges.{place_of}
 use Rattle.papergrid_axis.specs.Sizes.{sizes_of}
 use Rattle.papergrid_maps.specs.Spans as spans
 use Rattle.papergrid_maps.specs.Spans.{Columns, Rows}
@@ -26,6 +29,13 @@ IsNewText text t =
 abbrev pub sizes_told : {C : Type 0} → Direction → Look → (C → ℕ × ℕ) → ℕ → List (List C) → List ℕ
 sizes_told direction look measure n rows =
     sizes_of direction (drawn_along direction look n) n (demands_of direction look measure rows)
+
+-- the places of the cells that certify these sizes, none where longer ranges are not kept apart
+abbrev pub witness_told : {C : Type 0} → Direction → Look → (C → ℕ × ℕ) → ℕ → List (List C) → Option (List Position)
+witness_told direction look measure n rows =
+    if is_kept_apart direction (demands_of direction look measure rows)
+    then Some (map place_of (chosen_of direction (drawn_along direction look n) n (demands_of direction look measure rows)))
+    else None
 
 -- the same spans, paddings and lines
 pub record TellTheSame (settings other : List Setting) : Type 0 where

@@ -1,28 +1,20 @@
 //! The check that sizes along one direction are least, by a list of positions.
 
-ghost use Rattle.std.specs.Prelude.{◌≡◌, ◌+◌, ◌^◌, ◌≤◌, ◌∷◌, [], ⊤, List, length};
+ghost use Rattle.std.specs.Prelude.{◌≡◌, ◌+◌, ◌^◌, ◌<◌, ◌≤◌, ◌∷◌, [], ⊤, List, length};
 ghost use Rattle.papergrid_text.specs.Records.{Gives, WalkIsShort};
-ghost use Rattle.papergrid_axis.specs.Checks.{AreBounded};
+ghost use Rattle.papergrid_axis.specs.Checks.{AreBounded, IsClaim};
 ghost use Rattle.papergrid_layout.specs.Cells.{asked_by, demands_of, placed_row, side};
 ghost use Rattle.papergrid_layout.specs.Witnesses.{ChecksBy, ChecksMore, IsChecked};
 
 use crate::measure::Measure;
 use crate::settings::Settings;
 use crate::sizes::{Along, count_of};
-use papergrid_axis::checked::{accepts, visit, wide_need};
-use papergrid_axis::{Checked, Direction};
+use papergrid_axis::checked::{accepts, is_unchanged, visit, wide_need};
+use papergrid_axis::claim::are_in_order;
+use papergrid_axis::{Checked, Claim, Direction};
 use papergrid_text::{IntoRecords, Records};
 use papergrid_values::Position;
 use std::iter::{IntoIterator, Iterator};
-
-/// What is checked: sizes along a direction, and the places of cells that are to certify that they
-/// are least.
-#[derive(Clone, Copy)]
-struct Claim<'a> {
-    direction: Direction,
-    sizes: &'a [usize],
-    places: &'a [Position],
-}
 
 /// What the cell at a position needs along a direction, by its measure.
 fn need_along<S: Settings>(
@@ -44,7 +36,8 @@ fn need_along<S: Settings>(
     wide_need(size, before, after)
 }
 
-/// What is kept of the cells met and of one more, if that is visible.
+/// What is kept of the cells met and of one more, if that is visible. Whether it is takes a look at
+/// the spans, so this is asked only of a cell that would change what is kept.
 fn check_cell<M: Measure<C>, C, S: Settings>(
     checked: Checked,
     settings: &S,
@@ -52,30 +45,28 @@ fn check_cell<M: Measure<C>, C, S: Settings>(
     pos: Position,
     cell: &C,
 ) -> Checked
-    requires { AreBounded claim.now.places.now checked }
+    requires bounded { AreBounded claim.now.places.now checked }
+    requires ordered { IsClaim ((S.look settings.now).span claim.now.direction) claim.now }
     ensures bounded { AreBounded claim.now.places.now result }
     ensures checks { let look = S.look settings.now in
         ChecksMore look claim.now.direction claim.now.sizes.now claim.now.places.now checked result
         (asked_by claim.now.direction look M.measured ((pos, cell.now) ∷ [])) }
 {
-    if !settings.is_visible(pos) {
-        return checked;
-    }
     let axis = Along {
         settings,
         direction: claim.direction,
         count: claim.sizes.len(),
     };
     let need = need_along(settings, claim.direction, pos, M::measure(cell));
-    visit(
-        checked,
-        claim.direction,
-        &axis,
-        claim.sizes,
-        claim.places,
-        pos,
-        need,
-    )
+    let visited = visit(checked, claim, &axis, pos, need);
+    if is_unchanged(checked, visited) {
+        return checked;
+    }
+    if settings.is_visible(pos) {
+        visited
+    } else {
+        checked
+    }
 }
 
 /// What is kept of the cells met and of the visible ones of one more row.
@@ -91,6 +82,7 @@ where
     <W as IntoIterator>::Item: Drop,
     requires short { WalkIsShort W.into_iter_gives W.IntoIter.can_next W.IntoIter.remaining W.IntoIter.next_gives (λ _. ⊤) row }
     requires bounded { AreBounded claim.now.places.now before }
+    requires ordered { IsClaim ((S.look settings.now).span claim.now.direction) claim.now }
     ensures bounded { AreBounded claim.now.places.now result }
     ensures checks { let look = S.look settings.now in
         (cells : List W.Item) × Gives W.into_iter_gives W.IntoIter.next_gives row cells
@@ -119,7 +111,8 @@ fn check_rows<M, R: Records + Drop, S: Settings>(
 where
     M: Measure<<<R as Records>::Iter as IntoRecords>::Cell>,
     <<R as Records>::Iter as IntoRecords>::Cell: Drop,
-    requires { R.is_lawful records }
+    requires lawful { R.is_lawful records }
+    requires ordered { IsClaim ((S.look settings.now).span claim.now.direction) claim.now }
     ensures bounded { AreBounded claim.now.places.now result.0 }
     ensures checks { let look = S.look settings.now in
         (cells : List (List R.Iter.Cell)) × R.tells records cells
@@ -133,6 +126,65 @@ where
         count += 1;
     }
     (checked, count)
+}
+
+/// The check where no more positions are listed than there are sizes.
+fn check_listed<M, R: Records + Drop, S: Settings>(
+    records: R,
+    settings: &S,
+    direction: Direction,
+    sizes: &[usize],
+    places: &[Position],
+) -> bool
+where
+    M: Measure<<<R as Records>::Iter as IntoRecords>::Cell>,
+    <<R as Records>::Iter as IntoRecords>::Cell: Drop,
+    requires { R.is_lawful records }
+    ensures { (cells : List (List R.Iter.Cell)) × R.tells records cells
+        × IsChecked (S.look settings.now) M.measured (R.columns records) cells direction sizes.now places.now result }
+{
+    let columns = records.count_columns();
+    let axis = Along {
+        settings,
+        direction,
+        count: sizes.len(),
+    };
+    let claim = Claim {
+        direction,
+        sizes,
+        places,
+        is_ordered: are_in_order(direction, &axis, places),
+    };
+    let (checked, rows) = check_rows::<M, R, S>(records, settings, &claim);
+    let count = count_of(direction, columns, rows);
+    accepts(checked, &claim, &axis, count)
+}
+
+/// The check where more positions are listed than there are sizes: ranges that have no number in
+/// common are never so many. The list is not looked at; the records are walked as ever.
+fn check_long<M, R: Records + Drop, S: Settings>(
+    records: R,
+    settings: &S,
+    direction: Direction,
+    sizes: &[usize],
+    places: &[Position],
+) -> bool
+where
+    M: Measure<<<R as Records>::Iter as IntoRecords>::Cell>,
+    <<R as Records>::Iter as IntoRecords>::Cell: Drop,
+    requires lawful { R.is_lawful records }
+    requires long { length sizes.now < length places.now }
+    ensures { (cells : List (List R.Iter.Cell)) × R.tells records cells
+        × IsChecked (S.look settings.now) M.measured (R.columns records) cells direction sizes.now places.now result }
+{
+    let claim = Claim {
+        direction,
+        sizes,
+        places: &places[..0],
+        is_ordered: false,
+    };
+    let _ = check_rows::<M, R, S>(records, settings, &claim);
+    false
 }
 
 /// Whether no visible cell of the records reaches out, the sizes are as many as the columns (rows)
@@ -153,18 +205,9 @@ where
     ensures { (cells : List (List R.Iter.Cell)) × R.tells records cells
         × IsChecked (S.look settings.now) M.measured (R.columns records) cells direction sizes.now places.now result }
 {
-    let columns = records.count_columns();
-    let claim = Claim {
-        direction,
-        sizes,
-        places,
-    };
-    let (checked, rows) = check_rows::<M, R, S>(records, settings, &claim);
-    let count = count_of(direction, columns, rows);
-    let axis = Along {
-        settings,
-        direction,
-        count: sizes.len(),
-    };
-    accepts(checked, direction, &axis, count, sizes, places)
+    if places.len() > sizes.len() {
+        check_long::<M, R, S>(records, settings, direction, sizes, places)
+    } else {
+        check_listed::<M, R, S>(records, settings, direction, sizes, places)
+    }
 }

@@ -1,6 +1,7 @@
 //! Worked tables.
 
 mod callers;
+mod certificates;
 mod refused;
 
 ghost use Rattle.std.specs.Prelude.{◌≡◌, ℕ, IfOk, List, OnOk, length};

@@ -10,23 +10,23 @@ pub returns-then-not-sums_agree-clause-exact : goal.returns-then-not-sums_agree-
 returns-then-not-sums_agree-clause-exact g c = λ demands distinct checks. (
   (λ t. absurd (false≢true t)),
   λ accepted. c.if-not-sums_agree.ensures.1
-      (sums-from_accepted (lines_to (g.A.Axis.line c.args.axis.now) (length c.args.sizes.now)) c.args.sizes.now c.args.places.now c.args.direction (g.A.Axis.span_of c.args.axis.now) c.args.checked demands checks distinct
-      (subst (λ n. IsAccepted (lines_to (g.A.Axis.line c.args.axis.now) n) n demands c.args.sizes.now c.args.places.now) (sym c.if-sizes-count.false) accepted)),
+      (sums-from_accepted (lines_to (g.A.Axis.line c.args.axis.now) (length c.args.claim.now.sizes.now)) c.args.claim.now.sizes.now c.args.claim.now.places.now c.args.claim.now.direction (g.A.Axis.span_of c.args.axis.now) c.args.checked demands checks distinct
+      (subst (λ n. IsAccepted (lines_to (g.A.Axis.line c.args.axis.now) n) n demands c.args.claim.now.sizes.now c.args.claim.now.places.now) (sym c.if-claim-count.false) accepted)),
 )
 
 pub returns-clause-exact : goal.returns-clause-exact
 returns-clause-exact g c = λ demands distinct checks. (
-  (λ t. subst (λ n. IsAccepted (lines_to (g.A.Axis.line c.args.axis.now) n) n demands c.args.sizes.now c.args.places.now) c.if-sizes-count.false
-      (accepted-from (lines_to (g.A.Axis.line c.args.axis.now) (length c.args.sizes.now)) c.args.sizes.now c.args.places.now c.args.direction (g.A.Axis.span_of c.args.axis.now) c.args.checked demands checks distinct
-      (c.if-not-sums_agree.ensures.0 refl) (c.are_apart.ensures.0 t))),
-  λ accepted. c.are_apart.ensures.1
-      (apart-from_accepted (lines_to (g.A.Axis.line c.args.axis.now) (length c.args.sizes.now)) c.args.sizes.now c.args.places.now c.args.direction (g.A.Axis.span_of c.args.axis.now) c.args.checked demands checks distinct
-      (subst (λ n. IsAccepted (lines_to (g.A.Axis.line c.args.axis.now) n) n demands c.args.sizes.now c.args.places.now) (sym c.if-sizes-count.false) accepted)),
+  (λ t. subst (λ n. IsAccepted (lines_to (g.A.Axis.line c.args.axis.now) n) n demands c.args.claim.now.sizes.now c.args.claim.now.places.now) c.if-claim-count.false
+      (accepted-from (lines_to (g.A.Axis.line c.args.axis.now) (length c.args.claim.now.sizes.now)) c.args.claim.now.sizes.now c.args.claim.now.places.now c.args.claim.now.direction (g.A.Axis.span_of c.args.axis.now) c.args.checked demands checks distinct
+      (c.if-not-sums_agree.ensures.0 refl) (c.are_disjoint.ensures.0 t))),
+  λ accepted. c.are_disjoint.ensures.1
+      (apart-from_accepted (lines_to (g.A.Axis.line c.args.axis.now) (length c.args.claim.now.sizes.now)) c.args.claim.now.sizes.now c.args.claim.now.places.now c.args.claim.now.direction (g.A.Axis.span_of c.args.axis.now) c.args.checked demands checks distinct
+      (subst (λ n. IsAccepted (lines_to (g.A.Axis.line c.args.axis.now) n) n demands c.args.claim.now.sizes.now c.args.claim.now.places.now) (sym c.if-claim-count.false) accepted)),
 )
 
 pub returns-clause-least : goal.returns-clause-least
 returns-clause-least g c = λ demands distinct checks t.
-    subst (λ n. IsLeast (lines_to (g.A.Axis.line c.args.axis.now) n) n demands c.args.sizes.now) c.if-sizes-count.false
-    (IsLeast-accepted (lines_to (g.A.Axis.line c.args.axis.now) (length c.args.sizes.now)) (length c.args.sizes.now) demands c.args.sizes.now c.args.places.now checks.spans
-    (accepted-from (lines_to (g.A.Axis.line c.args.axis.now) (length c.args.sizes.now)) c.args.sizes.now c.args.places.now c.args.direction (g.A.Axis.span_of c.args.axis.now) c.args.checked demands checks distinct
-    (c.if-not-sums_agree.ensures.0 refl) (c.are_apart.ensures.0 t)))
+    subst (λ n. IsLeast (lines_to (g.A.Axis.line c.args.axis.now) n) n demands c.args.claim.now.sizes.now) c.if-claim-count.false
+    (IsLeast-accepted (lines_to (g.A.Axis.line c.args.axis.now) (length c.args.claim.now.sizes.now)) (length c.args.claim.now.sizes.now) demands c.args.claim.now.sizes.now c.args.claim.now.places.now checks.spans
+    (accepted-from (lines_to (g.A.Axis.line c.args.axis.now) (length c.args.claim.now.sizes.now)) c.args.claim.now.sizes.now c.args.claim.now.places.now c.args.claim.now.direction (g.A.Axis.span_of c.args.axis.now) c.args.checked demands checks distinct
+    (c.if-not-sums_agree.ensures.0 refl) (c.are_disjoint.ensures.0 t)))

@@ -1,51 +1,61 @@
 use Rattle.std.proofs.Common.{◌≡◌, ℕ, ◌+◌, ◌*◌, ◌≤◌, ◌∷◌, ◌++◌, [], ◌∙◌, ap₂, sym, refl, subst, subst₂, arith, length, true}
-use Rattle.std.proofs.lemmas.Bool.{true≢false}
+use Rattle.std.proofs.lemmas.Bool.{not-false, not-true, true≢false}
 use Rattle.papergrid_axis.specs.Checks.{Checks, range_of, times_listed}
 use Rattle.papergrid_axis.specs.Fits.{HasRoom}
 use Rattle.papergrid_axis.specs.Ranges.{along, demand_of, inner_lines, lines_to}
+use Rattle.papergrid_axis.proofs.ClaimLemmas.{rising-from_order}
 use Rattle.papergrid_axis.proofs.CheckLemmas.{Checks-more, Checks-fails, none_room, too_many, inner_lines-span}
 use Rattle.papergrid_axis.proofs.checked.visit.Goals as goal
-use Rattle.papergrid_axis.proofs.checked.visit.Goals.{else-times-places-via-then-times-places+else-checked, else-times-places-via-else-times-places}
 
-pub returns-then-checked-clause-checks : goal.returns-then-checked-clause-checks
-returns-then-checked-clause-checks g c = λ demands before.
-    let line : ℕ → _ = lines_to (g.A.Axis.line c.args.axis.now) (length c.args.sizes.now) in
+pub returns-then-times-claim-clause-checks : goal.returns-then-times-claim-clause-checks
+returns-then-times-claim-clause-checks g c = λ demands before.
+    let line : ℕ → _ = lines_to (g.A.Axis.line c.args.axis.now) (length c.args.claim.now.sizes.now) in
     let span_of = g.A.Axis.span_of c.args.axis.now in
-    let d = demand_of c.args.direction c.args.place (g.A.Axis.span_of c.args.axis.now c.args.place) c.args.need in
-    let inside : along c.args.direction c.args.place + g.A.Axis.span_of c.args.axis.now c.args.place ≤ length c.args.sizes.now =
+    let d = demand_of c.args.claim.now.direction c.args.place (g.A.Axis.span_of c.args.axis.now c.args.place) c.args.need in
+    let inside : along c.args.claim.now.direction c.args.place + g.A.Axis.span_of c.args.axis.now c.args.place ≤ length c.args.claim.now.sizes.now =
     omega (arith, c.in-Some.ensures.inside, c.number_of-start.ensures, c.span-span.ensures.value) in
-    let has : HasRoom line c.args.sizes.now d = subst₂ (λ s n. HasRoom line c.args.sizes.now (range_of s n c.args.need)) c.number_of-start.ensures c.span-span.ensures.value c.in-Some.ensures.room in
-    let times : c.count_listed-times.result ≡ times_listed c.args.places.now d = c.count_listed-times.ensures in
+    let has : HasRoom line c.args.claim.now.sizes.now d = subst₂ (λ s n. HasRoom line c.args.claim.now.sizes.now (range_of s n c.args.need)) c.number_of-start.ensures c.span-span.ensures.value c.in-Some.ensures.room in
+    let times : c.count_listed-times.result ≡ times_listed c.args.claim.now.places.now d = c.count_listed-times.ensures in
     let inner : c.in-Some.inner ≡ inner_lines line d = c.in-Some.ensures.inner ∙ ap₂ (λ s n. inner_lines line (range_of s n c.args.need)) c.number_of-start.ensures c.span-span.ensures.value in
     let one : 1 ≤ g.A.Axis.span_of c.args.axis.now c.args.place = omega (arith, c.span-span.ensures.value, c.span-span.ensures.positive) in
     let small : inner_lines line d ≤ 18446744073709551616 = omega (arith, inner_lines-span line d, inside) in
-    let few : c.args.checked.found + times_listed c.args.places.now d ≤ length c.args.places.now = omega (arith, times, c.if-times-places.true, c.requires.bounded.few) in
-    subst (λ r. Checks line c.args.sizes.now c.args.places.now c.args.direction span_of r (demands ++ d ∷ []))
+    let few : c.args.checked.found + times_listed c.args.claim.now.places.now d ≤ length c.args.claim.now.places.now = omega (arith, times, c.if-times-claim.true, c.requires.bounded.few) in
+    subst (λ r. Checks line c.args.claim.now.sizes.now c.args.claim.now.places.now c.args.claim.now.direction span_of r (demands ++ d ∷ []))
     (sym (c.with_cell.ensures ∙ ap₂ (λ (t i : ℕ). record { holds = true; found = c.args.checked.found + t; needs = c.args.checked.needs + c.args.need * t; inner = c.args.checked.inner + i * t }) times inner))
-    (Checks-more line c.args.sizes.now c.args.places.now c.args.direction span_of c.args.checked demands d before refl one c.if-checked.true inside has few c.requires.need small)
+    (Checks-more line c.args.claim.now.sizes.now c.args.claim.now.places.now c.args.claim.now.direction span_of c.args.checked demands d before refl one (not-false c.args.checked.holds c.if-not-checked.false) inside has few c.requires.need small)
 
-pub returns-else-times-places-clause-checks : goal.returns-else-times-places-clause-checks
-returns-else-times-places-clause-checks g c = λ demands before.
-    let line : ℕ → _ = lines_to (g.A.Axis.line c.args.axis.now) (length c.args.sizes.now) in
+pub returns-else-times-claim-clause-checks : goal.returns-else-times-claim-clause-checks
+returns-else-times-claim-clause-checks g c = λ demands before.
+    let line : ℕ → _ = lines_to (g.A.Axis.line c.args.axis.now) (length c.args.claim.now.sizes.now) in
     let span_of = g.A.Axis.span_of c.args.axis.now in
-    let d = demand_of c.args.direction c.args.place (g.A.Axis.span_of c.args.axis.now c.args.place) c.args.need in
+    let d = demand_of c.args.claim.now.direction c.args.place (g.A.Axis.span_of c.args.axis.now c.args.place) c.args.need in
     let one : 1 ≤ g.A.Axis.span_of c.args.axis.now c.args.place = omega (arith, c.span-span.ensures.value, c.span-span.ensures.positive) in
-    let times : c.count_listed-times.result ≡ times_listed c.args.places.now d = c.count_listed-times.ensures in
-    subst (λ r. Checks line c.args.sizes.now c.args.places.now c.args.direction span_of r (demands ++ d ∷ [])) (sym c.failed.ensures)
-    (Checks-fails line c.args.sizes.now c.args.places.now c.args.direction span_of c.args.checked demands d before refl one
-    (λ so. elim c.else-times-places.branch [
-      | else-times-places-via-then-times-places+else-checked w ↦ absurd (true≢false (sym so ∙ w.if-checked.false))
-      | else-times-places-via-else-times-places w ↦
-          too_many line c.args.sizes.now c.args.places.now c.args.direction span_of c.args.checked demands d before refl one so (omega (arith, times, w.if-times-places.false, c.requires.bounded.few))
-    ]))
+    let times : c.count_listed-times.result ≡ times_listed c.args.claim.now.places.now d = c.count_listed-times.ensures in
+    subst (λ r. Checks line c.args.claim.now.sizes.now c.args.claim.now.places.now c.args.claim.now.direction span_of r (demands ++ d ∷ [])) (sym c.failed-else-times-claim.ensures)
+    (Checks-fails line c.args.claim.now.sizes.now c.args.claim.now.places.now c.args.claim.now.direction span_of c.args.checked demands d before refl one
+    (λ so. too_many line c.args.claim.now.sizes.now c.args.claim.now.places.now c.args.claim.now.direction span_of c.args.checked demands d before refl one so (omega (arith, times, c.if-times-claim.false, c.requires.bounded.few))))
 
 pub returns-in-None-clause-checks : goal.returns-in-None-clause-checks
 returns-in-None-clause-checks g c = λ demands before.
-    let line : ℕ → _ = lines_to (g.A.Axis.line c.args.axis.now) (length c.args.sizes.now) in
+    let line : ℕ → _ = lines_to (g.A.Axis.line c.args.axis.now) (length c.args.claim.now.sizes.now) in
     let span_of = g.A.Axis.span_of c.args.axis.now in
-    let d = demand_of c.args.direction c.args.place (g.A.Axis.span_of c.args.axis.now c.args.place) c.args.need in
+    let d = demand_of c.args.claim.now.direction c.args.place (g.A.Axis.span_of c.args.axis.now c.args.place) c.args.need in
     let one : 1 ≤ g.A.Axis.span_of c.args.axis.now c.args.place = omega (arith, c.span-span.ensures.value, c.span-span.ensures.positive) in
-    let none = subst₂ (λ s n. s + n ≤ length c.args.sizes.now → HasRoom line c.args.sizes.now (range_of s n c.args.need) → ⊥) c.number_of-start.ensures c.span-span.ensures.value c.in-None.ensures.none in
-    subst (λ r. Checks line c.args.sizes.now c.args.places.now c.args.direction span_of r (demands ++ d ∷ [])) (sym c.failed-in-None.ensures)
-    (Checks-fails line c.args.sizes.now c.args.places.now c.args.direction span_of c.args.checked demands d before refl one
-    (λ so. none_room line c.args.sizes.now c.args.places.now c.args.direction span_of c.args.checked demands d before refl one none))
+    let none = subst₂ (λ s n. s + n ≤ length c.args.claim.now.sizes.now → HasRoom line c.args.claim.now.sizes.now (range_of s n c.args.need) → ⊥) c.number_of-start.ensures c.span-span.ensures.value c.in-None.ensures.none in
+    subst (λ r. Checks line c.args.claim.now.sizes.now c.args.claim.now.places.now c.args.claim.now.direction span_of r (demands ++ d ∷ [])) (sym c.failed-in-None.ensures)
+    (Checks-fails line c.args.claim.now.sizes.now c.args.claim.now.places.now c.args.claim.now.direction span_of c.args.checked demands d before refl one
+    (λ so. none_room line c.args.claim.now.sizes.now c.args.claim.now.places.now c.args.claim.now.direction span_of c.args.checked demands d before refl one none))
+
+-- after a cell that fails nothing changes
+pub returns-then-not-checked-clause-checks : goal.returns-then-not-checked-clause-checks
+returns-then-not-checked-clause-checks g c = λ demands before.
+    let line : ℕ → _ = lines_to (g.A.Axis.line c.args.axis.now) (length c.args.claim.now.sizes.now) in
+    let span_of = g.A.Axis.span_of c.args.axis.now in
+    let d = demand_of c.args.claim.now.direction c.args.place (g.A.Axis.span_of c.args.axis.now c.args.place) c.args.need in
+    let one : 1 ≤ g.A.Axis.span_of c.args.axis.now c.args.place = omega (arith, c.span-span.ensures.value, c.span-span.ensures.positive) in
+    subst (λ r. Checks line c.args.claim.now.sizes.now c.args.claim.now.places.now c.args.claim.now.direction span_of r (demands ++ d ∷ [])) (sym c.failed.ensures)
+    (Checks-fails line c.args.claim.now.sizes.now c.args.claim.now.places.now c.args.claim.now.direction span_of c.args.checked demands d before refl one
+    (λ so. absurd (true≢false (sym so ∙ not-true c.args.checked.holds c.if-not-checked.true))))
+
+pub count_listed-times-requires : goal.count_listed-times-requires
+count_listed-times-requires g c = λ t. rising-from_order c.args.claim.now.direction (g.A.Axis.span_of c.args.axis.now) c.args.claim.now.places.now (c.requires.ordered t)

@@ -2,4 +2,4 @@ use Rattle.papergrid_axis.specs.Checks.{AreBounded}
 use Rattle.papergrid_axis.proofs.tests.check.Given as goal
 
 abbrev pub invariant-loop-row : goal.invariant-loop-row
-invariant-loop-row l = AreBounded l.places l.checked
+invariant-loop-row l = AreBounded l.claim.places.now l.checked

@@ -10,17 +10,17 @@ pub loop-row-init : goal.loop-row-init
 loop-row-init g c =
     let claim = c.args.claim.now in
     let look = g.S.Settings.look c.args.settings.now in
-    let short = c.iter_rows-row-items.ensures.finite c.requires c.into_iter-row-iterator.result c.into_iter-row-iterator.ensures.into_iter_gives in
+    let short = c.iter_rows-row-items.ensures.finite c.requires.lawful c.into_iter-row-iterator.result c.into_iter-row-iterator.ensures.into_iter_gives in
     (short.may_start, short.ends, refl, c.new-checked.ensures.bounded claim.places.now, ([], tt, c.new-checked.ensures.checks (drawn_along claim.direction look _) claim.sizes.now claim.places.now claim.direction (look.span claim.direction)))
 
 pub check_row-checked-requires-clause-short : goal.check_row-checked-requires-clause-short
 check_row-checked-requires-clause-short g c =
-    let rows = c.iter_rows-row-items.ensures.finite c.requires c.into_iter-row-iterator.result c.into_iter-row-iterator.ensures.into_iter_gives in
+    let rows = c.iter_rows-row-items.ensures.finite c.requires.lawful c.into_iter-row-iterator.result c.into_iter-row-iterator.ensures.into_iter_gives in
     rows.each c.loop-row.yielded c.loop-row.row-iterator c.in-Some.row c.next.new.self c.loop-row.yielded_by c.in-Some.ensures.steps
 
 pub overflow_add-count : goal.overflow_add-count
 overflow_add-count g c =
-    let rows = c.iter_rows-row-items.ensures.finite c.requires c.into_iter-row-iterator.result c.into_iter-row-iterator.ensures.into_iter_gives in
+    let rows = c.iter_rows-row-items.ensures.finite c.requires.lawful c.into_iter-row-iterator.result c.into_iter-row-iterator.ensures.into_iter_gives in
     let n = one_more_fits rows c.loop-row.row-iterator c.next.new.self c.loop-row.yielded c.in-Some.row c.loop-row.yielded_by c.in-Some.ensures.steps in
     let e = c.loop-row.invariant.2 in
     omega arith

@@ -3,7 +3,7 @@ use Rattle.papergrid_layout.specs.Answers.{count_along}
 use Rattle.papergrid_layout.specs.Cells.{demands_of}
 use Rattle.papergrid_layout.proofs.CheckSteps.{checked-of}
 use Rattle.papergrid_layout.proofs.Distinct.{AreDistinct-demands}
-use Rattle.papergrid_layout.proofs.check.check.Goals as goal
+use Rattle.papergrid_layout.proofs.check.check_listed.Goals as goal
 
 pub returns : goal.returns
 returns g c =

@@ -1,0 +1,101 @@
+//! What a checker is given.
+
+ghost use Rattle.std.specs.Prelude.{◌≡◌, ◌↔◌, ◌&&◌, ◌==◌, AllPairs, IsTrue, count_by, nat_lt, true};
+ghost use Rattle.papergrid_axis.specs.Checks.{AreApartAt, AreInOrder, AreRising, IsClaim};
+ghost use Rattle.papergrid_axis.specs.Ranges.{along};
+
+use crate::apart::{are_apart, ends_by};
+use crate::axis::Axis;
+use crate::direction::Direction;
+use crate::seen::number_of;
+use papergrid_values::Position;
+
+/// Sizes along a direction, and the places of cells that are to certify that they are least.
+#[derive(Clone, Copy, Debug)]
+pub struct Claim<'a> {
+    pub direction: Direction,
+    pub sizes: &'a [usize],
+    pub places: &'a [Position],
+    /// Whether each of the ranges at the places is known to end before a later one begins: then a
+    /// place is looked for by halves, and no two ranges have a number in common.
+    pub is_ordered: bool,
+}
+
+/// Whether the range at a place ends at or before that at another begins.
+fn is_before<A: Axis>(direction: Direction, axis: &A, place: Position, later: Position) -> bool
+    ensures { IsTrue result → AreInOrder direction (A.span_of axis.now) place later }
+{
+    ends_by(
+        number_of(direction, place),
+        axis.span(place),
+        number_of(direction, later),
+    )
+}
+
+/// Whether each of the ranges at the places ends before a later one begins.
+pub fn are_in_order<A: Axis>(direction: Direction, axis: &A, places: &[Position]) -> bool
+    ensures { IsTrue result → AllPairs (AreInOrder direction (A.span_of axis.now)) places.now }
+{
+    for i in 1..places.len() {
+        if !is_before(direction, axis, places[i - 1], places[i]) {
+            return false;
+        }
+    }
+    true
+}
+
+/// How often a position is listed.
+fn count_all(places: &[Position], place: Position) -> usize
+    ensures { result ≡ count_by (λ p. place.row == p.row && place.col == p.col) places.now }
+{
+    places
+        .iter()
+        .filter(|listed| place.row == listed.row && place.col == listed.col)
+        .count()
+}
+
+fn is_same(place: Position, listed: Position) -> bool
+    ensures { result ≡ (place.row == listed.row && place.col == listed.col) }
+{
+    place.row == listed.row && place.col == listed.col
+}
+
+/// How often a position is listed, where the numbers of the places rise.
+fn count_rising(direction: Direction, places: &[Position], place: Position) -> usize
+    requires { AllPairs (AreRising direction) places.now }
+    ensures { result ≡ count_by (λ p. place.row == p.row && place.col == p.col) places.now }
+{
+    let start = number_of(direction, place);
+    let at = places.partition_point(
+        |listed: &Position| -> bool
+            ensures { result ≡ nat_lt (along direction listed.now) start }
+        { number_of(direction, *listed) < start },
+    );
+    if at >= places.len() {
+        return 0;
+    }
+    if is_same(place, places[at]) { 1 } else { 0 }
+}
+
+/// How often a position is listed.
+pub fn count_listed(claim: &Claim<'_>, place: Position) -> usize
+    requires { claim.now.is_ordered ≡ true → AllPairs (AreRising claim.now.direction) claim.now.places.now }
+    ensures { result ≡ count_by (λ p. place.row == p.row && place.col == p.col) claim.now.places.now }
+{
+    if claim.is_ordered {
+        count_rising(claim.direction, claim.places, place)
+    } else {
+        count_all(claim.places, place)
+    }
+}
+
+/// Whether no two of the ranges at the places have a number in common.
+pub fn are_disjoint<A: Axis>(claim: &Claim<'_>, axis: &A) -> bool
+    requires { IsClaim (A.span_of axis.now) claim.now }
+    ensures { IsTrue result ↔ AllPairs (AreApartAt claim.now.direction (A.span_of axis.now)) claim.now.places.now }
+{
+    if claim.is_ordered {
+        return true;
+    }
+    are_apart(claim.direction, axis, claim.places)
+}

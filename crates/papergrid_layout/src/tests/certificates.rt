@@ -1,0 +1,211 @@
+//! Witnesses and their checkers, on worked tables.
+
+use crate::LayoutError;
+use crate::iterable::{check_height_witness, check_width_witness, height_witness, width_witness};
+use crate::tests::{
+    CROSSING, EVEN, LINES_ALONE, NESTED_COLUMNS, PICTURE, REMAINDER, SMALL, Table, plain, set_all,
+};
+use papergrid_config::SpannedConfig;
+use papergrid_values::Position;
+use std::alloc::{AllocError, Global};
+
+const EQUAL: Table = Table {
+    columns: 2,
+    rows: &[&["abc"], &["abcdef"]],
+    column_spans: &[(0, 0, 2), (1, 0, 2)],
+    ..SMALL
+};
+
+const EMPTY: Table = Table {
+    columns: 0,
+    rows: &[],
+    ..SMALL
+};
+
+const fn at(row: usize, col: usize) -> Position {
+    Position { row, col }
+}
+
+fn widths_checked(
+    alloc: Global,
+    table: Table,
+    config: &SpannedConfig,
+    widths: &[usize],
+    list: &[Position],
+) -> Result<bool, AllocError> {
+    let records = plain(alloc, table)?;
+    Ok(check_width_witness(records, config, widths, list))
+}
+
+fn heights_checked(
+    alloc: Global,
+    table: Table,
+    config: &SpannedConfig,
+    heights: &[usize],
+    list: &[Position],
+) -> Result<bool, AllocError> {
+    let records = plain(alloc, table)?;
+    Ok(check_height_witness(records, config, heights, list))
+}
+
+/// Whether the checker of widths gives this answer.
+fn checks_widths(
+    alloc: Global,
+    table: Table,
+    widths: &[usize],
+    list: &[Position],
+    answer: bool,
+) -> bool {
+    let mut config = SpannedConfig::new(alloc);
+    if set_all(&mut config, table).is_err() {
+        return false;
+    }
+    widths_checked(alloc, table, &config, widths, list) == Ok(answer)
+}
+
+/// Whether the checker of heights gives this answer.
+fn checks_heights(
+    alloc: Global,
+    table: Table,
+    heights: &[usize],
+    list: &[Position],
+    answer: bool,
+) -> bool {
+    let mut config = SpannedConfig::new(alloc);
+    if set_all(&mut config, table).is_err() {
+        return false;
+    }
+    heights_checked(alloc, table, &config, heights, list) == Ok(answer)
+}
+
+#[test]
+fn width_checker(rt: HostRuntime) {
+    let alloc = rt.alloc();
+    assert!(rt; checks_widths(alloc, NESTED_COLUMNS, &[2, 4, 4], &[at(1, 0)], true));
+    let pair = [at(0, 0), at(2, 1)];
+    assert!(rt; checks_widths(alloc, NESTED_COLUMNS, &[2, 4, 4], &pair, false));
+    assert!(rt; checks_widths(alloc, NESTED_COLUMNS, &[1, 4, 4], &pair, false));
+    let crossing = [at(0, 0), at(1, 1)];
+    assert!(rt; checks_widths(alloc, CROSSING, &[10, 10, 0], &crossing, false));
+}
+
+#[test]
+fn height_checker(rt: HostRuntime) {
+    let alloc = rt.alloc();
+    let list = [at(0, 0), at(2, 0)];
+    assert!(rt; checks_heights(alloc, EVEN, &[3, 3, 1], &list, true));
+    assert!(rt; checks_heights(alloc, EVEN, &[3, 3], &list, false));
+    assert!(rt; checks_heights(alloc, EVEN, &[3, 3, 1], &[at(0, 0), at(1, 0)], false));
+    let beyond = [at(0, 0), at(2, 0), at(9, 9)];
+    assert!(rt; checks_heights(alloc, EVEN, &[3, 3, 1], &beyond, false));
+}
+
+#[test]
+fn checker_on_empty_table(rt: HostRuntime) {
+    let alloc = rt.alloc();
+    assert!(rt; checks_widths(alloc, EMPTY, &[], &[], true));
+    assert!(rt; checks_heights(alloc, EMPTY, &[], &[], true));
+}
+
+/// The order of the list says nothing, and a position that stands in it twice is not right.
+#[test]
+fn list_in_any_order(rt: HostRuntime) {
+    let alloc = rt.alloc();
+    assert!(rt; checks_heights(alloc, EVEN, &[3, 3, 1], &[at(2, 0), at(0, 0)], true));
+    let twice = [at(2, 0), at(0, 0), at(0, 0)];
+    assert!(rt; checks_heights(alloc, EVEN, &[3, 3, 1], &twice, false));
+}
+
+/// A list of a million positions, none of them a cell's.
+#[test]
+fn list_of_a_million(rt: HostRuntime) {
+    let alloc = rt.alloc();
+    match vec![in alloc; at(9, 9); 1000000] {
+        Err(_) => {}
+        Ok(list) => {
+            assert!(rt; checks_widths(alloc, NESTED_COLUMNS, &[2, 4, 4], &list, false));
+        }
+    }
+}
+
+/// What a witness gives: nothing where memory was refused, else its answer.
+type Witness = Result<Option<Vec<Position>>, LayoutError>;
+
+fn width_certificate(alloc: Global, table: Table, config: &SpannedConfig) -> Witness {
+    width_witness(alloc, plain(alloc, table)?, config)
+}
+
+fn height_certificate(alloc: Global, table: Table, config: &SpannedConfig) -> Witness {
+    height_witness(alloc, plain(alloc, table)?, config)
+}
+
+/// Whether a witness gives these positions, or memory was refused.
+fn is_witness(witness: Witness, places: Option<&[Position]>) -> bool {
+    match (witness, places) {
+        (Err(LayoutError::Memory(_)), _) => true,
+        (Ok(None), None) => true,
+        (Ok(Some(found)), Some(wanted)) => found.as_slice() == wanted,
+        _ => false,
+    }
+}
+
+/// Whether a table has these witnesses, or memory was refused.
+fn has_witnesses(
+    alloc: Global,
+    table: Table,
+    widths: Option<&[Position]>,
+    heights: Option<&[Position]>,
+) -> bool {
+    let mut config = SpannedConfig::new(alloc);
+    if set_all(&mut config, table).is_err() {
+        return true;
+    }
+    let of_widths = width_certificate(alloc, table, &config);
+    let of_heights = height_certificate(alloc, table, &config);
+    is_witness(of_widths, widths) && is_witness(of_heights, heights)
+}
+
+#[test]
+fn readme_picture(rt: HostRuntime) {
+    let widths = [at(0, 0), at(0, 1), at(0, 2), at(0, 3)];
+    let heights = [at(0, 1), at(1, 1)];
+    assert!(rt; has_witnesses(rt.alloc(), PICTURE, Some(&widths), Some(&heights)));
+}
+
+#[test]
+fn remainder_to_first(rt: HostRuntime) {
+    let widths = [at(0, 0), at(0, 1)];
+    assert!(rt; has_witnesses(rt.alloc(), REMAINDER, Some(&widths), Some(&[at(0, 0)])));
+}
+
+#[test]
+fn lines_alone_satisfy(rt: HostRuntime) {
+    let widths = [at(0, 0), at(0, 1), at(0, 2)];
+    assert!(rt; has_witnesses(rt.alloc(), LINES_ALONE, Some(&widths), None));
+}
+
+#[test]
+fn nested_column_spans(rt: HostRuntime) {
+    let heights = [at(0, 0), at(1, 0), at(2, 0)];
+    assert!(rt;
+        has_witnesses(
+            rt.alloc(),
+            NESTED_COLUMNS,
+            Some(&[at(1, 0)]),
+            Some(&heights)
+        )
+    );
+}
+
+#[test]
+fn crossing_column_spans(rt: HostRuntime) {
+    let heights = [at(0, 0), at(1, 0)];
+    assert!(rt; has_witnesses(rt.alloc(), CROSSING, None, Some(&heights)));
+}
+
+#[test]
+fn equal_ranges(rt: HostRuntime) {
+    let heights = [at(0, 0), at(1, 0)];
+    assert!(rt; has_witnesses(rt.alloc(), EQUAL, Some(&[at(1, 0)]), Some(&heights)));
+    assert!(rt; checks_widths(rt.alloc(), EQUAL, &[4, 2], &[at(1, 0)], true));
+}
