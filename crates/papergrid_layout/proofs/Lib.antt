@@ -1,5 +1,6 @@
 pub mod AnswerLemmas
 pub mod LawLemmas
+pub mod PaddingLemmas
 pub mod PairLemmas
 pub mod ShownLemmas
 pub mod Steps

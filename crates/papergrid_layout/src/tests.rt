@@ -1,6 +1,7 @@
 //! Worked tables.
 
 mod callers;
+mod visible;
 
 ghost use Rattle.std.specs.Prelude.{◌≡◌, ℕ, IfOk, List, OnOk, length};
 ghost use Rattle.std.specs.Borrow.{Bor};
