@@ -1,6 +1,6 @@
 //! What a walk over cells keeps of their demands.
 
-ghost use Rattle.std.specs.Prelude.{◌≡◌, ◌+◌, ◌<◌, ◌≤◌, ◌^◌, [], ◌∷◌, OnOk};
+ghost use Rattle.std.specs.Prelude.{◌≡◌, ◌+◌, ◌<◌, ◌≤◌, ◌^◌, [], ◌∷◌, IfOk, OnOk};
 ghost use Rattle.std.specs.Option.{SomeIff};
 ghost use Rattle.papergrid_axis.specs.Seen.{Adds, Holds};
 ghost use Rattle.papergrid_axis.specs.Ranges.{along, demand_of};
@@ -27,6 +27,16 @@ impl Seen {
             demands: Vec::new(alloc),
             is_large: false,
         }
+    }
+
+    /// Nothing seen, with room for the demands of so many cells. It takes memory for them.
+    pub fn with_room(alloc: Global, cells: usize) -> Result<Self, AllocError>
+        ensures { IfOk result (λ seen. Holds seen []) }
+    {
+        Ok(Seen {
+            demands: Vec::with_capacity(alloc, cells)?,
+            is_large: false,
+        })
     }
 }
 

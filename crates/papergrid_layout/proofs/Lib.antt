@@ -2,6 +2,7 @@ pub mod AnswerLemmas
 pub mod CheckSteps
 pub mod Distinct
 pub mod LawLemmas
+pub mod PaddingLemmas
 pub mod PairLemmas
 pub mod ShownLemmas
 pub mod Steps

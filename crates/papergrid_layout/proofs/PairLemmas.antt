@@ -74,3 +74,8 @@ module _ {C : Type 0} (look : Look) (measure : C → ℕ × ℕ) (columns : ℕ)
         none_of_pairs columns (length cells) (demands_of Columns look measure cells) (demands_of Rows look measure cells)
         (length-map (visible_cells look cells) (asked Columns look measure) ∙ sym (length-map (visible_cells look cells) (asked Rows look measure)))
         (pairs-cells (visible_cells look cells) ∙ sym out_of_both ∙ none)
+
+    -- the same of what is kept
+    pub inside_seen : first_of_pairs columns (length cells) wide.demands.items high.demands.items ≡ None →
+        (first_out columns wide.demands.items ≡ None) × (first_out (length cells) high.demands.items ≡ None)
+    inside_seen none = none_of_pairs columns (length cells) wide.demands.items high.demands.items as_many none

@@ -8,15 +8,16 @@ ghost use Rattle.papergrid_axis.specs.Ranges.{end_of};
 ghost use Rattle.papergrid_axis.specs.Seen.{Adds, Holds};
 ghost use Rattle.papergrid_layout.specs.Answers.{AreBothSized, UnlessMemory};
 ghost use Rattle.papergrid_layout.specs.Cells.{asked_by, demands_of, placed_row};
+ghost use Rattle.papergrid_layout.specs.Paddings.{AreCommon};
 ghost use Rattle.papergrid_layout.specs.Pairs.{first_of_pairs};
 ghost use Rattle.papergrid_layout.specs.Shown.{Shows};
 
 use crate::measure::Measure;
-use crate::settings::Settings;
+use crate::settings::{Paddings, Settings};
 use crate::shown::shown;
 use crate::sizes::Along;
-use crate::walk::{ask, measure_shown};
-use papergrid_axis::conclude::conclude;
+use crate::walk::{ask, measure_shown, paddings_of, room_for};
+use papergrid_axis::conclude::conclude_inside;
 use papergrid_axis::finish::reaches_out;
 use papergrid_axis::{Demand, Direction, LayoutError, Seen};
 use papergrid_sweep::Sweep;
@@ -38,9 +39,11 @@ fn visit_both<M: Measure<C>, C, S: Settings>(
     both: &mut Both,
     walk: &mut Sweep,
     settings: &S,
+    common: Option<Paddings>,
     pos: Position,
     cell: &C,
 ) -> Result<(), AllocError>
+    requires common { AreCommon (S.look settings.now) common }
     requires asked { Shows (S.look settings.now).shows walk.old pos.row pos.col }
     requires row_in { pos.row < 2 ^ 64 - 1 }
     requires col_in { pos.col < 2 ^ 64 - 1 }
@@ -51,14 +54,23 @@ fn visit_both<M: Measure<C>, C, S: Settings>(
     ensures later { OnOk result (Shows (S.look settings.now).shows walk.new pos.row (pos.col + 1)) }
 {
     if let Some(measure) = measure_shown::<M, C, S>(alloc, walk, settings, pos, cell)? {
+        let paddings = paddings_of(settings, common, pos);
         ask(
             &mut both.columns,
             settings,
             Direction::Columns,
             pos,
             measure,
+            paddings,
         )?;
-        ask(&mut both.rows, settings, Direction::Rows, pos, measure)?;
+        ask(
+            &mut both.rows,
+            settings,
+            Direction::Rows,
+            pos,
+            measure,
+            paddings,
+        )?;
     }
     Ok(())
 }
@@ -69,6 +81,7 @@ fn visit_row_both<M, W: IntoIterator, S: Settings>(
     both: &mut Both,
     walk: &mut Sweep,
     settings: &S,
+    common: Option<Paddings>,
     number: usize,
     row: W,
 ) -> Result<(), AllocError>
@@ -76,6 +89,7 @@ where
     M: Measure<<W as IntoIterator>::Item>,
     <W as IntoIterator>::Item: Drop,
     requires short { WalkIsShort W.into_iter_gives W.IntoIter.can_next W.IntoIter.remaining W.IntoIter.next_gives (λ _. ⊤) row }
+    requires common { AreCommon (S.look settings.now) common }
     requires asked { Shows (S.look settings.now).shows walk.old number 0 }
     requires row_in { number < 2 ^ 64 - 1 }
     ensures adds { OnOk result ((cells : List W.Item) × Gives W.into_iter_gives W.IntoIter.next_gives row cells
@@ -89,7 +103,7 @@ where
             row: number,
             col: column,
         };
-        visit_both::<M, _, S>(alloc, both, walk, settings, pos, &cell)?;
+        visit_both::<M, _, S>(alloc, both, walk, settings, common, pos, &cell)?;
         column += 1;
     }
     Ok(())
@@ -109,14 +123,16 @@ where
         × Holds found.0.columns (demands_of Columns (S.look settings.now) M.measured cells)
         × Holds found.0.rows (demands_of Rows (S.look settings.now) M.measured cells) × (found.1 ≡ length cells)) }
 {
+    let room = room_for(records.hint_count_rows(), records.count_columns());
     let mut both = Both {
-        columns: Seen::new(alloc),
-        rows: Seen::new(alloc),
+        columns: Seen::with_room(alloc, room)?,
+        rows: Seen::with_room(alloc, room)?,
     };
     let mut walk = shown(alloc, settings)?;
+    let common = settings.common_paddings();
     let mut count = 0usize;
     for row in records.iter_rows() {
-        visit_row_both::<M, _, S>(alloc, &mut both, &mut walk, settings, count, row)?;
+        visit_row_both::<M, _, S>(alloc, &mut both, &mut walk, settings, common, count, row)?;
         count += 1;
     }
     Ok((both, count))
@@ -178,9 +194,9 @@ pub fn conclude_both<M: Measure<C>, C, S: Settings>(
         direction: Direction::Rows,
         count: rows,
     };
-    match conclude(alloc, Direction::Columns, columns, &both.columns, &across) {
+    match conclude_inside(alloc, Direction::Columns, columns, &both.columns, &across) {
         Err(no_widths) => Err(no_widths),
-        Ok(widths) => match conclude(alloc, Direction::Rows, rows, &both.rows, &down) {
+        Ok(widths) => match conclude_inside(alloc, Direction::Rows, rows, &both.rows, &down) {
             Err(no_heights) => Err(no_heights),
             Ok(heights) => Ok((widths, heights)),
         },

@@ -2,6 +2,7 @@
 
 ghost use Rattle.std.specs.Prelude.{◌≡◌, ◌≤◌, IfOk};
 ghost use Rattle.papergrid_layout.specs.Looks.{Look, compact_look, size_after, size_before, spanned_look};
+ghost use Rattle.papergrid_layout.specs.Paddings.{AreCommon, paddings_at};
 ghost use Rattle.papergrid_layout.specs.Shown.{AreAnchorsOf};
 ghost use Rattle.papergrid_sweep.specs.Hidden.{IsSorted};
 
@@ -10,6 +11,15 @@ use papergrid_config::{CompactConfig, SpannedConfig};
 use papergrid_sweep::{Anchor, anchors_of};
 use papergrid_values::{Indent, Position, Sides};
 use std::alloc::{AllocError, Global};
+
+/// The paddings left and right of a cell's text, above and below it.
+#[derive(Clone, Copy, Debug, PartialEq, Eq)]
+pub struct Paddings {
+    pub left: usize,
+    pub right: usize,
+    pub top: usize,
+    pub bottom: usize,
+}
 
 /// The visible positions, the spans, the paddings and the lines.
 pub trait Settings {
@@ -38,6 +48,14 @@ pub trait Settings {
     fn padding_after(&self, direction: Direction, pos: Position) -> usize
         ensures { result ≡ (look self.now).after direction pos };
 
+    /// The paddings of the cell at a position.
+    fn paddings(&self, pos: Position) -> Paddings
+        ensures { result ≡ paddings_at (look self.now) pos };
+
+    /// The paddings of all cells, where it is known that they are alike.
+    fn common_paddings(&self) -> Option<Paddings>
+        ensures { AreCommon (look self.now) result };
+
     /// Whether there is a line before column (row) `i` of so many, or, at their count, after the last.
     fn has_line(&self, direction: Direction, count: usize, i: usize) -> bool
         ensures { result ≡ (look self.now).draws direction count i };
@@ -60,6 +78,18 @@ fn after(direction: Direction, padding: &Sides<Indent>) -> usize
     match direction {
         Direction::Columns => padding.right.size,
         Direction::Rows => padding.bottom.size,
+    }
+}
+
+/// The sizes of the four sides.
+fn sizes(padding: &Sides<Indent>) -> Paddings
+    ensures { result ≡ record { left = padding.now.left.size; right = padding.now.right.size; top = padding.now.top.size; bottom = padding.now.bottom.size } }
+{
+    Paddings {
+        left: padding.left.size,
+        right: padding.right.size,
+        top: padding.top.size,
+        bottom: padding.bottom.size,
     }
 }
 
@@ -96,6 +126,17 @@ impl Settings for SpannedConfig {
         after(direction, self.get_padding(pos))
     }
 
+    fn paddings(&self, pos: Position) -> Paddings {
+        sizes(self.get_padding(pos))
+    }
+
+    fn common_paddings(&self) -> Option<Paddings> {
+        if self.has_padding() {
+            return None;
+        }
+        Some(sizes(self.get_padding(Position { row: 0, col: 0 })))
+    }
+
     fn has_line(&self, direction: Direction, count: usize, i: usize) -> bool {
         match direction {
             Direction::Columns => self.has_vertical(i, count),
@@ -128,6 +169,14 @@ impl Settings for CompactConfig {
 
     fn padding_after(&self, direction: Direction, _pos: Position) -> usize {
         after(direction, self.get_padding())
+    }
+
+    fn paddings(&self, _pos: Position) -> Paddings {
+        sizes(self.get_padding())
+    }
+
+    fn common_paddings(&self) -> Option<Paddings> {
+        Some(sizes(self.get_padding()))
     }
 
     fn has_line(&self, _direction: Direction, _count: usize, _i: usize) -> bool {

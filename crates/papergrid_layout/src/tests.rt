@@ -3,6 +3,7 @@
 mod callers;
 mod certificates;
 mod refused;
+mod visible;
 
 ghost use Rattle.std.specs.Prelude.{◌≡◌, ℕ, IfOk, List, OnOk, length};
 ghost use Rattle.std.specs.Borrow.{Bor};

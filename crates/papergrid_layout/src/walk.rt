@@ -3,11 +3,12 @@
 ghost use Rattle.std.specs.Prelude.{◌≡◌, ◌+◌, ◌-◌, ◌<◌, ◌^◌, ◌∷◌, [], ⊤, if◌then◌else◌, IfOk, List, None, OnOk, Some, length};
 ghost use Rattle.papergrid_text.specs.Records.{Gives, WalkIsShort};
 ghost use Rattle.papergrid_axis.specs.Seen.{Adds, Holds};
-ghost use Rattle.papergrid_layout.specs.Cells.{asked, asked_by, demands_of, placed_row, side};
+ghost use Rattle.papergrid_layout.specs.Cells.{asked, asked_by, demands_of, placed_row};
+ghost use Rattle.papergrid_layout.specs.Paddings.{AreCommon, paddings_at};
 ghost use Rattle.papergrid_layout.specs.Shown.{Shows};
 
 use crate::measure::Measure;
-use crate::settings::Settings;
+use crate::settings::{Paddings, Settings};
 use crate::shown::{is_shown, shown};
 use papergrid_axis::seen::keep;
 use papergrid_axis::{Direction, Seen};
@@ -17,13 +18,14 @@ use papergrid_values::Position;
 use std::alloc::{AllocError, Global};
 use std::iter::{IntoIterator, Iterator};
 
-/// The width, or the height, of a measure.
-fn side_of(direction: Direction, measure: (usize, usize)) -> usize
-    ensures { result ≡ side direction measure }
-{
-    match direction {
-        Direction::Columns => measure.0,
-        Direction::Rows => measure.1,
+/// At most for so many cells is room made beforehand.
+const MOST_ROOM: usize = 16384;
+
+/// For how many cells room is made beforehand. The hint of the number of rows may be false.
+pub fn room_for(rows: Option<usize>, columns: usize) -> usize {
+    match rows {
+        Some(count) => count.saturating_mul(columns).min(MOST_ROOM),
+        None => 0,
     }
 }
 
@@ -48,21 +50,41 @@ pub fn measure_shown<M: Measure<C>, C, S: Settings>(
     }
 }
 
+/// The paddings of the cell at a position, of which those of all cells may be known.
+pub fn paddings_of<S: Settings>(settings: &S, common: Option<Paddings>, pos: Position) -> Paddings
+    requires { AreCommon (S.look settings.now) common }
+    ensures { result ≡ paddings_at (S.look settings.now) pos }
+{
+    match common {
+        Some(paddings) => paddings,
+        None => settings.paddings(pos),
+    }
+}
+
 /// Keeps what the visible cell at a position asks for along a direction.
+#[inline(always)]
 pub fn ask<S: Settings>(
     seen: &mut Seen,
     settings: &S,
     direction: Direction,
     pos: Position,
     measure: (usize, usize),
+    paddings: Paddings,
 ) -> Result<(), AllocError>
+    requires { paddings ≡ paddings_at (S.look settings.now) pos }
     ensures { OnOk result (Adds seen.old seen.new (asked direction (S.look settings.now) (λ _. measure) (pos, measure) ∷ [])) }
 {
-    let need = side_of(direction, measure);
     let span = settings.span(direction, pos);
-    let before = settings.padding_before(direction, pos);
-    let after = settings.padding_after(direction, pos);
-    keep(seen, direction, pos, span, need, before, after)
+    match direction {
+        Direction::Columns => {
+            let Paddings { left, right, .. } = paddings;
+            keep(seen, direction, pos, span, measure.0, left, right)
+        }
+        Direction::Rows => {
+            let Paddings { top, bottom, .. } = paddings;
+            keep(seen, direction, pos, span, measure.1, top, bottom)
+        }
+    }
 }
 
 /// Keeps what a cell asks for, where it is visible.
@@ -71,10 +93,12 @@ fn visit<M: Measure<C>, C, S: Settings>(
     seen: &mut Seen,
     walk: &mut Sweep,
     settings: &S,
+    common: Option<Paddings>,
     direction: Direction,
     pos: Position,
     cell: &C,
 ) -> Result<(), AllocError>
+    requires common { AreCommon (S.look settings.now) common }
     requires asked { Shows (S.look settings.now).shows walk.old pos.row pos.col }
     requires row_in { pos.row < 2 ^ 64 - 1 }
     requires col_in { pos.col < 2 ^ 64 - 1 }
@@ -83,7 +107,10 @@ fn visit<M: Measure<C>, C, S: Settings>(
     ensures later { OnOk result (Shows (S.look settings.now).shows walk.new pos.row (pos.col + 1)) }
 {
     match measure_shown::<M, C, S>(alloc, walk, settings, pos, cell)? {
-        Some(measure) => ask(seen, settings, direction, pos, measure),
+        Some(measure) => {
+            let paddings = paddings_of(settings, common, pos);
+            ask(seen, settings, direction, pos, measure, paddings)
+        }
         None => Ok(()),
     }
 }
@@ -94,6 +121,7 @@ fn visit_row<M, W: IntoIterator, S: Settings>(
     seen: &mut Seen,
     walk: &mut Sweep,
     settings: &S,
+    common: Option<Paddings>,
     direction: Direction,
     number: usize,
     row: W,
@@ -102,6 +130,7 @@ where
     M: Measure<<W as IntoIterator>::Item>,
     <W as IntoIterator>::Item: Drop,
     requires short { WalkIsShort W.into_iter_gives W.IntoIter.can_next W.IntoIter.remaining W.IntoIter.next_gives (λ _. ⊤) row }
+    requires common { AreCommon (S.look settings.now) common }
     requires asked { Shows (S.look settings.now).shows walk.old number 0 }
     requires row_in { number < 2 ^ 64 - 1 }
     ensures adds { OnOk result ((cells : List W.Item) × Gives W.into_iter_gives W.IntoIter.next_gives row cells
@@ -114,7 +143,7 @@ where
             row: number,
             col: column,
         };
-        visit::<M, _, S>(alloc, seen, walk, settings, direction, pos, &cell)?;
+        visit::<M, _, S>(alloc, seen, walk, settings, common, direction, pos, &cell)?;
         column += 1;
     }
     Ok(())
@@ -134,11 +163,15 @@ where
     ensures { IfOk result (λ found. (cells : List (List R.Iter.Cell)) × R.tells records cells
         × Holds found.0 (demands_of direction (S.look settings.now) M.measured cells) × (found.1 ≡ length cells)) }
 {
-    let mut seen = Seen::new(alloc);
+    let room = room_for(records.hint_count_rows(), records.count_columns());
+    let mut seen = Seen::with_room(alloc, room)?;
     let mut walk = shown(alloc, settings)?;
+    let common = settings.common_paddings();
     let mut count = 0usize;
     for row in records.iter_rows() {
-        visit_row::<M, _, S>(alloc, &mut seen, &mut walk, settings, direction, count, row)?;
+        visit_row::<M, _, S>(
+            alloc, &mut seen, &mut walk, settings, common, direction, count, row,
+        )?;
         count += 1;
     }
     Ok((seen, count))
