@@ -1,6 +1,6 @@
 -- What an estimate is, by the answers of a dimension, and what follows from it.
 use Rattle.std.proofs.Common.{◌≡◌, ◌⊎◌, ◌∙◌, ℕ, ◌+◌, ◌<◌, ◌≤◌, ◌^◌, Bool, true, false, List, [], ◌∷◌, ◌||◌, length, map, refl, ap, sym, subst, arith, inl, inr, nat_lt, nat_le}
-use Rattle.std.specs.Prelude.{All, Option, Some, None, Result, Ok, Err, find, is_some, sum, if◌then◌else◌}
+use Rattle.std.specs.Prelude.{Option, Some, None, Result, Ok, Err, find, is_some, sum, if◌then◌else◌}
 use Rattle.std.proofs.lemmas.Bool.{false≢true}
 use Rattle.std.proofs.lemmas.Bool.Decides.{nat_tests}
 use Rattle.std.proofs.lemmas.List.{length-map}
@@ -10,11 +10,9 @@ use Rattle.papergrid_axis.specs.declared.direction.Direction.{Direction}
 use Rattle.papergrid_axis.specs.declared.direction.Direction.TheVariants.{Columns, Rows}
 use Rattle.papergrid_axis.specs.declared.error.LayoutError.{LayoutError}
 use Rattle.papergrid_axis.specs.declared.error.LayoutError.TheVariants as layout_errors
-use Rattle.papergrid_axis.specs.Answers.{AreSizes, NoneHolds}
 use Rattle.papergrid_axis.specs.Ranges.{all_lines, end_of, first_out, place_of}
 use Rattle.papergrid_axis.specs.Sizes.{sizes_of}
-use Rattle.papergrid_config.specs.Lines.{count_lines}
-use Rattle.papergrid_layout.specs.Answers.{AreBothSizes, AreSizesOf, IsBothRefused, IsTooLargeFor, UnlessWant, count_of, drawn_along, first_out_of_table, reaches_out}
+use Rattle.papergrid_layout.specs.Answers.{AreBothSizes, IsBothRefused, IsTooLargeFor, UnlessWant, count_of, drawn_along, first_out_of_table, reaches_out}
 use Rattle.papergrid_layout.specs.Cells.{asked, demands_of, visible_cells}
 use Rattle.papergrid_layout.specs.Laws.{sizes_told}
 use Rattle.papergrid_layout.specs.Looks.{Look}

@@ -8,8 +8,7 @@ use Rattle.papergrid_axis.specs.declared.demand.Demand.{Demand}
 use Rattle.papergrid_axis.specs.declared.direction.Direction.{Direction}
 use Rattle.papergrid_axis.specs.declared.direction.Direction.TheVariants.{Columns, Rows}
 use Rattle.papergrid_axis.specs.Answers.{AreSizes, NoneHolds}
-use Rattle.papergrid_axis.specs.Ranges.{IsInTable, all_lines, first_out}
-use Rattle.papergrid_axis.specs.Sizes.{sizes_of}
+use Rattle.papergrid_axis.specs.Ranges.{IsInTable, first_out}
 use Rattle.papergrid_axis.proofs.OutLemmas as out_lemmas
 use Rattle.papergrid_axis.proofs.Theorems.{AreSizes-sizes_of, NoneHolds-sizes_of}
 use Rattle.papergrid_config.specs.Lines.{count_lines}
@@ -125,7 +124,7 @@ module _ (table : Table) where
       | inl out ↦ let same : out.0 ≡ place = cc out.2 in out.1 ∙ ap (λ p. Some p) same
       | inr other ↦ elim other [ inl large ↦ cc large.1 | inr sized ↦ cc sized.1 ]
     ],
-    estimate_out look text_measure table.columns table.rows place
+    estimate_out look text_measure table.columns table.rows place,
   )
 
   pub too_large : estimate_of table ≡ TooLarge → IsTooLarge table

@@ -17,7 +17,7 @@ use Rattle.papergrid_values.specs.declared.indent.Indent.{Indent}
 use Rattle.papergrid_values.specs.declared.position.Position.{Position}
 use Rattle.papergrid_values.specs.declared.sides.Sides.{Sides}
 use Rattle.papergrid_config.specs.declared.setting.Setting.{Setting}
-use Rattle.papergrid_config.specs.declared.setting.Setting.TheVariants.{SetPadding, SetColumnSpan, SetRowSpan}
+use Rattle.papergrid_config.specs.declared.setting.Setting.TheVariants.{SetPadding}
 use Rattle.papergrid.specs.Grammar.{Said, Nothing, Columns, Set, Row, Cell, parted_at, number_of, cell_at, position_of, placed_span, entity_of, sides_of, padding_of, placed_character, setting_of, keyword_says, text_says, said}
 use Rattle.papergrid.specs.Spelling.{IsNumber, IsPosition, IsEntity, AreSides, IsCharacter, IsSetting, Pad, Colspan, Rowspan, Border, Vline, Hline, Novline, Nohline, Means, Ended, Plain, Newline, Tab, Backslash, IsLine}
 use Rattle.papergrid.proofs.CharacterLemmas.{character_spelled}

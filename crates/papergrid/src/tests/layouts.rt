@@ -16,8 +16,7 @@ fn picture_settings(alloc: Global) -> Result<Vec<Setting>, AllocError> {
         Indent::spaced(1),
         Indent::spaced(1),
     );
-    vec![
-        in alloc;
+    vec![in alloc;
         Setting::SetBorders(Borders::filled('+')),
         Setting::SetColumnSpan(Position::new(1, 1), 3),
         Setting::SetRowSpan(Position::new(0, 0), 2),
@@ -27,8 +26,7 @@ fn picture_settings(alloc: Global) -> Result<Vec<Setting>, AllocError> {
 
 /// Whether the picture has its sizes.
 fn has_picture_sizes(alloc: Global) -> Result<bool, LayoutError> {
-    let rows = vec![
-        in alloc;
+    let rows = vec![in alloc;
         vec![in alloc; "Papergrid", "is a library", "for print tables", "!"]?,
         vec![in alloc; "", "Just like this", "", ""]?,
     ]?;
