@@ -1,6 +1,6 @@
--- The lines that settings make, told by lists of what stands where: of a script that is written out these can be computed.
-use Rattle.std.proofs.Common.{◌≡◌, ◌+◌, ℕ, Bool, List, [], ◌∷◌, Option, Some, None, map, length, refl, sym, ap, ◌∙◌, ◌==◌, arith}
-use Rattle.std.specs.Prelude.{◌||◌, Result, Ok, Err, is_some, flat_map, reverse, sum}
+-- What settings make, told by lists of what stands where: of a script that is written out these can be computed.
+use Rattle.std.proofs.Common.{◌≡◌, ℕ, Bool, List, [], ◌∷◌, ◌++◌, Option, Some, None, map, length, refl, sym, ap, ◌∙◌, ◌==◌, arith}
+use Rattle.std.specs.Prelude.{◌||◌, Result, Ok, Err, is_some, flat_map, not, reverse, unwrap_or}
 use Rattle.std.specs.Cmp.{IsTotalOrder, nat_cmp_total}
 use Rattle.std.specs.FinMap.{FinMap, empty, entries, find, put, get-entries, entries-insert, len-empty, len-entries}
 use Rattle.std.specs.List.{list_any}
@@ -9,23 +9,31 @@ use Rattle.std.specs.declared.cmp.Ordering.{Ordering}
 use Rattle.papergrid_values.specs.Borders.{has_left, has_right, has_top, has_bottom, has_horizontal, has_vertical}
 use Rattle.papergrid_values.specs.declared.borders.Borders.{Borders}
 use Rattle.papergrid_values.specs.declared.horizontal_line.HorizontalLine.{HorizontalLine}
+use Rattle.papergrid_values.specs.declared.indent.Indent.{Indent}
 use Rattle.papergrid_values.specs.declared.position.Position.{Position}
+use Rattle.papergrid_values.specs.declared.sides.Sides.{Sides}
 use Rattle.papergrid_values.specs.declared.vertical_line.VerticalLine.{VerticalLine}
+use Rattle.papergrid_axis.specs.declared.direction.Direction.{Direction}
+use Rattle.papergrid_axis.specs.declared.direction.Direction.TheVariants.{Columns, Rows}
 use Rattle.papergrid_maps.specs.BorderCalls.{BorderCall}
 use Rattle.papergrid_maps.specs.BorderHeld.{HeldBorders}
 use Rattle.papergrid_maps.specs.Keys.{position_cmp}
 use Rattle.papergrid_maps.specs.LineTests.{ends_at_column, ends_at_row, vertical_line_at, horizontal_line_at}
-use Rattle.papergrid_maps.specs.Made.{borders_made, named_columns, named_places, named_rows, tabulated, with_value}
+use Rattle.papergrid_maps.specs.Made.{borders_made, named_anchors, named_columns, named_places, named_rows, spans_made, tabulated, with_value}
 use Rattle.papergrid_maps.specs.Places.{at_ends, places_from}
+use Rattle.papergrid_maps.specs.Spans as spans
+use Rattle.papergrid_maps.specs.Spans.{SpanCall, Spans, decided_span, from_two, is_hidden_by, is_visible}
 use Rattle.papergrid_maps.proofs.KeyLemmas.{position_total}
-use Rattle.papergrid_config.specs.Lines.{count_lines}
-use Rattle.papergrid_config.specs.Parts.{character_calls}
+use Rattle.papergrid_config.specs.Decided as decided
+use Rattle.papergrid_config.specs.Parts.{character_calls, span_calls}
+use Rattle.papergrid_config.specs.declared.setting.Setting.{Setting}
+use Rattle.papergrid_layout.specs.Looks.{Look, line_along, size_after, size_before, span_along}
 use Rattle.papergrid.specs.declared.running.RunEnd.{RunEnd}
-use Rattle.papergrid.specs.Cells.{cells_of, measured}
+use Rattle.papergrid.specs.Estimates.{Estimate, estimate_by, estimate_of, text_measure}
+use Rattle.papergrid.specs.Looks.{look_of}
 use Rattle.papergrid.specs.Outputs.{estimate_end, estimate_text, script_end, script_text, output_of, end_of}
 use Rattle.papergrid.specs.Rows.{Gives}
 use Rattle.papergrid.specs.Scripts.{Table, table_of}
-use Rattle.papergrid.specs.Sizes.{Estimate, padding_at, first_out, widths_of, heights_of, unless_large, unless_out, estimate_by, estimate_of}
 
 no_entries : {A : Type 0} (es : List A) → length es ≡ 0 → es ≡ []
 no_entries [] e = refl
@@ -136,30 +144,93 @@ module _ {T : Type 0} (calls : List (BorderCall T)) where
       horizontal-entries (borders_made calls) r count
       ∙ (λ i. horizontal_by (places_from older).global (places_from older).frame (columns_are i) (rows_are i) (edges_are i) (corners_are i) r count)
 
+-- ---- spans, by lists
+
+abbrev pub span_by : List (Position × ℕ) → Position → ℕ
+span_by spans p = unwrap_or (find position_cmp p spans) 1
+
+abbrev pub shows_by : List (Position × ℕ) → List (Position × ℕ) → Position → Bool
+shows_by columns rows p = not (is_hidden_by (span_by columns) (span_by rows) (map (λ e. e.0) columns ++ map (λ e. e.0) rows) p)
+
+abbrev pub spans_by : List (Position × ℕ) → List (Position × ℕ) → Direction → Position → ℕ
+spans_by columns rows Columns p = span_by columns p
+spans_by columns rows Rows p = span_by rows p
+
+shows-entries : (held : Spans) (p : Position) → is_visible held p ≡ shows_by (entries held.columns) (entries held.rows) p
+shows-entries held p = λ i.
+    not (is_hidden_by (λ q. unwrap_or (get-entries held.columns q i) 1) (λ q. unwrap_or (get-entries held.rows q i) 1)
+    (map (λ e. e.0) (entries held.columns) ++ map (λ e. e.0) (entries held.rows)) p)
+
+spans-entries : (held : Spans) (direction : Direction) (p : Position) → span_along held direction p ≡ spans_by (entries held.columns) (entries held.rows) direction p
+spans-entries held Columns p = λ i. unwrap_or (get-entries held.columns p i) 1
+spans-entries held Rows p = λ i. unwrap_or (get-entries held.rows p i) 1
+
+module _ (calls : List SpanCall) where
+  abbrev anchors : List Position
+  anchors = flat_map named_anchors (reverse calls)
+
+  abbrev pub column_spans_listed : List (Position × ℕ)
+  column_spans_listed = listed position_cmp (λ p. from_two (decided_span spans.Columns p calls)) anchors
+
+  abbrev pub row_spans_listed : List (Position × ℕ)
+  row_spans_listed = listed position_cmp (λ p. from_two (decided_span spans.Rows p calls)) anchors
+
+  column_spans_are : entries (spans_made calls).columns ≡ column_spans_listed
+  column_spans_are = entries-tabulated position_cmp position_total (λ p. from_two (decided_span spans.Columns p calls)) anchors
+
+  row_spans_are : entries (spans_made calls).rows ≡ row_spans_listed
+  row_spans_are = entries-tabulated position_cmp position_total (λ p. from_two (decided_span spans.Rows p calls)) anchors
+
+  made_shows : (p : Position) → is_visible (spans_made calls) p ≡ shows_by column_spans_listed row_spans_listed p
+  made_shows p = shows-entries (spans_made calls) p ∙ (λ i. shows_by (column_spans_are i) (row_spans_are i) p)
+
+  made_spans : (direction : Direction) (p : Position) → span_along (spans_made calls) direction p ≡ spans_by column_spans_listed row_spans_listed direction p
+  made_spans direction p = spans-entries (spans_made calls) direction p ∙ (λ i. spans_by (column_spans_are i) (row_spans_are i) direction p)
+
+-- ---- what is read of settings, by lists
+
+abbrev pub lines_listed : List (BorderCall ℕ) → Direction → ℕ → ℕ → Bool
+lines_listed calls Columns count place = vertical_listed calls place count
+lines_listed calls Rows count place = horizontal_listed calls place count
+
+made_lines : (calls : List (BorderCall ℕ)) (direction : Direction) (count place : ℕ) → line_along (borders_made calls) direction count place ≡ lines_listed calls direction count place
+made_lines calls Columns count place = made_vertical calls place count
+made_lines calls Rows count place = made_horizontal calls place count
+
+abbrev pub look_by : (Position → Sides Indent) → List (Position × ℕ) → List (Position × ℕ) → List (BorderCall ℕ) → Look
+look_by padding columns rows lines = record {
+  shows = shows_by columns rows;
+  span = spans_by columns rows;
+  before = λ direction p. size_before direction (padding p);
+  after = λ direction p. size_after direction (padding p);
+  draws = lines_listed lines;
+}
+
+abbrev pub listed_look : List Setting → Look
+listed_look settings =
+    let calls = flat_map span_calls settings in
+    look_by (decided.padding settings) (column_spans_listed calls) (row_spans_listed calls) (flat_map character_calls settings)
+
+look_listed : (settings : List Setting) → look_of settings ≡ listed_look settings
+unfolding look_of
+look_listed settings =
+    let calls = flat_map span_calls settings in
+    let lines = flat_map character_calls settings in
+    λ i. record {
+      shows = λ p. made_shows calls p i;
+      span = λ direction p. made_spans calls direction p i;
+      before = λ direction p. size_before direction (decided.padding settings p);
+      after = λ direction p. size_after direction (decided.padding settings p);
+      draws = λ direction count place. made_lines lines direction count place i;
+    }
+
 -- ---- what is written
 
 abbrev pub listed_estimate : Table → Estimate
-listed_estimate table =
-    let rows = measured table.rows in
-    let calls = flat_map character_calls table.settings in
-    let widths = widths_of table.columns rows (padding_at table.settings) in
-    let heights = heights_of table.columns rows (padding_at table.settings) in
-    unless_out (first_out table.columns (cells_of rows))
-    (unless_large widths heights
-    (sum widths + count_lines (λ col. vertical_listed calls col table.columns) table.columns)
-    (sum heights + count_lines (λ row. horizontal_listed calls row (length rows)) (length rows)))
+listed_estimate table = estimate_by (listed_look table.settings) text_measure table.columns table.rows
 
 estimate_listed : (table : Table) → estimate_of table ≡ listed_estimate table
-unfolding estimate_by
-estimate_listed table =
-    let rows = measured table.rows in
-    let calls = flat_map character_calls table.settings in
-    let widths = widths_of table.columns rows (padding_at table.settings) in
-    let heights = heights_of table.columns rows (padding_at table.settings) in
-    λ i. unless_out (first_out table.columns (cells_of rows))
-    (unless_large widths heights
-    (sum widths + count_lines (λ col. made_vertical calls col table.columns i) table.columns)
-    (sum heights + count_lines (λ row. made_horizontal calls row (length rows) i) (length rows)))
+estimate_listed table = ap (λ look. estimate_by look text_measure table.columns table.rows) (look_listed table.settings)
 
 abbrev pub listed_text : Result Table ℕ → List ℕ
 listed_text (Err number) = script_text (Err number)

@@ -10,7 +10,7 @@ use Rattle.papergrid.specs.declared.script.ScriptError.TheVariants as script_err
 use Rattle.papergrid.specs.Grammar.{Said, Nothing, Columns, Set, Row, Cell, said, script_lines}
 use Rattle.papergrid.specs.Scripts.{Table, table_of}
 use Rattle.papergrid.specs.Seen.{GivesTable, table_seen}
-use Rattle.papergrid.specs.Spelling.{IsSetting, Pad, Border, Vline, Hline, Novline, Nohline}
+use Rattle.papergrid.specs.Spelling.{IsSetting, Pad, Colspan, Rowspan, Border, Vline, Hline, Novline, Nohline}
 use Rattle.papergrid.specs.Tells.{setting_said}
 use Rattle.papergrid.proofs.ReadLemmas.{line_read}
 use Rattle.papergrid.proofs.TellsLemmas.{told}
@@ -20,6 +20,8 @@ InRange setting = is_in_range setting ≡ true
 
 spelled_in_range : (line : List ℕ) (setting : Setting) → IsSetting line setting → InRange setting
 spelled_in_range _ _ (Pad spelled rest entity sides is_entity are_sides) = refl
+spelled_in_range _ _ (Colspan spelled digits place n is_position is_number) = refl
+spelled_in_range _ _ (Rowspan spelled digits place n is_position is_number) = refl
 spelled_in_range _ _ (Border x c is_character) = refl
 spelled_in_range _ _ (Vline digits x col c is_number is_character) = refl
 spelled_in_range _ _ (Hline digits x row c is_number is_character) = refl

@@ -11,12 +11,13 @@ use borrow.Author.Tests.{ltb-true, eqb-true, eqb-false}
 use Rattle.papergrid_values.specs.declared.entity.Entity.{Entity}
 use Rattle.papergrid_values.specs.declared.entity.Entity.TheVariants as entities
 use Rattle.papergrid_values.specs.declared.indent.Indent.{Indent}
+use Rattle.papergrid_values.specs.declared.position.Position.{Position}
 use Rattle.papergrid_values.specs.declared.sides.Sides.{Sides}
 use Rattle.papergrid_values.specs.Borders.{frame_with}
 use Rattle.papergrid_config.specs.declared.setting.Setting.{Setting}
-use Rattle.papergrid_config.specs.declared.setting.Setting.TheVariants.{SetPadding, SetBorders, InsertVerticalLine, InsertHorizontalLine, RemoveVerticalLine, RemoveHorizontalLine}
-use Rattle.papergrid.specs.Grammar.{◌>>=◌, Said, Nothing, Columns, Set, Row, Cell, spaces, parted_at, number_of, cell_entity, entity_of, sides_of, padding_of, character_of, placed_character, vertical_main, horizontal_main, setting_of, keyword_says, text_says, said}
-use Rattle.papergrid.specs.Spelling.{IsNumber, IsEntity, AreSides, IsCharacter, IsSetting, Pad, Border, Vline, Hline, Novline, Nohline, Means, Ended, Plain, Newline, Tab, Backslash, IsLine}
+use Rattle.papergrid_config.specs.declared.setting.Setting.TheVariants.{SetPadding, SetColumnSpan, SetRowSpan, SetBorders, InsertVerticalLine, InsertHorizontalLine, RemoveVerticalLine, RemoveHorizontalLine}
+use Rattle.papergrid.specs.Grammar.{◌>>=◌, Said, Nothing, Columns, Set, Row, Cell, spaces, parted_at, number_of, cell_at, position_of, placed_span, entity_of, sides_of, padding_of, character_of, placed_character, vertical_main, horizontal_main, setting_of, keyword_says, text_says, said}
+use Rattle.papergrid.specs.Spelling.{IsNumber, IsPosition, IsEntity, AreSides, IsCharacter, IsSetting, Pad, Colspan, Rowspan, Border, Vline, Hline, Novline, Nohline, Means, Ended, Plain, Newline, Tab, Backslash, IsLine}
 use Rattle.papergrid.proofs.CharacterLemmas.{character_read, text_behind}
 use Rattle.papergrid.specs.Texts.{unescaped, escape_of, put_first}
 
@@ -70,13 +71,16 @@ starts_one : (c : ℕ) (bs : List ℕ) → starts_with nat_eq bs (c ∷ []) ≡ 
 starts_one c [] h = cc
 starts_one c (b ∷ bs) h = ap (λ x. x ∷ bs) (sym (eqb-true c b (and_true _ _ h).0))
 
-cell_read : (bytes : List ℕ) (entity : Entity) → cell_entity bytes ≡ Some entity → IsEntity bytes entity
-unfolding cell_entity
-cell_read bytes entity h =
-    let parts = bind_some (λ (p : List ℕ × List ℕ). number_of p.0 >>= λ r. number_of p.1 >>= λ c. Some (entities.Cell r c)) (parted_at 44 bytes) entity h in
-    let row = bind_some (λ r. number_of parts.0.1 >>= λ c. Some (entities.Cell r c)) (number_of parts.0.0) entity parts.2 in
-    let col = bind_some (λ c. Some (entities.Cell row.0 c)) (number_of parts.0.1) entity row.2 in
-    subst (IsEntity bytes) (same_Some _ _ col.2) (parts.0.0, parts.0.1, number_read _ _ row.1, number_read _ _ col.1, parted 44 bytes parts.0 parts.1)
+abbrev placed_at : ℕ → ℕ → Position
+placed_at r c = record { row = r; col = c }
+
+position_read : (bytes : List ℕ) (place : Position) → position_of bytes ≡ Some place → IsPosition bytes place
+unfolding position_of
+position_read bytes place h =
+    let parts = bind_some (λ (p : List ℕ × List ℕ). number_of p.0 >>= λ r. number_of p.1 >>= λ c. Some (placed_at r c)) (parted_at 44 bytes) place h in
+    let row = bind_some (λ r. number_of parts.0.1 >>= λ c. Some (placed_at r c)) (number_of parts.0.0) place parts.2 in
+    let col = bind_some (λ c. Some (placed_at row.0 c)) (number_of parts.0.1) place row.2 in
+    subst (IsPosition bytes) (same_Some _ _ col.2) (parts.0.0, parts.0.1, number_read _ _ row.1, number_read _ _ col.1, parted 44 bytes parts.0 parts.1)
 
 pub entity_read : (bytes : List ℕ) (entity : Entity) → entity_of bytes ≡ Some entity → IsEntity bytes entity
 unfolding entity_of
@@ -84,9 +88,9 @@ entity_read bytes entity h = elim (chosen (bytes_eq bytes (codes "*")) (Some ent
   | inl star ↦ subst (IsEntity bytes) (same_Some _ _ star.1) (is_word bytes (codes "*") star.0)
   | inr other ↦ elim (chosen (starts_with nat_eq bytes (codes "c")) (option_map entities.Column (number_of (drop 1 bytes))) _ (Some entity) other.1) [
     | inl col ↦ let n = map_some entities.Column (number_of (drop 1 bytes)) entity col.1 in subst (IsEntity bytes) n.2 (drop 1 bytes, number_read _ _ n.1, starts_one 99 bytes col.0)
-    | inr more ↦ elim (chosen (starts_with nat_eq bytes (codes "r")) (option_map entities.Row (number_of (drop 1 bytes))) (cell_entity bytes) (Some entity) more.1) [
+    | inr more ↦ elim (chosen (starts_with nat_eq bytes (codes "r")) (option_map entities.Row (number_of (drop 1 bytes))) (option_map cell_at (position_of bytes)) (Some entity) more.1) [
       | inl row ↦ let n = map_some entities.Row (number_of (drop 1 bytes)) entity row.1 in subst (IsEntity bytes) n.2 (drop 1 bytes, number_read _ _ n.1, starts_one 114 bytes row.0)
-      | inr cell ↦ cell_read bytes entity cell.1
+      | inr cell ↦ let place = map_some cell_at (position_of bytes) entity cell.1 in subst (IsEntity bytes) place.2 (position_read bytes place.0 place.1)
     ]
   ]
 ]
@@ -128,6 +132,29 @@ padding_read bytes setting h =
     (subst (λ (b : List ℕ). IsSetting (codes "pad " ++ b) (SetPadding entity.0 sides.0)) (sym (parted 32 bytes parts.0 parts.1))
     (Pad parts.0.0 parts.0.1 entity.0 sides.0 (entity_read _ _ entity.1) (sides_read _ _ sides.1)))
 
+-- ---- spans
+
+record IsPlacedSpan (bytes : List ℕ) (place : Position) (n : ℕ) : Type 0 where
+  spelled : List ℕ
+  digits : List ℕ
+  is_position : IsPosition spelled place
+  is_number : IsNumber digits n
+  whole : bytes ≡ spelled ++ 32 ∷ digits
+
+span_read : (bytes : List ℕ) (at : Position × ℕ) → placed_span bytes ≡ Some at → IsPlacedSpan bytes at.0 at.1
+unfolding placed_span
+span_read bytes at h =
+    let parts = bind_some (λ (p : List ℕ × List ℕ). position_of p.0 >>= λ place. number_of p.1 >>= λ n. Some (place, n)) (parted_at 32 bytes) at h in
+    let place = bind_some (λ place. number_of parts.0.1 >>= λ n. Some (place, n)) (position_of parts.0.0) at parts.2 in
+    let n = bind_some (λ n. Some (place.0, n)) (number_of parts.0.1) at place.2 in
+    subst (λ (a : Position × ℕ). IsPlacedSpan bytes a.0 a.1) (same_Some _ _ n.2) (record {
+      spelled = parts.0.0;
+      digits = parts.0.1;
+      is_position = position_read _ _ place.1;
+      is_number = number_read _ _ n.1;
+      whole = parted 32 bytes parts.0 parts.1;
+    })
+
 -- ---- characters and lines
 
 record IsPlaced (bytes : List ℕ) (place c : ℕ) : Type 0 where
@@ -157,6 +184,22 @@ placed_read bytes at text h =
 
 worded : (keyword word rest : List ℕ) (setting : Setting) → bytes_eq keyword word ≡ true → IsSetting (word ++ 32 ∷ rest) setting → IsSetting (keyword ++ 32 ∷ rest) setting
 worded keyword word rest setting same h = subst (λ (w : List ℕ). IsSetting (w ++ 32 ∷ rest) setting) (sym (is_word keyword word same)) h
+
+colspan_read : (rest : List ℕ) (setting : Setting) → option_map (λ at. SetColumnSpan at.0 at.1) (placed_span rest) ≡ Some setting → IsSetting (codes "colspan " ++ rest) setting
+colspan_read rest setting h =
+    let at = map_some (λ (at : Position × ℕ). SetColumnSpan at.0 at.1) (placed_span rest) setting h in
+    let is = span_read rest at.0 at.1 in
+    subst (IsSetting (codes "colspan " ++ rest)) at.2
+    (subst (λ (r : List ℕ). IsSetting (codes "colspan " ++ r) (SetColumnSpan at.0.0 at.0.1)) (sym is.whole)
+    (Colspan is.spelled is.digits at.0.0 at.0.1 is.is_position is.is_number))
+
+rowspan_read : (rest : List ℕ) (setting : Setting) → option_map (λ at. SetRowSpan at.0 at.1) (placed_span rest) ≡ Some setting → IsSetting (codes "rowspan " ++ rest) setting
+rowspan_read rest setting h =
+    let at = map_some (λ (at : Position × ℕ). SetRowSpan at.0 at.1) (placed_span rest) setting h in
+    let is = span_read rest at.0 at.1 in
+    subst (IsSetting (codes "rowspan " ++ rest)) at.2
+    (subst (λ (r : List ℕ). IsSetting (codes "rowspan " ++ r) (SetRowSpan at.0.0 at.0.1)) (sym is.whole)
+    (Rowspan is.spelled is.digits at.0.0 at.0.1 is.is_position is.is_number))
 
 border_read : (rest : List ℕ) (setting : Setting) → IsUtf8 rest → option_map (λ c. SetBorders (frame_with (Some c))) (character_of rest) ≡ Some setting → IsSetting (codes "border " ++ rest) setting
 border_read rest setting text h =
@@ -189,24 +232,42 @@ nohline_read rest setting h =
     let row = map_some (λ row. RemoveHorizontalLine row 0) (number_of rest) setting h in
     subst (IsSetting (codes "nohline " ++ rest)) row.2 (Nohline rest row.0 (number_read rest row.0 row.1))
 
+-- what is read of a keyword that is neither of padding nor of spans
+abbrev line_setting : List ℕ → List ℕ → Option Setting
+line_setting keyword rest =
+    cond (bytes_eq keyword (codes "border")) (option_map (λ c. SetBorders (frame_with (Some c))) (character_of rest))
+    (cond (bytes_eq keyword (codes "vline")) (option_map (λ at. InsertVerticalLine at.0 (vertical_main at.1)) (placed_character rest))
+    (cond (bytes_eq keyword (codes "hline")) (option_map (λ at. InsertHorizontalLine at.0 (horizontal_main at.1)) (placed_character rest))
+    (cond (bytes_eq keyword (codes "novline")) (option_map (λ col. RemoveVerticalLine col 0) (number_of rest))
+    (cond (bytes_eq keyword (codes "nohline")) (option_map (λ row. RemoveHorizontalLine row 0) (number_of rest)) None))))
+
+line_setting_read : (keyword rest : List ℕ) (setting : Setting) → IsUtf8 rest → line_setting keyword rest ≡ Some setting → IsSetting (keyword ++ 32 ∷ rest) setting
+line_setting_read keyword rest setting text h = elim (chosen (bytes_eq keyword (codes "border")) (option_map (λ c. SetBorders (frame_with (Some c))) (character_of rest)) _ (Some setting) h) [
+  | inl border ↦ worded keyword (codes "border") rest setting border.0 (border_read rest setting text border.1)
+  | inr past_border ↦ elim (chosen (bytes_eq keyword (codes "vline")) (option_map (λ at. InsertVerticalLine at.0 (vertical_main at.1)) (placed_character rest)) _ (Some setting) past_border.1) [
+    | inl vline ↦ worded keyword (codes "vline") rest setting vline.0 (vline_read rest setting text vline.1)
+    | inr past_vline ↦ elim (chosen (bytes_eq keyword (codes "hline")) (option_map (λ at. InsertHorizontalLine at.0 (horizontal_main at.1)) (placed_character rest)) _ (Some setting) past_vline.1) [
+      | inl hline ↦ worded keyword (codes "hline") rest setting hline.0 (hline_read rest setting text hline.1)
+      | inr past_hline ↦ elim (chosen (bytes_eq keyword (codes "novline")) (option_map (λ col. RemoveVerticalLine col 0) (number_of rest)) _ (Some setting) past_hline.1) [
+        | inl novline ↦ worded keyword (codes "novline") rest setting novline.0 (novline_read rest setting novline.1)
+        | inr past_novline ↦ elim (chosen (bytes_eq keyword (codes "nohline")) (option_map (λ row. RemoveHorizontalLine row 0) (number_of rest)) None (Some setting) past_novline.1) [
+          | inl nohline ↦ worded keyword (codes "nohline") rest setting nohline.0 (nohline_read rest setting nohline.1)
+          | inr none ↦ absurd (none-some setting none.1)
+        ]
+      ]
+    ]
+  ]
+]
+
 setting_read : (keyword rest : List ℕ) (setting : Setting) → IsUtf8 rest → setting_of keyword rest ≡ Some setting → IsSetting (keyword ++ 32 ∷ rest) setting
 unfolding setting_of
 setting_read keyword rest setting text h = elim (chosen (bytes_eq keyword (codes "pad")) (padding_of rest) _ (Some setting) h) [
   | inl pad ↦ worded keyword (codes "pad") rest setting pad.0 (padding_read rest setting pad.1)
-  | inr past_pad ↦ elim (chosen (bytes_eq keyword (codes "border")) (option_map (λ c. SetBorders (frame_with (Some c))) (character_of rest)) _ (Some setting) past_pad.1) [
-    | inl border ↦ worded keyword (codes "border") rest setting border.0 (border_read rest setting text border.1)
-    | inr past_border ↦ elim (chosen (bytes_eq keyword (codes "vline")) (option_map (λ at. InsertVerticalLine at.0 (vertical_main at.1)) (placed_character rest)) _ (Some setting) past_border.1) [
-      | inl vline ↦ worded keyword (codes "vline") rest setting vline.0 (vline_read rest setting text vline.1)
-      | inr past_vline ↦ elim (chosen (bytes_eq keyword (codes "hline")) (option_map (λ at. InsertHorizontalLine at.0 (horizontal_main at.1)) (placed_character rest)) _ (Some setting) past_vline.1) [
-        | inl hline ↦ worded keyword (codes "hline") rest setting hline.0 (hline_read rest setting text hline.1)
-        | inr past_hline ↦ elim (chosen (bytes_eq keyword (codes "novline")) (option_map (λ col. RemoveVerticalLine col 0) (number_of rest)) _ (Some setting) past_hline.1) [
-          | inl novline ↦ worded keyword (codes "novline") rest setting novline.0 (novline_read rest setting novline.1)
-          | inr past_novline ↦ elim (chosen (bytes_eq keyword (codes "nohline")) (option_map (λ row. RemoveHorizontalLine row 0) (number_of rest)) None (Some setting) past_novline.1) [
-            | inl nohline ↦ worded keyword (codes "nohline") rest setting nohline.0 (nohline_read rest setting nohline.1)
-            | inr none ↦ absurd (none-some setting none.1)
-          ]
-        ]
-      ]
+  | inr past_pad ↦ elim (chosen (bytes_eq keyword (codes "colspan")) (option_map (λ at. SetColumnSpan at.0 at.1) (placed_span rest)) _ (Some setting) past_pad.1) [
+    | inl colspan ↦ worded keyword (codes "colspan") rest setting colspan.0 (colspan_read rest setting colspan.1)
+    | inr past_colspan ↦ elim (chosen (bytes_eq keyword (codes "rowspan")) (option_map (λ at. SetRowSpan at.0 at.1) (placed_span rest)) (line_setting keyword rest) (Some setting) past_colspan.1) [
+      | inl rowspan ↦ worded keyword (codes "rowspan") rest setting rowspan.0 (rowspan_read rest setting rowspan.1)
+      | inr line ↦ line_setting_read keyword rest setting text line.1
     ]
   ]
 ]

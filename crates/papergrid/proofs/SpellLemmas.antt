@@ -14,11 +14,12 @@ use borrow.Author.Tests.{lt-ltb, eq-eqb}
 use Rattle.papergrid_values.specs.declared.entity.Entity.{Entity}
 use Rattle.papergrid_values.specs.declared.entity.Entity.TheVariants as entities
 use Rattle.papergrid_values.specs.declared.indent.Indent.{Indent}
+use Rattle.papergrid_values.specs.declared.position.Position.{Position}
 use Rattle.papergrid_values.specs.declared.sides.Sides.{Sides}
 use Rattle.papergrid_config.specs.declared.setting.Setting.{Setting}
 use Rattle.papergrid_config.specs.declared.setting.Setting.TheVariants.{SetPadding}
-use Rattle.papergrid.specs.Grammar.{Said, Nothing, Columns, Set, Row, Cell, parted_at, number_of, cell_entity, entity_of, sides_of, padding_of, placed_character, setting_of, keyword_says, text_says, said}
-use Rattle.papergrid.specs.Spelling.{IsNumber, IsEntity, AreSides, IsCharacter, IsSetting, Pad, Border, Vline, Hline, Novline, Nohline, Means, Ended, Plain, Newline, Tab, Backslash, IsLine}
+use Rattle.papergrid.specs.Grammar.{Said, Nothing, Columns, Set, Row, Cell, parted_at, number_of, cell_at, position_of, placed_span, entity_of, sides_of, padding_of, placed_character, setting_of, keyword_says, text_says, said}
+use Rattle.papergrid.specs.Spelling.{IsNumber, IsPosition, IsEntity, AreSides, IsCharacter, IsSetting, Pad, Colspan, Rowspan, Border, Vline, Hline, Novline, Nohline, Means, Ended, Plain, Newline, Tab, Backslash, IsLine}
 use Rattle.papergrid.proofs.CharacterLemmas.{character_spelled}
 use Rattle.papergrid.specs.Texts.{unescaped, put_first}
 
@@ -66,13 +67,17 @@ digits_lack c (d ∷ digits) low h =
     let other : nat_eq d c ≡ false = grind (arith, nat_tests, p.0.0) in
     rw other (digits_lack c digits low p.1)
 
-cell_spelled : (row col : List ℕ) (r c : ℕ) → IsNumber row r → IsNumber col c → cell_entity (row ++ 44 ∷ col) ≡ Some (entities.Cell r c)
-unfolding cell_entity
-cell_spelled row col r c is_row is_col =
-    rw (parted_after 44 row col (digits_lack 44 row (lit< tt) is_row.digits_alone), number_spelled row r is_row, number_spelled col c is_col) refl
+position_spelled : (bytes : List ℕ) (place : Position) → IsPosition bytes place → position_of bytes ≡ Some place
+unfolding position_of
+position_spelled bytes place h =
+    rw (h.4, parted_after 44 h.0 h.1 (digits_lack 44 h.0 (lit< tt) h.2.digits_alone), number_spelled h.0 place.row h.2, number_spelled h.1 place.col h.3) refl
+
+position_lacks : (bytes : List ℕ) (place : Position) → IsPosition bytes place → lacks 32 bytes
+position_lacks bytes place h = subst (lacks 32) (sym h.4)
+    (list_all-append (λ b. not (nat_eq b 32)) h.0 (44 ∷ h.1) ∙ rw (digits_lack 32 h.0 (lit< tt) h.2.digits_alone) (digits_lack 32 h.1 (lit< tt) h.3.digits_alone))
 
 -- a number and a comma are no star, and no letter stands first
-number_first : (row col : List ℕ) → all_ascii_digits row ≡ true → 0 < length row → cell_entity (row ++ 44 ∷ col) ≡ entity_of (row ++ 44 ∷ col)
+number_first : (row col : List ℕ) → all_ascii_digits row ≡ true → 0 < length row → option_map cell_at (position_of (row ++ 44 ∷ col)) ≡ entity_of (row ++ 44 ∷ col)
 unfolding entity_of
 number_first [] col h some = absurd (omega arith)
 number_first (d ∷ digits) col h some =
@@ -88,14 +93,13 @@ entity_spelled bytes entities.Global h = subst (λ (b : List ℕ). entity_of b �
 entity_spelled bytes (entities.Column c) h = subst (λ (b : List ℕ). entity_of b ≡ Some (entities.Column c)) (sym h.2) (ap (option_map entities.Column) (number_spelled h.0 c h.1))
 entity_spelled bytes (entities.Row r) h = subst (λ (b : List ℕ). entity_of b ≡ Some (entities.Row r)) (sym h.2) (ap (option_map entities.Row) (number_spelled h.0 r h.1))
 entity_spelled bytes (entities.Cell r c) h = subst (λ (b : List ℕ). entity_of b ≡ Some (entities.Cell r c)) (sym h.4)
-    (sym (number_first h.0 h.1 h.2.digits_alone h.2.some) ∙ cell_spelled h.0 h.1 r c h.2 h.3)
+    (sym (number_first h.0 h.1 h.2.digits_alone h.2.some) ∙ ap (option_map cell_at) (position_spelled (h.0 ++ 44 ∷ h.1) (record { row = r; col = c }) (h.0, h.1, h.2, h.3, refl)))
 
 entity_lacks : (bytes : List ℕ) (entity : Entity) → IsEntity bytes entity → lacks 32 bytes
 entity_lacks bytes entities.Global h = subst (lacks 32) (sym h) refl
 entity_lacks bytes (entities.Column c) h = subst (lacks 32) (sym h.2) (digits_lack 32 h.0 (lit< tt) h.1.digits_alone)
 entity_lacks bytes (entities.Row r) h = subst (lacks 32) (sym h.2) (digits_lack 32 h.0 (lit< tt) h.1.digits_alone)
-entity_lacks bytes (entities.Cell r c) h = subst (lacks 32) (sym h.4)
-    (list_all-append (λ b. not (nat_eq b 32)) h.0 (44 ∷ h.1) ∙ rw (digits_lack 32 h.0 (lit< tt) h.2.digits_alone) (digits_lack 32 h.1 (lit< tt) h.3.digits_alone))
+entity_lacks bytes (entities.Cell r c) h = position_lacks bytes (record { row = r; col = c }) h
 
 -- ---- paddings
 
@@ -120,6 +124,13 @@ unfolding padding_of
 padding_spelled spelled rest entity sides is_entity are_sides =
     rw (parted_after 32 spelled rest (entity_lacks spelled entity is_entity), entity_spelled spelled entity is_entity, sides_spelled rest sides are_sides) refl
 
+-- ---- spans
+
+span_spelled : (spelled digits : List ℕ) (place : Position) (n : ℕ) → IsPosition spelled place → IsNumber digits n → placed_span (spelled ++ 32 ∷ digits) ≡ Some (place, n)
+unfolding placed_span
+span_spelled spelled digits place n is_position is_number =
+    rw (parted_after 32 spelled digits (position_lacks spelled place is_position), position_spelled spelled place is_position, number_spelled digits n is_number) refl
+
 -- ---- characters and lines
 
 placed_spelled : (digits x : List ℕ) (place c : ℕ) → IsNumber digits place → IsCharacter x c → placed_character (digits ++ 32 ∷ x) ≡ Some (place, c)
@@ -131,6 +142,10 @@ setting_spelled : (line : List ℕ) (setting : Setting) → IsSetting line setti
 unfolding text_says keyword_says setting_of
 setting_spelled _ _ (Pad spelled rest entity sides is_entity are_sides) =
     rw (parted_after 32 (codes "pad") (spelled ++ 32 ∷ rest) refl, padding_spelled spelled rest entity sides is_entity are_sides) refl
+setting_spelled _ _ (Colspan spelled digits place n is_position is_number) =
+    rw (parted_after 32 (codes "colspan") (spelled ++ 32 ∷ digits) refl, span_spelled spelled digits place n is_position is_number) refl
+setting_spelled _ _ (Rowspan spelled digits place n is_position is_number) =
+    rw (parted_after 32 (codes "rowspan") (spelled ++ 32 ∷ digits) refl, span_spelled spelled digits place n is_position is_number) refl
 setting_spelled _ _ (Border x c is_character) = rw (parted_after 32 (codes "border") x refl, character_spelled x c is_character) refl
 setting_spelled _ _ (Vline digits x col c is_number is_character) =
     rw (parted_after 32 (codes "vline") (digits ++ 32 ∷ x) refl, placed_spelled digits x col c is_number is_character) refl

@@ -6,12 +6,13 @@ use Rattle.std.specs.Str.Parse.{digits_value}
 use Rattle.papergrid_values.specs.declared.entity.Entity.{Entity}
 use Rattle.papergrid_values.specs.declared.entity.Entity.TheVariants as entities
 use Rattle.papergrid_values.specs.declared.indent.Indent.{Indent}
+use Rattle.papergrid_values.specs.declared.position.Position.{Position}
 use Rattle.papergrid_values.specs.declared.sides.Sides.{Sides}
 use Rattle.papergrid_values.specs.declared.horizontal_line.HorizontalLine.{HorizontalLine}
 use Rattle.papergrid_values.specs.declared.vertical_line.VerticalLine.{VerticalLine}
 use Rattle.papergrid_values.specs.Borders.{frame_with}
 use Rattle.papergrid_config.specs.declared.setting.Setting.{Setting}
-use Rattle.papergrid_config.specs.declared.setting.Setting.TheVariants.{SetPadding, SetBorders, InsertVerticalLine, InsertHorizontalLine, RemoveVerticalLine, RemoveHorizontalLine}
+use Rattle.papergrid_config.specs.declared.setting.Setting.TheVariants.{SetPadding, SetColumnSpan, SetRowSpan, SetBorders, InsertVerticalLine, InsertHorizontalLine, RemoveVerticalLine, RemoveHorizontalLine}
 use Rattle.papergrid.specs.Texts.{newline, unescaped}
 
 infixl 10 ◌>>=◌
@@ -43,12 +44,15 @@ number_of digits =
     then Some (digits_value 10 digits) else None
 
 -- a row and a column with a comma between them
-unfoldable pub cell_entity : List ℕ → Option Entity
-cell_entity spelled = do
+unfoldable pub position_of : List ℕ → Option Position
+position_of spelled = do
   parts ← parted_at comma spelled
   row ← number_of parts.0
   col ← number_of parts.1
-  Some (entities.Cell row col)
+  Some (record { row = row; col = col })
+
+abbrev pub cell_at : Position → Entity
+cell_at place = entities.Cell place.row place.col
 
 -- a star, a c or r with a number, or a cell
 unfoldable pub entity_of : List ℕ → Option Entity
@@ -56,7 +60,7 @@ entity_of spelled =
     if bytes_eq spelled (codes "*") then Some entities.Global
     else if starts_with nat_eq spelled (codes "c") then option_map entities.Column (number_of (drop 1 spelled))
     else if starts_with nat_eq spelled (codes "r") then option_map entities.Row (number_of (drop 1 spelled))
-    else cell_entity spelled
+    else option_map cell_at (position_of spelled)
 
 -- ---- paddings
 
@@ -82,6 +86,16 @@ padding_of spelled = do
   entity ← entity_of parts.0
   sides ← sides_of parts.1
   Some (SetPadding entity sides)
+
+-- ---- spans
+
+-- a position, and a number of columns or rows after it and a space
+unfoldable pub placed_span : List ℕ → Option (Position × ℕ)
+placed_span spelled = do
+  parts ← parted_at space spelled
+  place ← position_of parts.0
+  count ← number_of parts.1
+  Some (place, count)
 
 -- ---- borders and lines
 
@@ -115,6 +129,8 @@ horizontal_main c = record { main = Some c; intersection = None; left = None; ri
 unfoldable pub setting_of : List ℕ → List ℕ → Option Setting
 setting_of keyword rest =
     if bytes_eq keyword (codes "pad") then padding_of rest
+    else if bytes_eq keyword (codes "colspan") then option_map (λ at. SetColumnSpan at.0 at.1) (placed_span rest)
+    else if bytes_eq keyword (codes "rowspan") then option_map (λ at. SetRowSpan at.0 at.1) (placed_span rest)
     else if bytes_eq keyword (codes "border") then option_map (λ c. SetBorders (frame_with (Some c))) (character_of rest)
     else if bytes_eq keyword (codes "vline") then option_map (λ at. InsertVerticalLine at.0 (vertical_main at.1)) (placed_character rest)
     else if bytes_eq keyword (codes "hline") then option_map (λ at. InsertHorizontalLine at.0 (horizontal_main at.1)) (placed_character rest)

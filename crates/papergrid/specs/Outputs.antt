@@ -4,7 +4,7 @@ use Rattle.papergrid.specs.declared.running.RunEnd.{RunEnd}
 use Rattle.papergrid.specs.declared.running.RunEnd.TheVariants.{Done, Refused, BadScript}
 use Rattle.papergrid.specs.Grammar.{space, comma}
 use Rattle.papergrid.specs.Scripts.{Table, table_of}
-use Rattle.papergrid.specs.Sizes.{Estimate, OutOfTable, TooLarge, Sized, estimate_of}
+use Rattle.papergrid.specs.Estimates.{Estimate, OutOfTable, TooLarge, Sized, estimate_of}
 use Rattle.papergrid.specs.Texts.{newline}
 
 -- a space and a number for each

@@ -7,17 +7,14 @@ use Rattle.papergrid.specs.declared.script.Script.{Script}
 use Rattle.papergrid.specs.declared.script.ScriptError.{ScriptError}
 use Rattle.papergrid.specs.declared.script.ScriptError.TheVariants as script_errors
 use Rattle.papergrid.specs.declared.estimate.Sizes.{Sizes}
-use Rattle.papergrid.specs.declared.estimate.LayoutError.{LayoutError}
-use Rattle.papergrid.specs.declared.estimate.LayoutError.TheVariants as layout_errors
+use Rattle.papergrid_axis.specs.declared.error.LayoutError.{LayoutError}
+use Rattle.papergrid_axis.specs.declared.error.LayoutError.TheVariants as layout_errors
 use Rattle.papergrid.specs.Grammar.{Said}
 use Rattle.papergrid.specs.Scripts.{Table, with_line}
-use Rattle.papergrid.specs.Sizes.{Estimate, OutOfTable, TooLarge, Sized}
+use Rattle.papergrid.specs.Estimates.{Estimate, OutOfTable, TooLarge, Sized}
 
 abbrev pub texts_of : Vec (CowStr Global) Global → List (List ℕ)
 texts_of cells = map cow_str_bytes cells.items
-
-abbrev pub measures_of : Vec (ℕ × ℕ) Global → List (ℕ × ℕ)
-measures_of row = row.items
 
 abbrev pub table_seen : Script → Table
 table_seen script = record { columns = script.columns; settings = script.settings.items; rows = map texts_of script.rows.items }
@@ -37,4 +34,4 @@ abbrev pub GivesEstimate : Result Sizes LayoutError → (Estimate → Type 0) �
 GivesEstimate (Ok sizes) IsSo = IsSo (Sized sizes.widths.items sizes.heights.items sizes.total_width sizes.total_height)
 GivesEstimate (Err (layout_errors.OutOfTable place)) IsSo = IsSo (OutOfTable place)
 GivesEstimate (Err layout_errors.TooLarge) IsSo = IsSo TooLarge
-GivesEstimate (Err layout_errors.Memory) IsSo = Unit {0}
+GivesEstimate (Err (layout_errors.Memory e)) IsSo = Unit {0}

@@ -6,10 +6,11 @@ use Rattle.std.specs.Str.Parse.{digits_value}
 use Rattle.papergrid_values.specs.declared.entity.Entity.{Entity}
 use Rattle.papergrid_values.specs.declared.entity.Entity.TheVariants as entities
 use Rattle.papergrid_values.specs.declared.indent.Indent.{Indent}
+use Rattle.papergrid_values.specs.declared.position.Position.{Position}
 use Rattle.papergrid_values.specs.declared.sides.Sides.{Sides}
 use Rattle.papergrid_values.specs.Borders.{frame_with}
 use Rattle.papergrid_config.specs.declared.setting.Setting.{Setting}
-use Rattle.papergrid_config.specs.declared.setting.Setting.TheVariants.{SetPadding, SetBorders, InsertVerticalLine, InsertHorizontalLine, RemoveVerticalLine, RemoveHorizontalLine}
+use Rattle.papergrid_config.specs.declared.setting.Setting.TheVariants.{SetPadding, SetColumnSpan, SetRowSpan, SetBorders, InsertVerticalLine, InsertHorizontalLine, RemoveVerticalLine, RemoveHorizontalLine}
 use Rattle.papergrid.specs.Grammar.{Said, Nothing, Columns, Set, Row, Cell, space, comma, spaces, vertical_main, horizontal_main}
 use Rattle.papergrid.specs.Texts.{newline, backslash}
 
@@ -20,12 +21,16 @@ pub record IsNumber (digits : List ℕ) (n : ℕ) : Type 0 where
   pub value : digits_value 10 digits ≡ n
   pub fits : n < 2 ^ 64
 
--- a star; a c or an r and a number; two numbers and a comma between them
+-- a row and a column: two numbers and a comma between them
+abbrev pub IsPosition : List ℕ → Position → Type 0
+IsPosition bytes place = (row : List ℕ) × (col : List ℕ) × IsNumber row place.row × IsNumber col place.col × (bytes ≡ row ++ comma ∷ col)
+
+-- a star; a c or an r and a number; a row and a column
 abbrev pub IsEntity : List ℕ → Entity → Type 0
 IsEntity bytes entities.Global = bytes ≡ codes "*"
 IsEntity bytes (entities.Column c) = (digits : List ℕ) × IsNumber digits c × (bytes ≡ codes "c" ++ digits)
 IsEntity bytes (entities.Row r) = (digits : List ℕ) × IsNumber digits r × (bytes ≡ codes "r" ++ digits)
-IsEntity bytes (entities.Cell r c) = (row : List ℕ) × (col : List ℕ) × IsNumber row r × IsNumber col c × (bytes ≡ row ++ comma ∷ col)
+IsEntity bytes (entities.Cell r c) = IsPosition bytes (record { row = r; col = c })
 
 -- so many spaces left, right, above and below: four numbers, and a space between each two
 pub record AreSides (bytes : List ℕ) (sides : Sides Indent) : Type 0 where
@@ -49,6 +54,10 @@ pub record IsCharacter (bytes : List ℕ) (c : ℕ) : Type 0 where
 pub data IsSetting : List ℕ → Setting → Type 0 where
   Pad : (spelled rest : List ℕ) (entity : Entity) (sides : Sides Indent) → IsEntity spelled entity → AreSides rest sides
       → IsSetting (codes "pad " ++ (spelled ++ space ∷ rest)) (SetPadding entity sides)
+  Colspan : (spelled digits : List ℕ) (place : Position) (n : ℕ) → IsPosition spelled place → IsNumber digits n
+      → IsSetting (codes "colspan " ++ (spelled ++ space ∷ digits)) (SetColumnSpan place n)
+  Rowspan : (spelled digits : List ℕ) (place : Position) (n : ℕ) → IsPosition spelled place → IsNumber digits n
+      → IsSetting (codes "rowspan " ++ (spelled ++ space ∷ digits)) (SetRowSpan place n)
   Border : (x : List ℕ) (c : ℕ) → IsCharacter x c → IsSetting (codes "border " ++ x) (SetBorders (frame_with (Some c)))
   Vline : (digits x : List ℕ) (col c : ℕ) → IsNumber digits col → IsCharacter x c
       → IsSetting (codes "vline " ++ (digits ++ space ∷ x)) (InsertVerticalLine col (vertical_main c))

@@ -1,6 +1,6 @@
 //! Laws of the definitions, each the contract of a function that does nothing.
 
-ghost use Rattle.std.specs.Prelude.{◌≡◌, ◌↔◌, ◌⊎◌, ◌≤◌, ◌<◌, ◌+◌, ◌^◌, ℕ, Contains, IsTrue, IsUtf8, List, Some, Ok, Err, length};
+ghost use Rattle.std.specs.Prelude.{◌≡◌, ◌↔◌, ◌+◌, ℕ, IsTrue, IsUtf8, List, Some, Ok, Err, length};
 ghost use Rattle.papergrid_values.specs.declared.entity.Entity.{Entity};
 ghost use Rattle.papergrid_values.specs.declared.position.Position.{Position};
 ghost use Rattle.papergrid_maps.specs.declared.entity_map.MapCall.{MapCall};
@@ -9,15 +9,16 @@ ghost use Rattle.papergrid_maps.specs.LineTests.{horizontal_line_at, vertical_li
 ghost use Rattle.papergrid_maps.specs.Places.{HasHorizontal, HasVertical};
 ghost use Rattle.papergrid_config.specs.Made.{characters_of};
 ghost use Rattle.papergrid_config.specs.declared.setting.Setting.{Setting};
-ghost use Rattle.papergrid.specs.Cells.{Measure, TableCell, cells_of, measured};
+ghost use Rattle.papergrid_layout.specs.Answers.{first_out_of_table};
 ghost use Rattle.papergrid.specs.Decided.{IsDecided};
+ghost use Rattle.papergrid.specs.Estimates.{OutOfTable, Sized, TooLarge, estimate_of, text_measure};
 ghost use Rattle.papergrid.specs.Grammar.{Said, entity_of, number_of, said, script_lines};
+ghost use Rattle.papergrid.specs.Looks.{look_of};
 ghost use Rattle.papergrid.specs.Rows.{WorkedRows};
 ghost use Rattle.papergrid.specs.Scripts.{Table, table_of};
-ghost use Rattle.papergrid.specs.Sizes.{OutOfTable, Sized, TooLarge, estimate_of};
 ghost use Rattle.papergrid.specs.Spelling.{IsEntity, IsLine, IsNumber};
 ghost use Rattle.papergrid.specs.Tells.{IsBad, IsFirstBad, Tells};
-ghost use Rattle.papergrid.specs.Tops.{AllFit, AreSizes, AreTotals, IsCellOf, IsFirstOut, lines_left};
+ghost use Rattle.papergrid.specs.Totals.{AreSized, IsTooLarge, lines_left};
 
 /// What the worked scripts give, by the definitions alone.
 pub fn worked_rows()
@@ -60,12 +61,6 @@ pub fn script_by_lines()
     ensures found { (input : List ℕ) (i : ℕ) → IsFirstBad (script_lines input) i → table_of input ≡ Err (i + 1) }
 {}
 
-/// The cells of the rows, each with its place, are those that the rows have there.
-pub fn cells_by_place()
-    ensures there { (rows : List (List Measure)) (cell : TableCell) → IsCellOf rows cell → Contains (cells_of rows) cell }
-    ensures only { (rows : List (List Measure)) (cell : TableCell) → Contains (cells_of rows) cell → IsCellOf rows cell }
-{}
-
 /// A line is counted in the totals exactly where what the settings leave has one.
 pub fn lines_by_place()
     ensures vertical { (settings : List Setting) (col count : ℕ) →
@@ -74,16 +69,14 @@ pub fn lines_by_place()
         IsTrue (horizontal_line_at (characters_of settings) row count) ↔ HasHorizontal (lines_left settings) row count }
 {}
 
-/// A table is refused for its first cell at or past the column count, and else where the top needs of its
-/// columns and its vertical lines, or those of its rows and its horizontal lines, add up to more than fits 64
-/// bits; else its sizes are the top needs, its totals count the lines, and each cell stands in the table and
-/// has room there.
-pub fn estimate_by_needs()
-    ensures out { (table : Table) (place : Position) → estimate_of table ≡ OutOfTable place → IsFirstOut table.columns (measured table.rows) place }
-    ensures too_large { (table : Table) → estimate_of table ≡ TooLarge →
-        (widths : List ℕ) × (heights : List ℕ) × (total_width : ℕ) × (total_height : ℕ) × AreSizes table widths heights
-        × AreTotals table widths heights total_width total_height × ((2 ^ 64 ≤ total_width) ⊎ (2 ^ 64 ≤ total_height)) }
-    ensures sized { (table : Table) (widths heights : List ℕ) (total_width total_height : ℕ) → estimate_of table ≡ Sized widths heights total_width total_height →
-        AreSizes table widths heights × AreTotals table widths heights total_width total_height
-        × (total_width < 2 ^ 64) × (total_height < 2 ^ 64) × AllFit table widths heights }
+/// A table is refused exactly for its first visible cell that reaches out of it, and else only where the sizes
+/// along a direction, with its lines, come to more than fits 64 bits, and so do all sizes with room where ranges
+/// are kept apart; else its sizes are those of its visible cells, with room for each of them and no size above
+/// the greatest need over it, least where ranges are kept apart, and its totals count the lines.
+pub fn estimate_by_look()
+    ensures out { (table : Table) (place : Position) → (estimate_of table ≡ OutOfTable place)
+        ↔ (first_out_of_table (look_of table.settings) text_measure table.columns table.rows ≡ Some place) }
+    ensures too_large { (table : Table) → estimate_of table ≡ TooLarge → IsTooLarge table }
+    ensures sized { (table : Table) (widths heights : List ℕ) (total_width total_height : ℕ) →
+        estimate_of table ≡ Sized widths heights total_width total_height → AreSized table widths heights total_width total_height }
 {}

@@ -1,21 +1,23 @@
-//! Widths of columns and heights of rows of a table of padded cells, and the script that tells such a table.
+//! Widths of columns and heights of rows of a table by its settings, the settings themselves, and the script that
+//! tells such a table.
 #![tactic(auto)]
 
 mod estimate;
 pub mod laws;
-mod measured;
 mod number;
 mod output;
 mod running;
 mod script;
 mod script_line;
 mod setting_line;
+mod table_layout;
 #[cfg(test)]
 mod tests;
 mod transfer;
 mod unescape;
 
 pub use running::{RunEnd, RunFault, run};
+pub use table_layout::layout;
 pub use transfer::{Failed, ReadSource, Sink, Source, WriteSink};
 
 /// Colours as texts.
@@ -44,6 +46,26 @@ pub mod config {
 /// The colours of the texts of cells, by position.
 pub mod colors {
     pub use papergrid_config::{Colors, NoColor, NoColors};
+}
+
+/// Widths of columns and heights of rows.
+pub mod dimension {
+    pub use papergrid_layout::{Dimension, Estimate, LayoutError};
+
+    /// The sizes of tables whose cells all have the same settings.
+    pub mod compact {
+        pub use papergrid_layout::CompactGridDimension;
+    }
+
+    /// The sizes of records whose cells are texts.
+    pub mod iterable {
+        pub use papergrid_layout::IterGridDimension;
+    }
+
+    /// The sizes of records whose cells know their lines and widths.
+    pub mod peekable {
+        pub use papergrid_layout::PeekableGridDimension;
+    }
 }
 
 /// Rows of cells.

@@ -1,8 +1,8 @@
 //! The text that the program writes.
 
 ghost use Rattle.std.specs.Prelude.{◌≡◌, ◌∷◌, ◌++◌, [], IfOk, OnOk, codes, decimal};
+ghost use Rattle.papergrid.specs.Estimates.{OutOfTable, Sized, TooLarge};
 ghost use Rattle.papergrid.specs.Outputs.{estimate_text, number_line};
-ghost use Rattle.papergrid.specs.Sizes.{OutOfTable, TooLarge, Sized};
 
 use crate::estimate::Sizes;
 use papergrid_values::Position;

@@ -3,17 +3,17 @@
 ghost use Rattle.std.specs.Prelude.{◌≡◌, ◌⊎◌, ℕ, All, take, true, false, IfOk, IfSome, OnOk, OnErr, IsErrOf};
 ghost use Rattle.std.specs.Io.KnownBytes.{Appends, Consumes, IsAtEnd, Keeps};
 ghost use Rattle.papergrid_config.specs.Applied.{is_in_range};
-ghost use Rattle.papergrid_config.specs.Told.{IsTold};
+ghost use Rattle.papergrid.specs.Estimates.{estimate_of};
 ghost use Rattle.papergrid.specs.Outputs.{end_of, estimate_end, estimate_text, output_of};
-ghost use Rattle.papergrid.specs.Seen.{table_seen};
-ghost use Rattle.papergrid.specs.Sizes.{estimate_of};
+ghost use Rattle.papergrid.specs.Seen.{GivesEstimate, table_seen};
 ghost use Rattle.papergrid.specs.declared.running.RunFault.TheVariants.{Memory};
 
-use crate::estimate::{LayoutError, estimate};
+use crate::estimate::{Sizes, estimate};
 use crate::output::{bad_script_text, out_of_table_text, sizes_text, too_large_text};
 use crate::script::{Script, ScriptError, read_script};
+use crate::table_layout::configuration;
 use crate::transfer::{Failed, Sink, Source};
-use papergrid_config::{Setting, SpannedConfig};
+use papergrid_layout::LayoutError;
 use papergrid_text::IterRecords;
 use std::alloc::{AllocError, AllocFailed, Global};
 
@@ -112,16 +112,8 @@ fn table_answer(alloc: Global, script: Script<'_>) -> Result<(RunEnd, Vec<u8>), 
     ensures end { IfOk result (λ answer. answer.0 ≡ estimate_end (estimate_of (table_seen script.entry))) }
     ensures text { IfOk result (λ answer. answer.1.items ≡ estimate_text (estimate_of (table_seen script.entry))) }
 {
-    let Script {
-        columns,
-        settings,
-        rows,
-    } = script;
-    let config = configuration(alloc, settings)?;
-    let rows = rows.as_slice();
-    let records = IterRecords::new(rows, columns, Some(rows.len()));
-    match estimate(alloc, records, &config) {
-        Err(LayoutError::Memory) => Err(AllocError),
+    match table_sizes(alloc, script) {
+        Err(LayoutError::Memory(error)) => Err(error),
         Err(LayoutError::OutOfTable(position)) => {
             Ok((RunEnd::Refused, out_of_table_text(alloc, position)?))
         }
@@ -130,16 +122,20 @@ fn table_answer(alloc: Global, script: Script<'_>) -> Result<(RunEnd, Vec<u8>), 
     }
 }
 
-/// The configuration that the settings tell.
-fn configuration(alloc: Global, settings: Vec<Setting>) -> Result<SpannedConfig, AllocError>
-    requires { All (λ setting. is_in_range setting ≡ true) settings.items }
-    ensures { IfOk result (λ config. IsTold settings.items config) }
+/// The sizes of the table that a script tells.
+fn table_sizes(alloc: Global, script: Script<'_>) -> Result<Sizes, LayoutError>
+    requires in_range { All (λ setting. is_in_range setting ≡ true) script.settings.items }
+    ensures { GivesEstimate result (λ answer. answer ≡ estimate_of (table_seen script.entry)) }
 {
-    let mut config = SpannedConfig::new(alloc);
-    match config.apply_all(settings) {
-        Ok(()) => Ok(config),
-        Err(_) => Err(AllocError),
-    }
+    let Script {
+        columns,
+        settings,
+        rows,
+    } = script;
+    let config = configuration(alloc, settings)?;
+    let rows = rows.as_slice();
+    let records = IterRecords::new(rows, columns, Some(rows.len()));
+    estimate(alloc, records, &config)
 }
 
 /// Reads a script to its end, and writes the sizes of its table, or why it has none.

@@ -1,11 +1,11 @@
 //! The lines of a script that set something of its table.
 
 ghost use Rattle.std.specs.Prelude.{◌≡◌};
-ghost use Rattle.papergrid.specs.Grammar.{cell_entity, character_of, entity_of, padding_of, placed_character, setting_of, sides_of};
+ghost use Rattle.papergrid.specs.Grammar.{character_of, entity_of, padding_of, placed_character, placed_span, position_of, setting_of, sides_of};
 
 use crate::number::number;
 use papergrid_config::Setting;
-use papergrid_values::{Borders, Entity, HorizontalLine, Indent, Sides, VerticalLine};
+use papergrid_values::{Borders, Entity, HorizontalLine, Indent, Position, Sides, VerticalLine};
 
 /// The setting of a keyword, and of what stands after it and a space.
 #[tactic(auto, unfolding(crate::specs::Grammar::setting_of))]
@@ -14,6 +14,14 @@ pub fn line_setting(keyword: &str, rest: &str) -> Option<Setting>
 {
     match keyword {
         "pad" => padding(rest),
+        "colspan" => {
+            let (place, count) = placed_span(rest)?;
+            Some(Setting::SetColumnSpan(place, count))
+        }
+        "rowspan" => {
+            let (place, count) = placed_span(rest)?;
+            Some(Setting::SetRowSpan(place, count))
+        }
         "border" => Some(Setting::SetBorders(Borders::filled(character(rest)?))),
         "vline" => {
             let (col, c) = placed_character(rest)?;
@@ -93,14 +101,24 @@ fn entity(spelled: &str) -> Option<Entity>
     if let Some(digits) = spelled.strip_prefix("r") {
         return number(digits).map(Entity::Row);
     }
-    cell_entity(spelled)
+    let place = position(spelled)?;
+    Some(Entity::Cell(place.row, place.col))
 }
 
-/// The cell at a row and a column with a comma between them.
-#[tactic(auto, unfolding(crate::specs::Grammar::cell_entity))]
-fn cell_entity(spelled: &str) -> Option<Entity>
-    ensures { result ≡ cell_entity spelled.now }
+/// The position at a row and a column with a comma between them.
+#[tactic(auto, unfolding(crate::specs::Grammar::position_of))]
+fn position(spelled: &str) -> Option<Position>
+    ensures { result ≡ position_of spelled.now }
 {
     let (row, col) = spelled.split_once(',')?;
-    Some(Entity::Cell(number(row)?, number(col)?))
+    Some(Position::new(number(row)?, number(col)?))
+}
+
+/// A position, and a number after it and a space.
+#[tactic(auto, unfolding(crate::specs::Grammar::placed_span))]
+fn placed_span(spelled: &str) -> Option<(Position, usize)>
+    ensures { result ≡ placed_span spelled.now }
+{
+    let (place, count) = spelled.split_once(' ')?;
+    Some((position(place)?, number(count)?))
 }

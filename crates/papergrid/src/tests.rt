@@ -1,6 +1,7 @@
 //! Worked scripts, and readers and writers that fail.
 
 mod ends;
+mod layouts;
 mod rows;
 
 use crate::{ReadSource, RunEnd, WriteSink, run};

@@ -80,8 +80,132 @@ fn out_of_table(rt: HostRuntime) -> Result<(), Fail> {
     check(
         &rt,
         rt.alloc(),
+        b"columns 2\ncolspan 0,0 3\nrow\ncell a\n",
+        "refused: out of table at 0,0\n",
+        RunEnd::Refused,
+    )?;
+    check(
+        &rt,
+        rt.alloc(),
         b"columns 1\nrow\ncell a\ncell b\n",
         "refused: out of table at 0,1\n",
+        RunEnd::Refused,
+    )?;
+    check(
+        &rt,
+        rt.alloc(),
+        b"columns 1\nrowspan 0,0 2\nrow\ncell a\n",
+        "refused: out of table at 0,0\n",
+        RunEnd::Refused,
+    )
+}
+
+#[test]
+fn readme_picture(rt: HostRuntime) -> Result<(), Fail> {
+    check(
+        &rt,
+        rt.alloc(),
+        b"columns 4\nborder +\ncolspan 1,1 3\nrowspan 0,0 2\npad 0,0 4 4 1 1\nrow\ncell Papergrid\ncell is a library\ncell for print tables\ncell !\nrow\ncell\ncell Just like this\ncell\ncell\n",
+        "widths 17 12 16 1\nheights 1 1\ntotal 51 5\n",
+        RunEnd::Done,
+    )
+}
+
+#[test]
+fn even_shares_over_inner_line(rt: HostRuntime) -> Result<(), Fail> {
+    check(
+        &rt,
+        rt.alloc(),
+        b"columns 3\nborder +\nrowspan 0,0 2\nrow\ncell 0-0\\nxx\\nx\\nx\\nx\\nx\\nx\ncell 0-1\ncell 0-2\nrow\ncell 1-0\ncell 1-1\ncell 1-2\nrow\ncell 2-0\ncell 2-1\ncell 2-2\n",
+        "widths 3 3 3\nheights 3 3 1\ntotal 13 11\n",
+        RunEnd::Done,
+    )
+}
+
+#[test]
+fn remainder_to_first(rt: HostRuntime) -> Result<(), Fail> {
+    check(
+        &rt,
+        rt.alloc(),
+        b"columns 2\nborder +\nrowspan 0,0 2\nrow\ncell 1\\n\\n\\n\\n\\n\\n\\n23\ncell 0-1\nrow\ncell 1-0\ncell 1-1\n",
+        "widths 2 3\nheights 4 3\ntotal 8 10\n",
+        RunEnd::Done,
+    )
+}
+
+#[test]
+fn lines_alone_satisfy(rt: HostRuntime) -> Result<(), Fail> {
+    check(
+        &rt,
+        rt.alloc(),
+        b"columns 3\nborder +\nrowspan 0,0 3\nrowspan 0,1 2\nrowspan 0,2 2\nrow\ncell 0-0\ncell 0-1\ncell 0-2\nrow\ncell 1-0\ncell 1-1\ncell 1-2\nrow\ncell 2-0\ncell 2-1\ncell 2-2\n",
+        "widths 3 3 3\nheights 0 0 1\ntotal 13 5\n",
+        RunEnd::Done,
+    )
+}
+
+#[test]
+fn nested_column_spans(rt: HostRuntime) -> Result<(), Fail> {
+    check(
+        &rt,
+        rt.alloc(),
+        b"columns 3\ncolspan 1,0 3\ncolspan 2,1 2\nrow\ncell a\ncell a\ncell a\nrow\ncell 0123456789\nrow\ncell a\ncell 01234567\n",
+        "widths 2 4 4\nheights 1 1 1\ntotal 10 3\n",
+        RunEnd::Done,
+    )
+}
+
+#[test]
+fn nested_row_spans(rt: HostRuntime) -> Result<(), Fail> {
+    check(
+        &rt,
+        rt.alloc(),
+        b"columns 3\nrowspan 0,1 3\nrowspan 1,2 2\npad 0,1 0 0 9 0\npad 1,2 0 0 7 0\nrow\ncell a\ncell a\ncell a\nrow\ncell a\ncell a\ncell a\nrow\ncell a\ncell a\ncell a\n",
+        "widths 1 1 1\nheights 4 4 4\ntotal 3 12\n",
+        RunEnd::Done,
+    )
+}
+
+#[test]
+fn crossing_column_spans(rt: HostRuntime) -> Result<(), Fail> {
+    check(
+        &rt,
+        rt.alloc(),
+        b"columns 3\ncolspan 0,0 2\ncolspan 1,1 2\nrow\ncell 0123456789\nrow\ncell\ncell 0123456789\n",
+        "widths 5 8 2\nheights 1 1\ntotal 15 2\n",
+        RunEnd::Done,
+    )
+}
+
+#[test]
+fn hidden_cell_beyond_columns(rt: HostRuntime) -> Result<(), Fail> {
+    check(
+        &rt,
+        rt.alloc(),
+        b"columns 1\nrowspan 0,1 2\nrow\ncell a\nrow\ncell b\ncell zzz\n",
+        "widths 1\nheights 1 1\ntotal 1 2\n",
+        RunEnd::Done,
+    )
+}
+
+#[test]
+fn hidden_anchor_hides(rt: HostRuntime) -> Result<(), Fail> {
+    check(
+        &rt,
+        rt.alloc(),
+        b"columns 3\ncolspan 0,0 2\ncolspan 0,1 2\nrow\ncell abcd\ncell x\ncell zzz\n",
+        "widths 2 2 0\nheights 1\ntotal 4 1\n",
+        RunEnd::Done,
+    )
+}
+
+#[test]
+fn first_out_in_each_direction(rt: HostRuntime) -> Result<(), Fail> {
+    check(
+        &rt,
+        rt.alloc(),
+        b"columns 2\ncolspan 1,1 2\nrowspan 0,0 3\nrow\ncell\ncell\nrow\ncell\ncell\n",
+        "refused: out of table at 0,0\n",
         RunEnd::Refused,
     )
 }
@@ -146,7 +270,7 @@ fn bad_scripts(rt: HostRuntime) -> Result<(), Fail> {
 /// A line of each fault is named by its number, and a later fault is not looked at.
 #[test]
 fn first_bad_line(rt: HostRuntime) -> Result<(), Fail> {
-    let second: [&[u8]; 12] = [
+    let second: [&[u8]; 10] = [
         b"\xff",
         b"columns 18446744073709551616",
         b"columns +1",
@@ -156,8 +280,6 @@ fn first_bad_line(rt: HostRuntime) -> Result<(), Fail> {
         b"column 1",
         b"pad * 1 2 3",
         b"pad x1 1 2 3 4",
-        b"colspan 0,0 2",
-        b"rowspan 0,0 2",
         b"cell a",
     ];
     for line in second {
@@ -193,6 +315,27 @@ fn bad_line_characters(rt: HostRuntime) -> Result<(), Fail> {
     Ok(())
 }
 
+/// A span is of one cell, and of one number of columns or rows.
+#[test]
+fn bad_spans(rt: HostRuntime) -> Result<(), Fail> {
+    let second: [&[u8]; 10] = [
+        b"colspan",
+        b"colspan 0,0",
+        b"colspan 0,0 ",
+        b"colspan 0,0 2 ",
+        b"colspan 0 2",
+        b"colspan c0 2",
+        b"colspan 0, 0 2",
+        b"rowspan * 2",
+        b"rowspan 0,0 -1",
+        b"rowspan 0,0 18446744073709551616",
+    ];
+    for line in second {
+        check_bad_second(&rt, rt.alloc(), line)?;
+    }
+    Ok(())
+}
+
 /// A removed line has a number and nothing else.
 #[test]
 fn bad_removals(rt: HostRuntime) -> Result<(), Fail> {
@@ -219,8 +362,8 @@ fn good_lines(rt: HostRuntime) -> Result<(), Fail> {
     check(
         &rt,
         rt.alloc(),
-        b"border |\nborder  \nborder \xe2\x94\x82\r\nborder \r\r\nvline 007 |\nvline 1  \nvline 18446744073709551615 \xf0\x9f\x98\x8e\nhline 1  \nhline 1 \t\nnovline 1\nnohline 00\nborder\n",
-        "bad script at line 12\n",
+        b"border |\nborder  \nborder \xe2\x94\x82\r\nborder \r\r\nvline 007 |\nvline 1  \nvline 18446744073709551615 \xf0\x9f\x98\x8e\nhline 1  \nhline 1 \t\nnovline 1\nnohline 00\ncolspan 00,01 0\nrowspan 18446744073709551615,0 18446744073709551615\nborder\n",
+        "bad script at line 14\n",
         RunEnd::BadScript,
     )
 }

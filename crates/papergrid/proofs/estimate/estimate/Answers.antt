@@ -1,15 +1,26 @@
-use Rattle.std.proofs.Common.{map, ap, ◌∙◌}
-use Rattle.papergrid_maps.specs.MapHeld.{held_value}
-use Rattle.papergrid.specs.Seen.{measures_of}
-use Rattle.papergrid.specs.Sizes.{estimate_by}
-use Rattle.papergrid.proofs.SizeLemmas.{gives_also}
+use Rattle.std.proofs.Common.{sym, ◌∙◌}
+use Rattle.papergrid_layout.specs.Looks.{spanned_look}
+use Rattle.papergrid_layout.specs.Measures.{line_measure}
+use Rattle.papergrid.specs.Estimates.{Sized}
+use Rattle.papergrid.proofs.EstimateLemmas.{estimate_sized, height_fits, refused, width_fits}
 use Rattle.papergrid.proofs.estimate.estimate.Goals as goal
 
-pub returns : goal.returns
-returns g c =
-    let cells = c.in_ok-rows.ensures in
-    let padding = held_value c.args.config.now.padding in
-    let borders = c.args.config.now.characters in
-    let same_columns = ap (λ n. estimate_by n (map measures_of c.as_slice.result.now) padding borders) c.count_columns-columns.ensures in
-    let same_rows = ap (λ ms. estimate_by (g.R.Records.columns c.args.records) ms padding borders) (ap (map measures_of) c.as_slice.ensures.value ∙ cells.2) in
-    gives_also c.estimate_measured.result _ _ (λ answer is. (cells.0, cells.1, is ∙ same_columns ∙ same_rows)) c.estimate_measured.ensures
+pub with_totals-requires-clause-width : goal.with_totals-requires-clause-width
+with_totals-requires-clause-width g c =
+    let told = c.in-Ok.ensures in
+    width_fits (spanned_look c.args.config.now) (line_measure g.R.Iter.Cell.AsStr.text) (g.R.Records.columns c.args.records) told.0 c.in-Ok.dimension.widths c.in-Ok.dimension.heights told.2
+
+pub with_totals-requires-clause-height : goal.with_totals-requires-clause-height
+with_totals-requires-clause-height g c =
+    let told = c.in-Ok.ensures in
+    height_fits (spanned_look c.args.config.now) (line_measure g.R.Iter.Cell.AsStr.text) (g.R.Records.columns c.args.records) told.0 c.in-Ok.dimension.widths c.in-Ok.dimension.heights told.2
+
+pub returns-in-Ok : goal.returns-in-Ok
+returns-in-Ok g c =
+    let told = c.in-Ok.ensures in
+    let sized = estimate_sized (spanned_look c.args.config.now) (line_measure g.R.Iter.Cell.AsStr.text) (g.R.Records.columns c.args.records) told.0 c.in-Ok.dimension.widths c.in-Ok.dimension.heights told.2 in
+    let with = c.with_totals.ensures in
+    (told.0, told.1, (λ i. Sized (with.widths i) (with.heights i) (with.total_width i) (with.total_height i)) ∙ sym sized)
+
+pub returns-in-Err : goal.returns-in-Err
+returns-in-Err g c = refused (g.R.Records.tells c.args.records) (spanned_look c.args.config.now) (line_measure g.R.Iter.Cell.AsStr.text) (g.R.Records.columns c.args.records) c.in-Err.error c.in-Err.ensures

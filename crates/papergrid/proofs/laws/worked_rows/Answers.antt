@@ -4,14 +4,14 @@ use Rattle.std.specs.Fmt.{digits}
 use Rattle.std.specs.Str.{chars, is_utf8}
 use Rattle.unicode_width.specs.Width.{str_width, step, past_emoji}
 use Rattle.papergrid.specs.Texts.{unescaped}
-use Rattle.papergrid.specs.Grammar.{number_of, cell_entity, entity_of, sides_of, padding_of, character_of, placed_character, setting_of, keyword_says, text_says, said, script_lines}
+use Rattle.papergrid.specs.Grammar.{number_of, position_of, placed_span, entity_of, sides_of, padding_of, character_of, placed_character, setting_of, keyword_says, text_says, said, script_lines}
 use Rattle.papergrid.specs.Scripts.{table_of}
-use Rattle.papergrid.specs.Sizes.{padding_at, sizes_of}
+use Rattle.papergrid.specs.Estimates.{estimate_by}
 use Rattle.papergrid.proofs.ListedLemmas.{worked}
 use Rattle.papergrid.proofs.laws.worked_rows.Goals as goal
 
 pub returns : goal.returns
-unfolding table_of script_lines said text_says keyword_says setting_of placed_character character_of padding_of sides_of entity_of cell_entity number_of unescaped chars is_utf8 encode sizes_of padding_at str_width step past_emoji digits
+unfolding table_of script_lines said text_says keyword_says setting_of placed_character character_of padding_of sides_of entity_of placed_span position_of number_of unescaped chars is_utf8 encode estimate_by str_width step past_emoji digits
 returns c = record {
   first_run = worked _ _ _ refl refl;
   short_row = worked _ _ _ refl refl;
@@ -21,6 +21,18 @@ returns c = record {
   greatest_size_and_one = worked _ _ _ refl refl;
   greatest_size_and_borders = worked _ _ _ refl refl;
   out_of_table = worked _ _ _ refl refl;
+  readme_picture = worked _ _ _ refl refl;
+  even_shares_over_inner_line = worked _ _ _ refl refl;
+  remainder_to_first = worked _ _ _ refl refl;
+  lines_alone_satisfy = worked _ _ _ refl refl;
+  nested_column_spans = worked _ _ _ refl refl;
+  nested_row_spans = worked _ _ _ refl refl;
+  crossing_column_spans = worked _ _ _ refl refl;
+  out_of_table_by_columns = worked _ _ _ refl refl;
+  out_of_table_by_rows = worked _ _ _ refl refl;
+  hidden_cell_beyond_columns = worked _ _ _ refl refl;
+  hidden_anchor_hides = worked _ _ _ refl refl;
+  first_out_in_each_direction = worked _ _ _ refl refl;
   no_columns = worked _ _ _ refl refl;
   empty_input = worked _ _ _ refl refl;
   borders_alone = worked _ _ _ refl refl;

@@ -1,0 +1,185 @@
+-- What an estimate is, by the answers of a dimension, and what follows from it.
+use Rattle.std.proofs.Common.{◌≡◌, ◌⊎◌, ◌∙◌, ℕ, ◌+◌, ◌<◌, ◌≤◌, ◌^◌, Bool, true, false, List, [], ◌∷◌, ◌||◌, length, map, refl, ap, sym, subst, arith, inl, inr, nat_lt, nat_le}
+use Rattle.std.specs.Prelude.{Option, Some, None, Result, Ok, Err, find, is_some, sum, if◌then◌else◌}
+use Rattle.std.proofs.lemmas.Bool.{false≢true}
+use Rattle.std.proofs.lemmas.Bool.Decides.{nat_tests}
+use Rattle.std.proofs.lemmas.List.{length-map}
+use Rattle.papergrid_values.specs.declared.position.Position.{Position}
+use Rattle.papergrid_axis.specs.declared.demand.Demand.{Demand}
+use Rattle.papergrid_axis.specs.declared.direction.Direction.{Direction}
+use Rattle.papergrid_axis.specs.declared.direction.Direction.TheVariants.{Columns, Rows}
+use Rattle.papergrid_axis.specs.declared.error.LayoutError.{LayoutError}
+use Rattle.papergrid_axis.specs.declared.error.LayoutError.TheVariants as layout_errors
+use Rattle.papergrid_axis.specs.Ranges.{all_lines, end_of, first_out, place_of}
+use Rattle.papergrid_axis.specs.Sizes.{sizes_of}
+use Rattle.papergrid_layout.specs.Answers.{AreBothSizes, IsBothRefused, IsTooLargeFor, UnlessWant, count_of, drawn_along, first_out_of_table, reaches_out}
+use Rattle.papergrid_layout.specs.Cells.{asked, demands_of, visible_cells}
+use Rattle.papergrid_layout.specs.Laws.{sizes_told}
+use Rattle.papergrid_layout.specs.Looks.{Look}
+use Rattle.papergrid_layout.proofs.Told.{demands_told}
+use Rattle.papergrid_layout.proofs.TotalLemmas.{all_lines-drawn}
+use Rattle.papergrid.specs.declared.estimate.Sizes.{Sizes}
+use Rattle.papergrid.specs.Estimates.{Estimate, OutOfTable, TooLarge, Sized, unless_large, unless_out, total_along, totalled, estimate_by}
+use Rattle.papergrid.specs.Seen.{GivesEstimate}
+
+-- ---- tests and options
+
+or_true : (a : Bool) → a || true ≡ true
+or_true true = refl
+or_true false = refl
+
+or_false : (a b : Bool) → (a || b) ≡ false → (a ≡ false) × (b ≡ false)
+or_false true b e = absurd (false≢true (sym e))
+or_false false b e = (refl, e)
+
+if_none : {A : Type 0} (b : Bool) (x : A) (r : Option A) → (if b then Some x else r) ≡ None → (b ≡ false) × (r ≡ None)
+if_none true x r e = absurd (false≢true (sym (ap is_some e)))
+if_none false x r e = (refl, e)
+
+-- ---- totals
+
+pub large : (w h : List ℕ) (m n : ℕ) → (2 ^ 64 ≤ m) ⊎ (2 ^ 64 ≤ n) → unless_large w h m n ≡ TooLarge
+large w h m n past = elim past [
+  | inl wide ↦ let test : nat_le (2 ^ 64) m ≡ true = grind (arith, nat_tests) in rw test refl
+  | inr high ↦ let test : nat_le (2 ^ 64) n ≡ true = grind (arith, nat_tests) in rw (test, or_true) refl
+]
+
+pub sized : (w h : List ℕ) (m n : ℕ) → m < 2 ^ 64 → n < 2 ^ 64 → unless_large w h m n ≡ Sized w h m n
+sized w h m n narrow low =
+    let wide : nat_le (2 ^ 64) m ≡ false = grind (arith, nat_tests) in
+    let high : nat_le (2 ^ 64) n ≡ false = grind (arith, nat_tests) in
+    rw (wide, high) refl
+
+-- the total that a direction's answer speaks of
+pub total_drawn : (direction : Direction) (look : Look) (n : ℕ) (sizes : List ℕ) → sum sizes + all_lines (drawn_along direction look n) n ≡ total_along direction look n sizes
+total_drawn direction look n sizes = ap (λ lines. sum sizes + lines) (all_lines-drawn (look.draws direction n) n)
+
+module _ {C : Type 0} (look : Look) (measure : C → ℕ × ℕ) (columns : ℕ) (cells : List (List C)) where
+  abbrev wide_demands : List Demand
+  wide_demands = demands_of Columns look measure cells
+
+  abbrev high_demands : List Demand
+  high_demands = demands_of Rows look measure cells
+
+  -- ---- the first cell out of the table
+
+  none_out_among : (xs : List (Position × C)) → find (reaches_out look measure columns cells) (map (λ x. x.0) xs) ≡ None
+      → (first_out columns (map (asked Columns look measure) xs) ≡ None) × (first_out (length cells) (map (asked Rows look measure) xs) ≡ None)
+  none_out_among [] none = (refl, refl)
+  none_out_among (x ∷ xs) none =
+      let here = if_none (reaches_out look measure columns cells x.0) x.0 (find (reaches_out look measure columns cells) (map (λ y. y.0) xs)) none in
+      let both = or_false (nat_lt columns (end_of (asked Columns look measure x))) (nat_lt (length cells) (end_of (asked Rows look measure x))) here.0 in
+      let rest = none_out_among xs here.1 in
+      ((λ i. if both.0 i then Some x.0 else rest.0 i), (λ i. if both.1 i then Some x.0 else rest.1 i))
+
+  none_reaches_among : (xs : List (Position × C)) → first_out columns (map (asked Columns look measure) xs) ≡ None → first_out (length cells) (map (asked Rows look measure) xs) ≡ None
+      → find (reaches_out look measure columns cells) (map (λ x. x.0) xs) ≡ None
+  none_reaches_among [] wide high = refl
+  none_reaches_among (x ∷ xs) wide high =
+      let in_columns = if_none (nat_lt columns (end_of (asked Columns look measure x))) x.0 (first_out columns (map (asked Columns look measure) xs)) wide in
+      let in_rows = if_none (nat_lt (length cells) (end_of (asked Rows look measure x))) x.0 (first_out (length cells) (map (asked Rows look measure) xs)) high in
+      let rest = none_reaches_among xs in_columns.1 in_rows.1 in
+      λ i. if (in_columns.0 i || in_rows.0 i) then Some x.0 else rest i
+
+  pub none_out : first_out_of_table look measure columns cells ≡ None → (first_out columns wide_demands ≡ None) × (first_out (length cells) high_demands ≡ None)
+  none_out none = none_out_among (visible_cells look cells) none
+
+  pub none_reaches : first_out columns wide_demands ≡ None → first_out (length cells) high_demands ≡ None → first_out_of_table look measure columns cells ≡ None
+  none_reaches wide high = none_reaches_among (visible_cells look cells) wide high
+
+  places_among : (xs : List (Position × C)) → map (λ x. x.0) xs ≡ map place_of (map (asked Columns look measure) xs)
+  places_among [] = refl
+  places_among (x ∷ xs) = ap (λ ps. x.0 ∷ ps) (places_among xs)
+
+  -- by what the cells ask for alone
+  first_by_demands : first_out_of_table look measure columns cells ≡ find (reaches_out look measure columns cells) (map place_of wide_demands)
+  first_by_demands = ap (find (reaches_out look measure columns cells)) (places_among (visible_cells look cells))
+
+  -- ---- the answers
+
+  abbrev pub wide_sizes : List ℕ
+  wide_sizes = sizes_told Columns look measure columns cells
+
+  abbrev pub high_sizes : List ℕ
+  high_sizes = sizes_told Rows look measure (length cells) cells
+
+  abbrev pub if_inside : Estimate
+  if_inside = totalled look columns (length cells) wide_sizes high_sizes
+
+  pub estimate_out : (place : Position) → first_out_of_table look measure columns cells ≡ Some place → estimate_by look measure columns cells ≡ OutOfTable place
+  unfolding estimate_by
+  estimate_out place first = ap (λ o. unless_out o if_inside) first
+
+  estimate_inside : first_out_of_table look measure columns cells ≡ None → estimate_by look measure columns cells ≡ if_inside
+  unfolding estimate_by
+  estimate_inside none = ap (λ o. unless_out o if_inside) none
+
+  too_large_total : (direction : Direction) → IsTooLargeFor look measure columns cells direction
+      → 2 ^ 64 ≤ total_along direction look (count_of look measure columns cells direction) (sizes_told direction look measure (count_of look measure columns cells direction) cells)
+  too_large_total direction large =
+      let n = count_of look measure columns cells direction in
+      subst (λ total. 2 ^ 64 ≤ total) (total_drawn direction look n (sizes_told direction look measure n cells)) large.too_large
+
+  pub estimate_large : first_out_of_table look measure columns cells ≡ None → IsTooLargeFor look measure columns cells Columns ⊎ IsTooLargeFor look measure columns cells Rows
+      → estimate_by look measure columns cells ≡ TooLarge
+  estimate_large none too_large =
+      estimate_inside none
+      ∙ large wide_sizes high_sizes (total_along Columns look columns wide_sizes) (total_along Rows look (length cells) high_sizes) (elim too_large [
+        | inl wide ↦ inl (too_large_total Columns wide)
+        | inr high ↦ inr (too_large_total Rows high)
+      ])
+
+  module _ (wide high : List ℕ) (are : AreBothSizes look measure columns cells wide high) where
+    pub width_fits : total_along Columns look (length wide) wide < 2 ^ 64
+    width_fits =
+        subst (λ n. total_along Columns look n wide < 2 ^ 64) (sym are.widths.fits.one_each)
+        (subst (λ total. total < 2 ^ 64) (total_drawn Columns look columns wide) are.widths.total)
+
+    pub height_fits : total_along Rows look (length high) high < 2 ^ 64
+    height_fits =
+        subst (λ n. total_along Rows look n high < 2 ^ 64) (sym are.heights.fits.one_each)
+        (subst (λ total. total < 2 ^ 64) (total_drawn Rows look (length cells) high) are.heights.total)
+
+    pub estimate_sized : estimate_by look measure columns cells ≡ Sized wide high (total_along Columns look (length wide) wide) (total_along Rows look (length high) high)
+    estimate_sized =
+        estimate_inside (none_reaches are.widths.none_out are.heights.none_out)
+        ∙ (λ i. unless_large (sym are.widths.exact i) (sym are.heights.exact i)
+        (total_along Columns look (sym are.widths.fits.one_each i) (sym are.widths.exact i)) (total_along Rows look (sym are.heights.fits.one_each i) (sym are.heights.exact i)))
+        ∙ sized wide high (total_along Columns look (length wide) wide) (total_along Rows look (length high) high) width_fits height_fits
+
+-- cells that are seen through a view
+module _ {A B : Type 0} (look : Look) (v : A → B) (f : B → ℕ × ℕ) (columns : ℕ) (cells : List (List A)) (rows : List (List B)) (same : map (map v) cells ≡ rows) where
+  as_many : length cells ≡ length rows
+  as_many = sym (length-map cells (map v)) ∙ ap length same
+
+  first_told : first_out_of_table look (λ x. f (v x)) columns cells ≡ first_out_of_table look f columns rows
+  first_told =
+      let wide = demands_told look v f cells rows same Columns in
+      first_by_demands look (λ x. f (v x)) columns cells
+      ∙ (λ i. find (λ p. nat_lt columns (p.col + look.span Columns p) || nat_lt (as_many i) (p.row + look.span Rows p)) (map place_of (wide i)))
+      ∙ sym (first_by_demands look f columns rows)
+
+  pub estimate_told : estimate_by look (λ x. f (v x)) columns cells ≡ estimate_by look f columns rows
+  unfolding estimate_by
+  estimate_told =
+      let wide = demands_told look v f cells rows same Columns in
+      let high = demands_told look v f cells rows same Rows in
+      λ i. unless_out (first_told i)
+      (totalled look columns (as_many i) (sizes_of Columns (drawn_along Columns look columns) columns (wide i)) (sizes_of Rows (drawn_along Rows look (as_many i)) (as_many i) (high i)))
+
+-- ---- results
+
+-- why a dimension has no sizes of the cells told is why these have no estimate
+pub refused : {C : Type 0} (Tells : List (List C) → Type 0) (look : Look) (measure : C → ℕ × ℕ) (columns : ℕ) (e : LayoutError)
+    → UnlessWant e ((cells : List (List C)) × Tells cells × IsBothRefused look measure columns cells e)
+    → GivesEstimate (Err e) (λ answer. (cells : List (List C)) × Tells cells × (answer ≡ estimate_by look measure columns cells))
+refused Tells look measure columns (layout_errors.OutOfTable place) is = (is.0, is.1, sym (estimate_out look measure columns is.0 place is.2))
+refused Tells look measure columns layout_errors.TooLarge is = (is.0, is.1, sym (estimate_large look measure columns is.0 is.2.0 is.2.1))
+refused Tells look measure columns (layout_errors.Memory e) is = tt
+
+-- an estimate that is so is also what follows from it
+pub gives_also : (result : Result Sizes LayoutError) (IsSo IsAlso : Estimate → Type 0) → ((e : Estimate) → IsSo e → IsAlso e) → GivesEstimate result IsSo → GivesEstimate result IsAlso
+gives_also (Ok sizes) IsSo IsAlso follows so = follows _ so
+gives_also (Err (layout_errors.OutOfTable place)) IsSo IsAlso follows so = follows _ so
+gives_also (Err layout_errors.TooLarge) IsSo IsAlso follows so = follows _ so
+gives_also (Err (layout_errors.Memory e)) IsSo IsAlso follows so = so

@@ -1,0 +1,67 @@
+-- What a walk reads of a configuration that is told by settings is what the settings decide.
+use Rattle.std.proofs.Common.{◌≡◌, ◌≤◌, ℕ, Bool, true, false, List, arith, nat_le, refl, subst}
+use Rattle.std.specs.Prelude.{Result, flat_map, unwrap_or}
+use Rattle.std.proofs.lemmas.Bool.Decides.{nat_tests}
+use Rattle.papergrid_values.specs.declared.position.Position.{Position}
+use Rattle.papergrid_axis.specs.declared.direction.Direction.{Direction}
+use Rattle.papergrid_axis.specs.declared.direction.Direction.TheVariants.{Columns, Rows}
+use Rattle.papergrid_axis.specs.declared.error.LayoutError.{LayoutError}
+use Rattle.papergrid_maps.specs.MapHeld.{held_value}
+use Rattle.papergrid_maps.specs.Spans as spans
+use Rattle.papergrid_maps.specs.Spans.{from_two, is_visible}
+use Rattle.papergrid_maps.proofs.MadeTables.{spans_made_told, told_borders, told_spans}
+use Rattle.papergrid_maps.proofs.MapHeldLemmas.{held_decided}
+use Rattle.papergrid_config.specs.Decided as decided
+use Rattle.papergrid_config.specs.Made.{characters_of, spans_of}
+use Rattle.papergrid_config.specs.Parts.{character_calls, span_calls}
+use Rattle.papergrid_config.specs.Told.{IsTold}
+use Rattle.papergrid_config.specs.declared.setting.Setting.{Setting}
+use Rattle.papergrid_config.specs.declared.spanned.SpannedConfig.{SpannedConfig}
+use Rattle.papergrid_layout.specs.Answers.{UnlessMemory}
+use Rattle.papergrid_layout.specs.Looks.{Look, line_along, size_after, size_before, span_along, spanned_look}
+use Rattle.papergrid_layout.specs.declared.iterable.IterGridDimension.{IterGridDimension}
+use Rattle.papergrid.specs.Layouts.{IsLaidOut}
+use Rattle.papergrid.specs.Looks.{look_of}
+
+pub look_told : (settings : List Setting) (config : SpannedConfig) → IsTold settings config → spanned_look config ≡ look_of settings
+unfolding look_of
+look_told settings config told =
+    let spans_same = told_spans (flat_map span_calls settings) config.spans told.spans in
+    let lines_same = told_borders (flat_map character_calls settings) config.characters told.characters in
+    let padding_same : (p : Position) → held_value config.padding p ≡ decided.padding settings p = λ p. held_decided _ _ _ told.padding p in
+    λ i. record {
+      shows = is_visible (spans_same i);
+      span = span_along (spans_same i);
+      before = λ direction p. size_before direction (padding_same p i);
+      after = λ direction p. size_after direction (padding_same p i);
+      draws = line_along (lines_same i);
+    }
+
+-- ---- spans are 1 or more
+
+one_at_least : (n : ℕ) → 1 ≤ unwrap_or (from_two n) 1
+one_at_least n = by_test (nat_le 2 n) refl
+  where
+    by_test : (b : Bool) → nat_le 2 n ≡ b → 1 ≤ unwrap_or (from_two n) 1
+    by_test true e = rw e (let two : 2 ≤ n = grind (arith, nat_tests, e) in omega arith)
+    by_test false e = rw e (omega arith)
+
+spans_cover : (settings : List Setting) (direction : Direction) (p : Position) → 1 ≤ span_along (spans_of settings) direction p
+spans_cover settings Columns p = rw (spans_made_told (flat_map span_calls settings) spans.Columns p) (one_at_least (spans.decided_span spans.Columns p (flat_map span_calls settings)))
+spans_cover settings Rows p = rw (spans_made_told (flat_map span_calls settings) spans.Rows p) (one_at_least (spans.decided_span spans.Rows p (flat_map span_calls settings)))
+
+pub look_covers : (settings : List Setting) (direction : Direction) (p : Position) → 1 ≤ (look_of settings).span direction p
+unfolding look_of
+look_covers settings direction p = spans_cover settings direction p
+
+-- the lines of settings
+pub look_draws : (settings : List Setting) (direction : Direction) → (look_of settings).draws direction ≡ line_along (characters_of settings) direction
+unfolding look_of
+look_draws settings direction = refl
+
+-- ---- answers, by what is read
+
+pub answer_read : {C : Type 0} (Tells : List (List C) → Type 0) (measure : C → ℕ × ℕ) (columns : ℕ) (look other : Look) (same : look ≡ other) (result : Result IterGridDimension LayoutError)
+    → UnlessMemory result ((cells : List (List C)) × Tells cells × IsLaidOut look measure columns cells result)
+    → UnlessMemory result ((cells : List (List C)) × Tells cells × IsLaidOut other measure columns cells result)
+answer_read {C = C} Tells measure columns look other same result is = subst (λ l. UnlessMemory result ((cells : List (List C)) × Tells cells × IsLaidOut l measure columns cells result)) same is

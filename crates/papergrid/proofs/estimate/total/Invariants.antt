@@ -1,9 +1,0 @@
-use Rattle.std.proofs.Common.{◌≡◌, ◌+◌, ◌<◌, ◌^◌, take}
-use Rattle.std.specs.Prelude.{sum}
-use Rattle.papergrid.proofs.estimate.total.Given as goal
-
-abbrev pub invariant-loop-size : goal.invariant-loop-size
-invariant-loop-size l = record {
-  added : l.total ≡ sum (take l.size-index l.sizes) + l.lines;
-  fits : l.total < 2 ^ 64;
-}

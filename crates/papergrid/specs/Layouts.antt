@@ -1,0 +1,12 @@
+-- What the layout of records is.
+use Rattle.std.specs.Prelude.{ℕ, List, Result, Ok, Err}
+use Rattle.papergrid_axis.specs.declared.error.LayoutError.{LayoutError}
+use Rattle.papergrid_layout.specs.Answers.{AreBothSizes, IsBothRefused}
+use Rattle.papergrid_layout.specs.Looks.{Look}
+use Rattle.papergrid_layout.specs.declared.iterable.IterGridDimension.{IterGridDimension}
+
+module _ {C : Type 0} (look : Look) (measure : C → ℕ × ℕ) (columns : ℕ) (cells : List (List C)) where
+  -- a dimension with exactly the widths and the heights, or why there is none
+  abbrev pub IsLaidOut : Result IterGridDimension LayoutError → Type 0
+  IsLaidOut (Ok dimension) = AreBothSizes look measure columns cells dimension.widths dimension.heights
+  IsLaidOut (Err e) = IsBothRefused look measure columns cells e

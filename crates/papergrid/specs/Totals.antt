@@ -1,0 +1,36 @@
+-- What the answers for a table are, apart from how they are found.
+use Rattle.std.specs.Prelude.{◌≡◌, ◌⊎◌, ℕ, ◌+◌, ◌^◌, ◌<◌, List, None, flat_map, length, reverse, sum}
+use Rattle.papergrid_axis.specs.declared.direction.Direction.{Direction}
+use Rattle.papergrid_axis.specs.declared.direction.Direction.TheVariants.{Columns, Rows}
+use Rattle.papergrid_maps.specs.Places.{Places, places_from}
+use Rattle.papergrid_config.specs.Lines.{count_lines}
+use Rattle.papergrid_config.specs.Made.{characters_of}
+use Rattle.papergrid_config.specs.Parts.{character_calls}
+use Rattle.papergrid_config.specs.declared.setting.Setting.{Setting}
+use Rattle.papergrid_layout.specs.Answers.{AreBothSizes, IsTooLargeFor, first_out_of_table}
+use Rattle.papergrid_layout.specs.Looks.{line_along}
+use Rattle.papergrid.specs.Estimates.{text_measure}
+use Rattle.papergrid.specs.Looks.{look_of}
+use Rattle.papergrid.specs.Scripts.{Table}
+
+-- what the settings leave at each place of the lines
+abbrev pub lines_left : List Setting → Places ℕ
+lines_left settings = places_from (reverse (flat_map character_calls settings))
+
+-- how many lines the settings make along a direction of so many columns (rows)
+abbrev pub lines_along : Direction → List Setting → ℕ → ℕ
+lines_along direction settings count = count_lines (line_along (characters_of settings) direction count) count
+
+-- no visible cell reaches out, and the sizes along one direction with its lines do not fit 64 bits
+pub record IsTooLarge (table : Table) : Type 0 where
+  pub inside : first_out_of_table (look_of table.settings) text_measure table.columns table.rows ≡ None
+  pub too_large : IsTooLargeFor (look_of table.settings) text_measure table.columns table.rows Columns
+      ⊎ IsTooLargeFor (look_of table.settings) text_measure table.columns table.rows Rows
+
+-- exactly the sizes, with what holds of them, and their totals with the lines, which fit 64 bits
+pub record AreSized (table : Table) (widths heights : List ℕ) (total_width total_height : ℕ) : Type 0 where
+  pub sizes : AreBothSizes (look_of table.settings) text_measure table.columns table.rows widths heights
+  pub is_width : total_width ≡ sum widths + lines_along Columns table.settings table.columns
+  pub is_height : total_height ≡ sum heights + lines_along Rows table.settings (length table.rows)
+  pub width_fits : total_width < 2 ^ 64
+  pub height_fits : total_height < 2 ^ 64

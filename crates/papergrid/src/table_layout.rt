@@ -1,0 +1,71 @@
+//! The layout of records by a list of settings.
+
+ghost use Rattle.std.specs.Prelude.{◌≡◌, All, IfOk, List, true};
+ghost use Rattle.papergrid_config.specs.Applied.{is_in_range};
+ghost use Rattle.papergrid_config.specs.Told.{IsTold};
+ghost use Rattle.papergrid_layout.specs.Answers.{UnlessMemory};
+ghost use Rattle.papergrid_layout.specs.Looks.{spanned_look};
+ghost use Rattle.papergrid_layout.specs.Measures.{line_measure};
+ghost use Rattle.papergrid.specs.Layouts.{IsLaidOut};
+ghost use Rattle.papergrid.specs.Looks.{look_of};
+
+use papergrid_config::{Setting, SpannedConfig};
+use papergrid_layout::{Estimate, IterGridDimension, LayoutError};
+use papergrid_text::{IntoRecords, Records};
+use std::alloc::{AllocError, Global};
+use std::convert::AsStr;
+
+/// The widths of the columns of the records, in columns of a terminal, and the heights of their rows, in
+/// lines, by the configuration that the settings tell. Condition: each setting is in range.
+///
+/// # Errors
+///
+/// `OutOfTable` with the first visible cell that reaches out, else `TooLarge` where the widths and the
+/// vertical lines, or the heights and the horizontal lines, come to more than the greatest `usize`;
+/// `Memory` in place of any answer, where a setting asks for memory too.
+pub fn layout<R: Records + Drop>(
+    alloc: Global,
+    settings: Vec<Setting>,
+    records: R,
+) -> Result<IterGridDimension, LayoutError>
+where
+    <<R as Records>::Iter as IntoRecords>::Cell: AsStr + Drop,
+    requires lawful { R.is_lawful records }
+    requires in_range { All (λ setting. is_in_range setting ≡ true) settings.items }
+    ensures { UnlessMemory result ((cells : List (List R.Iter.Cell)) × R.tells records cells
+        × IsLaidOut (look_of settings.items) (line_measure R.Iter.Cell.text) (R.columns records) cells result) }
+{
+    let config = configuration(alloc, settings)?;
+    laid_out(alloc, records, &config)
+}
+
+/// The same by a configuration.
+pub fn laid_out<R: Records + Drop>(
+    alloc: Global,
+    records: R,
+    config: &SpannedConfig,
+) -> Result<IterGridDimension, LayoutError>
+where
+    <<R as Records>::Iter as IntoRecords>::Cell: AsStr + Drop,
+    requires { R.is_lawful records }
+    ensures { UnlessMemory result ((cells : List (List R.Iter.Cell)) × R.tells records cells
+        × IsLaidOut (spanned_look config.now) (line_measure R.Iter.Cell.text) (R.columns records) cells result) }
+{
+    let mut dimension = IterGridDimension::new(alloc);
+    match dimension.estimate(records, config) {
+        Ok(()) => Ok(dimension),
+        Err(error) => Err(error),
+    }
+}
+
+/// The configuration that the settings tell.
+pub fn configuration(alloc: Global, settings: Vec<Setting>) -> Result<SpannedConfig, AllocError>
+    requires { All (λ setting. is_in_range setting ≡ true) settings.items }
+    ensures { IfOk result (λ config. IsTold settings.items config) }
+{
+    let mut config = SpannedConfig::new(alloc);
+    match config.apply_all(settings) {
+        Ok(()) => Ok(config),
+        Err(_) => Err(AllocError),
+    }
+}
