@@ -1,4 +1,7 @@
 //! Worked examples, each call run once, and refused memory.
+//!
+//! A test hands its configuration to `drop`: the proof of one that drops the twenty parts in place
+//! is about three times as large.
 
 mod refused;
 
@@ -60,6 +63,7 @@ fn neighbouring_borders(rt: HostRuntime) {
         config.get_border(at(1, 0), (10, 10)),
         Border::full('y', 'y', 'y', 'q', 'y', 'q', 'y', 'q')
     );
+    drop(config);
 }
 
 #[test]
@@ -73,6 +77,7 @@ fn rectangle_of_both_spans(rt: HostRuntime) {
     for visible in [at(0, 0), at(0, 2), at(2, 2)] {
         assert!(rt; config.is_cell_visible(visible));
     }
+    drop(config);
 }
 
 #[test]
@@ -89,6 +94,7 @@ fn spans(rt: HostRuntime) {
     assert!(rt; !config.has_column_spans() && config.has_row_spans());
     config.remove_row_spans();
     assert!(rt; !config.has_row_spans());
+    drop(config);
 }
 
 #[test]
@@ -100,6 +106,7 @@ fn line_flags(rt: HostRuntime) {
     assert_eq!(rt; config.get_horizontal_line(1), Some(&line));
     config.remove_horizontal_line(1, 2);
     assert!(rt; !config.has_vertical(0, 3) && !config.has_horizontal(1, 2));
+    drop(config);
 }
 
 #[test]
@@ -113,6 +120,7 @@ fn apply_all_paddings(rt: HostRuntime) -> Result<(), Fail> {
     assert_eq!(rt; *config.get_padding(at(0, 0)), padding(1));
     assert_eq!(rt; *config.get_padding(at(0, 1)), padding(2));
     assert_eq!(rt; *config.get_padding(at(1, 0)), padding(0));
+    drop(config);
     Ok(())
 }
 
@@ -124,6 +132,7 @@ fn from_compact(rt: HostRuntime) -> Result<(), Fail> {
     let none = Sides::new(None, None, None, None);
     assert!(rt; config.set_padding_color(Entity::Global, none).is_ok());
     assert!(rt; !config.has_padding_color());
+    drop(config);
     Ok(())
 }
 
@@ -143,6 +152,7 @@ fn from_coloured_compact(rt: HostRuntime) -> Result<(), Fail> {
     );
     assert!(rt; is_red(config.get_horizontal_color(at(0, 0), 1)));
     assert!(rt; config.get_margin_color().left.is_some());
+    drop(config);
     Ok(())
 }
 
@@ -158,6 +168,7 @@ fn frame_at_count_zero(rt: HostRuntime) {
     });
     assert_eq!(rt; config.get_horizontal(at(0, 0), 0), Some('t'));
     assert_eq!(rt; config.get_vertical(at(0, 0), 0), Some('r'));
+    drop(config);
 }
 
 #[test]
@@ -185,6 +196,7 @@ fn empty_line_is_missing_character(rt: HostRuntime) {
     assert_eq!(rt; config.get_vertical_line(2), Some(&VerticalLine::empty()));
     config.remove_vertical_line(2, 2);
     assert_eq!(rt; config.get_vertical(at(0, 2), 2), None);
+    drop(config);
 }
 
 #[test]
@@ -207,6 +219,7 @@ fn missing_character(rt: HostRuntime) {
     assert_eq!(rt; config.get_horizontal(at(1, 0), 3), Some('?'));
     assert_eq!(rt; config.get_intersection(at(1, 2), (3, 2)), Some('?'));
     assert_eq!(rt; config.count_horizontal(3), 1);
+    drop(config);
 }
 
 #[test]
@@ -226,6 +239,7 @@ fn formatting(rt: HostRuntime) {
     assert!(rt; config.get_trim_horizonal(at(0, 5)) && !config.get_trim_horizonal(at(1, 5)));
     assert!(rt; config.get_trim_vertical(at(5, 0)) && !config.get_line_alignment(at(5, 0)));
     assert!(rt; config.has_formatting());
+    drop(config);
 }
 
 #[test]
@@ -258,6 +272,7 @@ fn alignments(rt: HostRuntime) {
     );
     assert!(rt; !config.has_alignment_vertical());
     assert_eq!(rt; *config.get_alignment_vertical(at(1, 9)), middle);
+    drop(config);
 }
 
 #[test]
@@ -278,6 +293,7 @@ fn justification(rt: HostRuntime) -> Result<(), Fail> {
     );
     assert!(rt; config.has_justification());
     assert!(rt; is_red(config.get_justification_color(at(7, 2))));
+    drop(config);
     Ok(())
 }
 
@@ -293,6 +309,7 @@ fn margins(rt: HostRuntime) -> Result<(), Fail> {
     assert_eq!(rt; config.get_margin_offset(), Sides::filled(Offset::End(2)));
     assert!(rt; is_red(config.get_margin_color().left));
     assert!(rt; config.get_margin_color().right.is_none());
+    drop(config);
     Ok(())
 }
 
@@ -308,6 +325,7 @@ fn colours_of_one_border(rt: HostRuntime) -> Result<(), Fail> {
     assert!(rt; is_red(config.get_border_color(at(1, 0), (5, 5)).right));
     config.remove_border_color(at(1, 1), (5, 5));
     assert!(rt; !config.has_border_colors());
+    drop(config);
     Ok(())
 }
 
@@ -326,6 +344,7 @@ fn colour_of_all_lines(rt: HostRuntime) -> Result<(), Fail> {
     assert!(rt; is_red(config.get_intersection_color(at(0, 0), (5, 5))));
     config.remove_borders_colors();
     assert!(rt; !config.has_border_colors());
+    drop(config);
     Ok(())
 }
 
@@ -344,6 +363,7 @@ fn characters_of_lines(rt: HostRuntime) {
     config.remove_borders();
     assert_eq!(rt; config.get_vertical(at(0, 0), 2), None);
     assert!(rt; !config.has_vertical(0, 2) && !config.has_horizontal(0, 2));
+    drop(config);
 }
 
 #[test]
@@ -375,6 +395,7 @@ fn overridden_characters(rt: HostRuntime) {
     config.remove_overridden_vertical(at(0, 0));
     config.remove_horizontal_chars();
     assert!(rt; !config.has_offset_chars());
+    drop(config);
 }
 
 // What is overridden are characters; colours are not counted.
@@ -399,5 +420,6 @@ fn overridden_colours(rt: HostRuntime) -> Result<(), Fail> {
     config.remove_color_line_vertical();
     assert!(rt; config.lookup_horizontal_color(at(0, 1), 0, 5).is_none());
     assert!(rt; config.lookup_vertical_color(at(1, 0), 0, 5).is_none());
+    drop(config);
     Ok(())
 }
