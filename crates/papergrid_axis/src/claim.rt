@@ -23,7 +23,7 @@ pub struct Claim<'a> {
 
 /// Whether the range at a place ends at or before that at another begins.
 fn is_before<A: Axis>(direction: Direction, axis: &A, place: Position, later: Position) -> bool
-    ensures { IsTrue result → AreInOrder direction (A.span_of axis.now) place later }
+    ensures { IsTrue result ↔ AreInOrder direction (A.span_of axis.now) place later }
 {
     ends_by(
         number_of(direction, place),
@@ -34,7 +34,7 @@ fn is_before<A: Axis>(direction: Direction, axis: &A, place: Position, later: Po
 
 /// Whether each of the ranges at the places ends before a later one begins.
 pub fn are_in_order<A: Axis>(direction: Direction, axis: &A, places: &[Position]) -> bool
-    ensures { IsTrue result → AllPairs (AreInOrder direction (A.span_of axis.now)) places.now }
+    ensures { IsTrue result ↔ AllPairs (AreInOrder direction (A.span_of axis.now)) places.now }
 {
     for i in 1..places.len() {
         if !is_before(direction, axis, places[i - 1], places[i]) {
