@@ -1,6 +1,6 @@
 //! What a walk over cells keeps of their demands.
 
-ghost use Rattle.std.specs.Prelude.{◌≡◌, ◌+◌, ◌<◌, ◌≤◌, ◌^◌, [], ◌∷◌, IfOk, OnOk};
+ghost use Rattle.std.specs.Prelude.{◌≡◌, ◌+◌, ◌<◌, ◌≤◌, ◌^◌, [], ◌∷◌, OnOk};
 ghost use Rattle.std.specs.Option.{SomeIff};
 ghost use Rattle.papergrid_axis.specs.Seen.{Adds, Holds};
 ghost use Rattle.papergrid_axis.specs.Ranges.{along, demand_of};
@@ -29,14 +29,18 @@ impl Seen {
         }
     }
 
-    /// Nothing seen, with room for the demands of so many cells. It takes memory for them.
-    pub fn with_room(alloc: Global, cells: usize) -> Result<Self, AllocError>
-        ensures { IfOk result (λ seen. Holds seen []) }
+    /// Nothing seen, with room for the demands of so many cells where memory is there for it.
+    pub fn with_room(alloc: Global, cells: usize) -> Self
+        ensures { Holds result [] }
     {
-        Ok(Seen {
-            demands: Vec::with_capacity(alloc, cells)?,
+        let demands = match Vec::with_capacity(alloc, cells) {
+            Ok(room) => room,
+            Err(_) => Vec::new(alloc),
+        };
+        Seen {
+            demands,
             is_large: false,
-        })
+        }
     }
 }
 

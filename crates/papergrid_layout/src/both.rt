@@ -125,8 +125,8 @@ where
 {
     let room = room_for(records.hint_count_rows(), records.count_columns());
     let mut both = Both {
-        columns: Seen::with_room(alloc, room)?,
-        rows: Seen::with_room(alloc, room)?,
+        columns: Seen::with_room(alloc, room),
+        rows: Seen::with_room(alloc, room),
     };
     let mut walk = shown(alloc, settings)?;
     let common = settings.common_paddings();

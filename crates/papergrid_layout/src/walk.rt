@@ -1,6 +1,6 @@
 //! The walk over records, for one direction.
 
-ghost use Rattle.std.specs.Prelude.{◌≡◌, ◌+◌, ◌-◌, ◌<◌, ◌^◌, ◌∷◌, [], ⊤, if◌then◌else◌, IfOk, List, None, OnOk, Some, length};
+ghost use Rattle.std.specs.Prelude.{◌≡◌, ◌+◌, ◌-◌, ◌<◌, ◌≤◌, ◌^◌, ◌∷◌, [], ⊤, if◌then◌else◌, IfOk, List, None, OnOk, Some, length};
 ghost use Rattle.papergrid_text.specs.Records.{Gives, WalkIsShort};
 ghost use Rattle.papergrid_axis.specs.Seen.{Adds, Holds};
 ghost use Rattle.papergrid_layout.specs.Cells.{asked, asked_by, demands_of, placed_row};
@@ -22,7 +22,9 @@ use std::iter::{IntoIterator, Iterator};
 const MOST_ROOM: usize = 16384;
 
 /// For how many cells room is made beforehand. The hint of the number of rows may be false.
-pub fn room_for(rows: Option<usize>, columns: usize) -> usize {
+pub fn room_for(rows: Option<usize>, columns: usize) -> usize
+    ensures { result ≤ 16384 }
+{
     match rows {
         Some(count) => count.saturating_mul(columns).min(MOST_ROOM),
         None => 0,
@@ -164,7 +166,7 @@ where
         × Holds found.0 (demands_of direction (S.look settings.now) M.measured cells) × (found.1 ≡ length cells)) }
 {
     let room = room_for(records.hint_count_rows(), records.count_columns());
-    let mut seen = Seen::with_room(alloc, room)?;
+    let mut seen = Seen::with_room(alloc, room);
     let mut walk = shown(alloc, settings)?;
     let common = settings.common_paddings();
     let mut count = 0usize;

@@ -7,7 +7,7 @@ use Rattle.papergrid_layout.proofs.both.gather_both.Goals as goal
 pub loop-row-init : goal.loop-row-init
 loop-row-init g c =
     let short = c.iter_rows-row-items.ensures.finite c.requires c.into_iter-row-iterator.result c.into_iter-row-iterator.ensures.into_iter_gives in
-    (short.may_start, short.ends, refl, c.in_ok-walk.ensures, ([], tt, c.in_ok-with_room.ensures, c.in_ok-with_room-2.ensures))
+    (short.may_start, short.ends, refl, c.in_ok-walk.ensures, ([], tt, c.with_room.ensures, c.with_room-2.ensures))
 
 pub visit_row_both-requires-clause-short : goal.visit_row_both-requires-clause-short
 visit_row_both-requires-clause-short g c =

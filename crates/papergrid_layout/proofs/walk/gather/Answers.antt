@@ -6,7 +6,7 @@ use Rattle.papergrid_layout.proofs.walk.gather.Goals as goal
 pub loop-row-init : goal.loop-row-init
 loop-row-init g c =
     let short = c.iter_rows-row-items.ensures.finite c.requires c.into_iter-row-iterator.result c.into_iter-row-iterator.ensures.into_iter_gives in
-    (short.may_start, short.ends, refl, c.in_ok-walk.ensures, ([], tt, c.in_ok-seen.ensures))
+    (short.may_start, short.ends, refl, c.in_ok-walk.ensures, ([], tt, c.with_room-seen.ensures))
 
 pub visit_row-requires-clause-short : goal.visit_row-requires-clause-short
 visit_row-requires-clause-short g c =
