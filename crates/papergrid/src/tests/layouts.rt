@@ -3,7 +3,6 @@
 use crate::config::spanned::Setting;
 use crate::config::{Borders, Entity, Indent, Position, Sides};
 use crate::dimension::LayoutError;
-use crate::dimension::iterable::IterGridDimension;
 use crate::layout;
 use crate::records::IterRecords;
 use std::alloc::{AllocError, Global};
@@ -16,22 +15,33 @@ fn picture_settings(alloc: Global) -> Result<Vec<Setting>, AllocError> {
         Indent::spaced(1),
         Indent::spaced(1),
     );
-    vec![in alloc;
-        Setting::SetBorders(Borders::filled('+')),
-        Setting::SetColumnSpan(Position::new(1, 1), 3),
-        Setting::SetRowSpan(Position::new(0, 0), 2),
-        Setting::SetPadding(Entity::Cell(0, 0), padding),
-    ]
+    let mut settings = Vec::new(alloc);
+    settings.push(Setting::SetBorders(Borders::filled('+')))?;
+    settings.push(Setting::SetColumnSpan(Position::new(1, 1), 3))?;
+    settings.push(Setting::SetRowSpan(Position::new(0, 0), 2))?;
+    settings.push(Setting::SetPadding(Entity::Cell(0, 0), padding))?;
+    Ok(settings)
+}
+
+fn row_of(alloc: Global, texts: &[&'static str]) -> Result<Vec<&'static str>, AllocError> {
+    texts.iter().copied().collect(alloc)
+}
+
+/// Its texts.
+fn picture_rows(alloc: Global) -> Result<Vec<Vec<&'static str>>, AllocError> {
+    let mut rows = Vec::new(alloc);
+    rows.push(row_of(
+        alloc,
+        &["Papergrid", "is a library", "for print tables", "!"],
+    )?)?;
+    rows.push(row_of(alloc, &["", "Just like this", "", ""])?)?;
+    Ok(rows)
 }
 
 /// Whether the picture has its sizes.
 fn has_picture_sizes(alloc: Global) -> Result<bool, LayoutError> {
-    let rows = vec![in alloc;
-        vec![in alloc; "Papergrid", "is a library", "for print tables", "!"]?,
-        vec![in alloc; "", "Just like this", "", ""]?,
-    ]?;
-    let records = IterRecords::new(rows, 4, None);
-    let dimension: IterGridDimension = layout(alloc, picture_settings(alloc)?, records)?;
+    let records = IterRecords::new(picture_rows(alloc)?, 4, None);
+    let dimension = layout(alloc, picture_settings(alloc)?, records)?;
     let (widths, heights) = dimension.get_values();
     Ok(widths.as_slice() == &[17, 12, 16, 1][..] && heights.as_slice() == &[1, 1][..])
 }
