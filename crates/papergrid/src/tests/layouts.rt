@@ -41,7 +41,11 @@ fn picture_rows(alloc: Global) -> Result<Vec<Vec<&'static str>>, AllocError> {
 /// Whether the picture has its sizes.
 fn has_picture_sizes(alloc: Global) -> Result<bool, LayoutError> {
     let records = IterRecords::new(picture_rows(alloc)?, 4, None);
-    let dimension = layout(alloc, picture_settings(alloc)?, records)?;
+    let settings = picture_settings(alloc)?;
+    if !settings.iter().all(|setting| setting.is_in_range()) {
+        return Ok(false);
+    }
+    let dimension = layout(alloc, settings, records)?;
     let (widths, heights) = dimension.get_values();
     Ok(widths.as_slice() == &[17, 12, 16, 1][..] && heights.as_slice() == &[1, 1][..])
 }
