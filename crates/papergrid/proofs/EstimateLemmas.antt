@@ -3,24 +3,28 @@ use Rattle.std.proofs.Common.{◌≡◌, ◌⊎◌, ◌∙◌, ℕ, ◌+◌, ◌
 use Rattle.std.specs.Prelude.{Option, Some, None, Result, Ok, Err, find, is_some, sum, if◌then◌else◌}
 use Rattle.std.proofs.lemmas.Bool.{false≢true}
 use Rattle.std.proofs.lemmas.Bool.Decides.{nat_tests}
-use Rattle.std.proofs.lemmas.List.{length-map}
+use Rattle.std.proofs.lemmas.List.{length-map, map-id}
 use Rattle.papergrid_values.specs.declared.position.Position.{Position}
 use Rattle.papergrid_axis.specs.declared.demand.Demand.{Demand}
 use Rattle.papergrid_axis.specs.declared.direction.Direction.{Direction}
 use Rattle.papergrid_axis.specs.declared.direction.Direction.TheVariants.{Columns, Rows}
 use Rattle.papergrid_axis.specs.declared.error.LayoutError.{LayoutError}
 use Rattle.papergrid_axis.specs.declared.error.LayoutError.TheVariants as layout_errors
+use Rattle.papergrid_axis.specs.Chosen.{chosen_of}
+use Rattle.papergrid_axis.specs.KeptApart.{is_kept_apart}
 use Rattle.papergrid_axis.specs.Ranges.{all_lines, end_of, first_out, place_of}
 use Rattle.papergrid_axis.specs.Sizes.{sizes_of}
 use Rattle.papergrid_layout.specs.Answers.{AreBothSizes, IsBothRefused, IsTooLargeFor, UnlessWant, count_of, drawn_along, first_out_of_table, reaches_out}
 use Rattle.papergrid_layout.specs.Cells.{asked, demands_of, visible_cells}
-use Rattle.papergrid_layout.specs.Laws.{sizes_told}
+use Rattle.papergrid_layout.specs.Laws.{sizes_told, witness_told}
 use Rattle.papergrid_layout.specs.Looks.{Look}
-use Rattle.papergrid_layout.proofs.Told.{demands_told}
+use Rattle.papergrid_layout.specs.Witnesses.{AreCertified}
+use Rattle.papergrid_layout.specs.declared.certified.Certified.{Certified}
+use Rattle.papergrid_layout.proofs.Told.{demands_told, witness_is_told}
 use Rattle.papergrid_layout.proofs.TotalLemmas.{all_lines-drawn}
 use Rattle.papergrid.specs.declared.estimate.Sizes.{Sizes}
 use Rattle.papergrid.specs.Estimates.{Estimate, OutOfTable, TooLarge, Sized, unless_large, unless_out, total_along, totalled, estimate_by}
-use Rattle.papergrid.specs.Seen.{GivesEstimate}
+use Rattle.papergrid.specs.Seen.{GivesEstimate, places_seen}
 
 -- ---- tests and options
 
@@ -38,14 +42,14 @@ if_none false x r e = (refl, e)
 
 -- ---- totals
 
-pub large : (w h : List ℕ) (m n : ℕ) → (2 ^ 64 ≤ m) ⊎ (2 ^ 64 ≤ n) → unless_large w h m n ≡ TooLarge
-large w h m n past = elim past [
+pub large : (w h : List ℕ) (m n : ℕ) (a b : Option (List Position)) → (2 ^ 64 ≤ m) ⊎ (2 ^ 64 ≤ n) → unless_large w h m n a b ≡ TooLarge
+large w h m n a b past = elim past [
   | inl wide ↦ let test : nat_le (2 ^ 64) m ≡ true = grind (arith, nat_tests) in rw test refl
   | inr high ↦ let test : nat_le (2 ^ 64) n ≡ true = grind (arith, nat_tests) in rw (test, or_true) refl
 ]
 
-pub sized : (w h : List ℕ) (m n : ℕ) → m < 2 ^ 64 → n < 2 ^ 64 → unless_large w h m n ≡ Sized w h m n
-sized w h m n narrow low =
+pub sized : (w h : List ℕ) (m n : ℕ) (a b : Option (List Position)) → m < 2 ^ 64 → n < 2 ^ 64 → unless_large w h m n a b ≡ Sized w h m n a b
+sized w h m n a b narrow low =
     let wide : nat_le (2 ^ 64) m ≡ false = grind (arith, nat_tests) in
     let high : nat_le (2 ^ 64) n ≡ false = grind (arith, nat_tests) in
     rw (wide, high) refl
@@ -103,8 +107,14 @@ module _ {C : Type 0} (look : Look) (measure : C → ℕ × ℕ) (columns : ℕ)
   abbrev pub high_sizes : List ℕ
   high_sizes = sizes_told Rows look measure (length cells) cells
 
+  abbrev pub wide_witness : Option (List Position)
+  wide_witness = witness_told Columns look measure columns cells
+
+  abbrev pub high_witness : Option (List Position)
+  high_witness = witness_told Rows look measure (length cells) cells
+
   abbrev pub if_inside : Estimate
-  if_inside = totalled look columns (length cells) wide_sizes high_sizes
+  if_inside = totalled look columns (length cells) wide_sizes high_sizes wide_witness high_witness
 
   pub estimate_out : (place : Position) → first_out_of_table look measure columns cells ≡ Some place → estimate_by look measure columns cells ≡ OutOfTable place
   unfolding estimate_by
@@ -124,7 +134,7 @@ module _ {C : Type 0} (look : Look) (measure : C → ℕ × ℕ) (columns : ℕ)
       → estimate_by look measure columns cells ≡ TooLarge
   estimate_large none too_large =
       estimate_inside none
-      ∙ large wide_sizes high_sizes (total_along Columns look columns wide_sizes) (total_along Rows look (length cells) high_sizes) (elim too_large [
+      ∙ large wide_sizes high_sizes (total_along Columns look columns wide_sizes) (total_along Rows look (length cells) high_sizes) wide_witness high_witness (elim too_large [
         | inl wide ↦ inl (too_large_total Columns wide)
         | inr high ↦ inr (too_large_total Rows high)
       ])
@@ -140,12 +150,31 @@ module _ {C : Type 0} (look : Look) (measure : C → ℕ × ℕ) (columns : ℕ)
         subst (λ n. total_along Rows look n high < 2 ^ 64) (sym are.heights.fits.one_each)
         (subst (λ total. total < 2 ^ 64) (total_drawn Rows look (length cells) high) are.heights.total)
 
-    pub estimate_sized : estimate_by look measure columns cells ≡ Sized wide high (total_along Columns look (length wide) wide) (total_along Rows look (length high) high)
+    pub estimate_sized : estimate_by look measure columns cells ≡ Sized wide high (total_along Columns look (length wide) wide) (total_along Rows look (length high) high) wide_witness high_witness
     estimate_sized =
         estimate_inside (none_reaches are.widths.none_out are.heights.none_out)
         ∙ (λ i. unless_large (sym are.widths.exact i) (sym are.heights.exact i)
-        (total_along Columns look (sym are.widths.fits.one_each i) (sym are.widths.exact i)) (total_along Rows look (sym are.heights.fits.one_each i) (sym are.heights.exact i)))
-        ∙ sized wide high (total_along Columns look (length wide) wide) (total_along Rows look (length high) high) width_fits height_fits
+        (total_along Columns look (sym are.widths.fits.one_each i) (sym are.widths.exact i)) (total_along Rows look (sym are.heights.fits.one_each i) (sym are.heights.exact i)) wide_witness high_witness)
+        ∙ sized wide high (total_along Columns look (length wide) wide) (total_along Rows look (length high) high) wide_witness high_witness width_fits height_fits
+
+  -- sizes with their witnesses are what is estimated
+  pub estimate_certified : (certified : Certified) → AreCertified look measure columns cells certified → estimate_by look measure columns cells
+      ≡ Sized certified.widths.items certified.heights.items (total_along Columns look (length certified.widths.items) certified.widths.items)
+      (total_along Rows look (length certified.heights.items) certified.heights.items) (places_seen certified.width_witness) (places_seen certified.height_witness)
+  estimate_certified certified are =
+      let wide = witness_is_told look (λ x. x) measure cells cells themselves Columns columns certified.width_witness are.widths in
+      let high = witness_is_told look (λ x. x) measure cells cells themselves Rows columns certified.height_witness are.heights in
+      estimate_sized certified.widths.items certified.heights.items are.sizes
+      ∙ (λ i. Sized certified.widths.items certified.heights.items (total_along Columns look (length certified.widths.items) certified.widths.items)
+      (total_along Rows look (length certified.heights.items) certified.heights.items) (sym wide i) (sym high i))
+    where
+      themselves : map (map (λ x. x)) cells ≡ cells
+      themselves = (λ i. map (λ row. map-id row i) cells) ∙ map-id cells
+
+-- a witness by what the cells ask for
+abbrev witness_by : Direction → Look → ℕ → List Demand → Option (List Position)
+witness_by direction look n demands =
+    if is_kept_apart direction demands then Some (map place_of (chosen_of direction (drawn_along direction look n) n demands)) else None
 
 -- cells that are seen through a view
 module _ {A B : Type 0} (look : Look) (v : A → B) (f : B → ℕ × ℕ) (columns : ℕ) (cells : List (List A)) (rows : List (List B)) (same : map (map v) cells ≡ rows) where
@@ -165,7 +194,8 @@ module _ {A B : Type 0} (look : Look) (v : A → B) (f : B → ℕ × ℕ) (colu
       let wide = demands_told look v f cells rows same Columns in
       let high = demands_told look v f cells rows same Rows in
       λ i. unless_out (first_told i)
-      (totalled look columns (as_many i) (sizes_of Columns (drawn_along Columns look columns) columns (wide i)) (sizes_of Rows (drawn_along Rows look (as_many i)) (as_many i) (high i)))
+      (totalled look columns (as_many i) (sizes_of Columns (drawn_along Columns look columns) columns (wide i)) (sizes_of Rows (drawn_along Rows look (as_many i)) (as_many i) (high i))
+      (witness_by Columns look columns (wide i)) (witness_by Rows look (as_many i) (high i)))
 
 -- ---- results
 

@@ -1,25 +1,29 @@
 -- What the estimate of a table says of the table.
 use Rattle.std.proofs.Common.{◌≡◌, ◌⊎◌, ◌∙◌, ℕ, ◌<◌, ◌≤◌, ◌+◌, ◌^◌, Bool, true, false, List, [], ◌∷◌, length, map, refl, ap, sym, subst, arith, inl, inr, nat_le}
-use Rattle.std.specs.Prelude.{◌↔◌, All, Option, Some, None, sum}
+use Rattle.std.specs.Prelude.{◌↔◌, All, Option, Some, None, sum, if◌then◌else◌}
+use Rattle.std.proofs.lemmas.Bool.{cases_Bool, false≢true}
 use Rattle.std.proofs.lemmas.Bool.Decides.{nat_tests}
 use Rattle.std.proofs.lemmas.List.Elements.{All-nil, All-cons}
 use Rattle.papergrid_values.specs.declared.position.Position.{Position}
 use Rattle.papergrid_axis.specs.declared.demand.Demand.{Demand}
 use Rattle.papergrid_axis.specs.declared.direction.Direction.{Direction}
 use Rattle.papergrid_axis.specs.declared.direction.Direction.TheVariants.{Columns, Rows}
-use Rattle.papergrid_axis.specs.Answers.{AreSizes, NoneHolds}
-use Rattle.papergrid_axis.specs.Ranges.{IsInTable, first_out}
+use Rattle.papergrid_axis.specs.Answers.{AreChosen, AreSizes, NoneChosen, NoneHolds}
+use Rattle.papergrid_axis.specs.Chosen.{chosen_of}
+use Rattle.papergrid_axis.specs.KeptApart.{is_kept_apart}
+use Rattle.papergrid_axis.specs.Ranges.{IsInTable, all_lines, first_out, place_of}
+use Rattle.papergrid_axis.proofs.KeptApartLemmas.{Decides-is_kept_apart}
 use Rattle.papergrid_axis.proofs.OutLemmas as out_lemmas
-use Rattle.papergrid_axis.proofs.Theorems.{AreSizes-sizes_of, NoneHolds-sizes_of}
+use Rattle.papergrid_axis.proofs.Theorems.{AreSizes-sizes_of, IsCertificate-chosen_of, NoneHolds-sizes_of}
 use Rattle.papergrid_config.specs.Lines.{count_lines}
 use Rattle.papergrid_layout.specs.Answers.{drawn_along, first_out_of_table}
 use Rattle.papergrid_layout.specs.Cells.{asked, demands_of, visible_cells}
-use Rattle.papergrid_layout.specs.Laws.{sizes_told}
+use Rattle.papergrid_layout.specs.Laws.{sizes_told, witness_told}
 use Rattle.papergrid_layout.specs.Looks.{Look}
 use Rattle.papergrid.specs.Estimates.{Estimate, OutOfTable, TooLarge, Sized, unless_large, unless_out, text_measure, total_along, estimate_by, estimate_of}
 use Rattle.papergrid.specs.Looks.{look_of}
 use Rattle.papergrid.specs.Scripts.{Table}
-use Rattle.papergrid.specs.Totals.{AreSized, IsTooLarge}
+use Rattle.papergrid.specs.Totals.{AreSized, IsTooLarge, IsWitnessOf, count_of}
 use Rattle.papergrid.proofs.EstimateLemmas.{estimate_out, none_out, total_drawn}
 use Rattle.papergrid.proofs.LookLemmas.{look_covers, look_draws}
 
@@ -34,11 +38,35 @@ module _ {C : Type 0} (look : Look) (measure : C → ℕ × ℕ) (cover : (direc
     in_table : All (IsInTable n) (demands_of direction look measure rows)
     in_table = out_lemmas.none_out n (demands_of direction look measure rows) inside (covers_among (visible_cells look rows))
 
+    are_small : total_along direction look n (sizes_told direction look measure n rows) < 2 ^ 64 → sum (sizes_told direction look measure n rows) + all_lines (drawn_along direction look n) n < 2 ^ 64
+    are_small small = subst (λ total. total < 2 ^ 64) (sym (total_drawn direction look n (sizes_told direction look measure n rows))) small
+
     pub sizes_are : total_along direction look n (sizes_told direction look measure n rows) < 2 ^ 64
         → AreSizes direction (drawn_along direction look n) n (demands_of direction look measure rows) (sizes_told direction look measure n rows)
     sizes_are small =
         AreSizes-sizes_of direction (drawn_along direction look n) n (demands_of direction look measure rows) in_table (sizes_told direction look measure n rows) refl
-        (subst (λ total. total < 2 ^ 64) (sym (total_drawn direction look n (sizes_told direction look measure n rows))) small)
+        (are_small small)
+
+    pub are_chosen : total_along direction look n (sizes_told direction look measure n rows) < 2 ^ 64 → is_kept_apart direction (demands_of direction look measure rows) ≡ true
+        → AreChosen direction (drawn_along direction look n) n (demands_of direction look measure rows)
+        (map place_of (chosen_of direction (drawn_along direction look n) n (demands_of direction look measure rows)))
+    are_chosen small test =
+        let apart = (Decides-is_kept_apart direction (demands_of direction look measure rows)).0 test in
+        record {
+          none_out = inside;
+          total = are_small small;
+          kept_apart = apart;
+          exact = refl;
+          certificate = IsCertificate-chosen_of direction (drawn_along direction look n) n (demands_of direction look measure rows) in_table apart;
+        }
+
+    pub none_chosen : total_along direction look n (sizes_told direction look measure n rows) < 2 ^ 64 → is_kept_apart direction (demands_of direction look measure rows) ≡ false
+        → NoneChosen direction (drawn_along direction look n) n (demands_of direction look measure rows)
+    none_chosen small test = record {
+      none_out = inside;
+      total = are_small small;
+      not_kept_apart = λ apart. absurd (false≢true (sym test ∙ (Decides-is_kept_apart direction (demands_of direction look measure rows)).1 apart));
+    }
 
     pub none_hold : 2 ^ 64 ≤ total_along direction look n (sizes_told direction look measure n rows)
         → NoneHolds direction (drawn_along direction look n) n (demands_of direction look measure rows)
@@ -48,19 +76,19 @@ module _ {C : Type 0} (look : Look) (measure : C → ℕ × ℕ) (cover : (direc
 
 -- ---- the three answers
 
-estimate_cases : (o : Option Position) (w h : List ℕ) (m n : ℕ) (e : Estimate) → unless_out o (unless_large w h m n) ≡ e
+estimate_cases : (o : Option Position) (w h : List ℕ) (m n : ℕ) (a b : Option (List Position)) (e : Estimate) → unless_out o (unless_large w h m n a b) ≡ e
     → ((place : Position) × (o ≡ Some place) × (e ≡ OutOfTable place))
     ⊎ (((o ≡ None) × (e ≡ TooLarge) × ((2 ^ 64 ≤ m) ⊎ (2 ^ 64 ≤ n)))
-    ⊎ ((o ≡ None) × (e ≡ Sized w h m n) × (m < 2 ^ 64) × (n < 2 ^ 64)))
-estimate_cases (Some place) w h m n e is = inl (place, refl, sym is)
-estimate_cases None w h m n e is = elim (by_test (nat_le (2 ^ 64) m) (nat_le (2 ^ 64) n) refl refl) [
+    ⊎ ((o ≡ None) × (e ≡ Sized w h m n a b) × (m < 2 ^ 64) × (n < 2 ^ 64)))
+estimate_cases (Some place) w h m n a b e is = inl (place, refl, sym is)
+estimate_cases None w h m n a b e is = elim (by_test (nat_le (2 ^ 64) m) (nat_le (2 ^ 64) n) refl refl) [
   | inl large ↦ inr (inl (refl, large.0, large.1))
   | inr sized ↦ inr (inr (refl, sized.0, sized.1, sized.2))
 ]
   where
-    by_test : (a b : Bool) → nat_le (2 ^ 64) m ≡ a → nat_le (2 ^ 64) n ≡ b
-        → ((e ≡ TooLarge) × ((2 ^ 64 ≤ m) ⊎ (2 ^ 64 ≤ n))) ⊎ ((e ≡ Sized w h m n) × (m < 2 ^ 64) × (n < 2 ^ 64))
-    by_test true b wide high = let past : 2 ^ 64 ≤ m = grind (arith, nat_tests) in inl (sym is ∙ rw wide refl, inl past)
+    by_test : (p q : Bool) → nat_le (2 ^ 64) m ≡ p → nat_le (2 ^ 64) n ≡ q
+        → ((e ≡ TooLarge) × ((2 ^ 64 ≤ m) ⊎ (2 ^ 64 ≤ n))) ⊎ ((e ≡ Sized w h m n a b) × (m < 2 ^ 64) × (n < 2 ^ 64))
+    by_test true q wide high = let past : 2 ^ 64 ≤ m = grind (arith, nat_tests) in inl (sym is ∙ rw wide refl, inl past)
     by_test false true wide high = let past : 2 ^ 64 ≤ n = grind (arith, nat_tests) in inl (sym is ∙ rw (wide, high) refl, inr past)
     by_test false false wide high =
         let narrow : m < 2 ^ 64 = grind (arith, nat_tests) in
@@ -86,14 +114,28 @@ module _ (table : Table) where
   abbrev total_height : ℕ
   total_height = total_along Rows look (length table.rows) heights
 
+  abbrev witness : Direction → Option (List Position)
+  witness direction = witness_told direction look text_measure (count_of direction table) table.rows
+
   cases : (e : Estimate) → estimate_of table ≡ e
       → ((place : Position) × (first ≡ Some place) × (e ≡ OutOfTable place))
       ⊎ (((first ≡ None) × (e ≡ TooLarge) × ((2 ^ 64 ≤ total_width) ⊎ (2 ^ 64 ≤ total_height)))
-      ⊎ ((first ≡ None) × (e ≡ Sized widths heights total_width total_height) × (total_width < 2 ^ 64) × (total_height < 2 ^ 64)))
+      ⊎ ((first ≡ None) × (e ≡ Sized widths heights total_width total_height (witness Columns) (witness Rows)) × (total_width < 2 ^ 64) × (total_height < 2 ^ 64)))
   unfolding estimate_by
-  cases e is = estimate_cases first widths heights total_width total_height e is
+  cases e is = estimate_cases first widths heights total_width total_height (witness Columns) (witness Rows) e is
 
-  are_sized : first ≡ None → total_width < 2 ^ 64 → total_height < 2 ^ 64 → AreSized table widths heights total_width total_height
+  is_witness : (direction : Direction) → first_out (count_of direction table) (demands_of direction look text_measure table.rows) ≡ None
+      → total_along direction look (count_of direction table) (sizes_told direction look text_measure (count_of direction table) table.rows) < 2 ^ 64 → IsWitnessOf direction table (witness direction)
+  is_witness direction inside small = elim (cases_Bool (is_kept_apart direction (demands_of direction look text_measure table.rows))) [
+    | inl t ↦ subst (if_apart direction) (sym t) (are_chosen look text_measure (look_covers table.settings) direction (count_of direction table) table.rows inside small t)
+    | inr f ↦ subst (if_apart direction) (sym f) (none_chosen look text_measure (look_covers table.settings) direction (count_of direction table) table.rows inside small f)
+  ]
+    where
+      if_apart : Direction → Bool → Type 0
+      if_apart way apart =
+          IsWitnessOf way table (if apart then Some (map place_of (chosen_of way (drawn_along way look (count_of way table)) (count_of way table) (demands_of way look text_measure table.rows))) else None)
+
+  are_sized : first ≡ None → total_width < 2 ^ 64 → total_height < 2 ^ 64 → AreSized table widths heights total_width total_height (witness Columns) (witness Rows)
   are_sized none narrow low =
       let inside = none_out look text_measure table.columns table.rows none in
       record {
@@ -105,6 +147,8 @@ module _ (table : Table) where
         is_height = ap (λ draws. sum heights + count_lines (draws (length table.rows)) (length table.rows)) (look_draws table.settings Rows);
         width_fits = narrow;
         height_fits = low;
+        certifies_widths = is_witness Columns inside.0 narrow;
+        certifies_heights = is_witness Rows inside.1 low;
       }
 
   are_large : first ≡ None → (2 ^ 64 ≤ total_width) ⊎ (2 ^ 64 ≤ total_height) → IsTooLarge table
@@ -136,8 +180,8 @@ module _ (table : Table) where
     ]
   ]
 
-  pub all_sized : (ws hs : List ℕ) (m n : ℕ) → estimate_of table ≡ Sized ws hs m n → AreSized table ws hs m n
-  all_sized ws hs m n is = elim (cases (Sized ws hs m n) is) [
+  pub all_sized : (ws hs : List ℕ) (m n : ℕ) (a b : Option (List Position)) → estimate_of table ≡ Sized ws hs m n a b → AreSized table ws hs m n a b
+  all_sized ws hs m n a b is = elim (cases (Sized ws hs m n a b) is) [
     | inl out ↦ cc out.2
     | inr other ↦ elim other [
       | inl large ↦ cc large.1
@@ -146,6 +190,9 @@ module _ (table : Table) where
           let t : heights ≡ hs = cc sized.1 in
           let wide : total_width ≡ m = cc sized.1 in
           let high : total_height ≡ n = cc sized.1 in
-          subst (λ (s : (List ℕ × List ℕ) × (ℕ × ℕ)). AreSized table s.0.0 s.0.1 s.1.0 s.1.1) (λ i. ((w i, t i), (wide i, high i))) (are_sized sized.0 sized.2 sized.3)
+          let across : witness Columns ≡ a = cc sized.1 in
+          let down : witness Rows ≡ b = cc sized.1 in
+          subst (λ (s : (List ℕ × List ℕ) × (ℕ × ℕ) × (Option (List Position) × Option (List Position))). AreSized table s.0.0 s.0.1 s.1.0 s.1.1 s.2.0 s.2.1)
+          (λ i. ((w i, t i), (wide i, high i), (across i, down i))) (are_sized sized.0 sized.2 sized.3)
     ]
   ]

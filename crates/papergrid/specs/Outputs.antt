@@ -1,5 +1,6 @@
 -- What the program writes for an input, and how it ends.
-use Rattle.std.specs.Prelude.{ℕ, List, [], ◌∷◌, ◌++◌, Result, Ok, Err, codes, decimal, flat_map}
+use Rattle.std.specs.Prelude.{ℕ, List, [], ◌∷◌, ◌++◌, Option, Some, None, Result, Ok, Err, codes, decimal, flat_map}
+use Rattle.papergrid_values.specs.declared.position.Position.{Position}
 use Rattle.papergrid.specs.declared.running.RunEnd.{RunEnd}
 use Rattle.papergrid.specs.declared.running.RunEnd.TheVariants.{Done, Refused, BadScript}
 use Rattle.papergrid.specs.Grammar.{space, comma}
@@ -14,12 +15,22 @@ spaced numbers = flat_map (λ n. space ∷ decimal n) numbers
 abbrev pub number_line : List ℕ → List ℕ → List ℕ
 number_line word numbers = word ++ spaced numbers ++ newline ∷ []
 
+-- a space, a row, a comma and a column for each
+abbrev pub spaced_places : List Position → List ℕ
+spaced_places places = flat_map (λ place. space ∷ (decimal place.row ++ (comma ∷ decimal place.col))) places
+
+-- the cells that certify, by their places, or that there are none such
+abbrev pub witness_line : List ℕ → Option (List Position) → List ℕ
+witness_line word None = word ++ codes " none" ++ newline ∷ []
+witness_line word (Some places) = word ++ spaced_places places ++ newline ∷ []
+
 abbrev pub estimate_text : Estimate → List ℕ
 estimate_text (OutOfTable place) = codes "refused: out of table at " ++ (decimal place.row ++ (comma ∷ (decimal place.col ++ newline ∷ [])))
 estimate_text TooLarge = codes "refused: too large" ++ newline ∷ []
-estimate_text (Sized widths heights total_width total_height) =
+estimate_text (Sized widths heights total_width total_height width_witness height_witness) =
     number_line (codes "widths") widths ++ number_line (codes "heights") heights
     ++ number_line (codes "total") (total_width ∷ total_height ∷ [])
+    ++ witness_line (codes "witness widths") width_witness ++ witness_line (codes "witness heights") height_witness
 
 abbrev pub script_text : Result Table ℕ → List ℕ
 script_text (Err number) = codes "bad script at line " ++ decimal number ++ newline ∷ []
@@ -28,7 +39,7 @@ script_text (Ok table) = estimate_text (estimate_of table)
 abbrev pub estimate_end : Estimate → RunEnd
 estimate_end (OutOfTable place) = Refused
 estimate_end TooLarge = Refused
-estimate_end (Sized widths heights total_width total_height) = Done
+estimate_end (Sized widths heights total_width total_height width_witness height_witness) = Done
 
 abbrev pub script_end : Result Table ℕ → RunEnd
 script_end (Err number) = BadScript

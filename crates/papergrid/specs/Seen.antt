@@ -1,8 +1,9 @@
 -- What clauses see of the values that the program holds.
-use Rattle.std.specs.Prelude.{◌≡◌, ℕ, Bool, List, map, MatchBool, Option, Some, None, option_and_then, Result, Ok, Err, Vec}
+use Rattle.std.specs.Prelude.{◌≡◌, ℕ, Bool, List, map, MatchBool, Option, Some, None, option_and_then, option_map, Result, Ok, Err, Vec}
 use Rattle.std.specs.Cow.{cow_str_bytes}
 use Rattle.std.specs.declared.alloc.Global.{Global}
 use Rattle.std.specs.declared.borrow.CowStr.{CowStr}
+use Rattle.papergrid_values.specs.declared.position.Position.{Position}
 use Rattle.papergrid.specs.declared.script.Script.{Script}
 use Rattle.papergrid.specs.declared.script.ScriptError.{ScriptError}
 use Rattle.papergrid.specs.declared.script.ScriptError.TheVariants as script_errors
@@ -29,9 +30,17 @@ GivesTable (Ok script) told = told ≡ Ok (table_seen script)
 GivesTable (Err (script_errors.Bad number)) told = told ≡ Err number
 GivesTable (Err script_errors.Memory) told = Unit {0}
 
+abbrev pub places_seen : Option (Vec Position Global) → Option (List Position)
+places_seen witness = option_map (λ places. places.items) witness
+
+abbrev pub sizes_seen : Sizes → Estimate
+sizes_seen sizes =
+    Sized sizes.widths.items sizes.heights.items sizes.total_width sizes.total_height
+    (places_seen sizes.width_witness) (places_seen sizes.height_witness)
+
 -- what is estimated is so; want of memory says nothing
 abbrev pub GivesEstimate : Result Sizes LayoutError → (Estimate → Type 0) → Type 0
-GivesEstimate (Ok sizes) IsSo = IsSo (Sized sizes.widths.items sizes.heights.items sizes.total_width sizes.total_height)
+GivesEstimate (Ok sizes) IsSo = IsSo (sizes_seen sizes)
 GivesEstimate (Err (layout_errors.OutOfTable place)) IsSo = IsSo (OutOfTable place)
 GivesEstimate (Err layout_errors.TooLarge) IsSo = IsSo TooLarge
 GivesEstimate (Err (layout_errors.Memory e)) IsSo = Unit {0}

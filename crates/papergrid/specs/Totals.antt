@@ -1,5 +1,7 @@
 -- What the answers for a table are, apart from how they are found.
-use Rattle.std.specs.Prelude.{◌≡◌, ◌⊎◌, ℕ, ◌+◌, ◌^◌, ◌<◌, List, None, flat_map, length, reverse, sum}
+use Rattle.std.specs.Prelude.{◌≡◌, ◌⊎◌, ℕ, ◌+◌, ◌^◌, ◌<◌, List, Option, Some, None, flat_map, length, reverse, sum}
+use Rattle.papergrid_values.specs.declared.position.Position.{Position}
+use Rattle.papergrid_axis.specs.Answers.{AreChosen, NoneChosen}
 use Rattle.papergrid_axis.specs.declared.direction.Direction.{Direction}
 use Rattle.papergrid_axis.specs.declared.direction.Direction.TheVariants.{Columns, Rows}
 use Rattle.papergrid_maps.specs.Places.{Places, places_from}
@@ -7,7 +9,8 @@ use Rattle.papergrid_config.specs.Lines.{count_lines}
 use Rattle.papergrid_config.specs.Made.{characters_of}
 use Rattle.papergrid_config.specs.Parts.{character_calls}
 use Rattle.papergrid_config.specs.declared.setting.Setting.{Setting}
-use Rattle.papergrid_layout.specs.Answers.{AreBothSizes, IsTooLargeFor, first_out_of_table}
+use Rattle.papergrid_layout.specs.Answers.{AreBothSizes, IsTooLargeFor, count_along, drawn_along, first_out_of_table}
+use Rattle.papergrid_layout.specs.Cells.{demands_of}
 use Rattle.papergrid_layout.specs.Looks.{line_along}
 use Rattle.papergrid.specs.Estimates.{text_measure}
 use Rattle.papergrid.specs.Looks.{look_of}
@@ -27,10 +30,26 @@ pub record IsTooLarge (table : Table) : Type 0 where
   pub too_large : IsTooLargeFor (look_of table.settings) text_measure table.columns table.rows Columns
       ⊎ IsTooLargeFor (look_of table.settings) text_measure table.columns table.rows Rows
 
--- exactly the sizes, with what holds of them, and their totals with the lines, which fit 64 bits
-pub record AreSized (table : Table) (widths heights : List ℕ) (total_width total_height : ℕ) : Type 0 where
+-- the number of columns, or of rows
+abbrev pub count_of : Direction → Table → ℕ
+count_of direction table = count_along direction table.columns (length table.rows)
+
+-- none where two longer ranges are not kept apart, and only there; else the places of the chosen cells, which certify that
+-- the sizes along the direction are least
+abbrev pub IsWitnessOf : Direction → Table → Option (List Position) → Type 0
+IsWitnessOf direction table None =
+    NoneChosen direction (drawn_along direction (look_of table.settings) (count_of direction table)) (count_of direction table)
+    (demands_of direction (look_of table.settings) text_measure table.rows)
+IsWitnessOf direction table (Some places) =
+    AreChosen direction (drawn_along direction (look_of table.settings) (count_of direction table)) (count_of direction table)
+    (demands_of direction (look_of table.settings) text_measure table.rows) places
+
+-- exactly the sizes, with what holds of them, their totals with the lines, which fit 64 bits, and what certifies them
+pub record AreSized (table : Table) (widths heights : List ℕ) (total_width total_height : ℕ) (width_witness height_witness : Option (List Position)) : Type 0 where
   pub sizes : AreBothSizes (look_of table.settings) text_measure table.columns table.rows widths heights
   pub is_width : total_width ≡ sum widths + lines_along Columns table.settings table.columns
   pub is_height : total_height ≡ sum heights + lines_along Rows table.settings (length table.rows)
   pub width_fits : total_width < 2 ^ 64
   pub height_fits : total_height < 2 ^ 64
+  pub certifies_widths : IsWitnessOf Columns table width_witness
+  pub certifies_heights : IsWitnessOf Rows table height_witness

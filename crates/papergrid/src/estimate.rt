@@ -1,4 +1,4 @@
-//! The sizes of a table, and its totals with lines.
+//! The sizes of a table, its totals with lines, and the cells that certify the sizes.
 
 ghost use Rattle.std.specs.Prelude.{◌≡◌, ◌+◌, ◌<◌, ◌^◌, List, length, sum};
 ghost use Rattle.papergrid_axis.specs.declared.direction.Direction.TheVariants.{Columns, Rows};
@@ -7,24 +7,28 @@ ghost use Rattle.papergrid_layout.specs.Measures.{line_measure};
 ghost use Rattle.papergrid.specs.Estimates.{estimate_by, total_along};
 ghost use Rattle.papergrid.specs.Seen.{GivesEstimate};
 
-use crate::table_layout::laid_out;
 use papergrid_config::SpannedConfig;
-use papergrid_layout::{IterGridDimension, LayoutError};
+use papergrid_layout::LayoutError;
+use papergrid_layout::certified::{Certified, certified_sizes};
 use papergrid_text::{IntoRecords, Records};
+use papergrid_values::Position;
 use std::alloc::Global;
 use std::convert::AsStr;
 
-/// The width of each column, in columns of a terminal, the height of each row, in lines, and the totals of
-/// both with the lines of the table.
+/// The width of each column, in columns of a terminal, the height of each row, in lines, the totals of
+/// both with the lines of the table, and for each direction the positions of the cells that certify that
+/// its sizes are least, none where longer ranges are not kept apart.
 #[derive(Debug, Drop)]
 pub struct Sizes {
     pub widths: Vec<usize>,
     pub heights: Vec<usize>,
     pub total_width: usize,
     pub total_height: usize,
+    pub width_witness: Option<Vec<Position>>,
+    pub height_witness: Option<Vec<Position>>,
 }
 
-/// The sizes and the totals of the table of these records, by this configuration.
+/// The sizes, the totals and the witnesses of the table of these records, by this configuration.
 ///
 /// # Errors
 ///
@@ -41,22 +45,29 @@ where
     ensures { GivesEstimate result (λ answer. (cells : List (List R.Iter.Cell)) × R.tells records cells
         × (answer ≡ estimate_by (spanned_look config.now) (line_measure R.Iter.Cell.text) (R.columns records) cells)) }
 {
-    match laid_out(alloc, records, config) {
-        Ok(dimension) => Ok(with_totals(dimension, config)),
+    match certified_sizes(alloc, records, config) {
+        Ok(certified) => Ok(with_totals(certified, config)),
         Err(error) => Err(error),
     }
 }
 
-/// The sizes of a dimension, and their totals with the lines of the configuration.
-fn with_totals(dimension: IterGridDimension, config: &SpannedConfig) -> Sizes
-    requires width { total_along Columns (spanned_look config.now) (length dimension.widths) dimension.widths < 2 ^ 64 }
-    requires height { total_along Rows (spanned_look config.now) (length dimension.heights) dimension.heights < 2 ^ 64 }
-    ensures widths { result.widths.items ≡ dimension.widths }
-    ensures heights { result.heights.items ≡ dimension.heights }
-    ensures total_width { result.total_width ≡ total_along Columns (spanned_look config.now) (length dimension.widths) dimension.widths }
-    ensures total_height { result.total_height ≡ total_along Rows (spanned_look config.now) (length dimension.heights) dimension.heights }
+/// The sizes and their witnesses, and the totals with the lines of the configuration.
+fn with_totals(certified: Certified, config: &SpannedConfig) -> Sizes
+    requires width { total_along Columns (spanned_look config.now) (length certified.widths.items) certified.widths.items < 2 ^ 64 }
+    requires height { total_along Rows (spanned_look config.now) (length certified.heights.items) certified.heights.items < 2 ^ 64 }
+    ensures widths { result.widths.items ≡ certified.widths.items }
+    ensures heights { result.heights.items ≡ certified.heights.items }
+    ensures total_width { result.total_width ≡ total_along Columns (spanned_look config.now) (length certified.widths.items) certified.widths.items }
+    ensures total_height { result.total_height ≡ total_along Rows (spanned_look config.now) (length certified.heights.items) certified.heights.items }
+    ensures width_witness { result.width_witness ≡ certified.width_witness }
+    ensures height_witness { result.height_witness ≡ certified.height_witness }
 {
-    let (widths, heights) = dimension.get_values();
+    let Certified {
+        widths,
+        heights,
+        width_witness,
+        height_witness,
+    } = certified;
     let total_width = total(&widths, config.count_vertical(widths.len()));
     let total_height = total(&heights, config.count_horizontal(heights.len()));
     Sizes {
@@ -64,6 +75,8 @@ fn with_totals(dimension: IterGridDimension, config: &SpannedConfig) -> Sizes
         heights,
         total_width,
         total_height,
+        width_witness,
+        height_witness,
     }
 }
 

@@ -1,6 +1,6 @@
 //! Laws of the definitions, each the contract of a function that does nothing.
 
-ghost use Rattle.std.specs.Prelude.{◌≡◌, ◌↔◌, ◌+◌, ℕ, IsTrue, IsUtf8, List, Some, Ok, Err, length};
+ghost use Rattle.std.specs.Prelude.{◌≡◌, ◌↔◌, ◌+◌, ℕ, IsTrue, IsUtf8, List, Option, Some, Ok, Err, length};
 ghost use Rattle.papergrid_values.specs.declared.entity.Entity.{Entity};
 ghost use Rattle.papergrid_values.specs.declared.position.Position.{Position};
 ghost use Rattle.papergrid_maps.specs.declared.entity_map.MapCall.{MapCall};
@@ -72,11 +72,14 @@ pub fn lines_by_place()
 /// A table is refused exactly for its first visible cell that reaches out of it, and else only where the sizes
 /// along a direction, with its lines, come to more than fits 64 bits, and so do all sizes with room where ranges
 /// are kept apart; else its sizes are those of its visible cells, with room for each of them and no size above
-/// the greatest need over it, least where ranges are kept apart, and its totals count the lines.
+/// the greatest need over it, least where ranges are kept apart, and its totals count the lines. The witness
+/// along a direction is none exactly where ranges are not kept apart, else the places of cells that certify
+/// that the sizes are least.
 pub fn estimate_by_look()
     ensures out { (table : Table) (place : Position) → (estimate_of table ≡ OutOfTable place)
         ↔ (first_out_of_table (look_of table.settings) text_measure table.columns table.rows ≡ Some place) }
     ensures too_large { (table : Table) → estimate_of table ≡ TooLarge → IsTooLarge table }
-    ensures sized { (table : Table) (widths heights : List ℕ) (total_width total_height : ℕ) →
-        estimate_of table ≡ Sized widths heights total_width total_height → AreSized table widths heights total_width total_height }
+    ensures sized { (table : Table) (widths heights : List ℕ) (total_width total_height : ℕ) (width_witness height_witness : Option (List Position)) →
+        estimate_of table ≡ Sized widths heights total_width total_height width_witness height_witness →
+        AreSized table widths heights total_width total_height width_witness height_witness }
 {}

@@ -59,7 +59,10 @@ pub mod dimension {
 
     /// The sizes of records whose cells are texts.
     pub mod iterable {
-        pub use papergrid_layout::IterGridDimension;
+        pub use papergrid_layout::iterable::{
+            IterGridDimension, check_height_witness, check_width_witness, height_witness,
+            width_witness,
+        };
     }
 
     /// The sizes of records whose cells know their lines and widths.

@@ -1,23 +1,25 @@
 //! The text that the program writes.
 
 ghost use Rattle.std.specs.Prelude.{◌≡◌, ◌∷◌, ◌++◌, [], IfOk, OnOk, codes, decimal};
-ghost use Rattle.papergrid.specs.Estimates.{OutOfTable, Sized, TooLarge};
-ghost use Rattle.papergrid.specs.Outputs.{estimate_text, number_line};
+ghost use Rattle.papergrid.specs.Estimates.{OutOfTable, TooLarge};
+ghost use Rattle.papergrid.specs.Outputs.{estimate_text, number_line, spaced_places, witness_line};
+ghost use Rattle.papergrid.specs.Seen.{places_seen, sizes_seen};
 
 use crate::estimate::Sizes;
 use papergrid_values::Position;
 use std::alloc::{AllocError, Global};
 
-/// The lines `widths`, `heights` and `total`.
+/// The lines `widths`, `heights`, `total`, `witness widths` and `witness heights`.
 pub fn sizes_text(alloc: Global, sizes: &Sizes) -> Result<Vec<u8>, AllocError>
-    ensures { IfOk result (λ text. text.items ≡
-        estimate_text (Sized sizes.now.widths.items sizes.now.heights.items sizes.now.total_width sizes.now.total_height)) }
+    ensures { IfOk result (λ text. text.items ≡ estimate_text (sizes_seen sizes.now)) }
 {
     let mut text = Vec::new(alloc);
     push_line(alloc, &mut text, b"widths", sizes.widths.as_slice())?;
     push_line(alloc, &mut text, b"heights", sizes.heights.as_slice())?;
     let totals = [sizes.total_width, sizes.total_height];
     push_line(alloc, &mut text, b"total", totals.as_slice())?;
+    push_witness(alloc, &mut text, b"witness widths", &sizes.width_witness)?;
+    push_witness(alloc, &mut text, b"witness heights", &sizes.height_witness)?;
     Ok(text)
 }
 
@@ -32,11 +34,47 @@ fn push_line(
 {
     text.extend_from_slice(word)?;
     for number in numbers {
-        text.push(b' ')?;
-        text.extend_from_slice(number.to_string(alloc)?.as_bytes())?;
+        push_number(alloc, text, b' ', *number)?;
     }
     text.push(b'\n')?;
     Ok(())
+}
+
+/// Adds a line: the word, and the cells that certify sizes, or that there are none such.
+fn push_witness(
+    alloc: Global,
+    text: &mut Vec<u8>,
+    word: &[u8],
+    witness: &Option<Vec<Position>>,
+) -> Result<(), AllocError>
+    ensures { OnOk result (text.new.items ≡ text.old.items ++ witness_line word.now (places_seen witness.now)) }
+{
+    text.extend_from_slice(word)?;
+    match witness {
+        None => text.extend_from_slice(b" none")?,
+        Some(places) => push_places(alloc, text, places.as_slice())?,
+    }
+    text.push(b'\n')?;
+    Ok(())
+}
+
+/// Adds a space, the row, a comma and the column for each.
+fn push_places(alloc: Global, text: &mut Vec<u8>, places: &[Position]) -> Result<(), AllocError>
+    ensures { OnOk result (text.new.items ≡ text.old.items ++ spaced_places places.now) }
+{
+    for place in places {
+        push_number(alloc, text, b' ', place.row)?;
+        push_number(alloc, text, b',', place.col)?;
+    }
+    Ok(())
+}
+
+/// Adds the mark and the number.
+fn push_number(alloc: Global, text: &mut Vec<u8>, mark: u8, number: usize) -> Result<(), AllocError>
+    ensures { OnOk result (text.new.items ≡ text.old.items ++ mark ∷ decimal number) }
+{
+    text.push(mark)?;
+    text.extend_from_slice(number.to_string(alloc)?.as_bytes())
 }
 
 /// The line for a cell out of the table.

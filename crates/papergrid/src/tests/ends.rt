@@ -7,7 +7,8 @@ use std::test::Fail;
 
 const SCRIPT: &[u8] = b"columns 2\nrow\ncell ab\ncell c\n";
 
-const OUTPUT: &[u8] = b"widths 2 1\nheights 1\ntotal 3 1\n";
+const OUTPUT: &[u8] =
+    b"widths 2 1\nheights 1\ntotal 3 1\nwitness widths 0,0 0,1\nwitness heights 0,0\n";
 
 /// Gives one byte at a time, and fails once it was called so many times.
 #[derive(Drop)]

@@ -12,7 +12,7 @@ fn first_run(rt: HostRuntime) -> Result<(), Fail> {
         &rt,
         rt.alloc(),
         b"columns 2\npad * 1 1 0 0\npad 0,1 0 3 1 0\nrow\ncell ab\ncell c\\nde\nrow\ncell\ncell xyz\n",
-        "widths 4 5\nheights 3 1\ntotal 9 4\n",
+        "widths 4 5\nheights 3 1\ntotal 9 4\nwitness widths 0,0 0,1\nwitness heights 0,1 1,0\n",
         RunEnd::Done,
     )
 }
@@ -23,7 +23,7 @@ fn short_row(rt: HostRuntime) -> Result<(), Fail> {
         &rt,
         rt.alloc(),
         b"columns 3\nrow\ncell ab\nrow\n",
-        "widths 2 0 0\nheights 1 0\ntotal 2 1\n",
+        "widths 2 0 0\nheights 1 0\ntotal 2 1\nwitness widths 0,0\nwitness heights 0,0\n",
         RunEnd::Done,
     )
 }
@@ -45,7 +45,7 @@ fn row_pin_over_column(rt: HostRuntime) -> Result<(), Fail> {
         &rt,
         rt.alloc(),
         b"pad c0 1 0 0 0\ncolumns 1\nrow\ncell\ncell\ncolumns 2\npad r0 0 5 0 0\n",
-        "widths 5 5\nheights 1\ntotal 10 1\n",
+        "widths 5 5\nheights 1\ntotal 10 1\nwitness widths 0,0 0,1\nwitness heights 0,0\n",
         RunEnd::Done,
     )
 }
@@ -56,7 +56,7 @@ fn greatest_size(rt: HostRuntime) -> Result<(), Fail> {
         &rt,
         rt.alloc(),
         b"columns 1\npad * 18446744073709551615 0 0 0\nrow\ncell\n",
-        "widths 18446744073709551615\nheights 1\ntotal 18446744073709551615 1\n",
+        "widths 18446744073709551615\nheights 1\ntotal 18446744073709551615 1\nwitness widths 0,0\nwitness heights 0,0\n",
         RunEnd::Done,
     )?;
     check(
@@ -106,7 +106,7 @@ fn readme_picture(rt: HostRuntime) -> Result<(), Fail> {
         &rt,
         rt.alloc(),
         b"columns 4\nborder +\ncolspan 1,1 3\nrowspan 0,0 2\npad 0,0 4 4 1 1\nrow\ncell Papergrid\ncell is a library\ncell for print tables\ncell !\nrow\ncell\ncell Just like this\ncell\ncell\n",
-        "widths 17 12 16 1\nheights 1 1\ntotal 51 5\n",
+        "widths 17 12 16 1\nheights 1 1\ntotal 51 5\nwitness widths 0,0 0,1 0,2 0,3\nwitness heights 0,1 1,1\n",
         RunEnd::Done,
     )
 }
@@ -117,7 +117,7 @@ fn even_shares_over_inner_line(rt: HostRuntime) -> Result<(), Fail> {
         &rt,
         rt.alloc(),
         b"columns 3\nborder +\nrowspan 0,0 2\nrow\ncell 0-0\\nxx\\nx\\nx\\nx\\nx\\nx\ncell 0-1\ncell 0-2\nrow\ncell 1-0\ncell 1-1\ncell 1-2\nrow\ncell 2-0\ncell 2-1\ncell 2-2\n",
-        "widths 3 3 3\nheights 3 3 1\ntotal 13 11\n",
+        "widths 3 3 3\nheights 3 3 1\ntotal 13 11\nwitness widths 0,0 0,1 0,2\nwitness heights 0,0 2,0\n",
         RunEnd::Done,
     )
 }
@@ -128,7 +128,7 @@ fn remainder_to_first(rt: HostRuntime) -> Result<(), Fail> {
         &rt,
         rt.alloc(),
         b"columns 2\nborder +\nrowspan 0,0 2\nrow\ncell 1\\n\\n\\n\\n\\n\\n\\n23\ncell 0-1\nrow\ncell 1-0\ncell 1-1\n",
-        "widths 2 3\nheights 4 3\ntotal 8 10\n",
+        "widths 2 3\nheights 4 3\ntotal 8 10\nwitness widths 0,0 0,1\nwitness heights 0,0\n",
         RunEnd::Done,
     )
 }
@@ -139,7 +139,7 @@ fn lines_alone_satisfy(rt: HostRuntime) -> Result<(), Fail> {
         &rt,
         rt.alloc(),
         b"columns 3\nborder +\nrowspan 0,0 3\nrowspan 0,1 2\nrowspan 0,2 2\nrow\ncell 0-0\ncell 0-1\ncell 0-2\nrow\ncell 1-0\ncell 1-1\ncell 1-2\nrow\ncell 2-0\ncell 2-1\ncell 2-2\n",
-        "widths 3 3 3\nheights 0 0 1\ntotal 13 5\n",
+        "widths 3 3 3\nheights 0 0 1\ntotal 13 5\nwitness widths 0,0 0,1 0,2\nwitness heights none\n",
         RunEnd::Done,
     )
 }
@@ -150,7 +150,7 @@ fn nested_column_spans(rt: HostRuntime) -> Result<(), Fail> {
         &rt,
         rt.alloc(),
         b"columns 3\ncolspan 1,0 3\ncolspan 2,1 2\nrow\ncell a\ncell a\ncell a\nrow\ncell 0123456789\nrow\ncell a\ncell 01234567\n",
-        "widths 2 4 4\nheights 1 1 1\ntotal 10 3\n",
+        "widths 2 4 4\nheights 1 1 1\ntotal 10 3\nwitness widths 1,0\nwitness heights 0,0 1,0 2,0\n",
         RunEnd::Done,
     )
 }
@@ -161,7 +161,7 @@ fn nested_row_spans(rt: HostRuntime) -> Result<(), Fail> {
         &rt,
         rt.alloc(),
         b"columns 3\nrowspan 0,1 3\nrowspan 1,2 2\npad 0,1 0 0 9 0\npad 1,2 0 0 7 0\nrow\ncell a\ncell a\ncell a\nrow\ncell a\ncell a\ncell a\nrow\ncell a\ncell a\ncell a\n",
-        "widths 1 1 1\nheights 4 4 4\ntotal 3 12\n",
+        "widths 1 1 1\nheights 4 4 4\ntotal 3 12\nwitness widths 0,0 0,1 0,2\nwitness heights none\n",
         RunEnd::Done,
     )
 }
@@ -172,7 +172,18 @@ fn crossing_column_spans(rt: HostRuntime) -> Result<(), Fail> {
         &rt,
         rt.alloc(),
         b"columns 3\ncolspan 0,0 2\ncolspan 1,1 2\nrow\ncell 0123456789\nrow\ncell\ncell 0123456789\n",
-        "widths 5 8 2\nheights 1 1\ntotal 15 2\n",
+        "widths 5 8 2\nheights 1 1\ntotal 15 2\nwitness widths none\nwitness heights 0,0 1,0\n",
+        RunEnd::Done,
+    )
+}
+
+#[test]
+fn equal_ranges(rt: HostRuntime) -> Result<(), Fail> {
+    check(
+        &rt,
+        rt.alloc(),
+        b"columns 2\ncolspan 0,0 2\ncolspan 1,0 2\nrow\ncell abc\nrow\ncell abcdef\n",
+        "widths 4 2\nheights 1 1\ntotal 6 2\nwitness widths 1,0\nwitness heights 0,0 1,0\n",
         RunEnd::Done,
     )
 }
@@ -183,7 +194,7 @@ fn hidden_cell_beyond_columns(rt: HostRuntime) -> Result<(), Fail> {
         &rt,
         rt.alloc(),
         b"columns 1\nrowspan 0,1 2\nrow\ncell a\nrow\ncell b\ncell zzz\n",
-        "widths 1\nheights 1 1\ntotal 1 2\n",
+        "widths 1\nheights 1 1\ntotal 1 2\nwitness widths 0,0\nwitness heights 0,0 1,0\n",
         RunEnd::Done,
     )
 }
@@ -194,7 +205,7 @@ fn hidden_anchor_hides(rt: HostRuntime) -> Result<(), Fail> {
         &rt,
         rt.alloc(),
         b"columns 3\ncolspan 0,0 2\ncolspan 0,1 2\nrow\ncell abcd\ncell x\ncell zzz\n",
-        "widths 2 2 0\nheights 1\ntotal 4 1\n",
+        "widths 2 2 0\nheights 1\ntotal 4 1\nwitness widths 0,0\nwitness heights 0,0\n",
         RunEnd::Done,
     )
 }
@@ -212,14 +223,14 @@ fn first_out_in_each_direction(rt: HostRuntime) -> Result<(), Fail> {
 
 #[test]
 fn empty_tables(rt: HostRuntime) -> Result<(), Fail> {
-    let output = "widths\nheights\ntotal 0 0\n";
+    let output = "widths\nheights\ntotal 0 0\nwitness widths\nwitness heights\n";
     check(&rt, rt.alloc(), b"columns 0\n", output, RunEnd::Done)?;
     check(&rt, rt.alloc(), b"", output, RunEnd::Done)?;
     check(
         &rt,
         rt.alloc(),
         b"columns 0\nborder |\n",
-        "widths\nheights\ntotal 1 1\n",
+        "widths\nheights\ntotal 1 1\nwitness widths\nwitness heights\n",
         RunEnd::Done,
     )
 }
@@ -230,21 +241,21 @@ fn script_lines(rt: HostRuntime) -> Result<(), Fail> {
         &rt,
         rt.alloc(),
         b"columns 2\nvline 1 |\nhline 7 -\nrow\ncell ab\ncell c\n",
-        "widths 2 1\nheights 1\ntotal 4 1\n",
+        "widths 2 1\nheights 1\ntotal 4 1\nwitness widths 0,0 0,1\nwitness heights 0,0\n",
         RunEnd::Done,
     )?;
     check(
         &rt,
         rt.alloc(),
         b"columns 2\nvline 1 |\nhline 7 -\nrow\ncell ab\ncell c\nnovline 1\n",
-        "widths 2 1\nheights 1\ntotal 3 1\n",
+        "widths 2 1\nheights 1\ntotal 3 1\nwitness widths 0,0 0,1\nwitness heights 0,0\n",
         RunEnd::Done,
     )?;
     check(
         &rt,
         rt.alloc(),
         b"columns 2\nborder |\nrow\ncell ab\ncell c\n",
-        "widths 2 1\nheights 1\ntotal 6 3\n",
+        "widths 2 1\nheights 1\ntotal 6 3\nwitness widths 0,0 0,1\nwitness heights 0,0\n",
         RunEnd::Done,
     )
 }
@@ -387,7 +398,7 @@ fn lines_as_they_come(rt: HostRuntime) -> Result<(), Fail> {
         &rt,
         rt.alloc(),
         b"columns 0000000000000000000000002\r\n\r\npad 00,01 01 0 0 00\r\nrow\r\ncell a\rb\tc\r\ncell Go \xf0\x9f\x91\x8d\\nC \xf0\x9f\x98\x8e",
-        "widths 5 6\nheights 2\ntotal 11 2\n",
+        "widths 5 6\nheights 2\ntotal 11 2\nwitness widths 0,0 0,1\nwitness heights 0,1\n",
         RunEnd::Done,
     )
 }

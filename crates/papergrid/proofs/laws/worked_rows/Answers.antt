@@ -28,6 +28,7 @@ returns c = record {
   nested_column_spans = worked _ _ _ refl refl;
   nested_row_spans = worked _ _ _ refl refl;
   crossing_column_spans = worked _ _ _ refl refl;
+  equal_ranges = worked _ _ _ refl refl;
   out_of_table_by_columns = worked _ _ _ refl refl;
   out_of_table_by_rows = worked _ _ _ refl refl;
   hidden_cell_beyond_columns = worked _ _ _ refl refl;
