@@ -2,8 +2,8 @@
 #![tactic(auto)]
 
 mod both;
-pub mod certified;
 mod certificates;
+pub mod certified;
 mod check;
 pub mod compact;
 pub mod dimension;

@@ -312,12 +312,11 @@ fn has_sizes(
     total: (usize, usize),
 ) -> bool {
     let mut config = SpannedConfig::new(alloc);
-    if set_all(&mut config, table).is_err() {
-        return false;
-    }
+    let is_set = set_all(&mut config, table).is_ok();
     let is_given = gives(alloc, table, &config, widths, heights);
     let is_total = totals(alloc, table, &config);
-    is_given == Ok(true) && is_total == Ok(total)
+    drop(config);
+    is_set && is_given == Ok(true) && is_total == Ok(total)
 }
 
 #[test]
@@ -412,10 +411,10 @@ fn is_refused(
     rows: Option<LayoutError>,
 ) -> bool {
     let mut config = SpannedConfig::new(alloc);
-    if set_all(&mut config, table).is_err() {
-        return false;
-    }
-    refusals(alloc, table, &config) == [both, both, columns, rows]
+    let is_set = set_all(&mut config, table).is_ok();
+    let found = refusals(alloc, table, &config);
+    drop(config);
+    is_set && found == [both, both, columns, rows]
 }
 
 #[test]
@@ -510,14 +509,12 @@ fn estimate_plain<D: Estimate<VecRecords<&'static str>, SpannedConfig>>(
 fn keeps_sizes(alloc: Global, table: Table) -> bool {
     let mut config = SpannedConfig::new(alloc);
     let mut dimension = IterGridDimension::new(alloc);
-    if estimate_plain(alloc, SMALL, &mut dimension, &config).is_err() {
-        return false;
-    }
-    if set_all(&mut config, table).is_err() {
-        return false;
-    }
+    let is_small = estimate_plain(alloc, SMALL, &mut dimension, &config).is_ok();
+    let is_set = set_all(&mut config, table).is_ok();
     let answer = refusal(estimate_plain(alloc, table, &mut dimension, &config));
-    answer == out_at(0, 0) && are(&dimension.get_values(), &[2], &[1])
+    drop(config);
+    let is_kept = are(&dimension.get_values(), &[2], &[1]);
+    is_small && is_set && answer == out_at(0, 0) && is_kept
 }
 
 #[test]
@@ -543,7 +540,9 @@ fn ignores_hint(alloc: Global, config: &SpannedConfig) -> Result<bool, LayoutErr
 #[test]
 fn false_hint_of_rows(rt: HostRuntime) {
     let config = SpannedConfig::new(rt.alloc());
-    assert_eq!(rt; ignores_hint(rt.alloc(), &config), Ok(true));
+    let is_ignored = ignores_hint(rt.alloc(), &config);
+    drop(config);
+    assert_eq!(rt; is_ignored, Ok(true));
 }
 
 /// Whether a cell has this width, and these heights: by the lines that a plain text has of its own, as
@@ -581,14 +580,18 @@ fn empty_cells_by_measure(rt: HostRuntime) {
     let config = SpannedConfig::new(alloc);
     let empty = are_by_measure(alloc, EMPTY_CELL, &config, 0, (0, 1, 1));
     let newline = are_by_measure(alloc, NEWLINE_CELL, &config, 1, (1, 2, 2));
+    drop(config);
     assert_eq!(rt; empty, Ok(true));
     assert_eq!(rt; newline, Ok(true));
 }
 
 fn sizes_of(alloc: Global, table: Table) -> Result<Sizes, LayoutError> {
     let mut config = SpannedConfig::new(alloc);
-    match set_all(&mut config, table) {
-        Ok(()) => estimated(alloc, table, &config),
+    let is_set = set_all(&mut config, table);
+    let sizes = estimated(alloc, table, &config);
+    drop(config);
+    match is_set {
+        Ok(()) => sizes,
         Err(error) => Err(LayoutError::Memory(error)),
     }
 }
@@ -637,7 +640,9 @@ fn has_equal_clone(alloc: Global, config: &SpannedConfig) -> Result<bool, Layout
 #[test]
 fn clones(rt: HostRuntime) {
     let config = SpannedConfig::new(rt.alloc());
-    assert_eq!(rt; has_equal_clone(rt.alloc(), &config), Ok(true));
+    let is_equal = has_equal_clone(rt.alloc(), &config);
+    drop(config);
+    assert_eq!(rt; is_equal, Ok(true));
 }
 
 fn string_row(alloc: Global, cells: &[&'static str]) -> Result<Vec<String>, AllocError> {
@@ -666,5 +671,7 @@ fn is_same_lent(alloc: Global, table: Table, config: &SpannedConfig) -> Result<b
 #[test]
 fn lent_records(rt: HostRuntime) {
     let config = SpannedConfig::new(rt.alloc());
-    assert_eq!(rt; is_same_lent(rt.alloc(), LINES_ALONE, &config), Ok(true));
+    let is_same = is_same_lent(rt.alloc(), LINES_ALONE, &config);
+    drop(config);
+    assert_eq!(rt; is_same, Ok(true));
 }

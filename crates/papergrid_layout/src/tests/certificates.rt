@@ -57,10 +57,10 @@ fn checks_widths(
     answer: bool,
 ) -> bool {
     let mut config = SpannedConfig::new(alloc);
-    if set_all(&mut config, table).is_err() {
-        return false;
-    }
-    widths_checked(alloc, table, &config, widths, list) == Ok(answer)
+    let is_set = set_all(&mut config, table).is_ok();
+    let found = widths_checked(alloc, table, &config, widths, list);
+    drop(config);
+    is_set && found == Ok(answer)
 }
 
 /// Whether the checker of heights gives this answer.
@@ -72,10 +72,10 @@ fn checks_heights(
     answer: bool,
 ) -> bool {
     let mut config = SpannedConfig::new(alloc);
-    if set_all(&mut config, table).is_err() {
-        return false;
-    }
-    heights_checked(alloc, table, &config, heights, list) == Ok(answer)
+    let is_set = set_all(&mut config, table).is_ok();
+    let found = heights_checked(alloc, table, &config, heights, list);
+    drop(config);
+    is_set && found == Ok(answer)
 }
 
 #[test]
@@ -157,12 +157,12 @@ fn has_witnesses(
     heights: Option<&[Position]>,
 ) -> bool {
     let mut config = SpannedConfig::new(alloc);
-    if set_all(&mut config, table).is_err() {
-        return true;
-    }
+    let is_set = set_all(&mut config, table).is_ok();
     let of_widths = width_certificate(alloc, table, &config);
     let of_heights = height_certificate(alloc, table, &config);
-    is_witness(of_widths, widths) && is_witness(of_heights, heights)
+    drop(config);
+    let are_given = is_witness(of_widths, widths) && is_witness(of_heights, heights);
+    !is_set || are_given
 }
 
 #[test]

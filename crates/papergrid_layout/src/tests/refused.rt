@@ -1,6 +1,6 @@
 //! Each request for memory may be refused: then an estimate says so, and the old sizes stay.
 
-use crate::tests::{PICTURE, SMALL, Sizes, are, plain, set_all, texts};
+use crate::tests::{PICTURE, SMALL, Sizes, Table, are, estimate_plain, plain, set_all, texts};
 use crate::{
     CompactGridDimension, Estimate, IterGridDimension, LayoutError, PeekableGridDimension,
 };
@@ -35,35 +35,36 @@ fn are_given(answer: Result<Sizes, LayoutError>, widths: &[usize], heights: &[us
 }
 
 /// Estimates a small table, and then the picture.
-fn estimate_iter(alloc: Global, config: &SpannedConfig) -> bool {
+fn estimate_iter(alloc: Global, config: &mut SpannedConfig) -> bool {
     let mut dimension = IterGridDimension::new(alloc);
-    let plain_config = SpannedConfig::new(alloc);
-    let Ok(small) = plain(alloc, SMALL) else {
-        return true;
-    };
-    if dimension.estimate(small, &plain_config).is_err() {
+    if estimate_plain(alloc, SMALL, &mut dimension, config).is_err() {
         return are(&dimension.get_values(), &[], &[]);
     }
-    let Ok(picture) = plain(alloc, PICTURE) else {
+    if set_all(config, PICTURE).is_err() {
         return true;
-    };
-    let answer = dimension.estimate(picture, config);
+    }
+    let answer = estimate_plain(alloc, PICTURE, &mut dimension, config);
     is_kept_or_given(answer, &dimension.get_values())
 }
 
-fn estimate_peekable(alloc: Global, config: &SpannedConfig) -> bool {
+fn estimate_texts(
+    alloc: Global,
+    table: Table,
+    dimension: &mut PeekableGridDimension,
+    config: &SpannedConfig,
+) -> Result<(), LayoutError> {
+    dimension.estimate(texts(alloc, table)?, config)
+}
+
+fn estimate_peekable(alloc: Global, config: &mut SpannedConfig) -> bool {
     let mut dimension = PeekableGridDimension::new(alloc);
-    let plain_config = SpannedConfig::new(alloc);
-    let Ok(small) = texts(alloc, SMALL) else {
-        return true;
-    };
-    if dimension.estimate(small, &plain_config).is_err() {
+    if estimate_texts(alloc, SMALL, &mut dimension, config).is_err() {
         return are(&dimension.get_values(), &[], &[]);
     }
-    let Ok(picture) = texts(alloc, PICTURE) else {
+    if set_all(config, PICTURE).is_err() {
         return true;
-    };
-    let answer = dimension.estimate(picture, config);
+    }
+    let answer = estimate_texts(alloc, PICTURE, &mut dimension, config);
     is_kept_or_given(answer, &dimension.get_values())
 }
 
@@ -92,17 +93,36 @@ fn estimate_compact_twice(alloc: Global, config: &CompactConfig) -> Result<bool,
     Ok(answer.is_ok() || dimension == given)
 }
 
+/// The sizes of the picture by the calls that keep none.
+fn are_picture(alloc: Global, config: &SpannedConfig) -> bool {
+    is_given(iter_width(alloc, config), &[17, 12, 16, 1])
+        && is_given(iter_height(alloc, config), &[1, 1])
+        && are_given(peekable_both(alloc, config), &[17, 12, 16, 1], &[1, 1])
+}
+
+#[test]
+fn refused_picture_of_texts(rt: HostRuntime) {
+    let mut config = SpannedConfig::new(rt.alloc());
+    let is_right = estimate_iter(rt.alloc(), &mut config);
+    drop(config);
+    assert!(rt; is_right);
+}
+
+#[test]
+fn refused_picture_of_cells(rt: HostRuntime) {
+    let mut config = SpannedConfig::new(rt.alloc());
+    let is_right = estimate_peekable(rt.alloc(), &mut config);
+    drop(config);
+    assert!(rt; is_right);
+}
+
 #[test]
 fn refused_picture(rt: HostRuntime) {
-    let alloc = rt.alloc();
-    let mut config = SpannedConfig::new(alloc);
-    if set_all(&mut config, PICTURE).is_ok() {
-        assert!(rt; estimate_iter(alloc, &config));
-        assert!(rt; estimate_peekable(alloc, &config));
-        assert!(rt; is_given(iter_width(alloc, &config), &[17, 12, 16, 1]));
-        assert!(rt; is_given(iter_height(alloc, &config), &[1, 1]));
-        assert!(rt; are_given(peekable_both(alloc, &config), &[17, 12, 16, 1], &[1, 1]));
-    }
+    let mut config = SpannedConfig::new(rt.alloc());
+    let is_set = set_all(&mut config, PICTURE).is_ok();
+    let is_right = are_picture(rt.alloc(), &config);
+    drop(config);
+    assert!(rt; !is_set || is_right);
 }
 
 #[test]
