@@ -6,6 +6,7 @@ ghost use Rattle.papergrid.specs.Outputs.{estimate_text, number_line, spaced_pla
 ghost use Rattle.papergrid.specs.Seen.{places_seen, sizes_seen};
 
 use crate::estimate::Sizes;
+use itoa::Buffer;
 use papergrid_values::Position;
 use std::alloc::{AllocError, Global};
 
@@ -14,27 +15,25 @@ pub fn sizes_text(alloc: Global, sizes: &Sizes) -> Result<Vec<u8>, AllocError>
     ensures { IfOk result (λ text. text.items ≡ estimate_text (sizes_seen sizes.now)) }
 {
     let mut text = Vec::new(alloc);
-    push_line(alloc, &mut text, b"widths", sizes.widths.as_slice())?;
-    push_line(alloc, &mut text, b"heights", sizes.heights.as_slice())?;
+    push_line(&mut text, b"widths", sizes.widths.as_slice())?;
+    push_line(&mut text, b"heights", sizes.heights.as_slice())?;
     let totals = [sizes.total_width, sizes.total_height];
-    push_line(alloc, &mut text, b"total", totals.as_slice())?;
-    push_witness(alloc, &mut text, b"witness widths", &sizes.width_witness)?;
-    push_witness(alloc, &mut text, b"witness heights", &sizes.height_witness)?;
+    push_line(&mut text, b"total", totals.as_slice())?;
+    push_witness(&mut text, b"witness widths", &sizes.width_witness)?;
+    push_witness(&mut text, b"witness heights", &sizes.height_witness)?;
     Ok(text)
 }
 
 /// Adds a line: the word, and a space and a number for each.
-fn push_line(
-    alloc: Global,
-    text: &mut Vec<u8>,
-    word: &[u8],
-    numbers: &[usize],
-) -> Result<(), AllocError>
+fn push_line(text: &mut Vec<u8>, word: &[u8], numbers: &[usize]) -> Result<(), AllocError>
     ensures { OnOk result (text.new.items ≡ text.old.items ++ number_line word.now numbers.now) }
 {
     text.extend_from_slice(word)?;
+    // Each takes two bytes at least.
+    text.reserve(2 * numbers.len())?;
     for number in numbers {
-        push_number(alloc, text, b' ', *number)?;
+        text.push(b' ')?;
+        push_number(text, *number)?;
     }
     text.push(b'\n')?;
     Ok(())
@@ -42,7 +41,6 @@ fn push_line(
 
 /// Adds a line: the word, and the cells that certify sizes, or that there are none such.
 fn push_witness(
-    alloc: Global,
     text: &mut Vec<u8>,
     word: &[u8],
     witness: &Option<Vec<Position>>,
@@ -52,29 +50,33 @@ fn push_witness(
     text.extend_from_slice(word)?;
     match witness {
         None => text.extend_from_slice(b" none")?,
-        Some(places) => push_places(alloc, text, places.as_slice())?,
+        Some(places) => push_places(text, places.as_slice())?,
     }
     text.push(b'\n')?;
     Ok(())
 }
 
 /// Adds a space, the row, a comma and the column for each.
-fn push_places(alloc: Global, text: &mut Vec<u8>, places: &[Position]) -> Result<(), AllocError>
+fn push_places(text: &mut Vec<u8>, places: &[Position]) -> Result<(), AllocError>
     ensures { OnOk result (text.new.items ≡ text.old.items ++ spaced_places places.now) }
 {
+    // Each takes four bytes at least.
+    text.reserve(4 * places.len())?;
     for place in places {
-        push_number(alloc, text, b' ', place.row)?;
-        push_number(alloc, text, b',', place.col)?;
+        text.push(b' ')?;
+        push_number(text, place.row)?;
+        text.push(b',')?;
+        push_number(text, place.col)?;
     }
     Ok(())
 }
 
-/// Adds the mark and the number.
-fn push_number(alloc: Global, text: &mut Vec<u8>, mark: u8, number: usize) -> Result<(), AllocError>
-    ensures { OnOk result (text.new.items ≡ text.old.items ++ mark ∷ decimal number) }
+/// Adds the digits of the number.
+fn push_number(text: &mut Vec<u8>, number: usize) -> Result<(), AllocError>
+    ensures { OnOk result (text.new.items ≡ text.old.items ++ decimal number) }
 {
-    text.push(mark)?;
-    text.extend_from_slice(number.to_string(alloc)?.as_bytes())
+    let mut digits = Buffer::new();
+    text.extend_from_slice(digits.format(number).as_bytes())
 }
 
 /// The line for a cell out of the table.
