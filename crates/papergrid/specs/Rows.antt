@@ -18,19 +18,9 @@ pub record WorkedRows : Type 0 where
   pub greatest_size_and_one : Gives (codes "columns 1\npad * 18446744073709551615 0 0 0\nrow\ncell a\n") (codes "refused: too large\n") Refused
   pub greatest_size_and_borders : Gives (codes "columns 1\npad * 18446744073709551615 0 0 0\nrow\ncell\nborder |\n") (codes "refused: too large\n") Refused
   pub out_of_table : Gives (codes "columns 1\nrow\ncell a\ncell b\n") (codes "refused: out of table at 0,1\n") Refused
-  pub readme_picture : Gives (codes "columns 4\nborder +\ncolspan 1,1 3\nrowspan 0,0 2\npad 0,0 4 4 1 1\nrow\ncell Papergrid\ncell is a library\ncell for print tables\ncell !\nrow\ncell\ncell Just like this\ncell\ncell\n") (codes "widths 17 12 16 1\nheights 1 1\ntotal 51 5\nwitness widths 0,0 0,1 0,2 0,3\nwitness heights 0,1 1,1\n") Done
-  pub even_shares_over_inner_line : Gives (codes "columns 3\nborder +\nrowspan 0,0 2\nrow\ncell 0-0\\nxx\\nx\\nx\\nx\\nx\\nx\ncell 0-1\ncell 0-2\nrow\ncell 1-0\ncell 1-1\ncell 1-2\nrow\ncell 2-0\ncell 2-1\ncell 2-2\n") (codes "widths 3 3 3\nheights 3 3 1\ntotal 13 11\nwitness widths 0,0 0,1 0,2\nwitness heights 0,0 2,0\n") Done
-  pub remainder_to_first : Gives (codes "columns 2\nborder +\nrowspan 0,0 2\nrow\ncell 1\\n\\n\\n\\n\\n\\n\\n23\ncell 0-1\nrow\ncell 1-0\ncell 1-1\n") (codes "widths 2 3\nheights 4 3\ntotal 8 10\nwitness widths 0,0 0,1\nwitness heights 0,0\n") Done
-  pub lines_alone_satisfy : Gives (codes "columns 3\nborder +\nrowspan 0,0 3\nrowspan 0,1 2\nrowspan 0,2 2\nrow\ncell 0-0\ncell 0-1\ncell 0-2\nrow\ncell 1-0\ncell 1-1\ncell 1-2\nrow\ncell 2-0\ncell 2-1\ncell 2-2\n") (codes "widths 3 3 3\nheights 0 0 1\ntotal 13 5\nwitness widths 0,0 0,1 0,2\nwitness heights none\n") Done
   pub nested_column_spans : Gives (codes "columns 3\ncolspan 1,0 3\ncolspan 2,1 2\nrow\ncell a\ncell a\ncell a\nrow\ncell 0123456789\nrow\ncell a\ncell 01234567\n") (codes "widths 2 4 4\nheights 1 1 1\ntotal 10 3\nwitness widths 1,0\nwitness heights 0,0 1,0 2,0\n") Done
-  pub nested_row_spans : Gives (codes "columns 3\nrowspan 0,1 3\nrowspan 1,2 2\npad 0,1 0 0 9 0\npad 1,2 0 0 7 0\nrow\ncell a\ncell a\ncell a\nrow\ncell a\ncell a\ncell a\nrow\ncell a\ncell a\ncell a\n") (codes "widths 1 1 1\nheights 4 4 4\ntotal 3 12\nwitness widths 0,0 0,1 0,2\nwitness heights none\n") Done
-  pub crossing_column_spans : Gives (codes "columns 3\ncolspan 0,0 2\ncolspan 1,1 2\nrow\ncell 0123456789\nrow\ncell\ncell 0123456789\n") (codes "widths 5 8 2\nheights 1 1\ntotal 15 2\nwitness widths none\nwitness heights 0,0 1,0\n") Done
   pub equal_ranges : Gives (codes "columns 2\ncolspan 0,0 2\ncolspan 1,0 2\nrow\ncell abc\nrow\ncell abcdef\n") (codes "widths 4 2\nheights 1 1\ntotal 6 2\nwitness widths 1,0\nwitness heights 0,0 1,0\n") Done
-  pub out_of_table_by_columns : Gives (codes "columns 2\ncolspan 0,0 3\nrow\ncell a\n") (codes "refused: out of table at 0,0\n") Refused
   pub out_of_table_by_rows : Gives (codes "columns 1\nrowspan 0,0 2\nrow\ncell a\n") (codes "refused: out of table at 0,0\n") Refused
-  pub hidden_cell_beyond_columns : Gives (codes "columns 1\nrowspan 0,1 2\nrow\ncell a\nrow\ncell b\ncell zzz\n") (codes "widths 1\nheights 1 1\ntotal 1 2\nwitness widths 0,0\nwitness heights 0,0 1,0\n") Done
-  pub hidden_anchor_hides : Gives (codes "columns 3\ncolspan 0,0 2\ncolspan 0,1 2\nrow\ncell abcd\ncell x\ncell zzz\n") (codes "widths 2 2 0\nheights 1\ntotal 4 1\nwitness widths 0,0\nwitness heights 0,0\n") Done
-  pub first_out_in_each_direction : Gives (codes "columns 2\ncolspan 1,1 2\nrowspan 0,0 3\nrow\ncell\ncell\nrow\ncell\ncell\n") (codes "refused: out of table at 0,0\n") Refused
   pub no_columns : Gives (codes "columns 0\n") (codes "widths\nheights\ntotal 0 0\nwitness widths\nwitness heights\n") Done
   pub empty_input : Gives (codes "") (codes "widths\nheights\ntotal 0 0\nwitness widths\nwitness heights\n") Done
   pub borders_alone : Gives (codes "columns 0\nborder |\n") (codes "widths\nheights\ntotal 1 1\nwitness widths\nwitness heights\n") Done
