@@ -243,6 +243,17 @@ module _ (line : ℕ → Bool) (n : ℕ) (demands growers : List Demand) (sizes 
     adds_up = chosen-adds_up;
   }
 
+-- where no growing cell's range holds i, its size is the base size
+pub base-not_covered : (line : ℕ → Bool) (n : ℕ) (demands taken : List Demand) → All (IsInTable n) demands → TakesAll demands taken → (i : ℕ) → i < n →
+    covered (growing line (base_sizes n demands) taken) i ≡ false → get_or (sizes_after line n demands taken) i 0 ≡ base_size demands i
+base-not_covered line n demands taken table takes i l f =
+    let many : length (base_sizes n demands) ≡ n = length-base_sizes n demands in
+    let table' : AllByRecursion (IsInTable (length (base_sizes n demands))) taken =
+    recursion_from_All (IsInTable (length (base_sizes n demands))) taken (table_of_taken line n demands taken table takes) in
+    let ones : AllByRecursion (λ d. 1 ≤ d.span) taken =
+    ByRecursion-weaker (IsInTable (length (base_sizes n demands))) (λ d. 1 ≤ d.span) (λ d t. t.covers_one) taken table' in
+    size-not_covered line (base_sizes n demands) taken i ones (omega arith) f ∙ get_or-base_sizes n demands i l
+
 growers_are : (line : ℕ → Bool) (n : ℕ) (demands taken : List Demand) → All (IsInTable n) demands → TakesAll demands taken → IsLaminar taken →
     GrowersAre line n demands (growing line (base_sizes n demands) taken) (sizes_after line n demands taken)
 growers_are line n demands taken table takes laminar =
@@ -251,14 +262,13 @@ growers_are line n demands taken table takes laminar =
     let table' : AllByRecursion (IsInTable (length (base_sizes n demands))) taken =
     recursion_from_All (IsInTable (length (base_sizes n demands))) taken (table_of_taken line n demands taken table takes) in
     let table'' : AllByRecursion (IsInTable n) taken = rw many at table' in
-    let ones : AllByRecursion (λ d. 1 ≤ d.span) taken = ByRecursion-weaker (IsInTable n) (λ d. 1 ≤ d.span) (λ d t. t.covers_one) taken table'' in
     record {
       many = length-taken line (base_sizes n demands) taken ∙ many;
       cells = outermost-all (Contains demands) (growing line (base_sizes n demands) taken) (growing-all (Contains demands) line (base_sizes n demands) taken cells);
       table = outermost-all (IsInTable n) (growing line (base_sizes n demands) taken) (growing-all (IsInTable n) line (base_sizes n demands) taken table'');
       apart = Apart-outermost line (base_sizes n demands) taken laminar;
       tight = tight-outermost line (base_sizes n demands) taken table' laminar;
-      base = λ i l f. size-not_covered line (base_sizes n demands) taken i ones (omega arith) f ∙ get_or-base_sizes n demands i l;
+      base = base-not_covered line n demands taken table takes;
     }
 
 -- the chosen cells are a certificate

@@ -12,7 +12,8 @@ use Rattle.papergrid_axis.specs.Sizes.{grown, lack}
 use Rattle.papergrid_axis.specs.Chosen.{growing, or_else, exact_single, single_at, outermost, chosen}
 use Rattle.papergrid_axis.proofs.RangeLemmas.{covered}
 use Rattle.papergrid_axis.proofs.LoopLemmas.{sum-grown, range_with_len-append}
-use Rattle.papergrid_axis.specs.LastCells.{IsUnder, IsOrdered, IsLaminar, last_holding, slot_of, chosen_slot}
+use Rattle.papergrid_axis.specs.LastCells.{AreExact, IsUnder, IsOrdered, IsLaminar, last_holding, slot_of, chosen_slot}
+use Rattle.papergrid_axis.specs.Seen.{no_demand}
 use Rattle.papergrid_axis.proofs.Upto.{holds_cases}
 use Rattle.papergrid_axis.proofs.FitBound.{ByRecursion-weaker}
 use Rattle.papergrid_axis.proofs.Certified.{none_some}
@@ -118,17 +119,6 @@ module _ (line : ℕ → Bool) (sizes : List ℕ) (taken cells all : List Demand
       let step' : growing line sizes (drop i taken) ≡ growing line (grown line sizes (get_or taken i e)) (drop (i + 1) taken) = rw n at step in
       ap (λ xs. cells ++ xs) (sym step') ∙ so_far
 
--- one more cell for the first exact ones
-pub find_push : (test : Demand → Bool) (ds : List Demand) (d : Demand) → find test (ds ++ d ∷ []) ≡ or_else (find test ds) (cond (test d) (Some d) None)
-find_push test [] d = refl
-find_push test (c ∷ ds) d = elim (cases_Bool (test c)) [ inl y ↦ rw y refl | inr n ↦ rw n (find_push test ds d) ]
-
-pub exact_single-more : (ds : List Demand) (i : ℕ) (e : Demand) (sizes : List ℕ) (k : ℕ) → i < length ds →
-    exact_single (take (i + 1) ds) sizes k ≡ or_else (exact_single (take i ds) sizes k)
-    (cond (eqb (get_or ds i e).span 1 && eqb (get_or ds i e).start k && eqb (get_or ds i e).need (get_or sizes k 0)) (Some (get_or ds i e)) None)
-exact_single-more ds i e sizes k l =
-    ap (λ xs. exact_single xs sizes k) (take_more ds i e l) ∙ find_push (λ d. d.span == 1 && d.start == k && d.need == get_or sizes k 0) (take i ds) (get_or ds i e)
-
 -- one more number for the chosen cells
 pub filter_map_slot_more : (h : ℕ → Option Demand) (i : ℕ) → filter_map h (range_with_len 0 (i + 1)) ≡ filter_map h (range_with_len 0 i) ++ cons_option (h i) []
 filter_map_slot_more h i =
@@ -157,10 +147,22 @@ slot-chosen demands growers sizes i laminar ones =
       | inr f ↦ rw (last_holding-none growers i f, f) refl
     ])
 
+-- where the cell kept at i is exact, it is the one in the slot
+slot-kept : (demands growers : List Demand) (sizes : List ℕ) (singles : List Demand) (i : ℕ) → i < length sizes → AreExact demands growers sizes singles →
+    slot_of (last_holding growers i) (Some (get_or singles i no_demand)) (get_or sizes i 0) i ≡ slot_of (last_holding growers i) (exact_single demands sizes i) (get_or sizes i 0) i
+slot-kept demands growers sizes singles i l exact = elim (cases_Bool (covered growers i)) [
+  | inl t ↦ let found : (d : Demand) × (last_holding growers i ≡ Some d) = last_holding-some growers i t in rw found.1 refl
+  | inr f ↦ elim (cases_eq (get_or sizes i 0) 0) [
+    | inl none ↦ rw (last_holding-none growers i f, none) refl
+    | inr some ↦ rw (last_holding-none growers i f) (ap (λ o. slot_of None o (get_or sizes i 0) i) (sym (exact i l f some)))
+  ]
+]
+
 -- the cells by one look at each number are the chosen ones
-pub chosen-by_slots : (demands growers : List Demand) (sizes : List ℕ) (last first : List (Option Demand)) → IsLaminar growers → AllByRecursion (λ d. 1 ≤ d.span) growers →
-    ((i : ℕ) → i < length sizes → get_or last i None ≡ last_holding growers i) → ((i : ℕ) → i < length sizes → get_or first i None ≡ exact_single demands sizes i) →
-    filter_map (chosen_slot last first sizes) (range_with_len 0 (length sizes)) ≡ chosen (length sizes) demands growers sizes
-chosen-by_slots demands growers sizes last first laminar ones lasts firsts =
-    filter_map-agree (chosen_slot last first sizes) (λ i. or_else (find (λ d. d.start == i) (outermost growers)) (single_at demands growers sizes i)) 0 (length sizes)
-    (λ i l l'. ap₂ (λ o p. slot_of o p (get_or sizes i 0) i) (lasts i (omega arith)) (firsts i (omega arith)) ∙ slot-chosen demands growers sizes i laminar ones)
+pub chosen-by_slots : (demands growers : List Demand) (sizes : List ℕ) (last : List (Option Demand)) (singles : List Demand) → IsLaminar growers → AllByRecursion (λ d. 1 ≤ d.span) growers →
+    ((i : ℕ) → i < length sizes → get_or last i None ≡ last_holding growers i) → AreExact demands growers sizes singles →
+    filter_map (chosen_slot last singles sizes) (range_with_len 0 (length sizes)) ≡ chosen (length sizes) demands growers sizes
+chosen-by_slots demands growers sizes last singles laminar each lasts exact =
+    filter_map-agree (chosen_slot last singles sizes) (λ i. or_else (find (λ d. d.start == i) (outermost growers)) (single_at demands growers sizes i)) 0 (length sizes)
+    (λ i l l'. ap (λ o. slot_of o (Some (get_or singles i no_demand)) (get_or sizes i 0) i) (lasts i (omega arith))
+    ∙ slot-kept demands growers sizes singles i (omega arith) exact ∙ slot-chosen demands growers sizes i laminar each)

@@ -16,6 +16,7 @@ pub mod Orders
 pub mod OutLemmas
 pub mod PairLemmas
 pub mod RangeLemmas
+pub mod SeenLemmas
 pub mod Steps
 pub mod Theorems
 pub mod Upto

@@ -11,9 +11,10 @@ use Rattle.papergrid_axis.specs.declared.seen.Seen.{Seen}
 use Rattle.papergrid_axis.specs.Answers.{NoneHolds}
 use Rattle.papergrid_axis.specs.Ranges.{IsInTable, end_of, first_out, place_of}
 use Rattle.papergrid_axis.specs.Fits.{HasRoom, IsTooLarge}
-use Rattle.papergrid_axis.specs.Seen.{Holds, is_large, without_need}
+use Rattle.papergrid_axis.specs.Seen.{IsSeen, is_large, others, without_need}
 use Rattle.papergrid_axis.specs.Sizes.{sizes_of}
 use Rattle.papergrid_axis.proofs.LoopLemmas.{large_need}
+use Rattle.papergrid_axis.proofs.SeenLemmas.{first_out-others}
 use Rattle.papergrid_axis.proofs.Theorems.{Fits-sizes_of}
 
 pub out_at : (n : ℕ) (ds : List Demand) (i : ℕ) (d : Demand) → i < length ds →
@@ -52,20 +53,17 @@ large_any line n sizes (d ∷ ds) e table room = elim (cases_Bool (is_large d)) 
   | inr f ↦ large_any line n sizes ds (ap (λ b. b || list_any is_large ds) (sym f) ∙ e) (All-tail (IsInTable n) d ds table) (All-tail (HasRoom line sizes) d ds room)
 ]
 
-module _ (n : ℕ) (seen : Seen) (demands : List Demand) (held : Holds seen demands) where
-  pub out_seen : first_out n demands ≡ first_out n seen.demands.items
-  out_seen = same_out n demands seen.demands.items (sym held.ranges)
+module _ (n : ℕ) (seen : Seen) (demands : List Demand) (is : IsSeen n seen demands) where
+  pub out_seen : first_out n demands ≡ first_out n seen.others.items
+  out_seen = sym (first_out-others n is.limit demands is.below) ∙ same_out n (others is.limit demands) seen.others.items (sym is.held.ranges)
 
-  table_demands : first_out n seen.demands.items ≡ None → All (IsInTable n) demands
-  table_demands none = none_out n demands (out_seen ∙ none) held.spans
+  pub table_demands : first_out n seen.others.items ≡ None → All (IsInTable n) demands
+  table_demands none = none_out n demands (out_seen ∙ none) is.held.spans
 
-  pub table_seen : first_out n seen.demands.items ≡ None → seen.is_large ≡ false → All (IsInTable n) seen.demands.items
-  table_seen none small = All-same (IsInTable n) seen.demands.items demands (held.exact small) (table_demands none)
-
-  pub NoneHolds-large : (direction : Direction) (line : ℕ → Bool) → first_out n seen.demands.items ≡ None → seen.is_large ≡ true → NoneHolds direction line n demands
+  pub NoneHolds-large : (direction : Direction) (line : ℕ → Bool) → first_out n seen.others.items ≡ None → seen.is_large ≡ true → NoneHolds direction line n demands
   NoneHolds-large direction line none large =
       let table = table_demands none in
-      let any = sym held.large ∙ large in
+      let any = sym is.held.large ∙ large in
       record {
         none_out = out_seen ∙ none;
         too_large = large_any line n (sizes_of direction line n demands) demands any table (Fits-sizes_of direction line n demands table).room;

@@ -58,6 +58,11 @@ module _ (direction : Direction) (line : ℕ → Bool) (n : ℕ) (demands : List
     IsWitness (Ok (Some places)) = AreChosen places.items
     IsWitness (Err e) = IsRefused e
 
+    -- the sizes and the places of the chosen cells, none where ranges are not kept apart, or why there are no sizes
+    abbrev pub IsCertified : {Y : Type 0} → Result (Vec ℕ Y × Option (Vec Position Z)) LayoutError → Type 0
+    IsCertified (Ok found) = AreSizes found.0.items × IsWitness (Ok found.1)
+    IsCertified (Err e) = IsRefused e
+
 -- what a checker accepts: no cell reaches out, the sizes fit, and the places are those of cells that certify them
 pub record IsAccepted (line : ℕ → Bool) (n : ℕ) (demands : List Demand) (sizes : List ℕ) (places : List Position) : Type 0 where
   pub none_out : first_out n demands ≡ None

@@ -1,12 +1,13 @@
 -- How it is decided whether ranges are kept apart: for each number the last cell, of those that are taken, whose range
 -- holds it. Only contracts of private functions and proofs speak of this.
-use Rattle.std.specs.Prelude.{ℕ, ◌==◌, if◌then◌else◌, cond, ◌⊎◌, List, [], ◌∷◌, ⊤, Option, Some, None, slice_index, slice_index_or}
-use Rattle.std.specs.List.{AllByRecursion}
+use Rattle.std.specs.Prelude.{◌≡◌, ◌≢◌, ◌<◌, ℕ, ◌==◌, false, if◌then◌else◌, cond, ◌⊎◌, List, [], ◌∷◌, length, ⊤, Option, Some, None, slice_index, slice_index_or}
+use Rattle.std.specs.List.{AllByRecursion, list_any}
 use Rattle.papergrid_axis.specs.declared.demand.Demand.{Demand}
 use Rattle.papergrid_axis.specs.declared.direction.Direction.{Direction}
 use Rattle.papergrid_axis.specs.declared.direction.Direction.TheVariants.{Columns, Rows}
 use Rattle.papergrid_axis.specs.Ranges.{holds, AreDisjoint, LiesIn, HaveSameRange}
-use Rattle.papergrid_axis.specs.Chosen.{or_else}
+use Rattle.papergrid_axis.specs.Chosen.{exact_single, or_else}
+use Rattle.papergrid_axis.specs.Seen.{no_demand}
 
 -- what a cell has to be to a later one whose range meets its own
 abbrev pub IsUnder : Direction → Demand → Demand → Type 0
@@ -31,11 +32,17 @@ abbrev pub last_holding : List Demand → ℕ → Option Demand
 last_holding [] i = None
 last_holding (d ∷ rest) i = or_else (last_holding rest i) (cond (holds d i) (Some d) None)
 
--- the chosen cell at i: the last growing cell there, where its range starts there, or, where there is none, the first
--- single one
+-- the chosen cell at i: the last growing cell there, where its range starts there, or, where there is none, the single one
 abbrev pub slot_of : Option Demand → Option Demand → ℕ → ℕ → Option Demand
 slot_of (Some d) first size i = if d.start == i then Some d else None
 slot_of None first size i = if size == 0 then None else first
 
-abbrev pub chosen_slot : List (Option Demand) → List (Option Demand) → List ℕ → ℕ → Option Demand
-chosen_slot last first sizes i = slot_of (slice_index_or last i None) (slice_index_or first i None) (slice_index sizes i) i
+abbrev pub chosen_slot : List (Option Demand) → List Demand → List ℕ → ℕ → Option Demand
+chosen_slot last singles sizes i = slot_of (slice_index_or last i None) (Some (slice_index_or singles i no_demand)) (slice_index sizes i) i
+
+-- where no growing cell's range holds i and its size is above 0, the first cell that covers i alone and needs its size is kept
+-- at i
+abbrev pub AreExact : List Demand → List Demand → List ℕ → List Demand → Type 0
+AreExact demands growers sizes singles =
+    (i : ℕ) → i < length sizes → list_any (λ d. holds d i) growers ≡ false → slice_index sizes i ≢ 0 →
+    exact_single demands sizes i ≡ Some (slice_index_or singles i no_demand)

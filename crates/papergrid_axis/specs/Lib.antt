@@ -7,4 +7,5 @@ pub mod LastCells
 pub mod Ranges
 pub mod Rows
 pub mod Seen
+pub mod Settled
 pub mod Sizes

@@ -1,5 +1,5 @@
--- What a walk over cells keeps of their demands.
-use Rattle.std.specs.Prelude.{◌≡◌, ◌≤◌, ◌^◌, Bool, false, List, ◌++◌, map, All, nat_le}
+-- What a walk over cells keeps of their demands. Only contracts of functions below the public calls and proofs speak of this.
+use Rattle.std.specs.Prelude.{◌≡◌, ℕ, ◌<◌, ◌≤◌, ◌^◌, ◌&&◌, ◌==◌, Bool, true, false, if◌then◌else◌, not, nat_lt, nat_le, List, ◌++◌, map, filter, fold, All, slice_index_or}
 use Rattle.std.specs.List.{list_any}
 use Rattle.papergrid_axis.specs.declared.demand.Demand.{Demand}
 use Rattle.papergrid_axis.specs.declared.seen.Seen.{Seen}
@@ -12,13 +12,43 @@ is_large d = nat_le (2 ^ 64) d.need
 abbrev pub without_need : Demand → Demand
 without_need d = record { row = d.row; col = d.col; start = d.start; span = d.span; need = 0 }
 
--- these demands were kept: all ranges, whether a need is large, and, where none is, the demands themselves
-pub record Holds (seen : Seen) (demands : List Demand) : Type 0 where
-  pub ranges : map without_need seen.demands.items ≡ map without_need demands
+-- whether the cell covers one number alone, below the limit
+abbrev pub is_single : ℕ → Demand → Bool
+is_single limit d = d.span == 1 && nat_lt d.start limit
+
+-- the cells that are kept as they come
+abbrev pub others : ℕ → List Demand → List Demand
+others limit demands = filter (λ d. not (is_single limit d)) demands
+
+-- a cell that needs nothing
+abbrev pub no_demand : Demand
+no_demand = record { row = 0; col = 0; start = 0; span = 1; need = 0 }
+
+-- what is kept for number i once one more cell is met: that, if it covers i alone and needs more
+abbrev pub kept_for : ℕ → Demand → Demand → Demand
+kept_for i kept d = if (d.span == 1 && d.start == i) && nat_lt kept.need d.need then d else kept
+
+-- the first of greatest need of the cells that cover i alone
+abbrev pub first_greatest : ℕ → List Demand → Demand
+first_greatest i demands = fold (kept_for i) no_demand demands
+
+-- these demands were kept by a limit: ranges, whether a need is large, and, where none is, the demands themselves
+pub record Holds (limit : ℕ) (seen : Seen) (demands : List Demand) : Type 0 where
+  pub limit_is : seen.limit ≡ limit
+  pub ranges : map without_need seen.others.items ≡ map without_need (others limit demands)
   pub large : seen.is_large ≡ list_any is_large demands
-  pub exact : seen.is_large ≡ false → seen.demands.items ≡ demands
+  pub exact : seen.is_large ≡ false → seen.others.items ≡ others limit demands
+  pub singles : seen.is_large ≡ false → (i : ℕ) → i < limit → slice_index_or seen.singles.items i no_demand ≡ first_greatest i demands
   pub spans : All (λ d. 1 ≤ d.span) demands
 
 -- whatever was kept, these further demands are kept besides
 abbrev pub Adds : Seen → Seen → List Demand → Type 0
-Adds old new further = (demands : List Demand) → Holds old demands → Holds new (demands ++ further)
+Adds old new further = (limit : ℕ) (demands : List Demand) → Holds limit old demands → Holds limit new (demands ++ further)
+
+-- these are the demands of a table of n columns (rows), and they were kept by a limit that tells which of those that cover
+-- one number alone are in the table
+pub record IsSeen (n : ℕ) (seen : Seen) (demands : List Demand) : Type 0 where
+  pub limit : ℕ
+  pub held : Holds limit seen demands
+  pub from_limit : n ≤ limit
+  pub below : All (λ d. is_single limit d ≡ true → d.start < n) demands

@@ -1,40 +1,17 @@
 //! The base sizes: what the cells need that cover one column (row) alone.
 
-ghost use Rattle.std.specs.Prelude.{◌≡◌, ◌<◌, ◌∷◌, ◌++◌, [], List, All, length, max, replicate, slice_index, slice_set};
-ghost use Rattle.papergrid_axis.specs.Ranges.{IsInTable};
-ghost use Rattle.papergrid_axis.specs.Sizes.{base_sizes};
+ghost use Rattle.std.specs.Prelude.{◌≡◌, EachIndex, length, slice_index, slice_index_or};
+ghost use Rattle.papergrid_axis.specs.Seen.{no_demand};
 
 use crate::demand::Demand;
+use crate::seen::single_at;
 
-/// Raises the size at the index to the need.
-fn raise(sizes: &mut [usize], index: usize, need: usize)
-    requires { index < length sizes.old }
-    ensures { sizes.new ≡ slice_set sizes.old index (max (slice_index sizes.old index) need) }
+/// Writes for each number what the cell needs that is kept there.
+pub fn write_base(sizes: &mut [usize], singles: &[Demand])
+    ensures length { length sizes.new ≡ length sizes.old }
+    ensures base { EachIndex sizes.new (λ k. slice_index sizes.new k ≡ (slice_index_or singles.now k no_demand).need) }
 {
-    if sizes[index] < need {
-        sizes[index] = need;
-    }
-}
-
-/// Raises the base sizes of some cells to those of one more.
-fn raise_alone(sizes: &mut [usize], demand: Demand)
-    requires { IsInTable (length sizes.old) demand }
-    ensures { let count = length sizes.old in
-        (demands : List Demand) → sizes.old ≡ base_sizes count demands →
-        sizes.new ≡ base_sizes count (demands ++ demand ∷ []) }
-{
-    if demand.span == 1 {
-        raise(sizes, demand.start, demand.need);
-    }
-}
-
-/// Raises `count` zeros to the base sizes.
-pub fn raise_all(sizes: &mut [usize], count: usize, demands: &[Demand])
-    requires zeros { sizes.old ≡ replicate count 0 }
-    requires table { All (IsInTable count) demands.now }
-    ensures { sizes.new ≡ base_sizes count demands.now }
-{
-    for demand in demands {
-        raise_alone(sizes, *demand);
+    for i in 0..sizes.len() {
+        sizes[i] = single_at(singles, i).need;
     }
 }

@@ -1,18 +1,18 @@
 //! The answer for a direction once all cells are seen.
 
-ghost use Rattle.std.specs.Prelude.{◌≡◌, ◌+◌, ℕ, All, Bool, IfNone, IfSome, List, None, false, length, nat_lt, replicate};
+ghost use Rattle.std.specs.Prelude.{◌≡◌, ◌+◌, ℕ, Bool, IfNone, IfSome, List, None, false, length, nat_lt, replicate};
 ghost use Rattle.papergrid_axis.specs.declared.demand.Demand.{Demand};
 ghost use Rattle.papergrid_axis.specs.declared.direction.Direction.{Direction};
-ghost use Rattle.papergrid_axis.specs.Answers.{IsExact, IsRefused, IsWitness};
-ghost use Rattle.papergrid_axis.specs.Ranges.{IsInTable, end_of, first_out, line_at};
-ghost use Rattle.papergrid_axis.specs.Seen.{Holds};
+ghost use Rattle.papergrid_axis.specs.Answers.{IsRefused};
+ghost use Rattle.papergrid_axis.specs.Ranges.{end_of, first_out, line_at};
+ghost use Rattle.papergrid_axis.specs.Seen.{IsSeen};
+ghost use Rattle.papergrid_axis.specs.Settled.{IsSettled};
 
 use crate::demand::Demand;
 use crate::direction::Direction;
 use crate::error::LayoutError;
-use crate::exact::exact_sizes;
 use crate::seen::Seen;
-use crate::witness::exact_witness;
+use crate::settled::{Settled, settle_seen};
 use papergrid_values::Position;
 use std::alloc::Global;
 
@@ -40,14 +40,14 @@ pub fn find_out(count: usize, demands: &[Demand]) -> Option<Position>
 
 /// Why the seen cells have no sizes, where one of them reaches out or has a large need.
 fn refusal(count: usize, seen: &Seen) -> Option<LayoutError>
-    requires { (demands : List Demand) × Holds seen.now demands }
+    requires { (demands : List Demand) × IsSeen count seen.now demands }
     ensures refused { IfSome result (λ error.
         (direction : Direction) (line : ℕ → Bool) (demands : List Demand) →
-        Holds seen.now demands → IsRefused direction line count demands error) }
-    ensures table { IfNone result (All (IsInTable count) seen.now.demands.items) }
+        IsSeen count seen.now demands → IsRefused direction line count demands error) }
+    ensures inside { IfNone result (first_out count seen.now.others.items ≡ None) }
     ensures small { IfNone result (seen.now.is_large ≡ false) }
 {
-    if let Some(position) = find_out(count, &seen.demands) {
+    if let Some(position) = find_out(count, &seen.others) {
         return Some(LayoutError::OutOfTable(position));
     }
     if seen.is_large {
@@ -56,7 +56,7 @@ fn refusal(count: usize, seen: &Seen) -> Option<LayoutError>
     None
 }
 
-/// The sizes of `count` columns (rows) that the seen cells ask for, made of a list of as many zeros;
+/// What the seen cells of a table of `count` columns (rows) come to, made of a list of as many zeros;
 /// `lines` tells of each of 0 to `count` whether there is a line before it.
 ///
 /// # Errors
@@ -70,67 +70,15 @@ pub fn finish(
     zeros: Vec<usize>,
     seen: &Seen,
     lines: &[bool],
-) -> Result<Vec<usize>, LayoutError>
+) -> Result<Settled, LayoutError>
     requires zeros { zeros.items ≡ replicate count 0 }
-    requires held { (demands : List Demand) × Holds seen.now demands }
+    requires seen { (demands : List Demand) × IsSeen count seen.now demands }
     requires lines { length lines.now ≡ count + 1 }
-    ensures { (demands : List Demand) → Holds seen.now demands →
-        IsExact direction (line_at lines.now) count demands result }
+    ensures { (demands : List Demand) → IsSeen count seen.now demands →
+        IsSettled direction (line_at lines.now) count demands result }
 {
     match refusal(count, seen) {
         Some(error) => Err(error),
-        None => exact_sizes(alloc, direction, count, zeros, &seen.demands, lines),
-    }
-}
-
-/// The same where no seen cell reaches out.
-///
-/// # Errors
-///
-/// `TooLarge` where the sizes with all lines come to more than the greatest `usize`.
-pub fn finish_inside(
-    alloc: Global,
-    direction: Direction,
-    count: usize,
-    zeros: Vec<usize>,
-    seen: &Seen,
-    lines: &[bool],
-) -> Result<Vec<usize>, LayoutError>
-    requires zeros { zeros.items ≡ replicate count 0 }
-    requires held { (demands : List Demand) × Holds seen.now demands }
-    requires inside { first_out count seen.now.demands.items ≡ None }
-    requires lines { length lines.now ≡ count + 1 }
-    ensures { (demands : List Demand) → Holds seen.now demands →
-        IsExact direction (line_at lines.now) count demands result }
-{
-    if seen.is_large {
-        return Err(LayoutError::TooLarge);
-    }
-    exact_sizes(alloc, direction, count, zeros, &seen.demands, lines)
-}
-
-/// The places of the cells that certify that the sizes which `finish` gives are least; none where
-/// longer ranges are not kept apart.
-///
-/// # Errors
-///
-/// As those of `finish`.
-pub fn finish_witness(
-    alloc: Global,
-    direction: Direction,
-    count: usize,
-    zeros: Vec<usize>,
-    seen: &Seen,
-    lines: &[bool],
-) -> Result<Option<Vec<Position>>, LayoutError>
-    requires zeros { zeros.items ≡ replicate count 0 }
-    requires held { (demands : List Demand) × Holds seen.now demands }
-    requires lines { length lines.now ≡ count + 1 }
-    ensures { (demands : List Demand) → Holds seen.now demands →
-        IsWitness direction (line_at lines.now) count demands result }
-{
-    match refusal(count, seen) {
-        Some(error) => Err(error),
-        None => exact_witness(alloc, direction, count, zeros, &seen.demands, lines),
+        None => settle_seen(alloc, direction, count, zeros, seen, lines),
     }
 }

@@ -1,11 +1,10 @@
 //! The cells that grow: those that lack room when they are taken.
 
-ghost use Rattle.std.specs.Prelude.{◌≡◌, ◌+◌, ◌<◌, ◌≤◌, ◌^◌, ◌↔◌, All, IfNone, IfOk, IfSome, IsTrue, fold, length, replicate, sum};
+ghost use Rattle.std.specs.Prelude.{◌≡◌, ◌+◌, ◌<◌, ◌≤◌, ◌^◌, ◌↔◌, All, IfNone, IfOk, IfSome, IsTrue, fold, length, sum};
 ghost use Rattle.papergrid_axis.specs.Chosen.{growing};
 ghost use Rattle.papergrid_axis.specs.Ranges.{IsInTable, all_lines, line_at};
-ghost use Rattle.papergrid_axis.specs.Sizes.{base_sizes, grown, sizes_after};
+ghost use Rattle.papergrid_axis.specs.Sizes.{grown};
 
-use crate::base::raise_all;
 use crate::demand::Demand;
 use crate::grow::grow;
 use crate::sums::{checked_sum, count_drawn};
@@ -60,34 +59,29 @@ fn fits_with_lines(sizes: &[usize], lines: &[bool]) -> bool
     total.checked_add(count_drawn(lines)).is_some()
 }
 
-/// Makes `count` zeros the sizes after the cells were taken, and gives the cells that grow; none
-/// where the total with all lines does not fit.
-pub fn fill_growing(
+/// Takes the cells in their order, from the base sizes on, and gives those that grow; none where the
+/// total with all lines does not fit.
+pub fn grow_all(
     alloc: Global,
     sizes: &mut [usize],
-    count: usize,
-    demands: &[Demand],
     lines: &[bool],
     cells: &[Demand],
 ) -> Result<Option<Vec<Demand>>, AllocError>
-    requires zeros { sizes.old ≡ replicate count 0 }
-    requires table { All (IsInTable count) demands.now }
-    requires cells { All (IsInTable count) cells.now }
-    requires lines { length lines.now ≡ count + 1 }
+    requires cells { All (IsInTable (length sizes.old)) cells.now }
+    requires lines { length lines.now ≡ length sizes.old + 1 }
     ensures growers { let line = line_at lines.now in
         IfOk result (λ found. IfSome found (λ growers.
-        growers.items ≡ growing line (base_sizes count demands.now) cells.now)) }
+        growers.items ≡ growing line sizes.old cells.now)) }
     ensures sizes { let line = line_at lines.now in
         IfOk result (λ found. IfSome found (λ growers.
-        sizes.new ≡ sizes_after line count demands.now cells.now)) }
+        sizes.new ≡ fold (grown line) sizes.old cells.now)) }
     ensures fits { let line = line_at lines.now in
         IfOk result (λ found. IfSome found (λ growers.
-        sum (sizes_after line count demands.now cells.now) + all_lines line count < 2 ^ 64)) }
+        sum (fold (grown line) sizes.old cells.now) + all_lines line (length sizes.old) < 2 ^ 64)) }
     ensures too_large { let line = line_at lines.now in
         IfOk result (λ found. IfNone found (
-        2 ^ 64 ≤ sum (sizes_after line count demands.now cells.now) + all_lines line count)) }
+        2 ^ 64 ≤ sum (fold (grown line) sizes.old cells.now) + all_lines line (length sizes.old))) }
 {
-    raise_all(sizes, count, demands);
     let Some(total) = checked_sum(sizes) else {
         return Ok(None);
     };

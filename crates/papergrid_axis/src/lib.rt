@@ -12,7 +12,6 @@ pub mod conclude;
 pub mod demand;
 pub mod direction;
 pub mod error;
-mod exact;
 pub mod finish;
 mod grow;
 mod growers;
@@ -21,6 +20,7 @@ pub mod laws;
 mod lines;
 mod order;
 pub mod seen;
+mod settled;
 mod sums;
 mod witness;
 

@@ -1,8 +1,8 @@
 //! What a walk over cells keeps of their demands.
 
-ghost use Rattle.std.specs.Prelude.{◌≡◌, ◌+◌, ◌<◌, ◌≤◌, ◌^◌, [], ◌∷◌, OnOk};
+ghost use Rattle.std.specs.Prelude.{◌≡◌, ◌+◌, ◌<◌, ◌≤◌, ◌^◌, ℕ, [], ◌∷◌, OnOk, length, slice_index_or};
 ghost use Rattle.std.specs.Option.{SomeIff};
-ghost use Rattle.papergrid_axis.specs.Seen.{Adds, Holds};
+ghost use Rattle.papergrid_axis.specs.Seen.{Adds, Holds, kept_for, no_demand};
 ghost use Rattle.papergrid_axis.specs.Ranges.{along, demand_of};
 
 use crate::demand::Demand;
@@ -10,37 +10,50 @@ use crate::direction::Direction;
 use papergrid_values::Position;
 use std::alloc::{AllocError, Global};
 
-/// The demands of the visible cells met so far. A need above the greatest `usize` is kept as that
-/// one, and is remembered: cells that reach out of the table are looked for before it counts.
+/// What the visible cells met so far ask for: of those that cover one column (row) alone, for each
+/// the first of greatest need, and all others as they came. A need above the greatest `usize` is kept
+/// as that one, and is remembered: cells that reach out of the table are looked for before it counts.
 #[derive(Debug, Drop)]
 pub struct Seen {
-    pub demands: Vec<Demand>,
+    /// By their numbers. Where no cell has a need, a cell stands that needs nothing.
+    pub singles: Vec<Demand>,
+    pub others: Vec<Demand>,
     pub is_large: bool,
+    /// A cell that covers one number alone is in the table where that is below this limit.
+    pub limit: usize,
 }
+
+/// A cell that needs nothing.
+const NO_DEMAND: Demand = Demand {
+    row: 0,
+    col: 0,
+    start: 0,
+    span: 1,
+    need: 0,
+};
 
 impl Seen {
     /// Nothing seen. It takes no memory.
-    pub fn new(alloc: Global) -> Self
-        ensures { Holds result [] }
+    pub fn new(alloc: Global, limit: usize) -> Self
+        ensures { Holds limit result [] }
     {
         Seen {
-            demands: Vec::new(alloc),
+            singles: Vec::new(alloc),
+            others: Vec::new(alloc),
             is_large: false,
+            limit,
         }
     }
+}
 
-    /// Nothing seen, with room for the demands of so many cells where memory is there for it.
-    pub fn with_room(alloc: Global, cells: usize) -> Self
-        ensures { Holds result [] }
-    {
-        let demands = match Vec::with_capacity(alloc, cells) {
-            Ok(room) => room,
-            Err(_) => Vec::new(alloc),
-        };
-        Seen {
-            demands,
-            is_large: false,
-        }
+/// What is kept of the cells that cover a number alone.
+pub fn single_at(singles: &[Demand], i: usize) -> Demand
+    ensures { result ≡ slice_index_or singles.now i no_demand }
+{
+    if i < singles.len() {
+        singles[i]
+    } else {
+        NO_DEMAND
     }
 }
 
@@ -61,8 +74,34 @@ fn need_of(measure: usize, before: usize, after: usize) -> Option<usize>
     measure.checked_add(before)?.checked_add(after)
 }
 
+/// Makes room for a number. Where none was, a cell stands that needs nothing.
+fn extend(singles: &mut Vec<Demand>, i: usize) -> Result<(), AllocError>
+    ensures room { OnOk result (i < length singles.new.items) }
+    ensures same { OnOk result ((k : ℕ) →
+        slice_index_or singles.new.items k no_demand ≡ slice_index_or singles.old.items k no_demand) }
+{
+    while singles.len() <= i {
+        singles.push(NO_DEMAND)?;
+    }
+    Ok(())
+}
+
+/// Keeps a cell that covers its number alone, where it needs more than the one that was kept there.
+fn raise(singles: &mut Vec<Demand>, demand: Demand) -> Result<(), AllocError>
+    requires { demand.span ≡ 1 }
+    ensures { OnOk result ((k : ℕ) →
+        slice_index_or singles.new.items k no_demand ≡ kept_for k (slice_index_or singles.old.items k no_demand) demand) }
+{
+    extend(singles, demand.start)?;
+    if singles[demand.start].need < demand.need {
+        singles[demand.start] = demand;
+    }
+    Ok(())
+}
+
 /// Keeps the demand of the visible cell at a position, of a span of columns (rows): it needs its
 /// measure with the paddings before and after it.
+#[inline(always)]
 pub fn keep(
     seen: &mut Seen,
     direction: Direction,
@@ -76,15 +115,19 @@ pub fn keep(
     ensures { let need = measure + before + after in
         OnOk result (Adds seen.old seen.new (demand_of direction position span need ∷ [])) }
 {
-    let start = number_of(direction, position);
     let need = need_of(measure, before, after);
-    seen.demands.push(Demand {
+    let demand = Demand {
         row: position.row,
         col: position.col,
-        start,
+        start: number_of(direction, position),
         span,
         need: need.unwrap_or(usize::MAX),
-    })?;
+    };
+    if span == 1 && demand.start < seen.limit {
+        raise(&mut seen.singles, demand)?;
+    } else {
+        seen.others.push(demand)?;
+    }
     if need.is_none() {
         seen.is_large = true;
     }

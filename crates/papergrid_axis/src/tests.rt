@@ -2,13 +2,13 @@
 
 ghost use Rattle.std.specs.Prelude.{◌≡◌, ◌+◌, ◌<◌, IfOk, List, length};
 ghost use Rattle.papergrid_axis.specs.declared.demand.Demand.{Demand};
-ghost use Rattle.papergrid_axis.specs.Seen.{Holds};
+ghost use Rattle.papergrid_axis.specs.Seen.{IsSeen};
 
 use crate::LayoutError;
 use crate::axis::Axis;
 use crate::checked::{Checked, accepts, visit, wide_need};
 use crate::claim::{Claim, are_in_order};
-use crate::conclude::{conclude, conclude_witness};
+use crate::conclude::{conclude, conclude_certified};
 use crate::direction::Direction;
 use crate::direction::Direction::{Columns, Rows};
 use crate::laws::{certified_are_least, sizes_by_needs, worked_rows};
@@ -141,10 +141,15 @@ fn at(row: usize, col: usize) -> Position {
     Position::new(row, col)
 }
 
-fn seen(alloc: Global, direction: Direction, cells: &[Cell]) -> Result<Seen, AllocError>
-    ensures { IfOk result (λ seen. (demands : List Demand) × Holds seen demands) }
+fn seen(
+    alloc: Global,
+    direction: Direction,
+    count: usize,
+    cells: &[Cell],
+) -> Result<Seen, AllocError>
+    ensures { IfOk result (λ seen. (demands : List Demand) × IsSeen count seen demands) }
 {
-    let mut seen = Seen::new(alloc);
+    let mut seen = Seen::new(alloc, count);
     for (row, col, span, measure, padding) in cells {
         let position = at(*row, *col);
         keep(
@@ -167,7 +172,7 @@ fn sizes(
     axis: Sample,
     cells: &[Cell],
 ) -> Result<Vec<usize>, LayoutError> {
-    let seen = seen(alloc, direction, cells)?;
+    let seen = seen(alloc, direction, count, cells)?;
     conclude(alloc, direction, count, &seen, &axis)
 }
 
@@ -178,8 +183,11 @@ fn witness(
     axis: Sample,
     cells: &[Cell],
 ) -> Result<Option<Vec<Position>>, LayoutError> {
-    let seen = seen(alloc, direction, cells)?;
-    conclude_witness(alloc, direction, count, &seen, &axis)
+    let seen = seen(alloc, direction, count, cells)?;
+    match conclude_certified(alloc, direction, count, &seen, &axis) {
+        Ok((_, found)) => Ok(found),
+        Err(refused) => Err(refused),
+    }
 }
 
 /// Whether sizes and places are accepted for cells whose spans are those of the axis.
@@ -378,11 +386,13 @@ fn first_out_in_each_direction(rt: HostRuntime) -> Result<(), Fail> {
     let wide = seen(
         alloc,
         Columns,
+        2,
         &[(0, 0, 1, 0, 0), (0, 1, 1, 0, 0), (1, 1, 2, 0, 0)],
     )?;
     let high = seen(
         alloc,
         Rows,
+        2,
         &[(0, 0, 3, 1, 0), (0, 1, 1, 1, 0), (1, 1, 1, 1, 0)],
     )?;
     let out = Err(LayoutError::OutOfTable(at(1, 1)));

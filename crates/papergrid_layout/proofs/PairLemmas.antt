@@ -1,81 +1,108 @@
--- What both directions keep of the same cells.
-use Rattle.std.proofs.Common.{◌≡◌, ℕ, ◌+◌, ◌<◌, Bool, true, false, List, [], ◌∷◌, ◌||◌, length, map, refl, ap, sym, ◌∙◌, arith, nat_lt, get_or, drop}
-use Rattle.std.specs.Prelude.{Option, Some, None, is_some, find, if◌then◌else◌}
-use Rattle.std.proofs.lemmas.List.{drop_more, length-map}
-use Rattle.std.proofs.lemmas.Bool.{false≢true}
+-- The first cell out of the table, by what is kept for both directions.
+use Rattle.std.proofs.Common.{◌≡◌, ℕ, ◌+◌, ◌<◌, ◌≢◌, Bool, true, false, ◌⊎◌, inl, inr, List, [], ◌∷◌, ◌||◌, ◌&&◌, ◌==◌, length, map, refl, ap, ap₂, sym, subst, ◌∙◌, arith, nat_lt, eq-eqb, ne_eqb, le-ltb, lt-ltb, suc}
+use Rattle.std.specs.Prelude.{All, AllPairs, Option, Some, None, is_some, find, if◌then◌else◌, unwrap_or}
+use Rattle.std.proofs.lemmas.Bool.{cases_Bool, false≢true}
+use Rattle.std.proofs.lemmas.List.Elements.{All-head, All-tail}
 use Rattle.papergrid_values.specs.declared.position.Position.{Position}
-use Rattle.papergrid_axis.specs.declared.demand.Demand.{Demand}
+use Rattle.papergrid_axis.specs.declared.direction.Direction.{Direction}
 use Rattle.papergrid_axis.specs.declared.direction.Direction.TheVariants.{Columns, Rows}
-use Rattle.papergrid_axis.specs.declared.seen.Seen.{Seen}
-use Rattle.papergrid_axis.specs.Ranges.{end_of, first_out, place_of}
-use Rattle.papergrid_axis.specs.Seen.{Holds, without_need}
+use Rattle.papergrid_axis.specs.Ranges.{end_of, first_out}
+use Rattle.papergrid_axis.specs.Seen.{IsSeen}
+use Rattle.papergrid_axis.proofs.OutLemmas.{out_seen}
+use Rattle.papergrid_layout.specs.declared.both.Both.{Both}
 use Rattle.papergrid_layout.specs.Answers.{first_out_of_table, reaches_out}
 use Rattle.papergrid_layout.specs.Cells.{asked, demands_of, visible_cells}
 use Rattle.papergrid_layout.specs.Looks.{Look}
-use Rattle.papergrid_layout.specs.Pairs.{first_of_pairs}
+use Rattle.papergrid_layout.specs.Pairs.{AreBothSeen, earlier, earlier_of}
+use Rattle.papergrid_layout.proofs.Distinct.{AllPairs-visible, Precedes}
 
-pub pair_at : (n m : ℕ) (cs rs : List Demand) (i : ℕ) (d : Demand) → i < length cs → i < length rs →
-    first_of_pairs n m (drop i cs) (drop i rs)
-    ≡ (if nat_lt n (end_of (get_or cs i d)) || nat_lt m (end_of (get_or rs i d)) then Some (place_of (get_or cs i d)) else first_of_pairs n m (drop (i + 1) cs) (drop (i + 1) rs))
-pair_at n m cs rs i d lt gt = λ k. first_of_pairs n m (drop_more cs i d lt k) (drop_more rs i d gt k)
+-- one position comes before another
+abbrev IsBefore : Position → Position → Type 0
+IsBefore p q = (p.row < q.row) ⊎ ((p.row ≡ q.row) × (p.col < q.col))
 
--- the needs do not matter
-pairs-ranges : (n m : ℕ) (cs rs : List Demand) → first_of_pairs n m (map without_need cs) (map without_need rs) ≡ first_of_pairs n m cs rs
-pairs-ranges n m [] rs = refl
-pairs-ranges n m (c ∷ cs) [] = refl
-pairs-ranges n m (c ∷ cs) (r ∷ rs) = ap (λ rest. if nat_lt n (end_of c) || nat_lt m (end_of r) then Some (place_of c) else rest) (pairs-ranges n m cs rs)
+before-first : (p q : Position) → IsBefore p q → earlier_of p q ≡ p
+before-first p q (inl l) =
+    let ne : q.row ≢ p.row = omega arith in
+    rw (le-ltb q.row p.row (omega arith), ne_eqb q.row p.row ne) refl
+before-first p q (inr l) =
+    let row : p.row ≡ q.row = l.0 in
+    let col : p.col < q.col = l.1 in
+    rw (le-ltb q.row p.row (omega arith), eq-eqb q.row p.row (sym row), le-ltb q.col p.col (omega arith)) refl
 
-if_none : {A : Type 0} (b : Bool) (x : A) (r : Option A) → (if b then Some x else r) ≡ None → (b ≡ false) × (r ≡ None)
-if_none true x r e = absurd (false≢true (sym (ap is_some e)))
-if_none false x r e = (refl, e)
+before-second : (p q : Position) → IsBefore p q → earlier_of q p ≡ p
+before-second p q (inl l) = rw (lt-ltb p.row q.row l) refl
+before-second p q (inr l) =
+    let row : p.row ≡ q.row = l.0 in
+    rw (le-ltb p.row q.row (omega arith), eq-eqb p.row q.row row, lt-ltb p.col q.col l.1) refl
 
-or_false : (a b : Bool) → (a || b) ≡ false → (a ≡ false) × (b ≡ false)
-or_false true b e = absurd (false≢true (sym e))
-or_false false b e = (refl, e)
+same-first : (p : Position) → earlier_of p p ≡ p
+same-first p = rw (le-ltb p.row p.row (omega arith), eq-eqb p.row p.row refl, le-ltb p.col p.col (omega arith)) refl
 
--- where no pair reaches out, no cell does along either
-pub none_of_pairs : (n m : ℕ) (cs rs : List Demand) → length cs ≡ length rs → first_of_pairs n m cs rs ≡ None → (first_out n cs ≡ None) × (first_out m rs ≡ None)
-none_of_pairs n m [] [] same none = (refl, refl)
-none_of_pairs n m [] (r ∷ rs) same none = absurd (omega (arith, same))
-none_of_pairs n m (c ∷ cs) [] same none = absurd (omega (arith, same))
-none_of_pairs n m (c ∷ cs) (r ∷ rs) same none =
-    let here = if_none (nat_lt n (end_of c) || nat_lt m (end_of r)) (place_of c) (first_of_pairs n m cs rs) none in
-    let both = or_false (nat_lt n (end_of c)) (nat_lt m (end_of r)) here.0 in
-    let rest = none_of_pairs n m cs rs (omega arith) here.1 in
-    ((λ k. if both.0 k then Some (place_of c) else rest.0 k), (λ k. if both.1 k then Some (place_of r) else rest.1 k))
+-- where the earlier of two is none, neither is any
+pub neither : (p q : Option Position) → earlier p q ≡ None → (p ≡ None) × (q ≡ None)
+neither None q e = (refl, e)
+neither (Some p) None e = absurd (false≢true (sym (ap is_some e)))
+neither (Some p) (Some q) e = absurd (false≢true (sym (ap is_some e)))
+
+-- the earlier of one position and of later ones
+first-stays : (p : Position) (q : Option Position) → ((y : Position) → q ≡ Some y → IsBefore p y) → earlier (Some p) q ≡ Some p
+first-stays p None later = refl
+first-stays p (Some q) later = ap Some (before-first p q (later q refl))
+
+second-stays : (p : Position) (q : Option Position) → ((y : Position) → q ≡ Some y → IsBefore p y) → earlier q (Some p) ≡ Some p
+second-stays p None later = refl
+second-stays p (Some q) later = ap Some (before-second p q (later q refl))
 
 module _ {C : Type 0} (look : Look) (measure : C → ℕ × ℕ) (columns : ℕ) (cells : List (List C)) where
-  -- the pairs of some cells
-  pairs-cells : (xs : List (Position × C)) →
-      first_of_pairs columns (length cells) (map (asked Columns look measure) xs) (map (asked Rows look measure) xs) ≡ find (reaches_out look measure columns cells) (map (λ cell. cell.0) xs)
-  pairs-cells [] = refl
-  pairs-cells (x ∷ xs) = ap (λ rest. if reaches_out look measure columns cells x.0 then Some x.0 else rest) (pairs-cells xs)
+  -- the first cell that reaches out is one of the cells
+  first_out-from : (P : Position → Type 0) (direction : Direction) (n : ℕ) (xs : List (Position × C)) → All (λ x. P x.0) xs →
+      (y : Position) → first_out n (map (asked direction look measure) xs) ≡ Some y → P y
+  first_out-from P direction n [] all y e = absurd (false≢true (ap is_some e))
+  first_out-from P direction n (x ∷ xs) all y e = elim (cases_Bool (nat_lt n (end_of (asked direction look measure x)))) [
+    | inl t ↦
+        let e' : Some x.0 ≡ Some y = rw t at e in
+        subst P (ap (λ o. unwrap_or o y) e') (All-head (λ x. P x.0) x xs all)
+    | inr f ↦
+        let e' : first_out n (map (asked direction look measure) xs) ≡ Some y = rw f at e in
+        first_out-from P direction n xs (All-tail (λ x. P x.0) x xs all) y e'
+  ]
 
-  module _ (wide high : Seen) (widths : Holds wide (demands_of Columns look measure cells)) (heights : Holds high (demands_of Rows look measure cells)) where
-    -- the first pair that reaches out is the first visible cell that does
-    pub out_of_both : first_of_pairs columns (length cells) wide.demands.items high.demands.items ≡ first_out_of_table look measure columns cells
-    out_of_both =
-        sym (pairs-ranges columns (length cells) wide.demands.items high.demands.items)
-        ∙ (λ k. first_of_pairs columns (length cells) (widths.ranges k) (heights.ranges k))
-        ∙ pairs-ranges columns (length cells) (demands_of Columns look measure cells) (demands_of Rows look measure cells)
-        ∙ pairs-cells (visible_cells look cells)
+  -- of cells in their order, the first that reaches out along a direction is the earlier of the first along columns and the
+  -- first along rows
+  earlier-out : (xs : List (Position × C)) → AllPairs Precedes xs →
+      earlier (first_out columns (map (asked Columns look measure) xs)) (first_out (length cells) (map (asked Rows look measure) xs)) ≡ find (reaches_out look measure columns cells) (map (λ cell. cell.0) xs)
+  earlier-out [] precede = refl
+  earlier-out (x ∷ xs) precede =
+      let rest = earlier-out xs (λ i j d l l'. precede (suc i) (suc j) d (omega arith) (omega arith)) in
+      let later : All (λ y. IsBefore x.0 y.0) xs = λ k d l. precede 0 (suc k) d (omega arith) (omega arith) in
+      elim (cases_Bool (nat_lt columns (x.0.col + look.span Columns x.0))) [
+        | inl wide ↦ elim (cases_Bool (nat_lt (length cells) (x.0.row + look.span Rows x.0))) [
+          | inl high ↦ rw (wide, high) (ap Some (same-first x.0))
+          | inr high ↦ rw (wide, high) (first-stays x.0 (first_out (length cells) (map (asked Rows look measure) xs)) (first_out-from (IsBefore x.0) Rows (length cells) xs later))
+        ]
+        | inr wide ↦ elim (cases_Bool (nat_lt (length cells) (x.0.row + look.span Rows x.0))) [
+          | inl high ↦ rw (wide, high) (second-stays x.0 (first_out columns (map (asked Columns look measure) xs)) (first_out-from (IsBefore x.0) Columns columns xs later))
+          | inr high ↦ rw (wide, high) rest
+        ]
+      ]
 
-    pub as_many : length wide.demands.items ≡ length high.demands.items
-    as_many =
-        sym (length-map wide.demands.items without_need) ∙ ap length widths.ranges ∙ length-map (demands_of Columns look measure cells) without_need
-        ∙ length-map (visible_cells look cells) (asked Columns look measure)
-        ∙ sym (length-map (visible_cells look cells) (asked Rows look measure))
-        ∙ sym (length-map (demands_of Rows look measure cells) without_need) ∙ ap length (sym heights.ranges) ∙ length-map high.demands.items without_need
-
-    -- where none does, none does along columns, and none along rows
-    pub none_out : first_of_pairs columns (length cells) wide.demands.items high.demands.items ≡ None →
-        (first_out columns (demands_of Columns look measure cells) ≡ None) × (first_out (length cells) (demands_of Rows look measure cells) ≡ None)
-    none_out none =
-        none_of_pairs columns (length cells) (demands_of Columns look measure cells) (demands_of Rows look measure cells)
-        (length-map (visible_cells look cells) (asked Columns look measure) ∙ sym (length-map (visible_cells look cells) (asked Rows look measure)))
-        (pairs-cells (visible_cells look cells) ∙ sym out_of_both ∙ none)
-
+  module _ (both : Both) (seen : AreBothSeen look measure columns cells both) (rows : ℕ) (many : rows ≡ length cells) where
     -- the same of what is kept
-    pub inside_seen : first_of_pairs columns (length cells) wide.demands.items high.demands.items ≡ None →
-        (first_out columns wide.demands.items ≡ None) × (first_out (length cells) high.demands.items ≡ None)
-    inside_seen none = none_of_pairs columns (length cells) wide.demands.items high.demands.items as_many none
+    pub out_of_both : earlier (first_out columns both.columns.others.items) (first_out rows both.rows.others.items) ≡ first_out_of_table look measure columns cells
+    out_of_both =
+        ap (λ n. earlier (first_out columns both.columns.others.items) (first_out n both.rows.others.items)) many
+        ∙ ap₂ earlier (sym (out_seen columns both.columns (demands_of Columns look measure cells) seen.wide)) (sym (out_seen (length cells) both.rows (demands_of Rows look measure cells) seen.high))
+        ∙ earlier-out (visible_cells look cells) (AllPairs-visible look cells)
+
+    -- where no cell reaches out, none does along columns, and none along rows
+    pub none_out : earlier (first_out columns both.columns.others.items) (first_out rows both.rows.others.items) ≡ None →
+        (first_out_of_table look measure columns cells ≡ None) × (first_out columns (demands_of Columns look measure cells) ≡ None) × (first_out (length cells) (demands_of Rows look measure cells) ≡ None)
+    none_out none =
+        let each = neither (first_out columns both.columns.others.items) (first_out rows both.rows.others.items) none in (
+          sym out_of_both ∙ none,
+          out_seen columns both.columns (demands_of Columns look measure cells) seen.wide ∙ each.0,
+          out_seen (length cells) both.rows (demands_of Rows look measure cells) seen.high ∙ ap (λ n. first_out n both.rows.others.items) (sym many) ∙ each.1,
+        )
+
+    pub seen_high : IsSeen rows both.rows (demands_of Rows look measure cells)
+    seen_high = subst (λ n. IsSeen n both.rows (demands_of Rows look measure cells)) (sym many) seen.high

@@ -43,28 +43,28 @@ module _ {C : Type 0} where
         Adds old mid (asked_by direction look measure (placed_row r 0 cells)) →
         Adds mid new (asked_by direction look measure ((record { row = r; col = c }, cell) ∷ [])) →
         Adds old new (asked_by direction look measure (placed_row r 0 (cells ++ cell ∷ [])))
-    step-cell old mid new r c cells cell same before further = λ demands held.
-        let k = further _ (before demands held) in
+    step-cell old mid new r c cells cell same before further = λ limit demands held.
+        let k = further limit _ (before limit demands held) in
         let at : 0 + length cells ≡ c = omega arith in
         let p : placed_row r 0 (cells ++ cell ∷ []) ≡ placed_row r 0 cells ++ (record { row = r; col = c }, cell) ∷ [] =
         placed_row-more r 0 cells cell ∙ ap (λ k. placed_row r 0 cells ++ (record { row = r; col = k }, cell) ∷ []) at in
         let a : asked_by direction look measure (placed_row r 0 (cells ++ cell ∷ [])) ≡ asked_by direction look measure (placed_row r 0 cells) ++ asked_by direction look measure ((record { row = r; col = c }, cell) ∷ []) =
         ap (asked_by direction look measure) p ∙ asked_by-append (placed_row r 0 cells) ((record { row = r; col = c }, cell) ∷ []) in
-        subst (Holds new) (sym (ap (λ ds. demands ++ ds) a ∙ sym (append_assoc demands _ _))) k
+        subst (Holds limit new) (sym (ap (λ ds. demands ++ ds) a ∙ sym (append_assoc demands _ _))) k
 
     -- no cell of a row yet
     pub none_yet : (seen : Seen) → Adds seen seen (asked_by direction look measure [])
-    none_yet seen = λ demands held. subst (Holds seen) (sym (append-nil demands)) held
+    none_yet seen = λ limit demands held. subst (Holds limit seen) (sym (append-nil demands)) held
 
     -- one more row
-    pub step-row : (old new : Seen) (r : ℕ) (rows : List (List C)) (row : List C) → r ≡ length rows →
-        Holds old (demands_of direction look measure rows) →
+    pub step-row : (limit : ℕ) (old new : Seen) (r : ℕ) (rows : List (List C)) (row : List C) → r ≡ length rows →
+        Holds limit old (demands_of direction look measure rows) →
         Adds old new (asked_by direction look measure (placed_row r 0 row)) →
-        Holds new (demands_of direction look measure (rows ++ row ∷ []))
-    step-row old new r rows row same before further =
-        let k = further _ before in
+        Holds limit new (demands_of direction look measure (rows ++ row ∷ []))
+    step-row limit old new r rows row same before further =
+        let k = further limit _ before in
         let at : 0 + length rows ≡ r = omega arith in
         let p : placed (rows ++ row ∷ []) ≡ placed rows ++ placed_row r 0 row = placed_from-more 0 rows row ∙ ap (λ k. placed rows ++ placed_row k 0 row) at in
         let a : demands_of direction look measure (rows ++ row ∷ []) ≡ demands_of direction look measure rows ++ asked_by direction look measure (placed_row r 0 row) =
         ap (asked_by direction look measure) p ∙ asked_by-append (placed rows) (placed_row r 0 row) in
-        subst (Holds new) (sym a) k
+        subst (Holds limit new) (sym a) k

@@ -1,5 +1,5 @@
 -- The visible cells of told rows with their positions, and what they ask for along a direction.
-use Rattle.std.specs.Prelude.{ℕ, ◌+◌, List, [], ◌∷◌, ◌++◌, map, filter}
+use Rattle.std.specs.Prelude.{ℕ, ◌+◌, ◌-◌, ◌^◌, List, [], ◌∷◌, ◌++◌, map, filter}
 use Rattle.papergrid_values.specs.declared.position.Position.{Position}
 use Rattle.papergrid_axis.specs.declared.demand.Demand.{Demand}
 use Rattle.papergrid_axis.specs.declared.direction.Direction.{Direction}
@@ -45,3 +45,8 @@ module _ {C : Type 0} where
   -- what the visible cells of the rows ask for, by row and then by column
   abbrev pub demands_of : Direction → Look → (C → ℕ × ℕ) → List (List C) → List Demand
   demands_of direction look measure rows = asked_by direction look measure (placed rows)
+
+-- below which column (row) a visible cell that covers one alone is in the table for certain: each row is one of the table
+abbrev pub limit_along : Direction → ℕ → ℕ
+limit_along Columns columns = columns
+limit_along Rows columns = 2 ^ 64 - 1

@@ -1,12 +1,12 @@
 -- What witnesses and checkers say of the rows told.
-use Rattle.std.specs.Prelude.{◌↔◌, ◌⊎◌, ◌++◌, ℕ, Bool, IsTrue, List, length, Option, Result, Ok, Err, Vec}
+use Rattle.std.specs.Prelude.{◌↔◌, ◌++◌, ℕ, Bool, IsTrue, List, length, Option, Result, Ok, Err, Vec}
 use Rattle.papergrid_values.specs.declared.position.Position.{Position}
 use Rattle.papergrid_axis.specs.declared.checked.Checked.{Checked}
 use Rattle.papergrid_axis.specs.declared.demand.Demand.{Demand}
 use Rattle.papergrid_axis.specs.declared.direction.Direction.{Direction}
 use Rattle.papergrid_axis.specs.declared.direction.Direction.TheVariants.{Columns, Rows}
 use Rattle.papergrid_axis.specs.declared.error.LayoutError.{LayoutError}
-use Rattle.papergrid_axis.specs.Answers.{IsAccepted, IsRefused, IsWitness}
+use Rattle.papergrid_axis.specs.Answers.{IsAccepted, IsWitness}
 use Rattle.papergrid_axis.specs.Checks.{Checks}
 use Rattle.papergrid_axis.specs.Fits.{IsLeast}
 use Rattle.papergrid_layout.specs.Answers.{AreBothSizes, IsBothRefused, count_along, drawn_along}
@@ -50,12 +50,3 @@ module _ {C : Type 0} (look : Look) (measure : C → ℕ × ℕ) (columns : ℕ)
   abbrev pub IsCertified : Result Certified LayoutError → Type 0
   IsCertified (Ok certified) = AreCertified certified
   IsCertified (Err e) = IsBothRefused look measure columns cells e
-
--- what witnesses say along both directions, by the demands of some cells. Only contracts of private functions and proofs
--- speak of this
-abbrev pub AreWitnesses : {Z Y : Type 0} → Look → ℕ → ℕ → List Demand → List Demand → Result (Option (Vec Position Z) × Option (Vec Position Y)) LayoutError → Type 0
-AreWitnesses look columns rows wide high (Ok found) =
-    IsWitness Columns (drawn_along Columns look columns) columns wide (Ok found.0)
-    × IsWitness Rows (drawn_along Rows look rows) rows high (Ok found.1)
-AreWitnesses look columns rows wide high (Err e) =
-    IsRefused Columns (drawn_along Columns look columns) columns wide e ⊎ IsRefused Rows (drawn_along Rows look rows) rows high e

@@ -1,25 +1,24 @@
 //! The walk over records for both directions, and the sizes along both.
 
-ghost use Rattle.std.specs.Prelude.{◌≡◌, ◌+◌, ◌-◌, ◌<◌, ◌^◌, ◌||◌, ◌∷◌, [], ⊤, IfOk, List, OnOk, length, nat_lt};
+ghost use Rattle.std.specs.Prelude.{◌≡◌, ◌+◌, ◌-◌, ◌<◌, ◌^◌, ◌∷◌, [], ⊤, IfOk, List, OnOk, length};
 ghost use Rattle.papergrid_text.specs.Records.{Gives, WalkIsShort};
-ghost use Rattle.papergrid_axis.specs.declared.demand.Demand.{Demand};
 ghost use Rattle.papergrid_axis.specs.declared.direction.Direction.TheVariants.{Columns, Rows};
-ghost use Rattle.papergrid_axis.specs.Ranges.{end_of};
-ghost use Rattle.papergrid_axis.specs.Seen.{Adds, Holds};
+ghost use Rattle.papergrid_axis.specs.Ranges.{first_out};
+ghost use Rattle.papergrid_axis.specs.Seen.{Adds};
 ghost use Rattle.papergrid_layout.specs.Answers.{AreBothSized, UnlessMemory};
-ghost use Rattle.papergrid_layout.specs.Cells.{asked_by, demands_of, placed_row};
+ghost use Rattle.papergrid_layout.specs.Cells.{asked_by, placed_row};
 ghost use Rattle.papergrid_layout.specs.Paddings.{AreCommon};
-ghost use Rattle.papergrid_layout.specs.Pairs.{first_of_pairs};
+ghost use Rattle.papergrid_layout.specs.Pairs.{AreBothSeen, earlier, earlier_of};
 ghost use Rattle.papergrid_layout.specs.Shown.{Shows};
 
 use crate::measure::Measure;
 use crate::settings::{Paddings, Settings};
 use crate::shown::shown;
 use crate::sizes::Along;
-use crate::walk::{ask, measure_shown, paddings_of, room_for};
-use papergrid_axis::conclude::conclude_inside;
-use papergrid_axis::finish::reaches_out;
-use papergrid_axis::{Demand, Direction, LayoutError, Seen};
+use crate::walk::{ask, limit_of, measure_shown, paddings_of};
+use papergrid_axis::conclude::conclude;
+use papergrid_axis::finish::find_out;
+use papergrid_axis::{Direction, LayoutError, Seen};
 use papergrid_sweep::Sweep;
 use papergrid_text::{IntoRecords, Records};
 use papergrid_values::Position;
@@ -120,13 +119,12 @@ where
     <<R as Records>::Iter as IntoRecords>::Cell: Drop,
     requires { R.is_lawful records }
     ensures { IfOk result (λ found. (cells : List (List R.Iter.Cell)) × R.tells records cells
-        × Holds found.0.columns (demands_of Columns (S.look settings.now) M.measured cells)
-        × Holds found.0.rows (demands_of Rows (S.look settings.now) M.measured cells) × (found.1 ≡ length cells)) }
+        × AreBothSeen (S.look settings.now) M.measured (R.columns records) cells found.0 × (found.1 ≡ length cells)) }
 {
-    let room = room_for(records.hint_count_rows(), records.count_columns());
+    let columns = records.count_columns();
     let mut both = Both {
-        columns: Seen::with_room(alloc, room),
-        rows: Seen::with_room(alloc, room),
+        columns: Seen::new(alloc, limit_of(Direction::Columns, columns)),
+        rows: Seen::new(alloc, limit_of(Direction::Rows, columns)),
     };
     let mut walk = shown(alloc, settings)?;
     let common = settings.common_paddings();
@@ -138,30 +136,37 @@ where
     Ok((both, count))
 }
 
-/// Whether a cell reaches out of the table, by its range along columns or by that along rows.
-fn is_out(columns: usize, rows: usize, wide: Demand, high: Demand) -> bool
-    ensures { result ≡ (nat_lt columns (end_of wide) || nat_lt rows (end_of high)) }
+/// Of two positions the one that is earlier by row and then by column.
+fn earlier_of(p: Position, q: Position) -> Position
+    ensures { result ≡ earlier_of p q }
 {
-    reaches_out(columns, wide) || reaches_out(rows, high)
+    if q.row < p.row || q.row == p.row && q.col < p.col {
+        q
+    } else {
+        p
+    }
+}
+
+/// The same, where there are any.
+fn earlier(p: Option<Position>, q: Option<Position>) -> Option<Position>
+    ensures { result ≡ earlier p q }
+{
+    match (p, q) {
+        (Some(p), Some(q)) => Some(earlier_of(p, q)),
+        (Some(p), None) => Some(p),
+        (None, q) => q,
+    }
 }
 
 /// The position of the first cell that reaches out of the table, by its range along columns or by
 /// that along rows.
-fn find_out_of_both(
-    columns: usize,
-    rows: usize,
-    wide: &[Demand],
-    high: &[Demand],
-) -> Option<Position>
-    requires { length wide.now ≡ length high.now }
-    ensures { result ≡ first_of_pairs columns rows wide.now high.now }
+pub fn find_out_of_both(columns: usize, rows: usize, both: &Both) -> Option<Position>
+    ensures { result ≡ earlier (first_out columns both.now.columns.others.items) (first_out rows both.now.rows.others.items) }
 {
-    for i in 0..wide.len() {
-        if is_out(columns, rows, wide[i], high[i]) {
-            return Some(wide[i].place());
-        }
-    }
-    None
+    earlier(
+        find_out(columns, &both.columns.others),
+        find_out(rows, &both.rows.others),
+    )
 }
 
 /// The widths and the heights that the cells ask for which were seen of a table of so many columns
@@ -173,15 +178,11 @@ pub fn conclude_both<M: Measure<C>, C, S: Settings>(
     both: &Both,
     settings: &S,
 ) -> Result<(Vec<usize>, Vec<usize>), LayoutError>
-    requires { (cells : List (List C)) × (rows ≡ length cells)
-        × Holds both.now.columns (demands_of Columns (S.look settings.now) M.measured cells)
-        × Holds both.now.rows (demands_of Rows (S.look settings.now) M.measured cells) }
-    ensures { (cells : List (List C)) → rows ≡ length cells →
-        Holds both.now.columns (demands_of Columns (S.look settings.now) M.measured cells) →
-        Holds both.now.rows (demands_of Rows (S.look settings.now) M.measured cells) →
+    requires { (cells : List (List C)) × (rows ≡ length cells) × AreBothSeen (S.look settings.now) M.measured columns cells both.now }
+    ensures { (cells : List (List C)) → rows ≡ length cells → AreBothSeen (S.look settings.now) M.measured columns cells both.now →
         AreBothSized (S.look settings.now) M.measured columns cells result }
 {
-    if let Some(pos) = find_out_of_both(columns, rows, &both.columns.demands, &both.rows.demands) {
+    if let Some(pos) = find_out_of_both(columns, rows, both) {
         return Err(LayoutError::OutOfTable(pos));
     }
     let across = Along {
@@ -194,9 +195,9 @@ pub fn conclude_both<M: Measure<C>, C, S: Settings>(
         direction: Direction::Rows,
         count: rows,
     };
-    match conclude_inside(alloc, Direction::Columns, columns, &both.columns, &across) {
+    match conclude(alloc, Direction::Columns, columns, &both.columns, &across) {
         Err(no_widths) => Err(no_widths),
-        Ok(widths) => match conclude_inside(alloc, Direction::Rows, rows, &both.rows, &down) {
+        Ok(widths) => match conclude(alloc, Direction::Rows, rows, &both.rows, &down) {
             Err(no_heights) => Err(no_heights),
             Ok(heights) => Ok((widths, heights)),
         },

@@ -1,20 +1,17 @@
 //! The sizes along both directions with the cells that certify them, by one walk over the records.
 
 ghost use Rattle.std.specs.Prelude.{◌≡◌, List, length};
-ghost use Rattle.papergrid_axis.specs.declared.direction.Direction.TheVariants.{Columns, Rows};
-ghost use Rattle.papergrid_axis.specs.declared.demand.Demand.{Demand};
-ghost use Rattle.papergrid_axis.specs.Seen.{Holds};
 ghost use Rattle.papergrid_layout.specs.Answers.{UnlessMemory};
-ghost use Rattle.papergrid_layout.specs.Cells.{demands_of};
 ghost use Rattle.papergrid_layout.specs.Looks.{spanned_look};
 ghost use Rattle.papergrid_layout.specs.Measures.{line_measure};
-ghost use Rattle.papergrid_layout.specs.Witnesses.{AreWitnesses, IsCertified};
+ghost use Rattle.papergrid_layout.specs.Pairs.{AreBothSeen};
+ghost use Rattle.papergrid_layout.specs.Witnesses.{IsCertified};
 
-use crate::both::{Both, conclude_both, gather_both};
+use crate::both::{Both, find_out_of_both, gather_both};
 use crate::measure::{ByLines, Measure};
 use crate::settings::Settings;
 use crate::sizes::Along;
-use papergrid_axis::conclude::conclude_witness;
+use papergrid_axis::conclude::conclude_certified;
 use papergrid_axis::{Direction, LayoutError};
 use papergrid_config::SpannedConfig;
 use papergrid_text::{IntoRecords, Records};
@@ -66,42 +63,13 @@ fn certify<M: Measure<C>, C, S: Settings>(
     both: &Both,
     settings: &S,
 ) -> Result<Certified, LayoutError>
-    requires { (cells : List (List C)) × (rows ≡ length cells)
-        × Holds both.now.columns (demands_of Columns (S.look settings.now) M.measured cells)
-        × Holds both.now.rows (demands_of Rows (S.look settings.now) M.measured cells) }
-    ensures { (cells : List (List C)) → rows ≡ length cells →
-        Holds both.now.columns (demands_of Columns (S.look settings.now) M.measured cells) →
-        Holds both.now.rows (demands_of Rows (S.look settings.now) M.measured cells) →
+    requires { (cells : List (List C)) × (rows ≡ length cells) × AreBothSeen (S.look settings.now) M.measured columns cells both.now }
+    ensures { (cells : List (List C)) → rows ≡ length cells → AreBothSeen (S.look settings.now) M.measured columns cells both.now →
         IsCertified (S.look settings.now) M.measured columns cells result }
 {
-    let (widths, heights) = match conclude_both::<M, C, S>(alloc, columns, rows, both, settings) {
-        Ok(sizes) => sizes,
-        Err(refused) => return Err(refused),
-    };
-    match witnesses(alloc, columns, rows, both, settings) {
-        Ok((width_witness, height_witness)) => Ok(Certified {
-            widths,
-            heights,
-            width_witness,
-            height_witness,
-        }),
-        Err(refused) => Err(refused),
+    if let Some(pos) = find_out_of_both(columns, rows, both) {
+        return Err(LayoutError::OutOfTable(pos));
     }
-}
-
-/// The cells that certify the sizes along both directions.
-fn witnesses<S: Settings>(
-    alloc: Global,
-    columns: usize,
-    rows: usize,
-    both: &Both,
-    settings: &S,
-) -> Result<(Option<Vec<Position>>, Option<Vec<Position>>), LayoutError>
-    requires columns { (demands : List Demand) × Holds both.now.columns demands }
-    requires rows { (demands : List Demand) × Holds both.now.rows demands }
-    ensures { (wide high : List Demand) → Holds both.now.columns wide → Holds both.now.rows high →
-        AreWitnesses (S.look settings.now) columns rows wide high result }
-{
     let across = Along {
         settings,
         direction: Direction::Columns,
@@ -112,11 +80,18 @@ fn witnesses<S: Settings>(
         direction: Direction::Rows,
         count: rows,
     };
-    match conclude_witness(alloc, Direction::Columns, columns, &both.columns, &across) {
-        Err(refused) => Err(refused),
-        Ok(wide) => match conclude_witness(alloc, Direction::Rows, rows, &both.rows, &down) {
-            Err(refused) => Err(refused),
-            Ok(high) => Ok((wide, high)),
-        },
+    match conclude_certified(alloc, Direction::Columns, columns, &both.columns, &across) {
+        Err(no_widths) => Err(no_widths),
+        Ok((widths, width_witness)) => {
+            match conclude_certified(alloc, Direction::Rows, rows, &both.rows, &down) {
+                Err(no_heights) => Err(no_heights),
+                Ok((heights, height_witness)) => Ok(Certified {
+                    widths,
+                    heights,
+                    width_witness,
+                    height_witness,
+                }),
+            }
+        }
     }
 }

@@ -1,9 +1,10 @@
 //! The walk over records, for one direction.
 
-ghost use Rattle.std.specs.Prelude.{◌≡◌, ◌+◌, ◌-◌, ◌<◌, ◌≤◌, ◌^◌, ◌∷◌, [], ⊤, if◌then◌else◌, IfOk, List, None, OnOk, Some, length};
+ghost use Rattle.std.specs.Prelude.{◌≡◌, ◌+◌, ◌-◌, ◌<◌, ◌^◌, ◌∷◌, [], ⊤, if◌then◌else◌, IfOk, List, None, OnOk, Some, length};
 ghost use Rattle.papergrid_text.specs.Records.{Gives, WalkIsShort};
-ghost use Rattle.papergrid_axis.specs.Seen.{Adds, Holds};
-ghost use Rattle.papergrid_layout.specs.Cells.{asked, asked_by, demands_of, placed_row};
+ghost use Rattle.papergrid_axis.specs.Seen.{Adds, IsSeen};
+ghost use Rattle.papergrid_layout.specs.Answers.{count_along};
+ghost use Rattle.papergrid_layout.specs.Cells.{asked, asked_by, demands_of, limit_along, placed_row};
 ghost use Rattle.papergrid_layout.specs.Paddings.{AreCommon, paddings_at};
 ghost use Rattle.papergrid_layout.specs.Shown.{Shows};
 
@@ -18,16 +19,14 @@ use papergrid_values::Position;
 use std::alloc::{AllocError, Global};
 use std::iter::{IntoIterator, Iterator};
 
-/// At most for so many cells is room made beforehand.
-const MOST_ROOM: usize = 16384;
-
-/// For how many cells room is made beforehand. The hint of the number of rows may be false.
-pub fn room_for(rows: Option<usize>, columns: usize) -> usize
-    ensures { result ≤ 16384 }
+/// Below which column (row) a cell that covers one alone is in the table for certain: rows are counted
+/// as they come, and none comes that is not one of the table.
+pub fn limit_of(direction: Direction, columns: usize) -> usize
+    ensures { result ≡ limit_along direction columns }
 {
-    match rows {
-        Some(count) => count.saturating_mul(columns).min(MOST_ROOM),
-        None => 0,
+    match direction {
+        Direction::Columns => columns,
+        Direction::Rows => usize::MAX,
     }
 }
 
@@ -163,10 +162,10 @@ where
     <<R as Records>::Iter as IntoRecords>::Cell: Drop,
     requires { R.is_lawful records }
     ensures { IfOk result (λ found. (cells : List (List R.Iter.Cell)) × R.tells records cells
-        × Holds found.0 (demands_of direction (S.look settings.now) M.measured cells) × (found.1 ≡ length cells)) }
+        × IsSeen (count_along direction (R.columns records) (length cells)) found.0 (demands_of direction (S.look settings.now) M.measured cells)
+        × (found.1 ≡ length cells)) }
 {
-    let room = room_for(records.hint_count_rows(), records.count_columns());
-    let mut seen = Seen::with_room(alloc, room);
+    let mut seen = Seen::new(alloc, limit_of(direction, records.count_columns()));
     let mut walk = shown(alloc, settings)?;
     let common = settings.common_paddings();
     let mut count = 0usize;

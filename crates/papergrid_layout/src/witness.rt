@@ -8,7 +8,7 @@ use crate::measure::Measure;
 use crate::settings::Settings;
 use crate::sizes::{Along, count_of};
 use crate::walk::gather;
-use papergrid_axis::conclude::conclude_witness;
+use papergrid_axis::conclude::conclude_certified;
 use papergrid_axis::{Direction, LayoutError};
 use papergrid_text::{IntoRecords, Records};
 use papergrid_values::Position;
@@ -43,5 +43,8 @@ where
         direction,
         count,
     };
-    conclude_witness(alloc, direction, count, &seen, &axis)
+    match conclude_certified(alloc, direction, count, &seen, &axis) {
+        Ok((_, found)) => Ok(found),
+        Err(refused) => Err(refused),
+    }
 }

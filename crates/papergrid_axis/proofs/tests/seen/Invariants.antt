@@ -4,4 +4,4 @@ use Rattle.papergrid_axis.specs.Seen.{Holds}
 use Rattle.papergrid_axis.proofs.tests.seen.Given as goal
 
 abbrev pub invariant-loop-row : goal.invariant-loop-row
-invariant-loop-row l = (demands : List Demand) × Holds l.seen demands
+invariant-loop-row l = (demands : List Demand) × Holds l.count l.seen demands

@@ -3,7 +3,7 @@ use Rattle.std.specs.List.{AllZip}
 use Rattle.papergrid_text.specs.Records.{Gives}
 use Rattle.papergrid_axis.specs.declared.direction.Direction.TheVariants.{Columns, Rows}
 use Rattle.papergrid_axis.specs.Seen.{Holds}
-use Rattle.papergrid_layout.specs.Cells.{demands_of}
+use Rattle.papergrid_layout.specs.Cells.{demands_of, limit_along}
 use Rattle.papergrid_layout.specs.Shown.{Shows}
 use Rattle.papergrid_layout.proofs.both.gather_both.Given as goal
 
@@ -14,5 +14,5 @@ invariant-loop-row g l =
     (l.count ≡ length l.yielded) ×
     Shows (g.S.Settings.look l.settings).shows l.walk l.count 0 ×
     ((cells : _) × AllZip (Gives g.R.Iter.IterColumns.IntoIterator.into_iter_gives g.R.Iter.IterColumns.IntoIter.Iterator.next_gives) l.yielded cells
-    × Holds l.both.columns (demands_of Columns (g.S.Settings.look l.settings) g.M.Measure.measured cells)
-    × Holds l.both.rows (demands_of Rows (g.S.Settings.look l.settings) g.M.Measure.measured cells))
+    × Holds (g.R.Records.columns l.fn.records) l.both.columns (demands_of Columns (g.S.Settings.look l.settings) g.M.Measure.measured cells)
+    × Holds (limit_along Rows 0) l.both.rows (demands_of Rows (g.S.Settings.look l.settings) g.M.Measure.measured cells))

@@ -1,19 +1,43 @@
-use Rattle.std.proofs.Common.{◌≡◌, ℕ, Global, length, subst, inl, inr, refl}
+use Rattle.std.proofs.Common.{◌∙◌, Global, subst, sym}
+use Rattle.std.specs.Prelude.{Ok}
+use Rattle.papergrid_axis.specs.Answers.{AreSizes, IsRefused, IsWitness}
 use Rattle.papergrid_axis.specs.declared.direction.Direction.TheVariants.{Columns, Rows}
-use Rattle.papergrid_layout.specs.Answers.{AreBothSized}
+use Rattle.papergrid_layout.specs.Answers.{drawn_along}
 use Rattle.papergrid_layout.specs.Cells.{demands_of}
-use Rattle.papergrid_layout.specs.Witnesses.{AreWitnesses}
-use Rattle.papergrid_layout.proofs.AnswerLemmas.{refused_anyway}
+use Rattle.papergrid_layout.proofs.AnswerLemmas.{refused_columns, refused_rows}
+use Rattle.papergrid_layout.proofs.PairLemmas.{none_out, out_of_both, seen_high}
 use Rattle.papergrid_layout.proofs.certified.certify.Goals as goal
 
-pub returns-in-Err-witnesses : goal.returns-in-Err-witnesses
-returns-in-Err-witnesses g c = λ cells many wide high.
+pub returns-in-Some : goal.returns-in-Some
+returns-in-Some g c = λ cells many seen.
+    sym (out_of_both (g.S.Settings.look c.args.settings.now) g.M.Measure.measured c.args.columns cells c.args.both.now seen c.args.rows many) ∙ sym c.find_out_of_both.ensures ∙ c.in-Some.is
+
+pub returns-in-Err : goal.returns-in-Err
+returns-in-Err g c = λ cells many seen.
     let look = g.S.Settings.look c.args.settings.now in
-    let measured = g.M.Measure.measured in
-    let sizes = subst (λ r. AreBothSized look measured c.args.columns cells {Z = Global} {Y = Global} r) c.in-Ok.is (c.conclude_both.ensures cells many wide high) in
-    let found = subst (λ r. AreWitnesses {Z = Global} {Y = Global} look c.args.columns c.args.rows (demands_of Columns look measured cells) (demands_of Rows look measured cells) r) c.in-Err-witnesses.is
-    (c.witnesses.ensures (demands_of Columns look measured cells) (demands_of Rows look measured cells) wide high) in
-    elim found [
-      | inl out ↦ refused_anyway look measured c.args.columns cells Columns c.in-Ok.sizes.0.items sizes.widths c.args.columns refl c.in-Err-witnesses.refused out
-      | inr out ↦ refused_anyway look measured c.args.columns cells Rows c.in-Ok.sizes.1.items sizes.heights c.args.rows many c.in-Err-witnesses.refused out
-    ]
+    let none = none_out look g.M.Measure.measured c.args.columns cells c.args.both.now seen c.args.rows many (sym c.find_out_of_both.ensures ∙ c.in_default.is) in
+    refused_columns look g.M.Measure.measured c.args.columns cells none.0 none.1 c.in-Err.no_widths (c.in-Err.ensures (demands_of Columns look g.M.Measure.measured cells) seen.wide)
+
+pub returns-in-Err-conclude_certified : goal.returns-in-Err-conclude_certified
+returns-in-Err-conclude_certified g c = λ cells many seen.
+    let look = g.S.Settings.look c.args.settings.now in
+    let demands = demands_of Rows look g.M.Measure.measured cells in
+    let none = none_out look g.M.Measure.measured c.args.columns cells c.args.both.now seen c.args.rows many (sym c.find_out_of_both.ensures ∙ c.in_default.is) in
+    refused_rows look g.M.Measure.measured c.args.columns cells none.0 none.2 c.in-Err-conclude_certified.no_heights
+    (subst (λ n. IsRefused Rows (drawn_along Rows look n) n demands c.in-Err-conclude_certified.no_heights) many
+    (c.in-Err-conclude_certified.ensures demands (seen_high look g.M.Measure.measured c.args.columns cells c.args.both.now seen c.args.rows many)))
+
+pub returns-in-Ok-conclude_certified : goal.returns-in-Ok-conclude_certified
+returns-in-Ok-conclude_certified g c = λ cells many seen.
+    let look = g.S.Settings.look c.args.settings.now in
+    let demands = demands_of Rows look g.M.Measure.measured cells in
+    let high = c.in-Ok-conclude_certified.ensures demands (seen_high look g.M.Measure.measured c.args.columns cells c.args.both.now seen c.args.rows many) in
+    let wide = c.in-Ok.ensures (demands_of Columns look g.M.Measure.measured cells) seen.wide in
+    record {
+      sizes = record {
+        widths = wide.0;
+        heights = subst (λ n. AreSizes Rows (drawn_along Rows look n) n demands c.in-Ok-conclude_certified.heights.items) many high.0;
+      };
+      widths = wide.1;
+      heights = subst (λ n. IsWitness Rows (drawn_along Rows look n) n demands {Z = Global} (Ok c.in-Ok-conclude_certified.height_witness)) many high.1;
+    }

@@ -2,7 +2,7 @@ use Rattle.std.proofs.Common.{◌≡◌, length}
 use Rattle.std.specs.List.{AllZip}
 use Rattle.papergrid_text.specs.Records.{Gives}
 use Rattle.papergrid_axis.specs.Seen.{Holds}
-use Rattle.papergrid_layout.specs.Cells.{demands_of}
+use Rattle.papergrid_layout.specs.Cells.{demands_of, limit_along}
 use Rattle.papergrid_layout.specs.Shown.{Shows}
 use Rattle.papergrid_layout.proofs.walk.gather.Given as goal
 
@@ -13,4 +13,4 @@ invariant-loop-row g l =
     (l.count ≡ length l.yielded) ×
     Shows (g.S.Settings.look l.settings).shows l.walk l.count 0 ×
     ((cells : _) × AllZip (Gives g.R.Iter.IterColumns.IntoIterator.into_iter_gives g.R.Iter.IterColumns.IntoIter.Iterator.next_gives) l.yielded cells
-    × Holds l.seen (demands_of l.direction (g.S.Settings.look l.settings) g.M.Measure.measured cells))
+    × Holds (limit_along l.direction (g.R.Records.columns l.fn.records)) l.seen (demands_of l.direction (g.S.Settings.look l.settings) g.M.Measure.measured cells))

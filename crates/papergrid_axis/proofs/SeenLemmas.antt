@@ -1,0 +1,169 @@
+-- What is kept of the demands tells all that is asked of them.
+use Rattle.std.proofs.Common.{◌≡◌, ℕ, zero, suc, ◌+◌, ◌-◌, ◌<◌, ◌≤◌, ◌≢◌, max, Bool, true, false, ◌&&◌, ◌==◌, inl, inr, List, [], ◌∷◌, ◌++◌, length, get_or, filter, fold, refl, sym, subst, ap, ap₂, ◌∙◌, arith, eqb, eq-eqb, ne_eqb, eqb-true, ltb, lt-ltb, le-ltb, ltb-true}
+use Rattle.std.specs.Prelude.{All, Some, find, flat_map, if◌then◌else◌, nat_lt, not}
+use Rattle.std.specs.List.{list_any, range_with_len}
+use Rattle.std.proofs.lemmas.Bool.{and_from, and_parts, cases_Bool, cases_eq, cases_lt, false≢true, true≢false}
+use Rattle.std.proofs.lemmas.Grind.{same_number_lists}
+use Rattle.std.proofs.lemmas.List.Elements.{All-filter, All-head, All-tail}
+use Rattle.papergrid_axis.specs.declared.demand.Demand.{Demand}
+use Rattle.papergrid_axis.specs.declared.direction.Direction.{Direction}
+use Rattle.papergrid_axis.specs.declared.direction.Direction.TheVariants.{Columns, Rows}
+use Rattle.papergrid_axis.specs.Chosen.{exact_single}
+use Rattle.papergrid_axis.specs.Ranges.{IsInTable, end_of, first_out, place_of}
+use Rattle.papergrid_axis.specs.declared.seen.Seen.{Seen}
+use Rattle.papergrid_axis.specs.Seen.{IsSeen, first_greatest, is_single, kept_for, no_demand, others}
+use Rattle.papergrid_axis.specs.Sizes.{base_size, base_sizes, by_place, by_span, taken}
+use Rattle.papergrid_axis.proofs.Greatest.{get_or-base_sizes, length-base_sizes}
+
+-- ---- the first of greatest need
+
+-- what is kept stays where no cell needs more
+kept-stays : (i : ℕ) (kept : Demand) (ds : List Demand) → base_size ds i ≤ kept.need → fold (kept_for i) kept ds ≡ kept
+kept-stays i kept [] le = refl
+kept-stays i kept (d ∷ ds) le = elim (cases_Bool (eqb d.span 1 && eqb d.start i)) [
+  | inl t ↦
+      let le' : max d.need (base_size ds i) ≤ kept.need = rw t at le in
+      rw (t, le-ltb kept.need d.need (omega arith)) (kept-stays i kept ds (omega arith))
+  | inr f ↦
+      let le' : base_size ds i ≤ kept.need = rw f at le in
+      rw f (kept-stays i kept ds le')
+]
+
+-- one cell on, by what is kept then
+first_skip : (i : ℕ) (kept next d : Demand) (ds : List Demand) (m : ℕ) → kept_for i kept d ≡ next →
+    (find (λ d. d.span == 1 && d.start == i && d.need == m) ds ≡ Some (fold (kept_for i) next ds)) × ((fold (kept_for i) next ds).need ≡ m) →
+    (find (λ d. d.span == 1 && d.start == i && d.need == m) ds ≡ Some (fold (kept_for i) kept (d ∷ ds))) × ((fold (kept_for i) kept (d ∷ ds)).need ≡ m)
+first_skip i kept next d ds m step rest =
+    let same : fold (kept_for i) kept (d ∷ ds) ≡ fold (kept_for i) next ds = ap (λ k. fold (kept_for i) k ds) step in
+    (rest.0 ∙ ap Some (sym same), ap (λ (k : Demand). k.need) same ∙ rest.1)
+
+-- else the first cell of greatest need is kept
+kept-first : (i : ℕ) (kept : Demand) (ds : List Demand) (m : ℕ) → base_size ds i ≡ m → kept.need < m →
+    (find (λ d. d.span == 1 && d.start == i && d.need == m) ds ≡ Some (fold (kept_for i) kept ds)) × ((fold (kept_for i) kept ds).need ≡ m)
+kept-first i kept [] m e lt = absurd (omega arith)
+kept-first i kept (d ∷ ds) m e lt = elim (cases_Bool (eqb d.span 1 && eqb d.start i)) [
+  | inl t ↦
+      let e' : max d.need (base_size ds i) ≡ m = rw t at e in
+      elim (cases_lt d.need m) [
+        | inl less ↦
+            let ne : d.need ≢ m = omega arith in
+            let skip : find (λ d. d.span == 1 && d.start == i && d.need == m) (d ∷ ds) ≡ find (λ d. d.span == 1 && d.start == i && d.need == m) ds = rw (t, ne_eqb d.need m ne) refl in
+            elim (cases_lt kept.need d.need) [
+              | inl more ↦
+                  let step : kept_for i kept d ≡ d = rw (t, lt-ltb kept.need d.need more) refl in
+                  let rest = first_skip i kept d d ds m step (kept-first i d ds m (omega arith) less) in
+                  (skip ∙ rest.0, rest.1)
+              | inr no_more ↦
+                  let step : kept_for i kept d ≡ kept = rw (t, le-ltb kept.need d.need no_more) refl in
+                  let rest = first_skip i kept kept d ds m step (kept-first i kept ds m (omega arith) lt) in
+                  (skip ∙ rest.0, rest.1)
+            ]
+        | inr most ↦
+            let same : d.need ≡ m = omega arith in
+            let more : kept.need < d.need = omega arith in
+            let hit : find (λ d. d.span == 1 && d.start == i && d.need == m) (d ∷ ds) ≡ Some d = rw (t, eq-eqb d.need m same) refl in
+            let step : kept_for i kept d ≡ d = rw (t, lt-ltb kept.need d.need more) refl in
+            let all : fold (kept_for i) (kept_for i kept d) ds ≡ d = ap (λ k. fold (kept_for i) k ds) step ∙ kept-stays i d ds (omega arith) in
+            (hit ∙ ap Some (sym all), ap (λ (k : Demand). k.need) all ∙ same)
+      ]
+  | inr f ↦
+      let e' : base_size ds i ≡ m = rw f at e in
+      let skip : find (λ d. d.span == 1 && d.start == i && d.need == m) (d ∷ ds) ≡ find (λ d. d.span == 1 && d.start == i && d.need == m) ds = rw f refl in
+      let step : kept_for i kept d ≡ kept = rw f refl in
+      let rest = first_skip i kept kept d ds m step (kept-first i kept ds m e' lt) in
+      (skip ∙ rest.0, rest.1)
+]
+
+pub need-first_greatest : (i : ℕ) (ds : List Demand) → (first_greatest i ds).need ≡ base_size ds i
+need-first_greatest i ds = elim (cases_lt 0 (base_size ds i)) [
+  | inl some ↦ (kept-first i no_demand ds (base_size ds i) refl some).1
+  | inr none ↦ ap (λ (k : Demand). k.need) (kept-stays i no_demand ds none) ∙ (omega arith)
+]
+
+-- where number i has its base size and that is not 0, the cell is the first that needs it
+pub exact_single-first : (i : ℕ) (ds : List Demand) (sizes : List ℕ) → get_or sizes i 0 ≡ base_size ds i → get_or sizes i 0 ≢ 0 → exact_single ds sizes i ≡ Some (first_greatest i ds)
+exact_single-first i ds sizes base some =
+    let lt : 0 < get_or sizes i 0 = omega arith in
+    (kept-first i no_demand ds (get_or sizes i 0) (sym base) lt).0
+
+-- the base sizes are the needs of what is kept
+pub base-from_singles : (n limit : ℕ) (demands singles : List Demand) (sizes : List ℕ) → n ≤ limit → length sizes ≡ n →
+    ((i : ℕ) → i < limit → get_or singles i no_demand ≡ first_greatest i demands) →
+    ((k : ℕ) → k < length sizes → get_or sizes k 0 ≡ (get_or singles k no_demand).need) → sizes ≡ base_sizes n demands
+base-from_singles n limit demands singles sizes le many kept needs =
+    same_number_lists sizes (base_sizes n demands) (many ∙ sym (length-base_sizes n demands))
+    (λ k l. needs k l ∙ ap (λ (d : Demand). d.need) (kept k (omega arith)) ∙ need-first_greatest k demands ∙ sym (get_or-base_sizes n demands k (omega arith)))
+
+-- ---- the cells that are kept as they come
+
+-- a cell that covers one number alone, below the limit, does not reach out
+pub first_out-others : (n limit : ℕ) (ds : List Demand) → All (λ d. is_single limit d ≡ true → d.start < n) ds → first_out n (others limit ds) ≡ first_out n ds
+first_out-others n limit [] below = refl
+first_out-others n limit (d ∷ ds) below =
+    let rest = first_out-others n limit ds (All-tail (λ d. is_single limit d ≡ true → d.start < n) d ds below) in
+    elim (cases_Bool (is_single limit d)) [
+      | inl t ↦
+          let inside : d.start < n = All-head (λ d. is_single limit d ≡ true → d.start < n) d ds below t in
+          let one : d.span ≡ 1 = eqb-true d.span 1 (and_parts (eqb d.span 1) (ltb d.start limit) t).0 in
+          let within : d.start + d.span ≤ n = omega arith in
+          rw (t, le-ltb n (end_of d) within) rest
+      | inr f ↦ rw f (ap (λ r. if nat_lt n (end_of d) then Some (place_of d) else r) rest)
+    ]
+
+-- a test that a single cell fails finds the same cells among the others
+filter-others : (test : Demand → Bool) (limit : ℕ) (ds : List Demand) → ((d : Demand) → d.span ≡ 1 → test d ≡ false) → filter test (others limit ds) ≡ filter test ds
+filter-others test limit [] fails = refl
+filter-others test limit (d ∷ ds) fails =
+    let rest = filter-others test limit ds fails in
+    elim (cases_Bool (is_single limit d)) [
+      | inl t ↦
+          let one : d.span ≡ 1 = eqb-true d.span 1 (and_parts (eqb d.span 1) (ltb d.start limit) t).0 in
+          rw (t, fails d one) rest
+      | inr f ↦ elim (cases_Bool (test d)) [
+        | inl y ↦ rw (f, y) (ap (λ xs. d ∷ xs) rest)
+        | inr y ↦ rw (f, y) rest
+      ]
+    ]
+
+by_place-others : (limit : ℕ) (ds : List Demand) → by_place (others limit ds) ≡ by_place ds
+by_place-others limit ds = filter-others (λ d. nat_lt 1 d.span) limit ds (λ d one. le-ltb 1 d.span (omega arith))
+
+spans-others : (limit : ℕ) (ds : List Demand) (a m : ℕ) → 2 ≤ a →
+    flat_map (λ span. filter (λ d. d.span == span) (others limit ds)) (range_with_len a m) ≡ flat_map (λ span. filter (λ d. d.span == span) ds) (range_with_len a m)
+spans-others limit ds a zero two = refl
+spans-others limit ds a (suc m) two =
+    ap₂ (λ xs ys. xs ++ ys) (filter-others (λ d. d.span == a) limit ds (λ d one. let ne : d.span ≢ a = omega arith in ne_eqb d.span a ne))
+    (spans-others limit ds (a + 1) m (omega arith))
+
+pub taken-others : (direction : Direction) (n limit : ℕ) (ds : List Demand) → taken direction n (others limit ds) ≡ taken direction n ds
+taken-others Columns n limit ds = spans-others limit ds 2 (n - 1) (omega arith)
+taken-others Rows n limit ds = by_place-others limit ds
+
+pub table-others : (n limit : ℕ) (ds : List Demand) → All (IsInTable n) ds → All (IsInTable n) (others limit ds)
+table-others n limit ds table = All-filter (λ d. not (is_single limit d)) (IsInTable n) ds table
+
+-- ---- what is kept by number
+
+-- cells that need nothing stand for none
+pub get_or-padded : (ds : List Demand) (k : ℕ) → get_or (ds ++ no_demand ∷ []) k no_demand ≡ get_or ds k no_demand
+get_or-padded [] zero = refl
+get_or-padded [] (suc k) = refl
+get_or-padded (d ∷ ds) zero = refl
+get_or-padded (d ∷ ds) (suc k) = get_or-padded ds k
+
+-- ---- what is kept of a table where no need is large
+
+module _ (n : ℕ) (seen : Seen) (demands : List Demand) (is : IsSeen n seen demands) (small : seen.is_large ≡ false) where
+  pub base-seen : (sizes : List ℕ) → length sizes ≡ n → ((k : ℕ) → k < length sizes → get_or sizes k 0 ≡ (get_or seen.singles.items k no_demand).need) →
+      sizes ≡ base_sizes n demands
+  base-seen sizes many needs = base-from_singles n is.limit demands seen.singles.items sizes is.from_limit many (is.held.singles small) needs
+
+  pub taken-seen : (direction : Direction) → taken direction n seen.others.items ≡ taken direction n demands
+  taken-seen direction = ap (taken direction n) (is.held.exact small) ∙ taken-others direction n is.limit demands
+
+  pub table-seen : All (IsInTable n) demands → All (IsInTable n) seen.others.items
+  table-seen table = subst (All (IsInTable n)) (sym (is.held.exact small)) (table-others n is.limit demands table)
+
+-- a limit that is the number of columns (rows) tells which of the single cells are in the table
+pub below-own_limit : (n : ℕ) (ds : List Demand) → All (λ d. is_single n d ≡ true → d.start < n) ds
+below-own_limit n ds = λ k d l t. ltb-true (get_or ds k d).start n (and_parts (eqb (get_or ds k d).span 1) (ltb (get_or ds k d).start n) t).1
