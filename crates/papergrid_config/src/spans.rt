@@ -1,15 +1,17 @@
 //! Spans, and which cells they hide. Source: `config/spanned/mod.rs`.
 
-ghost use Rattle.std.specs.Prelude.{◌≡◌, ◌∷◌, [], ◌↔◌, ◌<◌, ◌≤◌, OnOk, OnErr, IfOk, IfSome, IsOk, IsTrue};
+ghost use Rattle.std.specs.Prelude.{◌≡◌, ◌∷◌, [], ◌↔◌, ◌<◌, ◌≤◌, All, OnOk, OnErr, IfOk, IfSome, IsOk, IsTrue};
 ghost use Rattle.std.specs.HashMap.{get as map_get};
 ghost use Rattle.std.specs.FinMap.{get as value_at};
 ghost use Rattle.papergrid_values.specs.declared.position.Position.{Position};
 ghost use Rattle.papergrid_maps.specs.Keys.{position_eq};
+ghost use Rattle.papergrid_maps.specs.SpanScan.{IsRising};
 ghost use Rattle.papergrid_maps.specs.Spans.{HasSpan, IsCoveredByBoth, IsCoveredByColumn, IsCoveredByRow, IsVisible, column_span, is_visible, row_span};
 ghost use Rattle.papergrid_config.specs.Told.{Appends};
 ghost use Rattle.papergrid_config.specs.declared.setting.Setting.{Setting};
 
 use crate::spanned::SpannedConfig;
+use papergrid_maps::Rising;
 use papergrid_values::Position;
 use std::alloc::AllocError;
 use std::collections::HashMap;
@@ -101,6 +103,15 @@ impl SpannedConfig {
         ensures test { result ≡ is_visible self.now.spans pos }
     {
         self.spans.is_visible(pos)
+    }
+
+    /// Whether all of the positions, of which the columns or the rows rise, are visible. Each span is
+    /// looked at once.
+    pub fn are_cells_visible(&self, rising: Rising, places: &[Position]) -> bool
+        requires { IsRising rising places.now }
+        ensures { IsTrue result ↔ All (λ p. IsTrue (is_visible self.now.spans p)) places.now }
+    {
+        self.spans.are_visible(rising, places)
     }
 
     /// Whether the position stands right of an anchor, in its row and its rectangle.

@@ -1,20 +1,22 @@
 -- The steps of a checker's walk, and what it concludes.
-use Rattle.std.proofs.Common.{◌≡◌, ℕ, ◌+◌, ◌<◌, ◌≤◌, Bool, true, false, inl, inr, List, [], ◌∷◌, ◌++◌, length, refl, ap, sym, ◌∙◌, arith, subst}
-use Rattle.std.specs.Prelude.{All, AllPairs, IsTrue, ◌↔◌, ◌≢◌}
-use Rattle.std.proofs.lemmas.Bool.{cases_Bool, false≢true}
+use Rattle.std.proofs.Common.{◌≡◌, ◌==◌, ◌&&◌, ℕ, ◌+◌, ◌<◌, ◌≤◌, Bool, true, false, ◌⊎◌, inl, inr, List, [], ◌∷◌, ◌++◌, length, count_by, get_or, refl, ap, sym, ◌∙◌, arith, subst}
+use Rattle.std.specs.Prelude.{All, Contains, IsTrue, ◌↔◌}
+use Rattle.std.proofs.lemmas.Bool.{and_parts, cases_Bool, eqb-true, false≢true, true≢false}
 use Rattle.std.proofs.lemmas.List.{append-nil, append_assoc}
+use Rattle.std.proofs.lemmas.List.Elements.{All-contains, All-map, All-weaker, filter_passes}
 use Rattle.papergrid_values.specs.declared.position.Position.{Position}
 use Rattle.papergrid_axis.specs.declared.checked.Checked.{Checked}
 use Rattle.papergrid_axis.specs.declared.demand.Demand.{Demand}
 use Rattle.papergrid_axis.specs.declared.direction.Direction.{Direction}
 use Rattle.papergrid_axis.specs.Answers.{IsAccepted}
 use Rattle.papergrid_axis.specs.Fits.{IsLeast}
-use Rattle.papergrid_axis.specs.Ranges.{demand_of, lines_to}
+use Rattle.papergrid_axis.specs.Ranges.{demand_of, lines_to, place_of}
 use Rattle.papergrid_axis.proofs.AcceptLemmas.{few_places}
-use Rattle.papergrid_layout.specs.Cells.{asked_by, demands_of, placed, placed_row, side}
+use Rattle.papergrid_axis.proofs.ClaimLemmas.{count_by-none, is_same}
+use Rattle.papergrid_layout.specs.Cells.{asked, asked_by, demands_of, placed, placed_row, side, visible_of}
 use Rattle.papergrid_layout.specs.Looks.{Look}
 use Rattle.papergrid_layout.specs.Answers.{count_along, drawn_along}
-use Rattle.papergrid_layout.specs.Witnesses.{ChecksBy, ChecksMore, IsChecked}
+use Rattle.papergrid_layout.specs.Witnesses.{AreShown, ChecksBy, ChecksMore, IsChecked}
 use Rattle.papergrid_layout.proofs.Steps.{asked_by-append, placed_from-more, placed_row-more}
 
 module _ (look : Look) (direction : Direction) (sizes : List ℕ) (places : List Position) where
@@ -101,18 +103,52 @@ checked-of look measure columns cells direction sizes places answer count same e
       (least-of direction look count (demands_of direction look measure cells) sizes places answer least);
 }
 
--- a list that is longer than the sizes is never that of a certificate
-pub long-of : {C : Type 0} (look : Look) (measure : C → ℕ × ℕ) (columns : ℕ) (cells : List (List C)) (direction : Direction) (sizes : List ℕ) (places : List Position) →
-    All (λ d. 1 ≤ d.span) (demands_of direction look measure cells) → length sizes < length places →
+-- the places of a certificate are those of visible cells
+shown_places : {C : Type 0} (look : Look) (measure : C → ℕ × ℕ) (cells : List (List C)) (direction : Direction) (line : ℕ → Bool) (n : ℕ) (sizes : List ℕ) (places : List Position) →
+    IsAccepted line n (demands_of direction look measure cells) sizes places → AreShown look places
+shown_places look measure cells direction line n sizes places accepted =
+    let demands = demands_of direction look measure cells in
+    let visible : All (λ d. IsTrue (look.shows (place_of d))) demands =
+    All-map (λ d. IsTrue (look.shows (place_of d))) (asked direction look measure) (visible_of look (placed cells)) (filter_passes (λ cell. look.shows cell.0) (placed cells)) in
+    subst (AreShown look) accepted.at_places
+    (All-map (λ p. IsTrue (look.shows p)) place_of accepted.cells
+    (All-weaker (Contains demands) (λ d. IsTrue (look.shows (place_of d))) (λ d m. All-contains (λ d. IsTrue (look.shows (place_of d))) demands d visible m) accepted.cells accepted.certificate.visible))
+
+-- a list that is longer than the sizes, or has a hidden cell, is never that of a certificate
+pub refused-of : {C : Type 0} (look : Look) (measure : C → ℕ × ℕ) (columns : ℕ) (cells : List (List C)) (direction : Direction) (sizes : List ℕ) (places : List Position) →
+    All (λ d. 1 ≤ d.span) (demands_of direction look measure cells) → (length sizes < length places) ⊎ (AreShown look places → ⊥) →
     IsChecked look measure columns cells direction sizes places false
-long-of look measure columns cells direction sizes places spans long = record {
-  exact = (
-    λ t. absurd (false≢true t),
-    λ accepted.
-        let few : length places ≤ count_along direction columns (length cells) =
-        few_places (drawn_along direction look (count_along direction columns (length cells))) (count_along direction columns (length cells)) (demands_of direction look measure cells) sizes places spans accepted in
-        let many : length sizes ≡ count_along direction columns (length cells) = accepted.fits.one_each in
-        absurd (omega (arith, few, many, long)),
-  );
-  least = λ t. absurd (false≢true t);
-}
+refused-of look measure columns cells direction sizes places spans reason =
+    let count = count_along direction columns (length cells) in
+    let demands = demands_of direction look measure cells in
+    record {
+      exact = (
+        λ t. absurd (false≢true t),
+        λ accepted. elim reason [
+          | inl long ↦
+              let few : length places ≤ count = few_places (drawn_along direction look count) count demands sizes places spans accepted in
+              let many : length sizes ≡ count = accepted.fits.one_each in
+              absurd (omega (arith, few, many, long))
+          | inr hidden ↦ absurd (hidden (shown_places look measure cells direction (drawn_along direction look count) count sizes places accepted))
+        ],
+      );
+      least = λ t. absurd (false≢true t);
+    }
+
+-- a place that is listed is one of the places
+pub listed_shown : (look : Look) (places : List Position) (place : Position) → AreShown look places → 0 < count_by (λ p. place.row == p.row && place.col == p.col) places → look.shows place ≡ true
+listed_shown look places place shown listed = elim (cases_Bool (look.shows place)) [
+  | inl t ↦ t
+  | inr f ↦
+      let other : (k : ℕ) (p : Position) → k < length places → is_same place (get_or places k p) ≡ false = λ k p l. elim (cases_Bool (is_same place (get_or places k p))) [
+        | inl same ↦ absurd (true≢false (sym (subst (λ q. look.shows q ≡ true) (sym (same_place place (get_or places k p) same)) (shown k p l)) ∙ f))
+        | inr apart ↦ apart
+      ] in
+      let none : count_by (is_same place) places ≡ 0 = count_by-none (is_same place) places other in
+      absurd (omega (arith, none, listed))
+]
+  where
+    same_place : (p q : Position) → is_same p q ≡ true → p ≡ q
+    same_place p q same =
+        let parts = and_parts (p.row == q.row) (p.col == q.col) same in
+        λ i. record { row = eqb-true p.row q.row parts.0 i; col = eqb-true p.col q.col parts.1 i }

@@ -1,7 +1,8 @@
 -- What witnesses and checkers say of the rows told.
-use Rattle.std.specs.Prelude.{◌↔◌, ◌++◌, ℕ, Bool, IsTrue, List, length, Option, Result, Ok, Err, Vec}
+use Rattle.std.specs.Prelude.{◌≡◌, ◌↔◌, ◌++◌, ℕ, All, Bool, true, IsTrue, List, length, Option, Result, Ok, Err, Vec}
 use Rattle.papergrid_values.specs.declared.position.Position.{Position}
 use Rattle.papergrid_axis.specs.declared.checked.Checked.{Checked}
+use Rattle.papergrid_axis.specs.declared.claim.Claim.{Claim}
 use Rattle.papergrid_axis.specs.declared.demand.Demand.{Demand}
 use Rattle.papergrid_axis.specs.declared.direction.Direction.{Direction}
 use Rattle.papergrid_axis.specs.declared.direction.Direction.TheVariants.{Columns, Rows}
@@ -38,6 +39,14 @@ ChecksBy look direction sizes places checked demands =
 abbrev pub ChecksMore : Look → Direction → List ℕ → List Position → Checked → Checked → List Demand → Type 0
 ChecksMore look direction sizes places old new further =
     (demands : List Demand) → ChecksBy look direction sizes places old demands → ChecksBy look direction sizes places new (demands ++ further)
+
+-- the cells at these places are visible
+abbrev pub AreShown : Look → List Position → Type 0
+AreShown look places = All (λ p. IsTrue (look.shows p)) places
+
+-- and the places of a claim that is said to be in order are. Only contracts of private functions and proofs speak of this
+abbrev pub IsShownClaim : Look → Claim → Type 0
+IsShownClaim look claim = claim.is_ordered ≡ true → AreShown look claim.places.now
 
 module _ {C : Type 0} (look : Look) (measure : C → ℕ × ℕ) (columns : ℕ) (cells : List (List C)) where
   -- exactly the widths and the heights, and what witnesses say along both directions

@@ -1,16 +1,16 @@
 //! The check that sizes along one direction are least, by a list of positions.
 
-ghost use Rattle.std.specs.Prelude.{◌≡◌, ◌+◌, ◌^◌, ◌<◌, ◌≤◌, ◌∷◌, [], ⊤, List, length};
+ghost use Rattle.std.specs.Prelude.{◌≡◌, ◌+◌, ◌^◌, ◌<◌, ◌≤◌, ◌⊎◌, ◌∷◌, [], ⊤, List, length};
 ghost use Rattle.papergrid_text.specs.Records.{Gives, WalkIsShort};
 ghost use Rattle.papergrid_axis.specs.Checks.{AreBounded, IsClaim};
 ghost use Rattle.papergrid_layout.specs.Cells.{asked_by, demands_of, placed_row, side};
-ghost use Rattle.papergrid_layout.specs.Witnesses.{ChecksBy, ChecksMore, IsChecked};
+ghost use Rattle.papergrid_layout.specs.Witnesses.{AreShown, ChecksBy, ChecksMore, IsChecked, IsShownClaim};
 
 use crate::measure::Measure;
 use crate::settings::Settings;
 use crate::sizes::{Along, count_of};
 use papergrid_axis::checked::{accepts, is_unchanged, visit, wide_need};
-use papergrid_axis::claim::are_in_order;
+use papergrid_axis::claim::{are_in_order, count_listed};
 use papergrid_axis::{Checked, Claim, Direction};
 use papergrid_text::{IntoRecords, Records};
 use papergrid_values::Position;
@@ -36,7 +36,20 @@ fn need_along<S: Settings>(
     wide_need(size, before, after)
 }
 
-/// What is kept of the cells met and of one more, if that is visible. Whether it is takes a look at
+/// Whether the cell at a position is visible. Where the list is in order this is known of the listed
+/// cells, and no span is looked at.
+fn is_shown<S: Settings>(settings: &S, claim: &Claim<'_>, pos: Position) -> bool
+    requires ordered { IsClaim ((S.look settings.now).span claim.now.direction) claim.now }
+    requires shown { IsShownClaim (S.look settings.now) claim.now }
+    ensures { result ≡ (S.look settings.now).shows pos }
+{
+    if claim.is_ordered && count_listed(claim, pos) > 0 {
+        return true;
+    }
+    settings.is_visible(pos)
+}
+
+/// What is kept of the cells met and of one more, if that is visible. Whether it is may take a look at
 /// the spans, so this is asked only of a cell that would change what is kept.
 fn check_cell<M: Measure<C>, C, S: Settings>(
     checked: Checked,
@@ -47,6 +60,7 @@ fn check_cell<M: Measure<C>, C, S: Settings>(
 ) -> Checked
     requires bounded { AreBounded claim.now.places.now checked }
     requires ordered { IsClaim ((S.look settings.now).span claim.now.direction) claim.now }
+    requires shown { IsShownClaim (S.look settings.now) claim.now }
     ensures bounded { AreBounded claim.now.places.now result }
     ensures checks { let look = S.look settings.now in
         ChecksMore look claim.now.direction claim.now.sizes.now claim.now.places.now checked result
@@ -62,7 +76,7 @@ fn check_cell<M: Measure<C>, C, S: Settings>(
     if is_unchanged(checked, visited) {
         return checked;
     }
-    if settings.is_visible(pos) {
+    if is_shown(settings, claim, pos) {
         visited
     } else {
         checked
@@ -83,6 +97,7 @@ where
     requires short { WalkIsShort W.into_iter_gives W.IntoIter.can_next W.IntoIter.remaining W.IntoIter.next_gives (λ _. ⊤) row }
     requires bounded { AreBounded claim.now.places.now before }
     requires ordered { IsClaim ((S.look settings.now).span claim.now.direction) claim.now }
+    requires shown { IsShownClaim (S.look settings.now) claim.now }
     ensures bounded { AreBounded claim.now.places.now result }
     ensures checks { let look = S.look settings.now in
         (cells : List W.Item) × Gives W.into_iter_gives W.IntoIter.next_gives row cells
@@ -113,6 +128,7 @@ where
     <<R as Records>::Iter as IntoRecords>::Cell: Drop,
     requires lawful { R.is_lawful records }
     requires ordered { IsClaim ((S.look settings.now).span claim.now.direction) claim.now }
+    requires shown { IsShownClaim (S.look settings.now) claim.now }
     ensures bounded { AreBounded claim.now.places.now result.0 }
     ensures checks { let look = S.look settings.now in
         (cells : List (List R.Iter.Cell)) × R.tells records cells
@@ -128,41 +144,35 @@ where
     (checked, count)
 }
 
-/// The check where no more positions are listed than there are sizes.
-fn check_listed<M, R: Records + Drop, S: Settings>(
+/// The check where it is known whether the ranges at the positions are in order.
+fn check_claim<M, R: Records + Drop, S: Settings>(
     records: R,
     settings: &S,
-    direction: Direction,
-    sizes: &[usize],
-    places: &[Position],
+    claim: &Claim<'_>,
 ) -> bool
 where
     M: Measure<<<R as Records>::Iter as IntoRecords>::Cell>,
     <<R as Records>::Iter as IntoRecords>::Cell: Drop,
-    requires { R.is_lawful records }
+    requires lawful { R.is_lawful records }
+    requires ordered { IsClaim ((S.look settings.now).span claim.now.direction) claim.now }
+    requires shown { IsShownClaim (S.look settings.now) claim.now }
     ensures { (cells : List (List R.Iter.Cell)) × R.tells records cells
-        × IsChecked (S.look settings.now) M.measured (R.columns records) cells direction sizes.now places.now result }
+        × IsChecked (S.look settings.now) M.measured (R.columns records) cells claim.now.direction claim.now.sizes.now claim.now.places.now result }
 {
     let columns = records.count_columns();
     let axis = Along {
         settings,
-        direction,
-        count: sizes.len(),
+        direction: claim.direction,
+        count: claim.sizes.len(),
     };
-    let claim = Claim {
-        direction,
-        sizes,
-        places,
-        is_ordered: are_in_order(direction, &axis, places),
-    };
-    let (checked, rows) = check_rows::<M, R, S>(records, settings, &claim);
-    let count = count_of(direction, columns, rows);
-    accepts(checked, &claim, &axis, count)
+    let (checked, rows) = check_rows::<M, R, S>(records, settings, claim);
+    let count = count_of(claim.direction, columns, rows);
+    accepts(checked, claim, &axis, count)
 }
 
-/// The check where more positions are listed than there are sizes: ranges that have no number in
-/// common are never so many. The list is not looked at; the records are walked as ever.
-fn check_long<M, R: Records + Drop, S: Settings>(
+/// The check where more positions are listed than there are sizes, since ranges that have no number
+/// in common are never so many, or where a listed cell is hidden. The records are walked as ever.
+fn refuse<M, R: Records + Drop, S: Settings>(
     records: R,
     settings: &S,
     direction: Direction,
@@ -173,7 +183,7 @@ where
     M: Measure<<<R as Records>::Iter as IntoRecords>::Cell>,
     <<R as Records>::Iter as IntoRecords>::Cell: Drop,
     requires lawful { R.is_lawful records }
-    requires long { length sizes.now < length places.now }
+    requires reason { (length sizes.now < length places.now) ⊎ (AreShown (S.look settings.now) places.now → ⊥) }
     ensures { (cells : List (List R.Iter.Cell)) × R.tells records cells
         × IsChecked (S.look settings.now) M.measured (R.columns records) cells direction sizes.now places.now result }
 {
@@ -206,8 +216,22 @@ where
         × IsChecked (S.look settings.now) M.measured (R.columns records) cells direction sizes.now places.now result }
 {
     if places.len() > sizes.len() {
-        check_long::<M, R, S>(records, settings, direction, sizes, places)
-    } else {
-        check_listed::<M, R, S>(records, settings, direction, sizes, places)
+        return refuse::<M, R, S>(records, settings, direction, sizes, places);
     }
+    let axis = Along {
+        settings,
+        direction,
+        count: sizes.len(),
+    };
+    let is_ordered = are_in_order(direction, &axis, places);
+    if is_ordered && !settings.are_visible(direction, places) {
+        return refuse::<M, R, S>(records, settings, direction, sizes, places);
+    }
+    let claim = Claim {
+        direction,
+        sizes,
+        places,
+        is_ordered,
+    };
+    check_claim::<M, R, S>(records, settings, &claim)
 }

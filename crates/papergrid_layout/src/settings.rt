@@ -1,6 +1,7 @@
 //! What a walk reads of a configuration.
 
-ghost use Rattle.std.specs.Prelude.{◌≡◌, ◌≤◌, IfOk};
+ghost use Rattle.std.specs.Prelude.{◌≡◌, ◌≤◌, ◌↔◌, All, AllPairs, IfOk, IsTrue};
+ghost use Rattle.papergrid_axis.specs.Checks.{AreRising};
 ghost use Rattle.papergrid_layout.specs.Looks.{Look, compact_look, size_after, size_before, spanned_look};
 ghost use Rattle.papergrid_layout.specs.Paddings.{AreCommon, paddings_at};
 ghost use Rattle.papergrid_layout.specs.Shown.{AreAnchorsOf};
@@ -8,6 +9,7 @@ ghost use Rattle.papergrid_sweep.specs.Hidden.{IsSorted};
 
 use papergrid_axis::Direction;
 use papergrid_config::{CompactConfig, SpannedConfig};
+use papergrid_maps::Rising;
 use papergrid_sweep::{Anchor, anchors_of};
 use papergrid_values::{Indent, Position, Sides};
 use std::alloc::{AllocError, Global};
@@ -29,6 +31,12 @@ pub trait Settings {
     /// Whether the cell at a position is visible.
     fn is_visible(&self, pos: Position) -> bool
         ensures { result ≡ (look self.now).shows pos };
+
+    /// Whether the cells at all of these positions are visible, of which the numbers along a direction
+    /// rise.
+    fn are_visible(&self, direction: Direction, places: &[Position]) -> bool
+        requires { AllPairs (AreRising direction) places.now }
+        ensures { IsTrue result ↔ All (λ pos. IsTrue ((look self.now).shows pos)) places.now };
 
     /// What hides cells: the anchors of all spans, by row and then by column.
     fn anchors(&self, alloc: Global) -> Result<Vec<Anchor>, AllocError>
@@ -101,6 +109,14 @@ impl Settings for SpannedConfig {
         self.is_cell_visible(pos)
     }
 
+    // Each span is looked at once.
+    fn are_visible(&self, direction: Direction, places: &[Position]) -> bool {
+        match direction {
+            Direction::Columns => self.are_cells_visible(Rising::Columns, places),
+            Direction::Rows => self.are_cells_visible(Rising::Rows, places),
+        }
+    }
+
     fn anchors(&self, alloc: Global) -> Result<Vec<Anchor>, AllocError> {
         let columns = self.get_column_spans()?;
         let rows = self.get_row_spans()?;
@@ -149,6 +165,11 @@ impl Settings for CompactConfig {
     ghost look = { compact_look };
 
     fn is_visible(&self, _pos: Position) -> bool {
+        let _config = self;
+        true
+    }
+
+    fn are_visible(&self, _direction: Direction, _places: &[Position]) -> bool {
         let _config = self;
         true
     }

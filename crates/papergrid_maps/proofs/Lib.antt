@@ -4,6 +4,7 @@ pub mod Applied
 pub mod BorderEqual
 pub mod BorderFound
 pub mod BorderTold
+pub mod CoverLemmas
 pub mod EqualLemmas
 pub mod IntoMap
 pub mod KeyLemmas

@@ -33,14 +33,14 @@ not_true : (b : Bool) → not b ≡ true → b ≡ true → ⊥
 not_true true h e = false≢true h
 not_true false h e = false≢true e
 
-apart_by_test : (p q : Position) → p ≢ q → not (position_eq p q) ≡ true
+pub apart_by_test : (p q : Position) → p ≢ q → not (position_eq p q) ≡ true
 apart_by_test p q apart =
     elim (position_eq p q) as (λ b. position_eq p q ≡ b → not b ≡ true) [
       | true ↦ λ e. absurd (apart (exact_position_eq p q e))
       | false ↦ λ e. refl
     ] refl
 
-apart_from_test : (p q : Position) → not (position_eq p q) ≡ true → p ≢ q
+pub apart_from_test : (p q : Position) → not (position_eq p q) ≡ true → p ≢ q
 apart_from_test p q h e = not_true (position_eq p q) h (subst (λ x. position_eq p x ≡ true) e (position_equiv.refl p))
 
 any_append : {A : Type 0} (test : A → Bool) (xs ys : List A) → list_any test xs ≡ true → list_any test (xs ++ ys) ≡ true

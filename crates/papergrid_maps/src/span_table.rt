@@ -1,14 +1,15 @@
 //! Spans by position, and what they hide. Source: `config/spanned/mod.rs`.
 
-ghost use Rattle.std.specs.Prelude.{◌≡◌, ◌∷◌, [], ◌<◌, ◌≤◌, Some, None, OnOk, OnErr, IfOk, IfSome, IsOk, IsTrue, ◌↔◌};
+ghost use Rattle.std.specs.Prelude.{◌≡◌, ◌∷◌, [], ◌<◌, ◌≤◌, All, Some, None, OnOk, OnErr, IfOk, IfSome, IsOk, IsTrue, ◌↔◌};
 ghost use Rattle.std.specs.HashMap.{IsUnique, IsUnchanged, get as map_get};
 ghost use Rattle.std.specs.List.{list_any};
 ghost use Rattle.std.specs.FinMap.{get as value_at};
 ghost use Rattle.papergrid_values.specs.declared.position.Position.{Position};
 ghost use Rattle.papergrid_maps.specs.Keys.{position_eq};
 ghost use Rattle.papergrid_maps.specs.Spans.{IsTold, Appends, HasSpan, IsVisible, IsCoveredByColumn, IsCoveredByRow, IsCoveredByBoth, SetSpan, RemoveSpans, Columns, Rows, column_span, row_span, is_visible};
-ghost use Rattle.papergrid_maps.specs.SpanScan.{AreFromTwo, reaches_right, reaches_below, reaches_into, span_set};
+ghost use Rattle.papergrid_maps.specs.SpanScan.{AreFromTwo, IsRising, reaches_right, reaches_below, reaches_into, span_set};
 
+use crate::covering::{Rising, columns_cover, rows_cover};
 use crate::hashed::{look_up, take, write};
 use papergrid_values::Position;
 use std::alloc::{AllocError, Global};
@@ -162,6 +163,18 @@ impl SpanTable {
             return false;
         }
         !self.covered_by_both(pos)
+    }
+
+    /// Whether all of the positions, of which the columns or the rows rise, are visible. Each span is
+    /// looked at once, with those of the positions alone that its rectangle can have.
+    pub fn are_visible(&self, rising: Rising, places: &[Position]) -> bool
+        requires { IsRising rising places.now }
+        ensures { IsTrue result ↔ All (λ p. IsTrue (is_visible self.now p)) places.now }
+    {
+        if columns_cover(&self.columns, &self.rows, rising, places) {
+            return false;
+        }
+        !rows_cover(&self.columns, &self.rows, rising, places)
     }
 }
 

@@ -3,9 +3,9 @@
 mod colors;
 mod compact;
 
-ghost use Rattle.std.specs.Prelude.{◌≡◌};
+ghost use Rattle.std.specs.Prelude.{◌≡◌, ◌<◌};
 
-use crate::{BorderTable, EntityMap, MapCall, OffsetTable, SpanTable, Stopped};
+use crate::{BorderTable, EntityMap, MapCall, OffsetTable, Rising, SpanTable, Stopped};
 use papergrid_values::{Border, Borders, Entity, HorizontalLine, Offset, Position, VerticalLine};
 use std::alloc::{AllocError, Global};
 use std::process::Abort;
@@ -170,6 +170,32 @@ fn rectangle_of_both_spans(rt: HostRuntime) -> Result<(), Fail> {
     }
     assert!(rt; spans.covered_by_row(at(1, 0)) && !spans.covered_by_row(at(1, 1)));
     assert!(rt; spans.covered_by_both(at(1, 1)) && !spans.covered_by_both(at(1, 0)));
+    Ok(())
+}
+
+// Whether both positions are visible.
+fn sees_both(spans: &SpanTable, rising: Rising, first: Position, second: Position) -> bool
+    requires row { first.row < second.row }
+    requires col { first.col < second.col }
+{
+    spans.are_visible(rising, &[first, second])
+}
+
+// By the column span, by the row span, by both, and by one without end.
+#[test]
+fn listed_positions(rt: HostRuntime) -> Result<(), Fail> {
+    let mut spans = SpanTable::new(rt.alloc());
+    spans.set_column(at(0, 0), 3)?;
+    spans.set_row(at(0, 0), 3)?;
+    spans.set_row(at(5, 4), usize::MAX)?;
+    for rising in [Rising::Columns, Rising::Rows] {
+        assert!(rt; sees_both(&spans, rising, at(0, 0), at(4, 4)));
+        assert!(rt; sees_both(&spans, rising, at(3, 2), at(5, 4)));
+        assert!(rt; !sees_both(&spans, rising, at(0, 2), at(5, 4)));
+        assert!(rt; !sees_both(&spans, rising, at(2, 0), at(5, 4)));
+        assert!(rt; !sees_both(&spans, rising, at(1, 2), at(5, 4)));
+        assert!(rt; !sees_both(&spans, rising, at(0, 3), at(usize::MAX, 4)));
+    }
     Ok(())
 }
 

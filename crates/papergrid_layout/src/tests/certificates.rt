@@ -16,6 +16,14 @@ const EQUAL: Table = Table {
     ..SMALL
 };
 
+const SQUARE: Table = Table {
+    columns: 3,
+    rows: &[&["a", "b", "c"], &["d", "e", "f"], &["g", "h", "i"]],
+    column_spans: &[(0, 0, 2)],
+    row_spans: &[(0, 0, 2)],
+    ..SMALL
+};
+
 const EMPTY: Table = Table {
     columns: 0,
     rows: &[],
@@ -114,6 +122,24 @@ fn list_in_any_order(rt: HostRuntime) {
     assert!(rt; checks_heights(alloc, EVEN, &[3, 3, 1], &[at(2, 0), at(0, 0)], true));
     let twice = [at(2, 0), at(0, 0), at(0, 0)];
     assert!(rt; checks_heights(alloc, EVEN, &[3, 3, 1], &twice, false));
+}
+
+/// Hidden cells that would add up to the sizes, as visible ones of their column or row do.
+#[test]
+fn hidden_cells_listed(rt: HostRuntime) {
+    let alloc = rt.alloc();
+    let low = [at(2, 0), at(2, 1), at(0, 2)];
+    assert!(rt; checks_widths(alloc, SQUARE, &[1, 1, 1], &low, true));
+    let inside = [at(2, 0), at(1, 1), at(0, 2)];
+    assert!(rt; checks_widths(alloc, SQUARE, &[1, 1, 1], &inside, false));
+    let right = [at(0, 2), at(1, 2), at(2, 0)];
+    assert!(rt; checks_heights(alloc, SQUARE, &[1, 1, 1], &right, true));
+    let below = [at(0, 2), at(1, 0), at(2, 0)];
+    assert!(rt; checks_heights(alloc, SQUARE, &[1, 1, 1], &below, false));
+    let beside = [at(0, 1), at(1, 2), at(2, 0)];
+    assert!(rt; checks_heights(alloc, SQUARE, &[1, 1, 1], &beside, false));
+    let unordered = [at(1, 2), at(0, 1), at(2, 0)];
+    assert!(rt; checks_heights(alloc, SQUARE, &[1, 1, 1], &unordered, false));
 }
 
 /// A list of a million positions, none of them a cell's.

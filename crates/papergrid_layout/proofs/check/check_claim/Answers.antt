@@ -3,18 +3,19 @@ use Rattle.papergrid_layout.specs.Answers.{count_along}
 use Rattle.papergrid_layout.specs.Cells.{demands_of}
 use Rattle.papergrid_layout.proofs.CheckSteps.{checked-of}
 use Rattle.papergrid_layout.proofs.Distinct.{AreDistinct-demands}
-use Rattle.papergrid_layout.proofs.check.check_listed.Goals as goal
+use Rattle.papergrid_layout.proofs.check.check_claim.Goals as goal
 
 pub returns : goal.returns
 returns g c =
+    let claim = c.args.claim.now in
     let look = g.S.Settings.look c.args.settings.now in
     let measured = g.M.Measure.measured in
     let found = c.check_rows-rows.ensures.checks in
-    let demands = demands_of c.args.direction look measured found.0 in
-    let distinct = AreDistinct-demands c.args.direction look measured found.0 in
-    let same = c.count_of-count.ensures ∙ (λ k. count_along c.args.direction (c.count_columns-columns.ensures k) (found.3 k)) in (
+    let demands = demands_of claim.direction look measured found.0 in
+    let distinct = AreDistinct-demands claim.direction look measured found.0 in
+    let same = c.count_of-count.ensures ∙ (λ k. count_along claim.direction (c.count_columns-columns.ensures k) (found.3 k)) in (
       found.0,
       found.1,
-      checked-of look measured _ found.0 c.args.direction c.args.sizes.now c.args.places.now c.accepts.result c.count_of-count.result same
+      checked-of look measured _ found.0 claim.direction claim.sizes.now claim.places.now c.accepts.result c.count_of-count.result same
           (c.accepts.ensures.exact demands distinct found.2) (c.accepts.ensures.least demands distinct found.2),
     )

@@ -1,8 +1,0 @@
-use Rattle.papergrid_layout.proofs.CheckSteps.{long-of}
-use Rattle.papergrid_layout.proofs.check.check_long.Goals as goal
-
-pub returns : goal.returns
-returns g c =
-    let look = g.S.Settings.look c.args.settings.now in
-    let found = c.check_rows.ensures.checks in
-    (found.0, found.1, long-of look g.M.Measure.measured _ found.0 c.args.direction c.args.sizes.now c.args.places.now found.2.spans c.requires.long)
