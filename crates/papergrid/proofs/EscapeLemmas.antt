@@ -1,13 +1,15 @@
 -- Texts with escapes, cut at their first backslash.
-use Rattle.std.proofs.Common.{◌≡◌, ◌<◌, ◌+◌, ◌++◌, ◌∷◌, [], ℕ, zero, suc, List, Bool, true, false, not, cond, Option, Some, None, option_map, length, take, drop, nat_eq, refl, sym, ap, ◌∙◌, append_assoc, arith}
+use Rattle.std.proofs.Common.{◌≡◌, ◌<◌, ◌+◌, ◌-◌, ◌++◌, ◌∷◌, [], ℕ, zero, suc, List, Bool, true, false, not, cond, Option, Some, None, option_map, length, take, drop, length-take, nat_eq, refl, sym, ap, ◌∙◌, append_assoc, arith}
 use Rattle.std.specs.List.{position_or_len, before_first, after_first}
 use Rattle.std.proofs.Math.Utf8.{encode}
 use Rattle.std.proofs.lemmas.Option.{same_Some}
 use Rattle.std.proofs.lemmas.Str.{encode_ascii}
 use borrow.Author.Tests.{eqb-true}
-use Rattle.papergrid.specs.Texts.{unescaped, escape_of, escape_at, put_first}
+use Rattle.papergrid_text.proofs.Places.{first_in_front, no_more_than}
+use Rattle.papergrid.specs.Grammar.{without_cr}
+use Rattle.papergrid.specs.Texts.{IsFirstEscape, unescaped, escape_of, escape_at, put_first}
 
-abbrev is_backslash : ℕ → Bool
+abbrev pub is_backslash : ℕ → Bool
 is_backslash b = nat_eq b 92
 
 -- a byte that begins no escape stays
@@ -82,6 +84,18 @@ one_of_three false false false bs left m h = cc
 escape_at-ascii : (after left : List ℕ) (meant : ℕ) → escape_at after ≡ Some (meant, left) → meant < 128
 escape_at-ascii [] left meant h = cc
 escape_at-ascii (c ∷ bs) left meant h = one_of_three (nat_eq c 110) (nat_eq c 116) (nat_eq c 92) bs left meant h
+
+-- a CR less leaves the first backslash where it is
+at_front : (v : Bool) (line shown : List ℕ) (k at : ℕ) → shown ≡ cond v (take k line) line → at ≡ position_or_len is_backslash line → IsFirstEscape shown at
+at_front true line shown k at front first =
+    let cut = first_in_front is_backslash line k in
+    let long = length-take k line in
+    let bound = no_more_than line 92 in
+    rw front (omega arith)
+at_front false line shown k at front first = let bound = no_more_than line 92 in rw front (omega arith)
+
+pub escape_without_cr : (line shown : List ℕ) (at : ℕ) → shown ≡ without_cr line → at ≡ position_or_len is_backslash line → IsFirstEscape shown at
+escape_without_cr line shown at front first = at_front _ line shown (length line - 1) at front first
 
 -- ---- a pass over the escapes: the text so far, and what is meant by the rest
 

@@ -9,6 +9,7 @@ mod LineLemmas
 mod ListedLemmas
 mod LookLemmas
 mod RangeLemmas
+mod MarkLemmas
 mod ReadLemmas
 mod SpellLemmas
 mod TellsLemmas

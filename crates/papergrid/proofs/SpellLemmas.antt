@@ -45,7 +45,7 @@ behind : (c : ℕ) (word rest : List ℕ) → drop (length word + 1) (word ++ c 
 behind c [] rest = refl
 behind c (b ∷ word) rest = let next : suc (length word) + 1 ≡ suc (length word + 1) = omega arith in rw next (behind c word rest)
 
-parted_after : (c : ℕ) (word rest : List ℕ) → lacks c word → parted_at c (word ++ c ∷ rest) ≡ Some (word, rest)
+pub parted_after : (c : ℕ) (word rest : List ℕ) → lacks c word → parted_at c (word ++ c ∷ rest) ≡ Some (word, rest)
 parted_after c word rest none =
     let at : position_or_len (λ b. nat_eq b c) (word ++ c ∷ rest) ≡ length word = place_after c word rest none in
     let below : nat_lt (length word) (length (word ++ c ∷ rest)) ≡ true = lt-ltb _ _ (omega (arith, length-append word (c ∷ rest))) in

@@ -1,5 +1,6 @@
 -- The texts of cells as a script spells them. A text is the list of its bytes.
-use Rattle.std.specs.Prelude.{ℕ, List, [], ◌∷◌, Option, Some, None, option_map, ◌==◌, if◌then◌else◌}
+use Rattle.std.specs.Prelude.{◌≡◌, ℕ, List, [], ◌∷◌, length, min, Option, Some, None, option_map, ◌==◌, if◌then◌else◌}
+use Rattle.std.specs.List.{position_or_len}
 
 abbrev pub newline : ℕ
 newline = 10
@@ -26,3 +27,7 @@ unescaped [] = Some []
 unescaped (b ∷ []) = if b == backslash then None else Some (b ∷ [])
 unescaped (b ∷ c ∷ bs) =
     if b == backslash then put_first (escape_of c) (unescaped bs) else option_map (λ rest. b ∷ rest) (unescaped (c ∷ bs))
+
+-- the first backslash stands there, or there is none before the end
+abbrev pub IsFirstEscape : List ℕ → ℕ → Type 0
+IsFirstEscape bytes at = position_or_len (λ b. b == backslash) bytes ≡ min at (length bytes)

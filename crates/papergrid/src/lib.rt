@@ -2,6 +2,7 @@
 //! tells such a table.
 #![tactic(auto)]
 
+mod cut;
 mod estimate;
 pub mod laws;
 mod number;

@@ -9,9 +9,10 @@ ghost use Rattle.papergrid.specs.Grammar.{Row, Cell, without_cr};
 ghost use Rattle.papergrid.specs.Scripts.{empty_table, table_of, with_line};
 ghost use Rattle.papergrid.specs.Seen.{GivesTable, Takes, table_seen};
 
+use crate::cut::cut_marked_line;
 use crate::script_line::take_line;
 use papergrid_config::Setting;
-use papergrid_text::string::{count_lines, get_lines};
+use papergrid_text::string::count_lines;
 use std::alloc::{AllocError, AllocFailed, Global};
 use std::borrow::CowStr;
 use std::str::from_utf8;
@@ -84,11 +85,14 @@ fn script_of_text<'a>(alloc: Global, input: &'a str) -> Result<Script<'a>, Scrip
 {
     let mut script = empty_script(alloc);
     let mut number: usize = 0;
-    for line in get_lines(input) {
+    let mut rest = Some(input);
+    while let Some(text) = rest {
+        let (line, escape, after) = cut_marked_line(text, b'\\');
         number += 1;
-        if !take_line(alloc, &mut script, without_cr(line))? {
+        if !take_line(alloc, &mut script, without_cr(line), escape)? {
             return Err(ScriptError::Bad(number));
         }
+        rest = after;
     }
     Ok(script)
 }

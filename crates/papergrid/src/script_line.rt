@@ -1,10 +1,11 @@
 //! The lines of a script, one at a time.
 
-ghost use Rattle.std.specs.Prelude.{◌≡◌, IfOk, option_map};
-ghost use Rattle.papergrid.specs.Grammar.{Cell, Set, keyword_says, parted_at, said, setting_of, space, text_says};
+ghost use Rattle.std.specs.Prelude.{◌≡◌, ◌≢◌, IfOk, codes, option_map};
+ghost use Rattle.papergrid.specs.Grammar.{Cell, Set, keyword_says, said, setting_of, text_says};
 ghost use Rattle.papergrid.specs.Seen.{Takes, table_seen};
-ghost use Rattle.papergrid.specs.Texts.{unescaped};
+ghost use Rattle.papergrid.specs.Texts.{IsFirstEscape, unescaped};
 
+use crate::cut::split_at_byte;
 use crate::number::number;
 use crate::script::Script;
 use crate::setting_line::line_setting;
@@ -13,21 +14,34 @@ use std::alloc::{AllocError, Global};
 use std::borrow::CowStr;
 
 /// Takes what one more line says into the script; false, and the script as it was, where the line is a bad one.
+/// The first backslash of the line stands at `escape`, or there is none before its end.
 pub fn take_line<'a>(
     alloc: Global,
     script: &mut Script<'a>,
     line: &'a str,
+    escape: usize,
 ) -> Result<bool, AllocError>
+    requires { IsFirstEscape line.now escape }
     ensures { IfOk result (λ fits. Takes (table_seen script.old) (said line.now) fits (table_seen script.new)) }
 {
-    take_text(alloc, script, line)
+    take_text(alloc, script, line, escape)
 }
 
 /// What `take_line` does, where it is known that the line is text.
 #[tactic(auto, unfolding(crate::specs::Grammar::text_says))]
-fn take_text<'a>(alloc: Global, script: &mut Script<'a>, line: &'a str) -> Result<bool, AllocError>
+fn take_text<'a>(
+    alloc: Global,
+    script: &mut Script<'a>,
+    line: &'a str,
+    escape: usize,
+) -> Result<bool, AllocError>
+    requires { IsFirstEscape line.now escape }
     ensures { IfOk result (λ fits. Takes (table_seen script.old) (text_says line.now) fits (table_seen script.new)) }
 {
+    // Most lines are cells.
+    if let Some(spelled) = line.strip_prefix("cell ") {
+        return take_cell(alloc, script, spelled, escape - 5);
+    }
     match line {
         "" => Ok(true),
         "row" => {
@@ -35,36 +49,20 @@ fn take_text<'a>(alloc: Global, script: &mut Script<'a>, line: &'a str) -> Resul
             Ok(true)
         }
         "cell" => script.add_cell(CowStr::Borrowed("")),
-        _ => match keyword_and_rest(line) {
-            Some((keyword, rest)) => take_keyword(alloc, script, keyword, rest),
+        _ => match split_at_byte(line, b' ') {
+            Some((keyword, rest)) => take_keyword(script, keyword, rest),
             None => Ok(false),
         },
     }
 }
 
-/// What stands before the first space, and what stands after it.
-fn keyword_and_rest(text: &str) -> Option<(&str, &str)>
-    ensures { option_map (λ parts. (parts.0.now, parts.1.now)) result ≡ parted_at space text.now }
-{
-    // Most lines are cells, where no space is searched for.
-    if let Some(("cell ", rest)) = text.split_at_checked(5) {
-        return Some(("cell", rest));
-    }
-    text.split_once(' ')
-}
-
 /// Takes what a keyword says, and what stands after it and a space; false where that is nothing.
 #[tactic(auto, unfolding(crate::specs::Grammar::keyword_says))]
-fn take_keyword<'a>(
-    alloc: Global,
-    script: &mut Script<'a>,
-    keyword: &str,
-    rest: &'a str,
-) -> Result<bool, AllocError>
+fn take_keyword(script: &mut Script<'_>, keyword: &str, rest: &str) -> Result<bool, AllocError>
+    requires no_cell { keyword.now ≢ codes "cell" }
     ensures { IfOk result (λ fits. Takes (table_seen script.old) (keyword_says keyword.now rest.now) fits (table_seen script.new)) }
 {
     match keyword {
-        "cell" => take_cell(alloc, script, rest),
         "columns" => match number(rest) {
             Some(count) => {
                 script.columns = count;
@@ -81,10 +79,12 @@ fn take_cell<'a>(
     alloc: Global,
     script: &mut Script<'a>,
     spelled: &'a str,
+    escape: usize,
 ) -> Result<bool, AllocError>
+    requires { IsFirstEscape spelled.now escape }
     ensures { IfOk result (λ fits. Takes (table_seen script.old) (option_map Cell (unescaped spelled.now)) fits (table_seen script.new)) }
 {
-    match unescaped(alloc, spelled)? {
+    match unescaped(alloc, spelled, escape)? {
         Some(text) => script.add_cell(text),
         None => Ok(false),
     }

@@ -2,21 +2,27 @@
 
 ghost use Rattle.std.specs.Prelude.{◌≡◌, ◌++◌, ◌∷◌, IfOk, IfSome, IsUtf8, option_map, string_bytes};
 ghost use Rattle.std.specs.Cow.{cow_str_bytes};
-ghost use Rattle.papergrid.specs.Texts.{backslash, escape_at, unescaped};
+ghost use Rattle.papergrid.specs.Texts.{IsFirstEscape, backslash, escape_at, unescaped};
 
+use crate::cut::{split_around, split_at_byte};
 use std::alloc::{AllocError, Global};
 use std::borrow::CowStr;
 
-/// The text that is meant, where a backslash begins an escape; borrowed where there is none.
-pub fn unescaped<'a>(alloc: Global, spelled: &'a str) -> Result<Option<CowStr<'a>>, AllocError>
+/// The text that is meant, where a backslash begins an escape; borrowed where there is none. The first
+/// backslash stands at `escape`, or there is none before the end.
+pub fn unescaped<'a>(
+    alloc: Global,
+    spelled: &'a str,
+    escape: usize,
+) -> Result<Option<CowStr<'a>>, AllocError>
+    requires { IsFirstEscape spelled.now escape }
     ensures { IfOk result (λ found. option_map cow_str_bytes found ≡ unescaped spelled.now) }
 {
-    match spelled.split_once('\\') {
-        None => Ok(Some(CowStr::Borrowed(spelled))),
-        Some((plain, escape)) => {
-            Ok(with_escapes(alloc, plain, escape)?.map(|text| CowStr::Owned(text)))
-        }
+    if spelled.len() <= escape {
+        return Ok(Some(CowStr::Borrowed(spelled)));
     }
+    let (plain, escape) = split_around(spelled, escape);
+    Ok(with_escapes(alloc, plain, escape)?.map(|text| CowStr::Owned(text)))
 }
 
 /// The text that is meant, in memory of its own: by plain text, and what stands after a first backslash.
@@ -28,7 +34,7 @@ fn with_escapes(alloc: Global, plain: &str, escape: &str) -> Result<Option<Strin
     let mut after = escape;
     while let Some((meant, left)) = escaped(after) {
         text.push(meant)?;
-        match left.split_once('\\') {
+        match split_at_byte(left, b'\\') {
             None => {
                 text.push_str(left)?;
                 return Ok(Some(text));

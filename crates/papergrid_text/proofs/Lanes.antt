@@ -10,12 +10,18 @@ use lib.Count.{count_trailing_zeros}
 use lib.Lanes.{Each1, chunk, mask_l, top}
 
 -- tests that agree at bytes
-same_front : (p q : ℕ → Bool) (bytes : List ℕ) → agree_below p q 256 ≡ true → Each1 (λ x. x < 256) bytes → prefix_len p bytes ≡ prefix_len q bytes
+abbrev Agree : (ℕ → Bool) → (ℕ → Bool) → Type 0
+Agree p q = (b : ℕ) → b < 256 → p b ≡ q b
+
+pub by_table : (p q : ℕ → Bool) → agree_below p q 256 ≡ true → Agree p q
+by_table p q agree b below = agree_below_at p q 256 b agree below
+
+same_front : (p q : ℕ → Bool) (bytes : List ℕ) → Agree p q → Each1 (λ x. x < 256) bytes → prefix_len p bytes ≡ prefix_len q bytes
 same_front p q [] agree each = refl
-same_front p q (b ∷ bytes) agree each = ap₂ (λ v n. cond v (1 + n) 0) (agree_below_at p q 256 b agree each.0) (same_front p q bytes agree each.1)
+same_front p q (b ∷ bytes) agree each = ap₂ (λ v n. cond v (1 + n) 0) (agree b each.0) (same_front p q bytes agree each.1)
 
 module _ (q : ℕ → Bool) (d : List ℕ) (i n : ℕ) (z : List ℕ) (room : i + n ≤ length d) (few : n ≤ 64) (fits : (k : ℕ) → Fits w8 (get_or d k 0))
-    (f : ℕ → ℕ) (lanes : z ≡ map f (chunk i n d)) (agree : agree_below (λ x. not (top 7 (f x))) q 256 ≡ true) where
+    (f : ℕ → ℕ) (lanes : z ≡ map f (chunk i n d)) (agree : Agree (λ x. not (top 7 (f x))) q) where
   abbrev stops : ℕ → Bool
   stops x = top 7 (f x)
 

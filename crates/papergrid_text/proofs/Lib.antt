@@ -3,6 +3,7 @@ pub mod Compared
 pub mod KeptClones
 pub mod Lanes
 pub mod Nth
+pub mod Places
 pub mod Printable
 pub mod Ranges
 pub mod RowSteps

@@ -11,6 +11,7 @@ mod kept;
 pub mod laws;
 pub mod peekable;
 pub mod records;
+pub mod search;
 pub mod string;
 #[cfg(test)]
 mod tests;

@@ -1,10 +1,10 @@
 //! Texts: their lines, their widths and their tabs. Source: `util/string.rs`.
 
-ghost use Rattle.std.specs.Prelude.{◌≡◌, ◌<◌, ◌≤◌, ◌==◌, ◌+◌, ◌++◌, ◌∷◌, ℕ, List, Option, count_by, length, replicate, string_bytes, false, IfOk, IfSome, IsUtf8};
+ghost use Rattle.std.specs.Prelude.{◌≡◌, ◌<◌, ◌≤◌, ◌==◌, ◌+◌, ◌++◌, ◌∷◌, ℕ, List, Option, count_by, length, replicate, string_bytes, take, false, IfOk, IfSome, IsUtf8};
 ghost use Rattle.std.specs.Cow.{cow_str_bytes, IsOwnedStr};
 ghost use Rattle.std.specs.Int.{is_in_range};
 ghost use Rattle.std.specs.Iterator.{YieldsFirstRef, item_count};
-ghost use Rattle.std.specs.List.{list_all, prefix_len};
+ghost use Rattle.std.specs.List.{list_all, prefix_len, position_or_len};
 ghost use Rattle.std.specs.Option.{unwrap_or};
 ghost use Rattle.std.specs.Simd.Lanes.{chunk};
 ghost use Rattle.std.specs.Str.{encode_utf8_all};
@@ -12,6 +12,7 @@ ghost use Rattle.unicode_width.specs.Width.{char_width};
 ghost use Rattle.papergrid_text.specs.LinesLeft.{lines_left, lines_of_rest};
 ghost use Rattle.papergrid_text.specs.Text.{split_lines, width_of, text_width, text_dimension, is_spaced, in_place_of, tabs_replaced};
 
+use crate::search::find_byte;
 use std::alloc::{AllocError, Global};
 use std::borrow::CowStr;
 use std::iter::Iterator;
@@ -47,10 +48,21 @@ fn cut_line(text: &str) -> (&str, Option<&str>)
     ensures line { IsUtf8 result.0.now }
     ensures rest { IfSome result.1 (λ rest. IsUtf8 rest.now) }
 {
-    match text.split_once('\n') {
-        Some((line, rest)) => (line, Some(rest)),
-        None => (text, None),
+    cut_line_at(text, find_byte(text.as_bytes(), b'\n'))
+}
+
+/// The first line, and what stands after its newline, where it is known where the line ends.
+pub fn cut_line_at(text: &str, end: usize) -> (&str, Option<&str>)
+    requires { end ≡ position_or_len (λ b. b == 10) text.now }
+    ensures lines { split_lines text.now ≡ result.0.now ∷ lines_of_rest result.1 }
+    ensures line { result.0.now ≡ take end text.now }
+    ensures text { IsUtf8 result.0.now }
+    ensures rest { IfSome result.1 (λ rest. IsUtf8 rest.now) }
+{
+    if end == text.len() {
+        return (text, None);
     }
+    (&text[..end], Some(&text[end + 1..]))
 }
 
 /// The slices of a text between its newlines. After a trailing newline comes an empty last line, and

@@ -1,12 +1,31 @@
-use Rattle.std.proofs.Common.{◌≡◌, option_map, string_bytes, rules, sym, ◌∙◌, lit<}
+use Rattle.std.proofs.Common.{◌≡◌, ◌<◌, ◌+◌, ℕ, List, length, take, drop, option_map, string_bytes, rules, sym, ap, ◌∙◌, arith}
+use Rattle.std.specs.List.{position_or_len}
 use Rattle.std.specs.Cow.{cow_str_bytes}
-use Rattle.papergrid.proofs.EscapeLemmas.{cut_open, unescaped-whole}
+use Rattle.papergrid_text.proofs.Places.{is_there}
+use Rattle.papergrid.specs.Texts.{IsFirstEscape, backslash}
+use Rattle.papergrid.proofs.EscapeLemmas.{IsCut, is_backslash, cut_open, unescaped-whole}
 use Rattle.papergrid.proofs.unescape.unescaped.Goals as goal
 
-pub returns-in-None : goal.returns-in-None
-returns-in-None c = sym (unescaped-whole c.args.spelled.now (c.in-None.ensures.byte (lit< tt) (λ w o f. f)))
+pub returns-then-spelled-escape : goal.returns-then-spelled-escape
+returns-then-spelled-escape c =
+    let first = c.requires in
+    let none = c.if-spelled-escape.true in
+    sym (unescaped-whole c.args.spelled.now (omega arith))
 
-pub returns-in_ok-with_escapes-in-Some : goal.returns-in_ok-with_escapes-in-Some
-returns-in_ok-with_escapes-in-Some c =
-    let owned : option_map cow_str_bytes c.map.result ≡ option_map string_bytes c.in_ok-with_escapes-in-Some.field-0 = search rules in
-    owned ∙ c.in_ok-with_escapes-in-Some.ensures ∙ sym (cut_open _ _ _ (c.in-Some.ensures.byte (lit< tt) (λ w o f. f)))
+pub split_around-requires-clause-ascii : goal.split_around-requires-clause-ascii
+split_around-requires-clause-ascii c =
+    let first = c.requires in
+    let within = c.if-spelled-escape.false in
+    let at = (is_there c.args.spelled.now backslash c.args.escape (omega arith) (omega arith)).1 in
+    omega arith
+
+cut_there : (spelled plain after : List ℕ) (at : ℕ) → IsFirstEscape spelled at → at < length spelled → plain ≡ take at spelled → after ≡ drop (at + 1) spelled → IsCut spelled plain after
+cut_there spelled plain after at first within before behind =
+    let place : at ≡ position_or_len is_backslash spelled = omega arith in
+    (before ∙ ap (λ k. take k spelled) place, behind ∙ ap (λ k. drop (k + 1) spelled) place, omega arith)
+
+pub returns : goal.returns
+returns c =
+    let owned : option_map cow_str_bytes c.map.result ≡ option_map string_bytes c.in_ok-with_escapes.field-0 = search rules in
+    owned ∙ c.in_ok-with_escapes.ensures
+    ∙ sym (cut_open _ _ _ (cut_there c.args.spelled.now _ _ c.args.escape c.requires c.if-spelled-escape.false c.split_around.ensures.before c.split_around.ensures.after))

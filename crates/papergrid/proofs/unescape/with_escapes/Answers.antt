@@ -1,16 +1,16 @@
-use Rattle.std.proofs.Common.{lit<, rules}
+use Rattle.std.proofs.Common.{rules}
 use Rattle.papergrid.proofs.EscapeLemmas.{stopped, past_escape, past_plain, finished}
 use Rattle.papergrid.proofs.unescape.with_escapes.Goals as goal
 
 pub returns-in-None : goal.returns-in-None
 returns-in-None c =
-    finished _ _ _ _ (c.in-None.ensures.byte (lit< tt) (λ w o f. f)) c.in_ok-push_str-in-None.ensures.bytes
+    finished _ _ _ _ c.in-None.ensures.parts c.in_ok-push_str-in-None.ensures.bytes
     (past_escape _ _ _ _ _ _ c.in-Some.ensures.escape c.in_ok-push.ensures.bytes c.loop-meant.invariant.meant)
 
 pub loop-meant-preserved : goal.loop-meant-preserved
 loop-meant-preserved c = record {
   text = search rules;
-  meant = past_plain _ _ _ _ _ _ (c.in-Some-split_once.ensures.byte (lit< tt) (λ w o f. f)) c.in_ok-push_str-in-Some-split_once.ensures.bytes
+  meant = past_plain _ _ _ _ _ _ c.in-Some-split_at_byte.ensures.parts c.in_ok-push_str-in-Some-split_at_byte.ensures.bytes
       (past_escape _ _ _ _ _ _ c.in-Some.ensures.escape c.in_ok-push.ensures.bytes c.loop-meant.invariant.meant);
 }
 
