@@ -14,7 +14,9 @@ pub mod setting;
 pub mod spanned;
 mod spans;
 
-pub use papergrid_maps::{Colors, CompactConfig, EntityMap, MapCall, NoColor, NoColors, Stopped};
+pub use papergrid_maps::{
+    Colors, CompactConfig, EntityMap, MapCall, NoColor, NoColors, Rising, Stopped,
+};
 pub use setting::Setting;
 pub use spanned::SpannedConfig;
 
