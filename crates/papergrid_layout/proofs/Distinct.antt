@@ -1,5 +1,5 @@
 -- Cells of told rows stand by row and then by column, so no two of them at one place.
-use Rattle.std.proofs.Common.{◌≡◌, ℕ, ◌+◌, ◌-◌, ◌<◌, ◌≤◌, ◌≢◌, ◌⊎◌, inl, inr, List, [], ◌∷◌, ◌++◌, get_or, length, map, refl, sym, ap, arith, suc}
+use Rattle.std.proofs.Common.{◌≡◌, ℕ, ◌+◌, ◌-◌, ◌<◌, ◌≤◌, ◌≢◌, inl, inr, List, [], ◌∷◌, ◌++◌, get_or, length, map, refl, sym, ap, arith, suc}
 use Rattle.std.specs.Prelude.{All, AllPairs, true}
 use Rattle.std.proofs.lemmas.List.Elements.{All-append, All-cons, All-filter, All-map, All-nil, All-weaker}
 use Rattle.std.proofs.lemmas.List.Kept.{AllPairs-cons, AllPairs-filter}
@@ -13,6 +13,7 @@ use Rattle.papergrid_axis.specs.Seen.{Holds, IsSeen, is_single}
 use Rattle.papergrid_axis.proofs.SeenLemmas.{below-own_limit}
 use Rattle.papergrid_layout.specs.Answers.{count_along}
 use Rattle.papergrid_layout.specs.Cells.{asked, demands_of, limit_along, placed, placed_from, placed_row, visible_cells}
+use Rattle.papergrid_layout.specs.Laws.{StandsBefore}
 use Rattle.papergrid_layout.specs.Looks.{Look}
 
 pub count-le : (direction : Direction) (columns n : ℕ) → n < 18446744073709551616 → count_along direction columns n ≤ limit_along direction columns
@@ -21,7 +22,7 @@ count-le Rows columns n l = omega arith
 
 module _ {C : Type 0} where
   abbrev pub Precedes : Position × C → Position × C → Type 0
-  Precedes x y = (x.0.row < y.0.row) ⊎ ((x.0.row ≡ y.0.row) × (x.0.col < y.0.col))
+  Precedes x y = StandsBefore x.0 y.0
 
   abbrev IsRight : ℕ → ℕ → Position × C → Type 0
   IsRight r c x = (x.0.row ≡ r) × (c ≤ x.0.col)
@@ -58,7 +59,7 @@ module _ {C : Type 0} where
       (All-weaker (IsBelow (r + 1)) (Precedes (record { row = r; col = c }, x)) (λ y h. below-precedes r c x y h) rest below))
       (row-precede r (c + 1) cells rest below precede)
 
-  from-precede : (r : ℕ) (rows : List (List C)) → AllPairs Precedes (placed_from r rows)
+  pub from-precede : (r : ℕ) (rows : List (List C)) → AllPairs Precedes (placed_from r rows)
   from-precede r [] = λ i j d l l'. absurd (omega arith)
   from-precede r (row ∷ rows) = row-precede r 0 row (placed_from (r + 1) rows) (from-below (r + 1) rows) (from-precede (r + 1) rows)
 

@@ -4,6 +4,7 @@ pub mod Distinct
 pub mod LawLemmas
 pub mod PaddingLemmas
 pub mod PairLemmas
+pub mod PlaceLemmas
 pub mod ShownLemmas
 pub mod Steps
 pub mod Told

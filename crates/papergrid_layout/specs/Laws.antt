@@ -1,5 +1,5 @@
 -- What the laws are about.
-use Rattle.std.specs.Prelude.{◌≡◌, ◌≢◌, ℕ, if◌then◌else◌, List, ◌∷◌, ◌++◌, map, None, Option, Some}
+use Rattle.std.specs.Prelude.{◌≡◌, ◌≢◌, ◌<◌, ◌⊎◌, ℕ, if◌then◌else◌, List, [], ◌∷◌, ◌++◌, length, map, None, Option, Some, slice_index_or}
 use Rattle.std.specs.List.{flat_map}
 use Rattle.papergrid_values.specs.declared.position.Position.{Position}
 use Rattle.papergrid_text.specs.Measured.{Measured}
@@ -24,6 +24,18 @@ use Rattle.papergrid_layout.specs.Looks.{Look}
 abbrev pub IsNewText : {S : Type 0} → (S → List ℕ) → Measured S → Type 0
 IsNewText text t =
     t ≡ record { text = t.text; width = greatest_width (split_lines (text t.text)); lines = kept_by_new (split_lines (text t.text)) }
+
+-- one position stands before another: by row, and then by column
+abbrev pub StandsBefore : Position → Position → Type 0
+StandsBefore p q = (p.row < q.row) ⊎ ((p.row ≡ q.row) × (p.col < q.col))
+
+-- the cells of a row have this one at a column
+abbrev pub HasCell : {C : Type 0} → List C → ℕ → C → Type 0
+HasCell cells col cell = (col < length cells) × (slice_index_or cells col cell ≡ cell)
+
+-- the rows have the cell at a position
+abbrev pub IsCellAt : {C : Type 0} → List (List C) → Position → C → Type 0
+IsCellAt rows p cell = (p.row < length rows) × HasCell (slice_index_or rows p.row []) p.col cell
 
 -- the sizes along a direction, of so many columns (rows), that told rows have
 abbrev pub sizes_told : {C : Type 0} → Direction → Look → (C → ℕ × ℕ) → ℕ → List (List C) → List ℕ

@@ -1,13 +1,14 @@
 //! Laws of the definitions, each the contract of a function that does nothing.
 
-ghost use Rattle.std.specs.Prelude.{◌≡◌, ℕ, All, List};
+ghost use Rattle.std.specs.Prelude.{◌≡◌, ◌↔◌, ℕ, All, AllPairs, Contains, List};
+ghost use Rattle.papergrid_values.specs.declared.position.Position.{Position};
 ghost use Rattle.papergrid_text.specs.Measured.{Measured};
 ghost use Rattle.papergrid_axis.specs.declared.direction.Direction.{Direction};
 ghost use Rattle.papergrid_config.specs.Told.{IsTold};
 ghost use Rattle.papergrid_config.specs.declared.setting.Setting.{Setting};
 ghost use Rattle.papergrid_config.specs.declared.spanned.SpannedConfig.{SpannedConfig};
-ghost use Rattle.papergrid_layout.specs.Cells.{demands_of};
-ghost use Rattle.papergrid_layout.specs.Laws.{AreSwapped, IsNewText, TellTheSame, sizes_told};
+ghost use Rattle.papergrid_layout.specs.Cells.{demands_of, placed};
+ghost use Rattle.papergrid_layout.specs.Laws.{AreSwapped, IsCellAt, IsNewText, StandsBefore, TellTheSame, sizes_told};
 ghost use Rattle.papergrid_layout.specs.Looks.{Look, spanned_look};
 ghost use Rattle.papergrid_layout.specs.Measures.{cell_measure, line_measure};
 ghost use Rattle.papergrid_layout.specs.declared.compact.CompactGridDimension.{CompactGridDimension};
@@ -27,6 +28,12 @@ pub fn equal_text_measures<S: AsStr>()
         (direction : Direction) (look : Look) →
         demands_of direction look (cell_measure ⟦<Text<S> as Cell>⟧.width ⟦<Text<S> as Cell>⟧.lines) rows
         ≡ demands_of direction look (line_measure ⟦<Text<S> as AsStr>⟧.text) rows }
+{}
+
+/// The cells with their positions are those that the rows have there, by row and then by column.
+pub fn cells_by_place<C>()
+    ensures cells { (rows : List (List C)) (p : Position) (cell : C) → Contains (placed rows) (p, cell) ↔ IsCellAt rows p cell }
+    ensures order { (rows : List (List C)) → AllPairs (λ x y. StandsBefore x.0 y.0) (placed rows) }
 {}
 
 /// Sizes do not depend on the order in which spans of different cells were set, since what is read of
