@@ -13,9 +13,9 @@ use crate::cut::cut_marked_line;
 use crate::script_line::take_line;
 use papergrid_config::Setting;
 use papergrid_text::string::count_lines;
+use simdutf8::compat::from_utf8;
 use std::alloc::{AllocError, AllocFailed, Global};
 use std::borrow::CowStr;
-use std::str::from_utf8;
 
 /// What a script tells. Texts without escapes are lent from the input.
 #[derive(Drop)]

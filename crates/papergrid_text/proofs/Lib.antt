@@ -1,7 +1,6 @@
 pub mod ColumnWidths
 pub mod Compared
 pub mod KeptClones
-pub mod Lanes
 pub mod Nth
 pub mod Places
 pub mod Printable

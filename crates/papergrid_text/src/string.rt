@@ -13,14 +13,11 @@ ghost use Rattle.papergrid_text.specs.LinesLeft.{lines_left, lines_of_rest};
 ghost use Rattle.papergrid_text.specs.Text.{split_lines, width_of, text_width, text_dimension, is_spaced, in_place_of, tabs_replaced};
 
 use crate::search::find_byte;
+use papergrid_width::{count_printable, is_printable, width, width_by_characters};
 use std::alloc::{AllocError, Global};
 use std::borrow::CowStr;
 use std::iter::Iterator;
-use std::simd::prelude::*;
-use unicode_width::{UnicodeWidthChar, UnicodeWidthStr};
-
-// Bytes that are tested at once.
-const LANES: usize = 8;
+use unicode_width::UnicodeWidthChar;
 
 /// The lines of a text, as slices of it. It ends for good after the last one.
 #[derive(Clone, Debug, Drop)]
@@ -104,62 +101,7 @@ fn count_byte(bytes: &[u8], byte: u8) -> usize
 pub fn get_string_width(text: &str) -> usize
     ensures { result ≡ width_of text.now }
 {
-    if is_printable(text) {
-        return text.len();
-    }
-    text.width()
-}
-
-// Whether the text is printable ASCII. Then it is as wide as it is long, and has no newline.
-fn is_printable(text: &str) -> bool
-    ensures { result ≡ list_all (is_in_range 0x20 0x7E) text.now }
-{
-    count_printable(text) == text.len()
-}
-
-// How many bytes from the front on are printable ASCII.
-fn count_printable(text: &str) -> usize
-    ensures { result ≡ prefix_len (is_in_range 0x20 0x7E) text.now }
-{
-    let bytes = text.as_bytes();
-    let mut count = 0usize;
-    while LANES <= bytes.len() - count {
-        let run = count_printable_lanes(bytes, count);
-        count += run;
-        if run < LANES {
-            return count;
-        }
-    }
-    count + count_printable_bytes(&bytes[count..])
-}
-
-// The same of as many bytes as there are lanes, from a place on.
-fn count_printable_lanes(bytes: &[u8], from: usize) -> usize
-    requires { from + LANES ≤ length bytes.now }
-    ensures { result ≡ prefix_len (is_in_range 0x20 0x7E) (chunk from LANES bytes.now) }
-{
-    let lanes = u8x8::from_slice(&bytes[from..]);
-    let others = lanes.simd_lt(u8x8::splat(0x20)) | lanes.simd_ge(u8x8::splat(0x7F));
-    let mask = others.to_bitmask();
-    if mask == 0 {
-        LANES
-    } else {
-        mask.trailing_zeros() as usize
-    }
-}
-
-// The same, one byte after another.
-fn count_printable_bytes(bytes: &[u8]) -> usize
-    ensures { result ≡ prefix_len (is_in_range 0x20 0x7E) bytes.now }
-{
-    let mut count = 0usize;
-    for b in bytes {
-        if *b < 0x20 || *b > 0x7E {
-            return count;
-        }
-        count += 1;
-    }
-    count
+    width(text)
 }
 
 /// How many columns of a terminal the line takes.
@@ -221,7 +163,7 @@ fn measure_first_line(text: &str) -> (usize, Option<&str>)
         return (printable, Some(&text[printable + 1..]));
     }
     let (line, rest) = cut_line(text);
-    (line.width(), rest)
+    (width_by_characters(line), rest)
 }
 
 /// The text with `n` spaces in place of each tab. Where `n` is not 4, a tab right after a backslash

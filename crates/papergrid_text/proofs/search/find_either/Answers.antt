@@ -2,7 +2,7 @@ use Rattle.std.proofs.Common.{◌-◌, ◌||◌, not, length, take, drop, arith}
 use Rattle.std.specs.Prelude.{◌==◌}
 use Rattle.std.proofs.lemmas.List.{length-take}
 use Rattle.std.proofs.lemmas.List.Sums.{prefix_len-le-length}
-use Rattle.papergrid_text.proofs.Lanes.{counted_on}
+use Rattle.papergrid_width.proofs.Lanes.{counted_on}
 use Rattle.papergrid_text.proofs.search.find_either.Goals as goal
 
 pub loop-at-preserved : goal.loop-at-preserved

@@ -3,14 +3,15 @@ use Rattle.std.proofs.lemmas.List.Sums.{prefix_len-le-length}
 use Rattle.std.proofs.lemmas.Str.{IsCharBoundary-after_ascii}
 use Rattle.std.specs.Int.{is_in_range}
 use Rattle.std.specs.List.{prefix_len}
-use Rattle.papergrid_text.proofs.Printable.{first_newline, front_width, one_line, whole_printable, width_of-printable}
+use Rattle.papergrid_text.proofs.Printable.{first_newline, one_line, whole_printable}
+use Rattle.papergrid_width.proofs.PrintableLemmas.{front_width, width-printable}
 use Rattle.papergrid_text.proofs.Splits.{split_first}
 use Rattle.papergrid_text.proofs.string.measure_first_line.Goals as goal
 
 pub returns-then-printable-text-clause-first : goal.returns-then-printable-text-clause-first
 returns-then-printable-text-clause-first c =
     let printable = whole_printable c.args.text.now _ c.count_printable-printable.ensures c.if-printable-text.true in
-    (c.args.text.now, one_line c.args.text.now printable, c.if-printable-text.true ∙ sym (width_of-printable c.args.text.now printable))
+    (c.args.text.now, one_line c.args.text.now printable, c.if-printable-text.true ∙ sym (width-printable c.args.text.now printable))
 
 falls_short : (text : List ℕ) (n : ℕ) → n ≡ prefix_len (is_in_range 0x20 0x7E) text → ¬ (n ≡ length text) → n < length text
 falls_short text n is other = let bound = prefix_len-le-length (is_in_range 0x20 0x7E) text in omega arith
@@ -39,4 +40,4 @@ returns-then-as_bytes-printable-eq10-clause-first c =
     (take n text, split_first text (take n text) c.range_from.result.now (omega arith) (ap (λ k. take k text) place) (c.range_from.ensures.value ∙ ap (λ k. drop (k + 1) text) place), front_width text n is)
 
 pub returns-clause-first : goal.returns-clause-first
-returns-clause-first c = (c.cut_line.result.0.now, c.cut_line.ensures.lines, c.width.ensures.value)
+returns-clause-first c = (c.cut_line.result.0.now, c.cut_line.ensures.lines, c.width_by_characters.ensures)

@@ -2,8 +2,8 @@ use Rattle.std.proofs.Common.{◌-◌, length, take, drop, arith}
 use Rattle.std.specs.Int.{is_in_range}
 use Rattle.std.proofs.lemmas.List.{length-take}
 use Rattle.std.proofs.lemmas.List.Sums.{prefix_len-le-length}
-use Rattle.papergrid_text.proofs.Lanes.{counted_on}
-use Rattle.papergrid_text.proofs.string.count_printable.Goals as goal
+use Rattle.papergrid_width.proofs.Lanes.{counted_on}
+use Rattle.papergrid_width.proofs.printable.count_printable.Goals as goal
 
 pub loop-count-preserved : goal.loop-count-preserved
 loop-count-preserved c =

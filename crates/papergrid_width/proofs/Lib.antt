@@ -1,0 +1,4 @@
+pub mod Lanes
+pub mod PartLemmas
+pub mod PrintableLemmas
+pub mod StepLemmas

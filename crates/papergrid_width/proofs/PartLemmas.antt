@@ -1,0 +1,106 @@
+-- What the parts are by `unicode_width`.
+use Rattle.std.proofs.Common.{◌≡◌, ◌≢◌, ℕ, ◌⊎◌, ◌+◌, ◌<◌, Bool, true, false, not, ◌||◌, ◌==◌, List, [], ◌∷◌, Some, inl, inr, refl, ap, ◌∙◌, arith}
+use Rattle.std.specs.Int.{is_in_range}
+use Rattle.std.proofs.lemmas.Bool.Decides.{nat_tests}
+use Rattle.ucd_table.specs.Rows.{Range, in_ranges}
+use Rattle.ucd_table.proofs.Facts.{Stepped-everywhere}
+use Rattle.ucd_table.proofs.Stepped.{of_ranges, zip_stepped}
+use Rattle.unicode_width.specs.declared.kind.Kind.{Kind}
+use Rattle.unicode_width.specs.declared.kind.Kind.TheVariants as kinds
+use Rattle.unicode_width.specs.declared.state.After.TheVariants as states
+use Rattle.unicode_width.specs.Kind.{kind}
+use Rattle.unicode_width.specs.Width.{alone, before, of_kind}
+use Rattle.unicode_width.proofs.Computing.{unicode_width}
+use Rattle.unicode_width.proofs.KindLemmas.{kind_stepped}
+use Rattle.papergrid_width.specs.Parts.{part_of}
+use Rattle.papergrid_width.specs.declared.part.Part.{Part}
+use Rattle.papergrid_width.specs.declared.part.Part.TheVariants as parts
+
+-- ---- where a part lies
+
+abbrev pub is_pictograph : ℕ → Bool
+is_pictograph c = is_in_range 0x1F442 0x1F4FC c || (is_in_range 0x1F5FB 0x1F64F c || is_in_range 0x1F947 0x1F9FF c)
+
+abbrev pub Lies : Part → ℕ → Type 0
+Lies parts.Printable c = is_in_range 0x20 0x7E c ≡ true
+Lies parts.Pictograph c = is_pictograph c ≡ true
+Lies parts.Indicator c = is_in_range 0x1F1E6 0x1F1FF c ≡ true
+Lies parts.Modifier c = is_in_range 0x1F3FB 0x1F3FF c ≡ true
+Lies parts.Joiner c = c ≡ 0x200D
+Lies parts.Selector c = c ≡ 0xFE0F
+Lies parts.Keycap c = c ≡ 0x20E3
+
+pub lies : (part : Part) (c : ℕ) → part_of c ≡ Some part → Lies part c
+lies parts.Printable c h = grind (arith, nat_tests)
+lies parts.Pictograph c h = grind (arith, nat_tests)
+lies parts.Indicator c h = grind (arith, nat_tests)
+lies parts.Modifier c h = grind (arith, nat_tests)
+lies parts.Joiner c h = grind (arith, nat_tests)
+lies parts.Selector c h = grind (arith, nat_tests)
+lies parts.Keycap c h = grind (arith, nat_tests)
+
+-- ---- the kinds of ranges
+
+module _ (is : Kind → Bool) (ranges : List Range) where
+  abbrev AreOfKind : Type 0
+  AreOfKind = (c : ℕ) → (not (in_ranges ranges c) || is (kind c)) ≡ true
+
+abbrev is_emoji : Kind → Bool
+is_emoji kinds.Emoji = true
+is_emoji _ = false
+
+abbrev is_indicator : Kind → Bool
+is_indicator kinds.RegionalIndicator = true
+is_indicator _ = false
+
+abbrev is_modifier : Kind → Bool
+is_modifier kinds.EmojiModifier = true
+is_modifier _ = false
+
+abbrev pictographs : List Range
+pictographs = (0x1F442, 0x1F4FC) ∷ (0x1F5FB, 0x1F64F) ∷ (0x1F947, 0x1F9FF) ∷ []
+
+abbrev indicators : List Range
+indicators = (0x1F1E6, 0x1F1FF) ∷ []
+
+abbrev modifiers : List Range
+modifiers = (0x1F3FB, 0x1F3FF) ∷ []
+
+pictographs_are : AreOfKind is_emoji pictographs
+unfolding unicode_width
+pictographs_are =
+    Stepped-everywhere (λ c. not (in_ranges pictographs c) || is_emoji (kind c))
+    (zip_stepped (λ inside k. not inside || is_emoji k) (in_ranges pictographs) kind (of_ranges pictographs refl) kind_stepped) refl
+
+indicators_are : AreOfKind is_indicator indicators
+unfolding unicode_width
+indicators_are =
+    Stepped-everywhere (λ c. not (in_ranges indicators c) || is_indicator (kind c))
+    (zip_stepped (λ inside k. not inside || is_indicator k) (in_ranges indicators) kind (of_ranges indicators refl) kind_stepped) refl
+
+modifiers_are : AreOfKind is_modifier modifiers
+unfolding unicode_width
+modifiers_are =
+    Stepped-everywhere (λ c. not (in_ranges modifiers c) || is_modifier (kind c))
+    (zip_stepped (λ inside k. not inside || is_modifier k) (in_ranges modifiers) kind (of_ranges modifiers refl) kind_stepped) refl
+
+emoji_from : (k : Kind) → is_emoji k ≡ true → k ≡ kinds.Emoji
+emoji_from k h = grind arith
+
+indicator_from : (k : Kind) → is_indicator k ≡ true → k ≡ kinds.RegionalIndicator
+indicator_from k h = grind arith
+
+modifier_from : (k : Kind) → is_modifier k ≡ true → k ≡ kinds.EmojiModifier
+modifier_from k h = grind arith
+
+pub kind_pictograph : (c : ℕ) → is_pictograph c ≡ true → kind c ≡ kinds.Emoji
+unfolding in_ranges
+kind_pictograph c h = emoji_from (kind c) (let a = pictographs_are c in grind (arith, nat_tests))
+
+pub kind_indicator : (c : ℕ) → is_in_range 0x1F1E6 0x1F1FF c ≡ true → kind c ≡ kinds.RegionalIndicator
+unfolding in_ranges
+kind_indicator c h = indicator_from (kind c) (let a = indicators_are c in grind (arith, nat_tests))
+
+pub kind_modifier : (c : ℕ) → is_in_range 0x1F3FB 0x1F3FF c ≡ true → kind c ≡ kinds.EmojiModifier
+unfolding in_ranges
+kind_modifier c h = modifier_from (kind c) (let a = modifiers_are c in grind (arith, nat_tests))

@@ -1,0 +1,43 @@
+-- The characters that texts of emoji are made of, and what each adds to the width of what stands after it.
+use Rattle.std.specs.Prelude.{ℕ, ◌==◌, Option, Some, None, if◌then◌else◌}
+use Rattle.std.specs.Int.{is_in_range}
+use Rattle.papergrid_width.specs.declared.part.Part.{Part}
+use Rattle.papergrid_width.specs.declared.part.Part.TheVariants as parts
+use Rattle.papergrid_width.specs.declared.part.After.{After}
+use Rattle.papergrid_width.specs.declared.part.After.TheVariants as afters
+
+abbrev pub part_of : ℕ → Option Part
+part_of c =
+    if is_in_range 0x20 0x7E c then Some parts.Printable
+    else if is_in_range 0x1F442 0x1F4FC c then Some parts.Pictograph
+    else if is_in_range 0x1F5FB 0x1F64F c then Some parts.Pictograph
+    else if is_in_range 0x1F947 0x1F9FF c then Some parts.Pictograph
+    else if is_in_range 0x1F1E6 0x1F1FF c then Some parts.Indicator
+    else if is_in_range 0x1F3FB 0x1F3FF c then Some parts.Modifier
+    else if c == 0x200D then Some parts.Joiner
+    else if c == 0xFE0F then Some parts.Selector
+    else if c == 0x20E3 then Some parts.Keycap
+    else None
+
+-- the width of a part that joins nothing, and what it is for the character before it
+abbrev pub add_apart : Part → ℕ × After
+add_apart parts.Printable = (1, afters.Other)
+add_apart parts.Pictograph = (2, afters.Emoji)
+add_apart parts.Indicator = (1, afters.Indicator)
+add_apart parts.Modifier = (2, afters.Modifier)
+add_apart parts.Joiner = (0, afters.Other)
+add_apart parts.Selector = (0, afters.Selector)
+add_apart parts.Keycap = (0, afters.Other)
+
+abbrev pub add_before : Part → After → Option (ℕ × After)
+add_before parts.Pictograph afters.Joiner = Some (0, afters.Emoji)
+add_before parts.Modifier afters.Joiner = Some (0, afters.Modifier)
+add_before parts.Indicator afters.Joiner = None
+add_before parts.Selector afters.Joiner = None
+add_before parts.Keycap afters.Joiner = None
+add_before parts.Joiner afters.Emoji = Some (0, afters.Joiner)
+add_before parts.Joiner afters.Modifier = Some (0, afters.Joiner)
+add_before parts.Joiner afters.Indicators = Some (0, afters.Joiner)
+add_before parts.Indicator afters.Indicator = Some (1, afters.Indicators)
+add_before parts.Indicator afters.Indicators = Some (1, afters.Indicators)
+add_before part after = Some (add_apart part)
