@@ -12,14 +12,11 @@ use Rattle.unicode_width.specs.Kind.{kind}
 use Rattle.unicode_width.specs.Width.{alone, before, of_kind}
 use Rattle.unicode_width.proofs.Computing.{unicode_width}
 use Rattle.unicode_width.proofs.KindLemmas.{kind_stepped}
-use Rattle.papergrid_width.specs.Parts.{part_of}
+use Rattle.papergrid_width.specs.Parts.{is_pictograph, part_of}
 use Rattle.papergrid_width.specs.declared.part.Part.{Part}
 use Rattle.papergrid_width.specs.declared.part.Part.TheVariants as parts
 
 -- ---- where a part lies
-
-abbrev pub is_pictograph : ℕ → Bool
-is_pictograph c = is_in_range 0x1F442 0x1F4FC c || (is_in_range 0x1F5FB 0x1F64F c || is_in_range 0x1F947 0x1F9FF c)
 
 abbrev pub Lies : Part → ℕ → Type 0
 Lies parts.Printable c = is_in_range 0x20 0x7E c ≡ true
@@ -58,7 +55,8 @@ is_modifier kinds.EmojiModifier = true
 is_modifier _ = false
 
 abbrev pictographs : List Range
-pictographs = (0x1F442, 0x1F4FC) ∷ (0x1F5FB, 0x1F64F) ∷ (0x1F947, 0x1F9FF) ∷ []
+pictographs =
+    (0x1F337, 0x1F37C) ∷ (0x1F400, 0x1F43E) ∷ (0x1F442, 0x1F4FC) ∷ (0x1F5FB, 0x1F64F) ∷ (0x1F680, 0x1F6C5) ∷ (0x1F90C, 0x1F93A) ∷ (0x1F947, 0x1F9FF) ∷ []
 
 abbrev indicators : List Range
 indicators = (0x1F1E6, 0x1F1FF) ∷ []

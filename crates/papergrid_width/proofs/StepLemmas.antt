@@ -14,13 +14,13 @@ use Rattle.unicode_width.specs.declared.state.State.{State}
 use Rattle.unicode_width.specs.Kind.{kind}
 use Rattle.unicode_width.specs.Width.{alone, before, plain, added, of_kind, in_context, joins, past_emoji, past_selectors, step}
 use Rattle.unicode_width.proofs.Computing.{unicode_width}
-use Rattle.papergrid_width.specs.Parts.{part_of, add_apart, add_before}
+use Rattle.papergrid_width.specs.Parts.{is_pictograph, part_of, add_apart, add_before}
 use Rattle.papergrid_width.specs.Emoji.{IsStep, state_of}
 use Rattle.papergrid_width.specs.declared.part.Part.{Part}
 use Rattle.papergrid_width.specs.declared.part.Part.TheVariants as parts
 use Rattle.papergrid_width.specs.declared.part.After.{After}
 use Rattle.papergrid_width.specs.declared.part.After.TheVariants as afters
-use Rattle.papergrid_width.proofs.PartLemmas.{Lies, lies, is_pictograph, kind_pictograph, kind_indicator, kind_modifier}
+use Rattle.papergrid_width.proofs.PartLemmas.{lies, kind_pictograph, kind_indicator, kind_modifier}
 
 -- neither of the two parts that look at what follows by a property of the character
 abbrev pub IsPlainly : ℕ → After → Type 0

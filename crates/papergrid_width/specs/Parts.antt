@@ -1,17 +1,21 @@
 -- The characters that texts of emoji are made of, and what each adds to the width of what stands after it.
-use Rattle.std.specs.Prelude.{ℕ, ◌==◌, Option, Some, None, if◌then◌else◌}
+use Rattle.std.specs.Prelude.{ℕ, Bool, ◌||◌, ◌==◌, Option, Some, None, if◌then◌else◌}
 use Rattle.std.specs.Int.{is_in_range}
 use Rattle.papergrid_width.specs.declared.part.Part.{Part}
 use Rattle.papergrid_width.specs.declared.part.Part.TheVariants as parts
 use Rattle.papergrid_width.specs.declared.part.After.{After}
 use Rattle.papergrid_width.specs.declared.part.After.TheVariants as afters
 
+-- the long ranges of pictographs
+abbrev pub is_pictograph : ℕ → Bool
+is_pictograph c =
+    is_in_range 0x1F337 0x1F37C c || is_in_range 0x1F400 0x1F43E c || is_in_range 0x1F442 0x1F4FC c || is_in_range 0x1F5FB 0x1F64F c
+    || is_in_range 0x1F680 0x1F6C5 c || is_in_range 0x1F90C 0x1F93A c || is_in_range 0x1F947 0x1F9FF c
+
 abbrev pub part_of : ℕ → Option Part
 part_of c =
     if is_in_range 0x20 0x7E c then Some parts.Printable
-    else if is_in_range 0x1F442 0x1F4FC c then Some parts.Pictograph
-    else if is_in_range 0x1F5FB 0x1F64F c then Some parts.Pictograph
-    else if is_in_range 0x1F947 0x1F9FF c then Some parts.Pictograph
+    else if is_pictograph c then Some parts.Pictograph
     else if is_in_range 0x1F1E6 0x1F1FF c then Some parts.Indicator
     else if is_in_range 0x1F3FB 0x1F3FF c then Some parts.Modifier
     else if c == 0x200D then Some parts.Joiner

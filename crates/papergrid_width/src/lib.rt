@@ -10,13 +10,15 @@ ghost use Rattle.unicode_width.specs.Width.{str_width};
 mod emoji;
 mod part;
 pub mod printable;
-
-pub use printable::{count_printable, is_printable};
+#[cfg(test)]
+mod tests;
 
 use emoji::emoji_width;
+pub use printable::{count_printable, is_printable};
 use unicode_width::UnicodeWidthStr;
 
-/// How many columns of a terminal the text takes. A control character takes one.
+/// How many columns of a terminal the text takes. A control character takes one, and so does a carriage
+/// return with the newline after it.
 pub fn width(text: &str) -> usize
     ensures { result ≡ str_width false (chars text.now) }
 {

@@ -38,15 +38,17 @@ pub enum After {
     Indicators,
 }
 
-/// What the character is, or `None` where it is none of these.
+/// What the character is, or `None` where it is none of these. Of the pictographs the long ranges are told.
 pub fn part_of(c: char) -> Option<Part>
     ensures { result ≡ part_of c }
 {
     match c {
         ' '..='~' => Some(Part::Printable),
-        '\u{1F442}'..='\u{1F4FC}' => Some(Part::Pictograph),
-        '\u{1F5FB}'..='\u{1F64F}' => Some(Part::Pictograph),
-        '\u{1F947}'..='\u{1F9FF}' => Some(Part::Pictograph),
+        '\u{1F337}'..='\u{1F37C}' | '\u{1F400}'..='\u{1F43E}' | '\u{1F442}'..='\u{1F4FC}' => {
+            Some(Part::Pictograph)
+        }
+        '\u{1F5FB}'..='\u{1F64F}' | '\u{1F680}'..='\u{1F6C5}' => Some(Part::Pictograph),
+        '\u{1F90C}'..='\u{1F93A}' | '\u{1F947}'..='\u{1F9FF}' => Some(Part::Pictograph),
         '\u{1F1E6}'..='\u{1F1FF}' => Some(Part::Indicator),
         '\u{1F3FB}'..='\u{1F3FF}' => Some(Part::Modifier),
         '\u{200D}' => Some(Part::Joiner),
