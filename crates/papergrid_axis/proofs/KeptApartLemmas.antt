@@ -1,5 +1,5 @@
 -- The test of ranges that are kept apart tells whether they are.
-use Rattle.std.proofs.Common.{◌≡◌, ℕ, ◌+◌, ◌<◌, ◌≤◌, ◌==◌, ◌&&◌, true, List, length, get_or, nat_le, leb, eqb, arith, refl, ltb-true}
+use Rattle.std.proofs.Common.{◌≡◌, ℕ, ◌<◌, ◌≤◌, ◌==◌, ◌&&◌, true, List, get_or, nat_le, arith, refl, ltb-true}
 use Rattle.std.specs.Prelude.{All, Contains, IsTrue, nat_lt, ◌↔◌}
 use Rattle.std.specs.List.{list_all}
 use Rattle.std.proofs.lemmas.Bool.{leb-true, le-leb, lt-ltb, eqb-true, eq-eqb}

@@ -1,19 +1,17 @@
 -- What the loops over sizes and lines keep.
-use Rattle.std.proofs.Common.{◌≡◌, ℕ, zero, suc, ◌+◌, ◌-◌, ◌/◌, ◌%◌, ◌<◌, ◌≤◌, ◌≢◌, Bool, true, false, cond, inl, inr, List, [], ◌∷◌, length, get_or, set, take, drop, sum, count_by, fold, refl, sym, ap, ◌∙◌, arith, max, ◌&&◌, ◌==◌, ◌++◌, eqb, eq-eqb, ne_eqb, take-append-drop, ap₂}
-use Rattle.std.specs.Prelude.{replicate, map}
+use Rattle.std.proofs.Common.{◌≡◌, ℕ, zero, suc, ◌+◌, ◌-◌, ◌/◌, ◌%◌, ◌<◌, ◌≤◌, ◌≢◌, Bool, false, cond, inl, inr, List, [], ◌∷◌, length, get_or, set, take, drop, sum, count_by, fold, refl, sym, ap, ◌∙◌, arith, ◌++◌, take-append-drop, ap₂}
 use Rattle.std.specs.Prelude.{All}
 use Rattle.std.specs.List.{range_with_len, AllByRecursion}
 use Rattle.std.proofs.lemmas.List.Elements.{recursion_from_All, All-drop}
-use Rattle.std.proofs.lemmas.Bool.{cases_Bool, cases_eq, cases_lt, and_from, and_left, and_right}
-use Rattle.std.proofs.lemmas.List.{length-set, get_or-set_same, get_or-set_other, drop_more, take_all}
+use Rattle.std.proofs.lemmas.Bool.{cases_eq, cases_lt}
+use Rattle.std.proofs.lemmas.List.{get_or-set_same, get_or-set_other, drop_more, take_all}
 use Rattle.std.proofs.lemmas.List.Sums.{sum_by-cons, sum_by-take-le, sum_by-take-drop, fold-append, sum_by-append}
 use Rattle.std.proofs.lemmas.Grind.{same_number_lists}
 use Rattle.papergrid_axis.specs.declared.demand.Demand.{Demand}
 use Rattle.papergrid_axis.specs.Ranges.{line_at}
 use Rattle.papergrid_axis.specs.Ranges.{end_of, inner_lines, IsInTable, all_lines}
-use Rattle.papergrid_axis.specs.Fits.{range_sum, greatest_need, HasRoom, IsTooLarge}
-use Rattle.papergrid_axis.specs.Sizes.{share, with_shares, lack, grown, base_size, base_sizes}
-use Rattle.papergrid_axis.proofs.Greatest.{length-base_sizes, get_or-base_sizes}
+use Rattle.papergrid_axis.specs.Fits.{range_sum, HasRoom, IsTooLarge}
+use Rattle.papergrid_axis.specs.Sizes.{share, with_shares, lack, grown}
 use Rattle.papergrid_axis.proofs.Upto.{upto, upto-point, upto-ext, upto-add, sum-upto, within, holds_cases}
 use Rattle.papergrid_axis.proofs.RangeLemmas.{masked, masked_in, masked_out, masked_sum}
 use Rattle.papergrid_axis.proofs.FitBound.{length-grown, length-taken}

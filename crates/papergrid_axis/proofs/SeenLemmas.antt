@@ -1,18 +1,21 @@
 -- What is kept of the demands tells all that is asked of them.
-use Rattle.std.proofs.Common.{◌≡◌, ℕ, zero, suc, ◌+◌, ◌-◌, ◌<◌, ◌≤◌, ◌≢◌, max, Bool, true, false, ◌&&◌, ◌==◌, inl, inr, List, [], ◌∷◌, ◌++◌, length, get_or, filter, fold, refl, sym, subst, ap, ap₂, ◌∙◌, arith, eqb, eq-eqb, ne_eqb, eqb-true, ltb, lt-ltb, le-ltb, ltb-true}
+use Rattle.std.proofs.Common.{◌≡◌, ℕ, zero, suc, ◌+◌, ◌-◌, ◌<◌, ◌≤◌, ◌≢◌, ◌^◌, max, Bool, true, false, ◌&&◌, ◌||◌, ◌==◌, inl, inr, List, [], ◌∷◌, ◌++◌, length, get_or, filter, map, fold, refl, sym, subst, ap, ap₂, ◌∙◌, arith, eqb, eq-eqb, ne_eqb, eqb-true, ltb, lt-ltb, le-ltb, ltb-true}
 use Rattle.std.specs.Prelude.{All, Some, find, flat_map, if◌then◌else◌, nat_lt, not}
 use Rattle.std.specs.List.{list_any, range_with_len}
-use Rattle.std.proofs.lemmas.Bool.{and_from, and_parts, cases_Bool, cases_eq, cases_lt, false≢true, true≢false}
+use Rattle.std.proofs.lemmas.Bool.{and_from, and_parts, cases_Bool, cases_lt, lt-leb, true≢false}
 use Rattle.std.proofs.lemmas.Grind.{same_number_lists}
-use Rattle.std.proofs.lemmas.List.Elements.{All-filter, All-head, All-tail}
+use Rattle.std.proofs.lemmas.List.Elements.{All-filter, All-head, All-push, All-tail, filter-append}
+use Rattle.std.proofs.lemmas.List.Folds.{list_any-append}
+use Rattle.std.proofs.lemmas.List.{append-nil, map-append}
+use Rattle.std.proofs.lemmas.List.Sums.{fold-append}
 use Rattle.papergrid_axis.specs.declared.demand.Demand.{Demand}
 use Rattle.papergrid_axis.specs.declared.direction.Direction.{Direction}
 use Rattle.papergrid_axis.specs.declared.direction.Direction.TheVariants.{Columns, Rows}
 use Rattle.papergrid_axis.specs.Chosen.{exact_single}
 use Rattle.papergrid_axis.specs.Ranges.{IsInTable, end_of, first_out, place_of}
 use Rattle.papergrid_axis.specs.declared.seen.Seen.{Seen}
-use Rattle.papergrid_axis.specs.Seen.{IsSeen, first_greatest, is_single, kept_for, no_demand, others}
-use Rattle.papergrid_axis.specs.Sizes.{base_size, base_sizes, by_place, by_span, taken}
+use Rattle.papergrid_axis.specs.Seen.{Holds, IsSeen, first_greatest, is_large, is_single, kept_for, no_demand, others, without_need}
+use Rattle.papergrid_axis.specs.Sizes.{base_size, base_sizes, by_place, taken}
 use Rattle.papergrid_axis.proofs.Greatest.{get_or-base_sizes, length-base_sizes}
 
 -- ---- the first of greatest need
@@ -74,8 +77,27 @@ kept-first i kept (d ∷ ds) m e lt = elim (cases_Bool (eqb d.span 1 && eqb d.st
       (skip ∙ rest.0, rest.1)
 ]
 
+-- what is kept cell by cell is the first of greatest need
+kept-is_first : (i : ℕ) (ds : List Demand) → fold (kept_for i) no_demand ds ≡ first_greatest i ds
+unfolding first_greatest
+kept-is_first i ds = elim (cases_lt 0 (base_size ds i)) [
+  | inl some ↦
+      let other : (base_size ds i == 0) ≡ false = ne_eqb (base_size ds i) 0 (omega arith) in
+      rw (other, (kept-first i no_demand ds (base_size ds i) refl some).0) refl
+  | inr none ↦
+      let zero : (base_size ds i == 0) ≡ true = eq-eqb (base_size ds i) 0 (omega arith) in
+      rw zero (kept-stays i no_demand ds none)
+]
+
+pub first_greatest_nil : (i : ℕ) → first_greatest i [] ≡ no_demand
+first_greatest_nil i = sym (kept-is_first i [])
+
+pub first_greatest_more : (i : ℕ) (ds : List Demand) (d : Demand) → first_greatest i (ds ++ d ∷ []) ≡ kept_for i (first_greatest i ds) d
+first_greatest_more i ds d =
+    sym (kept-is_first i (ds ++ d ∷ [])) ∙ fold-append (kept_for i) no_demand ds (d ∷ []) ∙ ap (λ k. kept_for i k d) (kept-is_first i ds)
+
 pub need-first_greatest : (i : ℕ) (ds : List Demand) → (first_greatest i ds).need ≡ base_size ds i
-need-first_greatest i ds = elim (cases_lt 0 (base_size ds i)) [
+need-first_greatest i ds = ap (λ (k : Demand). k.need) (sym (kept-is_first i ds)) ∙ elim (cases_lt 0 (base_size ds i)) [
   | inl some ↦ (kept-first i no_demand ds (base_size ds i) refl some).1
   | inr none ↦ ap (λ (k : Demand). k.need) (kept-stays i no_demand ds none) ∙ (omega arith)
 ]
@@ -84,7 +106,7 @@ need-first_greatest i ds = elim (cases_lt 0 (base_size ds i)) [
 pub exact_single-first : (i : ℕ) (ds : List Demand) (sizes : List ℕ) → get_or sizes i 0 ≡ base_size ds i → get_or sizes i 0 ≢ 0 → exact_single ds sizes i ≡ Some (first_greatest i ds)
 exact_single-first i ds sizes base some =
     let lt : 0 < get_or sizes i 0 = omega arith in
-    (kept-first i no_demand ds (get_or sizes i 0) (sym base) lt).0
+    (kept-first i no_demand ds (get_or sizes i 0) (sym base) lt).0 ∙ ap Some (kept-is_first i ds)
 
 -- the base sizes are the needs of what is kept
 pub base-from_singles : (n limit : ℕ) (demands singles : List Demand) (sizes : List ℕ) → n ≤ limit → length sizes ≡ n →
@@ -150,6 +172,69 @@ get_or-padded [] zero = refl
 get_or-padded [] (suc k) = refl
 get_or-padded (d ∷ ds) zero = refl
 get_or-padded (d ∷ ds) (suc k) = get_or-padded ds k
+
+-- ---- one cell more
+
+others-more : (limit : ℕ) (ds : List Demand) (d : Demand) → others limit (ds ++ d ∷ []) ≡ others limit ds ++ others limit (d ∷ [])
+others-more limit ds d = filter-append (λ d. not (is_single limit d)) ds (d ∷ [])
+
+others-single : (limit : ℕ) (ds : List Demand) (d : Demand) → is_single limit d ≡ true → others limit (ds ++ d ∷ []) ≡ others limit ds
+others-single limit ds d single = others-more limit ds d ∙ rw single (append-nil (others limit ds))
+
+others-other : (limit : ℕ) (ds : List Demand) (d : Demand) → is_single limit d ≡ false → others limit (ds ++ d ∷ []) ≡ others limit ds ++ d ∷ []
+others-other limit ds d other = others-more limit ds d ∙ rw other refl
+
+or_none : (b : Bool) → (b || false) ≡ b
+or_none true = refl
+or_none false = refl
+
+module _ (limit : ℕ) (old new : Seen) (demands : List Demand) (d : Demand) (held : Holds limit old demands) (one : 1 ≤ d.span) (small : d.need < 2 ^ 64)
+    (same_limit : new.limit ≡ old.limit) (same_large : new.is_large ≡ old.is_large) where
+  large : new.is_large ≡ list_any is_large (demands ++ d ∷ [])
+  large =
+      let below : is_large d ≡ false = lt-leb (2 ^ 64) d.need small in
+      same_large ∙ held.large ∙ sym (list_any-append is_large demands (d ∷ []) ∙ rw below (or_none (list_any is_large demands)))
+
+  spans : All (λ e. 1 ≤ e.span) (demands ++ d ∷ [])
+  spans = All-push (λ e. 1 ≤ e.span) demands d held.spans one
+
+  -- one that covers a number alone, below the limit, is kept by its number
+  pub Holds-single : is_single limit d ≡ true → new.others.items ≡ old.others.items →
+      ((k : ℕ) → get_or new.singles.items k no_demand ≡ kept_for k (get_or old.singles.items k no_demand) d) → Holds limit new (demands ++ d ∷ [])
+  Holds-single single same kept = record {
+    limit_is = same_limit ∙ held.limit_is;
+    ranges = ap (map without_need) same ∙ held.ranges ∙ ap (map without_need) (sym (others-single limit demands d single));
+    large = large;
+    exact = λ h. same ∙ held.exact (sym same_large ∙ h) ∙ sym (others-single limit demands d single);
+    singles = λ h i l. kept i ∙ ap (λ k. kept_for i k d) (held.singles (sym same_large ∙ h) i l) ∙ sym (first_greatest_more i demands d);
+    spans = spans;
+  }
+
+  -- any other as it came
+  pub Holds-other : is_single limit d ≡ false → new.others.items ≡ old.others.items ++ d ∷ [] → new.singles.items ≡ old.singles.items →
+      Holds limit new (demands ++ d ∷ [])
+  Holds-other other pushed same = record {
+    limit_is = same_limit ∙ held.limit_is;
+    ranges =
+        ap (map without_need) pushed ∙ map-append without_need old.others.items (d ∷ []) ∙ ap (λ l. l ++ without_need d ∷ []) held.ranges
+        ∙ sym (map-append without_need (others limit demands) (d ∷ [])) ∙ ap (map without_need) (sym (others-other limit demands d other));
+    large = large;
+    exact = λ h. pushed ∙ ap (λ l. l ++ d ∷ []) (held.exact (sym same_large ∙ h)) ∙ sym (others-other limit demands d other);
+    singles = λ h i l.
+        ap (λ xs. get_or xs i no_demand) same ∙ held.singles (sym same_large ∙ h) i l
+        ∙ sym (first_greatest_more i demands d ∙ elsewhere i l);
+    spans = spans;
+  }
+    where
+      elsewhere : (i : ℕ) → i < limit → kept_for i (first_greatest i demands) d ≡ first_greatest i demands
+      elsewhere i l = elim (cases_Bool (eqb d.span 1 && eqb d.start i)) [
+        | inl t ↦
+            let parts = and_parts (eqb d.span 1) (eqb d.start i) t in
+            let at : d.start ≡ i = eqb-true d.start i parts.1 in
+            let single : is_single limit d ≡ true = and_from (eqb d.span 1) (ltb d.start limit) parts.0 (lt-ltb d.start limit (omega arith)) in
+            absurd (true≢false (sym single ∙ other))
+        | inr f ↦ rw f refl
+      ]
 
 -- ---- what is kept of a table where no need is large
 

@@ -1,8 +1,9 @@
 -- What a walk over cells keeps of their demands. Only contracts of functions below the public calls and proofs speak of this.
-use Rattle.std.specs.Prelude.{◌≡◌, ℕ, ◌<◌, ◌≤◌, ◌^◌, ◌&&◌, ◌==◌, Bool, true, false, if◌then◌else◌, not, nat_lt, nat_le, List, ◌++◌, map, filter, fold, All, slice_index_or}
+use Rattle.std.specs.Prelude.{◌≡◌, ℕ, ◌<◌, ◌≤◌, ◌^◌, ◌&&◌, ◌==◌, Bool, true, false, if◌then◌else◌, not, nat_lt, nat_le, List, ◌++◌, map, filter, find, unwrap_or, All, slice_index_or}
 use Rattle.std.specs.List.{list_any}
 use Rattle.papergrid_axis.specs.declared.demand.Demand.{Demand}
 use Rattle.papergrid_axis.specs.declared.seen.Seen.{Seen}
+use Rattle.papergrid_axis.specs.Sizes.{base_size}
 
 -- whether the need is past the greatest `usize`
 abbrev pub is_large : Demand → Bool
@@ -24,13 +25,15 @@ others limit demands = filter (λ d. not (is_single limit d)) demands
 abbrev pub no_demand : Demand
 no_demand = record { row = 0; col = 0; start = 0; span = 1; need = 0 }
 
+-- of the cells that cover i alone, the first that needs as much as any of them; none where none needs anything
+unfoldable pub first_greatest : ℕ → List Demand → Demand
+first_greatest i demands =
+    if base_size demands i == 0 then no_demand
+    else unwrap_or (find (λ d. d.span == 1 && d.start == i && d.need == base_size demands i) demands) no_demand
+
 -- what is kept for number i once one more cell is met: that, if it covers i alone and needs more
 abbrev pub kept_for : ℕ → Demand → Demand → Demand
 kept_for i kept d = if (d.span == 1 && d.start == i) && nat_lt kept.need d.need then d else kept
-
--- the first of greatest need of the cells that cover i alone
-abbrev pub first_greatest : ℕ → List Demand → Demand
-first_greatest i demands = fold (kept_for i) no_demand demands
 
 -- these demands were kept by a limit: ranges, whether a need is large, and, where none is, the demands themselves
 pub record Holds (limit : ℕ) (seen : Seen) (demands : List Demand) : Type 0 where

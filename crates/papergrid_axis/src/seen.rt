@@ -34,6 +34,7 @@ const NO_DEMAND: Demand = Demand {
 
 impl Seen {
     /// Nothing seen. It takes no memory.
+    #[tactic(auto, using(crate::proofs::SeenLemmas::first_greatest_nil))]
     pub fn new(alloc: Global, limit: usize) -> Self
         ensures { Holds limit result [] }
     {

@@ -1,4 +1,4 @@
-use Rattle.std.proofs.Common.{ℕ, ◌+◌, ◌-◌, ◌<◌, ◌≤◌, get_or, length, refl, subst₂, arith}
+use Rattle.std.proofs.Common.{◌-◌, ◌≤◌, refl, subst₂, arith}
 use Rattle.std.proofs.lemmas.Bool.{false≢true}
 use Rattle.std.proofs.lemmas.List.{get_or_default}
 use Rattle.papergrid_values.specs.declared.position.Position.{Position}

@@ -1,4 +1,4 @@
-use Rattle.std.proofs.Common.{rules, of_calls, ◌≡◌, ◌∙◌, ap, cond, count_by, get_or, true, false, sym, subst, arith}
+use Rattle.std.proofs.Common.{rules, of_calls, ◌≡◌, ◌∙◌, ap, cond, count_by, get_or, true, false, sym, subst}
 use Rattle.std.specs.Prelude.{nat_lt}
 use Rattle.std.specs.List.Sorted.{IsPartitionPoint}
 use Rattle.std.proofs.lemmas.List.Sorted.{IsPartitionPoint-from_clause, IsPartitionedBy-ltb}

@@ -1,12 +1,11 @@
-use Rattle.std.proofs.Common.{◌≡◌, ◌+◌, ◌<◌, ◌≤◌, ◌∙◌, ℕ, List, arith, refl, sym, ap, ap₂, get_or, length, sum, fold}
-use Rattle.std.specs.Prelude.{All}
+use Rattle.std.proofs.Common.{◌≡◌, ◌∙◌, ℕ, List, arith, ap, ap₂, get_or, length, fold}
 use Rattle.std.specs.Vec.{with_items}
 use Rattle.std.proofs.lemmas.List.{length-replicate, with_items_is}
 use Rattle.papergrid_axis.specs.declared.demand.Demand.{Demand}
 use Rattle.papergrid_axis.specs.Chosen.{growing}
-use Rattle.papergrid_axis.specs.Ranges.{IsInTable, all_lines, line_at}
-use Rattle.papergrid_axis.specs.Seen.{IsSeen, no_demand}
-use Rattle.papergrid_axis.specs.Sizes.{base_sizes, grown, sizes_of, taken}
+use Rattle.papergrid_axis.specs.Ranges.{line_at}
+use Rattle.papergrid_axis.specs.Seen.{no_demand}
+use Rattle.papergrid_axis.specs.Sizes.{base_sizes, grown, taken}
 use Rattle.papergrid_axis.proofs.Greatest.{length-base_sizes}
 use Rattle.papergrid_axis.proofs.OutLemmas.{table_demands}
 use Rattle.papergrid_axis.proofs.SeenLemmas.{base-seen, table-seen, taken-seen}

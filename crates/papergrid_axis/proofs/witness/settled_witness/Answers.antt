@@ -1,9 +1,8 @@
 use Rattle.std.proofs.Common.{◌≡◌, ◌∙◌, ap, ap₂, sym, refl, subst, length, map}
-use Rattle.std.specs.Prelude.{All}
 use Rattle.std.proofs.lemmas.Bool.{false≢true}
 use Rattle.papergrid_axis.specs.Chosen.{chosen}
 use Rattle.papergrid_axis.specs.LastCells.{AreExact, IsLaminar, IsOrdered, IsUnder}
-use Rattle.papergrid_axis.specs.Ranges.{IsInTable, place_of}
+use Rattle.papergrid_axis.specs.Ranges.{place_of}
 use Rattle.papergrid_axis.proofs.Theorems.{table-taken, table-growing, Fits-sizes_of}
 use Rattle.papergrid_axis.proofs.WitnessLemmas.{AreChosen-from_ordered, AreExact-settled, NoneChosen-from_unordered, IsLaminar-growers}
 use Rattle.papergrid_axis.proofs.witness.settled_witness.Goals as goal
