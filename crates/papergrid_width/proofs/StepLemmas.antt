@@ -1,5 +1,5 @@
 -- The steps of `unicode_width` at the parts.
-use Rattle.std.proofs.Common.{◌≡◌, ◌≢◌, ℕ, ◌⊎◌, ◌+◌, ◌<◌, ◌≤◌, Bool, true, false, not, ◌||◌, ◌==◌, nat_lt, List, [], ◌∷◌, Option, Some, inl, inr, refl, sym, subst, ap, ◌∙◌, arith, IfSome}
+use Rattle.std.proofs.Common.{◌≡◌, ◌≢◌, ℕ, ◌⊎◌, ◌+◌, ◌<◌, true, false, not, ◌||◌, [], ◌∷◌, Some, refl, sym, subst, ap, ◌∙◌, arith, IfSome}
 use Rattle.std.specs.Int.{is_in_range}
 use Rattle.std.proofs.lemmas.Bool.Decides.{nat_tests}
 use Rattle.ucd_table.specs.Rows.{in_ranges}
@@ -7,14 +7,11 @@ use Rattle.ucd_table.proofs.Facts.{Stepped-everywhere}
 use Rattle.ucd_table.proofs.Stepped.{of_ranges, zip_stepped}
 use Rattle.ucd_emoji.proofs.BinaryLemmas.{is_emoji_modifier_base_stepped}
 use Rattle.ucd_emoji.specs.Binary.{is_emoji_modifier_base, is_emoji_variation_base}
-use Rattle.unicode_width.specs.declared.kind.Kind.{Kind}
-use Rattle.unicode_width.specs.declared.kind.Kind.TheVariants as kinds
 use Rattle.unicode_width.specs.declared.state.After.TheVariants as states
 use Rattle.unicode_width.specs.declared.state.State.{State}
-use Rattle.unicode_width.specs.Kind.{kind}
 use Rattle.unicode_width.specs.Width.{alone, before, plain, added, of_kind, in_context, joins, past_emoji, past_selectors, step}
 use Rattle.unicode_width.proofs.Computing.{unicode_width}
-use Rattle.papergrid_width.specs.Parts.{is_pictograph, part_of, add_apart, add_before}
+use Rattle.papergrid_width.specs.Parts.{is_pictograph, part_of, add_before}
 use Rattle.papergrid_width.specs.Emoji.{IsStep, state_of}
 use Rattle.papergrid_width.specs.declared.part.Part.{Part}
 use Rattle.papergrid_width.specs.declared.part.Part.TheVariants as parts

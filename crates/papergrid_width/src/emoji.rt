@@ -5,7 +5,6 @@ ghost use Rattle.unicode_width.specs.Width.{str_width};
 ghost use Rattle.papergrid_width.specs.Emoji.{IsStep};
 
 use crate::part::{After, add_before, part_of};
-use std::iter::{DoubleEndedIterator, Iterator};
 use ucd_emoji::{is_emoji_modifier_base, is_emoji_variation_base};
 
 /// The width of a text of emoji and printable ASCII, or `None` where it may have something else.

@@ -1,9 +1,9 @@
-use Rattle.std.proofs.Common.{◌≡◌, false, ◌++◌, length, encode_utf8_all, sym, ap, ◌∙◌, ◌<◌, ◌≤◌, ◌^◌, ◌*◌, length-append, arith, rules}
+use Rattle.std.proofs.Common.{◌≡◌, false, ◌++◌, encode_utf8_all, sym, ap, ◌∙◌, arith}
 use Rattle.std.proofs.lemmas.List.{nil_from_length}
 use Rattle.std.proofs.lemmas.Str.{chars_from_encodes}
 use Rattle.std.specs.Str.Iter.{chars_rest}
 use Rattle.unicode_width.specs.Width.{plain, read_before, str_width}
-use Rattle.unicode_width.proofs.WidthLemmas.{HasRead, HasRead-step}
+use Rattle.unicode_width.proofs.WidthLemmas.{HasRead-step}
 use Rattle.papergrid_width.specs.Emoji.{state_of}
 use Rattle.papergrid_width.proofs.emoji.emoji_width.Goals as goal
 
