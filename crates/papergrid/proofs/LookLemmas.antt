@@ -9,7 +9,8 @@ use Rattle.papergrid_axis.specs.declared.error.LayoutError.{LayoutError}
 use Rattle.papergrid_maps.specs.MapHeld.{held_value}
 use Rattle.papergrid_maps.specs.Spans as spans
 use Rattle.papergrid_maps.specs.Spans.{from_two, is_visible}
-use Rattle.papergrid_maps.proofs.MadeTables.{spans_made_told, told_borders, told_spans}
+use Rattle.papergrid_tables.proofs.MadeTables.{told_borders}
+use Rattle.papergrid_maps.proofs.MadeTables.{spans_made_told, told_spans}
 use Rattle.papergrid_maps.proofs.MapHeldLemmas.{held_decided}
 use Rattle.papergrid_config.specs.Decided as decided
 use Rattle.papergrid_config.specs.Made.{characters_of, spans_of}

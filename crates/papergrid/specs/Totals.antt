@@ -4,7 +4,7 @@ use Rattle.papergrid_values.specs.declared.position.Position.{Position}
 use Rattle.papergrid_axis.specs.Answers.{AreChosen, NoneChosen}
 use Rattle.papergrid_axis.specs.declared.direction.Direction.{Direction}
 use Rattle.papergrid_axis.specs.declared.direction.Direction.TheVariants.{Columns, Rows}
-use Rattle.papergrid_maps.specs.Places.{Places, places_from}
+use Rattle.papergrid_tables.specs.Places.{Places, places_from}
 use Rattle.papergrid_config.specs.Lines.{count_lines}
 use Rattle.papergrid_config.specs.Made.{characters_of}
 use Rattle.papergrid_config.specs.Parts.{character_calls}

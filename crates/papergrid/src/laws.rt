@@ -3,10 +3,10 @@
 ghost use Rattle.std.specs.Prelude.{◌≡◌, ◌↔◌, ◌+◌, ℕ, IsTrue, IsUtf8, List, Option, Some, Ok, Err, length};
 ghost use Rattle.papergrid_values.specs.declared.entity.Entity.{Entity};
 ghost use Rattle.papergrid_values.specs.declared.position.Position.{Position};
+ghost use Rattle.papergrid_tables.specs.LineTests.{horizontal_line_at, vertical_line_at};
+ghost use Rattle.papergrid_tables.specs.Places.{HasHorizontal, HasVertical};
 ghost use Rattle.papergrid_maps.specs.declared.entity_map.MapCall.{MapCall};
 ghost use Rattle.papergrid_maps.specs.MapCalls.{decided_value};
-ghost use Rattle.papergrid_maps.specs.LineTests.{horizontal_line_at, vertical_line_at};
-ghost use Rattle.papergrid_maps.specs.Places.{HasHorizontal, HasVertical};
 ghost use Rattle.papergrid_config.specs.Made.{characters_of};
 ghost use Rattle.papergrid_config.specs.declared.setting.Setting.{Setting};
 ghost use Rattle.papergrid_layout.specs.Answers.{first_out_of_table};

@@ -6,10 +6,10 @@ use Rattle.std.proofs.lemmas.Bool.{false≢true, and_from, or_left, or_right, eq
 use Rattle.papergrid_values.specs.declared.borders.Borders.{Borders}
 use Rattle.papergrid_values.specs.declared.position.Position.{Position}
 use Rattle.papergrid_values.specs.Borders.{has_left, has_right, has_top, has_bottom, has_horizontal, has_vertical}
-use Rattle.papergrid_maps.specs.BorderHeld.{HeldBorders, places_of}
-use Rattle.papergrid_maps.specs.LineTests.{horizontal_line_at, vertical_line_at}
-use Rattle.papergrid_maps.specs.Places.{Places, HasHorizontal, HasVertical, at_ends, found_horizontal, found_intersection, found_vertical, frame_horizontal, frame_vertical}
-use Rattle.papergrid_maps.proofs.LineTested.{horizontal_tested, vertical_tested}
+use Rattle.papergrid_tables.specs.BorderHeld.{HeldBorders, places_of}
+use Rattle.papergrid_tables.specs.LineTests.{horizontal_line_at, vertical_line_at}
+use Rattle.papergrid_tables.specs.Places.{Places, HasHorizontal, HasVertical, at_ends, found_horizontal, found_intersection, found_vertical, frame_horizontal, frame_vertical}
+use Rattle.papergrid_tables.proofs.LineTested.{horizontal_tested, vertical_tested}
 use Rattle.papergrid_config.specs.Lines.{shown, shown_horizontal, shown_intersection, shown_vertical}
 
 module _ {T : Type 0} where

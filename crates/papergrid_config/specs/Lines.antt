@@ -3,9 +3,9 @@ use Rattle.std.specs.Prelude.{ℕ, ◌+◌, ◌&&◌, Bool, if◌then◌else◌,
 use Rattle.std.specs.Option.{option_or}
 use Rattle.std.specs.List.{count_by, range_with_len}
 use Rattle.papergrid_values.specs.declared.position.Position.{Position}
-use Rattle.papergrid_maps.specs.BorderHeld.{HeldBorders, places_of}
-use Rattle.papergrid_maps.specs.LineTests.{horizontal_line_at, vertical_line_at}
-use Rattle.papergrid_maps.specs.Places.{found_horizontal, found_intersection, found_vertical}
+use Rattle.papergrid_tables.specs.BorderHeld.{HeldBorders, places_of}
+use Rattle.papergrid_tables.specs.LineTests.{horizontal_line_at, vertical_line_at}
+use Rattle.papergrid_tables.specs.Places.{found_horizontal, found_intersection, found_vertical}
 use Rattle.papergrid_config.specs.declared.found.Direction.{Direction}
 use Rattle.papergrid_config.specs.declared.found.Direction.TheVariants.{Vertical, Horizontal}
 

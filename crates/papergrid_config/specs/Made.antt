@@ -6,8 +6,9 @@ use Rattle.papergrid_values.specs.declared.ansi_str.ANSIStr.{ANSIStr}
 use Rattle.papergrid_values.specs.declared.borders.Borders.{Borders}
 use Rattle.papergrid_values.specs.declared.entity.Entity.TheVariants.{Global}
 use Rattle.papergrid_values.specs.declared.sides.Sides.{Sides}
-use Rattle.papergrid_maps.specs.BorderHeld.{HeldBorders}
-use Rattle.papergrid_maps.specs.Made.{borders_made, spans_made}
+use Rattle.papergrid_tables.specs.BorderHeld.{HeldBorders}
+use Rattle.papergrid_tables.specs.Made.{borders_made}
+use Rattle.papergrid_maps.specs.Made.{spans_made}
 use Rattle.papergrid_maps.specs.Spans.{Spans}
 use Rattle.papergrid_maps.specs.declared.compact.CompactConfig.{CompactConfig}
 use Rattle.papergrid_config.specs.Parts.{character_calls, span_calls}

@@ -6,10 +6,10 @@ use Rattle.papergrid_values.specs.declared.ansi_buf.ANSIBuf.{ANSIBuf}
 use Rattle.papergrid_values.specs.declared.indent.Indent.{Indent}
 use Rattle.papergrid_values.specs.declared.offset.Offset.{Offset}
 use Rattle.papergrid_values.specs.declared.sides.Sides.{Sides}
+use Rattle.papergrid_tables.specs.BorderCalls as lines
+use Rattle.papergrid_tables.specs.Overrides as overrides
 use Rattle.papergrid_maps.specs.declared.entity_map.MapCall.{MapCall}
 use Rattle.papergrid_maps.specs.declared.entity_map.MapCall.TheVariants.{Insert}
-use Rattle.papergrid_maps.specs.BorderCalls as lines
-use Rattle.papergrid_maps.specs.Overrides as overrides
 use Rattle.papergrid_maps.specs.Spans as spans
 use Rattle.papergrid_config.specs.declared.setting.Setting.{Setting}
 use Rattle.papergrid_config.specs.declared.setting.Setting.TheVariants.{SetMargin, SetMarginColor, SetMarginOffset, RemoveBorders, RemoveBordersColors, RemoveColorLineHorizontal, RemoveColorLineVertical, RemoveHorizontalChars, RemoveVerticalChars, SetBorders, SetBorderDefault, SetBordersColor, SetBorderColorDefault, SetBordersMissing, InsertHorizontalLine, RemoveHorizontalLine, InsertVerticalLine, RemoveVerticalLine, SetHorizontalChar, RemoveOverriddenHorizontal, SetVerticalChar, RemoveOverriddenVertical, SetHorizontalCharColor, SetVerticalCharColor, SetPadding, SetPaddingColor, SetTrimHorizontal, SetTrimVertical, SetLineAlignment, SetAlignmentHorizontal, SetAlignmentVertical, SetJustification, SetJustificationColor, SetBorder, SetBorderColor, RemoveBorder, RemoveBorderColor, SetColumnSpan, SetRowSpan, RemoveColumnSpans, RemoveRowSpans}

@@ -4,10 +4,10 @@ use Rattle.papergrid_values.specs.Keys.{sides_parts}
 use Rattle.papergrid_values.specs.Parts.{none_set}
 use Rattle.papergrid_values.specs.declared.ansi_buf.ANSIBuf.{ANSIBuf}
 use Rattle.papergrid_values.specs.declared.sides.Sides.{Sides}
-use Rattle.papergrid_maps.specs.BorderHeld.{places_of}
+use Rattle.papergrid_tables.specs.BorderHeld.{places_of}
+use Rattle.papergrid_tables.specs.Overrides.{IsClear}
+use Rattle.papergrid_tables.specs.Places.{IsBare}
 use Rattle.papergrid_maps.specs.MapHeld.{Held, HasNothing, Holds}
-use Rattle.papergrid_maps.specs.Overrides.{IsClear}
-use Rattle.papergrid_maps.specs.Places.{IsBare}
 use Rattle.papergrid_config.specs.declared.spanned.SpannedConfig.{SpannedConfig}
 
 -- no value is held for a column, a row or a cell, and the global value is none

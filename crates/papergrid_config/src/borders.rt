@@ -5,8 +5,8 @@ ghost use Rattle.std.specs.Prelude.{◌≡◌, ◌∷◌, [], ◌+◌, ◌<◌, 
 ghost use Rattle.std.specs.HashMap.{get as map_get};
 ghost use Rattle.std.specs.FinMap.{get as value_at};
 ghost use Rattle.papergrid_values.specs.Borders.{border_map};
-ghost use Rattle.papergrid_maps.specs.BorderHeld.{places_of};
-ghost use Rattle.papergrid_maps.specs.Places.{found_border};
+ghost use Rattle.papergrid_tables.specs.BorderHeld.{places_of};
+ghost use Rattle.papergrid_tables.specs.Places.{found_border};
 ghost use Rattle.papergrid_config.specs.Told.{Appends};
 ghost use Rattle.papergrid_config.specs.declared.setting.Setting.{Setting};
 

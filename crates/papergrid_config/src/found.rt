@@ -2,9 +2,9 @@
 
 ghost use Rattle.std.specs.Prelude.{◌≡◌, ◌↔◌, ◌+◌, ◌-◌, ◌<◌, ◌≤◌, ◌^◌, IsTrue, EachIndex, false, length, option_copied, slice_index_or};
 ghost use Rattle.std.specs.List.{count_by, range_with_len};
-ghost use Rattle.papergrid_maps.specs.BorderHeld.{places_of};
-ghost use Rattle.papergrid_maps.specs.LineTests.{horizontal_line_at, vertical_line_at};
-ghost use Rattle.papergrid_maps.specs.Places.{HasHorizontal, HasVertical, found_horizontal, found_intersection, found_vertical};
+ghost use Rattle.papergrid_tables.specs.BorderHeld.{places_of};
+ghost use Rattle.papergrid_tables.specs.LineTests.{horizontal_line_at, vertical_line_at};
+ghost use Rattle.papergrid_tables.specs.Places.{HasHorizontal, HasVertical, found_horizontal, found_intersection, found_vertical};
 ghost use Rattle.papergrid_config.specs.Lines.{count_lines, line_at, shown_horizontal, shown_intersection, shown_vertical};
 
 use crate::spanned::SpannedConfig;

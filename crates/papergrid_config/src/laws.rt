@@ -2,8 +2,8 @@
 
 ghost use Rattle.std.specs.Prelude.{◌≡◌, ◌↔◌, ◌≤◌, ℕ, IsSome, List};
 ghost use Rattle.papergrid_values.specs.declared.position.Position.{Position};
-ghost use Rattle.papergrid_maps.specs.BorderHeld.{HeldBorders, places_of};
-ghost use Rattle.papergrid_maps.specs.Places.{HasHorizontal, HasVertical};
+ghost use Rattle.papergrid_tables.specs.BorderHeld.{HeldBorders, places_of};
+ghost use Rattle.papergrid_tables.specs.Places.{HasHorizontal, HasVertical};
 ghost use Rattle.papergrid_config.specs.Laws.{HoldsWhatIsDecided};
 ghost use Rattle.papergrid_config.specs.Lines.{shown_horizontal, shown_intersection, shown_vertical};
 ghost use Rattle.papergrid_config.specs.Told.{IsTold};

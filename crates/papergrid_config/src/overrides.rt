@@ -2,7 +2,7 @@
 //! `config/spanned/mod.rs`.
 
 ghost use Rattle.std.specs.Prelude.{◌≡◌, ◌∷◌, [], ◌↔◌, OnOk, OnErr, IsTrue, option_copied};
-ghost use Rattle.papergrid_maps.specs.Overrides.{IsOverridden, found_override, override_at};
+ghost use Rattle.papergrid_tables.specs.Overrides.{IsOverridden, found_override, override_at};
 ghost use Rattle.papergrid_config.specs.Told.{Appends};
 ghost use Rattle.papergrid_config.specs.declared.setting.Setting.{Setting};
 

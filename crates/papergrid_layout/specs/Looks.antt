@@ -3,8 +3,8 @@ use Rattle.std.specs.Prelude.{ℕ, Bool, true, false}
 use Rattle.papergrid_values.specs.declared.position.Position.{Position}
 use Rattle.papergrid_values.specs.declared.sides.Sides.{Sides}
 use Rattle.papergrid_values.specs.declared.indent.Indent.{Indent}
-use Rattle.papergrid_maps.specs.BorderHeld.{HeldBorders}
-use Rattle.papergrid_maps.specs.LineTests.{horizontal_line_at, vertical_line_at}
+use Rattle.papergrid_tables.specs.BorderHeld.{HeldBorders}
+use Rattle.papergrid_tables.specs.LineTests.{horizontal_line_at, vertical_line_at}
 use Rattle.papergrid_maps.specs.MapHeld.{held_value}
 use Rattle.papergrid_maps.specs.Spans.{Spans, column_span, is_visible, row_span}
 use Rattle.papergrid_maps.specs.declared.compact.CompactConfig.{CompactConfig}

@@ -8,13 +8,13 @@ use Rattle.std.proofs.lemmas.Bool.{cases_Bool, cases_eq, true≢false, and_parts
 use Rattle.std.proofs.lemmas.List.{get_or_default}
 use Rattle.std.proofs.lemmas.List.Folds.{Any-from_list_any, list_any-from_Any}
 use Rattle.papergrid_values.specs.declared.position.Position.{Position}
-use Rattle.papergrid_maps.specs.Keys.{position_eq}
+use Rattle.papergrid_tables.specs.Keys.{position_eq}
 use Rattle.papergrid_maps.specs.Spans.{column_span, row_span, is_visible, IsVisible, IsInRectangle}
 use Rattle.papergrid_maps.specs.SpanScan.{IsRising, along, covers}
 use Rattle.papergrid_maps.specs.declared.covering.Rising.{Rising}
 use Rattle.papergrid_maps.specs.declared.covering.Rising.TheVariants.{Columns, Rows}
-use Rattle.papergrid_maps.proofs.AnyLemmas.{any_found, any_from_found}
-use Rattle.papergrid_maps.proofs.KeyLemmas.{exact_position_eq, get_at_position, position_equiv}
+use Rattle.papergrid_tables.proofs.AnyLemmas.{any_found, any_from_found}
+use Rattle.papergrid_tables.proofs.KeyLemmas.{exact_position_eq, get_at_position, position_equiv}
 use Rattle.papergrid_maps.proofs.SpanScans.{spans_of}
 use Rattle.papergrid_maps.proofs.SpanVisible.{apart_by_test, apart_from_test, visible_test}
 

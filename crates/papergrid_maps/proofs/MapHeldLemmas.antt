@@ -7,12 +7,13 @@ use Rattle.std.specs.Prelude.{unwrap_or, Result, Ok, Err, OnErr, OnOk, IfOk}
 use Rattle.std.specs.Result.{MatchResult}
 use Rattle.std.specs.Map.{lookup}
 use Rattle.std.specs.FinMap.{from_entries}
-use Rattle.papergrid_maps.specs.Keys.{position_eq}
+use Rattle.papergrid_tables.specs.Keys.{position_eq}
 use Rattle.papergrid_maps.specs.MapHeld.{Held, HasNothing, held_value, IsTold}
 use Rattle.papergrid_maps.specs.MapCalls.{decided_value}
 use Rattle.papergrid_maps.specs.declared.entity_map.MapCall.{MapCall}
 use Rattle.papergrid_values.specs.declared.position.Position.{Position}
-use Rattle.papergrid_maps.proofs.KeyLemmas.{get_at_number, get_at_position, position_equiv}
+use Rattle.papergrid_tables.proofs.EntryLemmas.{no_entries, none_of_nothing}
+use Rattle.papergrid_tables.proofs.KeyLemmas.{get_at_number, get_at_position, position_equiv}
 
 module _ {T : Type 0} where
   -- the map with these entries
@@ -30,23 +31,6 @@ module _ {T : Type 0} where
     rows = λ r. get_at_number [] r;
     cells = λ p. get_at_position [] p;
   }
-
-none_is_not_some : {X : Type 0} {x : X} → ◌≡◌ {A = Option X} None (Some x) → ⊥
-none_is_not_some e = false≢true (ap is_some e)
-
--- a list of entries in which no key has a value is empty
-pub no_entries : {K X : Type 0} (E : K → K → Bool) (laws : IsEquivalence E) (es : List (K × X)) → ((q : K) → lookup (E q) es ≡ None) → length es ≡ 0
-no_entries E laws [] none = refl
-no_entries E laws (e ∷ es) none =
-    absurd (none_is_not_some (sym (none e.0) ∙ ap (λ b. cond b (Some e.1) (lookup (E e.0) es)) (laws.refl e.0)))
-
-pub none_of_nothing : {K X : Type 0} (E : K → K → Bool) (es : List (K × X)) → length es ≡ 0 → (q : K) → lookup (E q) es ≡ None
-none_of_nothing E [] h q = refl
-none_of_nothing E (e ∷ es) h q = absurd (omega (arith, h))
-
--- a test for no entries tells whether no key has a value
-pub empty_where_none : {K X P : Type 0} (E : K → K → Bool) (laws : IsEquivalence E) (es : List (K × X)) → P ↔ (length es ≡ 0) → P ↔ ((q : K) → lookup (E q) es ≡ None)
-empty_where_none E laws es empty = ((λ h. none_of_nothing E es (empty.0 h)), (λ none. empty.1 (no_entries E laws es none)))
 
 -- nothing is held where the three maps are empty
 pub nothing_held : {T : Type 0} (g : T) (cs rs : List (ℕ × T)) (ks : List (Position × T)) (a b c : Bool)
@@ -72,18 +56,6 @@ unwrap_or_set d e = ap (λ o. unwrap_or o d) e
 
 pub unwrap_or_unset : {T : Type 0} {v : T} {o : Option T} {d : T} → None ≡ o → v ≡ d → v ≡ unwrap_or o d
 unwrap_or_unset {d = d} e is = is ∙ ap (λ o. unwrap_or o d) e
-
-pub on_err : {A E : Type 0} (r : Result A E) {P : Type 0} → P → OnErr r P
-on_err (Ok x) p = tt
-on_err (Err e) p = p
-
-pub on_ok_map : {A E : Type 0} (r : Result A E) {P Q : Type 0} → (P → Q) → OnOk r P → OnOk r Q
-on_ok_map (Ok x) f p = f p
-on_ok_map (Err e) f p = p
-
-pub ok_part : {A E : Type 0} (r : Result A E) (P : A → Type 0) (Q : E → Type 0) → MatchResult r P Q → IfOk r P
-ok_part (Ok x) P Q p = p
-ok_part (Err e) P Q q = tt
 
 -- what is held is what the calls decide
 pub held_decided : {T : Type 0} (given : T) (calls : List (MapCall T)) (held : Held T) → IsTold given calls held → (p : Position) → held_value held p ≡ decided_value given calls p

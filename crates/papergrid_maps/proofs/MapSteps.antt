@@ -10,12 +10,13 @@ use Rattle.std.specs.Ordering.{nat_cmp}
 use Rattle.std.proofs.lemmas.Bool.{and_parts, eqb-true}
 use Rattle.std.proofs.lemmas.Map.Made.{is_some-lookup}
 use Rattle.std.proofs.lemmas.Map.Entries.{lookup-filter-keys}
-use Rattle.papergrid_maps.specs.Keys.{position_cmp, position_eq}
+use Rattle.papergrid_tables.specs.Keys.{position_cmp, position_eq}
 use Rattle.papergrid_values.specs.declared.position.Position.{Position}
 use Rattle.papergrid_values.specs.declared.entity.Entity.TheVariants.{Global, Column, Row, Cell}
 use Rattle.papergrid_maps.specs.declared.entity_map.MapCall.{MapCall}
 use Rattle.papergrid_maps.specs.declared.entity_map.MapCall.TheVariants.{Insert, Remove}
-use Rattle.papergrid_maps.proofs.KeyLemmas.{get_at_number, get_at_position, position_total, exact_positions}
+use Rattle.papergrid_tables.proofs.EntryLemmas.{same_numbers, same_places}
+use Rattle.papergrid_tables.proofs.KeyLemmas.{get_at_number, get_at_position, position_total, exact_positions}
 use Rattle.papergrid_maps.proofs.MapHeldLemmas.{view_of}
 use Rattle.papergrid_maps.proofs.MapTold.{IsStep, global_after, column_after, row_after, cell_after}
 
@@ -63,12 +64,6 @@ module _ {T : Type 0} where
     rows = λ r. get_at_number rs' r ∙ rows r ∙ ap (row_after call r) (sym (get_at_number rs r));
     cells = λ p. get_at_position ks' p ∙ cells p ∙ (λ i. cell_after call p (sym (get_at_number cs p.col) i) (sym (get_at_number rs p.row) i) (sym (get_at_position ks p) i));
   }
-
-  pub same_numbers : (es fs : List (ℕ × T)) → ((q : ℕ) → lookup (eqb q) fs ≡ lookup (eqb q) es) → from_entries {R = nat_cmp} fs ≡ from_entries es
-  same_numbers es fs same = same_map nat_cmp_total nat_cmp-IsAntisymmetric _ _ (λ q. get_at_number fs q ∙ same q ∙ sym (get_at_number es q))
-
-  pub same_places : (es fs : List (Position × T)) → ((q : Position) → lookup (position_eq q) fs ≡ lookup (position_eq q) es) → from_entries {R = position_cmp} fs ≡ from_entries es
-  same_places es fs same = same_map position_total exact_positions _ _ (λ q. get_at_position fs q ∙ same q ∙ sym (get_at_position es q))
 
   -- maps that answer alike hold the same
   pub same_view : (g : T) (cs rs cs' rs' : List (ℕ × T)) (ks ks' : List (Position × T))

@@ -6,12 +6,12 @@ use Rattle.std.specs.Map.{lookup, keys_of}
 use Rattle.std.specs.FinMap.{get, from_entries}
 use Rattle.std.proofs.Common.{⊎_elim}
 use Rattle.std.proofs.lemmas.Bool.{false≢true, cases_eq, and_parts, and_from, eqb-true, eq-eqb, ltb-true, lt-ltb}
-use Rattle.papergrid_maps.specs.Keys.{position_cmp, position_eq}
+use Rattle.papergrid_tables.specs.Keys.{position_cmp, position_eq}
 use Rattle.papergrid_maps.specs.Spans.{Spans, column_span, row_span, IsCoveredByColumn, IsCoveredByRow, IsCoveredByBoth, IsVisible}
 use Rattle.papergrid_maps.specs.SpanScan.{reaches_right, reaches_below, reaches_into, AreFromTwo}
 use Rattle.papergrid_values.specs.declared.position.Position.{Position}
-use Rattle.papergrid_maps.proofs.KeyLemmas.{get_at_position, position_equiv, exact_position_eq}
-use Rattle.papergrid_maps.proofs.AnyLemmas.{any_found, any_from_found}
+use Rattle.papergrid_tables.proofs.KeyLemmas.{get_at_position, position_equiv, exact_position_eq}
+use Rattle.papergrid_tables.proofs.AnyLemmas.{any_found, any_from_found}
 
 -- the spans with these entries
 abbrev pub spans_of : List (Position × ℕ) → List (Position × ℕ) → Spans

@@ -2,7 +2,7 @@
 use Rattle.std.specs.Prelude.{◌≡◌, ◌≤◌, ◌<◌, List, AllPairs, Some, ℕ, ◌-◌, ◌==◌, ◌&&◌, not, nat_lt, nat_le, Bool, Option, if◌then◌else◌, unwrap_or}
 use Rattle.std.specs.Map.{lookup}
 use Rattle.papergrid_values.specs.declared.position.Position.{Position}
-use Rattle.papergrid_maps.specs.Keys.{position_eq}
+use Rattle.papergrid_tables.specs.Keys.{position_eq}
 use Rattle.papergrid_maps.specs.Spans.{from_two}
 use Rattle.papergrid_maps.specs.declared.covering.Rising.{Rising}
 use Rattle.papergrid_maps.specs.declared.covering.Rising.TheVariants.{Columns, Rows}

@@ -3,10 +3,10 @@
 ghost use Rattle.std.specs.Prelude.{◌≡◌, nat_lt, unwrap_or};
 ghost use Rattle.std.specs.HashMap.{IsUnique, get as map_get};
 ghost use Rattle.std.specs.List.{list_any};
-ghost use Rattle.papergrid_maps.specs.Keys.{position_eq};
+ghost use Rattle.papergrid_tables.specs.Keys.{position_eq};
 ghost use Rattle.papergrid_maps.specs.SpanScan.{IsRising, along, covers};
 
-use crate::hashed::look_up;
+use papergrid_tables::hashed::look_up;
 use papergrid_values::Position;
 use std::collections::HashMap;
 

@@ -8,12 +8,13 @@ ghost use Rattle.std.specs.Option.{option_or};
 ghost use Rattle.std.specs.Set.{is_member};
 ghost use Rattle.papergrid_values.specs.declared.entity.Entity.{Entity};
 ghost use Rattle.papergrid_values.specs.declared.position.Position.{Position};
-ghost use Rattle.papergrid_maps.specs.Keys.{entity_eq, position_eq};
+ghost use Rattle.papergrid_tables.specs.Keys.{position_eq};
+ghost use Rattle.papergrid_maps.specs.Keys.{entity_eq};
 ghost use Rattle.papergrid_maps.specs.MapCalls.{decided_value};
 ghost use Rattle.papergrid_maps.specs.MapHeld.{IsTold, Appends, HasNothing, Holds, held_for, held_value, in_cells, in_columns, in_rows};
 ghost use Rattle.papergrid_maps.specs.declared.entity_map.MapCall.{MapCall};
 
-use crate::hashed::{look_up, put, take};
+use papergrid_tables::hashed::{look_up, put, take};
 use papergrid_values::{Entity, Position};
 use std::alloc::{AllocError, Global};
 use std::collections::HashMap;

@@ -6,16 +6,14 @@ ghost use Rattle.papergrid_values.specs.declared.position.Position.{Position};
 ghost use Rattle.papergrid_maps.specs.declared.entity_map.MapCall.{MapCall};
 ghost use Rattle.papergrid_maps.specs.Compact.{first_difference};
 ghost use Rattle.papergrid_maps.specs.declared.compact.CompactConfig.{CompactConfig};
-ghost use Rattle.papergrid_maps.specs.BorderCalls.{BorderCall};
-ghost use Rattle.papergrid_maps.specs.BorderHeld as borders;
-ghost use Rattle.papergrid_maps.specs.BorderHeld.{HeldBorders};
-ghost use Rattle.papergrid_maps.specs.Made.{borders_made, spans_made};
+ghost use Rattle.papergrid_maps.specs.Made.{spans_made};
 ghost use Rattle.papergrid_maps.specs.MapCalls.{decided_value};
 ghost use Rattle.papergrid_maps.specs.MapHeld.{Held, IsTold, held_value};
 ghost use Rattle.papergrid_maps.specs.Spans as spans;
 ghost use Rattle.papergrid_maps.specs.Spans.{SpanCall, Spans};
 
 use crate::{Colors, CompactConfig};
+pub use papergrid_tables::laws::told_makes_borders;
 use papergrid_values::{ANSIStr, AlignmentHorizontal, Borders, Indent, Sides};
 use std::hash::Hash;
 
@@ -24,12 +22,6 @@ use std::hash::Hash;
 pub fn told_decides<T>()
     ensures { (given : T) (calls : List (MapCall T)) (held : Held T) → IsTold given calls held →
         (pos : Position) → held_value held pos ≡ decided_value given calls pos }
-{}
-
-/// The border table that calls make is told by them, and no other is.
-pub fn told_makes_borders<T>()
-    ensures told { (calls : List (BorderCall T)) → borders.IsTold calls (borders_made calls) }
-    ensures only { (calls : List (BorderCall T)) (held : HeldBorders T) → borders.IsTold calls held → held ≡ borders_made calls }
 {}
 
 /// The spans that calls make are told by them, and no others are.

@@ -5,12 +5,12 @@ ghost use Rattle.std.specs.HashMap.{IsUnique, IsUnchanged, get as map_get};
 ghost use Rattle.std.specs.List.{list_any};
 ghost use Rattle.std.specs.FinMap.{get as value_at};
 ghost use Rattle.papergrid_values.specs.declared.position.Position.{Position};
-ghost use Rattle.papergrid_maps.specs.Keys.{position_eq};
+ghost use Rattle.papergrid_tables.specs.Keys.{position_eq};
 ghost use Rattle.papergrid_maps.specs.Spans.{IsTold, Appends, HasSpan, IsVisible, IsCoveredByColumn, IsCoveredByRow, IsCoveredByBoth, SetSpan, RemoveSpans, Columns, Rows, column_span, row_span, is_visible};
 ghost use Rattle.papergrid_maps.specs.SpanScan.{AreFromTwo, IsRising, reaches_right, reaches_below, reaches_into, span_set};
 
 use crate::covering::{Rising, columns_cover, rows_cover};
-use crate::hashed::{look_up, take, write};
+use papergrid_tables::hashed::{look_up, take, write};
 use papergrid_values::Position;
 use std::alloc::{AllocError, Global};
 use std::collections::HashMap;

@@ -11,9 +11,9 @@ use Rattle.std.specs.List.Sorted.{IsStrictlySortedBy}
 use Rattle.std.specs.Option.{option_map}
 use Rattle.std.specs.declared.cmp.Ordering.TheVariants.{Less}
 use Rattle.papergrid_values.specs.declared.position.Position.{Position}
-use Rattle.papergrid_maps.specs.Keys.{position_cmp, position_eq}
+use Rattle.papergrid_tables.specs.Keys.{position_cmp, position_eq}
 use Rattle.papergrid_maps.specs.Spans.{Spans, column_span, row_span}
-use Rattle.papergrid_maps.proofs.KeyLemmas.{exact_position_eq}
+use Rattle.papergrid_tables.proofs.KeyLemmas.{exact_position_eq}
 use Rattle.papergrid_sweep.specs.declared.anchor.Anchor.{Anchor}
 use Rattle.papergrid_sweep.specs.Anchors.{AreAnchors, HasAnchor, anchor_at}
 use Rattle.papergrid_sweep.specs.Hidden.{IsBefore, IsSorted}

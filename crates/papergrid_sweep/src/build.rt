@@ -6,7 +6,7 @@ ghost use Rattle.std.specs.HashMap.{get as map_get, keys};
 ghost use Rattle.std.specs.List.{Contains};
 ghost use Rattle.std.specs.List.Sorted.{IsStrictlySortedBy};
 ghost use Rattle.papergrid_values.specs.declared.position.Position.{Position};
-ghost use Rattle.papergrid_maps.specs.Keys.{position_cmp, position_eq};
+ghost use Rattle.papergrid_tables.specs.Keys.{position_cmp, position_eq};
 ghost use Rattle.papergrid_maps.specs.Spans.{Spans, column_span, row_span};
 ghost use Rattle.papergrid_sweep.specs.Anchors.{AreAnchors, anchor_at};
 ghost use Rattle.papergrid_sweep.specs.Hidden.{IsSorted};

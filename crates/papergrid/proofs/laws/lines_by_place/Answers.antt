@@ -1,9 +1,9 @@
 use Rattle.std.proofs.Common.{subst}
 use Rattle.std.specs.Prelude.{◌↔◌, IsTrue, flat_map}
-use Rattle.papergrid_maps.specs.LineTests.{horizontal_line_at, vertical_line_at}
-use Rattle.papergrid_maps.specs.Places.{HasHorizontal, HasVertical}
-use Rattle.papergrid_maps.proofs.LineTested.{horizontal_tested, vertical_tested}
-use Rattle.papergrid_maps.proofs.MadeTables.{borders_made_told}
+use Rattle.papergrid_tables.specs.LineTests.{horizontal_line_at, vertical_line_at}
+use Rattle.papergrid_tables.specs.Places.{HasHorizontal, HasVertical}
+use Rattle.papergrid_tables.proofs.LineTested.{horizontal_tested, vertical_tested}
+use Rattle.papergrid_tables.proofs.MadeTables.{borders_made_told}
 use Rattle.papergrid_config.specs.Made.{characters_of}
 use Rattle.papergrid_config.specs.Parts.{character_calls}
 use Rattle.papergrid.proofs.laws.lines_by_place.Goals as goal

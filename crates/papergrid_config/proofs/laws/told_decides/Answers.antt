@@ -1,5 +1,6 @@
 use Rattle.std.specs.List.{flat_map}
-use Rattle.papergrid_maps.proofs.MadeTables.{told_borders, told_spans}
+use Rattle.papergrid_tables.proofs.MadeTables.{told_borders}
+use Rattle.papergrid_maps.proofs.MadeTables.{told_spans}
 use Rattle.papergrid_maps.proofs.MapHeldLemmas.{held_decided}
 use Rattle.papergrid_config.specs.Parts.{character_calls, span_calls}
 use Rattle.papergrid_config.proofs.laws.told_decides.Goals as goal

@@ -6,9 +6,10 @@ use Rattle.std.proofs.lemmas.Iterator.Adapters.{items_from_extend}
 use Rattle.std.proofs.lemmas.Iterator.Consumers.{YieldsList-at, YieldsList-from_rest}
 use Rattle.papergrid_values.specs.declared.entity.Entity.TheVariants.{Cell}
 use Rattle.papergrid_values.specs.declared.position.Position.{Position}
-use Rattle.papergrid_maps.specs.Keys.{entity_eq, position_eq}
+use Rattle.papergrid_tables.specs.Keys.{position_eq}
+use Rattle.papergrid_maps.specs.Keys.{entity_eq}
+use Rattle.papergrid_tables.proofs.ResultLemmas.{on_ok_map}
 use Rattle.papergrid_maps.proofs.IntoMap.{added_cells, entity_eq_is}
-use Rattle.papergrid_maps.proofs.MapHeldLemmas.{on_ok_map}
 use Rattle.papergrid_maps.proofs.entity_map.add_cells.Goals as goal
 
 pub returns : goal.returns

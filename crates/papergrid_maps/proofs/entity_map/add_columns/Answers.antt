@@ -6,8 +6,8 @@ use Rattle.std.proofs.lemmas.Iterator.Adapters.{items_from_extend}
 use Rattle.std.proofs.lemmas.Iterator.Consumers.{YieldsList-at, YieldsList-from_rest}
 use Rattle.papergrid_values.specs.declared.entity.Entity.TheVariants.{Column}
 use Rattle.papergrid_maps.specs.Keys.{entity_eq}
+use Rattle.papergrid_tables.proofs.ResultLemmas.{on_ok_map}
 use Rattle.papergrid_maps.proofs.IntoMap.{added_columns, entity_eq_is}
-use Rattle.papergrid_maps.proofs.MapHeldLemmas.{on_ok_map}
 use Rattle.papergrid_maps.proofs.entity_map.add_columns.Goals as goal
 
 pub returns : goal.returns

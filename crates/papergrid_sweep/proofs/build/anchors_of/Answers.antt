@@ -1,6 +1,6 @@
 use Rattle.std.specs.HashMap.{get as map_get}
 use Rattle.std.proofs.lemmas.Result.{IfOk-weaker}
-use Rattle.papergrid_maps.specs.Keys.{position_eq}
+use Rattle.papergrid_tables.specs.Keys.{position_eq}
 use Rattle.papergrid_sweep.proofs.BuildLemmas.{anchors-sorted, anchors-of}
 use Rattle.papergrid_sweep.proofs.build.anchors_of.Goals as goal
 

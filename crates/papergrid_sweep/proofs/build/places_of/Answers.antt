@@ -1,7 +1,7 @@
 use Rattle.std.proofs.lemmas.List.Filters.{dedup_is}
 use Rattle.std.proofs.lemmas.List.Kept.{Contains-dedup, IsStrictlySortedBy-dedup}
 use Rattle.std.proofs.lemmas.List.Sorted.{Contains-permutation}
-use Rattle.papergrid_maps.proofs.KeyLemmas.{exact_position_eq, position_equiv, position_ties, position_total}
+use Rattle.papergrid_tables.proofs.KeyLemmas.{exact_position_eq, position_equiv, position_ties, position_total}
 use Rattle.papergrid_sweep.proofs.build.places_of.Goals as goal
 
 pub returns-clause-sorted : goal.returns-clause-sorted

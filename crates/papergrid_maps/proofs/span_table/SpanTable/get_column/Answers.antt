@@ -1,5 +1,5 @@
 use Rattle.std.proofs.Common.{◌∙◌, sym}
-use Rattle.papergrid_maps.proofs.KeyLemmas.{get_at_position}
+use Rattle.papergrid_tables.proofs.KeyLemmas.{get_at_position}
 use Rattle.papergrid_maps.proofs.SpanTold.{held_from_two}
 use Rattle.papergrid_maps.proofs.span_table.SpanTable.get_column.Goals as goal
 

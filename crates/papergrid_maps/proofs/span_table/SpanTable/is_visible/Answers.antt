@@ -1,7 +1,8 @@
 use Rattle.std.proofs.Common.{rules, subst}
 use Rattle.papergrid_maps.specs.Spans.{IsCoveredByColumn, IsCoveredByRow, IsVisible, column_span, row_span}
+use Rattle.papergrid_tables.proofs.ResultLemmas.{same_answer}
 use Rattle.papergrid_maps.proofs.SpanScans.{hidden_right, hidden_below, not_visible}
-use Rattle.papergrid_maps.proofs.SpanVisible.{same_answer, visible_test}
+use Rattle.papergrid_maps.proofs.SpanVisible.{visible_test}
 use Rattle.papergrid_maps.proofs.span_table.SpanTable.is_visible.Goals as goal
 
 pub returns-then-covered_by_column-clause-visible : goal.returns-then-covered_by_column-clause-visible

@@ -3,9 +3,9 @@ use Rattle.std.specs.Map.{lookup}
 use Rattle.std.proofs.lemmas.Map.Entries.{entries_from_clone}
 use Rattle.std.proofs.lemmas.Result.{IfOk-weaker}
 use Rattle.papergrid_values.specs.declared.position.Position.{Position}
-use Rattle.papergrid_maps.specs.Keys.{position_eq}
-use Rattle.papergrid_maps.proofs.KeyLemmas.{get_at_position}
-use Rattle.papergrid_maps.proofs.MapHeldLemmas.{ok_part}
+use Rattle.papergrid_tables.specs.Keys.{position_eq}
+use Rattle.papergrid_tables.proofs.KeyLemmas.{get_at_position}
+use Rattle.papergrid_tables.proofs.ResultLemmas.{ok_part}
 use Rattle.papergrid_maps.proofs.span_table.SpanTable.rows.Goals as goal
 
 pub returns : goal.returns

@@ -1,4 +1,4 @@
-use Rattle.papergrid_maps.proofs.MapHeldLemmas.{on_ok_map}
+use Rattle.papergrid_tables.proofs.ResultLemmas.{on_ok_map}
 use Rattle.papergrid_maps.proofs.SpanTold.{told_set_column}
 use Rattle.papergrid_maps.proofs.span_table.SpanTable.set_column.Goals as goal
 

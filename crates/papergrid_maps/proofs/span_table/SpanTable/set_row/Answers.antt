@@ -1,4 +1,4 @@
-use Rattle.papergrid_maps.proofs.MapHeldLemmas.{on_ok_map}
+use Rattle.papergrid_tables.proofs.ResultLemmas.{on_ok_map}
 use Rattle.papergrid_maps.proofs.SpanTold.{told_set_row}
 use Rattle.papergrid_maps.proofs.span_table.SpanTable.set_row.Goals as goal
 

@@ -1,5 +1,5 @@
 use Rattle.std.proofs.Common.{◌&&◌, ◌∙◌, sym, eqb}
-use Rattle.papergrid_maps.proofs.EqualLemmas.{places_eq-from_entries}
+use Rattle.papergrid_tables.proofs.EqualLemmas.{places_eq-from_entries}
 use Rattle.papergrid_maps.proofs.span_table.SpanTablePartialEq.eq.Goals as goal
 
 pub returns : goal.returns

@@ -1,6 +1,0 @@
-use Rattle.std.proofs.Common.{◌∙◌, sym}
-use Rattle.papergrid_maps.proofs.KeyLemmas.{get_at_number}
-use Rattle.papergrid_maps.proofs.border_table.BorderTable.get_horizontal_line.Goals as goal
-
-pub returns : goal.returns
-returns g c = rw (← c.self.view_is) (c.get.ensures.value ∙ sym (get_at_number c.self.inside.horizontal_lines.entries c.args.row))

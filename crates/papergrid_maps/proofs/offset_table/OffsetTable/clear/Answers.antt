@@ -1,5 +1,0 @@
-use Rattle.papergrid_maps.proofs.OverrideTold.{told_clear}
-use Rattle.papergrid_maps.proofs.offset_table.OffsetTable.clear.Goals as goal
-
-pub returns : goal.returns
-returns g c = rw (c.clear.ensures.empty, ← c.self.view_is) (told_clear _)

@@ -1,5 +1,0 @@
-use Rattle.papergrid_maps.proofs.OverrideTold.{overridden}
-use Rattle.papergrid_maps.proofs.offset_table.OffsetTable.is_overridden.Goals as goal
-
-pub returns : goal.returns
-returns g c = rw (← c.self.view_is) (overridden c.self.inside.overrides.entries c.args.pos _ c.self.invariant c.contains_key.ensures)

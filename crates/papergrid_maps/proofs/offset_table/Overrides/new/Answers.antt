@@ -1,5 +1,0 @@
-use Rattle.papergrid_maps.proofs.OverrideTold.{no_offsets}
-use Rattle.papergrid_maps.proofs.offset_table.Overrides.new.Goals as goal
-
-pub returns : goal.returns
-returns g c = rw (c.new.ensures.empty, c.new-2.ensures.empty) no_offsets

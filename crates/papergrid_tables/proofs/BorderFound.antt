@@ -1,0 +1,156 @@
+-- What is found in a border table, and which lines it has, by the entries of its maps.
+use Rattle.std.proofs.Common.{◌≡◌, ℕ, Bor, Bool, true, false, ◌&&◌, List, length, eqb, Option, Some, None, refl, sym, ap, ◌∙◌, inl, inr, ⊎_elim}
+use Rattle.std.specs.Prelude.{◌||◌, ◌⊎◌, ◌↔◌, IsTrue, IsSome, is_some, is_none, not}
+use Rattle.std.specs.Option.{option_or, option_copied}
+use Rattle.std.specs.List.{list_any, IsDistinct}
+use Rattle.std.specs.Cmp.{nat_eq_equiv}
+use Rattle.std.specs.Map.{lookup, keys_of}
+use Rattle.std.specs.Ordering.{nat_cmp}
+use Rattle.std.specs.FinMap.{get, from_entries}
+use Rattle.std.proofs.lemmas.Bool.{false≢true, and_parts, and_from, or_left, or_right, eqb-true, eq-eqb}
+use Rattle.papergrid_values.specs.Borders.{frame_parts}
+use Rattle.papergrid_values.specs.Parts.{none_set}
+use Rattle.papergrid_values.specs.declared.position.Position.{Position}
+use Rattle.papergrid_values.specs.declared.borders.Borders.{Borders}
+use Rattle.papergrid_values.specs.declared.horizontal_line.HorizontalLine.{HorizontalLine}
+use Rattle.papergrid_values.specs.declared.vertical_line.VerticalLine.{VerticalLine}
+use Rattle.papergrid_tables.specs.BorderHeld.{places_of}
+use Rattle.papergrid_tables.specs.BorderScan.{has_end}
+use Rattle.papergrid_tables.specs.Keys.{position_cmp, position_eq}
+use Rattle.papergrid_tables.specs.Places.{IsBare, HasEnd}
+use Rattle.papergrid_tables.proofs.AnyLemmas.{any_found, any_from_found}
+use Rattle.papergrid_tables.proofs.BorderTold.{table_of}
+use Rattle.papergrid_tables.proofs.KeyLemmas.{get_at_number, get_at_position, position_equiv, exact_position_eq}
+use Rattle.papergrid_tables.proofs.EntryLemmas.{no_entries, none_of_nothing}
+
+-- ---- the first that is set
+
+module _ {T : Type 0} where
+  copied_or : (a b : Option (Bor T)) → option_copied (option_or a b) ≡ option_or (option_copied a) (option_copied b)
+  copied_or None b = refl
+  copied_or (Some x) b = refl
+
+  or_assoc : (a b c : Option T) → option_or (option_or a b) c ≡ option_or a (option_or b c)
+  or_assoc None b c = refl
+  or_assoc (Some x) b c = refl
+
+  pub both : (a b : Option (Bor T)) {r : Option (Bor T)} {A B : Option T} → r ≡ option_or a b → option_copied a ≡ A → option_copied b ≡ B → option_copied r ≡ option_or A B
+  both a b is first second = ap option_copied is ∙ copied_or a b ∙ (λ i. option_or (first i) (second i))
+
+  pub first_of_four : (a b c d : Option (Bor T)) {r s t : Option (Bor T)} {A B C D : Option T} → r ≡ option_or a b → s ≡ option_or r c → t ≡ option_or s d
+      → option_copied a ≡ A → option_copied b ≡ B → option_copied c ≡ C → option_copied d ≡ D → option_copied t ≡ option_or A (option_or B (option_or C D))
+  first_of_four a b c d {r} {s} {A = A} {B = B} {C = C} {D = D} one two three first second third fourth =
+      both s d three (both r c two (both a b one first second) third) fourth ∙ or_assoc (option_or A B) C D ∙ or_assoc A B (option_or C D)
+
+  pub first_of_five : (a b c d e : Option (Bor T)) {r s t u : Option (Bor T)} {A B C D E : Option T} → r ≡ option_or a b → s ≡ option_or r c → t ≡ option_or s d → u ≡ option_or t e
+      → option_copied a ≡ A → option_copied b ≡ B → option_copied c ≡ C → option_copied d ≡ D → option_copied e ≡ E → option_copied u ≡ option_or A (option_or B (option_or C (option_or D E)))
+  first_of_five a b c d e {r} {s} {t} {A = A} {B = B} {C = C} {D = D} {E = E} one two three four first second third fourth fifth =
+      both t e four (first_of_four a b c d one two three first second third fourth) fifth
+      ∙ or_assoc A (option_or B (option_or C D)) E ∙ ap (option_or A) (or_assoc B (option_or C D) E) ∙ ap (λ o. option_or A (option_or B o)) (or_assoc C D E)
+
+-- ---- scans
+
+pub has_end_is : {T : Type 0} (place count : ℕ) (first end : Option T) → IsTrue (has_end place count first end) ↔ HasEnd place count first end
+has_end_is place count first end = (
+  (λ h. elim (eqb place 0 && is_some first) as (λ b. (eqb place 0 && is_some first) ≡ b → (b || (eqb place count && is_some end)) ≡ true → HasEnd place count first end) [
+    | true ↦ λ is _. let parts = and_parts _ _ is in inl (eqb-true place 0 parts.0, parts.1)
+    | false ↦ λ _ rest. let parts = and_parts _ _ rest in inr (eqb-true place count parts.0, parts.1)
+  ] refl h),
+  (λ h. ⊎_elim (λ here. or_left _ _ (and_from _ _ (eq-eqb place 0 here.0) here.1)) (λ there. or_right _ _ (and_from _ _ (eq-eqb place count there.0) there.1)) h),
+)
+
+pub some_value : {A : Type 0} (o : Option A) → IsSome o → (x : A) × (o ≡ Some x)
+some_value None h = absurd (false≢true h)
+some_value (Some x) h = (x, refl)
+
+-- an end of a line
+pub ends_scan : {L T : Type 0} (first end : L → Option T) (place count : ℕ) (es : List (ℕ × L)) (b : Bool) → b ≡ list_any (λ e. has_end place count (first e.1) (end e.1)) es → IsDistinct eqb (keys_of es)
+    → IsTrue b ↔ ((n : ℕ) × (line : L) × (get (from_entries {R = nat_cmp} es) n ≡ Some line) × HasEnd place count (first line) (end line))
+ends_scan first end place count es b is distinct =
+    let test = λ (e : ℕ × _). has_end place count (first e.1) (end e.1) in (
+      (λ h. let found = any_found nat_eq_equiv test es distinct (sym is ∙ h) in (found.0, found.1, get_at_number es found.0 ∙ found.2, (has_end_is place count _ _).0 found.3)),
+      (λ h. is ∙ any_from_found nat_eq_equiv test es eqb-true h.0 h.1 (sym (get_at_number es h.0) ∙ h.2) ((has_end_is place count _ _).1 h.3)),
+    )
+
+-- a place in a row or a column
+pub places_scan : {T : Type 0} (along : Position → ℕ) (n : ℕ) (es : List (Position × T)) (b : Bool) → b ≡ list_any (λ e. eqb (along e.0) n) es → IsDistinct position_eq (keys_of es)
+    → IsTrue b ↔ ((p : Position) × (along p ≡ n) × IsSome (get (from_entries {R = position_cmp} es) p))
+places_scan {T} along n es b is distinct =
+    let test = λ (e : Position × T). eqb (along e.0) n in (
+      (λ h. let found = any_found position_equiv test es distinct (sym is ∙ h) in (found.0, eqb-true _ _ found.3, ap is_some (get_at_position es found.0 ∙ found.2))),
+      (λ h. let held = some_value (get (from_entries {R = position_cmp} es) h.0) h.2 in
+          is ∙ any_from_found position_equiv test es exact_position_eq h.0 held.0 (sym (get_at_position es h.0) ∙ held.1) (eq-eqb _ _ h.1)),
+    )
+
+pub key_scan : {L : Type 0} (es : List (ℕ × L)) (n : ℕ) (b : Bool) → b ≡ is_some (lookup (eqb n) es) → IsTrue b ↔ IsSome (get (from_entries {R = nat_cmp} es) n)
+key_scan es n b is = ((λ h. ap is_some (get_at_number es n) ∙ sym is ∙ h), (λ h. is ∙ ap is_some (sym (get_at_number es n)) ∙ h))
+
+-- ---- the first of several tests that holds
+
+pub holds_first : {A B : Type 0} (a : Bool) → (IsTrue a ↔ A) → a ≡ true → IsTrue true ↔ (A ⊎ B)
+holds_first a first h = ((λ _. inl (first.0 h)), (λ _. refl))
+
+pub holds_second : {A B C : Type 0} (b : Bool) → (IsTrue b ↔ B) → b ≡ true → IsTrue true ↔ (A ⊎ (B ⊎ C))
+holds_second b second h = ((λ _. inr (inl (second.0 h))), (λ _. refl))
+
+pub holds_third : {A B C D : Type 0} (c : Bool) → (IsTrue c ↔ C) → c ≡ true → IsTrue true ↔ (A ⊎ (B ⊎ (C ⊎ D)))
+holds_third c third h = ((λ _. inr (inr (inl (third.0 h)))), (λ _. refl))
+
+pub decided_by_third : {A B C : Type 0} (a b c : Bool) → (IsTrue a ↔ A) → (IsTrue b ↔ B) → (IsTrue c ↔ C) → a ≡ false → b ≡ false → IsTrue c ↔ (A ⊎ (B ⊎ C))
+decided_by_third a b c first second third no_first no_second = (
+  (λ h. inr (inr (third.0 h))),
+  (λ h. ⊎_elim (λ x. absurd (false≢true (sym no_first ∙ first.1 x))) (λ rest. ⊎_elim (λ x. absurd (false≢true (sym no_second ∙ second.1 x))) (λ x. third.1 x) rest) h),
+)
+
+pub decided_by_fourth : {A B C D : Type 0} (a b c d : Bool) → (IsTrue a ↔ A) → (IsTrue b ↔ B) → (IsTrue c ↔ C) → (IsTrue d ↔ D) → a ≡ false → b ≡ false → c ≡ false → IsTrue d ↔ (A ⊎ (B ⊎ (C ⊎ D)))
+decided_by_fourth a b c d first second third fourth no_first no_second no_third = (
+  (λ h. inr (inr (inr (fourth.0 h)))),
+  (λ h. ⊎_elim (λ x. absurd (false≢true (sym no_first ∙ first.1 x)))
+      (λ rest. ⊎_elim (λ x. absurd (false≢true (sym no_second ∙ second.1 x)))
+      (λ rest. ⊎_elim (λ x. absurd (false≢true (sym no_third ∙ third.1 x))) (λ x. fourth.1 x) rest) rest) h),
+)
+
+pub by_value : (a b : Bool) → a ≡ b → IsTrue a ↔ (b ≡ true)
+by_value a b is = ((λ h. sym is ∙ h), (λ h. is ∙ h))
+
+-- ---- a table that holds nothing
+
+none_is : {A : Type 0} (o : Option A) → is_none o ≡ true → o ≡ None
+none_is None h = refl
+none_is (Some x) h = absurd (false≢true h)
+
+pub unset : {A : Type 0} (o : Option A) (b : Bool) → is_some o ≡ not b → b ≡ is_none o
+unset None true h = refl
+unset None false h = absurd (false≢true h)
+unset (Some x) true h = absurd (false≢true (sym h))
+unset (Some x) false h = refl
+
+pub bare : {T : Type 0} (g : Option T) (f : Borders T) (hl : List (ℕ × HorizontalLine T)) (vl : List (ℕ × VerticalLine T)) (he ve ks : List (Position × T)) (a b c d e h k : Bool)
+    → a ≡ is_none g → b ≡ none_set (frame_parts f) → (IsTrue c ↔ (length hl ≡ 0)) → (IsTrue d ↔ (length vl ≡ 0))
+    → (IsTrue e ↔ (length he ≡ 0)) → (IsTrue h ↔ (length ve ≡ 0)) → (IsTrue k ↔ (length ks ≡ 0))
+    → IsTrue (a && (b && ((c && d) && (e && (h && k))))) ↔ IsBare (places_of (table_of g f hl vl he ve ks))
+bare g f hl vl he ve ks a b c d e h k global frame horizontal_lines vertical_lines horizontal_edges vertical_edges corners = (
+  (λ all.
+      let one = and_parts a _ all in
+      let two = and_parts b _ one.1 in
+      let three = and_parts (c && d) _ two.1 in
+      let lines = and_parts c d three.0 in
+      let edges = and_parts e _ three.1 in
+      let last = and_parts h k edges.1 in
+      record {
+        global = none_is g (sym global ∙ one.0);
+        frame = sym frame ∙ two.0;
+        horizontal_line = λ n. get_at_number hl n ∙ none_of_nothing eqb hl (horizontal_lines.0 lines.0) n;
+        vertical_line = λ n. get_at_number vl n ∙ none_of_nothing eqb vl (vertical_lines.0 lines.1) n;
+        horizontal_edge = λ p. get_at_position he p ∙ none_of_nothing position_eq he (horizontal_edges.0 edges.0) p;
+        vertical_edge = λ p. get_at_position ve p ∙ none_of_nothing position_eq ve (vertical_edges.0 last.0) p;
+        corner = λ p. get_at_position ks p ∙ none_of_nothing position_eq ks (corners.0 last.1) p;
+      }),
+  (λ none.
+      and_from _ _ (global ∙ ap is_none none.global) (and_from _ _ (frame ∙ none.frame)
+      (and_from _ _ (and_from _ _ (horizontal_lines.1 (no_entries eqb nat_eq_equiv hl (λ n. sym (get_at_number hl n) ∙ none.horizontal_line n)))
+      (vertical_lines.1 (no_entries eqb nat_eq_equiv vl (λ n. sym (get_at_number vl n) ∙ none.vertical_line n))))
+      (and_from _ _ (horizontal_edges.1 (no_entries position_eq position_equiv he (λ p. sym (get_at_position he p) ∙ none.horizontal_edge p)))
+      (and_from _ _ (vertical_edges.1 (no_entries position_eq position_equiv ve (λ p. sym (get_at_position ve p) ∙ none.vertical_edge p)))
+      (corners.1 (no_entries position_eq position_equiv ks (λ p. sym (get_at_position ks p) ∙ none.corner p)))))))),
+)

@@ -1,0 +1,13 @@
+pub mod AnyLemmas
+pub mod BorderEqual
+pub mod BorderFound
+pub mod BorderTold
+pub mod EntryLemmas
+pub mod EqualLemmas
+pub mod KeyLemmas
+pub mod LineMarked
+pub mod LineTested
+pub mod MadeTables
+pub mod OverrideTold
+pub mod PartCopies
+pub mod ResultLemmas

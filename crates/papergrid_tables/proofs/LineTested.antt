@@ -1,0 +1,84 @@
+-- The tests of lines say what the definition of lines says.
+use Rattle.std.proofs.Common.{◌≡◌, ℕ, Bool, true, false, eqb, Option, Some, None, refl, sym, ap, subst, ◌∙◌, inl, inr, ⊎_elim}
+use Rattle.std.specs.Prelude.{◌||◌, ◌⊎◌, ◌↔◌, IsTrue, IsSome, is_some}
+use Rattle.std.specs.Cmp.{unsigned_tied}
+use Rattle.std.specs.Ordering.{eq_by_cmp, nat_cmp}
+use Rattle.std.specs.declared.cmp.Ordering.{Ordering}
+use Rattle.std.specs.List.{list_any}
+use Rattle.std.specs.FinMap.{FinMap, get, keys, contains_key-keys}
+use Rattle.std.proofs.lemmas.Bool.{false≢true, eqb-true, eq-eqb}
+use Rattle.std.proofs.lemmas.Map.Keys.{any_passes_from_place}
+use Rattle.papergrid_values.specs.declared.position.Position.{Position}
+use Rattle.papergrid_values.specs.declared.horizontal_line.HorizontalLine.{HorizontalLine}
+use Rattle.papergrid_values.specs.declared.vertical_line.VerticalLine.{VerticalLine}
+use Rattle.papergrid_tables.specs.BorderHeld.{HeldBorders, places_of}
+use Rattle.papergrid_tables.specs.Keys.{position_cmp}
+use Rattle.papergrid_tables.specs.LineTests.{ends_at_column, ends_at_row, horizontal_line_at, vertical_line_at}
+use Rattle.papergrid_tables.specs.Places.{HasHorizontal, HasVertical, HasEnd}
+use Rattle.papergrid_tables.proofs.AnyLemmas.{any_place}
+use Rattle.papergrid_tables.proofs.BorderFound.{has_end_is, some_value}
+use Rattle.papergrid_tables.proofs.KeyLemmas.{exact_position_eq, position_ties, position_equiv}
+
+-- some key that is held passes
+module _ {K X : Type 0} {R : K → K → Ordering} (exact : (x y : K) → eq_by_cmp R x y ≡ true → x ≡ y) (ties : (x : K) → eq_by_cmp R x x ≡ true) (m : FinMap R X) (test : K → Bool) where
+  found_key : list_any test (keys m) ≡ true → (k : K) × IsSome (get m k) × (test k ≡ true)
+  found_key h =
+      let place = any_place test (keys m) h in
+      (place.1, contains_key-keys m place.1 ∙ any_passes_from_place (eq_by_cmp R place.1) (keys m) place.0 place.1 place.2 (ties place.1), place.3)
+
+  from_key : (k : K) → IsSome (get m k) → test k ≡ true → list_any test (keys m) ≡ true
+  from_key k held passes =
+      let place = any_place _ (keys m) (sym (contains_key-keys m k) ∙ held) in
+      any_passes_from_place test (keys m) place.0 place.1 place.2 (subst (λ q. test q ≡ true) (exact k place.1 place.3) passes)
+
+pub exact_number : (x y : ℕ) → eq_by_cmp nat_cmp x y ≡ true → x ≡ y
+exact_number x y h = eqb-true x y (sym (unsigned_tied x y) ∙ h)
+
+pub number_ties : (x : ℕ) → eq_by_cmp nat_cmp x x ≡ true
+number_ties x = unsigned_tied x x ∙ eq-eqb x x refl
+
+pub exact_position : (p q : Position) → eq_by_cmp position_cmp p q ≡ true → p ≡ q
+exact_position p q h = exact_position_eq p q (position_ties p q ∙ h)
+
+pub same_position : (p : Position) → eq_by_cmp position_cmp p p ≡ true
+same_position p = sym (position_ties p p) ∙ position_equiv.refl p
+
+-- a place in a row or a column
+place_test : {T : Type 0} (along : Position → ℕ) (n : ℕ) (m : FinMap position_cmp T)
+    → (list_any (λ p. eqb (along p) n) (keys m) ≡ true) ↔ ((p : Position) × (along p ≡ n) × IsSome (get m p))
+place_test along n m = (
+  (λ h. let found = found_key exact_position same_position m (λ p. eqb (along p) n) h in (found.0, eqb-true _ _ found.2, found.1)),
+  (λ h. from_key exact_position same_position m (λ p. eqb (along p) n) h.0 h.2 (eq-eqb _ _ h.1)),
+)
+
+-- an end of a line
+end_test : {L : Type 0} (IsEnd : L → Type 0) (test : Option L → Bool) (m : FinMap nat_cmp L) → ((line : L) → (test (Some line) ≡ true) ↔ IsEnd line) → test None ≡ false
+    → (list_any (λ n. test (get m n)) (keys m) ≡ true) ↔ ((n : ℕ) × (line : L) × (get m n ≡ Some line) × IsEnd line)
+end_test IsEnd test m is none = (
+  (λ h.
+      let found = found_key exact_number number_ties m (λ n. test (get m n)) h in
+      let held = some_value (get m found.0) found.1 in
+      (found.0, held.0, held.1, (is held.0).0 (subst (λ o. test o ≡ true) held.1 found.2))),
+  (λ h. from_key exact_number number_ties m (λ n. test (get m n)) h.0 (ap is_some h.2) (subst (λ o. test o ≡ true) (sym h.2) ((is h.1).1 h.3))),
+)
+
+-- one of two tests
+pub either : {A B : Type 0} (a b : Bool) → (a ≡ true) ↔ A → (b ≡ true) ↔ B → ((a || b) ≡ true) ↔ (A ⊎ B)
+either true b first second = ((λ _. inl (first.0 refl)), (λ _. refl))
+either false b first second = ((λ h. inr (second.0 h)), (λ h. ⊎_elim (λ x. absurd (false≢true (first.1 x))) (λ y. second.1 y) h))
+
+pub itself : (b : Bool) → (b ≡ true) ↔ (b ≡ true)
+itself b = ((λ h. h), (λ h. h))
+
+module _ {T : Type 0} (held : HeldBorders T) where
+  pub vertical_tested : (c count : ℕ) → IsTrue (vertical_line_at held c count) ↔ HasVertical (places_of held) c count
+  vertical_tested c count =
+      either _ _ (itself _) (either _ _ (itself _) (either _ _
+      (end_test (λ (line : HorizontalLine T). HasEnd c count line.left line.right) (ends_at_column c count) held.horizontal_lines (λ line. has_end_is c count line.left line.right) refl)
+      (either _ _ (itself _) (either _ _ (place_test (λ p. p.col) c held.vertical_edges) (place_test (λ p. p.col) c held.corners)))))
+
+  pub horizontal_tested : (r count : ℕ) → IsTrue (horizontal_line_at held r count) ↔ HasHorizontal (places_of held) r count
+  horizontal_tested r count =
+      either _ _ (itself _) (either _ _ (itself _) (either _ _
+      (end_test (λ (line : VerticalLine T). HasEnd r count line.top line.bottom) (ends_at_row r count) held.vertical_lines (λ line. has_end_is r count line.top line.bottom) refl)
+      (either _ _ (itself _) (either _ _ (place_test (λ p. p.row) r held.horizontal_edges) (place_test (λ p. p.row) r held.corners)))))

@@ -1,0 +1,22 @@
+-- What results are told by, and two tests of one fact.
+use Rattle.std.proofs.Common.{◌≡◌, Bool, true, false, refl, sym}
+use Rattle.std.specs.Prelude.{◌↔◌, IsTrue, Result, Ok, Err, OnErr, OnOk, IfOk}
+use Rattle.std.specs.Result.{MatchResult}
+
+pub on_err : {A E : Type 0} (r : Result A E) {P : Type 0} → P → OnErr r P
+on_err (Ok x) p = tt
+on_err (Err e) p = p
+
+pub on_ok_map : {A E : Type 0} (r : Result A E) {P Q : Type 0} → (P → Q) → OnOk r P → OnOk r Q
+on_ok_map (Ok x) f p = f p
+on_ok_map (Err e) f p = p
+
+pub ok_part : {A E : Type 0} (r : Result A E) (P : A → Type 0) (Q : E → Type 0) → MatchResult r P Q → IfOk r P
+ok_part (Ok x) P Q p = p
+ok_part (Err e) P Q q = tt
+
+-- two tests of one fact are equal
+pub same_answer : {V : Type 0} (a b : Bool) → (IsTrue a ↔ V) → (IsTrue b ↔ V) → a ≡ b
+same_answer true b f g = sym (g.1 (f.0 refl))
+same_answer false true f g = f.1 (g.0 refl)
+same_answer false false f g = refl

@@ -1,0 +1,19 @@
+use Rattle.std.proofs.Common.{◌∙◌}
+use Rattle.papergrid_tables.proofs.ResultLemmas.{on_ok_map}
+use Rattle.papergrid_tables.proofs.EntryLemmas.{same_places}
+use Rattle.papergrid_tables.proofs.OverrideTold.{either_way, kept_set, kept_unchanged, on_err_map, told_set}
+use Rattle.papergrid_tables.proofs.offset_table.OffsetTable.set.Goals as goal
+
+pub invariant_of-self : goal.invariant_of-self
+invariant_of-self g c = either_way c.set_override.result
+    (kept_set c.self.inside.overrides.entries _ c.args.pos c.args.offset c.args.value c.self.invariant)
+    (kept_unchanged c.self.inside.overrides.entries _ c.self.invariant)
+    c.set_override.ensures.ok c.set_override.ensures.err
+
+pub returns-clause-ok : goal.returns-clause-ok
+returns-clause-ok g c = rw (← c.self.view_is)
+    (on_ok_map c.set_override.result (told_set c.self.inside.overrides.entries _ c.args.pos c.args.offset c.args.value) c.set_override.ensures.ok)
+
+pub returns-clause-err : goal.returns-clause-err
+returns-clause-err g c =
+    on_err_map c.set_override.result (λ same. same_places c.self.inside.overrides.entries _ same ∙ c.self.view_is) c.set_override.ensures.err

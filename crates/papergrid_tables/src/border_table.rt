@@ -1,0 +1,460 @@
+//! Values for the edges, corners and lines of a table. Source: `config/spanned/borders_config.rs`.
+
+ghost use Rattle.std.specs.Prelude.{◌≡◌, ◌∷◌, [], ◌+◌, ◌<◌, ◌^◌, ◌↔◌, ◌++◌, List, ℕ, OnOk, OnErr, IfOk, IsTrue, EachIndex, false, length, nat_eq, option_copied, slice_index_or};
+ghost use Rattle.std.specs.HashMap.{get as map_get};
+ghost use Rattle.std.specs.FinMap.{get as value_at};
+ghost use Rattle.papergrid_values.specs.Borders.{border_map};
+ghost use Rattle.papergrid_tables.specs.BorderCalls.{BorderCall, Clear, InsertBorder, RemoveBorder, InsertHorizontalLine, RemoveHorizontalLine, InsertVerticalLine, RemoveVerticalLine, SetBorders, SetGlobal};
+ghost use Rattle.papergrid_tables.specs.BorderHeld.{IsTold, Appends, places_of};
+ghost use Rattle.papergrid_tables.specs.LineTests.{horizontal_line_at, vertical_line_at};
+ghost use Rattle.papergrid_tables.specs.Places.{IsBare, HasHorizontal, HasVertical, IsHorizontalSet, IsVerticalSet, found_border, found_horizontal, found_intersection, found_vertical};
+
+use crate::border_parts as parts;
+use crate::hashed::{take, write};
+use crate::line_marks::{Across, Ends, mark_lines, mark_places};
+use papergrid_values::{Border, Borders, HorizontalLine, Position, VerticalLine};
+use std::alloc::{AllocError, Global};
+use std::collections::HashMap;
+use std::marker::Model;
+
+/// A value for all lines, a frame, horizontal lines by row, vertical lines by column, and the
+/// edges and corners of cells by position. Neighbouring cells share edges and corners.
+#[derive(Debug, Drop)]
+pub struct BorderTable<T> {
+    global: Option<T>,
+    frame: Borders<T>,
+    horizontal_lines: HashMap<usize, HorizontalLine<T>>,
+    vertical_lines: HashMap<usize, VerticalLine<T>>,
+    horizontal_edges: HashMap<Position, T>,
+    vertical_edges: HashMap<Position, T>,
+    corners: HashMap<Position, T>,
+}
+
+impl<T> Model for BorderTable<T> {
+    ghost use Rattle.std.specs.FinMap as map;
+    ghost use Rattle.papergrid_tables.specs.BorderHeld.{HeldBorders};
+    ghost use Rattle.papergrid_tables.specs.BorderCodes.{held_borders_code};
+
+    ghost Value = { HeldBorders T };
+
+    ghost coded = { held_borders_code T.code };
+
+    ghost view = { λ t. record {
+      global = t.global;
+      frame = t.frame;
+      horizontal_lines = map.from_entries t.horizontal_lines.entries;
+      vertical_lines = map.from_entries t.vertical_lines.entries;
+      horizontal_edges = map.from_entries t.horizontal_edges.entries;
+      vertical_edges = map.from_entries t.vertical_edges.entries;
+      corners = map.from_entries t.corners.entries;
+    } };
+}
+
+impl<T> BorderTable<T> {
+    /// The table that holds nothing. It takes no memory.
+    pub fn new(alloc: Global) -> Self
+        ensures told { IsTold [] result }
+        ensures cleared { (calls : List (BorderCall T)) → IsTold (calls ++ Clear ∷ []) result }
+    {
+        BorderTable {
+            global: None,
+            frame: Borders::empty(),
+            horizontal_lines: HashMap::new(alloc),
+            vertical_lines: HashMap::new(alloc),
+            horizontal_edges: HashMap::new(alloc),
+            vertical_edges: HashMap::new(alloc),
+            corners: HashMap::new(alloc),
+        }
+    }
+
+    /// Whether there is no value for all lines, no part of the frame is set, and no edge, corner
+    /// or line is held. A line with no part set is one that is held.
+    pub fn is_empty(&self) -> bool
+        ensures { IsTrue result ↔ IsBare (places_of self.now) }
+    {
+        let global = self.global.is_none();
+        let frame = self.frame.is_empty();
+        let horizontal_lines = self.horizontal_lines.is_empty();
+        let vertical_lines = self.vertical_lines.is_empty();
+        let horizontal_edges = self.horizontal_edges.is_empty();
+        let vertical_edges = self.vertical_edges.is_empty();
+        let corners = self.corners.is_empty();
+        let lines = horizontal_lines & vertical_lines;
+        let edges = horizontal_edges & (vertical_edges & corners);
+        global & (frame & (lines & edges))
+    }
+
+    /// The vertical line at a row and a column, where there are so many columns: the edge, the
+    /// line's main part, the frame's part or the value for all lines, whichever is the first set.
+    pub fn get_vertical(&self, pos: Position, count: usize) -> Option<&T>
+        ensures { option_copied result ≡ found_vertical (places_of self.now) pos count }
+    {
+        self.vertical_edges
+            .get(&pos)
+            .or(parts::vertical_main(&self.vertical_lines, pos.col))
+            .or(parts::frame_vertical(&self.frame, pos.col, count))
+            .or(self.global.as_ref())
+    }
+
+    /// The horizontal line at a row and a column, where there are so many rows, likewise.
+    pub fn get_horizontal(&self, pos: Position, count: usize) -> Option<&T>
+        ensures { option_copied result ≡ found_horizontal (places_of self.now) pos count }
+    {
+        self.horizontal_edges
+            .get(&pos)
+            .or(parts::horizontal_main(&self.horizontal_lines, pos.row))
+            .or(parts::frame_horizontal(&self.frame, pos.row, count))
+            .or(self.global.as_ref())
+    }
+
+    /// What stands where two lines cross, in a table of so many rows and columns: the corner, the
+    /// horizontal line's part, the vertical line's, the frame's or the value for all lines,
+    /// whichever is the first set.
+    pub fn get_intersection(&self, pos: Position, shape: (usize, usize)) -> Option<&T>
+        ensures { option_copied result ≡ found_intersection (places_of self.now) pos shape.0 shape.1 }
+    {
+        self.corners
+            .get(&pos)
+            .or(parts::of_horizontal_line(&self.horizontal_lines, pos, shape.1))
+            .or(parts::of_vertical_line(&self.vertical_lines, pos, shape.0))
+            .or(parts::of_frame(&self.frame, pos, shape))
+            .or(self.global.as_ref())
+    }
+
+    /// What is found round a cell, in a table of so many rows and columns. Condition: the next row
+    /// and column exist in `usize`.
+    pub fn get_border(&self, pos: Position, shape: (usize, usize)) -> Border<&T>
+        requires row { pos.row + 1 < 2 ^ 64 }
+        requires col { pos.col + 1 < 2 ^ 64 }
+        ensures { border_map (λ part. part.now) result ≡ found_border (places_of self.now) pos shape.0 shape.1 }
+    {
+        let (rows, cols) = shape;
+        let below = Position::new(pos.row + 1, pos.col);
+        let right = Position::new(pos.row, pos.col + 1);
+        let opposite = Position::new(pos.row + 1, pos.col + 1);
+        Border {
+            top: self.get_horizontal(pos, rows),
+            bottom: self.get_horizontal(below, rows),
+            left: self.get_vertical(pos, cols),
+            right: self.get_vertical(right, cols),
+            left_top_corner: self.get_intersection(pos, shape),
+            left_bottom_corner: self.get_intersection(below, shape),
+            right_top_corner: self.get_intersection(right, shape),
+            right_bottom_corner: self.get_intersection(opposite, shape),
+        }
+    }
+
+    /// The horizontal line held at a row.
+    pub fn get_horizontal_line(&self, row: usize) -> Option<&HorizontalLine<T>>
+        ensures { option_copied result ≡ value_at self.now.horizontal_lines row }
+    {
+        self.horizontal_lines.get(&row)
+    }
+
+    /// The vertical line held at a column.
+    pub fn get_vertical_line(&self, col: usize) -> Option<&VerticalLine<T>>
+        ensures { option_copied result ≡ value_at self.now.vertical_lines col }
+    {
+        self.vertical_lines.get(&col)
+    }
+
+    /// The frame.
+    pub fn get_borders(&self) -> &Borders<T>
+        ensures { result.now ≡ self.now.frame }
+    {
+        &self.frame
+    }
+
+    /// The value for all lines.
+    pub fn get_global(&self) -> Option<&T>
+        ensures { option_copied result ≡ self.now.global }
+    {
+        self.global.as_ref()
+    }
+
+    /// Whether there is a vertical line at a column, where there are so many columns: a value for
+    /// all lines, a part of the frame, or `is_vertical_set`.
+    pub fn has_vertical(&self, col: usize, count: usize) -> bool
+        ensures line { IsTrue result ↔ HasVertical (places_of self.now) col count }
+        ensures test { result ≡ vertical_line_at self.now col count }
+    {
+        self.is_vertical_line(col, count)
+    }
+
+    fn is_vertical_line(&self, col: usize, count: usize) -> bool
+        ensures { IsTrue result ↔ HasVertical (places_of self.now) col count }
+    {
+        if self.global.is_some() {
+            return true;
+        }
+        let frame = &self.frame;
+        if parts::at_ends(
+            col,
+            count,
+            frame.has_left(),
+            frame.has_right(),
+            frame.has_vertical(),
+        ) {
+            return true;
+        }
+        self.is_vertical_set(col, count)
+    }
+
+    /// Whether there is a horizontal line at a row, where there are so many rows: a value for all
+    /// lines, a part of the frame, or `is_horizontal_set`.
+    pub fn has_horizontal(&self, row: usize, count: usize) -> bool
+        ensures line { IsTrue result ↔ HasHorizontal (places_of self.now) row count }
+        ensures test { result ≡ horizontal_line_at self.now row count }
+    {
+        self.is_horizontal_line(row, count)
+    }
+
+    fn is_horizontal_line(&self, row: usize, count: usize) -> bool
+        ensures { IsTrue result ↔ HasHorizontal (places_of self.now) row count }
+    {
+        if self.global.is_some() {
+            return true;
+        }
+        let frame = &self.frame;
+        if parts::at_ends(
+            row,
+            count,
+            frame.has_top(),
+            frame.has_bottom(),
+            frame.has_horizontal(),
+        ) {
+            return true;
+        }
+        self.is_horizontal_set(row, count)
+    }
+
+    /// Whether a vertical line, an edge or a corner is held at a column, where there are so many
+    /// columns, or a horizontal line that ends there has that end set.
+    pub fn is_vertical_set(&self, col: usize, count: usize) -> bool
+        ensures { IsTrue result ↔ IsVerticalSet (places_of self.now) col count }
+    {
+        if parts::ends_at_column(&self.horizontal_lines, col, count) {
+            return true;
+        }
+        if self.vertical_lines.contains_key(&col) {
+            return true;
+        }
+        if parts::stands_in_column(&self.vertical_edges, col) {
+            return true;
+        }
+        parts::stands_in_column(&self.corners, col)
+    }
+
+    /// Whether a horizontal line, an edge or a corner is held at a row, where there are so many
+    /// rows, or a vertical line that ends there has that end set.
+    pub fn is_horizontal_set(&self, row: usize, count: usize) -> bool
+        ensures { IsTrue result ↔ IsHorizontalSet (places_of self.now) row count }
+    {
+        if parts::ends_at_row(&self.vertical_lines, row, count) {
+            return true;
+        }
+        if self.horizontal_lines.contains_key(&row) {
+            return true;
+        }
+        if parts::stands_in_row(&self.horizontal_edges, row) {
+            return true;
+        }
+        parts::stands_in_row(&self.corners, row)
+    }
+
+    /// Tells of each vertical line from the first on, as many as there are marks, whether it is
+    /// there in a table of so many columns. All lines are answered by one look at each edge and
+    /// corner held. Condition: their numbers exist in `usize`.
+    pub fn mark_vertical(&self, first: usize, count: usize, marks: &mut [bool])
+        requires { first + length marks.old < 2 ^ 64 }
+        ensures length { length marks.new ≡ length marks.old }
+        ensures marks { EachIndex marks.new (λ k. slice_index_or marks.new k false ≡ vertical_line_at self.now (first + k) count) }
+    {
+        if self.global.is_some() {
+            marks.fill(true);
+            return;
+        }
+        let frame = &self.frame;
+        let ends = Ends {
+            first: frame.has_left() | parts::any_left(&self.horizontal_lines),
+            end: frame.has_right() | parts::any_right(&self.horizontal_lines),
+            inner: frame.has_vertical(),
+        };
+        mark_lines(&self.vertical_lines, ends, first, count, marks);
+        mark_places(&self.vertical_edges, Across::Columns, first, marks);
+        mark_places(&self.corners, Across::Columns, first, marks);
+    }
+
+    /// Tells of each horizontal line from the first on, as many as there are marks, whether it is
+    /// there in a table of so many rows, likewise.
+    pub fn mark_horizontal(&self, first: usize, count: usize, marks: &mut [bool])
+        requires { first + length marks.old < 2 ^ 64 }
+        ensures length { length marks.new ≡ length marks.old }
+        ensures marks { EachIndex marks.new (λ k. slice_index_or marks.new k false ≡ horizontal_line_at self.now (first + k) count) }
+    {
+        if self.global.is_some() {
+            marks.fill(true);
+            return;
+        }
+        let frame = &self.frame;
+        let ends = Ends {
+            first: frame.has_top() | parts::any_top(&self.vertical_lines),
+            end: frame.has_bottom() | parts::any_bottom(&self.vertical_lines),
+            inner: frame.has_horizontal(),
+        };
+        mark_lines(&self.horizontal_lines, ends, first, count, marks);
+        mark_places(&self.horizontal_edges, Across::Rows, first, marks);
+        mark_places(&self.corners, Across::Rows, first, marks);
+    }
+}
+
+impl<T: Drop> BorderTable<T> {
+    /// Writes the parts of a cell's border that are set, and leaves the others. Where memory is
+    /// refused the table is as it was. Condition: the next row and column exist in `usize`.
+    pub fn insert_border(&mut self, pos: Position, border: Border<T>) -> Result<(), AllocError>
+        requires row { pos.row + 1 < 2 ^ 64 }
+        requires col { pos.col + 1 < 2 ^ 64 }
+        ensures ok { OnOk result (Appends self.old self.new (InsertBorder pos border ∷ [])) }
+        ensures err { OnErr result (self.new ≡ self.old) }
+    {
+        parts::reserve(
+            &mut self.horizontal_edges,
+            &mut self.vertical_edges,
+            &mut self.corners,
+        )?;
+        parts::put_border(
+            &mut self.horizontal_edges,
+            &mut self.vertical_edges,
+            &mut self.corners,
+            pos,
+            border,
+        );
+        Ok(())
+    }
+
+    /// Removes the four edges and four corners of a cell, whatever the shape. Condition: the next
+    /// row and column exist in `usize`.
+    pub fn remove_border(&mut self, pos: Position, _shape: (usize, usize))
+        requires row { pos.row + 1 < 2 ^ 64 }
+        requires col { pos.col + 1 < 2 ^ 64 }
+        ensures { Appends self.old self.new (RemoveBorder pos ∷ []) }
+    {
+        parts::take_border(
+            &mut self.horizontal_edges,
+            &mut self.vertical_edges,
+            &mut self.corners,
+            pos,
+        );
+    }
+
+    /// Sets the horizontal line at a row, in place of the one held. Where memory is refused the
+    /// table is as it was.
+    pub fn insert_horizontal_line(
+        &mut self,
+        row: usize,
+        line: HorizontalLine<T>,
+    ) -> Result<(), AllocError>
+        ensures ok { OnOk result (Appends self.old self.new (InsertHorizontalLine row line ∷ [])) }
+        ensures err { OnErr result (self.new ≡ self.old) }
+    {
+        write(&mut self.horizontal_lines, row, line)
+    }
+
+    /// Sets the vertical line at a column, in place of the one held. Where memory is refused the
+    /// table is as it was.
+    pub fn insert_vertical_line(
+        &mut self,
+        col: usize,
+        line: VerticalLine<T>,
+    ) -> Result<(), AllocError>
+        ensures ok { OnOk result (Appends self.old self.new (InsertVerticalLine col line ∷ [])) }
+        ensures err { OnErr result (self.new ≡ self.old) }
+    {
+        write(&mut self.vertical_lines, col, line)
+    }
+
+    /// Removes the horizontal line at a row, whatever the number of rows.
+    pub fn remove_horizontal_line(&mut self, row: usize, _count: usize)
+        ensures { Appends self.old self.new (RemoveHorizontalLine row ∷ []) }
+    {
+        take(&mut self.horizontal_lines, row);
+    }
+
+    /// Removes the vertical line at a column, whatever the number of columns.
+    pub fn remove_vertical_line(&mut self, col: usize, _count: usize)
+        ensures { Appends self.old self.new (RemoveVerticalLine col ∷ []) }
+    {
+        take(&mut self.vertical_lines, col);
+    }
+
+    /// Sets the frame.
+    pub fn set_borders(&mut self, borders: Borders<T>)
+        ensures { Appends self.old self.new (SetBorders borders ∷ []) }
+    {
+        self.frame = borders;
+    }
+
+    /// Sets the value for all lines.
+    pub fn set_global(&mut self, value: T)
+        ensures { Appends self.old self.new (SetGlobal value ∷ []) }
+    {
+        self.global = Some(value);
+    }
+}
+
+impl<T: Clone> BorderTable<T> {
+    /// All horizontal lines that are held, or want of memory. Condition: a clone of a value equals
+    /// it.
+    pub fn get_horizontal_lines(&self) -> Result<HashMap<usize, HorizontalLine<T>>, AllocError>
+        requires equal_clones { (x y : T) → T.is_clone x y → y ≡ x }
+        ensures { IfOk result (λ all. (n : ℕ) → map_get nat_eq all n ≡ value_at self.now.horizontal_lines n) }
+    {
+        self.horizontal_lines.clone()
+    }
+
+    /// All vertical lines that are held, or want of memory. Condition: a clone of a value equals
+    /// it.
+    pub fn get_vertical_lines(&self) -> Result<HashMap<usize, VerticalLine<T>>, AllocError>
+        requires equal_clones { (x y : T) → T.is_clone x y → y ≡ x }
+        ensures { IfOk result (λ all. (n : ℕ) → map_get nat_eq all n ≡ value_at self.now.vertical_lines n) }
+    {
+        self.vertical_lines.clone()
+    }
+}
+
+impl<T: Clone> Clone for BorderTable<T> {
+    // It is like its original where clones of the values are.
+    ghost is_clone = { λ s t. ((x y : T) → T.is_clone x y → y ≡ x) → t ≡ s };
+
+    fn clone(&self) -> Result<BorderTable<T>, AllocError> {
+        Ok(BorderTable {
+            global: self.global.clone()?,
+            frame: self.frame.clone()?,
+            horizontal_lines: self.horizontal_lines.clone()?,
+            vertical_lines: self.vertical_lines.clone()?,
+            horizontal_edges: self.horizontal_edges.clone()?,
+            vertical_edges: self.vertical_edges.clone()?,
+            corners: self.corners.clone()?,
+        })
+    }
+}
+
+impl<T: PartialEq> PartialEq for BorderTable<T> {
+    ghost use Rattle.papergrid_tables.specs.BorderEq.{borders_eq, borders_eq_laws};
+
+    ghost eq = { borders_eq T.eq };
+
+    ghost laws = { borders_eq_laws T.eq T.laws };
+
+    fn eq(&self, other: &BorderTable<T>) -> bool {
+        let global = self.global == other.global;
+        let frame = self.frame == other.frame;
+        let horizontal_lines = self.horizontal_lines == other.horizontal_lines;
+        let vertical_lines = self.vertical_lines == other.vertical_lines;
+        let horizontal_edges = self.horizontal_edges == other.horizontal_edges;
+        let vertical_edges = self.vertical_edges == other.vertical_edges;
+        let corners = self.corners == other.corners;
+        let edges = horizontal_edges & (vertical_edges & corners);
+        global & (frame & (horizontal_lines & (vertical_lines & edges)))
+    }
+}

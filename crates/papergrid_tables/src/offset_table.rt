@@ -1,0 +1,229 @@
+//! Values at offsets of positions. Source: `config/spanned/mod.rs`.
+
+ghost use Rattle.std.specs.Prelude.{◌≡◌, ◌∷◌, [], ◌↔◌, Some, None, ◌-◌, nat_eq, nat_lt, IsTrue, OnOk, OnErr, if◌then◌else◌, option_copied};
+ghost use Rattle.std.specs.HashMap.{get as map_get};
+ghost use Rattle.papergrid_values.specs.declared.offset.Offset.{Offset};
+ghost use Rattle.papergrid_values.specs.declared.position.Position.{Position};
+ghost use Rattle.papergrid_tables.specs.Keys.{position_eq};
+ghost use Rattle.papergrid_tables.specs.OverrideScan.{AfterSet};
+ghost use Rattle.papergrid_tables.specs.Overrides.{AreSet, Appends, IsClear, IsOverridden, IsTold, RemoveAll, RemoveAt, SetAt, at_offset, found_override, is_same_offset, override_at};
+
+use crate::hashed::{take, write};
+use papergrid_values::{Offset, Position};
+use std::alloc::{AllocError, Global};
+use std::collections::HashMap;
+use std::marker::Model;
+
+/// A value for each offset of a position that has one.
+#[derive(Debug, Drop)]
+pub struct OffsetTable<T> {
+    alloc: Global,
+    overrides: HashMap<Position, Overrides<T>>,
+}
+
+// The values of one position, by offsets from either end.
+#[derive(Debug, Drop)]
+struct Overrides<T> {
+    from_start: HashMap<usize, T>,
+    from_end: HashMap<usize, T>,
+}
+
+impl<T> Model for Overrides<T> {
+    ghost use Rattle.std.specs.FinMap as map;
+    ghost use Rattle.papergrid_tables.specs.Overrides.{HeldOffsets, offsets_code};
+
+    ghost Value = { HeldOffsets T };
+
+    ghost coded = { offsets_code T.code };
+
+    ghost view = { λ s. record { from_start = map.from_entries s.from_start.entries; from_end = map.from_entries s.from_end.entries } };
+}
+
+impl<T> Model for OffsetTable<T> {
+    ghost use Rattle.std.specs.FinMap as map;
+    ghost use Rattle.papergrid_tables.specs.Keys.{position_cmp, coded_position};
+    ghost use Rattle.papergrid_tables.specs.Overrides.{AreSet, HeldOffsets, offsets_code};
+
+    ghost Value = { map.FinMap position_cmp (HeldOffsets T) };
+
+    ghost coded = { map.code coded_position (offsets_code T.code) };
+
+    ghost view = { λ t. map.from_entries t.overrides.entries };
+
+    ghost invariant = { λ t. AreSet t.overrides.entries };
+}
+
+impl<T> Overrides<T> {
+    fn new(alloc: Global) -> Self
+        ensures { (o : Offset) → at_offset result o ≡ None }
+    {
+        Overrides {
+            from_start: HashMap::new(alloc),
+            from_end: HashMap::new(alloc),
+        }
+    }
+
+    fn set(&mut self, offset: Offset, value: T) -> Result<(), AllocError>
+    where
+        T: Drop,
+        ensures ok { OnOk result ((o : Offset) → at_offset self.new o ≡ (if is_same_offset offset o then Some value else at_offset self.old o)) }
+        ensures err { OnErr result (self.new ≡ self.old) }
+    {
+        match offset {
+            Offset::Start(n) => write(&mut self.from_start, n, value),
+            Offset::End(n) => write(&mut self.from_end, n, value),
+        }
+    }
+
+    fn lookup(&self, offset: usize, end: usize) -> Option<&T>
+        ensures { option_copied result ≡ found_override (at_offset self.now) offset end }
+    {
+        self.from_start
+            .get(&offset)
+            .or(mirrored(&self.from_end, offset, end))
+    }
+}
+
+impl<T> OffsetTable<T> {
+    /// The table that holds nothing. It takes no memory.
+    pub fn new(alloc: Global) -> Self
+        ensures { IsTold [] result }
+    {
+        OffsetTable {
+            alloc,
+            overrides: HashMap::new(alloc),
+        }
+    }
+
+    /// The value of a position at an offset from the start, where the end stands so far from it:
+    /// the one held at this offset from the start, else the one held at the same place counted
+    /// from the end, 0 being the last place before it.
+    pub fn lookup(&self, pos: Position, offset: usize, end: usize) -> Option<&T>
+        ensures { option_copied result ≡ found_override (override_at self.now pos) offset end }
+    {
+        match self.overrides.get(&pos) {
+            Some(overrides) => overrides.lookup(offset, end),
+            None => None,
+        }
+    }
+
+    /// Whether a value is held for a position.
+    pub fn is_overridden(&self, pos: Position) -> bool
+        ensures { IsTrue result ↔ IsOverridden self.now pos }
+    {
+        self.overrides.contains_key(&pos)
+    }
+
+    /// Whether no value is held.
+    pub fn is_empty(&self) -> bool
+        ensures { IsTrue result ↔ IsClear self.now }
+    {
+        self.overrides.is_empty()
+    }
+}
+
+impl<T: Drop> OffsetTable<T> {
+    /// Sets the value of a position at an offset. Where memory is refused the table is as it was.
+    pub fn set(&mut self, pos: Position, offset: Offset, value: T) -> Result<(), AllocError>
+        ensures ok { OnOk result (Appends self.old self.new (SetAt pos offset value ∷ [])) }
+        ensures err { OnErr result (self.new ≡ self.old) }
+    {
+        set_override(self.alloc, &mut self.overrides, pos, offset, value)
+    }
+
+    /// Removes all values of a position.
+    pub fn remove(&mut self, pos: Position)
+        ensures { Appends self.old self.new (RemoveAt pos ∷ []) }
+    {
+        take(&mut self.overrides, pos);
+    }
+
+    /// Removes all values.
+    pub fn clear(&mut self)
+        ensures { Appends self.old self.new (RemoveAll ∷ []) }
+    {
+        self.overrides.clear();
+    }
+}
+
+impl<T: Clone> Clone for Overrides<T> {
+    ghost use Rattle.papergrid_tables.specs.OverrideScan.{IsCopy};
+
+    // It has values at the same offsets, and is like its original where clones of the values are.
+    ghost is_clone = { λ s t. IsCopy T.is_clone s t };
+
+    fn clone(&self) -> Result<Overrides<T>, AllocError> {
+        Ok(Overrides {
+            from_start: self.from_start.clone()?,
+            from_end: self.from_end.clone()?,
+        })
+    }
+}
+
+impl<T: Clone> Clone for OffsetTable<T> {
+    // It is like its original where clones of the values are.
+    ghost is_clone = { λ s t. ((x y : T) → T.is_clone x y → y ≡ x) → t ≡ s };
+
+    fn clone(&self) -> Result<OffsetTable<T>, AllocError> {
+        Ok(OffsetTable {
+            alloc: self.alloc,
+            overrides: self.overrides.clone()?,
+        })
+    }
+}
+
+impl<T: PartialEq> PartialEq for Overrides<T> {
+    ghost use Rattle.papergrid_tables.specs.OffsetEq.{offsets_eq, offsets_eq_laws};
+
+    ghost eq = { offsets_eq T.eq };
+
+    ghost laws = { offsets_eq_laws T.eq T.laws };
+
+    fn eq(&self, other: &Overrides<T>) -> bool {
+        let from_start = self.from_start == other.from_start;
+        let from_end = self.from_end == other.from_end;
+        from_start & from_end
+    }
+}
+
+impl<T: PartialEq> PartialEq for OffsetTable<T> {
+    ghost use Rattle.papergrid_tables.specs.OffsetEq.{overrides_eq, overrides_eq_laws};
+
+    ghost eq = { overrides_eq T.eq };
+
+    ghost laws = { overrides_eq_laws T.eq T.laws };
+
+    fn eq(&self, other: &OffsetTable<T>) -> bool {
+        self.overrides == other.overrides
+    }
+}
+
+// Sets one value among those of its position, which are made where there are none.
+fn set_override<T: Drop>(
+    alloc: Global,
+    overrides: &mut HashMap<Position, Overrides<T>>,
+    pos: Position,
+    offset: Offset,
+    value: T,
+) -> Result<(), AllocError>
+    ensures ok { OnOk result (AfterSet pos offset value (map_get position_eq overrides.old) (map_get position_eq overrides.new)) }
+    ensures err { OnErr result ((p : Position) → map_get position_eq overrides.new p ≡ map_get position_eq overrides.old p) }
+{
+    if let Some(held) = overrides.get_mut(&pos) {
+        return held.set(offset, value);
+    }
+    let mut held = Overrides::new(alloc);
+    held.set(offset, value)?;
+    write(overrides, pos, held)
+}
+
+// The value at an offset from the start of an end, counted from that end.
+fn mirrored<T>(from_end: &HashMap<usize, T>, offset: usize, end: usize) -> Option<&T>
+    ensures { option_copied result ≡ (if nat_lt offset end then map_get nat_eq from_end.now (end - offset - 1) else None) }
+{
+    if offset < end {
+        from_end.get(&(end - offset - 1))
+    } else {
+        None
+    }
+}
