@@ -13,11 +13,11 @@ use Rattle.papergrid_axis.specs.Fits.{IsLeast}
 use Rattle.papergrid_axis.specs.Ranges.{demand_of, lines_to, place_of}
 use Rattle.papergrid_axis.proofs.AcceptLemmas.{few_places}
 use Rattle.papergrid_axis.proofs.ClaimLemmas.{count_by-none, is_same}
-use Rattle.papergrid_layout.specs.Cells.{asked, asked_by, demands_of, placed, placed_row, side, visible_of}
-use Rattle.papergrid_layout.specs.Looks.{Look}
-use Rattle.papergrid_layout.specs.Answers.{count_along, drawn_along}
+use Rattle.papergrid_walk.specs.Cells.{asked, asked_by, count_along, demands_of, placed, placed_row, side, visible_of}
+use Rattle.papergrid_walk.specs.Looks.{Look}
+use Rattle.papergrid_walk.proofs.Steps.{asked_by-append, placed_from-more, placed_row-more}
+use Rattle.papergrid_layout.specs.Answers.{drawn_along}
 use Rattle.papergrid_layout.specs.Witnesses.{AreShown, ChecksBy, ChecksMore, IsChecked}
-use Rattle.papergrid_layout.proofs.Steps.{asked_by-append, placed_from-more, placed_row-more}
 
 module _ (look : Look) (direction : Direction) (sizes : List ℕ) (places : List Position) where
   -- nothing more
