@@ -1,6 +1,6 @@
 -- The first cell out of the table, by what is kept for both directions.
-use Rattle.std.proofs.Common.{◌≡◌, ℕ, ◌+◌, ◌<◌, ◌≢◌, Bool, true, false, inl, inr, List, [], ◌∷◌, ◌||◌, ◌&&◌, ◌==◌, length, map, refl, ap, ap₂, sym, subst, ◌∙◌, arith, nat_lt, eq-eqb, ne_eqb, le-ltb, lt-ltb, suc}
-use Rattle.std.specs.Prelude.{All, AllPairs, Option, Some, None, is_some, find, if◌then◌else◌, unwrap_or}
+use Rattle.std.proofs.Common.{◌≡◌, ℕ, ◌+◌, ◌<◌, ◌≢◌, inl, inr, List, [], ◌∷◌, length, map, refl, ap, ap₂, sym, subst, ◌∙◌, arith, nat_lt, eq-eqb, ne_eqb, le-ltb, lt-ltb, suc}
+use Rattle.std.specs.Prelude.{All, AllPairs, Option, Some, None, is_some, find, unwrap_or}
 use Rattle.std.proofs.lemmas.Bool.{cases_Bool, false≢true}
 use Rattle.std.proofs.lemmas.List.Elements.{All-head, All-tail}
 use Rattle.papergrid_values.specs.declared.position.Position.{Position}

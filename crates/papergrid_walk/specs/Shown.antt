@@ -1,5 +1,5 @@
 -- What a walk knows of the visible positions.
-use Rattle.std.specs.Prelude.{◌≡◌, ◌↔◌, ◌≤◌, ◌+◌, ℕ, Bool, IsTrue, List}
+use Rattle.std.specs.Prelude.{◌≡◌, ◌↔◌, ◌≤◌, ℕ, Bool, IsTrue, List}
 use Rattle.papergrid_values.specs.declared.position.Position.{Position}
 use Rattle.papergrid_sweep.specs.declared.anchor.Anchor.{Anchor}
 use Rattle.papergrid_sweep.specs.Hidden.{IsAhead, IsHidden, Walk}
