@@ -14,10 +14,10 @@ use Rattle.papergrid_axis.specs.Chosen.{chosen_of}
 use Rattle.papergrid_axis.specs.KeptApart.{is_kept_apart}
 use Rattle.papergrid_axis.specs.Ranges.{all_lines, end_of, first_out, place_of}
 use Rattle.papergrid_axis.specs.Sizes.{sizes_of}
+use Rattle.papergrid_walk.specs.Cells.{asked, demands_of, visible_cells}
+use Rattle.papergrid_walk.specs.Looks.{Look}
 use Rattle.papergrid_layout.specs.Answers.{AreBothSizes, IsBothRefused, IsTooLargeFor, UnlessWant, count_of, drawn_along, first_out_of_table, reaches_out}
-use Rattle.papergrid_layout.specs.Cells.{asked, demands_of, visible_cells}
 use Rattle.papergrid_layout.specs.Laws.{sizes_told, witness_told}
-use Rattle.papergrid_layout.specs.Looks.{Look}
 use Rattle.papergrid_layout.specs.Witnesses.{AreCertified}
 use Rattle.papergrid_layout.specs.declared.certified.Certified.{Certified}
 use Rattle.papergrid_layout.proofs.Told.{demands_told, witness_is_told}

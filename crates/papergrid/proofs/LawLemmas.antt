@@ -16,10 +16,10 @@ use Rattle.papergrid_axis.proofs.KeptApartLemmas.{Decides-is_kept_apart}
 use Rattle.papergrid_axis.proofs.OutLemmas as out_lemmas
 use Rattle.papergrid_axis.proofs.Theorems.{AreSizes-sizes_of, IsCertificate-chosen_of, NoneHolds-sizes_of}
 use Rattle.papergrid_config.specs.Lines.{count_lines}
+use Rattle.papergrid_walk.specs.Cells.{asked, demands_of, visible_cells}
+use Rattle.papergrid_walk.specs.Looks.{Look}
 use Rattle.papergrid_layout.specs.Answers.{drawn_along, first_out_of_table}
-use Rattle.papergrid_layout.specs.Cells.{asked, demands_of, visible_cells}
 use Rattle.papergrid_layout.specs.Laws.{sizes_told, witness_told}
-use Rattle.papergrid_layout.specs.Looks.{Look}
 use Rattle.papergrid.specs.Estimates.{Estimate, OutOfTable, TooLarge, Sized, unless_large, unless_out, text_measure, total_along, estimate_by, estimate_of}
 use Rattle.papergrid.specs.Looks.{look_of}
 use Rattle.papergrid.specs.Scripts.{Table}

@@ -28,7 +28,7 @@ use Rattle.papergrid_tables.proofs.KeyLemmas.{position_total}
 use Rattle.papergrid_config.specs.Decided as decided
 use Rattle.papergrid_config.specs.Parts.{character_calls, span_calls}
 use Rattle.papergrid_config.specs.declared.setting.Setting.{Setting}
-use Rattle.papergrid_layout.specs.Looks.{Look, line_along, size_after, size_before, span_along}
+use Rattle.papergrid_walk.specs.Looks.{Look, line_along, size_after, size_before, span_along}
 use Rattle.papergrid.specs.declared.running.RunEnd.{RunEnd}
 use Rattle.papergrid.specs.Estimates.{Estimate, estimate_by, estimate_of, text_measure}
 use Rattle.papergrid.specs.Looks.{look_of}

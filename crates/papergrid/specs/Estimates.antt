@@ -5,10 +5,10 @@ use Rattle.papergrid_values.specs.declared.position.Position.{Position}
 use Rattle.papergrid_axis.specs.declared.direction.Direction.{Direction}
 use Rattle.papergrid_axis.specs.declared.direction.Direction.TheVariants.{Columns, Rows}
 use Rattle.papergrid_config.specs.Lines.{count_lines}
+use Rattle.papergrid_walk.specs.Looks.{Look}
+use Rattle.papergrid_walk.specs.Measures.{line_measure}
 use Rattle.papergrid_layout.specs.Answers.{first_out_of_table}
 use Rattle.papergrid_layout.specs.Laws.{sizes_told, witness_told}
-use Rattle.papergrid_layout.specs.Looks.{Look}
-use Rattle.papergrid_layout.specs.Measures.{line_measure}
 use Rattle.papergrid.specs.Looks.{look_of}
 use Rattle.papergrid.specs.Scripts.{Table}
 

@@ -1,8 +1,8 @@
 -- What the layout of records is.
 use Rattle.std.specs.Prelude.{ℕ, List, Result, Ok, Err}
 use Rattle.papergrid_axis.specs.declared.error.LayoutError.{LayoutError}
+use Rattle.papergrid_walk.specs.Looks.{Look}
 use Rattle.papergrid_layout.specs.Answers.{AreBothSizes, IsBothRefused}
-use Rattle.papergrid_layout.specs.Looks.{Look}
 use Rattle.papergrid_layout.specs.declared.iterable.IterGridDimension.{IterGridDimension}
 
 module _ {C : Type 0} (look : Look) (measure : C → ℕ × ℕ) (columns : ℕ) (cells : List (List C)) where

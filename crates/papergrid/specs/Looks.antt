@@ -4,7 +4,7 @@ use Rattle.papergrid_maps.specs.Spans.{is_visible}
 use Rattle.papergrid_config.specs.Decided as decided
 use Rattle.papergrid_config.specs.Made.{characters_of, spans_of}
 use Rattle.papergrid_config.specs.declared.setting.Setting.{Setting}
-use Rattle.papergrid_layout.specs.Looks.{Look, line_along, size_after, size_before, span_along}
+use Rattle.papergrid_walk.specs.Looks.{Look, line_along, size_after, size_before, span_along}
 
 -- the visible positions, the spans, the paddings and the lines that settings decide
 unfoldable pub look_of : List Setting → Look

@@ -9,9 +9,9 @@ use Rattle.papergrid_config.specs.Lines.{count_lines}
 use Rattle.papergrid_config.specs.Made.{characters_of}
 use Rattle.papergrid_config.specs.Parts.{character_calls}
 use Rattle.papergrid_config.specs.declared.setting.Setting.{Setting}
-use Rattle.papergrid_layout.specs.Answers.{AreBothSizes, IsTooLargeFor, count_along, drawn_along, first_out_of_table}
-use Rattle.papergrid_layout.specs.Cells.{demands_of}
-use Rattle.papergrid_layout.specs.Looks.{line_along}
+use Rattle.papergrid_walk.specs.Cells.{count_along, demands_of}
+use Rattle.papergrid_walk.specs.Looks.{line_along}
+use Rattle.papergrid_layout.specs.Answers.{AreBothSizes, IsTooLargeFor, drawn_along, first_out_of_table}
 use Rattle.papergrid.specs.Estimates.{text_measure}
 use Rattle.papergrid.specs.Looks.{look_of}
 use Rattle.papergrid.specs.Scripts.{Table}

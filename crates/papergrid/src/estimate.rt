@@ -2,8 +2,8 @@
 
 ghost use Rattle.std.specs.Prelude.{◌≡◌, ◌+◌, ◌<◌, ◌^◌, List, length, sum};
 ghost use Rattle.papergrid_axis.specs.declared.direction.Direction.TheVariants.{Columns, Rows};
-ghost use Rattle.papergrid_layout.specs.Looks.{spanned_look};
-ghost use Rattle.papergrid_layout.specs.Measures.{line_measure};
+ghost use Rattle.papergrid_walk.specs.Looks.{spanned_look};
+ghost use Rattle.papergrid_walk.specs.Measures.{line_measure};
 ghost use Rattle.papergrid.specs.Estimates.{estimate_by, total_along};
 ghost use Rattle.papergrid.specs.Seen.{GivesEstimate};
 

@@ -3,9 +3,9 @@
 ghost use Rattle.std.specs.Prelude.{◌≡◌, All, IfOk, List, true};
 ghost use Rattle.papergrid_config.specs.Applied.{is_in_range};
 ghost use Rattle.papergrid_config.specs.Told.{IsTold};
+ghost use Rattle.papergrid_walk.specs.Looks.{spanned_look};
+ghost use Rattle.papergrid_walk.specs.Measures.{line_measure};
 ghost use Rattle.papergrid_layout.specs.Answers.{UnlessMemory};
-ghost use Rattle.papergrid_layout.specs.Looks.{spanned_look};
-ghost use Rattle.papergrid_layout.specs.Measures.{line_measure};
 ghost use Rattle.papergrid.specs.Layouts.{IsLaidOut};
 ghost use Rattle.papergrid.specs.Looks.{look_of};
 

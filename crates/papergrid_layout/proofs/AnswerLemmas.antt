@@ -9,9 +9,9 @@ use Rattle.papergrid_axis.specs.declared.error.LayoutError.TheVariants.{OutOfTab
 use Rattle.papergrid_axis.specs.declared.demand.Demand.{Demand}
 use Rattle.papergrid_axis.specs.Answers.{AreSizes, IsExact, IsRefused, NoneHolds}
 use Rattle.papergrid_axis.specs.Ranges.{first_out}
-use Rattle.papergrid_layout.specs.Answers.{AreSizesOf, IsBothRefused, IsSized, UnlessMemory, UnlessWant, count_along, drawn_along, first_out_of_table}
-use Rattle.papergrid_layout.specs.Cells.{demands_of}
-use Rattle.papergrid_layout.specs.Looks.{Look}
+use Rattle.papergrid_walk.specs.Cells.{count_along, demands_of}
+use Rattle.papergrid_walk.specs.Looks.{Look}
+use Rattle.papergrid_layout.specs.Answers.{AreSizesOf, IsBothRefused, IsSized, UnlessMemory, UnlessWant, drawn_along, first_out_of_table}
 
 -- what holds anyway holds unless memory was refused
 pub unless_want : (e : LayoutError) (P : Type 0) → P → UnlessWant e P

@@ -1,5 +1,5 @@
 -- The steps of a checker's walk, and what it concludes.
-use Rattle.std.proofs.Common.{◌≡◌, ◌==◌, ◌&&◌, ℕ, ◌+◌, ◌<◌, ◌≤◌, Bool, true, false, ◌⊎◌, inl, inr, List, [], ◌∷◌, ◌++◌, length, count_by, get_or, refl, ap, sym, ◌∙◌, arith, subst}
+use Rattle.std.proofs.Common.{◌≡◌, ◌==◌, ◌&&◌, ℕ, ◌+◌, ◌<◌, ◌≤◌, Bool, true, false, ◌⊎◌, inl, inr, List, [], ◌∷◌, ◌++◌, length, count_by, get_or, ap, sym, ◌∙◌, arith, subst}
 use Rattle.std.specs.Prelude.{All, Contains, IsTrue, ◌↔◌}
 use Rattle.std.proofs.lemmas.Bool.{and_parts, cases_Bool, eqb-true, false≢true, true≢false}
 use Rattle.std.proofs.lemmas.List.{append-nil, append_assoc}
@@ -13,11 +13,11 @@ use Rattle.papergrid_axis.specs.Fits.{IsLeast}
 use Rattle.papergrid_axis.specs.Ranges.{demand_of, lines_to, place_of}
 use Rattle.papergrid_axis.proofs.AcceptLemmas.{few_places}
 use Rattle.papergrid_axis.proofs.ClaimLemmas.{count_by-none, is_same}
-use Rattle.papergrid_layout.specs.Cells.{asked, asked_by, demands_of, placed, placed_row, side, visible_of}
-use Rattle.papergrid_layout.specs.Looks.{Look}
-use Rattle.papergrid_layout.specs.Answers.{count_along, drawn_along}
+use Rattle.papergrid_walk.specs.Cells.{asked, asked_by, count_along, demands_of, placed, placed_row, side, visible_of}
+use Rattle.papergrid_walk.specs.Looks.{Look}
+use Rattle.papergrid_walk.proofs.Steps.{asked_by-append, placed_from-more, placed_row-more}
+use Rattle.papergrid_layout.specs.Answers.{drawn_along}
 use Rattle.papergrid_layout.specs.Witnesses.{AreShown, ChecksBy, ChecksMore, IsChecked}
-use Rattle.papergrid_layout.proofs.Steps.{asked_by-append, placed_from-more, placed_row-more}
 
 module _ (look : Look) (direction : Direction) (sizes : List ℕ) (places : List Position) where
   -- nothing more

@@ -27,11 +27,11 @@ use Rattle.papergrid_config.specs.Parts.{character_calls, padding_calls, span_ca
 use Rattle.papergrid_config.specs.Told.{IsTold, all_sides, no_room}
 use Rattle.papergrid_config.specs.declared.setting.Setting.{Setting}
 use Rattle.papergrid_config.specs.declared.spanned.SpannedConfig.{SpannedConfig}
-use Rattle.papergrid_layout.specs.Cells.{asked_by, demands_of, placed_from, placed_row, side}
+use Rattle.papergrid_walk.specs.Cells.{asked_by, demands_of, placed_from, placed_row, side}
+use Rattle.papergrid_walk.specs.Looks.{Look, line_along, size_after, size_before, span_along, spanned_look}
+use Rattle.papergrid_walk.specs.Measures.{cell_measure, line_measure}
+use Rattle.papergrid_walk.proofs.Steps.{asked_by-append}
 use Rattle.papergrid_layout.specs.Laws.{AreSwapped, IsNewText, TellTheSame, set_span}
-use Rattle.papergrid_layout.specs.Looks.{Look, line_along, size_after, size_before, span_along, spanned_look}
-use Rattle.papergrid_layout.specs.Measures.{cell_measure, line_measure}
-use Rattle.papergrid_layout.proofs.Steps.{asked_by-append}
 
 -- ---- measures
 

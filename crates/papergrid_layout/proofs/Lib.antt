@@ -1,11 +1,7 @@
 pub mod AnswerLemmas
 pub mod CheckSteps
-pub mod Distinct
 pub mod LawLemmas
-pub mod PaddingLemmas
 pub mod PairLemmas
 pub mod PlaceLemmas
-pub mod ShownLemmas
-pub mod Steps
 pub mod Told
 pub mod TotalLemmas

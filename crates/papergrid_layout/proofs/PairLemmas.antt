@@ -1,6 +1,6 @@
 -- The first cell out of the table, by what is kept for both directions.
-use Rattle.std.proofs.Common.{◌≡◌, ℕ, ◌+◌, ◌<◌, ◌≢◌, Bool, true, false, inl, inr, List, [], ◌∷◌, ◌||◌, ◌&&◌, ◌==◌, length, map, refl, ap, ap₂, sym, subst, ◌∙◌, arith, nat_lt, eq-eqb, ne_eqb, le-ltb, lt-ltb, suc}
-use Rattle.std.specs.Prelude.{All, AllPairs, Option, Some, None, is_some, find, if◌then◌else◌, unwrap_or}
+use Rattle.std.proofs.Common.{◌≡◌, ℕ, ◌+◌, ◌<◌, ◌≢◌, inl, inr, List, [], ◌∷◌, length, map, refl, ap, ap₂, sym, subst, ◌∙◌, arith, nat_lt, eq-eqb, ne_eqb, le-ltb, lt-ltb, suc}
+use Rattle.std.specs.Prelude.{All, AllPairs, Option, Some, None, is_some, find, unwrap_or}
 use Rattle.std.proofs.lemmas.Bool.{cases_Bool, false≢true}
 use Rattle.std.proofs.lemmas.List.Elements.{All-head, All-tail}
 use Rattle.papergrid_values.specs.declared.position.Position.{Position}
@@ -9,13 +9,13 @@ use Rattle.papergrid_axis.specs.declared.direction.Direction.TheVariants.{Column
 use Rattle.papergrid_axis.specs.Ranges.{end_of, first_out}
 use Rattle.papergrid_axis.specs.Seen.{IsSeen}
 use Rattle.papergrid_axis.proofs.OutLemmas.{out_seen}
-use Rattle.papergrid_layout.specs.declared.both.Both.{Both}
+use Rattle.papergrid_walk.specs.declared.both.Both.{Both}
+use Rattle.papergrid_walk.specs.Cells.{StandsBefore, asked, demands_of, visible_cells}
+use Rattle.papergrid_walk.specs.Looks.{Look}
+use Rattle.papergrid_walk.specs.Pairs.{AreBothSeen}
+use Rattle.papergrid_walk.proofs.Distinct.{AllPairs-visible, Precedes}
 use Rattle.papergrid_layout.specs.Answers.{first_out_of_table, reaches_out}
-use Rattle.papergrid_layout.specs.Cells.{asked, demands_of, visible_cells}
-use Rattle.papergrid_layout.specs.Laws.{StandsBefore}
-use Rattle.papergrid_layout.specs.Looks.{Look}
-use Rattle.papergrid_layout.specs.Pairs.{AreBothSeen, earlier, earlier_of}
-use Rattle.papergrid_layout.proofs.Distinct.{AllPairs-visible, Precedes}
+use Rattle.papergrid_layout.specs.Earlier.{earlier, earlier_of}
 
 before-first : (p q : Position) → StandsBefore p q → earlier_of p q ≡ p
 before-first p q (inl l) =

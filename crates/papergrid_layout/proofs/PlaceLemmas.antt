@@ -1,9 +1,9 @@
 -- The cells of rows with their positions are those that the rows have there.
-use Rattle.std.proofs.Common.{◌≡◌, ℕ, zero, suc, ◌+◌, ◌<◌, List, [], ◌∷◌, ◌++◌, length, get_or, refl, sym, ap, subst, ◌∙◌, arith, inl, inr}
+use Rattle.std.proofs.Common.{◌≡◌, ℕ, zero, suc, ◌+◌, ◌<◌, List, [], ◌∷◌, length, get_or, refl, sym, ap, subst, ◌∙◌, arith}
 use Rattle.std.specs.Prelude.{All, Contains}
 use Rattle.std.proofs.lemmas.List.Elements.{All-append, All-cons, All-contains, All-nil, All-weaker, Contains-append_left, Contains-append_right}
 use Rattle.papergrid_values.specs.declared.position.Position.{Position}
-use Rattle.papergrid_layout.specs.Cells.{placed, placed_from, placed_row}
+use Rattle.papergrid_walk.specs.Cells.{placed, placed_from, placed_row}
 use Rattle.papergrid_layout.specs.Laws.{HasCell, IsCellAt}
 
 module _ {C : Type 0} where

@@ -13,12 +13,12 @@ use Rattle.papergrid_axis.specs.Chosen.{chosen_of}
 use Rattle.papergrid_axis.specs.KeptApart.{is_kept_apart}
 use Rattle.papergrid_axis.specs.Ranges.{place_of}
 use Rattle.papergrid_axis.proofs.KeptApartLemmas.{Decides-is_kept_apart}
-use Rattle.papergrid_layout.specs.Answers.{AreBothSizes, AreSizesOf, count_along, drawn_along}
-use Rattle.papergrid_layout.specs.Cells.{asked, asked_by, demands_of, placed_from, placed_row}
+use Rattle.papergrid_walk.specs.Cells.{asked, asked_by, count_along, demands_of, placed_from, placed_row}
+use Rattle.papergrid_walk.specs.Looks.{Look}
+use Rattle.papergrid_walk.proofs.Steps.{asked_by-append}
+use Rattle.papergrid_layout.specs.Answers.{AreBothSizes, AreSizesOf, drawn_along}
 use Rattle.papergrid_layout.specs.Laws.{witness_told}
-use Rattle.papergrid_layout.specs.Looks.{Look}
 use Rattle.papergrid_layout.specs.Witnesses.{IsWitnessed}
-use Rattle.papergrid_layout.proofs.Steps.{asked_by-append}
 
 -- the places that a witness gives, by the test of ranges that are kept apart
 chosen-by_test : {Z : Type 0} (direction : Direction) (line : ℕ → Bool) (n : ℕ) (demands : List Demand) (found : Option (Vec Position Z)) → IsWitness direction line n demands (Ok found) →

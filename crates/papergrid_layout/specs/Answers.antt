@@ -8,13 +8,8 @@ use Rattle.papergrid_axis.specs.declared.error.LayoutError.TheVariants.{OutOfTab
 use Rattle.papergrid_axis.specs.Answers.{AreSizes, IsRefused, NoneHolds}
 use Rattle.papergrid_axis.specs.Ranges.{lines_to}
 use Rattle.papergrid_config.specs.Lines.{count_lines}
-use Rattle.papergrid_layout.specs.Cells.{demands_of, visible_cells}
-use Rattle.papergrid_layout.specs.Looks.{Look}
-
--- the number of columns, or of rows
-abbrev pub count_along : Direction → ℕ → ℕ → ℕ
-count_along Columns columns rows = columns
-count_along Rows columns rows = rows
+use Rattle.papergrid_walk.specs.Cells.{count_along, demands_of, visible_cells}
+use Rattle.papergrid_walk.specs.Looks.{Look}
 
 -- P, but for want of memory
 abbrev pub UnlessWant : LayoutError → Type 0 → Type 0

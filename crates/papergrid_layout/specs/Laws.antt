@@ -1,5 +1,5 @@
 -- What the laws are about.
-use Rattle.std.specs.Prelude.{◌≡◌, ◌≢◌, ◌<◌, ◌⊎◌, ℕ, if◌then◌else◌, List, [], ◌∷◌, ◌++◌, length, map, None, Option, Some, slice_index_or}
+use Rattle.std.specs.Prelude.{◌≡◌, ◌≢◌, ◌<◌, ℕ, if◌then◌else◌, List, [], ◌∷◌, ◌++◌, length, map, None, Option, Some, slice_index_or}
 use Rattle.std.specs.List.{flat_map}
 use Rattle.papergrid_values.specs.declared.position.Position.{Position}
 use Rattle.papergrid_text.specs.Measured.{Measured}
@@ -16,18 +16,14 @@ use Rattle.papergrid_config.specs.Made.{characters_of}
 use Rattle.papergrid_config.specs.Parts.{span_calls}
 use Rattle.papergrid_config.specs.declared.setting.Setting.{Setting}
 use Rattle.papergrid_config.specs.declared.setting.Setting.TheVariants.{SetColumnSpan, SetRowSpan}
+use Rattle.papergrid_walk.specs.Cells.{demands_of}
+use Rattle.papergrid_walk.specs.Looks.{Look}
 use Rattle.papergrid_layout.specs.Answers.{drawn_along}
-use Rattle.papergrid_layout.specs.Cells.{demands_of}
-use Rattle.papergrid_layout.specs.Looks.{Look}
 
 -- a text as `Text::new` keeps it
 abbrev pub IsNewText : {S : Type 0} → (S → List ℕ) → Measured S → Type 0
 IsNewText text t =
     t ≡ record { text = t.text; width = greatest_width (split_lines (text t.text)); lines = kept_by_new (split_lines (text t.text)) }
-
--- one position stands before another: by row, and then by column
-abbrev pub StandsBefore : Position → Position → Type 0
-StandsBefore p q = (p.row < q.row) ⊎ ((p.row ≡ q.row) × (p.col < q.col))
 
 -- the cells of a row have this one at a column
 abbrev pub HasCell : {C : Type 0} → List C → ℕ → C → Type 0

@@ -1,10 +1,5 @@
 -- The definitions that the contracts cite.
 pub mod Answers
-pub mod Cells
+pub mod Earlier
 pub mod Laws
-pub mod Looks
-pub mod Measures
-pub mod Paddings
-pub mod Pairs
-pub mod Shown
 pub mod Witnesses

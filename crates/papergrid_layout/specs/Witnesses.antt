@@ -10,9 +10,9 @@ use Rattle.papergrid_axis.specs.declared.error.LayoutError.{LayoutError}
 use Rattle.papergrid_axis.specs.Answers.{IsAccepted, IsWitness}
 use Rattle.papergrid_axis.specs.Checks.{Checks}
 use Rattle.papergrid_axis.specs.Fits.{IsLeast}
-use Rattle.papergrid_layout.specs.Answers.{AreBothSizes, IsBothRefused, count_along, drawn_along}
-use Rattle.papergrid_layout.specs.Cells.{demands_of}
-use Rattle.papergrid_layout.specs.Looks.{Look}
+use Rattle.papergrid_walk.specs.Cells.{count_along, demands_of}
+use Rattle.papergrid_walk.specs.Looks.{Look}
+use Rattle.papergrid_layout.specs.Answers.{AreBothSizes, IsBothRefused, drawn_along}
 use Rattle.papergrid_layout.specs.declared.certified.Certified.{Certified}
 
 module _ {C : Type 0} (look : Look) (measure : C → ℕ × ℕ) (columns : ℕ) (cells : List (List C)) (direction : Direction) where

@@ -1,21 +1,21 @@
 //! The sizes along both directions with the cells that certify them, by one walk over the records.
 
 ghost use Rattle.std.specs.Prelude.{◌≡◌, List, length};
+ghost use Rattle.papergrid_walk.specs.Looks.{spanned_look};
+ghost use Rattle.papergrid_walk.specs.Measures.{line_measure};
+ghost use Rattle.papergrid_walk.specs.Pairs.{AreBothSeen};
 ghost use Rattle.papergrid_layout.specs.Answers.{UnlessMemory};
-ghost use Rattle.papergrid_layout.specs.Looks.{spanned_look};
-ghost use Rattle.papergrid_layout.specs.Measures.{line_measure};
-ghost use Rattle.papergrid_layout.specs.Pairs.{AreBothSeen};
 ghost use Rattle.papergrid_layout.specs.Witnesses.{IsCertified};
 
-use crate::both::{Both, find_out_of_both, gather_both};
-use crate::measure::{ByLines, Measure};
-use crate::settings::Settings;
+use crate::both::find_out_of_both;
 use crate::sizes::Along;
 use papergrid_axis::conclude::conclude_certified;
 use papergrid_axis::{Direction, LayoutError};
 use papergrid_config::SpannedConfig;
 use papergrid_text::{IntoRecords, Records};
 use papergrid_values::Position;
+use papergrid_walk::measure::ByLines;
+use papergrid_walk::{Both, Measure, Settings, gather_both};
 use std::alloc::Global;
 use std::convert::AsStr;
 

@@ -3,17 +3,16 @@
 ghost use Rattle.std.specs.Prelude.{◌≡◌, ◌+◌, ◌^◌, ◌<◌, ◌≤◌, ◌⊎◌, ◌∷◌, [], ⊤, List, length};
 ghost use Rattle.papergrid_text.specs.Records.{Gives, WalkIsShort};
 ghost use Rattle.papergrid_axis.specs.Checks.{AreBounded, IsClaim};
-ghost use Rattle.papergrid_layout.specs.Cells.{asked_by, demands_of, placed_row, side};
+ghost use Rattle.papergrid_walk.specs.Cells.{asked_by, demands_of, placed_row, side};
 ghost use Rattle.papergrid_layout.specs.Witnesses.{AreShown, ChecksBy, ChecksMore, IsChecked, IsShownClaim};
 
-use crate::measure::Measure;
-use crate::settings::Settings;
 use crate::sizes::{Along, count_of};
 use papergrid_axis::checked::{accepts, is_unchanged, visit, wide_need};
 use papergrid_axis::claim::{are_in_order, count_listed};
 use papergrid_axis::{Checked, Claim, Direction};
 use papergrid_text::{IntoRecords, Records};
 use papergrid_values::Position;
+use papergrid_walk::{Measure, Settings};
 use std::iter::{IntoIterator, Iterator};
 
 /// What the cell at a position needs along a direction, by its measure.

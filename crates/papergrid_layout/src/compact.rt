@@ -3,18 +3,18 @@
 
 ghost use Rattle.std.specs.Prelude.{◌≡◌, [], List};
 ghost use Rattle.papergrid_axis.specs.declared.direction.Direction.TheVariants.{Columns, Rows};
+ghost use Rattle.papergrid_walk.specs.Looks.{compact_look};
+ghost use Rattle.papergrid_walk.specs.Measures.{std_line_measure};
 ghost use Rattle.papergrid_layout.specs.Answers.{AreBothSized, IsSized, UnlessMemory};
-ghost use Rattle.papergrid_layout.specs.Looks.{compact_look};
-ghost use Rattle.papergrid_layout.specs.Measures.{std_line_measure};
 
 use crate::both::both_sizes;
 use crate::dimension::{Dimension, Estimate};
-use crate::measure::ByStdLines;
 use crate::size_list::SizeList;
 use crate::sizes::sizes;
 use papergrid_axis::{Direction, LayoutError};
 use papergrid_config::CompactConfig;
 use papergrid_text::{IntoRecords, Records};
+use papergrid_walk::measure::ByStdLines;
 use std::alloc::Global;
 use std::convert::AsStr;
 
@@ -127,9 +127,9 @@ where
 {
     ghost use Rattle.std.specs.Prelude.{List};
     ghost use Rattle.papergrid_axis.specs.declared.direction.Direction.TheVariants.{Columns};
+    ghost use Rattle.papergrid_walk.specs.Looks.{compact_look};
+    ghost use Rattle.papergrid_walk.specs.Measures.{std_line_measure};
     ghost use Rattle.papergrid_layout.specs.Answers.{AreSizesOf, IsRefusedFor, UnlessWant};
-    ghost use Rattle.papergrid_layout.specs.Looks.{compact_look};
-    ghost use Rattle.papergrid_layout.specs.Measures.{std_line_measure};
 
     ghost accepts = { R.is_lawful };
 

@@ -2,21 +2,21 @@
 
 ghost use Rattle.std.specs.Prelude.{◌≡◌, ◌<◌, ◌^◌, [], List, length, sum};
 ghost use Rattle.papergrid_axis.specs.declared.direction.Direction.TheVariants.{Columns, Rows};
+ghost use Rattle.papergrid_walk.specs.Looks.{spanned_look};
+ghost use Rattle.papergrid_walk.specs.Measures.{line_measure};
 ghost use Rattle.papergrid_layout.specs.Answers.{IsSized, IsTotalled, UnlessMemory};
-ghost use Rattle.papergrid_layout.specs.Looks.{spanned_look};
-ghost use Rattle.papergrid_layout.specs.Measures.{line_measure};
 
 use crate::both::both_sizes;
 pub use crate::certificates::{
     check_height_witness, check_width_witness, height_witness, width_witness,
 };
 use crate::dimension::{Dimension, Estimate};
-use crate::measure::ByLines;
 use crate::size_list::SizeList;
 use crate::sizes::sizes;
 use papergrid_axis::{Direction, LayoutError};
 use papergrid_config::SpannedConfig;
 use papergrid_text::{IntoRecords, Records};
+use papergrid_walk::measure::ByLines;
 use std::alloc::Global;
 use std::convert::AsStr;
 
@@ -173,9 +173,9 @@ where
     <<R as Records>::Iter as IntoRecords>::Cell: AsStr + Drop,
 {
     ghost use Rattle.std.specs.Prelude.{List};
+    ghost use Rattle.papergrid_walk.specs.Looks.{spanned_look};
+    ghost use Rattle.papergrid_walk.specs.Measures.{line_measure};
     ghost use Rattle.papergrid_layout.specs.Answers.{AreBothSizes, IsBothRefused, UnlessWant};
-    ghost use Rattle.papergrid_layout.specs.Looks.{spanned_look};
-    ghost use Rattle.papergrid_layout.specs.Measures.{line_measure};
 
     ghost accepts = { R.is_lawful };
 

@@ -9,13 +9,9 @@ pub mod compact;
 pub mod dimension;
 pub mod iterable;
 pub mod laws;
-mod measure;
 pub mod peekable;
-mod settings;
-mod shown;
 mod size_list;
 mod sizes;
-mod walk;
 mod witness;
 
 pub use compact::CompactGridDimension;

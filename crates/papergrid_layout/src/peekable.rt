@@ -2,18 +2,18 @@
 
 ghost use Rattle.std.specs.Prelude.{◌≡◌, [], List, length};
 ghost use Rattle.papergrid_axis.specs.declared.direction.Direction.TheVariants.{Columns, Rows};
+ghost use Rattle.papergrid_walk.specs.Looks.{spanned_look};
+ghost use Rattle.papergrid_walk.specs.Measures.{cell_measure};
 ghost use Rattle.papergrid_layout.specs.Answers.{AreBothSized, IsSized, UnlessMemory};
-ghost use Rattle.papergrid_layout.specs.Looks.{spanned_look};
-ghost use Rattle.papergrid_layout.specs.Measures.{cell_measure};
 
 use crate::both::both_sizes;
 use crate::dimension::{Dimension, Estimate};
-use crate::measure::ByCell;
 use crate::size_list::SizeList;
 use crate::sizes::sizes;
 use papergrid_axis::{Direction, LayoutError};
 use papergrid_config::SpannedConfig;
 use papergrid_text::{Cell, IntoRecords, Records};
+use papergrid_walk::measure::ByCell;
 use std::alloc::Global;
 
 /// Widths of columns and heights of rows. A cell is as wide as it says, and as high as it has lines.
@@ -137,9 +137,9 @@ where
     <<R as Records>::Iter as IntoRecords>::Cell: Cell + Drop,
 {
     ghost use Rattle.std.specs.Prelude.{List};
+    ghost use Rattle.papergrid_walk.specs.Looks.{spanned_look};
+    ghost use Rattle.papergrid_walk.specs.Measures.{cell_measure};
     ghost use Rattle.papergrid_layout.specs.Answers.{AreBothSizes, IsBothRefused, UnlessWant};
-    ghost use Rattle.papergrid_layout.specs.Looks.{spanned_look};
-    ghost use Rattle.papergrid_layout.specs.Measures.{cell_measure};
 
     ghost accepts = { R.is_lawful };
 

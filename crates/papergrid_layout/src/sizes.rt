@@ -3,15 +3,14 @@
 ghost use Rattle.std.specs.Prelude.{◌≡◌, ◌≤◌, List, length};
 ghost use Rattle.papergrid_axis.specs.Answers.{IsExact};
 ghost use Rattle.papergrid_axis.specs.Ranges.{lines_to};
-ghost use Rattle.papergrid_layout.specs.Answers.{IsSized, UnlessMemory, count_along};
+ghost use Rattle.papergrid_walk.specs.Cells.{count_along};
+ghost use Rattle.papergrid_layout.specs.Answers.{IsSized, UnlessMemory};
 
-use crate::measure::Measure;
-use crate::settings::Settings;
-use crate::walk::gather;
 use papergrid_axis::conclude::conclude;
 use papergrid_axis::{Axis, Direction, LayoutError};
 use papergrid_text::{IntoRecords, Records};
 use papergrid_values::Position;
+use papergrid_walk::{Measure, Settings, gather};
 use std::alloc::Global;
 
 /// Settings along one direction of a table with so many columns (rows).

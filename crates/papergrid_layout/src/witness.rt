@@ -4,14 +4,12 @@ ghost use Rattle.std.specs.Prelude.{List};
 ghost use Rattle.papergrid_layout.specs.Answers.{UnlessMemory};
 ghost use Rattle.papergrid_layout.specs.Witnesses.{IsWitnessed};
 
-use crate::measure::Measure;
-use crate::settings::Settings;
 use crate::sizes::{Along, count_of};
-use crate::walk::gather;
 use papergrid_axis::conclude::conclude_certified;
 use papergrid_axis::{Direction, LayoutError};
 use papergrid_text::{IntoRecords, Records};
 use papergrid_values::Position;
+use papergrid_walk::{Measure, Settings, gather};
 use std::alloc::Global;
 
 /// The positions of the cells that certify that the sizes of the records along a direction are

@@ -5,8 +5,8 @@ use Rattle.std.specs.declared.borrow.CowStr.{CowStr}
 use Rattle.papergrid_text.proofs.RowSteps.{told_by}
 use Rattle.papergrid_config.specs.Told.{IsTold}
 use Rattle.papergrid_config.specs.declared.spanned.SpannedConfig.{SpannedConfig}
-use Rattle.papergrid_layout.specs.Looks.{spanned_look}
-use Rattle.papergrid_layout.specs.Measures.{line_measure}
+use Rattle.papergrid_walk.specs.Looks.{spanned_look}
+use Rattle.papergrid_walk.specs.Measures.{line_measure}
 use Rattle.papergrid.specs.Estimates.{Estimate, estimate_by, estimate_of, text_measure}
 use Rattle.papergrid.specs.Looks.{look_of}
 use Rattle.papergrid.specs.Seen.{table_seen, texts_of}

@@ -1,5 +1,5 @@
-use Rattle.papergrid_layout.specs.Looks.{spanned_look}
-use Rattle.papergrid_layout.specs.Measures.{line_measure}
+use Rattle.papergrid_walk.specs.Looks.{spanned_look}
+use Rattle.papergrid_walk.specs.Measures.{line_measure}
 use Rattle.papergrid.specs.Looks.{look_of}
 use Rattle.papergrid.proofs.LookLemmas.{answer_read, look_told}
 use Rattle.papergrid.proofs.table_layout.layout.Goals as goal

@@ -1,8 +1,8 @@
 use Rattle.std.proofs.Common.{◌∙◌, subst, sym}
 use Rattle.papergrid_axis.specs.Answers.{AreSizes, IsRefused}
 use Rattle.papergrid_axis.specs.declared.direction.Direction.TheVariants.{Columns, Rows}
+use Rattle.papergrid_walk.specs.Cells.{demands_of}
 use Rattle.papergrid_layout.specs.Answers.{drawn_along}
-use Rattle.papergrid_layout.specs.Cells.{demands_of}
 use Rattle.papergrid_layout.proofs.AnswerLemmas.{refused_columns, refused_rows}
 use Rattle.papergrid_layout.proofs.PairLemmas.{none_out, out_of_both, seen_high}
 use Rattle.papergrid_layout.proofs.both.conclude_both.Goals as goal

@@ -1,5 +1,5 @@
 use Rattle.std.proofs.Common.{◌∙◌, ◌+◌, sym}
-use Rattle.papergrid_layout.specs.Cells.{side}
+use Rattle.papergrid_walk.specs.Cells.{side}
 use Rattle.papergrid_layout.proofs.CheckSteps.{check_hidden, check_same, check_shown}
 use Rattle.papergrid_layout.proofs.check.check_cell.Goals as goal
 

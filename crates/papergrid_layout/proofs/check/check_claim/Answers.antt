@@ -1,8 +1,7 @@
 use Rattle.std.proofs.Common.{◌∙◌}
-use Rattle.papergrid_layout.specs.Answers.{count_along}
-use Rattle.papergrid_layout.specs.Cells.{demands_of}
+use Rattle.papergrid_walk.specs.Cells.{count_along, demands_of}
+use Rattle.papergrid_walk.proofs.Distinct.{AreDistinct-demands}
 use Rattle.papergrid_layout.proofs.CheckSteps.{checked-of}
-use Rattle.papergrid_layout.proofs.Distinct.{AreDistinct-demands}
 use Rattle.papergrid_layout.proofs.check.check_claim.Goals as goal
 
 pub returns : goal.returns

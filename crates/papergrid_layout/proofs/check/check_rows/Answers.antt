@@ -1,8 +1,7 @@
 use Rattle.std.proofs.Common.{arith, refl, [], ◌∷◌, ◌++◌, ◌∙◌, length-append}
 use Rattle.papergrid_text.proofs.RowSteps.{one_more_fits, zip_more}
-use Rattle.papergrid_axis.specs.Ranges.{lines_to}
+use Rattle.papergrid_walk.proofs.Steps.{zip_length}
 use Rattle.papergrid_layout.proofs.CheckSteps.{check-row}
-use Rattle.papergrid_layout.proofs.Steps.{zip_length}
 use Rattle.papergrid_layout.specs.Answers.{drawn_along}
 use Rattle.papergrid_layout.proofs.check.check_rows.Goals as goal
 

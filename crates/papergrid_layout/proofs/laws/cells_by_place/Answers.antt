@@ -1,4 +1,4 @@
-use Rattle.papergrid_layout.proofs.Distinct.{from-precede}
+use Rattle.papergrid_walk.proofs.Distinct.{from-precede}
 use Rattle.papergrid_layout.proofs.PlaceLemmas.{has-placed, placed-has}
 use Rattle.papergrid_layout.proofs.laws.cells_by_place.Goals as goal
 

@@ -2,9 +2,9 @@ use Rattle.std.proofs.Common.{◌∙◌, ◌+◌, ap, arith, length, sym}
 use Rattle.std.specs.Prelude.{sum}
 use Rattle.papergrid_axis.specs.declared.direction.Direction.TheVariants.{Rows}
 use Rattle.papergrid_config.specs.Lines.{count_lines}
-use Rattle.papergrid_layout.specs.Cells.{demands_of}
-use Rattle.papergrid_layout.specs.Looks.{line_along, spanned_look}
-use Rattle.papergrid_layout.specs.Measures.{line_measure}
+use Rattle.papergrid_walk.specs.Cells.{demands_of}
+use Rattle.papergrid_walk.specs.Looks.{line_along, spanned_look}
+use Rattle.papergrid_walk.specs.Measures.{line_measure}
 use Rattle.papergrid_layout.proofs.TotalLemmas.{total_fits}
 use Rattle.papergrid_layout.proofs.iterable.IterGridDimension.height_total.Goals as goal
 

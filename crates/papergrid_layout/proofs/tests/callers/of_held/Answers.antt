@@ -2,9 +2,9 @@ use Rattle.std.proofs.Common.{subst}
 use Rattle.std.specs.Prelude.{string_bytes}
 use Rattle.papergrid_text.specs.HeldRows.{column_count}
 use Rattle.papergrid_axis.specs.declared.direction.Direction.TheVariants.{Columns}
+use Rattle.papergrid_walk.specs.Looks.{spanned_look}
+use Rattle.papergrid_walk.specs.Measures.{line_measure}
 use Rattle.papergrid_layout.specs.Answers.{AreSizesOf}
-use Rattle.papergrid_layout.specs.Looks.{spanned_look}
-use Rattle.papergrid_layout.specs.Measures.{line_measure}
 use Rattle.papergrid_layout.proofs.tests.callers.of_held.Goals as goal
 
 pub returns-in-Ok : goal.returns-in-Ok

@@ -1,0 +1,111 @@
+-- Cells of told rows stand by row and then by column, so no two of them at one place.
+use Rattle.std.proofs.Common.{◌≡◌, ℕ, ◌+◌, ◌<◌, ◌≤◌, ◌≢◌, inl, inr, List, [], ◌∷◌, ◌++◌, get_or, length, map, refl, sym, ap, arith, suc}
+use Rattle.std.specs.Prelude.{All, AllPairs, true}
+use Rattle.std.proofs.lemmas.List.Elements.{All-append, All-cons, All-filter, All-map, All-nil, All-weaker}
+use Rattle.std.proofs.lemmas.List.Kept.{AllPairs-cons, AllPairs-filter}
+use Rattle.papergrid_values.specs.declared.position.Position.{Position}
+use Rattle.papergrid_axis.specs.declared.direction.Direction.{Direction}
+use Rattle.papergrid_axis.specs.declared.direction.Direction.TheVariants.{Columns, Rows}
+use Rattle.papergrid_axis.specs.declared.seen.Seen.{Seen}
+use Rattle.papergrid_axis.specs.Checks.{AreDistinct}
+use Rattle.papergrid_axis.specs.Ranges.{place_of}
+use Rattle.papergrid_axis.specs.Seen.{Holds, IsSeen, is_single}
+use Rattle.papergrid_axis.proofs.SeenLemmas.{below-own_limit}
+use Rattle.papergrid_walk.specs.Cells.{StandsBefore, asked, count_along, demands_of, limit_along, placed, placed_from, placed_row, visible_cells}
+use Rattle.papergrid_walk.specs.Looks.{Look}
+
+pub count-le : (direction : Direction) (columns n : ℕ) → n < 18446744073709551616 → count_along direction columns n ≤ limit_along direction columns
+count-le Columns columns n l = omega arith
+count-le Rows columns n l = omega arith
+
+module _ {C : Type 0} where
+  abbrev pub Precedes : Position × C → Position × C → Type 0
+  Precedes x y = StandsBefore x.0 y.0
+
+  abbrev IsRight : ℕ → ℕ → Position × C → Type 0
+  IsRight r c x = (x.0.row ≡ r) × (c ≤ x.0.col)
+
+  abbrev IsBelow : ℕ → Position × C → Type 0
+  IsBelow r x = r ≤ x.0.row
+
+  row-right : (r c : ℕ) (cells : List C) → All (IsRight r c) (placed_row r c cells)
+  row-right r c [] = All-nil (IsRight r c)
+  row-right r c (x ∷ cells) =
+      All-cons (IsRight r c) (record { row = r; col = c }, x) (placed_row r (c + 1) cells) (refl, omega arith)
+      (All-weaker (IsRight r (c + 1)) (IsRight r c) (λ y h. let l : c + 1 ≤ y.0.col = h.1 in (h.0, omega arith)) (placed_row r (c + 1) cells) (row-right r (c + 1) cells))
+
+  from-below : (r : ℕ) (rows : List (List C)) → All (IsBelow r) (placed_from r rows)
+  from-below r [] = All-nil (IsBelow r)
+  from-below r (row ∷ rows) =
+      All-append (IsBelow r) (placed_row r 0 row) (placed_from (r + 1) rows)
+      (All-weaker (IsRight r 0) (IsBelow r) (λ y h. let e : y.0.row ≡ r = h.0 in omega arith) (placed_row r 0 row) (row-right r 0 row))
+      (All-weaker (IsBelow (r + 1)) (IsBelow r) (λ y h. let l : r + 1 ≤ y.0.row = h in omega arith) (placed_from (r + 1) rows) (from-below (r + 1) rows))
+
+  -- a cell precedes those right of it, and those below
+  right-precedes : (r c : ℕ) (x : C) (y : Position × C) → IsRight r (c + 1) y → Precedes (record { row = r; col = c }, x) y
+  right-precedes r c x y h = let same : y.0.row ≡ r = h.0 in let l : c + 1 ≤ y.0.col = h.1 in inr (sym same, (omega arith))
+
+  below-precedes : (r c : ℕ) (x : C) (y : Position × C) → IsBelow (r + 1) y → Precedes (record { row = r; col = c }, x) y
+  below-precedes r c x y h = let l : r + 1 ≤ y.0.row = h in inl (omega arith)
+
+  row-precede : (r c : ℕ) (cells : List C) (rest : List (Position × C)) → All (IsBelow (r + 1)) rest → AllPairs Precedes rest → AllPairs Precedes (placed_row r c cells ++ rest)
+  row-precede r c [] rest below precede = precede
+  row-precede r c (x ∷ cells) rest below precede =
+      AllPairs-cons Precedes (record { row = r; col = c }, x) (placed_row r (c + 1) cells ++ rest)
+      (All-append (Precedes (record { row = r; col = c }, x)) (placed_row r (c + 1) cells) rest
+      (All-weaker (IsRight r (c + 1)) (Precedes (record { row = r; col = c }, x)) (λ y h. right-precedes r c x y h) (placed_row r (c + 1) cells) (row-right r (c + 1) cells))
+      (All-weaker (IsBelow (r + 1)) (Precedes (record { row = r; col = c }, x)) (λ y h. below-precedes r c x y h) rest below))
+      (row-precede r (c + 1) cells rest below precede)
+
+  pub from-precede : (r : ℕ) (rows : List (List C)) → AllPairs Precedes (placed_from r rows)
+  from-precede r [] = λ i j d l l'. absurd (omega arith)
+  from-precede r (row ∷ rows) = row-precede r 0 row (placed_from (r + 1) rows) (from-below (r + 1) rows) (from-precede (r + 1) rows)
+
+  -- no row comes after the last
+  from-above : (n r : ℕ) (rows : List (List C)) → r + length rows ≤ n → All (λ x. x.0.row < n) (placed_from r rows)
+  from-above n r [] le = All-nil (λ x. x.0.row < n)
+  from-above n r (row ∷ rows) le =
+      All-append (λ x. x.0.row < n) (placed_row r 0 row) (placed_from (r + 1) rows)
+      (All-weaker (IsRight r 0) (λ x. x.0.row < n) (λ y h. let e : y.0.row ≡ r = h.0 in omega arith) (placed_row r 0 row) (row-right r 0 row))
+      (from-above n (r + 1) rows (omega arith))
+
+  -- the limit of a walk tells which of the single cells are in the table
+  pub below-limit : (direction : Direction) (look : Look) (measure : C → ℕ × ℕ) (columns : ℕ) (rows : List (List C)) →
+      All (λ d. is_single (limit_along direction columns) d ≡ true → d.start < count_along direction columns (length rows)) (demands_of direction look measure rows)
+  below-limit Columns look measure columns rows = below-own_limit columns (demands_of Columns look measure rows)
+  below-limit Rows look measure columns rows =
+      All-map (λ d. is_single (limit_along Rows columns) d ≡ true → d.start < length rows) (asked Rows look measure) (visible_cells look rows)
+      (All-weaker (λ x. x.0.row < length rows) (λ x. is_single (limit_along Rows columns) (asked Rows look measure x) ≡ true → x.0.row < length rows) (λ x l t. l) (visible_cells look rows)
+      (All-filter (λ cell. look.shows cell.0) (λ x. x.0.row < length rows) (placed rows) (from-above (length rows) 0 rows (omega arith))))
+
+  -- what a walk kept of told rows is what the table asks for
+  pub IsSeen-demands : (direction : Direction) (look : Look) (measure : C → ℕ × ℕ) (columns : ℕ) (rows : List (List C)) (seen : Seen) →
+      count_along direction columns (length rows) ≤ limit_along direction columns → Holds (limit_along direction columns) seen (demands_of direction look measure rows) →
+      IsSeen (count_along direction columns (length rows)) seen (demands_of direction look measure rows)
+  IsSeen-demands direction look measure columns rows seen le held = record {
+    limit = limit_along direction columns;
+    held = held;
+    from_limit = le;
+    below = below-limit direction look measure columns rows;
+  }
+
+  -- the visible cells stand in their order
+  pub AllPairs-visible : (look : Look) (rows : List (List C)) → AllPairs Precedes (visible_cells look rows)
+  AllPairs-visible look rows = AllPairs-filter Precedes (λ cell. look.shows cell.0) (placed rows) (from-precede 0 rows)
+
+  differ : (x y : Position × C) → Precedes x y → x.0 ≢ y.0
+  differ x y precedes e =
+      let row : x.0.row ≡ y.0.row = ap (λ (p : Position). p.row) e in
+      let col : x.0.col ≡ y.0.col = ap (λ (p : Position). p.col) e in
+      elim precedes [ inl l ↦ absurd (omega (arith, l, row)) | inr l ↦ let l' = l.1 in absurd (omega (arith, l', col)) ]
+
+  module _ (direction : Direction) (look : Look) (measure : C → ℕ × ℕ) where
+    asked-distinct : (xs : List (Position × C)) → AllPairs Precedes xs → AreDistinct (map (asked direction look measure) xs)
+    asked-distinct [] precede = λ i j d l l'. absurd (omega arith)
+    asked-distinct (x ∷ xs) precede =
+        AllPairs-cons (λ a b. place_of a ≢ place_of b) (asked direction look measure x) (map (asked direction look measure) xs)
+        (All-map (λ b. place_of (asked direction look measure x) ≢ place_of b) (asked direction look measure) xs (λ k d l. differ x (get_or xs k d) (precede 0 (suc k) d (omega arith) (omega arith))))
+        (asked-distinct xs (λ i j d l l'. precede (suc i) (suc j) d (omega arith) (omega arith)))
+
+    pub AreDistinct-demands : (rows : List (List C)) → AreDistinct (demands_of direction look measure rows)
+    AreDistinct-demands rows = asked-distinct (visible_cells look rows) (AllPairs-visible look rows)

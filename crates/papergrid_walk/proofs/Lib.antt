@@ -1,0 +1,4 @@
+pub mod Distinct
+pub mod PaddingLemmas
+pub mod ShownLemmas
+pub mod Steps

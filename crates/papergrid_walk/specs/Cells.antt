@@ -1,0 +1,61 @@
+-- The visible cells of told rows with their positions, and what they ask for along a direction.
+use Rattle.std.specs.Prelude.{◌≡◌, ◌<◌, ◌⊎◌, ℕ, ◌+◌, ◌-◌, ◌^◌, List, [], ◌∷◌, ◌++◌, map, filter}
+use Rattle.papergrid_values.specs.declared.position.Position.{Position}
+use Rattle.papergrid_axis.specs.declared.demand.Demand.{Demand}
+use Rattle.papergrid_axis.specs.declared.direction.Direction.{Direction}
+use Rattle.papergrid_axis.specs.declared.direction.Direction.TheVariants.{Columns, Rows}
+use Rattle.papergrid_axis.specs.Ranges.{demand_of}
+use Rattle.papergrid_walk.specs.Looks.{Look}
+
+-- the width, or the height, of a measure (width, height)
+abbrev pub side : Direction → ℕ × ℕ → ℕ
+side Columns measure = measure.0
+side Rows measure = measure.1
+
+-- one position stands before another: by row, and then by column
+abbrev pub StandsBefore : Position → Position → Type 0
+StandsBefore p q = (p.row < q.row) ⊎ ((p.row ≡ q.row) × (p.col < q.col))
+
+module _ {C : Type 0} where
+  -- the cells of a row, from column c on, with their positions
+  abbrev pub placed_row : ℕ → ℕ → List C → List (Position × C)
+  placed_row r c [] = []
+  placed_row r c (cell ∷ cells) = (record { row = r; col = c }, cell) ∷ placed_row r (c + 1) cells
+
+  -- the cells of rows, from row r on, with their positions
+  abbrev pub placed_from : ℕ → List (List C) → List (Position × C)
+  placed_from r [] = []
+  placed_from r (row ∷ rows) = placed_row r 0 row ++ placed_from (r + 1) rows
+
+  -- the cells with their positions, by row and then by column
+  abbrev pub placed : List (List C) → List (Position × C)
+  placed rows = placed_from 0 rows
+
+  abbrev pub visible_of : Look → List (Position × C) → List (Position × C)
+  visible_of look cells = filter (λ cell. look.shows cell.0) cells
+
+  abbrev pub visible_cells : Look → List (List C) → List (Position × C)
+  visible_cells look rows = visible_of look (placed rows)
+
+  -- what a cell asks for: its measure and the paddings before and after it, over its span
+  abbrev pub asked : Direction → Look → (C → ℕ × ℕ) → Position × C → Demand
+  asked direction look measure cell =
+      demand_of direction cell.0 (look.span direction cell.0)
+      (side direction (measure cell.1) + look.before direction cell.0 + look.after direction cell.0)
+
+  abbrev pub asked_by : Direction → Look → (C → ℕ × ℕ) → List (Position × C) → List Demand
+  asked_by direction look measure cells = map (asked direction look measure) (visible_of look cells)
+
+  -- what the visible cells of the rows ask for, by row and then by column
+  abbrev pub demands_of : Direction → Look → (C → ℕ × ℕ) → List (List C) → List Demand
+  demands_of direction look measure rows = asked_by direction look measure (placed rows)
+
+-- the number of columns, or of rows
+abbrev pub count_along : Direction → ℕ → ℕ → ℕ
+count_along Columns columns rows = columns
+count_along Rows columns rows = rows
+
+-- below which column (row) a visible cell that covers one alone is in the table for certain: each row is one of the table
+abbrev pub limit_along : Direction → ℕ → ℕ
+limit_along Columns columns = columns
+limit_along Rows columns = 2 ^ 64 - 1

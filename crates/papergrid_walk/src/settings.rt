@@ -1,0 +1,207 @@
+//! What a walk reads of a configuration.
+
+ghost use Rattle.std.specs.Prelude.{◌≡◌, ◌≤◌, ◌↔◌, All, AllPairs, IfOk, IsTrue};
+ghost use Rattle.papergrid_axis.specs.Checks.{AreRising};
+ghost use Rattle.papergrid_sweep.specs.Hidden.{IsSorted};
+ghost use Rattle.papergrid_walk.specs.Looks.{Look, compact_look, size_after, size_before, spanned_look};
+ghost use Rattle.papergrid_walk.specs.Paddings.{AreCommon, paddings_at};
+ghost use Rattle.papergrid_walk.specs.Shown.{AreAnchorsOf};
+
+use papergrid_axis::Direction;
+use papergrid_config::{CompactConfig, SpannedConfig};
+use papergrid_maps::Rising;
+use papergrid_sweep::{Anchor, anchors_of};
+use papergrid_values::{Indent, Position, Sides};
+use std::alloc::{AllocError, Global};
+
+/// The paddings left and right of a cell's text, above and below it.
+#[derive(Clone, Copy, Debug, PartialEq, Eq)]
+pub struct Paddings {
+    pub left: usize,
+    pub right: usize,
+    pub top: usize,
+    pub bottom: usize,
+}
+
+/// The visible positions, the spans, the paddings and the lines.
+pub trait Settings {
+    // What the settings say.
+    ghost look: { Self → Look };
+
+    /// Whether the cell at a position is visible.
+    fn is_visible(&self, pos: Position) -> bool
+        ensures { result ≡ (look self.now).shows pos };
+
+    /// Whether the cells at all of these positions are visible, of which the numbers along a direction
+    /// rise.
+    fn are_visible(&self, direction: Direction, places: &[Position]) -> bool
+        requires { AllPairs (AreRising direction) places.now }
+        ensures { IsTrue result ↔ All (λ pos. IsTrue ((look self.now).shows pos)) places.now };
+
+    /// What hides cells: the anchors of all spans, by row and then by column.
+    fn anchors(&self, alloc: Global) -> Result<Vec<Anchor>, AllocError>
+        ensures sorted { IfOk result (λ anchors. IsSorted anchors.items) }
+        ensures shows { IfOk result (λ anchors. AreAnchorsOf (look self.now).shows anchors.items) };
+
+    /// How many columns (rows) the cell at a position spans.
+    fn span(&self, direction: Direction, pos: Position) -> usize
+        ensures value { result ≡ (look self.now).span direction pos }
+        ensures positive { 1 ≤ result };
+
+    /// The padding left of the text of the cell at a position (above it).
+    fn padding_before(&self, direction: Direction, pos: Position) -> usize
+        ensures { result ≡ (look self.now).before direction pos };
+
+    /// The padding right of the text (below it).
+    fn padding_after(&self, direction: Direction, pos: Position) -> usize
+        ensures { result ≡ (look self.now).after direction pos };
+
+    /// The paddings of the cell at a position.
+    fn paddings(&self, pos: Position) -> Paddings
+        ensures { result ≡ paddings_at (look self.now) pos };
+
+    /// The paddings of all cells, where it is known that they are alike.
+    fn common_paddings(&self) -> Option<Paddings>
+        ensures { AreCommon (look self.now) result };
+
+    /// Whether there is a line before column (row) `i` of so many, or, at their count, after the last.
+    fn has_line(&self, direction: Direction, count: usize, i: usize) -> bool
+        ensures { result ≡ (look self.now).draws direction count i };
+}
+
+/// The padding left of a text (above it).
+fn before(direction: Direction, padding: &Sides<Indent>) -> usize
+    ensures { result ≡ size_before direction padding.now }
+{
+    match direction {
+        Direction::Columns => padding.left.size,
+        Direction::Rows => padding.top.size,
+    }
+}
+
+/// The padding right of a text (below it).
+fn after(direction: Direction, padding: &Sides<Indent>) -> usize
+    ensures { result ≡ size_after direction padding.now }
+{
+    match direction {
+        Direction::Columns => padding.right.size,
+        Direction::Rows => padding.bottom.size,
+    }
+}
+
+/// The sizes of the four sides.
+fn sizes(padding: &Sides<Indent>) -> Paddings
+    ensures { result ≡ record { left = padding.now.left.size; right = padding.now.right.size; top = padding.now.top.size; bottom = padding.now.bottom.size } }
+{
+    Paddings {
+        left: padding.left.size,
+        right: padding.right.size,
+        top: padding.top.size,
+        bottom: padding.bottom.size,
+    }
+}
+
+impl Settings for SpannedConfig {
+    ghost look = { spanned_look };
+
+    // Each visible position is looked for in all spans.
+    fn is_visible(&self, pos: Position) -> bool {
+        self.is_cell_visible(pos)
+    }
+
+    // Each span is looked at once.
+    fn are_visible(&self, direction: Direction, places: &[Position]) -> bool {
+        match direction {
+            Direction::Columns => self.are_cells_visible(Rising::Columns, places),
+            Direction::Rows => self.are_cells_visible(Rising::Rows, places),
+        }
+    }
+
+    fn anchors(&self, alloc: Global) -> Result<Vec<Anchor>, AllocError> {
+        let columns = self.get_column_spans()?;
+        let rows = self.get_row_spans()?;
+        anchors_of(alloc, &columns, &rows)
+    }
+
+    fn span(&self, direction: Direction, pos: Position) -> usize {
+        let held = match direction {
+            Direction::Columns => self.get_column_span(pos),
+            Direction::Rows => self.get_row_span(pos),
+        };
+        match held {
+            Some(span) => span,
+            None => 1,
+        }
+    }
+
+    fn padding_before(&self, direction: Direction, pos: Position) -> usize {
+        before(direction, self.get_padding(pos))
+    }
+
+    fn padding_after(&self, direction: Direction, pos: Position) -> usize {
+        after(direction, self.get_padding(pos))
+    }
+
+    fn paddings(&self, pos: Position) -> Paddings {
+        sizes(self.get_padding(pos))
+    }
+
+    fn common_paddings(&self) -> Option<Paddings> {
+        if self.has_padding() {
+            return None;
+        }
+        Some(sizes(self.get_padding(Position { row: 0, col: 0 })))
+    }
+
+    fn has_line(&self, direction: Direction, count: usize, i: usize) -> bool {
+        match direction {
+            Direction::Columns => self.has_vertical(i, count),
+            Direction::Rows => self.has_horizontal(i, count),
+        }
+    }
+}
+
+impl Settings for CompactConfig {
+    ghost look = { compact_look };
+
+    fn is_visible(&self, _pos: Position) -> bool {
+        let _config = self;
+        true
+    }
+
+    fn are_visible(&self, _direction: Direction, _places: &[Position]) -> bool {
+        let _config = self;
+        true
+    }
+
+    fn anchors(&self, alloc: Global) -> Result<Vec<Anchor>, AllocError> {
+        let _config = self;
+        Ok(Vec::new(alloc))
+    }
+
+    fn span(&self, _direction: Direction, _pos: Position) -> usize {
+        let _config = self;
+        1
+    }
+
+    fn padding_before(&self, direction: Direction, _pos: Position) -> usize {
+        before(direction, self.get_padding())
+    }
+
+    fn padding_after(&self, direction: Direction, _pos: Position) -> usize {
+        after(direction, self.get_padding())
+    }
+
+    fn paddings(&self, _pos: Position) -> Paddings {
+        sizes(self.get_padding())
+    }
+
+    fn common_paddings(&self) -> Option<Paddings> {
+        Some(sizes(self.get_padding()))
+    }
+
+    fn has_line(&self, _direction: Direction, _count: usize, _i: usize) -> bool {
+        let _config = self;
+        false
+    }
+}
