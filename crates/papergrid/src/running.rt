@@ -1,7 +1,7 @@
 //! The whole run: read to the end, judge, write.
 
 ghost use Rattle.std.specs.Prelude.{◌≡◌, ◌⊎◌, ℕ, All, take, true, false, IfOk, IfSome, OnOk, OnErr, IsErrOf};
-ghost use Rattle.std.specs.Io.KnownBytes.{Appends, Consumes, IsAtEnd, Keeps};
+ghost use Rattle.std.specs.Io.KnownBytes.{Appends, IsAtEnd};
 ghost use Rattle.papergrid_config.specs.Applied.{is_in_range};
 ghost use Rattle.papergrid.specs.Estimates.{estimate_of};
 ghost use Rattle.papergrid.specs.Outputs.{end_of, estimate_end, estimate_text, output_of};

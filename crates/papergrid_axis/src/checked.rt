@@ -1,13 +1,13 @@
 //! Checking sizes and a list of places cell by cell, in no memory.
 
-ghost use Rattle.std.specs.Prelude.{ℕ, Bool, ◌==◌, ◌&&◌, ◌*◌, ◌-◌, true, false, ◌≡◌, ◌+◌, ◌<◌, ◌≤◌, ◌^◌, ◌↔◌, ◌∷◌, ◌++◌, [], All, AllPairs, IfNone, IfSome, IsTrue, List, count_by, length, sum};
+ghost use Rattle.std.specs.Prelude.{ℕ, Bool, ◌==◌, ◌&&◌, ◌*◌, ◌-◌, true, false, ◌≡◌, ◌+◌, ◌<◌, ◌≤◌, ◌^◌, ◌↔◌, ◌∷◌, ◌++◌, [], IfNone, IfSome, IsTrue, List, length, sum};
 ghost use Rattle.papergrid_values.specs.declared.position.Position.{Position};
 ghost use Rattle.papergrid_axis.specs.declared.demand.Demand.{Demand};
 ghost use Rattle.papergrid_axis.specs.declared.direction.Direction.{Direction};
 ghost use Rattle.papergrid_axis.specs.Checks.{AreBounded, AreDistinct, Checks, IsClaim, SumsAgree, range_of};
 ghost use Rattle.papergrid_axis.specs.Answers.{IsAccepted};
 ghost use Rattle.papergrid_axis.specs.Fits.{HasRoom, IsLeast};
-ghost use Rattle.papergrid_axis.specs.Ranges.{demand_of, end_of, inner_lines, lines_to};
+ghost use Rattle.papergrid_axis.specs.Ranges.{demand_of, inner_lines, lines_to};
 
 use crate::axis::Axis;
 use crate::claim::{Claim, are_disjoint, count_listed};

@@ -1,6 +1,6 @@
 //! Worked tables, as the demands of their cells.
 
-ghost use Rattle.std.specs.Prelude.{◌≡◌, ◌+◌, ◌<◌, IfOk, List, length};
+ghost use Rattle.std.specs.Prelude.{◌+◌, ◌<◌, IfOk, List};
 ghost use Rattle.papergrid_axis.specs.declared.demand.Demand.{Demand};
 ghost use Rattle.papergrid_axis.specs.Seen.{IsSeen};
 

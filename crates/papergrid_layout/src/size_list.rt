@@ -1,6 +1,6 @@
 //! The sizes that a dimension keeps along a direction.
 
-ghost use Rattle.std.specs.Prelude.{◌≡◌, ◌<◌, ◌^◌, [], length, slice_index, sum};
+ghost use Rattle.std.specs.Prelude.{◌≡◌, ◌<◌, [], length, slice_index};
 
 use std::alloc::{AllocError, Global};
 use std::marker::Model;

@@ -1,8 +1,6 @@
 //! The sizes along one direction.
 
-ghost use Rattle.std.specs.Prelude.{◌≡◌, ◌≤◌, List, length};
-ghost use Rattle.papergrid_axis.specs.Answers.{IsExact};
-ghost use Rattle.papergrid_axis.specs.Ranges.{lines_to};
+ghost use Rattle.std.specs.Prelude.{◌≡◌, List};
 ghost use Rattle.papergrid_walk.specs.Cells.{count_along};
 ghost use Rattle.papergrid_layout.specs.Answers.{IsSized, UnlessMemory};
 

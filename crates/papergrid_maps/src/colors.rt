@@ -1,12 +1,12 @@
 //! The colours of the texts of cells. Source: `colors/mod.rs`, `colors/nocolors.rs`.
 
-ghost use Rattle.std.specs.Prelude.{◌≡◌, ◌↔◌, ⊤, IsTrue, None, OnOk, Ok, Option, refl};
+ghost use Rattle.std.specs.Prelude.{◌≡◌, ◌↔◌, ⊤, IsTrue, None, Ok, Option, refl};
 ghost use Rattle.std.specs.Option.{option_copied};
 ghost use Rattle.std.specs.BTreeMap.{get as tree_get};
 ghost use Rattle.std.specs.HashMap.{get as map_get};
 ghost use Rattle.papergrid_values.specs.declared.position.Position.{Position};
 ghost use Rattle.papergrid_tables.specs.Keys.{position_cmp, position_eq};
-ghost use Rattle.papergrid_maps.specs.MapHeld.{HasNothing, held_value};
+ghost use Rattle.papergrid_maps.specs.MapHeld.{held_value};
 
 use crate::EntityMap;
 use papergrid_values::{ANSIFmt, Position};

@@ -1,6 +1,6 @@
 //! Spans by position, and what they hide. Source: `config/spanned/mod.rs`.
 
-ghost use Rattle.std.specs.Prelude.{◌≡◌, ◌∷◌, [], ◌<◌, ◌≤◌, All, Some, None, OnOk, OnErr, IfOk, IfSome, IsOk, IsTrue, ◌↔◌};
+ghost use Rattle.std.specs.Prelude.{◌≡◌, ◌∷◌, [], ◌<◌, ◌≤◌, All, OnOk, OnErr, IfOk, IfSome, IsOk, IsTrue, ◌↔◌};
 ghost use Rattle.std.specs.HashMap.{IsUnique, IsUnchanged, get as map_get};
 ghost use Rattle.std.specs.List.{list_any};
 ghost use Rattle.std.specs.FinMap.{get as value_at};

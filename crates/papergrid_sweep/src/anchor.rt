@@ -1,6 +1,6 @@
 //! The anchors of spans.
 
-ghost use Rattle.std.specs.Prelude.{◌≡◌, ℕ, ◌+◌, ◌<◌, ◌≤◌, ◌↔◌, IsTrue};
+ghost use Rattle.std.specs.Prelude.{◌<◌, ◌↔◌, IsTrue};
 ghost use Rattle.papergrid_sweep.specs.Hidden.{IsBefore, IsSorted};
 
 use papergrid_values::Position;

@@ -1,6 +1,6 @@
 //! Laws of the definitions, each the contract of a function that does nothing.
 
-ghost use Rattle.std.specs.Prelude.{◌≡◌, ℕ, ◌↔◌, IsTrue, List};
+ghost use Rattle.std.specs.Prelude.{ℕ, ◌↔◌, IsTrue, List};
 ghost use Rattle.papergrid_values.specs.declared.position.Position.{Position};
 ghost use Rattle.papergrid_maps.specs.Spans.{IsVisible, Spans, column_span, is_visible, row_span};
 ghost use Rattle.papergrid_sweep.specs.declared.anchor.Anchor.{Anchor};

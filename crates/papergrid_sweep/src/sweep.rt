@@ -1,12 +1,12 @@
 //! A walk over the cells of a table, by row and then by column, that tells which are hidden.
 
-ghost use Rattle.std.specs.Prelude.{◌≡◌, ℕ, ◌+◌, ◌-◌, ◌^◌, ◌<◌, ◌≤◌, ◌↔◌, IsTrue, IfOk, OnOk, OnErr, Some, length, slice_get, vec_len};
+ghost use Rattle.std.specs.Prelude.{◌≡◌, ℕ, ◌+◌, ◌-◌, ◌^◌, ◌<◌, ◌≤◌, ◌↔◌, IsTrue, IfOk, OnOk, OnErr, Some, length, slice_get};
 ghost use Rattle.papergrid_values.specs.declared.position.Position.{Position};
 ghost use Rattle.papergrid_maps.specs.Spans.{Spans, column_span, is_visible, row_span};
 ghost use Rattle.papergrid_sweep.specs.Anchors.{AreAnchors};
 ghost use Rattle.papergrid_sweep.specs.declared.anchor.Anchor.{Anchor};
 ghost use Rattle.papergrid_sweep.specs.Levels.{Fits, end_at};
-ghost use Rattle.papergrid_sweep.specs.Hidden.{AllBefore, Holds, IsAhead, IsBefore, IsHidden, IsSorted, IsSwept, cut, end_with, least};
+ghost use Rattle.papergrid_sweep.specs.Hidden.{AllBefore, Holds, IsAhead, IsBefore, IsHidden, IsSorted, IsSwept, end_with, least};
 
 use crate::anchor::Anchor;
 use crate::levels::Levels;

@@ -1,12 +1,10 @@
 //! Texts: their lines, their widths and their tabs. Source: `util/string.rs`.
 
-ghost use Rattle.std.specs.Prelude.{◌≡◌, ◌<◌, ◌≤◌, ◌==◌, ◌+◌, ◌++◌, ◌∷◌, ℕ, List, Option, count_by, length, replicate, string_bytes, take, false, IfOk, IfSome, IsUtf8};
+ghost use Rattle.std.specs.Prelude.{◌≡◌, ◌<◌, ◌==◌, ◌+◌, ◌++◌, ◌∷◌, ℕ, List, Option, count_by, length, replicate, string_bytes, take, false, IfOk, IfSome, IsUtf8};
 ghost use Rattle.std.specs.Cow.{cow_str_bytes, IsOwnedStr};
-ghost use Rattle.std.specs.Int.{is_in_range};
 ghost use Rattle.std.specs.Iterator.{YieldsFirstRef, item_count};
-ghost use Rattle.std.specs.List.{list_all, prefix_len, position_or_len};
+ghost use Rattle.std.specs.List.{position_or_len};
 ghost use Rattle.std.specs.Option.{unwrap_or};
-ghost use Rattle.std.specs.Simd.Lanes.{chunk};
 ghost use Rattle.std.specs.Str.{encode_utf8_all};
 ghost use Rattle.unicode_width.specs.Width.{char_width};
 ghost use Rattle.papergrid_text.specs.LinesLeft.{lines_left, lines_of_rest};

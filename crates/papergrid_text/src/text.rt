@@ -1,6 +1,6 @@
 //! A cell that keeps its lines and widths. Source: `records/vec_records/text.rs`.
 
-ghost use Rattle.std.specs.Prelude.{◌≡◌, ◌≢◌, ◌<◌, ℕ, List, [], length, map, fold, IfOk, IsOk, slice_index_or};
+ghost use Rattle.std.specs.Prelude.{◌≡◌, ◌≢◌, ◌<◌, [], length, map, fold, IfOk, IsOk, slice_index_or};
 ghost use Rattle.std.proofs.Common.{refl};
 ghost use Rattle.papergrid_text.specs.Kept.{AreInside, kept_lines, given_line, answered_lines, line_of_range};
 ghost use Rattle.papergrid_text.specs.Text.{greatest_width, with_width, split_lines, kept_by_new};

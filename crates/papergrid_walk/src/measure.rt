@@ -1,6 +1,6 @@
 //! How wide and how high a cell is, as each dimension measures it. Source: `dimension/`.
 
-ghost use Rattle.std.specs.Prelude.{◌≡◌, ℕ, length};
+ghost use Rattle.std.specs.Prelude.{◌≡◌, ℕ};
 ghost use Rattle.papergrid_walk.specs.Measures.{cell_measure, line_measure, std_line_measure};
 
 use papergrid_text::Cell;
