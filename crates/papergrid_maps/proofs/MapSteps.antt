@@ -2,21 +2,19 @@
 use Rattle.std.proofs.Common.{◌≡◌, ℕ, Bool, true, false, cond, ◌&&◌, List, [], ◌∷◌, map, eqb, Some, None, refl, sym, ap, ◌∙◌}
 use Rattle.std.specs.Prelude.{◌||◌, not, filter}
 use Rattle.std.specs.List.{list_any}
-use Rattle.std.specs.Cmp.{nat_eq_equiv, nat_cmp_total}
+use Rattle.std.specs.Cmp.{nat_eq_equiv}
 use Rattle.std.specs.Set.{is_member}
 use Rattle.std.specs.Map.{lookup, keys_of}
-use Rattle.std.specs.FinMap.{from_entries, same_map, nat_cmp-IsAntisymmetric}
-use Rattle.std.specs.Ordering.{nat_cmp}
 use Rattle.std.proofs.lemmas.Bool.{and_parts, eqb-true}
 use Rattle.std.proofs.lemmas.Map.Made.{is_some-lookup}
 use Rattle.std.proofs.lemmas.Map.Entries.{lookup-filter-keys}
-use Rattle.papergrid_tables.specs.Keys.{position_cmp, position_eq}
+use Rattle.papergrid_tables.specs.Keys.{position_eq}
 use Rattle.papergrid_values.specs.declared.position.Position.{Position}
 use Rattle.papergrid_values.specs.declared.entity.Entity.TheVariants.{Global, Column, Row, Cell}
 use Rattle.papergrid_maps.specs.declared.entity_map.MapCall.{MapCall}
 use Rattle.papergrid_maps.specs.declared.entity_map.MapCall.TheVariants.{Insert, Remove}
 use Rattle.papergrid_tables.proofs.EntryLemmas.{same_numbers, same_places}
-use Rattle.papergrid_tables.proofs.KeyLemmas.{get_at_number, get_at_position, position_total, exact_positions}
+use Rattle.papergrid_tables.proofs.KeyLemmas.{get_at_number, get_at_position}
 use Rattle.papergrid_maps.proofs.MapHeldLemmas.{view_of}
 use Rattle.papergrid_maps.proofs.MapTold.{IsStep, global_after, column_after, row_after, cell_after}
 
