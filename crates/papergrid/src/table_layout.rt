@@ -10,7 +10,7 @@ ghost use Rattle.papergrid.specs.Layouts.{IsLaidOut};
 ghost use Rattle.papergrid.specs.Looks.{look_of};
 
 use papergrid_config::{Setting, SpannedConfig};
-use papergrid_layout::{IterGridDimension, LayoutError};
+use papergrid_layout::{Estimate, IterGridDimension, LayoutError};
 use papergrid_text::{IntoRecords, Records};
 use std::alloc::{AllocError, Global};
 use std::convert::AsStr;
