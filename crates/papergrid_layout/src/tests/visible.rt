@@ -1,6 +1,6 @@
 //! Cells hidden by spans in and out of the table.
 
-use crate::tests::{MAX, Table, has_sizes, is_refused, out_at};
+use crate::tests::{MAX, SMALL, Table, has_sizes, is_refused, out_at};
 
 const HIDDEN_FAR: Table = Table {
     columns: 2,
