@@ -1,4 +1,5 @@
--- The characters that texts of emoji are made of, and what each adds to the width of what stands after it.
+-- The characters that texts of emoji are made of, and what each adds to the width of what stands after it. Only contracts of
+-- private functions and proofs speak of this.
 use Rattle.std.specs.Prelude.{ℕ, Bool, ◌||◌, ◌==◌, Option, Some, None, if◌then◌else◌}
 use Rattle.std.specs.Int.{is_in_range}
 use Rattle.papergrid_width.specs.declared.part.Part.{Part}
