@@ -1,21 +1,15 @@
 -- Texts of printable ASCII.
-use Rattle.std.proofs.Common.{◌≡◌, ℕ, suc, ◌+◌, ◌<◌, ◌&&◌, Bool, cond, nat_eq, List, [], ◌∷◌, length, take, get_or, refl, sym, ap, ◌∙◌, subst, arith, true, false, max, IsAscii}
+use Rattle.std.proofs.Common.{◌≡◌, ℕ, suc, ◌+◌, ◌<◌, Bool, cond, List, [], ◌∷◌, length, get_or, refl, ap, ◌∙◌, arith, true, false, max}
 use Rattle.std.specs.Prelude.{◌==◌}
 use Rattle.std.specs.Int.{is_in_range}
 use Rattle.std.specs.List.{list_all, prefix_len, position_or_len, All}
 use Rattle.std.specs.Str.Lines.{lines_of_parts}
-use Rattle.std.proofs.Math.Dec.{eqb-suc-suc, eqb-suc-zero}
-use Rattle.std.proofs.lemmas.Bool.{and_parts, eq-eqb}
+use Rattle.std.proofs.Math.Dec.{eqb-suc-zero}
+use Rattle.std.proofs.lemmas.Bool.{and_parts}
 use Rattle.std.proofs.lemmas.Bool.Decides.{nat_tests}
-use Rattle.std.proofs.lemmas.List.{length-take-le}
-use Rattle.std.proofs.lemmas.List.Sums.{prefix_len-le-length}
 use Rattle.std.proofs.lemmas.List.Elements.{All-nil, All-cons}
 use Rattle.std.proofs.lemmas.List.Splits.{slice_split_none}
-use Rattle.std.proofs.lemmas.Str.{chars-IsAscii}
-use Rattle.std.proofs.lemmas.Str.Ascii.{IsAscii-nil, IsAscii-cons}
-use Rattle.unicode_width.proofs.Rules.{str_width-printable}
-use Rattle.unicode_width.specs.Width.{str_width}
-use Rattle.papergrid_width.proofs.PrintableLemmas.{all_printable, width-printable}
+use Rattle.papergrid_width.proofs.PrintableLemmas.{width-printable}
 use Rattle.papergrid_text.specs.Text.{width_of, greatest_width, split_lines, text_width}
 
 no_newline : (b : ℕ) → is_in_range 0x20 0x7E b ≡ true → (b == 10) ≡ false
@@ -54,7 +48,3 @@ pub first_newline : (text : List ℕ) → prefix_len (is_in_range 0x20 0x7E) tex
     → position_or_len (λ c. c == 10) text ≡ prefix_len (is_in_range 0x20 0x7E) text
 first_newline [] within at = absurd (omega arith)
 first_newline (b ∷ bs) within at = newline_step (is_in_range 0x20 0x7E b) b bs refl within at (first_newline bs)
-
--- where it is as long as the text, that is the whole
-pub whole_printable : (text : List ℕ) (n : ℕ) → n ≡ prefix_len (is_in_range 0x20 0x7E) text → n ≡ length text → list_all (is_in_range 0x20 0x7E) text ≡ true
-whole_printable text n is whole = sym (all_printable text) ∙ eq-eqb _ _ (sym is ∙ whole)

@@ -161,7 +161,7 @@ fn measure_first_line(text: &str) -> (usize, Option<&str>)
         return (printable, Some(&text[printable + 1..]));
     }
     let (line, rest) = cut_line(text);
-    (width_by_characters(line), rest)
+    (width_by_characters(line, printable), rest)
 }
 
 /// The text with `n` spaces in place of each tab. Where `n` is not 4, a tab right after a backslash

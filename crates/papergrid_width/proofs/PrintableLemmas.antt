@@ -3,7 +3,7 @@ use Rattle.std.proofs.Common.{◌≡◌, ℕ, suc, ◌+◌, ◌<◌, ◌&&◌, B
 use Rattle.std.specs.Int.{is_in_range}
 use Rattle.std.specs.List.{list_all, prefix_len}
 use Rattle.std.proofs.Math.Dec.{eqb-suc-suc}
-use Rattle.std.proofs.lemmas.Bool.{and_parts}
+use Rattle.std.proofs.lemmas.Bool.{and_parts, eq-eqb}
 use Rattle.std.proofs.lemmas.Bool.Decides.{nat_tests}
 use Rattle.std.proofs.lemmas.List.{length-take-le}
 use Rattle.std.proofs.lemmas.List.Sums.{prefix_len-le-length}
@@ -52,3 +52,7 @@ front_width text n is =
     let printable = subst (λ k. list_all (is_in_range 0x20 0x7E) (take k text) ≡ true) (sym is) (front_printable text) in
     let bound = prefix_len-le-length (is_in_range 0x20 0x7E) text in
     sym (width-printable (take n text) printable ∙ length-take-le n text (omega arith))
+
+-- where it is as long as the text, that is the whole
+pub whole_printable : (text : List ℕ) (n : ℕ) → n ≡ prefix_len (is_in_range 0x20 0x7E) text → n ≡ length text → list_all (is_in_range 0x20 0x7E) text ≡ true
+whole_printable text n is whole = sym (all_printable text) ∙ eq-eqb _ _ (sym is ∙ whole)

@@ -1,11 +1,15 @@
 -- The characters that texts of emoji are made of, and what each adds to the width of what stands after it. Only contracts of
 -- private functions and proofs speak of this.
-use Rattle.std.specs.Prelude.{ℕ, Bool, ◌||◌, ◌==◌, Option, Some, None, if◌then◌else◌}
+use Rattle.std.specs.Prelude.{ℕ, Bool, ◌&&◌, ◌||◌, ◌==◌, Option, Some, None, if◌then◌else◌}
 use Rattle.std.specs.Int.{is_in_range}
 use Rattle.papergrid_width.specs.declared.part.Part.{Part}
 use Rattle.papergrid_width.specs.declared.part.Part.TheVariants as parts
 use Rattle.papergrid_width.specs.declared.part.After.{After}
 use Rattle.papergrid_width.specs.declared.part.After.TheVariants as afters
+
+-- the first two bytes of a character from U+2600 to U+27BF, U+FE00 to U+FE3F or U+1F000 to U+1FFFF
+abbrev pub is_emoji_lead : ℕ → ℕ → Bool
+is_emoji_lead a b = (a == 0xF0 && b == 0x9F) || (a == 0xEF && b == 0xB8) || (a == 0xE2 && is_in_range 0x98 0x9E b)
 
 -- the long ranges of pictographs
 abbrev pub is_pictograph : ℕ → Bool

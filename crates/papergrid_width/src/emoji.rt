@@ -5,6 +5,7 @@ ghost use Rattle.unicode_width.specs.Width.{str_width};
 ghost use Rattle.papergrid_width.specs.Emoji.{IsStep};
 
 use crate::part::{After, add_before, part_of};
+use crate::printable::without_printable_end;
 use ucd_emoji::{is_emoji_modifier_base, is_emoji_variation_base};
 
 /// The width of a text of emoji and printable ASCII, or `None` where it may have something else.
@@ -18,6 +19,12 @@ pub fn emoji_width(text: &str) -> Option<usize>
         let (own, begins) = step_back(c, after)?;
         width += own;
         after = begins;
+        if after == After::Other {
+            let left = rest.as_str();
+            let front = without_printable_end(left);
+            width += left.len() - front.len();
+            rest = front.chars();
+        }
     }
     Some(width)
 }

@@ -4,9 +4,9 @@
 //! rules that such a text needs. Every other text is measured by `unicode_width`.
 #![tactic(auto)]
 
-ghost use Rattle.std.specs.Prelude.{◌≡◌, ◌||◌, chars, false, get_or};
-ghost use Rattle.std.specs.Int.{is_in_range};
+ghost use Rattle.std.specs.Prelude.{◌≡◌, ◌+◌, chars, false, get_or};
 ghost use Rattle.unicode_width.specs.Width.{str_width};
+ghost use Rattle.papergrid_width.specs.Parts.{is_emoji_lead};
 
 mod emoji;
 mod part;
@@ -23,17 +23,19 @@ use unicode_width::UnicodeWidthStr;
 pub fn width(text: &str) -> usize
     ensures { result ≡ str_width false (chars text.now) }
 {
-    if is_printable(text) {
-        return text.len();
+    let printable = count_printable(text);
+    if printable == text.len() {
+        return printable;
     }
-    width_by_characters(text)
+    width_by_characters(text, printable)
 }
 
-/// The same, without a test for printable ASCII before.
-pub fn width_by_characters(text: &str) -> usize
+/// The same, where it is known from which byte on the text is more than printable ASCII. Any other place
+/// gives the same width, and may take longer.
+pub fn width_by_characters(text: &str, from: usize) -> usize
     ensures { result ≡ str_width false (chars text.now) }
 {
-    if begins_with_letter(text) {
+    if !may_be_emoji(text, from) {
         return text.width();
     }
     match emoji_width(text) {
@@ -42,10 +44,17 @@ pub fn width_by_characters(text: &str) -> usize
     }
 }
 
-// Whether the first character is from U+0080 to U+07FF or from U+3000 to U+DFFF. Most letters are there, and
-// hardly an emoji.
-fn begins_with_letter(text: &str) -> bool
-    ensures { result ≡ (is_in_range 0xC2 0xDF (get_or text.now 0 0) || is_in_range 0xE3 0xED (get_or text.now 0 0)) }
+// Whether the character there is from U+2600 to U+27BF, U+FE00 to U+FE3F or U+1F000 to U+1FFFF: most emoji
+// are, and no letters.
+fn may_be_emoji(text: &str, from: usize) -> bool
+    ensures { result ≡ is_emoji_lead (get_or text.now from 0) (get_or text.now (from + 1) 0) }
 {
-    matches!(text.as_bytes().first(), Some(0xC2..=0xDF | 0xE3..=0xED))
+    let bytes = text.as_bytes();
+    if bytes.len() <= from {
+        return false;
+    }
+    match &bytes[from..] {
+        [0xF0, 0x9F, ..] | [0xEF, 0xB8, ..] | [0xE2, 0x98..=0x9E, ..] => true,
+        _ => false,
+    }
 }

@@ -1,6 +1,6 @@
 //! Printable ASCII, many bytes at a time.
 
-ghost use Rattle.std.specs.Prelude.{◌≡◌, ◌+◌, ◌≤◌, length};
+ghost use Rattle.std.specs.Prelude.{◌≡◌, ◌+◌, ◌≤◌, true, length, take, drop};
 ghost use Rattle.std.specs.Int.{is_in_range};
 ghost use Rattle.std.specs.List.{list_all, prefix_len};
 ghost use Rattle.std.specs.Simd.Lanes.{chunk};
@@ -60,4 +60,18 @@ fn count_printable_bytes(bytes: &[u8]) -> usize
         count += 1;
     }
     count
+}
+
+/// The text without the printable ASCII at its end.
+pub fn without_printable_end(text: &str) -> &str
+    ensures front { result.now ≡ take (length result.now) text.now }
+    ensures len { length result.now ≤ length text.now }
+    ensures printable { list_all (is_in_range 0x20 0x7E) (drop (length result.now) text.now) ≡ true }
+{
+    let bytes = text.as_bytes();
+    let mut end = bytes.len();
+    'bytes: while end > 0 && bytes[end - 1] >= 0x20 && bytes[end - 1] <= 0x7E {
+        end -= 1;
+    }
+    &text[..end]
 }

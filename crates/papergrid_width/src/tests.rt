@@ -35,6 +35,6 @@ fn printable_text_is_as_wide_as_long(rt: HostRuntime) -> Result<(), Fail> {
     assert_eq!(rt; count_printable("now is\nthe time"), 6);
     assert!(rt; is_printable("Rust ~"));
     assert!(rt; !is_printable("Rust 💕"));
-    assert_eq!(rt; width_by_characters("Rust 💕"), 7);
+    assert_eq!(rt; width_by_characters("Rust 💕", 5), 7);
     Ok(())
 }
