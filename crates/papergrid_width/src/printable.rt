@@ -1,6 +1,6 @@
 //! Printable ASCII, many bytes at a time.
 
-ghost use Rattle.std.specs.Prelude.{◌≡◌, ◌+◌, ◌≤◌, true, length, take, drop};
+ghost use Rattle.std.specs.Prelude.{◌≡◌, ◌+◌, ◌-◌, ◌<◌, ◌≤◌, true, false, length, take, drop, get_or};
 ghost use Rattle.std.specs.Int.{is_in_range};
 ghost use Rattle.std.specs.List.{list_all, prefix_len};
 ghost use Rattle.std.specs.Simd.Lanes.{chunk};
@@ -63,10 +63,11 @@ fn count_printable_bytes(bytes: &[u8]) -> usize
 }
 
 /// The text without the printable ASCII at its end.
-pub fn without_printable_end(text: &str) -> &str
+pub(crate) fn without_printable_end(text: &str) -> &str
     ensures front { result.now ≡ take (length result.now) text.now }
     ensures len { length result.now ≤ length text.now }
     ensures printable { list_all (is_in_range 0x20 0x7E) (drop (length result.now) text.now) ≡ true }
+    ensures whole { 0 < length result.now → is_in_range 0x20 0x7E (get_or text.now (length result.now - 1) 0) ≡ false }
 {
     let bytes = text.as_bytes();
     let mut end = bytes.len();
