@@ -174,7 +174,7 @@ module _ {C : Type 0} (look : Look) (measure : C → ℕ × ℕ) (columns : ℕ)
 -- a witness by what the cells ask for
 abbrev witness_by : Direction → Look → ℕ → List Demand → Option (List Position)
 witness_by direction look n demands =
-    if is_kept_apart direction demands then Some (map place_of (chosen_of direction (drawn_along direction look n) n demands)) else None
+    if is_kept_apart demands then Some (map place_of (chosen_of (drawn_along direction look n) n demands)) else None
 
 -- cells that are seen through a view
 module _ {A B : Type 0} (look : Look) (v : A → B) (f : B → ℕ × ℕ) (columns : ℕ) (cells : List (List A)) (rows : List (List B)) (same : map (map v) cells ≡ rows) where
@@ -194,7 +194,7 @@ module _ {A B : Type 0} (look : Look) (v : A → B) (f : B → ℕ × ℕ) (colu
       let wide = demands_told look v f cells rows same Columns in
       let high = demands_told look v f cells rows same Rows in
       λ i. unless_out (first_told i)
-      (totalled look columns (as_many i) (sizes_of Columns (drawn_along Columns look columns) columns (wide i)) (sizes_of Rows (drawn_along Rows look (as_many i)) (as_many i) (high i))
+      (totalled look columns (as_many i) (sizes_of (drawn_along Columns look columns) columns (wide i)) (sizes_of (drawn_along Rows look (as_many i)) (as_many i) (high i))
       (witness_by Columns look columns (wide i)) (witness_by Rows look (as_many i) (high i)))
 
 -- ---- results

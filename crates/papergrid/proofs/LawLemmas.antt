@@ -1,7 +1,7 @@
 -- What the estimate of a table says of the table.
 use Rattle.std.proofs.Common.{◌≡◌, ◌⊎◌, ◌∙◌, ℕ, ◌<◌, ◌≤◌, ◌+◌, ◌^◌, Bool, true, false, List, [], ◌∷◌, length, map, refl, ap, sym, subst, arith, inl, inr, nat_le}
 use Rattle.std.specs.Prelude.{◌↔◌, All, Option, Some, None, sum, if◌then◌else◌}
-use Rattle.std.proofs.lemmas.Bool.{cases_Bool, false≢true}
+use Rattle.std.proofs.lemmas.Bool.{cases_Bool}
 use Rattle.std.proofs.lemmas.Bool.Decides.{nat_tests}
 use Rattle.std.proofs.lemmas.List.Elements.{All-nil, All-cons}
 use Rattle.papergrid_values.specs.declared.position.Position.{Position}
@@ -12,7 +12,7 @@ use Rattle.papergrid_axis.specs.Answers.{AreChosen, AreSizes, NoneChosen, NoneHo
 use Rattle.papergrid_axis.specs.Chosen.{chosen_of}
 use Rattle.papergrid_axis.specs.KeptApart.{is_kept_apart}
 use Rattle.papergrid_axis.specs.Ranges.{IsInTable, all_lines, first_out, place_of}
-use Rattle.papergrid_axis.proofs.KeptApartLemmas.{Decides-is_kept_apart}
+use Rattle.papergrid_axis.proofs.KeptApartLemmas.{Decides-is_kept_apart, SomeCross-from_test}
 use Rattle.papergrid_axis.proofs.OutLemmas as out_lemmas
 use Rattle.papergrid_axis.proofs.Theorems.{AreSizes-sizes_of, IsCertificate-chosen_of, NoneHolds-sizes_of}
 use Rattle.papergrid_config.specs.Lines.{count_lines}
@@ -42,36 +42,36 @@ module _ {C : Type 0} (look : Look) (measure : C → ℕ × ℕ) (cover : (direc
     are_small small = subst (λ total. total < 2 ^ 64) (sym (total_drawn direction look n (sizes_told direction look measure n rows))) small
 
     pub sizes_are : total_along direction look n (sizes_told direction look measure n rows) < 2 ^ 64
-        → AreSizes direction (drawn_along direction look n) n (demands_of direction look measure rows) (sizes_told direction look measure n rows)
+        → AreSizes (drawn_along direction look n) n (demands_of direction look measure rows) (sizes_told direction look measure n rows)
     sizes_are small =
-        AreSizes-sizes_of direction (drawn_along direction look n) n (demands_of direction look measure rows) in_table (sizes_told direction look measure n rows) refl
+        AreSizes-sizes_of (drawn_along direction look n) n (demands_of direction look measure rows) in_table (sizes_told direction look measure n rows) refl
         (are_small small)
 
-    pub are_chosen : total_along direction look n (sizes_told direction look measure n rows) < 2 ^ 64 → is_kept_apart direction (demands_of direction look measure rows) ≡ true
-        → AreChosen direction (drawn_along direction look n) n (demands_of direction look measure rows)
-        (map place_of (chosen_of direction (drawn_along direction look n) n (demands_of direction look measure rows)))
+    pub are_chosen : total_along direction look n (sizes_told direction look measure n rows) < 2 ^ 64 → is_kept_apart (demands_of direction look measure rows) ≡ true
+        → AreChosen (drawn_along direction look n) n (demands_of direction look measure rows)
+        (map place_of (chosen_of (drawn_along direction look n) n (demands_of direction look measure rows)))
     are_chosen small test =
-        let apart = (Decides-is_kept_apart direction (demands_of direction look measure rows)).0 test in
+        let apart = (Decides-is_kept_apart (demands_of direction look measure rows)).0 test in
         record {
           none_out = inside;
           total = are_small small;
           kept_apart = apart;
           exact = refl;
-          certificate = IsCertificate-chosen_of direction (drawn_along direction look n) n (demands_of direction look measure rows) in_table apart;
+          certificate = IsCertificate-chosen_of (drawn_along direction look n) n (demands_of direction look measure rows) in_table apart;
         }
 
-    pub none_chosen : total_along direction look n (sizes_told direction look measure n rows) < 2 ^ 64 → is_kept_apart direction (demands_of direction look measure rows) ≡ false
-        → NoneChosen direction (drawn_along direction look n) n (demands_of direction look measure rows)
+    pub none_chosen : total_along direction look n (sizes_told direction look measure n rows) < 2 ^ 64 → is_kept_apart (demands_of direction look measure rows) ≡ false
+        → NoneChosen (drawn_along direction look n) n (demands_of direction look measure rows)
     none_chosen small test = record {
       none_out = inside;
       total = are_small small;
-      not_kept_apart = λ apart. absurd (false≢true (sym test ∙ (Decides-is_kept_apart direction (demands_of direction look measure rows)).1 apart));
+      not_kept_apart = SomeCross-from_test (demands_of direction look measure rows) test;
     }
 
     pub none_hold : 2 ^ 64 ≤ total_along direction look n (sizes_told direction look measure n rows)
-        → NoneHolds direction (drawn_along direction look n) n (demands_of direction look measure rows)
+        → NoneHolds (drawn_along direction look n) n (demands_of direction look measure rows)
     none_hold past =
-        NoneHolds-sizes_of direction (drawn_along direction look n) n (demands_of direction look measure rows) in_table
+        NoneHolds-sizes_of (drawn_along direction look n) n (demands_of direction look measure rows) in_table
         (λ small. let narrow = subst (λ total. total < 2 ^ 64) (total_drawn direction look n (sizes_told direction look measure n rows)) small in absurd (omega arith))
 
 -- ---- the three answers
@@ -126,14 +126,14 @@ module _ (table : Table) where
 
   is_witness : (direction : Direction) → first_out (count_of direction table) (demands_of direction look text_measure table.rows) ≡ None
       → total_along direction look (count_of direction table) (sizes_told direction look text_measure (count_of direction table) table.rows) < 2 ^ 64 → IsWitnessOf direction table (witness direction)
-  is_witness direction inside small = elim (cases_Bool (is_kept_apart direction (demands_of direction look text_measure table.rows))) [
+  is_witness direction inside small = elim (cases_Bool (is_kept_apart (demands_of direction look text_measure table.rows))) [
     | inl t ↦ subst (if_apart direction) (sym t) (are_chosen look text_measure (look_covers table.settings) direction (count_of direction table) table.rows inside small t)
     | inr f ↦ subst (if_apart direction) (sym f) (none_chosen look text_measure (look_covers table.settings) direction (count_of direction table) table.rows inside small f)
   ]
     where
       if_apart : Direction → Bool → Type 0
       if_apart way apart =
-          IsWitnessOf way table (if apart then Some (map place_of (chosen_of way (drawn_along way look (count_of way table)) (count_of way table) (demands_of way look text_measure table.rows))) else None)
+          IsWitnessOf way table (if apart then Some (map place_of (chosen_of (drawn_along way look (count_of way table)) (count_of way table) (demands_of way look text_measure table.rows))) else None)
 
   are_sized : first ≡ None → total_width < 2 ^ 64 → total_height < 2 ^ 64 → AreSized table widths heights total_width total_height (witness Columns) (witness Rows)
   are_sized none narrow low =

@@ -34,14 +34,14 @@ pub record IsTooLarge (table : Table) : Type 0 where
 abbrev pub count_of : Direction → Table → ℕ
 count_of direction table = count_along direction table.columns (length table.rows)
 
--- none where two longer ranges are not kept apart, and only there; else the places of the chosen cells, which certify that
+-- none where two longer ranges are neither nested nor disjoint, and only there; else the places of the chosen cells, which certify that
 -- the sizes along the direction are least
 abbrev pub IsWitnessOf : Direction → Table → Option (List Position) → Type 0
 IsWitnessOf direction table None =
-    NoneChosen direction (drawn_along direction (look_of table.settings) (count_of direction table)) (count_of direction table)
+    NoneChosen (drawn_along direction (look_of table.settings) (count_of direction table)) (count_of direction table)
     (demands_of direction (look_of table.settings) text_measure table.rows)
 IsWitnessOf direction table (Some places) =
-    AreChosen direction (drawn_along direction (look_of table.settings) (count_of direction table)) (count_of direction table)
+    AreChosen (drawn_along direction (look_of table.settings) (count_of direction table)) (count_of direction table)
     (demands_of direction (look_of table.settings) text_measure table.rows) places
 
 -- exactly the sizes, with what holds of them, their totals with the lines, which fit 64 bits, and what certifies them

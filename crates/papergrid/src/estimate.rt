@@ -17,7 +17,7 @@ use std::convert::AsStr;
 
 /// The width of each column, in columns of a terminal, the height of each row, in lines, the totals of
 /// both with the lines of the table, and for each direction the positions of the cells that certify that
-/// its sizes are least, none where longer ranges are not kept apart.
+/// its sizes are least, none where two longer ranges are neither nested nor disjoint.
 #[derive(Debug, Drop)]
 pub struct Sizes {
     pub widths: Vec<usize>,

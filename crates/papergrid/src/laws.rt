@@ -73,7 +73,7 @@ pub fn lines_by_place()
 /// along a direction, with its lines, come to more than fits 64 bits, and so do all sizes with room where ranges
 /// are kept apart; else its sizes are those of its visible cells, with room for each of them and no size above
 /// the greatest need over it, least where ranges are kept apart, and its totals count the lines. The witness
-/// along a direction is none exactly where ranges are not kept apart, else the places of cells that certify
+/// along a direction is none exactly where two ranges are neither nested nor disjoint, else the places of cells that certify
 /// that the sizes are least.
 pub fn estimate_by_look()
     ensures out { (table : Table) (place : Position) → (estimate_of table ≡ OutOfTable place)

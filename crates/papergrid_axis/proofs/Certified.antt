@@ -8,13 +8,13 @@ use Rattle.std.proofs.lemmas.List.Elements.{recursion_from_All, All-from_recursi
 use Rattle.papergrid_axis.specs.declared.demand.Demand.{Demand}
 use Rattle.papergrid_axis.specs.Ranges.{end_of, holds, AreDisjoint, inner_lines, IsInTable}
 use Rattle.papergrid_axis.specs.Fits.{range_sum, IsCertificate, IsLeast}
-use Rattle.papergrid_axis.specs.Sizes.{base_size, base_sizes, sizes_after}
-use Rattle.papergrid_axis.specs.Chosen.{growing, outermost, single_at, or_else, chosen, chosen_after}
+use Rattle.papergrid_axis.specs.Sizes.{base_size, base_sizes}
+use Rattle.papergrid_axis.specs.Chosen.{growing, outermost, single_at, or_else, chosen}
 use Rattle.papergrid_axis.proofs.Upto.{upto, upto-ext, upto-add, upto-zero, sum-upto, within, range_sum-within, holds_cases}
 use Rattle.papergrid_axis.proofs.RangeLemmas.{Apart, AllPairs-from_Apart, covered, outside, partition}
 use Rattle.papergrid_axis.proofs.Duality.{IsLeast-from_certificate}
 use Rattle.papergrid_axis.proofs.Greatest.{holds_alone, get_or-base_sizes, length-base_sizes}
-use Rattle.papergrid_axis.proofs.FitBound.{TakesAll, table_of_taken, Fits-sizes_after, length-taken, ByRecursion-weaker}
+use Rattle.papergrid_axis.proofs.FitBound.{TakesAll, sizes_after, table_of_taken, Fits-sizes_after, length-taken, ByRecursion-weaker}
 use Rattle.papergrid_axis.proofs.GrowLemmas.{IsLaminar, IsTight, growing-all, outermost-all, size-not_covered, Apart-outermost, tight-outermost, covered-outermost}
 use Rattle.papergrid_axis.proofs.Counting.{weight, sum_by-filter_map, filter_map-all, Apart-filter_map, find-all, sum-by_start, find-greatest}
 
@@ -273,7 +273,7 @@ growers_are line n demands taken table takes laminar =
 
 -- the chosen cells are a certificate
 pub certificate_of : (line : ℕ → Bool) (n : ℕ) (demands taken : List Demand) → All (IsInTable n) demands → TakesAll demands taken → IsLaminar taken →
-    IsCertificate line demands (sizes_after line n demands taken) (chosen_after line n demands taken)
+    IsCertificate line demands (sizes_after line n demands taken) (chosen n demands (growing line (base_sizes n demands) taken) (sizes_after line n demands taken))
 certificate_of line n demands taken table takes laminar =
     certificate_of_growers line n demands (growing line (base_sizes n demands) taken) (sizes_after line n demands taken) (growers_are line n demands taken table takes laminar)
 
@@ -281,5 +281,5 @@ certificate_of line n demands taken table takes laminar =
 pub IsLeast-sizes_after : (line : ℕ → Bool) (n : ℕ) (demands taken : List Demand) → All (IsInTable n) demands → TakesAll demands taken → IsLaminar taken →
     IsLeast line n demands (sizes_after line n demands taken)
 IsLeast-sizes_after line n demands taken table takes laminar =
-    IsLeast-from_certificate line n demands (chosen_after line n demands taken) (sizes_after line n demands taken) table
+    IsLeast-from_certificate line n demands (chosen n demands (growing line (base_sizes n demands) taken) (sizes_after line n demands taken)) (sizes_after line n demands taken) table
     (Fits-sizes_after line n demands taken table takes) (certificate_of line n demands taken table takes laminar)

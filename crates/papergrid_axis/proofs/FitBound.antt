@@ -9,7 +9,7 @@ use Rattle.std.proofs.lemmas.List.{get_or_default}
 use Rattle.papergrid_axis.proofs.Steps.{shares_sum}
 use Rattle.papergrid_axis.specs.Ranges.{end_of, holds, inner_lines, IsInTable}
 use Rattle.papergrid_axis.specs.Fits.{top_need, range_sum, HasRoom, Fits}
-use Rattle.papergrid_axis.specs.Sizes.{base_size, base_sizes, share, lack, grown, sizes_after}
+use Rattle.papergrid_axis.specs.Sizes.{base_size, base_sizes, share, lack, grown}
 use Rattle.papergrid_axis.proofs.Upto.{upto-point, within, range_sum-within, holds_cases}
 use Rattle.papergrid_axis.proofs.Steps.{length-with_shares, get_or-grown, share-out, HasRoom-kept, HasRoom-grown, tight-grown}
 use Rattle.papergrid_axis.proofs.Greatest.{greatest_need-above, greatest_need-below, need-below_greatest, holds_alone, get_or-base_sizes, length-base_sizes, HasRoom-base}
@@ -41,6 +41,10 @@ HasRoom-each_taken line sizes (d ∷ rest) table =
       HasRoom-taken line (grown line sizes d) rest d (omega arith) (HasRoom-grown line sizes d one le),
       HasRoom-each_taken line (grown line sizes d) rest table',
     )
+
+-- the sizes after these cells were taken
+abbrev pub sizes_after : (ℕ → Bool) → ℕ → List Demand → List Demand → List ℕ
+sizes_after line n demands taken = fold (grown line) (base_sizes n demands) taken
 
 -- the cells taken are cells of the table, and all those of longer spans are taken
 pub record TakesAll (demands taken : List Demand) : Type 0 where

@@ -8,7 +8,8 @@ use Rattle.std.proofs.lemmas.Bool.Decides.{nat_tests}
 use Rattle.std.proofs.lemmas.List.Elements.{recursion_from_All, All-from_recursion, filter_agree}
 use Rattle.papergrid_axis.specs.declared.demand.Demand.{Demand}
 use Rattle.papergrid_axis.specs.Ranges.{end_of, IsInTable}
-use Rattle.papergrid_axis.specs.Sizes.{by_place, by_span}
+use Rattle.papergrid_axis.specs.KeptApart.{longer}
+use Rattle.papergrid_axis.specs.Sizes.{taken}
 use Rattle.papergrid_axis.proofs.FitBound.{ByRecursion-weaker}
 
 abbrev of_span : List Demand → ℕ → List Demand
@@ -103,21 +104,21 @@ filter-filter p q h (d ∷ ds) = elim (cases_Bool (q d)) [
 ]
 
 -- what a stable sort of the cells of longer spans gives
-pub by_span-from_sort : (n : ℕ) (demands taken : List Demand) → IsNonDecreasingBy (λ d. d.span) taken → IsStableByKey (λ (d : Demand). d.span) nat_cmp (by_place demands) taken →
-    AllByRecursion (λ d. (2 ≤ d.span) × (d.span ≤ n)) taken → taken ≡ by_span n demands
-by_span-from_sort n demands taken up stable all =
-    sym (groups (n - 1) 2 taken (IsAscending-from taken up)
-    (ByRecursion-weaker (λ d. (2 ≤ d.span) × (d.span ≤ n)) (λ d. (2 ≤ d.span) × (d.span < 2 + (n - 1))) (λ d h. let x : 2 ≤ d.span = h.0 in let y : d.span ≤ n = h.1 in ((omega arith), (omega arith))) taken all))
-    ∙ flat_map-agree (of_span taken) (of_span demands) 2 (n - 1)
-    (λ k l. of_span-stable (by_place demands) taken k stable
+pub taken-from_sort : (n : ℕ) (demands sorted : List Demand) → IsNonDecreasingBy (λ d. d.span) sorted → IsStableByKey (λ (d : Demand). d.span) nat_cmp (longer demands) sorted →
+    AllByRecursion (λ d. (2 ≤ d.span) × (d.span ≤ n)) sorted → sorted ≡ taken n demands
+taken-from_sort n demands sorted up stable all =
+    sym (groups (n - 1) 2 sorted (IsAscending-from sorted up)
+    (ByRecursion-weaker (λ d. (2 ≤ d.span) × (d.span ≤ n)) (λ d. (2 ≤ d.span) × (d.span < 2 + (n - 1))) (λ d h. let x : 2 ≤ d.span = h.0 in let y : d.span ≤ n = h.1 in ((omega arith), (omega arith))) sorted all))
+    ∙ flat_map-agree (of_span sorted) (of_span demands) 2 (n - 1)
+    (λ k l. of_span-stable (longer demands) sorted k stable
     ∙ filter-filter (λ d. nat_lt 1 d.span) (λ d. d.span == k) (λ d e. let same : d.span ≡ k = eqb-true d.span k e in lt-ltb 1 d.span (omega arith)) demands)
 
 -- the cells of longer spans have spans of 2 up to n
-pub by_place-spans : (n : ℕ) (demands : List Demand) → All (IsInTable n) demands → All (λ d. (2 ≤ d.span) × (d.span ≤ n)) (by_place demands)
-by_place-spans n demands table =
-    All-from_recursion (λ d. (2 ≤ d.span) × (d.span ≤ n)) (by_place demands) (go demands (recursion_from_All (IsInTable n) demands table))
+pub longer-spans : (n : ℕ) (demands : List Demand) → All (IsInTable n) demands → All (λ d. (2 ≤ d.span) × (d.span ≤ n)) (longer demands)
+longer-spans n demands table =
+    All-from_recursion (λ d. (2 ≤ d.span) × (d.span ≤ n)) (longer demands) (go demands (recursion_from_All (IsInTable n) demands table))
   where
-    go : (ds : List Demand) → AllByRecursion (IsInTable n) ds → AllByRecursion (λ d. (2 ≤ d.span) × (d.span ≤ n)) (by_place ds)
+    go : (ds : List Demand) → AllByRecursion (IsInTable n) ds → AllByRecursion (λ d. (2 ≤ d.span) × (d.span ≤ n)) (longer ds)
     go [] all = tt
     go (d ∷ ds) all = elim (cases_Bool (ltb 1 d.span)) [
       | inl y ↦

@@ -71,7 +71,7 @@ range_sum-apart line sizes taken e ones le apart =
 lies_in-false : (a b : Demand) → lies_in a b ≡ false → LiesIn a b → ⊥
 lies_in-false a b f h = true≢false (sym (and_from (leb b.start a.start) (leb (end_of a) (end_of b)) (le-leb b.start a.start h.0) (le-leb (end_of a) (end_of b) h.1)) ∙ f)
 
-pub apart-from_outer : (d : Demand) (later : List Demand) → AllByRecursion (Precedes LiesIn d) later → list_any (lies_in d) later ≡ false → AllByRecursion (AreDisjoint d) later
+pub apart-from_outer : (d : Demand) (later : List Demand) → AllByRecursion (Precedes d) later → list_any (lies_in d) later ≡ false → AllByRecursion (AreDisjoint d) later
 apart-from_outer d [] all f = tt
 apart-from_outer d (e ∷ later) all f =
     let parts : (lies_in d e ≡ false) × (list_any (lies_in d) later ≡ false) = or_parts (lies_in d e) (list_any (lies_in d) later) f in
@@ -80,7 +80,7 @@ apart-from_outer d (e ∷ later) all f =
 pub IsLaminar-growing : (line : ℕ → Bool) (sizes : List ℕ) (taken : List Demand) → IsLaminar taken → IsLaminar (growing line sizes taken)
 IsLaminar-growing line sizes [] laminar = tt
 IsLaminar-growing line sizes (d ∷ rest) laminar = elim (cases_Bool (ltb 0 (lack line sizes d))) [
-  | inl t ↦ rw t (growing-all (Precedes LiesIn d) line (grown line sizes d) rest laminar.0, IsLaminar-growing line (grown line sizes d) rest laminar.1)
+  | inl t ↦ rw t (growing-all (Precedes d) line (grown line sizes d) rest laminar.0, IsLaminar-growing line (grown line sizes d) rest laminar.1)
   | inr f ↦ rw f (IsLaminar-growing line (grown line sizes d) rest laminar.1)
 ]
 
@@ -117,7 +117,7 @@ tight-outermost line sizes (d ∷ rest) table laminar =
         | inl inner ↦ rw inner ih
         | inr outer ↦
             let apart : AllByRecursion (AreDisjoint d) (growing line (grown line sizes d) rest) =
-            apart-from_outer d (growing line (grown line sizes d) rest) (growing-all (Precedes LiesIn d) line (grown line sizes d) rest laminar.0) outer in
+            apart-from_outer d (growing line (grown line sizes d) rest) (growing-all (Precedes d) line (grown line sizes d) rest laminar.0) outer in
             let kept : range_sum (fold (grown line) (grown line sizes d) rest) d ≡ range_sum (grown line sizes d) d =
             range_sum-apart line (grown line sizes d) rest d ones (omega arith) apart in
             let tight : d.need ≡ range_sum (grown line sizes d) d + inner_lines line d = tight-grown line sizes d one le (ltb-true 0 (lack line sizes d) t) in

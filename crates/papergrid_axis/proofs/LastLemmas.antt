@@ -6,11 +6,9 @@ use Rattle.std.specs.List.{AllByRecursion, list_any}
 use Rattle.std.proofs.lemmas.Bool.{cases_Bool, cases_eq, cases_lt, or_parts, or_from, true≢false, false≢true}
 use Rattle.std.proofs.lemmas.List.Elements.{All-contains, All-from_recursion}
 use Rattle.papergrid_axis.specs.declared.demand.Demand.{Demand}
-use Rattle.papergrid_axis.specs.declared.direction.Direction.{Direction}
-use Rattle.papergrid_axis.specs.declared.direction.Direction.TheVariants.{Columns, Rows}
 use Rattle.papergrid_axis.specs.Sizes.{taken}
-use Rattle.papergrid_axis.specs.Ranges.{end_of, holds, AreDisjoint, AreCompatible, IsKeptApart, IsInTable}
-use Rattle.papergrid_axis.specs.LastCells.{IsUnder, Precedes, IsOrdered, IsLaminar, last_holding}
+use Rattle.papergrid_axis.specs.Ranges.{end_of, holds, AreDisjoint, AreNested, IsKeptApart, IsInTable, LiesIn}
+use Rattle.papergrid_axis.specs.LastCells.{Precedes, IsLaminar, last_holding}
 use Rattle.papergrid_axis.specs.Chosen.{lies_in, outermost, or_else, single_at}
 use Rattle.papergrid_axis.proofs.Upto.{holds_cases}
 use Rattle.papergrid_axis.proofs.RangeLemmas.{covered, not_covered, not_both}
@@ -127,85 +125,75 @@ meet c d one one' = elim (cases_lt c.start (end_of d)) [
 pub together : (a b : Demand) (i : ℕ) → holds a i ≡ true → holds b i ≡ true → AreDisjoint a b → ⊥
 together a b i h h' apart = true≢false (sym h' ∙ not_both a b i apart h)
 
--- where each cell precedes all later ones, one more cell comes after all of them if the last one at each number of its range is under it
-pub precedes-from_last : (under : Demand → Demand → Type 0) → ((a b c : Demand) → under a b → under b c → under a c) →
-    (ds : List Demand) (d : Demand) → IsOrdered under ds → 1 ≤ d.span → AllByRecursion (λ c. 1 ≤ c.span) ds →
-    ((i : ℕ) (o : Demand) → holds d i ≡ true → last_holding ds i ≡ Some o → under o d) → AllByRecursion (λ c. Precedes under c d) ds
-precedes-from_last under trans [] d ordered one ones each = tt
-precedes-from_last under trans (c ∷ rest) d ordered one ones each =
-    (first, precedes-from_last under trans rest d ordered.1 one ones.1 (λ i o h e. each i o h (rw e refl)))
+-- where each cell precedes all later ones, one more cell comes after all of them if the last one at each number of its range lies in it
+pub precedes-from_last : (ds : List Demand) (d : Demand) → IsLaminar ds → 1 ≤ d.span → AllByRecursion (λ c. 1 ≤ c.span) ds →
+    ((i : ℕ) (o : Demand) → holds d i ≡ true → last_holding ds i ≡ Some o → LiesIn o d) → AllByRecursion (λ c. Precedes c d) ds
+precedes-from_last [] d laminar one ones each = tt
+precedes-from_last (c ∷ rest) d laminar one ones each =
+    (first, precedes-from_last rest d laminar.1 one ones.1 (λ i o h e. each i o h (rw e refl)))
   where
-    through : (i : ℕ) → holds c i ≡ true → holds d i ≡ true → (p : Option Demand) → last_holding rest i ≡ p → under c d
+    through : (i : ℕ) → holds c i ≡ true → holds d i ≡ true → (p : Option Demand) → last_holding rest i ≡ p → LiesIn c d
     through i h h' None e = each i c h' (rw (e, h) refl)
     through i h h' (Some o) e =
-        let is : (holds o i ≡ true) × Precedes under c o = last_holding-all (Precedes under c) rest i o ordered.0 e in
-        let outer : under o d = each i o h' (rw e refl) in
-        let inner : under c o = elim is.1 [ inl x ↦ absurd (together c o i h is.0 x) | inr x ↦ x ] in
-        trans c o d inner outer
+        let is : (holds o i ≡ true) × Precedes c o = last_holding-all (Precedes c) rest i o laminar.0 e in
+        let outer : LiesIn o d = each i o h' (rw e refl) in
+        let inner : LiesIn c o = elim is.1 [ inl x ↦ absurd (together c o i h is.0 x) | inr x ↦ x ] in
+        let p : o.start ≤ c.start = inner.0 in
+        let q : end_of c ≤ end_of o = inner.1 in
+        let p' : d.start ≤ o.start = outer.0 in
+        let q' : end_of o ≤ end_of d = outer.1 in
+        ((omega arith), (omega arith))
 
-    first : Precedes under c d
+    first : Precedes c d
     first = elim (meet c d ones.0 one) [
       | inl apart ↦ inl apart
       | inr both ↦ inr (through both.0 both.1 both.2 (last_holding rest both.0) refl)
     ]
 
--- and if it comes after all of them, the last one at each number of its range is under it
-pub last-from_precedes : (under : Demand → Demand → Type 0) (ds : List Demand) (d : Demand) → AllByRecursion (λ c. Precedes under c d) ds →
-    (i : ℕ) (o : Demand) → holds d i ≡ true → last_holding ds i ≡ Some o → under o d
-last-from_precedes under ds d all i o h e =
-    let is : (holds o i ≡ true) × Precedes under o d = last_holding-all (λ c. Precedes under c d) ds i o all e in
+-- and if it comes after all of them, the last one at each number of its range lies in it
+pub last-from_precedes : (ds : List Demand) (d : Demand) → AllByRecursion (λ c. Precedes c d) ds →
+    (i : ℕ) (o : Demand) → holds d i ≡ true → last_holding ds i ≡ Some o → LiesIn o d
+last-from_precedes ds d all i o h e =
+    let is : (holds o i ≡ true) × Precedes o d = last_holding-all (λ c. Precedes c d) ds i o all e in
     elim is.1 [ inl x ↦ absurd (together o d i is.0 h x) | inr x ↦ x ]
 
--- ---- for either direction
+abbrev AreCompatible : Demand → Demand → Type 0
+AreCompatible a b = AreNested a b ⊎ AreDisjoint a b
 
-pub under-trans : (direction : Direction) (a b c : Demand) → IsUnder direction a b → IsUnder direction b c → IsUnder direction a c
-under-trans Columns a b c x y =
-    let p : b.start ≤ a.start = x.0 in
-    let q : end_of a ≤ end_of b = x.1 in
-    let p' : c.start ≤ b.start = y.0 in
-    let q' : end_of b ≤ end_of c = y.1 in
-    ((omega arith), (omega arith))
-under-trans Rows a b c x y = (x.0 ∙ y.0, x.1 ∙ y.1)
+compatible-from_precedes : (a b : Demand) → Precedes a b → AreCompatible a b
+compatible-from_precedes a b (inl x) = inr x
+compatible-from_precedes a b (inr x) = inl (inl x)
 
-compatible-from_precedes : (direction : Direction) (a b : Demand) → Precedes (IsUnder direction) a b → AreCompatible direction a b
-compatible-from_precedes Columns a b (inl x) = inr (inr x)
-compatible-from_precedes Columns a b (inr x) = inl x
-compatible-from_precedes Rows a b (inl x) = inr x
-compatible-from_precedes Rows a b (inr x) = inl x
+compatible-sym : (a b : Demand) → AreCompatible a b → AreCompatible b a
+compatible-sym a b (inl (inl x)) = inl (inr x)
+compatible-sym a b (inl (inr x)) = inl (inl x)
+compatible-sym a b (inr x) = inr (AreDisjoint-sym a b x)
 
-compatible-sym : (direction : Direction) (a b : Demand) → AreCompatible direction a b → AreCompatible direction b a
-compatible-sym Columns a b (inl x) = inr (inl x)
-compatible-sym Columns a b (inr (inl x)) = inl x
-compatible-sym Columns a b (inr (inr x)) = inr (inr (AreDisjoint-sym a b x))
-compatible-sym Rows a b (inl e) = inl (sym e.0, sym e.1)
-compatible-sym Rows a b (inr x) = inr (AreDisjoint-sym a b x)
+compatible-refl : (a : Demand) → AreCompatible a a
+compatible-refl a = inl (inl ((omega arith), (omega arith)))
 
-compatible-refl : (direction : Direction) (a : Demand) → AreCompatible direction a a
-compatible-refl Columns a = inl ((omega arith), (omega arith))
-compatible-refl Rows a = inl (refl, refl)
-
--- any two cells of an ordered list are compatible
-compatible-pairs : (direction : Direction) (ds : List Demand) (a b : Demand) → IsOrdered (IsUnder direction) ds → Contains ds a → Contains ds b → AreCompatible direction a b
-compatible-pairs direction ds a b ordered m m' = go ds ordered m.0 m'.0 m.1 m'.1 m.2 m'.2
+-- any two cells of a laminar list are nested or disjoint
+compatible-pairs : (ds : List Demand) (a b : Demand) → IsLaminar ds → Contains ds a → Contains ds b → AreCompatible a b
+compatible-pairs ds a b laminar m m' = go ds laminar m.0 m'.0 m.1 m'.1 m.2 m'.2
   where
-    go : (ds : List Demand) → IsOrdered (IsUnder direction) ds → (i j : ℕ) → i < length ds → j < length ds → get_or ds i a ≡ a → get_or ds j b ≡ b → AreCompatible direction a b
-    go [] ordered i j l l' e e' = absurd (omega arith)
-    go (d ∷ ds) ordered zero zero l l' e e' = subst (λ x. AreCompatible direction a x) (sym e ∙ e') (compatible-refl direction a)
-    go (d ∷ ds) ordered zero (suc j) l l' e e' =
-        subst (λ x. AreCompatible direction x b) e
-        (compatible-from_precedes direction d b (All-contains (Precedes (IsUnder direction) d) ds b (All-from_recursion (Precedes (IsUnder direction) d) ds ordered.0) (j, omega arith, e')))
-    go (d ∷ ds) ordered (suc i) zero l l' e e' =
-        compatible-sym direction b a (subst (λ x. AreCompatible direction x a) e'
-        (compatible-from_precedes direction d a (All-contains (Precedes (IsUnder direction) d) ds a (All-from_recursion (Precedes (IsUnder direction) d) ds ordered.0) (i, omega arith, e))))
-    go (d ∷ ds) ordered (suc i) (suc j) l l' e e' = go ds ordered.1 i j (omega arith) (omega arith) e e'
+    go : (ds : List Demand) → IsLaminar ds → (i j : ℕ) → i < length ds → j < length ds → get_or ds i a ≡ a → get_or ds j b ≡ b → AreCompatible a b
+    go [] laminar i j l l' e e' = absurd (omega arith)
+    go (d ∷ ds) laminar zero zero l l' e e' = subst (λ x. AreCompatible a x) (sym e ∙ e') (compatible-refl a)
+    go (d ∷ ds) laminar zero (suc j) l l' e e' =
+        subst (λ x. AreCompatible x b) e
+        (compatible-from_precedes d b (All-contains (Precedes d) ds b (All-from_recursion (Precedes d) ds laminar.0) (j, omega arith, e')))
+    go (d ∷ ds) laminar (suc i) zero l l' e e' =
+        compatible-sym b a (subst (λ x. AreCompatible x a) e'
+        (compatible-from_precedes d a (All-contains (Precedes d) ds a (All-from_recursion (Precedes d) ds laminar.0) (i, omega arith, e))))
+    go (d ∷ ds) laminar (suc i) (suc j) l l' e e' = go ds laminar.1 i j (omega arith) (omega arith) e e'
 
 -- so whether ranges are kept apart is decided on the cells that are taken
-pub IsKeptApart-from_ordered : (direction : Direction) (n : ℕ) (demands : List Demand) → All (IsInTable n) demands → IsOrdered (IsUnder direction) (taken direction n demands) → IsKeptApart direction demands
-IsKeptApart-from_ordered direction n demands table ordered a b m m' two two' =
-    let takes = TakesAll-taken direction n demands table in
-    compatible-pairs direction (taken direction n demands) a b ordered
-    (All-contains (λ d. 2 ≤ d.span → Contains (taken direction n demands) d) demands a takes.long m two)
-    (All-contains (λ d. 2 ≤ d.span → Contains (taken direction n demands) d) demands b takes.long m' two')
+pub IsKeptApart-from_laminar : (n : ℕ) (demands : List Demand) → All (IsInTable n) demands → IsLaminar (taken n demands) → IsKeptApart demands
+IsKeptApart-from_laminar n demands table laminar a b m m' two two' =
+    let takes = TakesAll-taken n demands table in
+    compatible-pairs (taken n demands) a b laminar
+    (All-contains (λ d. 2 ≤ d.span → Contains (taken n demands) d) demands a takes.long m two)
+    (All-contains (λ d. 2 ≤ d.span → Contains (taken n demands) d) demands b takes.long m' two')
 
 -- ---- one more cell
 
@@ -217,11 +205,11 @@ ByRecursion-last : (P : Demand → Type 0) (ds : List Demand) (d : Demand) (es :
 ByRecursion-last P [] d es all = all.0
 ByRecursion-last P (c ∷ ds) d es all = ByRecursion-last P ds d es all.1
 
--- the cells before one of an ordered list precede it
-pub IsOrdered-before : (under : Demand → Demand → Type 0) (ds : List Demand) (d : Demand) (es : List Demand) → IsOrdered under (ds ++ d ∷ es) → AllByRecursion (λ c. Precedes under c d) ds
-IsOrdered-before under [] d es ordered = tt
-IsOrdered-before under (c ∷ ds) d es ordered = (ByRecursion-last (Precedes under c) ds d es ordered.0, IsOrdered-before under ds d es ordered.1)
+-- the cells before one of a laminar list precede it
+pub IsLaminar-before : (ds : List Demand) (d : Demand) (es : List Demand) → IsLaminar (ds ++ d ∷ es) → AllByRecursion (λ c. Precedes c d) ds
+IsLaminar-before [] d es laminar = tt
+IsLaminar-before (c ∷ ds) d es laminar = (ByRecursion-last (Precedes c) ds d es laminar.0, IsLaminar-before ds d es laminar.1)
 
-pub IsOrdered_push : (under : Demand → Demand → Type 0) (ds : List Demand) (d : Demand) → IsOrdered under ds → AllByRecursion (λ c. Precedes under c d) ds → IsOrdered under (ds ++ d ∷ [])
-IsOrdered_push under [] d ordered all = (tt, tt)
-IsOrdered_push under (c ∷ ds) d ordered all = (ByRecursion_push (Precedes under c) ds d ordered.0 all.0, IsOrdered_push under ds d ordered.1 all.1)
+pub IsLaminar_push : (ds : List Demand) (d : Demand) → IsLaminar ds → AllByRecursion (λ c. Precedes c d) ds → IsLaminar (ds ++ d ∷ [])
+IsLaminar_push [] d laminar all = (tt, tt)
+IsLaminar_push (c ∷ ds) d laminar all = (ByRecursion_push (Precedes c) ds d laminar.0 all.0, IsLaminar_push ds d laminar.1 all.1)

@@ -6,18 +6,17 @@ use Rattle.std.proofs.lemmas.List.Elements.{filter_map-append}
 use Rattle.std.proofs.lemmas.Bool.{cases_Bool, cases_eq, cases_lt, true≢false}
 use Rattle.std.proofs.lemmas.List.{get_or-set_same, get_or-set_other, get_or_past, drop_more}
 use Rattle.papergrid_axis.specs.declared.demand.Demand.{Demand}
-use Rattle.papergrid_axis.specs.declared.direction.Direction.{Direction}
-use Rattle.papergrid_axis.specs.Ranges.{end_of, holds, IsInTable}
+use Rattle.papergrid_axis.specs.Ranges.{end_of, holds, IsInTable, LiesIn}
 use Rattle.papergrid_axis.specs.Sizes.{grown, lack}
 use Rattle.papergrid_axis.specs.Chosen.{growing, or_else, exact_single, single_at, outermost, chosen}
 use Rattle.papergrid_axis.proofs.RangeLemmas.{covered}
 use Rattle.papergrid_axis.proofs.LoopLemmas.{sum-grown, range_with_len-append}
-use Rattle.papergrid_axis.specs.LastCells.{AreExact, IsUnder, IsOrdered, IsLaminar, last_holding, slot_of, chosen_slot}
+use Rattle.papergrid_axis.specs.LastCells.{AreExact, IsLaminar, last_holding, slot_of, chosen_slot}
 use Rattle.papergrid_axis.specs.Seen.{no_demand}
 use Rattle.papergrid_axis.proofs.Upto.{holds_cases}
 use Rattle.papergrid_axis.proofs.FitBound.{ByRecursion-weaker}
 use Rattle.papergrid_axis.proofs.Certified.{none_some}
-use Rattle.papergrid_axis.proofs.LastLemmas.{chosen-at, starting_at, last_holding-some, last_holding-none, last_holding-all, last_holding_push, precedes-from_last, last-from_precedes, under-trans, IsOrdered-before, IsOrdered_push}
+use Rattle.papergrid_axis.proofs.LastLemmas.{chosen-at, starting_at, last_holding-some, last_holding-none, last_holding-all, last_holding_push, precedes-from_last, last-from_precedes, IsLaminar-before, IsLaminar_push}
 
 -- the cell is written below i
 pub record WrittenOver (d : Demand) (old new : List (Option Demand)) (i : ℕ) : Type 0 where
@@ -44,23 +43,23 @@ WrittenOver-all d old new h k = elim (holds_cases d k) [
   | inr x ↦ rw x.0 (h.rest k x.1)
 ]
 
--- the cells at the numbers of the range below i are under it
-abbrev pub AreUnder : Direction → Demand → List (Option Demand) → ℕ → Type 0
-AreUnder direction d last i = (k : ℕ) (o : Demand) → d.start ≤ k → k < i → get_or last k None ≡ Some o → IsUnder direction o d
+-- the cells at the numbers of the range below i lie in it
+abbrev pub AreUnder : Demand → List (Option Demand) → ℕ → Type 0
+AreUnder d last i = (k : ℕ) (o : Demand) → d.start ≤ k → k < i → get_or last k None ≡ Some o → LiesIn o d
 
-pub AreUnder-all : (direction : Direction) (d : Demand) (last : List (Option Demand)) → AreUnder direction d last (end_of d) → (i : ℕ) (o : Demand) → holds d i ≡ true → get_or last i None ≡ Some o → IsUnder direction o d
-AreUnder-all direction d last below i o h e = elim (holds_cases d i) [
+pub AreUnder-all : (d : Demand) (last : List (Option Demand)) → AreUnder d last (end_of d) → (i : ℕ) (o : Demand) → holds d i ≡ true → get_or last i None ≡ Some o → LiesIn o d
+AreUnder-all d last below i o h e = elim (holds_cases d i) [
   | inl x ↦ below i o x.1 x.2 e
   | inr x ↦ absurd (true≢false (sym h ∙ x.0))
 ]
 
 -- the table of the cells looked at so far, of which each precedes all later ones
-pub record IsTableOf (direction : Direction) (n : ℕ) (ds : List Demand) (last : List (Option Demand)) : Type 0 where
+pub record IsTableOf (n : ℕ) (ds : List Demand) (last : List (Option Demand)) : Type 0 where
   pub many : length last ≡ n
   pub holds_last : (k : ℕ) → k < n → get_or last k None ≡ last_holding ds k
-  pub ordered : IsOrdered (IsUnder direction) ds
+  pub laminar : IsLaminar ds
 
-module _ (direction : Direction) (n : ℕ) (ds : List Demand) (last : List (Option Demand)) (table : AllByRecursion (IsInTable n) ds) (is : IsTableOf direction n ds last) where
+module _ (n : ℕ) (ds : List Demand) (last : List (Option Demand)) (table : AllByRecursion (IsInTable n) ds) (is : IsTableOf n ds last) where
   -- what stands in the table is a cell of the list
   pub table-cells : (i : ℕ) (o : Demand) → get_or last i None ≡ Some o → IsInTable (length last) o
   table-cells i o e = elim (cases_lt i n) [
@@ -83,21 +82,21 @@ module _ (direction : Direction) (n : ℕ) (ds : List Demand) (last : List (Opti
 
   -- one more cell
   pub IsTableOf-more : (d : Demand) (new : List (Option Demand)) → IsInTable n d →
-      ((i : ℕ) (o : Demand) → holds d i ≡ true → get_or last i None ≡ Some o → IsUnder direction o d) → length new ≡ length last →
-      ((k : ℕ) → k < length new → get_or new k None ≡ cond (holds d k) (Some d) (get_or last k None)) → IsTableOf direction n (ds ++ d ∷ []) new
+      ((i : ℕ) (o : Demand) → holds d i ≡ true → get_or last i None ≡ Some o → LiesIn o d) → length new ≡ length last →
+      ((k : ℕ) → k < length new → get_or new k None ≡ cond (holds d k) (Some d) (get_or last k None)) → IsTableOf n (ds ++ d ∷ []) new
   IsTableOf-more d new t covers same written =
       let many : length last ≡ n = is.many in
       record {
         many = same ∙ many;
         holds_last = λ k l. written k (omega arith) ∙ ap (cond (holds d k) (Some d)) (is.holds_last k l) ∙ sym (last_holding_push ds d k);
-        ordered = IsOrdered_push (IsUnder direction) ds d is.ordered
-            (precedes-from_last (IsUnder direction) (under-trans direction) ds d is.ordered t.covers_one ones (λ i o h e. covers i o h (is.holds_last i (in_table d i t h) ∙ e)));
+        laminar = IsLaminar_push ds d is.laminar
+            (precedes-from_last ds d is.laminar t.covers_one ones (λ i o h e. covers i o h (is.holds_last i (in_table d i t h) ∙ e)));
       }
 
-  -- where all the cells are ordered, what stands in the range of the next one is under it
-  pub under-from_ordered : (d : Demand) (es : List Demand) → IsInTable n d → IsOrdered (IsUnder direction) (ds ++ d ∷ es) → (i : ℕ) (o : Demand) → holds d i ≡ true → get_or last i None ≡ Some o → IsUnder direction o d
-  under-from_ordered d es t ordered i o h e =
-      last-from_precedes (IsUnder direction) ds d (IsOrdered-before (IsUnder direction) ds d es ordered) i o h (sym (is.holds_last i (in_table d i t h)) ∙ e)
+  -- where all the cells are laminar, what stands in the range of the next one lies in it
+  pub under-from_laminar : (d : Demand) (es : List Demand) → IsInTable n d → IsLaminar (ds ++ d ∷ es) → (i : ℕ) (o : Demand) → holds d i ≡ true → get_or last i None ≡ Some o → LiesIn o d
+  under-from_laminar d es t laminar i o h e =
+      last-from_precedes ds d (IsLaminar-before ds d es laminar) i o h (sym (is.holds_last i (in_table d i t h)) ∙ e)
 
 -- the cells that grow, one step on
 module _ (line : ℕ → Bool) (sizes : List ℕ) (taken cells all : List Demand) (i : ℕ) (e : Demand) (l : i < length taken) (t : IsInTable (length sizes) (get_or taken i e))

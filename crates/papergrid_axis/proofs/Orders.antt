@@ -1,19 +1,17 @@
--- Both orders take all cells of longer spans, and no cell after one that its range lies in.
-use Rattle.std.proofs.Common.{◌≡◌, ℕ, zero, suc, ◌+◌, ◌-◌, ◌<◌, ◌≤◌, Bool, true, ◌==◌, inl, inr, List, [], ◌∷◌, ◌++◌, length, get_or, filter, refl, arith, eqb, eq-eqb, eqb-true, lt-ltb, ltb-true}
-use Rattle.std.specs.Prelude.{All, Contains, flat_map, nat_lt}
+-- All cells of longer spans are taken, and no cell after one that its range lies in.
+use Rattle.std.proofs.Common.{◌≡◌, ℕ, zero, suc, ◌+◌, ◌-◌, ◌<◌, ◌≤◌, ◌⊎◌, Bool, true, ◌==◌, inl, inr, List, [], ◌∷◌, ◌++◌, length, get_or, filter, refl, arith, eqb, eq-eqb, eqb-true}
+use Rattle.std.specs.Prelude.{All, Contains, flat_map}
 use Rattle.std.specs.List.{AllByRecursion, range_with_len}
 use Rattle.std.proofs.lemmas.Bool.{cases_Bool, cases_eq}
 use Rattle.std.proofs.lemmas.List.{get_or_default}
 use Rattle.std.proofs.lemmas.List.Elements.{recursion_from_All, All-from_recursion, All-contains, All-contains_itself, Contains-append_left, Contains-append_right}
 use Rattle.papergrid_axis.specs.declared.demand.Demand.{Demand}
-use Rattle.papergrid_axis.specs.declared.direction.Direction.{Direction}
-use Rattle.papergrid_axis.specs.declared.direction.Direction.TheVariants.{Columns, Rows}
-use Rattle.papergrid_axis.specs.Ranges.{end_of, IsInTable, LiesIn, HaveSameRange, AreCompatible, IsKeptApart}
-use Rattle.papergrid_axis.specs.Sizes.{by_place, by_span, taken}
-use Rattle.papergrid_axis.specs.LastCells.{IsUnder, Precedes, IsOrdered, IsLaminar}
+use Rattle.papergrid_axis.specs.Ranges.{end_of, IsInTable, AreNested, AreDisjoint, IsKeptApart}
+use Rattle.papergrid_axis.specs.Sizes.{taken}
+use Rattle.papergrid_axis.specs.LastCells.{Precedes, IsLaminar}
 use Rattle.papergrid_axis.proofs.FitBound.{TakesAll, ByRecursion-weaker}
 
-Contains-later : (ds : List Demand) (c d : Demand) → Contains ds d → Contains (c ∷ ds) d
+pub Contains-later : (ds : List Demand) (c d : Demand) → Contains ds d → Contains (c ∷ ds) d
 Contains-later ds c d m = (suc m.0, omega (arith, m.1), m.2)
 
 -- what passes is in the filter
@@ -48,14 +46,6 @@ cells_themselves demands = recursion_from_All (Contains demands) demands (All-co
 Contains-get_or_self : (ds : List Demand) (k : ℕ) (d : Demand) → k < length ds → Contains ds (get_or ds k d)
 Contains-get_or_self ds k d l = (k, l, get_or_default ds k (get_or ds k d) d l)
 
-pub TakesAll-by_place : (demands : List Demand) → TakesAll demands (by_place demands)
-TakesAll-by_place demands = record {
-  cells = All-from_recursion (Contains demands) (by_place demands)
-      (ByRecursion-weaker (λ d. (nat_lt 1 d.span ≡ true) × Contains demands d) (Contains demands) (λ d h. h.1) (by_place demands)
-      (filter-all (Contains demands) (λ d. nat_lt 1 d.span) demands (cells_themselves demands)));
-  long = λ k d l two. Contains-filter (λ c. nat_lt 1 c.span) demands (get_or demands k d) (Contains-get_or_self demands k d l) (lt-ltb 1 (get_or demands k d).span (omega arith));
-}
-
 -- the cells of one span
 abbrev of_span : List Demand → ℕ → List Demand
 of_span demands span = filter (λ d. d.span == span) demands
@@ -86,80 +76,45 @@ spans_from-contains demands d a (suc m) c l l' = elim (cases_eq d.span a) [
       (spans_from-contains demands d (a + 1) m c (omega arith) (omega arith))
 ]
 
-pub TakesAll-by_span : (n : ℕ) (demands : List Demand) → All (IsInTable n) demands → TakesAll demands (by_span n demands)
-TakesAll-by_span n demands table = record {
-  cells = All-from_recursion (Contains demands) (by_span n demands)
-      (ByRecursion-weaker (IsFrom demands 2) (Contains demands) (λ d h. h.cell) (by_span n demands) (spans_from-all demands 2 (n - 1)));
+pub TakesAll-taken : (n : ℕ) (demands : List Demand) → All (IsInTable n) demands → TakesAll demands (taken n demands)
+TakesAll-taken n demands table = record {
+  cells = All-from_recursion (Contains demands) (taken n demands)
+      (ByRecursion-weaker (IsFrom demands 2) (Contains demands) (λ d h. h.cell) (taken n demands) (spans_from-all demands 2 (n - 1)));
   long = λ k d l two.
       let le : end_of (get_or demands k d) ≤ n = (All-contains (IsInTable n) demands (get_or demands k d) table (Contains-get_or_self demands k d l)).ends_within in
       spans_from-contains demands (get_or demands k d) 2 (n - 1) (Contains-get_or_self demands k d l) two (omega arith);
 }
 
--- where any two are so related, the order does not matter
-ordered_of_pairs : (under : Demand → Demand → Type 0) (P : Demand → Type 0) → ((a b : Demand) → P a → P b → Precedes under a b) → (ds : List Demand) → AllByRecursion P ds → IsOrdered under ds
-ordered_of_pairs under P related [] all = tt
-ordered_of_pairs under P related (d ∷ ds) all =
-    (ByRecursion-weaker P (Precedes under d) (λ e p. related d e all.0 p) ds all.1, ordered_of_pairs under P related ds all.1)
+-- where any two precede each other, the order does not matter
+laminar_of_pairs : (P : Demand → Type 0) → ((a b : Demand) → P a → P b → Precedes a b) → (ds : List Demand) → AllByRecursion P ds → IsLaminar ds
+laminar_of_pairs P related [] all = tt
+laminar_of_pairs P related (d ∷ ds) all =
+    (ByRecursion-weaker P (Precedes d) (λ e p. related d e all.0 p) ds all.1, laminar_of_pairs P related ds all.1)
 
-ordered-append : (under : Demand → Demand → Type 0) (xs ys : List Demand) → IsOrdered under xs → IsOrdered under ys →
-    AllByRecursion (λ x. AllByRecursion (Precedes under x) ys) xs → IsOrdered under (xs ++ ys)
-ordered-append under [] ys lx ly cross = ly
-ordered-append under (x ∷ xs) ys lx ly cross = (ByRecursion-append (Precedes under x) xs ys lx.0 cross.0, ordered-append under xs ys lx.1 ly cross.1)
-
-IsOrdered-by_place : (demands : List Demand) → IsKeptApart Rows demands → IsOrdered HaveSameRange (by_place demands)
-IsOrdered-by_place demands kept_apart =
-    ordered_of_pairs HaveSameRange (λ d. (nat_lt 1 d.span ≡ true) × Contains demands d)
-    (λ a b p q. precedes a b (kept_apart a b p.1 q.1 (let l : 1 < a.span = ltb-true 1 a.span p.0 in omega arith) (let l : 1 < b.span = ltb-true 1 b.span q.0 in omega arith)))
-    (by_place demands) (filter-all (Contains demands) (λ d. nat_lt 1 d.span) demands (cells_themselves demands))
-  where
-    precedes : (a b : Demand) → AreCompatible Rows a b → Precedes HaveSameRange a b
-    precedes a b (inl e) = inr e
-    precedes a b (inr d) = inl d
+laminar-append : (xs ys : List Demand) → IsLaminar xs → IsLaminar ys → AllByRecursion (λ x. AllByRecursion (Precedes x) ys) xs → IsLaminar (xs ++ ys)
+laminar-append [] ys lx ly cross = ly
+laminar-append (x ∷ xs) ys lx ly cross = (ByRecursion-append (Precedes x) xs ys lx.0 cross.0, laminar-append xs ys lx.1 ly cross.1)
 
 -- the smaller of two nested ranges lies in the larger
-smaller_first : (a b : Demand) → a.span ≤ b.span → AreCompatible Columns a b → Precedes LiesIn a b
-smaller_first a b le related = elim related [
-  | inl x ↦ inr x
-  | inr x ↦ elim x [
-    | inl y ↦ let p : a.start ≤ b.start = y.0 in let q : end_of b ≤ end_of a = y.1 in inr ((omega arith), (omega arith))
-    | inr y ↦ inl y
-  ]
-]
+smaller_first : (a b : Demand) → a.span ≤ b.span → AreNested a b ⊎ AreDisjoint a b → Precedes a b
+smaller_first a b le (inl (inl x)) = inr x
+smaller_first a b le (inl (inr y)) = let p : a.start ≤ b.start = y.0 in let q : end_of b ≤ end_of a = y.1 in inr ((omega arith), (omega arith))
+smaller_first a b le (inr y) = inl y
 
-ordered_from : (demands : List Demand) → IsKeptApart Columns demands → (a m : ℕ) → 2 ≤ a → IsOrdered LiesIn (flat_map (of_span demands) (range_with_len a m))
-ordered_from demands kept_apart a zero two = tt
-ordered_from demands kept_apart a (suc m) two =
-    ordered-append LiesIn (of_span demands a) (flat_map (of_span demands) (range_with_len (a + 1) m))
-    (ordered_of_pairs LiesIn (λ d. (d.span ≡ a) × Contains demands d)
+laminar_from : (demands : List Demand) → IsKeptApart demands → (a m : ℕ) → 2 ≤ a → IsLaminar (flat_map (of_span demands) (range_with_len a m))
+laminar_from demands kept_apart a zero two = tt
+laminar_from demands kept_apart a (suc m) two =
+    laminar-append (of_span demands a) (flat_map (of_span demands) (range_with_len (a + 1) m))
+    (laminar_of_pairs (λ d. (d.span ≡ a) × Contains demands d)
     (λ x y p q. let e : x.span ≡ a = p.0 in let e' : y.span ≡ a = q.0 in smaller_first x y (omega arith) (kept_apart x y p.1 q.1 (omega arith) (omega arith)))
     (of_span demands a) (of_span-all demands a))
-    (ordered_from demands kept_apart (a + 1) m (omega arith))
-    (ByRecursion-weaker (λ d. (d.span ≡ a) × Contains demands d) (λ x. AllByRecursion (Precedes LiesIn x) (flat_map (of_span demands) (range_with_len (a + 1) m)))
-    (λ x p. ByRecursion-weaker (IsFrom demands (a + 1)) (Precedes LiesIn x)
+    (laminar_from demands kept_apart (a + 1) m (omega arith))
+    (ByRecursion-weaker (λ d. (d.span ≡ a) × Contains demands d) (λ x. AllByRecursion (Precedes x) (flat_map (of_span demands) (range_with_len (a + 1) m)))
+    (λ x p. ByRecursion-weaker (IsFrom demands (a + 1)) (Precedes x)
     (λ y q. let e : x.span ≡ a = p.0 in let l : a + 1 ≤ y.span = q.long in smaller_first x y (omega arith) (kept_apart x y p.1 q.cell (omega arith) (omega arith)))
     (flat_map (of_span demands) (range_with_len (a + 1) m)) (spans_from-all demands (a + 1) m))
     (of_span demands a) (of_span-all demands a))
 
--- ---- for either direction
-
-pub TakesAll-taken : (direction : Direction) (n : ℕ) (demands : List Demand) → All (IsInTable n) demands → TakesAll demands (taken direction n demands)
-TakesAll-taken Columns n demands table = TakesAll-by_span n demands table
-TakesAll-taken Rows n demands table = TakesAll-by_place demands
-
--- where the ranges are kept apart, no cell is taken after one that its range meets and that is not under it
-pub IsOrdered-taken : (direction : Direction) (n : ℕ) (demands : List Demand) → IsKeptApart direction demands → IsOrdered (IsUnder direction) (taken direction n demands)
-IsOrdered-taken Columns n demands kept_apart = ordered_from demands kept_apart 2 (n - 1) (omega arith)
-IsOrdered-taken Rows n demands kept_apart = IsOrdered-by_place demands kept_apart
-
-IsOrdered-weaker : (under over : Demand → Demand → Type 0) → ((a b : Demand) → under a b → over a b) → (ds : List Demand) → IsOrdered under ds → IsOrdered over ds
-IsOrdered-weaker under over h [] ordered = tt
-IsOrdered-weaker under over h (d ∷ ds) ordered =
-    (ByRecursion-weaker (Precedes under d) (Precedes over d) (λ e p. elim p [ inl x ↦ inl x | inr x ↦ inr (h d e x) ]) ds ordered.0, IsOrdered-weaker under over h ds ordered.1)
-
--- what is under a cell lies in its range
-pub LiesIn-from_under : (direction : Direction) (a b : Demand) → IsUnder direction a b → LiesIn a b
-LiesIn-from_under Columns a b under = under
-LiesIn-from_under Rows a b under = let x : a.start ≡ b.start = under.0 in let y : a.span ≡ b.span = under.1 in ((omega arith), (omega arith))
-
-pub IsLaminar-from_ordered : (direction : Direction) (ds : List Demand) → IsOrdered (IsUnder direction) ds → IsLaminar ds
-IsLaminar-from_ordered direction ds ordered = IsOrdered-weaker (IsUnder direction) LiesIn (LiesIn-from_under direction) ds ordered
+-- where the ranges are kept apart, no cell is taken after one that its range meets and that does not lie in it
+pub IsLaminar-taken : (n : ℕ) (demands : List Demand) → IsKeptApart demands → IsLaminar (taken n demands)
+IsLaminar-taken n demands kept_apart = laminar_from demands kept_apart 2 (n - 1) (omega arith)

@@ -6,7 +6,6 @@ use Rattle.std.proofs.lemmas.List.{drop_more}
 use Rattle.std.proofs.lemmas.Bool.{false≢true, cases_Bool, ltb-false, leb-true}
 use Rattle.std.proofs.lemmas.List.Elements.{All-nil, All-cons, All-head, All-tail}
 use Rattle.papergrid_axis.specs.declared.demand.Demand.{Demand}
-use Rattle.papergrid_axis.specs.declared.direction.Direction.{Direction}
 use Rattle.papergrid_axis.specs.declared.seen.Seen.{Seen}
 use Rattle.papergrid_axis.specs.Answers.{NoneHolds}
 use Rattle.papergrid_axis.specs.Ranges.{IsInTable, end_of, first_out, place_of}
@@ -60,12 +59,12 @@ module _ (n : ℕ) (seen : Seen) (demands : List Demand) (is : IsSeen n seen dem
   pub table_demands : first_out n seen.others.items ≡ None → All (IsInTable n) demands
   table_demands none = none_out n demands (out_seen ∙ none) is.held.spans
 
-  pub NoneHolds-large : (direction : Direction) (line : ℕ → Bool) → first_out n seen.others.items ≡ None → seen.is_large ≡ true → NoneHolds direction line n demands
-  NoneHolds-large direction line none large =
+  pub NoneHolds-large : (line : ℕ → Bool) → first_out n seen.others.items ≡ None → seen.is_large ≡ true → NoneHolds line n demands
+  NoneHolds-large line none large =
       let table = table_demands none in
       let any = sym is.held.large ∙ large in
       record {
         none_out = out_seen ∙ none;
-        too_large = large_any line n (sizes_of direction line n demands) demands any table (Fits-sizes_of direction line n demands table).room;
+        too_large = large_any line n (sizes_of line n demands) demands any table (Fits-sizes_of line n demands table).room;
         none_holds = λ apart other fits. large_any line n other demands any table fits.room;
       }

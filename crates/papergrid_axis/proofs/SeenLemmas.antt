@@ -9,13 +9,11 @@ use Rattle.std.proofs.lemmas.List.Folds.{list_any-append}
 use Rattle.std.proofs.lemmas.List.{append-nil, map-append}
 use Rattle.std.proofs.lemmas.List.Sums.{fold-append}
 use Rattle.papergrid_axis.specs.declared.demand.Demand.{Demand}
-use Rattle.papergrid_axis.specs.declared.direction.Direction.{Direction}
-use Rattle.papergrid_axis.specs.declared.direction.Direction.TheVariants.{Columns, Rows}
 use Rattle.papergrid_axis.specs.Chosen.{exact_single}
 use Rattle.papergrid_axis.specs.Ranges.{IsInTable, end_of, first_out, place_of}
 use Rattle.papergrid_axis.specs.declared.seen.Seen.{Seen}
 use Rattle.papergrid_axis.specs.Seen.{Holds, IsSeen, first_greatest, is_large, is_single, kept_for, no_demand, others, without_need}
-use Rattle.papergrid_axis.specs.Sizes.{base_size, base_sizes, by_place, taken}
+use Rattle.papergrid_axis.specs.Sizes.{base_size, base_sizes, taken}
 use Rattle.papergrid_axis.proofs.Greatest.{get_or-base_sizes, length-base_sizes}
 
 -- ---- the first of greatest need
@@ -147,9 +145,6 @@ filter-others test limit (d ∷ ds) fails =
       ]
     ]
 
-by_place-others : (limit : ℕ) (ds : List Demand) → by_place (others limit ds) ≡ by_place ds
-by_place-others limit ds = filter-others (λ d. nat_lt 1 d.span) limit ds (λ d one. le-ltb 1 d.span (omega arith))
-
 spans-others : (limit : ℕ) (ds : List Demand) (a m : ℕ) → 2 ≤ a →
     flat_map (λ span. filter (λ d. d.span == span) (others limit ds)) (range_with_len a m) ≡ flat_map (λ span. filter (λ d. d.span == span) ds) (range_with_len a m)
 spans-others limit ds a zero two = refl
@@ -157,9 +152,8 @@ spans-others limit ds a (suc m) two =
     ap₂ (λ xs ys. xs ++ ys) (filter-others (λ d. d.span == a) limit ds (λ d one. let ne : d.span ≢ a = omega arith in ne_eqb d.span a ne))
     (spans-others limit ds (a + 1) m (omega arith))
 
-pub taken-others : (direction : Direction) (n limit : ℕ) (ds : List Demand) → taken direction n (others limit ds) ≡ taken direction n ds
-taken-others Columns n limit ds = spans-others limit ds 2 (n - 1) (omega arith)
-taken-others Rows n limit ds = by_place-others limit ds
+pub taken-others : (n limit : ℕ) (ds : List Demand) → taken n (others limit ds) ≡ taken n ds
+taken-others n limit ds = spans-others limit ds 2 (n - 1) (omega arith)
 
 pub table-others : (n limit : ℕ) (ds : List Demand) → All (IsInTable n) ds → All (IsInTable n) (others limit ds)
 table-others n limit ds table = All-filter (λ d. not (is_single limit d)) (IsInTable n) ds table
@@ -243,8 +237,8 @@ module _ (n : ℕ) (seen : Seen) (demands : List Demand) (is : IsSeen n seen dem
       sizes ≡ base_sizes n demands
   base-seen sizes many needs = base-from_singles n is.limit demands seen.singles.items sizes is.from_limit many (is.held.singles small) needs
 
-  pub taken-seen : (direction : Direction) → taken direction n seen.others.items ≡ taken direction n demands
-  taken-seen direction = ap (taken direction n) (is.held.exact small) ∙ taken-others direction n is.limit demands
+  pub taken-seen : taken n seen.others.items ≡ taken n demands
+  taken-seen = ap (taken n) (is.held.exact small) ∙ taken-others n is.limit demands
 
   pub table-seen : All (IsInTable n) demands → All (IsInTable n) seen.others.items
   table-seen table = subst (All (IsInTable n)) (sym (is.held.exact small)) (table-others n is.limit demands table)

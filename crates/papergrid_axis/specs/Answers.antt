@@ -2,29 +2,28 @@
 use Rattle.std.specs.Prelude.{◌≡◌, ℕ, ◌+◌, ◌^◌, ◌<◌, ◌≤◌, Bool, List, EachIndex, slice_index, map, sum, Result, Ok, Err, Option, None, Some, Vec, ⊤}
 use Rattle.papergrid_values.specs.declared.position.Position.{Position}
 use Rattle.papergrid_axis.specs.declared.demand.Demand.{Demand}
-use Rattle.papergrid_axis.specs.declared.direction.Direction.{Direction}
 use Rattle.papergrid_axis.specs.declared.error.LayoutError.{LayoutError}
 use Rattle.papergrid_axis.specs.declared.error.LayoutError.TheVariants.{OutOfTable, TooLarge, Memory}
-use Rattle.papergrid_axis.specs.Ranges.{IsKeptApart, all_lines, first_out, place_of}
+use Rattle.papergrid_axis.specs.Ranges.{IsKeptApart, SomeCross, all_lines, first_out, place_of}
 use Rattle.papergrid_axis.specs.Fits.{Fits, IsLeast, IsTooLarge, IsCertificate, top_need}
 use Rattle.papergrid_axis.specs.Sizes.{sizes_of}
 use Rattle.papergrid_axis.specs.Chosen.{chosen_of}
 
-module _ (direction : Direction) (line : ℕ → Bool) (n : ℕ) (demands : List Demand) where
+module _ (line : ℕ → Bool) (n : ℕ) (demands : List Demand) where
   -- these are the sizes, and what holds of them
   pub record AreSizes (sizes : List ℕ) : Type 0 where
     pub none_out : first_out n demands ≡ None
-    pub exact : sizes ≡ sizes_of direction line n demands
+    pub exact : sizes ≡ sizes_of line n demands
     pub total : sum sizes + all_lines line n < 2 ^ 64
     pub fits : Fits line n demands sizes
     pub bound : EachIndex sizes (λ i. slice_index sizes i ≤ top_need demands i)
-    pub least : IsKeptApart direction demands → IsLeast line n demands sizes
+    pub least : IsKeptApart demands → IsLeast line n demands sizes
 
   -- the sizes are too large, and where ranges are kept apart so is every list that fits
   pub record NoneHolds : Type 0 where
     pub none_out : first_out n demands ≡ None
-    pub too_large : IsTooLarge line n (sizes_of direction line n demands)
-    pub none_holds : IsKeptApart direction demands → (other : List ℕ) → Fits line n demands other → IsTooLarge line n other
+    pub too_large : IsTooLarge line n (sizes_of line n demands)
+    pub none_holds : IsKeptApart demands → (other : List ℕ) → Fits line n demands other → IsTooLarge line n other
 
   -- out of the table by the first cell that reaches out, else too large; memory may be refused in place of any answer
   abbrev pub IsRefused : LayoutError → Type 0
@@ -35,16 +34,16 @@ module _ (direction : Direction) (line : ℕ → Bool) (n : ℕ) (demands : List
   -- the places of the chosen cells, which certify the sizes
   pub record AreChosen (places : List Position) : Type 0 where
     pub none_out : first_out n demands ≡ None
-    pub total : sum (sizes_of direction line n demands) + all_lines line n < 2 ^ 64
-    pub kept_apart : IsKeptApart direction demands
-    pub exact : places ≡ map place_of (chosen_of direction line n demands)
-    pub certificate : IsCertificate line demands (sizes_of direction line n demands) (chosen_of direction line n demands)
+    pub total : sum (sizes_of line n demands) + all_lines line n < 2 ^ 64
+    pub kept_apart : IsKeptApart demands
+    pub exact : places ≡ map place_of (chosen_of line n demands)
+    pub certificate : IsCertificate line demands (sizes_of line n demands) (chosen_of line n demands)
 
-  -- there are sizes, and two longer ranges are not kept apart
+  -- there are sizes, and two longer ranges are neither nested nor disjoint
   pub record NoneChosen : Type 0 where
     pub none_out : first_out n demands ≡ None
-    pub total : sum (sizes_of direction line n demands) + all_lines line n < 2 ^ 64
-    pub not_kept_apart : IsKeptApart direction demands → ⊥
+    pub total : sum (sizes_of line n demands) + all_lines line n < 2 ^ 64
+    pub not_kept_apart : SomeCross demands
 
   module _ {Z : Type 0} where
     -- the sizes, or why there are none

@@ -2,9 +2,8 @@
 use Rattle.std.specs.Prelude.{ℕ, Bool, ◌&&◌, ◌==◌, nat_lt, nat_le, if◌then◌else◌, List, [], ◌∷◌, filter_map, find, slice_index, Option, Some, None}
 use Rattle.std.specs.List.{range_with_len, list_any}
 use Rattle.papergrid_axis.specs.declared.demand.Demand.{Demand}
-use Rattle.papergrid_axis.specs.declared.direction.Direction.{Direction}
 use Rattle.papergrid_axis.specs.Ranges.{end_of, holds}
-use Rattle.papergrid_axis.specs.Sizes.{lack, grown, base_sizes, sizes_after, taken}
+use Rattle.papergrid_axis.specs.Sizes.{lack, grown, base_sizes, sizes_of, taken}
 
 -- the cells that grow, in the order in which they are taken: those that lack room when they are
 abbrev pub growing : (ℕ → Bool) → List ℕ → List Demand → List Demand
@@ -41,11 +40,7 @@ chosen n demands growers sizes =
     filter_map (λ i. or_else (find (λ d. d.start == i) (outermost growers)) (single_at demands growers sizes i))
     (range_with_len 0 n)
 
--- the chosen cells where these are taken in this order
-abbrev pub chosen_after : (ℕ → Bool) → ℕ → List Demand → List Demand → List Demand
-chosen_after line n demands cells =
-    chosen n demands (growing line (base_sizes n demands) cells) (sizes_after line n demands cells)
-
--- the chosen cells of the direction
-abbrev pub chosen_of : Direction → (ℕ → Bool) → ℕ → List Demand → List Demand
-chosen_of direction line n demands = chosen_after line n demands (taken direction n demands)
+-- the chosen cells
+abbrev pub chosen_of : (ℕ → Bool) → ℕ → List Demand → List Demand
+chosen_of line n demands =
+    chosen n demands (growing line (base_sizes n demands) (taken n demands)) (sizes_of line n demands)

@@ -3,29 +3,18 @@
 use Rattle.std.specs.Prelude.{◌≡◌, ◌≢◌, ◌<◌, ℕ, ◌==◌, false, if◌then◌else◌, cond, ◌⊎◌, List, [], ◌∷◌, length, ⊤, Option, Some, None, slice_index, slice_index_or}
 use Rattle.std.specs.List.{AllByRecursion, list_any}
 use Rattle.papergrid_axis.specs.declared.demand.Demand.{Demand}
-use Rattle.papergrid_axis.specs.declared.direction.Direction.{Direction}
-use Rattle.papergrid_axis.specs.declared.direction.Direction.TheVariants.{Columns, Rows}
-use Rattle.papergrid_axis.specs.Ranges.{holds, AreDisjoint, LiesIn, HaveSameRange}
+use Rattle.papergrid_axis.specs.Ranges.{holds, AreDisjoint, LiesIn}
 use Rattle.papergrid_axis.specs.Chosen.{exact_single, or_else}
 use Rattle.papergrid_axis.specs.Seen.{no_demand}
 
--- what a cell has to be to a later one whose range meets its own
-abbrev pub IsUnder : Direction → Demand → Demand → Type 0
-IsUnder Columns earlier later = LiesIn earlier later
-IsUnder Rows earlier later = HaveSameRange earlier later
+-- a cell that is taken before another is disjoint from it or lies in its range
+abbrev pub Precedes : Demand → Demand → Type 0
+Precedes earlier later = AreDisjoint earlier later ⊎ LiesIn earlier later
 
--- a cell that is taken before another is disjoint from it or under it
-abbrev pub Precedes : (Demand → Demand → Type 0) → Demand → Demand → Type 0
-Precedes under earlier later = AreDisjoint earlier later ⊎ under earlier later
-
--- each cell precedes all later ones
-abbrev pub IsOrdered : (Demand → Demand → Type 0) → List Demand → Type 0
-IsOrdered under [] = ⊤
-IsOrdered under (d ∷ rest) = AllByRecursion (Precedes under d) rest × IsOrdered under rest
-
--- no cell comes after one whose range goes past its own: a laminar family, the inner ranges first
+-- each cell precedes all later ones: a laminar family, the inner ranges first
 abbrev pub IsLaminar : List Demand → Type 0
-IsLaminar ds = IsOrdered LiesIn ds
+IsLaminar [] = ⊤
+IsLaminar (d ∷ rest) = AllByRecursion (Precedes d) rest × IsLaminar rest
 
 -- the last of the cells whose range holds i
 abbrev pub last_holding : List Demand → ℕ → Option Demand

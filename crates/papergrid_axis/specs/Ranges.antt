@@ -1,7 +1,7 @@
 -- Ranges along a direction, which has n columns (rows), numbered from 0. A visible cell's range has the numbers from
 -- `start` on, `span` of them. `line i` tells whether a line is drawn at i, before number i, and at n after the last.
 -- The demands of the visible cells stand by (row, column).
-use Rattle.std.specs.Prelude.{◌≡◌, ℕ, ◌+◌, ◌-◌, ◌≤◌, Bool, false, ◌&&◌, nat_lt, nat_le, if◌then◌else◌, ◌⊎◌, List, [], ◌∷◌, count_by, Contains, Option, Some, None, slice_index_or}
+use Rattle.std.specs.Prelude.{ℕ, ◌+◌, ◌-◌, ◌≤◌, Bool, false, ◌&&◌, nat_lt, nat_le, if◌then◌else◌, ◌⊎◌, List, [], ◌∷◌, count_by, Contains, Option, Some, None, slice_index_or}
 use Rattle.std.specs.List.{range_with_len}
 use Rattle.papergrid_values.specs.declared.position.Position.{Position}
 use Rattle.papergrid_axis.specs.declared.demand.Demand.{Demand}
@@ -48,18 +48,23 @@ AreDisjoint a b = (end_of a ≤ b.start) ⊎ (end_of b ≤ a.start)
 abbrev pub LiesIn : Demand → Demand → Type 0
 LiesIn a b = (b.start ≤ a.start) × (end_of a ≤ end_of b)
 
-abbrev pub HaveSameRange : Demand → Demand → Type 0
-HaveSameRange a b = (a.start ≡ b.start) × (a.span ≡ b.span)
+-- one range is part of the other, as equal ranges are of each other
+abbrev pub AreNested : Demand → Demand → Type 0
+AreNested a b = LiesIn a b ⊎ LiesIn b a
 
--- columns: nested (equal ranges are) or disjoint; rows: equal or disjoint
-abbrev pub AreCompatible : Direction → Demand → Demand → Type 0
-AreCompatible Columns a b = LiesIn a b ⊎ LiesIn b a ⊎ AreDisjoint a b
-AreCompatible Rows a b = HaveSameRange a b ⊎ AreDisjoint a b
+-- any two ranges of two or more numbers are nested or disjoint
+abbrev pub IsKeptApart : List Demand → Type 0
+IsKeptApart demands =
+    (a b : Demand) → Contains demands a → Contains demands b → 2 ≤ a.span → 2 ≤ b.span → AreNested a b ⊎ AreDisjoint a b
 
--- any two ranges of two or more numbers are compatible
-abbrev pub IsKeptApart : Direction → List Demand → Type 0
-IsKeptApart direction demands =
-    (a b : Demand) → Contains demands a → Contains demands b → 2 ≤ a.span → 2 ≤ b.span → AreCompatible direction a b
+-- two ranges of two or more numbers are neither nested nor disjoint
+pub record SomeCross (demands : List Demand) : Type 0 where
+  pub one : Demand
+  pub other : Demand
+  pub are_visible : Contains demands one × Contains demands other
+  pub are_long : (2 ≤ one.span) × (2 ≤ other.span)
+  pub not_nested : AreNested one other → ⊥
+  pub not_disjoint : AreDisjoint one other → ⊥
 
 -- the lines strictly inside of the range
 abbrev pub inner_lines : (ℕ → Bool) → Demand → ℕ

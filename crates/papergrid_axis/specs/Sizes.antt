@@ -1,9 +1,7 @@
 -- The sizes along a direction: what the cells need that cover one number alone, and then what those of longer ranges lack.
-use Rattle.std.specs.Prelude.{ℕ, ◌+◌, ◌-◌, ◌/◌, ◌%◌, Bool, ◌&&◌, ◌==◌, nat_lt, if◌then◌else◌, List, [], ◌∷◌, map, filter, flat_map, fold}
+use Rattle.std.specs.Prelude.{ℕ, ◌+◌, ◌-◌, ◌/◌, ◌%◌, Bool, ◌&&◌, ◌==◌, if◌then◌else◌, List, [], ◌∷◌, map, filter, flat_map, fold}
 use Rattle.std.specs.List.{range_with_len}
 use Rattle.papergrid_axis.specs.declared.demand.Demand.{Demand}
-use Rattle.papergrid_axis.specs.declared.direction.Direction.{Direction}
-use Rattle.papergrid_axis.specs.declared.direction.Direction.TheVariants.{Columns, Rows}
 use Rattle.papergrid_axis.specs.Ranges.{holds, inner_lines}
 use Rattle.papergrid_axis.specs.Fits.{greatest_need, range_sum}
 
@@ -32,23 +30,11 @@ with_shares amount d i (x ∷ xs) = (x + share amount d i) ∷ with_shares amoun
 abbrev pub grown : (ℕ → Bool) → List ℕ → Demand → List ℕ
 grown line sizes d = with_shares (lack line sizes d) d 0 sizes
 
--- the cells of longer ranges by (row, column)
-abbrev pub by_place : List Demand → List Demand
-by_place demands = filter (λ d. nat_lt 1 d.span) demands
+-- the cells of longer ranges in the order in which they are taken, by (span, row, column): those of span 2, then those of
+-- span 3, and so on up to n
+abbrev pub taken : ℕ → List Demand → List Demand
+taken n demands = flat_map (λ span. filter (λ d. d.span == span) demands) (range_with_len 2 (n - 1))
 
--- the same by (span, row, column): those of span 2, then those of span 3, and so on up to n
-abbrev pub by_span : ℕ → List Demand → List Demand
-by_span n demands = flat_map (λ span. filter (λ d. d.span == span) demands) (range_with_len 2 (n - 1))
-
--- the cells of longer ranges in the order in which they are taken
-abbrev pub taken : Direction → ℕ → List Demand → List Demand
-taken Columns n demands = by_span n demands
-taken Rows n demands = by_place demands
-
--- the sizes after these cells were taken
-abbrev pub sizes_after : (ℕ → Bool) → ℕ → List Demand → List Demand → List ℕ
-sizes_after line n demands cells = fold (grown line) (base_sizes n demands) cells
-
--- the sizes along the direction
-abbrev pub sizes_of : Direction → (ℕ → Bool) → ℕ → List Demand → List ℕ
-sizes_of direction line n demands = sizes_after line n demands (taken direction n demands)
+-- the sizes after they were taken
+abbrev pub sizes_of : (ℕ → Bool) → ℕ → List Demand → List ℕ
+sizes_of line n demands = fold (grown line) (base_sizes n demands) (taken n demands)

@@ -8,7 +8,6 @@ ghost use Rattle.papergrid_axis.specs.Seen.{IsSeen};
 ghost use Rattle.papergrid_axis.specs.Settled.{IsSettled};
 
 use crate::axis::Axis;
-use crate::direction::Direction;
 use crate::error::LayoutError;
 use crate::finish::finish;
 use crate::lines::lines_of;
@@ -21,19 +20,18 @@ use std::alloc::Global;
 /// What the seen cells of a table of `count` columns (rows) come to, with the lines of the axis.
 fn settle<A: Axis>(
     alloc: Global,
-    direction: Direction,
     count: usize,
     seen: &Seen,
     axis: &A,
 ) -> Result<Settled, LayoutError>
     requires { (demands : List Demand) × IsSeen count seen.now demands }
     ensures { (demands : List Demand) → IsSeen count seen.now demands →
-        IsSettled direction (lines_to (A.line axis.now) count) count demands result }
+        IsSettled (lines_to (A.line axis.now) count) count demands result }
 {
     // A count that no memory holds is refused before it is counted up to.
     let zeros = vec![in alloc; 0; count]?;
     let lines = lines_of(alloc, axis, count)?;
-    finish(alloc, direction, count, zeros, seen, &lines)
+    finish(alloc, count, zeros, seen, &lines)
 }
 
 /// The sizes of `count` columns (rows) that the seen cells ask for, with the lines of the axis.
@@ -44,40 +42,38 @@ fn settle<A: Axis>(
 /// sizes with all lines come to more than the greatest `usize`.
 pub fn conclude<A: Axis>(
     alloc: Global,
-    direction: Direction,
     count: usize,
     seen: &Seen,
     axis: &A,
 ) -> Result<Vec<usize>, LayoutError>
     requires { (demands : List Demand) × IsSeen count seen.now demands }
     ensures { (demands : List Demand) → IsSeen count seen.now demands →
-        IsExact direction (lines_to (A.line axis.now) count) count demands result }
+        IsExact (lines_to (A.line axis.now) count) count demands result }
 {
-    match settle(alloc, direction, count, seen, axis) {
+    match settle(alloc, count, seen, axis) {
         Ok(settled) => Ok(settled.sizes),
         Err(refused) => Err(refused),
     }
 }
 
-/// The same sizes, and the places of the cells that certify that they are least; none where longer
-/// ranges are not kept apart.
+/// The same sizes, and the places of the cells that certify that they are least; none where two
+/// longer ranges are neither nested nor disjoint.
 ///
 /// # Errors
 ///
 /// As those of `conclude`.
 pub fn conclude_certified<A: Axis>(
     alloc: Global,
-    direction: Direction,
     count: usize,
     seen: &Seen,
     axis: &A,
 ) -> Result<(Vec<usize>, Option<Vec<Position>>), LayoutError>
     requires { (demands : List Demand) × IsSeen count seen.now demands }
     ensures { (demands : List Demand) → IsSeen count seen.now demands →
-        IsCertified direction (lines_to (A.line axis.now) count) count demands result }
+        IsCertified (lines_to (A.line axis.now) count) count demands result }
 {
-    match settle(alloc, direction, count, seen, axis) {
-        Ok(settled) => match settled_witness(alloc, direction, count, seen, &settled) {
+    match settle(alloc, count, seen, axis) {
+        Ok(settled) => match settled_witness(alloc, count, seen, &settled) {
             Ok(found) => Ok((settled.sizes, found)),
             Err(error) => Err(LayoutError::Memory(error)),
         },

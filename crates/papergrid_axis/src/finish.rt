@@ -2,14 +2,12 @@
 
 ghost use Rattle.std.specs.Prelude.{◌≡◌, ◌+◌, ℕ, Bool, IfNone, IfSome, List, None, false, length, nat_lt, replicate};
 ghost use Rattle.papergrid_axis.specs.declared.demand.Demand.{Demand};
-ghost use Rattle.papergrid_axis.specs.declared.direction.Direction.{Direction};
 ghost use Rattle.papergrid_axis.specs.Answers.{IsRefused};
 ghost use Rattle.papergrid_axis.specs.Ranges.{end_of, first_out, line_at};
 ghost use Rattle.papergrid_axis.specs.Seen.{IsSeen};
 ghost use Rattle.papergrid_axis.specs.Settled.{IsSettled};
 
 use crate::demand::Demand;
-use crate::direction::Direction;
 use crate::error::LayoutError;
 use crate::seen::Seen;
 use crate::settled::{Settled, settle_seen};
@@ -42,8 +40,8 @@ pub fn find_out(count: usize, demands: &[Demand]) -> Option<Position>
 fn refusal(count: usize, seen: &Seen) -> Option<LayoutError>
     requires { (demands : List Demand) × IsSeen count seen.now demands }
     ensures refused { IfSome result (λ error.
-        (direction : Direction) (line : ℕ → Bool) (demands : List Demand) →
-        IsSeen count seen.now demands → IsRefused direction line count demands error) }
+        (line : ℕ → Bool) (demands : List Demand) →
+        IsSeen count seen.now demands → IsRefused line count demands error) }
     ensures inside { IfNone result (first_out count seen.now.others.items ≡ None) }
     ensures small { IfNone result (seen.now.is_large ≡ false) }
 {
@@ -65,7 +63,6 @@ fn refusal(count: usize, seen: &Seen) -> Option<LayoutError>
 /// sizes with all lines come to more than the greatest `usize`.
 pub fn finish(
     alloc: Global,
-    direction: Direction,
     count: usize,
     zeros: Vec<usize>,
     seen: &Seen,
@@ -75,10 +72,10 @@ pub fn finish(
     requires seen { (demands : List Demand) × IsSeen count seen.now demands }
     requires lines { length lines.now ≡ count + 1 }
     ensures { (demands : List Demand) → IsSeen count seen.now demands →
-        IsSettled direction (line_at lines.now) count demands result }
+        IsSettled (line_at lines.now) count demands result }
 {
     match refusal(count, seen) {
         Some(error) => Err(error),
-        None => settle_seen(alloc, direction, count, zeros, seen, lines),
+        None => settle_seen(alloc, count, zeros, seen, lines),
     }
 }

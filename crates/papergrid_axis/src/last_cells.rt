@@ -2,11 +2,10 @@
 
 ghost use Rattle.std.specs.Prelude.{◌≡◌, ◌+◌, ◌<◌, ◌^◌, ◌↔◌, ℕ, All, EachIndex, IsTrue, None, Some, if◌then◌else◌, length, slice_index_or, true};
 ghost use Rattle.papergrid_axis.specs.declared.demand.Demand.{Demand};
-ghost use Rattle.papergrid_axis.specs.LastCells.{IsOrdered, IsUnder, last_holding};
-ghost use Rattle.papergrid_axis.specs.Ranges.{IsInTable, end_of, holds};
+ghost use Rattle.papergrid_axis.specs.LastCells.{IsLaminar, last_holding};
+ghost use Rattle.papergrid_axis.specs.Ranges.{IsInTable, LiesIn, end_of, holds};
 
 use crate::demand::Demand;
-use crate::direction::Direction;
 
 /// Writes the cell at each number of its range.
 fn write_over(last: &mut [Option<Demand>], demand: Demand)
@@ -30,33 +29,27 @@ pub fn write_all(last: &mut [Option<Demand>], cells: &[Demand])
     }
 }
 
-/// Whether a cell may come before another whose range meets its own: along columns its range lies in
-/// the other's, along rows they are equal.
-fn is_under(direction: Direction, earlier: Demand, later: Demand) -> bool
-    requires earlier { end_of earlier < 2 ^ 64 }
-    requires later { end_of later < 2 ^ 64 }
-    ensures { IsTrue result ↔ IsUnder direction earlier later }
+/// Whether the range of a cell is part of that of another.
+fn lies_in(inner: Demand, outer: Demand) -> bool
+    requires inner { end_of inner < 2 ^ 64 }
+    requires outer { end_of outer < 2 ^ 64 }
+    ensures { IsTrue result ↔ LiesIn inner outer }
 {
-    match direction {
-        Direction::Columns => {
-            later.start <= earlier.start && earlier.start + earlier.span <= later.start + later.span
-        }
-        Direction::Rows => earlier.start == later.start && earlier.span == later.span,
-    }
+    outer.start <= inner.start && inner.start + inner.span <= outer.start + outer.span
 }
 
-/// Whether each cell that is written at a number of the range may come before this one.
-fn covers_all(direction: Direction, last: &[Option<Demand>], demand: Demand) -> bool
+/// Whether the range of each cell that is written at a number of the range is part of it.
+fn covers_all(last: &[Option<Demand>], demand: Demand) -> bool
     requires table { IsInTable (length last.now) demand }
     requires others { (i : ℕ) (o : Demand) →
         slice_index_or last.now i None ≡ Some o → IsInTable (length last.now) o }
     ensures { IsTrue result ↔
         ((i : ℕ) (o : Demand) → holds demand i ≡ true →
-        slice_index_or last.now i None ≡ Some o → IsUnder direction o demand) }
+        slice_index_or last.now i None ≡ Some o → LiesIn o demand) }
 {
     for i in demand.start..demand.start + demand.span {
         if let Some(other) = last[i] {
-            if !is_under(direction, other, demand) {
+            if !lies_in(other, demand) {
                 return false;
             }
         }
@@ -64,15 +57,15 @@ fn covers_all(direction: Direction, last: &[Option<Demand>], demand: Demand) -> 
     true
 }
 
-/// Whether each of the cells may come before all later ones that its range meets; the cells are
+/// Whether the range of each cell is part of those of all later cells that it meets; the cells are
 /// written over one another as they are looked at.
-pub fn are_ordered(direction: Direction, last: &mut [Option<Demand>], cells: &[Demand]) -> bool
+pub fn are_laminar(last: &mut [Option<Demand>], cells: &[Demand]) -> bool
     requires none { All (λ cell. cell ≡ None) last.old }
     requires table { All (IsInTable (length last.old)) cells.now }
-    ensures { IsTrue result ↔ IsOrdered (IsUnder direction) cells.now }
+    ensures { IsTrue result ↔ IsLaminar cells.now }
 {
     for demand in cells {
-        if !covers_all(direction, last, *demand) {
+        if !covers_all(last, *demand) {
             return false;
         }
         write_over(last, *demand);

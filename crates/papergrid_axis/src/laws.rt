@@ -1,12 +1,11 @@
 //! Laws of the definitions, each the contract of a function that does nothing.
 
-ghost use Rattle.std.specs.Prelude.{ℕ, ◌<◌, ◌≤◌, ◌↔◌, All, Bool, IsTrue, List, slice_index};
+ghost use Rattle.std.specs.Prelude.{ℕ, ◌≡◌, ◌<◌, ◌≤◌, ◌↔◌, All, Bool, IsTrue, List, false, slice_index};
 ghost use Rattle.papergrid_axis.specs.declared.demand.Demand.{Demand};
-ghost use Rattle.papergrid_axis.specs.declared.direction.Direction.{Direction};
 ghost use Rattle.papergrid_axis.specs.Chosen.{chosen_of};
 ghost use Rattle.papergrid_axis.specs.Fits.{Fits, IsCertificate, IsLeast, top_need};
 ghost use Rattle.papergrid_axis.specs.KeptApart.{is_kept_apart};
-ghost use Rattle.papergrid_axis.specs.Ranges.{IsInTable, IsKeptApart};
+ghost use Rattle.papergrid_axis.specs.Ranges.{IsInTable, IsKeptApart, SomeCross};
 ghost use Rattle.papergrid_axis.specs.Rows.{WorkedRows};
 ghost use Rattle.papergrid_axis.specs.Sizes.{sizes_of};
 
@@ -25,19 +24,22 @@ pub fn certified_are_least()
 /// The sizes along a direction fit, and none is above the greatest need over its column (row); where
 /// ranges are kept apart, the chosen cells certify them.
 pub fn sizes_by_needs()
-    ensures fit { (direction : Direction) (line : ℕ → Bool) (n : ℕ) (demands : List Demand) →
-        All (IsInTable n) demands → Fits line n demands (sizes_of direction line n demands) }
-    ensures bound { (direction : Direction) (line : ℕ → Bool) (n : ℕ) (demands : List Demand) →
+    ensures fit { (line : ℕ → Bool) (n : ℕ) (demands : List Demand) →
+        All (IsInTable n) demands → Fits line n demands (sizes_of line n demands) }
+    ensures bound { (line : ℕ → Bool) (n : ℕ) (demands : List Demand) →
         All (IsInTable n) demands → (i : ℕ) → i < n →
-        slice_index (sizes_of direction line n demands) i ≤ top_need demands i }
-    ensures certified { (direction : Direction) (line : ℕ → Bool) (n : ℕ) (demands : List Demand) →
-        All (IsInTable n) demands → IsKeptApart direction demands →
-        IsCertificate line demands (sizes_of direction line n demands)
-        (chosen_of direction line n demands) }
+        slice_index (sizes_of line n demands) i ≤ top_need demands i }
+    ensures certified { (line : ℕ → Bool) (n : ℕ) (demands : List Demand) →
+        All (IsInTable n) demands → IsKeptApart demands →
+        IsCertificate line demands (sizes_of line n demands)
+        (chosen_of line n demands) }
 {}
 
-/// Whether longer ranges are kept apart can be computed.
+/// Whether any two longer ranges are nested or disjoint can be computed; where they are not, two of
+/// them are neither.
 pub fn kept_apart_is_computed()
-    ensures { (direction : Direction) (demands : List Demand) →
-        IsTrue (is_kept_apart direction demands) ↔ IsKeptApart direction demands }
+    ensures kept_apart { (demands : List Demand) →
+        IsTrue (is_kept_apart demands) ↔ IsKeptApart demands }
+    ensures crossing { (demands : List Demand) →
+        (is_kept_apart demands ≡ false) ↔ SomeCross demands }
 {}

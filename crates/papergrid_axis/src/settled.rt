@@ -8,7 +8,6 @@ ghost use Rattle.papergrid_axis.specs.Settled.{IsSettled};
 
 use crate::base::write_base;
 use crate::demand::Demand;
-use crate::direction::Direction;
 use crate::error::LayoutError;
 use crate::growers::grow_all;
 use crate::order::taken;
@@ -33,7 +32,6 @@ pub struct Settled {
 /// `TooLarge` where the sizes with all lines come to more than the greatest `usize`.
 pub fn settle_seen(
     alloc: Global,
-    direction: Direction,
     count: usize,
     zeros: Vec<usize>,
     seen: &Seen,
@@ -45,11 +43,11 @@ pub fn settle_seen(
     requires small { seen.now.is_large ≡ false }
     requires lines { length lines.now ≡ count + 1 }
     ensures { (demands : List Demand) → IsSeen count seen.now demands →
-        IsSettled direction (line_at lines.now) count demands result }
+        IsSettled (line_at lines.now) count demands result }
 {
     let mut sizes = zeros;
     write_base(&mut sizes, &seen.singles);
-    let cells = taken(alloc, direction, count, &seen.others)?;
+    let cells = taken(alloc, count, &seen.others)?;
     match grow_all(alloc, &mut sizes, lines, &cells)? {
         None => Err(LayoutError::TooLarge),
         Some(growers) => Ok(Settled {

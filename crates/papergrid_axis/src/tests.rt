@@ -130,6 +130,20 @@ const EVEN: [Cell; 8] = [
     (2, 2, 1, 1, 0),
 ];
 
+const INNER_ROWS: [Cell; 11] = [
+    (0, 0, 1, 1, 0),
+    (0, 1, 4, 1, 6),
+    (0, 2, 2, 1, 4),
+    (0, 3, 1, 1, 0),
+    (1, 0, 1, 1, 0),
+    (1, 3, 1, 1, 0),
+    (2, 0, 1, 1, 0),
+    (2, 2, 1, 1, 0),
+    (2, 3, 2, 1, 2),
+    (3, 0, 1, 1, 0),
+    (3, 2, 1, 1, 0),
+];
+
 const CROSSING: [Cell; 4] = [
     (0, 0, 2, 10, 0),
     (0, 2, 1, 0, 0),
@@ -173,7 +187,7 @@ fn sizes(
     cells: &[Cell],
 ) -> Result<Vec<usize>, LayoutError> {
     let seen = seen(alloc, direction, count, cells)?;
-    conclude(alloc, direction, count, &seen, &axis)
+    conclude(alloc, count, &seen, &axis)
 }
 
 fn witness(
@@ -184,7 +198,7 @@ fn witness(
     cells: &[Cell],
 ) -> Result<Option<Vec<Position>>, LayoutError> {
     let seen = seen(alloc, direction, count, cells)?;
-    match conclude_certified(alloc, direction, count, &seen, &axis) {
+    match conclude_certified(alloc, count, &seen, &axis) {
         Ok((_, found)) => Ok(found),
         Err(refused) => Err(refused),
     }
@@ -263,7 +277,8 @@ fn lines_alone_satisfy(rt: HostRuntime) -> Result<(), Fail> {
         sizes(alloc, Rows, 3, LINED, &rows),
         Ok(vec![in alloc; 0, 0, 1]?)
     );
-    assert_eq!(rt; witness(alloc, Rows, 3, LINED, &rows), Ok(None));
+    let cells = vec![in alloc; at(2, 1)]?;
+    assert_eq!(rt; witness(alloc, Rows, 3, LINED, &rows), Ok(Some(cells)));
     Ok(())
 }
 
@@ -280,21 +295,44 @@ fn nested_column_spans(rt: HostRuntime) -> Result<(), Fail> {
 #[test]
 fn nested_row_spans(rt: HostRuntime) -> Result<(), Fail> {
     let alloc = rt.alloc();
-    let heights = vec![in alloc; 4, 4, 4]?;
+    let heights = vec![in alloc; 2, 4, 4]?;
+    let cells = vec![in alloc; at(0, 1)]?;
     assert_eq!(rt; sizes(alloc, Rows, 3, NONE, &NESTED_ROWS), Ok(heights));
-    assert_eq!(rt; witness(alloc, Rows, 3, NONE, &NESTED_ROWS), Ok(None));
+    assert_eq!(rt;
+        witness(alloc, Rows, 3, NONE, &NESTED_ROWS),
+        Ok(Some(cells))
+    );
+    Ok(())
+}
+
+#[test]
+fn row_spans_within_row_span(rt: HostRuntime) -> Result<(), Fail> {
+    let alloc = rt.alloc();
+    let heights = vec![in alloc; 3, 2, 2, 1]?;
+    let cells = vec![in alloc; at(0, 2), at(2, 3)]?;
+    assert_eq!(rt; sizes(alloc, Rows, 4, NONE, &INNER_ROWS), Ok(heights));
+    assert_eq!(rt; witness(alloc, Rows, 4, NONE, &INNER_ROWS), Ok(Some(cells)));
+    Ok(())
+}
+
+#[test]
+fn crossing_row_spans(rt: HostRuntime) -> Result<(), Fail> {
+    let alloc = rt.alloc();
+    let rows = [
+        (0, 0, 2, 10, 0),
+        (0, 1, 1, 1, 0),
+        (1, 1, 2, 10, 0),
+        (2, 0, 1, 1, 0),
+    ];
+    let heights = vec![in alloc; 6, 7, 3]?;
+    assert_eq!(rt; sizes(alloc, Rows, 3, NONE, &rows), Ok(heights));
+    assert_eq!(rt; witness(alloc, Rows, 3, NONE, &rows), Ok(None));
     Ok(())
 }
 
 #[test]
 fn crossing_column_spans(rt: HostRuntime) -> Result<(), Fail> {
     let alloc = rt.alloc();
-    let columns = [
-        (0, 0, 2, 10, 0),
-        (0, 2, 1, 0, 0),
-        (1, 0, 1, 0, 0),
-        (1, 1, 2, 10, 0),
-    ];
     let widths = vec![in alloc; 5, 8, 2]?;
     assert_eq!(rt; sizes(alloc, Columns, 3, NONE, &CROSSING), Ok(widths));
     assert_eq!(rt; witness(alloc, Columns, 3, NONE, &CROSSING), Ok(None));
@@ -396,9 +434,9 @@ fn first_out_in_each_direction(rt: HostRuntime) -> Result<(), Fail> {
         &[(0, 0, 3, 1, 0), (0, 1, 1, 1, 0), (1, 1, 1, 1, 0)],
     )?;
     let out = Err(LayoutError::OutOfTable(at(1, 1)));
-    assert_eq!(rt; conclude(alloc, Columns, 2, &wide, &NONE), out);
+    assert_eq!(rt; conclude(alloc, 2, &wide, &NONE), out);
     let out = Err(LayoutError::OutOfTable(at(0, 0)));
-    assert_eq!(rt; conclude(alloc, Rows, 2, &high, &NONE), out);
+    assert_eq!(rt; conclude(alloc, 2, &high, &NONE), out);
     Ok(())
 }
 

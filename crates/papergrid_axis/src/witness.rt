@@ -3,52 +3,45 @@
 ghost use Rattle.std.specs.Prelude.{◌↔◌, ℕ, All, Bool, IfOk, IsTrue, List, Ok};
 ghost use Rattle.papergrid_axis.specs.declared.demand.Demand.{Demand};
 ghost use Rattle.papergrid_axis.specs.Answers.{IsWitness};
-ghost use Rattle.papergrid_axis.specs.LastCells.{IsOrdered, IsUnder};
+ghost use Rattle.papergrid_axis.specs.LastCells.{IsLaminar};
 ghost use Rattle.papergrid_axis.specs.Ranges.{IsInTable};
 ghost use Rattle.papergrid_axis.specs.Seen.{IsSeen};
 ghost use Rattle.papergrid_axis.specs.Settled.{AreSettled};
 
 use crate::chosen::chosen_places;
 use crate::demand::Demand;
-use crate::direction::Direction;
-use crate::last_cells::are_ordered;
+use crate::last_cells::are_laminar;
 use crate::seen::Seen;
 use crate::settled::Settled;
 use papergrid_values::Position;
 use std::alloc::{AllocError, Global};
 
-/// Whether each of the cells of a table of `count` columns (rows) may come before all later ones
-/// that its range meets.
-fn is_ordered(
-    alloc: Global,
-    direction: Direction,
-    count: usize,
-    cells: &[Demand],
-) -> Result<bool, AllocError>
+/// Whether the range of each of the cells of a table of `count` columns (rows) is part of those of
+/// all later cells that it meets.
+fn is_laminar(alloc: Global, count: usize, cells: &[Demand]) -> Result<bool, AllocError>
     requires { All (IsInTable count) cells.now }
-    ensures { IfOk result (λ yes. IsTrue yes ↔ IsOrdered (IsUnder direction) cells.now) }
+    ensures { IfOk result (λ yes. IsTrue yes ↔ IsLaminar cells.now) }
 {
     if cells.is_empty() {
         return Ok(true);
     }
     let mut last = vec![in alloc; None; count]?;
-    Ok(are_ordered(direction, &mut last, cells))
+    Ok(are_laminar(&mut last, cells))
 }
 
 /// The places of the cells that certify that the sizes of `count` columns (rows) are least, by the
-/// starts of their ranges; none where longer ranges are not kept apart.
+/// starts of their ranges; none where two longer ranges are neither nested nor disjoint.
 pub fn settled_witness(
     alloc: Global,
-    direction: Direction,
     count: usize,
     seen: &Seen,
     settled: &Settled,
 ) -> Result<Option<Vec<Position>>, AllocError>
-    requires { (line : ℕ → Bool) × (demands : List Demand) × IsSeen count seen.now demands × AreSettled direction line count demands settled.now }
-    ensures { (line : ℕ → Bool) (demands : List Demand) → IsSeen count seen.now demands → AreSettled direction line count demands settled.now →
-        IfOk result (λ found. IsWitness direction line count demands (Ok found)) }
+    requires { (line : ℕ → Bool) × (demands : List Demand) × IsSeen count seen.now demands × AreSettled line count demands settled.now }
+    ensures { (line : ℕ → Bool) (demands : List Demand) → IsSeen count seen.now demands → AreSettled line count demands settled.now →
+        IfOk result (λ found. IsWitness line count demands (Ok found)) }
 {
-    if !is_ordered(alloc, direction, count, &settled.cells)? {
+    if !is_laminar(alloc, count, &settled.cells)? {
         return Ok(None);
     }
     let places = chosen_places(alloc, &seen.singles, &settled.growers, &settled.sizes)?;

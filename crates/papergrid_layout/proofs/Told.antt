@@ -12,7 +12,7 @@ use Rattle.papergrid_axis.specs.Answers.{AreSizes, IsWitness}
 use Rattle.papergrid_axis.specs.Chosen.{chosen_of}
 use Rattle.papergrid_axis.specs.KeptApart.{is_kept_apart}
 use Rattle.papergrid_axis.specs.Ranges.{place_of}
-use Rattle.papergrid_axis.proofs.KeptApartLemmas.{Decides-is_kept_apart}
+use Rattle.papergrid_axis.proofs.KeptApartLemmas.{Decides-is_kept_apart, not_kept_apart}
 use Rattle.papergrid_walk.specs.Cells.{asked, asked_by, count_along, demands_of, placed_from, placed_row}
 use Rattle.papergrid_walk.specs.Looks.{Look}
 use Rattle.papergrid_walk.proofs.Steps.{asked_by-append}
@@ -21,14 +21,14 @@ use Rattle.papergrid_layout.specs.Laws.{witness_told}
 use Rattle.papergrid_layout.specs.Witnesses.{IsWitnessed}
 
 -- the places that a witness gives, by the test of ranges that are kept apart
-chosen-by_test : {Z : Type 0} (direction : Direction) (line : ℕ → Bool) (n : ℕ) (demands : List Demand) (found : Option (Vec Position Z)) → IsWitness direction line n demands (Ok found) →
-    option_map (λ places. places.items) found ≡ (if is_kept_apart direction demands then Some (map place_of (chosen_of direction line n demands)) else None)
-chosen-by_test direction line n demands None none = elim (cases_Bool (is_kept_apart direction demands)) [
-  | inl t ↦ absurd (none.not_kept_apart ((Decides-is_kept_apart direction demands).0 t))
+chosen-by_test : {Z : Type 0} (line : ℕ → Bool) (n : ℕ) (demands : List Demand) (found : Option (Vec Position Z)) → IsWitness line n demands (Ok found) →
+    option_map (λ places. places.items) found ≡ (if is_kept_apart demands then Some (map place_of (chosen_of line n demands)) else None)
+chosen-by_test line n demands None none = elim (cases_Bool (is_kept_apart demands)) [
+  | inl t ↦ absurd (not_kept_apart demands none.not_kept_apart ((Decides-is_kept_apart demands).0 t))
   | inr f ↦ rw f refl
 ]
-chosen-by_test direction line n demands (Some places) chosen =
-    let t : is_kept_apart direction demands ≡ true = (Decides-is_kept_apart direction demands).1 chosen.kept_apart in
+chosen-by_test line n demands (Some places) chosen =
+    let t : is_kept_apart demands ≡ true = (Decides-is_kept_apart demands).1 chosen.kept_apart in
     rw t (ap Some chosen.exact)
 
 module _ {A B : Type 0} (look : Look) (v : A → B) (f : B → ℕ × ℕ) where
@@ -59,8 +59,8 @@ module _ {A B : Type 0} (look : Look) (v : A → B) (f : B → ℕ × ℕ) where
 
     pub sizes_told : (direction : Direction) (columns : ℕ) (sizes : List ℕ) → AreSizesOf look (λ x. f (v x)) columns cells direction sizes → AreSizesOf look f columns rows direction sizes
     sizes_told direction columns sizes are =
-        subst (λ n. AreSizes direction (drawn_along direction look (count_along direction columns n)) (count_along direction columns n) (demands_of direction look f rows) sizes) as_many
-        (subst (λ ds. AreSizes direction (drawn_along direction look (count_along direction columns (length cells))) (count_along direction columns (length cells)) ds sizes) (demands_told direction) are)
+        subst (λ n. AreSizes (drawn_along direction look (count_along direction columns n)) (count_along direction columns n) (demands_of direction look f rows) sizes) as_many
+        (subst (λ ds. AreSizes (drawn_along direction look (count_along direction columns (length cells))) (count_along direction columns (length cells)) ds sizes) (demands_told direction) are)
 
     pub both_told : (columns : ℕ) (wide high : List ℕ) → AreBothSizes look (λ x. f (v x)) columns cells wide high → AreBothSizes look f columns rows wide high
     both_told columns wide high are = record { widths = sizes_told Columns columns wide are.widths; heights = sizes_told Rows columns high are.heights }
@@ -69,6 +69,6 @@ module _ {A B : Type 0} (look : Look) (v : A → B) (f : B → ℕ × ℕ) where
     pub witness_is_told : {Z : Type 0} (direction : Direction) (columns : ℕ) (found : Option (Vec Position Z)) → IsWitnessed look (λ x. f (v x)) columns cells direction (Ok found) →
         option_map (λ places. places.items) found ≡ witness_told direction look f (count_along direction columns (length rows)) rows
     witness_is_told direction columns found witnessed =
-        chosen-by_test direction (drawn_along direction look (count_along direction columns (length rows))) (count_along direction columns (length rows)) (demands_of direction look f rows) found
-        (subst (λ n. IsWitness direction (drawn_along direction look (count_along direction columns n)) (count_along direction columns n) (demands_of direction look f rows) (Ok found)) as_many
-        (subst (λ ds. IsWitness direction (drawn_along direction look (count_along direction columns (length cells))) (count_along direction columns (length cells)) ds (Ok found)) (demands_told direction) witnessed))
+        chosen-by_test (drawn_along direction look (count_along direction columns (length rows))) (count_along direction columns (length rows)) (demands_of direction look f rows) found
+        (subst (λ n. IsWitness (drawn_along direction look (count_along direction columns n)) (count_along direction columns n) (demands_of direction look f rows) (Ok found)) as_many
+        (subst (λ ds. IsWitness (drawn_along direction look (count_along direction columns (length cells))) (count_along direction columns (length cells)) ds (Ok found)) (demands_told direction) witnessed))

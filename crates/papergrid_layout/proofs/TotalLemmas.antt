@@ -4,7 +4,6 @@ use Rattle.std.specs.Prelude.{cond, sum, ◌<◌, ◌^◌}
 use Rattle.std.specs.List.{range_with_len}
 use Rattle.std.proofs.lemmas.Bool.{le-leb}
 use Rattle.papergrid_axis.specs.declared.demand.Demand.{Demand}
-use Rattle.papergrid_axis.specs.declared.direction.Direction.{Direction}
 use Rattle.papergrid_axis.specs.Answers.{AreSizes}
 use Rattle.papergrid_axis.specs.Ranges.{all_lines, lines_to}
 use Rattle.papergrid_config.specs.Lines.{count_lines}
@@ -22,9 +21,9 @@ pub all_lines-drawn : (f : ℕ → Bool) (n : ℕ) → all_lines (lines_to f n) 
 all_lines-drawn f n = counted f n 0 (n + 1) 0 (omega arith)
 
 -- the sizes with their lines fit
-pub total_fits : (direction : Direction) (draws : ℕ → Bool) (n : ℕ) (demands : List Demand) (sizes : List ℕ) (total lines : ℕ) → AreSizes direction (lines_to draws n) n demands sizes →
+pub total_fits : (draws : ℕ → Bool) (n : ℕ) (demands : List Demand) (sizes : List ℕ) (total lines : ℕ) → AreSizes (lines_to draws n) n demands sizes →
     total ≡ sum sizes → lines ≡ count_lines draws n → total + lines < 2 ^ 64
-total_fits direction draws n demands sizes total lines exact t l =
+total_fits draws n demands sizes total lines exact t l =
     let fits = exact.total in
     let drawn = all_lines-drawn draws n in
     omega (arith, t, l, drawn, fits)

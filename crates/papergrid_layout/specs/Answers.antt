@@ -34,17 +34,17 @@ module _ {C : Type 0} (look : Look) (measure : C → ℕ × ℕ) (columns : ℕ)
   -- exactly the sizes along a direction, and what holds of them
   abbrev pub AreSizesOf : Direction → List ℕ → Type 0
   AreSizesOf direction sizes =
-      AreSizes direction (drawn_along direction look (count_of direction)) (count_of direction) (demands_of direction look measure cells) sizes
+      AreSizes (drawn_along direction look (count_of direction)) (count_of direction) (demands_of direction look measure cells) sizes
 
   -- why there are none
   abbrev pub IsRefusedFor : Direction → LayoutError → Type 0
   IsRefusedFor direction e =
-      IsRefused direction (drawn_along direction look (count_of direction)) (count_of direction) (demands_of direction look measure cells) e
+      IsRefused (drawn_along direction look (count_of direction)) (count_of direction) (demands_of direction look measure cells) e
 
   -- too large along a direction
   abbrev pub IsTooLargeFor : Direction → Type 0
   IsTooLargeFor direction =
-      NoneHolds direction (drawn_along direction look (count_of direction)) (count_of direction) (demands_of direction look measure cells)
+      NoneHolds (drawn_along direction look (count_of direction)) (count_of direction) (demands_of direction look measure cells)
 
   -- the sizes along a direction, or why there are none
   abbrev pub IsSized : {Z : Type 0} → Direction → Result (Vec ℕ Z) LayoutError → Type 0

@@ -36,13 +36,13 @@ IsCellAt rows p cell = (p.row < length rows) × HasCell (slice_index_or rows p.r
 -- the sizes along a direction, of so many columns (rows), that told rows have
 abbrev pub sizes_told : {C : Type 0} → Direction → Look → (C → ℕ × ℕ) → ℕ → List (List C) → List ℕ
 sizes_told direction look measure n rows =
-    sizes_of direction (drawn_along direction look n) n (demands_of direction look measure rows)
+    sizes_of (drawn_along direction look n) n (demands_of direction look measure rows)
 
 -- the places of the cells that certify these sizes, none where longer ranges are not kept apart
 abbrev pub witness_told : {C : Type 0} → Direction → Look → (C → ℕ × ℕ) → ℕ → List (List C) → Option (List Position)
 witness_told direction look measure n rows =
-    if is_kept_apart direction (demands_of direction look measure rows)
-    then Some (map place_of (chosen_of direction (drawn_along direction look n) n (demands_of direction look measure rows)))
+    if is_kept_apart (demands_of direction look measure rows)
+    then Some (map place_of (chosen_of (drawn_along direction look n) n (demands_of direction look measure rows)))
     else None
 
 -- the same spans, paddings and lines

@@ -22,7 +22,7 @@ module _ {C : Type 0} (look : Look) (measure : C → ℕ × ℕ) (columns : ℕ)
 
   -- the places of the chosen cells, none where ranges are not kept apart, or why there are no sizes
   abbrev pub IsWitnessed : {Z : Type 0} → Result (Option (Vec Position Z)) LayoutError → Type 0
-  IsWitnessed result = IsWitness direction (drawn_along direction look count) count (demands_of direction look measure cells) result
+  IsWitnessed result = IsWitness (drawn_along direction look count) count (demands_of direction look measure cells) result
 
   -- whether these sizes, with these places of cells that certify them, are accepted; those that are, are least
   pub record IsChecked (sizes : List ℕ) (places : List Position) (answer : Bool) : Type 0 where

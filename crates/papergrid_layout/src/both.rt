@@ -74,9 +74,9 @@ pub fn conclude_both<M: Measure<C>, C, S: Settings>(
         direction: Direction::Rows,
         count: rows,
     };
-    match conclude(alloc, Direction::Columns, columns, &both.columns, &across) {
+    match conclude(alloc, columns, &both.columns, &across) {
         Err(no_widths) => Err(no_widths),
-        Ok(widths) => match conclude(alloc, Direction::Rows, rows, &both.rows, &down) {
+        Ok(widths) => match conclude(alloc, rows, &both.rows, &down) {
             Err(no_heights) => Err(no_heights),
             Ok(heights) => Ok((widths, heights)),
         },

@@ -38,8 +38,8 @@ where
     witness::<ByLines, R, SpannedConfig>(alloc, records, config, Direction::Columns)
 }
 
-/// The positions of the cells that certify that the heights of the records' rows are least. None
-/// where two longer row ranges are neither equal nor disjoint.
+/// The positions of the cells that certify that the heights of the records' rows are least, as
+/// `width_witness` for columns. None where two longer row ranges are neither nested nor disjoint.
 ///
 /// # Errors
 ///

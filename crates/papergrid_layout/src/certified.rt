@@ -20,8 +20,8 @@ use std::alloc::Global;
 use std::convert::AsStr;
 
 /// The width of each column, in columns of a terminal, and the height of each row, in lines; and for
-/// each direction the positions of the cells that certify that its total is least, none where longer
-/// ranges are not kept apart.
+/// each direction the positions of the cells that certify that its total is least, none where two
+/// longer ranges are neither nested nor disjoint.
 #[derive(Debug, Drop)]
 pub struct Certified {
     pub widths: Vec<usize>,
@@ -80,10 +80,10 @@ fn certify<M: Measure<C>, C, S: Settings>(
         direction: Direction::Rows,
         count: rows,
     };
-    match conclude_certified(alloc, Direction::Columns, columns, &both.columns, &across) {
+    match conclude_certified(alloc, columns, &both.columns, &across) {
         Err(no_widths) => Err(no_widths),
         Ok((widths, width_witness)) => {
-            match conclude_certified(alloc, Direction::Rows, rows, &both.rows, &down) {
+            match conclude_certified(alloc, rows, &both.rows, &down) {
                 Err(no_heights) => Err(no_heights),
                 Ok((heights, height_witness)) => Ok(Certified {
                     widths,

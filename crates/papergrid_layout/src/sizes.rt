@@ -70,5 +70,5 @@ where
         direction,
         count,
     };
-    conclude(alloc, direction, count, &seen, &axis)
+    conclude(alloc, count, &seen, &axis)
 }

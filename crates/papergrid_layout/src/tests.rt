@@ -105,6 +105,29 @@ const NESTED_ROWS: Table = Table {
     has_lines: false,
 };
 
+const INNER_ROWS: Table = Table {
+    columns: 4,
+    rows: &[
+        &["", "", "", ""],
+        &["", "", "", ""],
+        &["", "", "", ""],
+        &["", "", "", ""],
+    ],
+    column_spans: &[],
+    row_spans: &[(0, 1, 4), (0, 2, 2), (2, 3, 2)],
+    paddings: &[(0, 1, 0, 0, 6, 0), (0, 2, 0, 0, 4, 0), (2, 3, 0, 0, 2, 0)],
+    has_lines: false,
+};
+
+const CROSSING_ROWS: Table = Table {
+    columns: 2,
+    rows: &[&["", ""], &["", ""], &["", ""]],
+    column_spans: &[],
+    row_spans: &[(0, 0, 2), (1, 1, 2)],
+    paddings: &[(0, 0, 0, 0, 9, 0), (1, 1, 0, 0, 9, 0)],
+    has_lines: false,
+};
+
 const CROSSING: Table = Table {
     columns: 3,
     rows: &[&["0123456789"], &["", "0123456789"]],
@@ -346,7 +369,17 @@ fn nested_column_spans(rt: HostRuntime) {
 
 #[test]
 fn nested_row_spans(rt: HostRuntime) {
-    assert!(rt; has_sizes(rt.alloc(), NESTED_ROWS, &[1, 1, 1], &[4, 4, 4], (3, 12)));
+    assert!(rt; has_sizes(rt.alloc(), NESTED_ROWS, &[1, 1, 1], &[2, 4, 4], (3, 10)));
+}
+
+#[test]
+fn row_spans_within_row_span(rt: HostRuntime) {
+    assert!(rt; has_sizes(rt.alloc(), INNER_ROWS, &[0, 0, 0, 0], &[3, 2, 2, 1], (0, 8)));
+}
+
+#[test]
+fn crossing_row_spans(rt: HostRuntime) {
+    assert!(rt; has_sizes(rt.alloc(), CROSSING_ROWS, &[0, 0], &[6, 7, 3], (0, 16)));
 }
 
 #[test]

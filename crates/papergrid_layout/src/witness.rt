@@ -13,7 +13,7 @@ use papergrid_walk::{Measure, Settings, gather};
 use std::alloc::Global;
 
 /// The positions of the cells that certify that the sizes of the records along a direction are
-/// least, by the starts of their ranges; none where longer ranges are not kept apart.
+/// least, by the starts of their ranges; none where two longer ranges are neither nested nor disjoint.
 ///
 /// # Errors
 ///
@@ -41,7 +41,7 @@ where
         direction,
         count,
     };
-    match conclude_certified(alloc, direction, count, &seen, &axis) {
+    match conclude_certified(alloc, count, &seen, &axis) {
         Ok((_, found)) => Ok(found),
         Err(refused) => Err(refused),
     }

@@ -139,7 +139,7 @@ fn lines_alone_satisfy(rt: HostRuntime) -> Result<(), Fail> {
         &rt,
         rt.alloc(),
         b"columns 3\nborder +\nrowspan 0,0 3\nrowspan 0,1 2\nrowspan 0,2 2\nrow\ncell 0-0\ncell 0-1\ncell 0-2\nrow\ncell 1-0\ncell 1-1\ncell 1-2\nrow\ncell 2-0\ncell 2-1\ncell 2-2\n",
-        "widths 3 3 3\nheights 0 0 1\ntotal 13 5\nwitness widths 0,0 0,1 0,2\nwitness heights none\n",
+        "widths 3 3 3\nheights 0 0 1\ntotal 13 5\nwitness widths 0,0 0,1 0,2\nwitness heights 2,1\n",
         RunEnd::Done,
     )
 }
@@ -161,7 +161,29 @@ fn nested_row_spans(rt: HostRuntime) -> Result<(), Fail> {
         &rt,
         rt.alloc(),
         b"columns 3\nrowspan 0,1 3\nrowspan 1,2 2\npad 0,1 0 0 9 0\npad 1,2 0 0 7 0\nrow\ncell a\ncell a\ncell a\nrow\ncell a\ncell a\ncell a\nrow\ncell a\ncell a\ncell a\n",
-        "widths 1 1 1\nheights 4 4 4\ntotal 3 12\nwitness widths 0,0 0,1 0,2\nwitness heights none\n",
+        "widths 1 1 1\nheights 2 4 4\ntotal 3 10\nwitness widths 0,0 0,1 0,2\nwitness heights 0,1\n",
+        RunEnd::Done,
+    )
+}
+
+#[test]
+fn row_spans_within_row_span(rt: HostRuntime) -> Result<(), Fail> {
+    check(
+        &rt,
+        rt.alloc(),
+        b"columns 4\nrowspan 0,1 4\nrowspan 0,2 2\nrowspan 2,3 2\npad 0,1 0 0 6 0\npad 0,2 0 0 4 0\npad 2,3 0 0 2 0\nrow\ncell\ncell\ncell\ncell\nrow\ncell\ncell\ncell\ncell\nrow\ncell\ncell\ncell\ncell\nrow\ncell\ncell\ncell\ncell\n",
+        "widths 0 0 0 0\nheights 3 2 2 1\ntotal 0 8\nwitness widths\nwitness heights 0,2 2,3\n",
+        RunEnd::Done,
+    )
+}
+
+#[test]
+fn crossing_row_spans(rt: HostRuntime) -> Result<(), Fail> {
+    check(
+        &rt,
+        rt.alloc(),
+        b"columns 2\nrowspan 0,0 2\nrowspan 1,1 2\npad 0,0 0 0 9 0\npad 1,1 0 0 9 0\nrow\ncell\ncell\nrow\ncell\ncell\nrow\ncell\ncell\n",
+        "widths 0 0\nheights 6 7 3\ntotal 0 16\nwitness widths\nwitness heights none\n",
         RunEnd::Done,
     )
 }

@@ -3,7 +3,8 @@
 use crate::LayoutError;
 use crate::iterable::{check_height_witness, check_width_witness, height_witness, width_witness};
 use crate::tests::{
-    CROSSING, EVEN, LINES_ALONE, NESTED_COLUMNS, PICTURE, REMAINDER, SMALL, Table, plain, set_all,
+    CROSSING, CROSSING_ROWS, EVEN, INNER_ROWS, LINES_ALONE, NESTED_COLUMNS, NESTED_ROWS, PICTURE,
+    REMAINDER, SMALL, Table, plain, set_all,
 };
 use papergrid_config::SpannedConfig;
 use papergrid_values::Position;
@@ -207,7 +208,7 @@ fn remainder_to_first(rt: HostRuntime) {
 #[test]
 fn lines_alone_satisfy(rt: HostRuntime) {
     let widths = [at(0, 0), at(0, 1), at(0, 2)];
-    assert!(rt; has_witnesses(rt.alloc(), LINES_ALONE, Some(&widths), None));
+    assert!(rt; has_witnesses(rt.alloc(), LINES_ALONE, Some(&widths), Some(&[at(2, 1)])));
 }
 
 #[test]
@@ -221,6 +222,23 @@ fn nested_column_spans(rt: HostRuntime) {
             Some(&heights)
         )
     );
+}
+
+#[test]
+fn nested_row_spans(rt: HostRuntime) {
+    let widths = [at(0, 0), at(0, 1), at(0, 2)];
+    assert!(rt; has_witnesses(rt.alloc(), NESTED_ROWS, Some(&widths), Some(&[at(0, 1)])));
+}
+
+#[test]
+fn row_spans_within_row_span(rt: HostRuntime) {
+    let heights = [at(0, 2), at(2, 3)];
+    assert!(rt; has_witnesses(rt.alloc(), INNER_ROWS, Some(&[]), Some(&heights)));
+}
+
+#[test]
+fn crossing_row_spans(rt: HostRuntime) {
+    assert!(rt; has_witnesses(rt.alloc(), CROSSING_ROWS, Some(&[]), None));
 }
 
 #[test]

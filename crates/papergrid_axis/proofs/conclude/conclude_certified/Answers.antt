@@ -8,6 +8,6 @@ settled_witness-requires g c = (lines_to (g.A.Axis.line c.args.axis.now) c.args.
 pub returns-in-Ok-settled_witness : goal.returns-in-Ok-settled_witness
 returns-in-Ok-settled_witness g c = λ demands seen.
     let settled = c.in-Ok.ensures demands seen in (
-      AreSizes-sizes_of c.args.direction (lines_to (g.A.Axis.line c.args.axis.now) c.args.count) c.args.count demands settled.table c.in-Ok.settled.sizes.items settled.sizes settled.total,
+      AreSizes-sizes_of (lines_to (g.A.Axis.line c.args.axis.now) c.args.count) c.args.count demands settled.table c.in-Ok.settled.sizes.items settled.sizes settled.total,
       c.in-Ok-settled_witness.ensures (lines_to (g.A.Axis.line c.args.axis.now) c.args.count) demands seen settled,
     )

@@ -5,4 +5,4 @@ use Rattle.papergrid_axis.proofs.conclude.settle.Goals as goal
 
 pub returns : goal.returns
 returns g c = λ demands seen.
-    subst (λ line. IsSettled c.args.direction line c.args.count demands c.finish.result) (ap line_at c.deref.ensures.value ∙ c.in_ok-lines.ensures.drawn) (c.finish.ensures demands seen)
+    subst (λ line. IsSettled line c.args.count demands c.finish.result) (ap line_at c.deref.ensures.value ∙ c.in_ok-lines.ensures.drawn) (c.finish.ensures demands seen)

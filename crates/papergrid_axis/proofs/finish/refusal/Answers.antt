@@ -4,10 +4,10 @@ use Rattle.papergrid_axis.proofs.OutLemmas.{out_seen, NoneHolds-large}
 use Rattle.papergrid_axis.proofs.finish.refusal.Goals as goal
 
 pub returns-in-Some-clause-refused : goal.returns-in-Some-clause-refused
-returns-in-Some-clause-refused c = λ direction line demands seen.
+returns-in-Some-clause-refused c = λ line demands seen.
     out_seen c.args.count c.args.seen.now demands seen ∙ ap (first_out c.args.count) (sym c.deref.ensures.value) ∙ sym c.find_out.ensures ∙ c.in-Some.is
 
 pub returns-then-seen-clause-refused : goal.returns-then-seen-clause-refused
-returns-then-seen-clause-refused c = λ direction line demands seen.
-    NoneHolds-large c.args.count c.args.seen.now demands seen direction line
+returns-then-seen-clause-refused c = λ line demands seen.
+    NoneHolds-large c.args.count c.args.seen.now demands seen line
     (ap (first_out c.args.count) (sym c.deref.ensures.value) ∙ sym c.find_out.ensures ∙ c.in_default.is) c.if-seen.true

@@ -3,8 +3,8 @@ use Rattle.std.proofs.lemmas.Bool.{false≢true}
 use Rattle.papergrid_axis.proofs.Upto.{holds-inside}
 use Rattle.papergrid_axis.proofs.last_cells.covers_all.Goals as goal
 
-pub returns-then-not-is_under : goal.returns-then-not-is_under
-returns-then-not-is_under c = (
+pub returns-then-not-lies_in : goal.returns-then-not-lies_in
+returns-then-not-lies_in c = (
   (λ t. absurd (false≢true t)),
-  λ all. c.if-not-is_under.ensures.1 (all c.loop-i.i c.in-Some.other (holds-inside c.args.demand c.loop-i.i (omega arith) (omega arith)) c.in-Some.is),
+  λ all. c.if-not-lies_in.ensures.1 (all c.loop-i.i c.in-Some.other (holds-inside c.args.demand c.loop-i.i (omega arith) (omega arith)) c.in-Some.is),
 )

@@ -24,9 +24,9 @@ grow_all-requires-clause-cells c =
     let table = table_demands c.args.count c.args.seen.now demands seen c.requires.inside in
     let zeros : length c.args.zeros.items ≡ c.args.count = ap length c.requires.zeros ∙ length-replicate c.args.count 0 in
     let many : length c.deref_mut-2.result.now ≡ c.args.count = omega (arith, zeros, c.deref_mut.ensures.len, c.write_base.ensures.length, c.deref_mut-2.ensures.len) in
-    let cells : c.deref-3.result.now ≡ taken c.args.direction c.args.count demands =
-    c.deref-3.ensures.value ∙ c.in_ok-cells.ensures ∙ ap (taken c.args.direction c.args.count) c.deref-2.ensures.value ∙ taken-seen c.args.count c.args.seen.now demands seen c.requires.small c.args.direction in
-    rw (many, cells) (table-taken c.args.direction (line_at c.args.lines.now) c.args.count demands table)
+    let cells : c.deref-3.result.now ≡ taken c.args.count demands =
+    c.deref-3.ensures.value ∙ c.in_ok-cells.ensures ∙ ap (taken c.args.count) c.deref-2.ensures.value ∙ taken-seen c.args.count c.args.seen.now demands seen c.requires.small in
+    rw (many, cells) (table-taken (line_at c.args.lines.now) c.args.count demands table)
 
 pub returns-in-None : goal.returns-in-None
 returns-in-None c = λ demands seen.
@@ -36,10 +36,10 @@ returns-in-None c = λ demands seen.
     let base : c.deref_mut-2.result.now ≡ base_sizes c.args.count demands =
     c.deref_mut-2.ensures.value ∙ with_items_is c.args.zeros c.write_base.new.sizes (omega arith)
     ∙ base-seen c.args.count c.args.seen.now demands seen c.requires.small c.write_base.new.sizes written (λ k l. c.write_base.ensures.base k l ∙ ap (λ ds. (get_or ds k no_demand).need) c.deref.ensures.value) in
-    let cells : c.deref-3.result.now ≡ taken c.args.direction c.args.count demands =
-    c.deref-3.ensures.value ∙ c.in_ok-cells.ensures ∙ ap (taken c.args.direction c.args.count) c.deref-2.ensures.value ∙ taken-seen c.args.count c.args.seen.now demands seen c.requires.small c.args.direction in
+    let cells : c.deref-3.result.now ≡ taken c.args.count demands =
+    c.deref-3.ensures.value ∙ c.in_ok-cells.ensures ∙ ap (taken c.args.count) c.deref-2.ensures.value ∙ taken-seen c.args.count c.args.seen.now demands seen c.requires.small in
     let large = rw (base, cells, length-base_sizes c.args.count demands) at (rw c.in-None.is at c.in_ok-grow_all.ensures.too_large) in
-    NoneHolds-sizes_of c.args.direction (line_at c.args.lines.now) c.args.count demands table (λ small. omega (arith, large, small))
+    NoneHolds-sizes_of (line_at c.args.lines.now) c.args.count demands table (λ small. omega (arith, large, small))
 
 pub returns-in-Some : goal.returns-in-Some
 returns-in-Some c = λ demands seen.
@@ -49,9 +49,9 @@ returns-in-Some c = λ demands seen.
     let base : c.deref_mut-2.result.now ≡ base_sizes c.args.count demands =
     c.deref_mut-2.ensures.value ∙ with_items_is c.args.zeros c.write_base.new.sizes (omega arith)
     ∙ base-seen c.args.count c.args.seen.now demands seen c.requires.small c.write_base.new.sizes written (λ k l. c.write_base.ensures.base k l ∙ ap (λ ds. (get_or ds k no_demand).need) c.deref.ensures.value) in
-    let taken_are : c.in_ok-cells.cells.items ≡ taken c.args.direction c.args.count demands =
-    c.in_ok-cells.ensures ∙ ap (taken c.args.direction c.args.count) c.deref-2.ensures.value ∙ taken-seen c.args.count c.args.seen.now demands seen c.requires.small c.args.direction in
-    let cells : c.deref-3.result.now ≡ taken c.args.direction c.args.count demands = c.deref-3.ensures.value ∙ taken_are in
+    let taken_are : c.in_ok-cells.cells.items ≡ taken c.args.count demands =
+    c.in_ok-cells.ensures ∙ ap (taken c.args.count) c.deref-2.ensures.value ∙ taken-seen c.args.count c.args.seen.now demands seen c.requires.small in
+    let cells : c.deref-3.result.now ≡ taken c.args.count demands = c.deref-3.ensures.value ∙ taken_are in
     let line = line_at c.args.lines.now in
     record {
       table = table;

@@ -23,7 +23,7 @@ returns-in-Err-conclude g c = λ cells many seen.
     let demands = demands_of Rows look g.M.Measure.measured cells in
     let none = none_out look g.M.Measure.measured c.args.columns cells c.args.both.now seen c.args.rows many (sym c.find_out_of_both.ensures ∙ c.in_default.is) in
     refused_rows look g.M.Measure.measured c.args.columns cells none.0 none.2 c.in-Err-conclude.no_heights
-    (subst (λ n. IsRefused Rows (drawn_along Rows look n) n demands c.in-Err-conclude.no_heights) many
+    (subst (λ n. IsRefused (drawn_along Rows look n) n demands c.in-Err-conclude.no_heights) many
     (c.in-Err-conclude.ensures demands (seen_high look g.M.Measure.measured c.args.columns cells c.args.both.now seen c.args.rows many)))
 
 pub returns-in-Ok-conclude : goal.returns-in-Ok-conclude
@@ -34,5 +34,5 @@ returns-in-Ok-conclude g c = λ cells many seen.
     let wide = c.in-Ok.ensures (demands_of Columns look g.M.Measure.measured cells) seen.wide in
     record {
       widths = wide;
-      heights = subst (λ n. AreSizes Rows (drawn_along Rows look n) n demands c.in-Ok-conclude.heights.items) many high;
+      heights = subst (λ n. AreSizes (drawn_along Rows look n) n demands c.in-Ok-conclude.heights.items) many high;
     }

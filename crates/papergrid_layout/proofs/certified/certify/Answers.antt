@@ -24,7 +24,7 @@ returns-in-Err-conclude_certified g c = λ cells many seen.
     let demands = demands_of Rows look g.M.Measure.measured cells in
     let none = none_out look g.M.Measure.measured c.args.columns cells c.args.both.now seen c.args.rows many (sym c.find_out_of_both.ensures ∙ c.in_default.is) in
     refused_rows look g.M.Measure.measured c.args.columns cells none.0 none.2 c.in-Err-conclude_certified.no_heights
-    (subst (λ n. IsRefused Rows (drawn_along Rows look n) n demands c.in-Err-conclude_certified.no_heights) many
+    (subst (λ n. IsRefused (drawn_along Rows look n) n demands c.in-Err-conclude_certified.no_heights) many
     (c.in-Err-conclude_certified.ensures demands (seen_high look g.M.Measure.measured c.args.columns cells c.args.both.now seen c.args.rows many)))
 
 pub returns-in-Ok-conclude_certified : goal.returns-in-Ok-conclude_certified
@@ -36,8 +36,8 @@ returns-in-Ok-conclude_certified g c = λ cells many seen.
     record {
       sizes = record {
         widths = wide.0;
-        heights = subst (λ n. AreSizes Rows (drawn_along Rows look n) n demands c.in-Ok-conclude_certified.heights.items) many high.0;
+        heights = subst (λ n. AreSizes (drawn_along Rows look n) n demands c.in-Ok-conclude_certified.heights.items) many high.0;
       };
       widths = wide.1;
-      heights = subst (λ n. IsWitness Rows (drawn_along Rows look n) n demands {Z = Global} (Ok c.in-Ok-conclude_certified.height_witness)) many high.1;
+      heights = subst (λ n. IsWitness (drawn_along Rows look n) n demands {Z = Global} (Ok c.in-Ok-conclude_certified.height_witness)) many high.1;
     }

@@ -14,7 +14,7 @@ returns-in-Ok g c =
     let found = c.in_ok-seen.ensures in
     let demands = demands_of direction look g.M.Measure.measured found.0 in
     let same = c.count_of-count.ensures ∙ (λ k. count_along direction (c.count_columns-columns.ensures k) (found.3 k)) in
-    (found.0, found.1, subst (λ n. IsWitness direction (drawn_along direction look n) n demands {Z = Global} (Ok c.in-Ok.found)) same (c.in-Ok.ensures demands (subst (λ n. IsSeen n c.in_ok-seen.seen demands) (sym same) found.2)).1)
+    (found.0, found.1, subst (λ n. IsWitness (drawn_along direction look n) n demands {Z = Global} (Ok c.in-Ok.found)) same (c.in-Ok.ensures demands (subst (λ n. IsSeen n c.in_ok-seen.seen demands) (sym same) found.2)).1)
 
 pub returns : goal.returns
 returns g c =
@@ -24,4 +24,4 @@ returns g c =
     let demands = demands_of direction look g.M.Measure.measured found.0 in
     let same = c.count_of-count.ensures ∙ (λ k. count_along direction (c.count_columns-columns.ensures k) (found.3 k)) in
     unless_want c.in-Err.refused _
-    (found.0, found.1, subst (λ n. IsRefused direction (drawn_along direction look n) n demands c.in-Err.refused) same (c.in-Err.ensures demands (subst (λ n. IsSeen n c.in_ok-seen.seen demands) (sym same) found.2)))
+    (found.0, found.1, subst (λ n. IsRefused (drawn_along direction look n) n demands c.in-Err.refused) same (c.in-Err.ensures demands (subst (λ n. IsSeen n c.in_ok-seen.seen demands) (sym same) found.2)))

@@ -13,7 +13,7 @@ overflow_add-result g c =
     let told = c.in-Ok.ensures in
     let many = c.len.ensures ∙ sym c.deref.ensures.len ∙ ap length c.deref.ensures.value ∙ told.2.fits.one_each in
     let lines = c.count_horizontal.ensures ∙ (λ k. count_lines (line_along c.args.config.now.characters Rows (many k)) (many k)) in
-    let below = total_fits Rows (line_along c.args.config.now.characters Rows (length c.in-Ok.ensures.0)) (length c.in-Ok.ensures.0) (demands_of Rows (spanned_look c.args.config.now) (line_measure g.R.Iter.Cell.AsStr.text) told.0) c.in-Ok.heights.items
+    let below = total_fits (line_along c.args.config.now.characters Rows (length c.in-Ok.ensures.0)) (length c.in-Ok.ensures.0) (demands_of Rows (spanned_look c.args.config.now) (line_measure g.R.Iter.Cell.AsStr.text) told.0) c.in-Ok.heights.items
     c.sum_of.result c.count_horizontal.result told.2 (c.sum_of.ensures ∙ ap sum c.deref.ensures.value) lines in
     omega (arith, below)
 

@@ -13,7 +13,7 @@ overflow_add-result g c =
     let told = c.in-Ok.ensures in
     let many = c.len.ensures ∙ sym c.deref.ensures.len ∙ ap length c.deref.ensures.value ∙ told.2.fits.one_each in
     let lines = c.count_vertical.ensures ∙ (λ k. count_lines (line_along c.args.config.now.characters Columns (many k)) (many k)) in
-    let below = total_fits Columns (line_along c.args.config.now.characters Columns (g.R.Records.columns c.args.records)) (g.R.Records.columns c.args.records) (demands_of Columns (spanned_look c.args.config.now) (line_measure g.R.Iter.Cell.AsStr.text) told.0) c.in-Ok.widths.items
+    let below = total_fits (line_along c.args.config.now.characters Columns (g.R.Records.columns c.args.records)) (g.R.Records.columns c.args.records) (demands_of Columns (spanned_look c.args.config.now) (line_measure g.R.Iter.Cell.AsStr.text) told.0) c.in-Ok.widths.items
     c.sum_of.result c.count_vertical.result told.2 (c.sum_of.ensures ∙ ap sum c.deref.ensures.value) lines in
     omega (arith, below)
 

@@ -4,16 +4,16 @@ use Rattle.std.proofs.lemmas.Bool.{false≢true}
 use Rattle.std.proofs.lemmas.List.Elements.{recursion_from_All, All-take}
 use Rattle.papergrid_axis.specs.declared.demand.Demand.{Demand}
 use Rattle.papergrid_axis.specs.Ranges.{IsInTable}
-use Rattle.papergrid_axis.specs.LastCells.{IsOrdered, IsUnder}
-use Rattle.papergrid_axis.proofs.LastLoops.{IsTableOf, table-cells, IsTableOf-more, under-from_ordered}
-use Rattle.papergrid_axis.proofs.last_cells.are_ordered.Goals as goal
+use Rattle.papergrid_axis.specs.LastCells.{IsLaminar}
+use Rattle.papergrid_axis.proofs.LastLoops.{IsTableOf, table-cells, IsTableOf-more, under-from_laminar}
+use Rattle.papergrid_axis.proofs.last_cells.are_laminar.Goals as goal
 
 abbrev no_demand : Demand
 no_demand = record { row = 0; col = 0; start = 0; span = 0; need = 0 }
 
 pub covers_all-requires-clause-others : goal.covers_all-requires-clause-others
 covers_all-requires-clause-others c =
-    table-cells c.args.direction (length c.args.last.now) (take c.loop-demand.demand-index c.args.cells.now) c.loop-demand.last
+    table-cells (length c.args.last.now) (take c.loop-demand.demand-index c.args.cells.now) c.loop-demand.last
     (recursion_from_All (IsInTable (length c.args.last.now)) (take c.loop-demand.demand-index c.args.cells.now) (All-take (IsInTable (length c.args.last.now)) c.loop-demand.demand-index c.args.cells.now c.requires.table))
     c.loop-demand.invariant
 
@@ -23,18 +23,18 @@ returns-then-not-covers_all c =
     sym (take-append-drop c.loop-demand.demand-index c.args.cells.now)
     ∙ ap (λ xs. take c.loop-demand.demand-index c.args.cells.now ++ xs) (drop_more c.args.cells.now c.loop-demand.demand-index no_demand c.loop-demand-test.true) in (
       (λ t. absurd (false≢true t)),
-      λ ordered. c.if-not-covers_all.ensures.1
-          (under-from_ordered c.args.direction (length c.args.last.now) (take c.loop-demand.demand-index c.args.cells.now) c.loop-demand.last
+      λ laminar. c.if-not-covers_all.ensures.1
+          (under-from_laminar (length c.args.last.now) (take c.loop-demand.demand-index c.args.cells.now) c.loop-demand.last
           (recursion_from_All (IsInTable (length c.args.last.now)) (take c.loop-demand.demand-index c.args.cells.now) (All-take (IsInTable (length c.args.last.now)) c.loop-demand.demand-index c.args.cells.now c.requires.table))
           c.loop-demand.invariant (get_or c.args.cells.now c.loop-demand.demand-index no_demand) (drop (c.loop-demand.demand-index + 1) c.args.cells.now)
           (c.requires.table c.loop-demand.demand-index no_demand c.loop-demand-test.true)
-          (subst (IsOrdered (IsUnder c.args.direction)) split ordered)),
+          (subst (IsLaminar) split laminar)),
     )
 
 pub loop-demand-preserved : goal.loop-demand-preserved
 loop-demand-preserved c =
-    let more : IsTableOf c.args.direction (length c.args.last.now) (take c.loop-demand.demand-index c.args.cells.now ++ get_or c.args.cells.now c.loop-demand.demand-index no_demand ∷ []) c.write_over.new.last =
-    IsTableOf-more c.args.direction (length c.args.last.now) (take c.loop-demand.demand-index c.args.cells.now) c.loop-demand.last
+    let more : IsTableOf (length c.args.last.now) (take c.loop-demand.demand-index c.args.cells.now ++ get_or c.args.cells.now c.loop-demand.demand-index no_demand ∷ []) c.write_over.new.last =
+    IsTableOf-more (length c.args.last.now) (take c.loop-demand.demand-index c.args.cells.now) c.loop-demand.last
     (recursion_from_All (IsInTable (length c.args.last.now)) (take c.loop-demand.demand-index c.args.cells.now) (All-take (IsInTable (length c.args.last.now)) c.loop-demand.demand-index c.args.cells.now c.requires.table))
     c.loop-demand.invariant (get_or c.args.cells.now c.loop-demand.demand-index no_demand) c.write_over.new.last
     (c.requires.table c.loop-demand.demand-index no_demand c.loop-demand-test.true)
