@@ -8,8 +8,9 @@ ghost use Rattle.papergrid.specs.Texts.{IsFirstEscape, unescaped};
 use crate::cut::split_at_byte;
 use crate::number::number;
 use crate::script::Script;
-use crate::setting_line::line_setting;
+use crate::setting_line::{line_setting, padding, placed_span};
 use crate::unescape::unescaped;
+use papergrid_config::Setting;
 use std::alloc::{AllocError, Global};
 use std::borrow::CowStr;
 
@@ -91,15 +92,35 @@ fn take_cell<'a>(
 }
 
 /// Takes the setting of a keyword, and of what stands after it and a space; false where there is none.
-/// A setting is large, so it has no place in what lines of other kinds go through.
+/// A setting is large, so it has no place in what lines of other kinds go through, and where a script may
+/// have many of a kind it is made where it is kept.
+#[tactic(auto, unfolding(crate::specs::Grammar::setting_of))]
 fn take_setting(script: &mut Script<'_>, keyword: &str, rest: &str) -> Result<bool, AllocError>
     ensures { IfOk result (λ fits. Takes (table_seen script.old) (option_map Set (setting_of keyword.now rest.now)) fits (table_seen script.new)) }
 {
-    match line_setting(keyword, rest) {
-        Some(setting) => {
-            script.settings.push(setting)?;
-            Ok(true)
+    match keyword {
+        "pad" => {
+            let Some((entity, sides)) = padding(rest) else {
+                return Ok(false);
+            };
+            script.settings.push(Setting::SetPadding(entity, sides))?;
         }
-        None => Ok(false),
+        "colspan" => {
+            let Some((place, count)) = placed_span(rest) else {
+                return Ok(false);
+            };
+            script.settings.push(Setting::SetColumnSpan(place, count))?;
+        }
+        "rowspan" => {
+            let Some((place, count)) = placed_span(rest) else {
+                return Ok(false);
+            };
+            script.settings.push(Setting::SetRowSpan(place, count))?;
+        }
+        _ => match line_setting(keyword, rest) {
+            Some(setting) => script.settings.push(setting)?,
+            None => return Ok(false),
+        },
     }
+    Ok(true)
 }

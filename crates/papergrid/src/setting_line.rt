@@ -1,27 +1,22 @@
 //! The lines of a script that set something of its table.
 
-ghost use Rattle.std.specs.Prelude.{◌≡◌};
+ghost use Rattle.std.specs.Prelude.{◌≡◌, ◌≢◌, codes, option_map};
+ghost use Rattle.papergrid_config.specs.declared.setting.Setting.TheVariants.{SetPadding};
 ghost use Rattle.papergrid.specs.Grammar.{character_of, entity_of, padding_of, placed_character, placed_span, position_of, setting_of, sides_of};
 
 use crate::number::number;
 use papergrid_config::Setting;
 use papergrid_values::{Borders, Entity, HorizontalLine, Indent, Position, Sides, VerticalLine};
 
-/// The setting of a keyword, and of what stands after it and a space.
+/// The setting of a keyword for lines, and of what stands after it and a space.
 #[tactic(auto, unfolding(crate::specs::Grammar::setting_of))]
 pub fn line_setting(keyword: &str, rest: &str) -> Option<Setting>
+    requires no_padding { keyword.now ≢ codes "pad" }
+    requires no_column_span { keyword.now ≢ codes "colspan" }
+    requires no_row_span { keyword.now ≢ codes "rowspan" }
     ensures { result ≡ setting_of keyword.now rest.now }
 {
     match keyword {
-        "pad" => padding(rest),
-        "colspan" => {
-            let (place, count) = placed_span(rest)?;
-            Some(Setting::SetColumnSpan(place, count))
-        }
-        "rowspan" => {
-            let (place, count) = placed_span(rest)?;
-            Some(Setting::SetRowSpan(place, count))
-        }
         "border" => Some(Setting::SetBorders(Borders::filled(character(rest)?))),
         "vline" => {
             let (col, c) = placed_character(rest)?;
@@ -62,13 +57,13 @@ fn placed_character(spelled: &str) -> Option<(usize, char)>
     Some((number(place)?, character(rest)?))
 }
 
-/// The setting of an entity and four numbers.
+/// An entity, and four numbers of spaces after it.
 #[tactic(auto, unfolding(crate::specs::Grammar::padding_of))]
-fn padding(spelled: &str) -> Option<Setting>
-    ensures { result ≡ padding_of spelled.now }
+pub fn padding(spelled: &str) -> Option<(Entity, Sides<Indent>)>
+    ensures { option_map (λ parts. SetPadding parts.0 parts.1) result ≡ padding_of spelled.now }
 {
     let (first, rest) = spelled.split_once(' ')?;
-    Some(Setting::SetPadding(entity(first)?, sides(rest)?))
+    Some((entity(first)?, sides(rest)?))
 }
 
 /// So many spaces for left, right, top and bottom.
@@ -116,7 +111,7 @@ fn position(spelled: &str) -> Option<Position>
 
 /// A position, and a number after it and a space.
 #[tactic(auto, unfolding(crate::specs::Grammar::placed_span))]
-fn placed_span(spelled: &str) -> Option<(Position, usize)>
+pub fn placed_span(spelled: &str) -> Option<(Position, usize)>
     ensures { result ≡ placed_span spelled.now }
 {
     let (place, count) = spelled.split_once(' ')?;
