@@ -193,10 +193,21 @@ inner_lines-le line n d table =
     ap (λ s. count_by line (range_with_len s (d.span - 1))) (let e : 0 + (d.start + 1) ≡ d.start + 1 = omega arith in e) in
     omega arith
 
+-- a cell with room needs no more than the total with all lines
+pub need_within_total : (line : ℕ → Bool) (n : ℕ) (sizes : List ℕ) (d : Demand) → end_of d ≤ n → HasRoom line sizes d → d.need ≤ sum sizes + all_lines line n
+need_within_total line n sizes d le room =
+    let a : range_sum sizes d ≤ sum sizes = range_sum-le sizes d in
+    elim (cases_lt 0 d.span) [
+      | inl one ↦ let b : inner_lines line d ≤ all_lines line n = inner_lines-le line n d record { covers_one = omega arith; ends_within = le } in omega arith
+      | inr none ↦
+          let z : d.span ≡ 0 = omega arith in
+          let b : inner_lines line d ≡ 0 = ap (λ k. count_by line (range_with_len (d.start + 1) (k - 1))) z in
+          omega arith
+    ]
+
 -- a need past the greatest `usize`: every list that fits is too large
 pub large_need : (line : ℕ → Bool) (n : ℕ) (sizes : List ℕ) (d : Demand) → IsInTable n d → 18446744073709551615 < d.need → HasRoom line sizes d → IsTooLarge line n sizes
 large_need line n sizes d table large room =
-    let a : range_sum sizes d ≤ sum sizes = range_sum-le sizes d in
-    let b : inner_lines line d ≤ all_lines line n = inner_lines-le line n d table in
+    let a : d.need ≤ sum sizes + all_lines line n = need_within_total line n sizes d table.ends_within room in
     let c : 18446744073709551616 ≤ sum sizes + all_lines line n = omega arith in
     c

@@ -28,7 +28,7 @@ first_out-ranges n (d ∷ ds) = ap (λ rest. if nat_lt n (end_of d) then Some (p
 same_out : (n : ℕ) (xs ys : List Demand) → map without_need xs ≡ map without_need ys → first_out n xs ≡ first_out n ys
 same_out n xs ys e = sym (first_out-ranges n xs) ∙ ap (first_out n) e ∙ first_out-ranges n ys
 
-if_none : {A : Type 0} (b : Bool) (x : A) (r : Option A) → (if b then Some x else r) ≡ None → (b ≡ false) × (r ≡ None)
+pub if_none : {A : Type 0} (b : Bool) (x : A) (r : Option A) → (if b then Some x else r) ≡ None → (b ≡ false) × (r ≡ None)
 if_none true x r e = absurd (false≢true (sym (ap is_some e)))
 if_none false x r e = (refl, e)
 

@@ -1,11 +1,11 @@
 -- What the laws rest on.
 use Rattle.std.proofs.Common.{◌≡◌, ◌∙◌, ℕ, ◌+◌, Bool, true, false, List, [], ◌∷◌, ◌++◌, ◌&&◌, length, refl, ap, sym, inl, inr, nat_le}
-use Rattle.std.specs.Prelude.{All, if◌then◌else◌, flat_map, reverse}
+use Rattle.std.specs.Prelude.{All, filter, if◌then◌else◌, flat_map, reverse}
 use Rattle.std.proofs.lemmas.Bool.{cases_Bool, false≢true}
 use Rattle.std.proofs.lemmas.Grind.{flat_map-append}
-use Rattle.std.proofs.lemmas.List.{append_assoc, length-map, reverse-append}
+use Rattle.std.proofs.lemmas.List.{append_assoc, append-nil, length-map, reverse-append}
 use Rattle.std.proofs.lemmas.List.Concat.{flat_map-cons}
-use Rattle.std.proofs.lemmas.List.Elements.{All-head, All-tail}
+use Rattle.std.proofs.lemmas.List.Elements.{All-head, All-tail, filter-append}
 use Rattle.papergrid_values.specs.declared.position.Position.{Position}
 use Rattle.papergrid_text.specs.Kept.{answered_lines}
 use Rattle.papergrid_text.specs.Measured.{Measured}
@@ -31,7 +31,7 @@ use Rattle.papergrid_walk.specs.Cells.{asked_by, demands_of, placed_from, placed
 use Rattle.papergrid_walk.specs.Looks.{Look, line_along, size_after, size_before, span_along, spanned_look}
 use Rattle.papergrid_walk.specs.Measures.{cell_measure, line_measure}
 use Rattle.papergrid_walk.proofs.Steps.{asked_by-append}
-use Rattle.papergrid_layout.specs.Laws.{AreSwapped, IsNewText, TellTheSame, set_span}
+use Rattle.papergrid_layout.specs.Laws.{AreReordered, AreSwapped, IsNewText, TellTheSame, concerns, set_span}
 
 -- ---- measures
 
@@ -176,3 +176,46 @@ swapped_tell settings other s =
           ∙ apart character_calls s.before s.after a b (character_calls-set s.first_way s.first_cell s.first_span) (character_calls-set s.second_way s.second_cell s.second_span)
           ∙ sym (ap (flat_map character_calls) s.other_order));
     }
+
+-- ---- span calls anywhere in a list
+
+filter-reverse : (test : SpanCall → Bool) (calls : List SpanCall) → filter test (reverse calls) ≡ reverse (filter test calls)
+filter-reverse test [] = refl
+filter-reverse test (call ∷ calls) =
+    ap (filter test) (reverse-append (call ∷ []) calls)
+    ∙ filter-append test (reverse calls) (call ∷ [])
+    ∙ ap (λ xs. xs ++ filter test (call ∷ [])) (filter-reverse test calls)
+    ∙ elim (cases_Bool (test call)) [
+      | inl t ↦ rw t (sym (reverse-append (call ∷ []) (filter test calls)))
+      | inr f ↦ rw f (append-nil (reverse (filter test calls)))
+    ]
+
+-- calls that have nothing to do with a cell do not decide its span
+span_from-concerned : (d : spans.Direction) (p : Position) (calls : List SpanCall) → span_from d p (filter (concerns d p) calls) ≡ span_from d p calls
+span_from-concerned d p [] = refl
+span_from-concerned d p (RemoveSpans e ∷ older) = elim (cases_Bool (is_same_direction e d)) [
+  | inl t ↦ rw t (rw t refl)
+  | inr f ↦ rw f (span_from-concerned d p older)
+]
+span_from-concerned d p (SetSpan e q n ∷ older) =
+    let rest = span_from-concerned d p older in
+    elim (cases_Bool (is_same_direction e d)) [
+      | inr f ↦ rw f rest
+      | inl t ↦ elim (cases_Bool (position_eq q p)) [
+        | inl at ↦ rw (t, at) (rw (t, at) (ap (λ k. if nat_le 1 n && true then n else k) rest))
+        | inr elsewhere ↦ elim (cases_Bool (nat_le 1 n)) [
+          | inl one ↦ rw (t, elsewhere, one) rest
+          | inr zero_span ↦ rw (t, elsewhere, zero_span) rest
+        ]
+      ]
+    ]
+
+pub reordered_tell : (settings other : List Setting) → AreReordered settings other → TellTheSame settings other
+reordered_tell settings other same = record {
+  spans = λ d p. by_concerned d p (flat_map span_calls settings) ∙ ap (λ calls. span_from d p (reverse calls)) (same.spans d p) ∙ sym (by_concerned d p (flat_map span_calls other));
+  padding = λ p. ap (λ calls. decided_value (all_sides no_room) calls p) same.padding;
+  characters = ap borders_made same.characters;
+}
+  where
+    by_concerned : (d : spans.Direction) (p : Position) (calls : List SpanCall) → spans.decided_span d p calls ≡ span_from d p (reverse (filter (concerns d p) calls))
+    by_concerned d p calls = sym (span_from-concerned d p (reverse calls)) ∙ ap (span_from d p) (filter-reverse (concerns d p) calls)

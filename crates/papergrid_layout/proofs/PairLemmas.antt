@@ -1,6 +1,6 @@
 -- The first cell out of the table, by what is kept for both directions.
 use Rattle.std.proofs.Common.{◌≡◌, ℕ, ◌+◌, ◌<◌, ◌≢◌, inl, inr, List, [], ◌∷◌, length, map, refl, ap, ap₂, sym, subst, ◌∙◌, arith, nat_lt, eq-eqb, ne_eqb, le-ltb, lt-ltb, suc}
-use Rattle.std.specs.Prelude.{All, AllPairs, Option, Some, None, is_some, find, unwrap_or}
+use Rattle.std.specs.Prelude.{◌↔◌, All, AllPairs, Option, Some, None, is_some, find, unwrap_or}
 use Rattle.std.proofs.lemmas.Bool.{cases_Bool, false≢true}
 use Rattle.std.proofs.lemmas.List.Elements.{All-head, All-tail}
 use Rattle.papergrid_values.specs.declared.position.Position.{Position}
@@ -82,6 +82,15 @@ module _ {C : Type 0} (look : Look) (measure : C → ℕ × ℕ) (columns : ℕ)
           | inr high ↦ rw (wide, high) rest
         ]
       ]
+
+  -- no cell reaches out exactly where none does along columns, and none along rows
+  pub none_reaches_out : (first_out_of_table look measure columns cells ≡ None)
+      ↔ ((first_out columns (demands_of Columns look measure cells) ≡ None) × (first_out (length cells) (demands_of Rows look measure cells) ≡ None))
+  none_reaches_out =
+      let either = earlier-out (visible_cells look cells) (AllPairs-visible look cells) in (
+        (λ none. neither (first_out columns (demands_of Columns look measure cells)) (first_out (length cells) (demands_of Rows look measure cells)) (either ∙ none)),
+        λ none. sym either ∙ ap₂ earlier none.0 none.1,
+      )
 
   module _ (both : Both) (seen : AreBothSeen look measure columns cells both) (rows : ℕ) (many : rows ≡ length cells) where
     -- the same of what is kept

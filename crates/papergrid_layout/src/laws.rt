@@ -1,16 +1,20 @@
 //! Laws of the definitions, each the contract of a function that does nothing.
 
-ghost use Rattle.std.specs.Prelude.{◌≡◌, ◌↔◌, ℕ, All, AllPairs, Contains, List};
+ghost use Rattle.std.specs.Prelude.{◌≡◌, ◌↔◌, ◌+◌, ◌≤◌, ℕ, All, AllPairs, Contains, List, length, map};
+ghost use Rattle.std.specs.Borrow.{Bor};
 ghost use Rattle.papergrid_values.specs.declared.position.Position.{Position};
 ghost use Rattle.papergrid_text.specs.Measured.{Measured};
 ghost use Rattle.papergrid_axis.specs.declared.direction.Direction.{Direction};
+ghost use Rattle.papergrid_axis.specs.declared.direction.Direction.TheVariants.{Columns, Rows};
+ghost use Rattle.papergrid_axis.specs.Ranges.{first_out};
 ghost use Rattle.papergrid_config.specs.Told.{IsTold};
 ghost use Rattle.papergrid_config.specs.declared.setting.Setting.{Setting};
 ghost use Rattle.papergrid_config.specs.declared.spanned.SpannedConfig.{SpannedConfig};
-ghost use Rattle.papergrid_walk.specs.Cells.{StandsBefore, demands_of, placed};
+ghost use Rattle.papergrid_walk.specs.Cells.{StandsBefore, demands_of, placed, side, visible_cells};
 ghost use Rattle.papergrid_walk.specs.Looks.{Look, spanned_look};
 ghost use Rattle.papergrid_walk.specs.Measures.{cell_measure, line_measure};
-ghost use Rattle.papergrid_layout.specs.Laws.{AreSwapped, IsCellAt, IsNewText, TellTheSame, sizes_told};
+ghost use Rattle.papergrid_layout.specs.Answers.{IsTotalled, first_out_of_table};
+ghost use Rattle.papergrid_layout.specs.Laws.{AreReordered, AreSwapped, IsCellAt, IsNewText, TellTheSame, sizes_told};
 ghost use Rattle.papergrid_layout.specs.declared.compact.CompactGridDimension.{CompactGridDimension};
 ghost use Rattle.papergrid_layout.specs.declared.iterable.IterGridDimension.{IterGridDimension};
 ghost use Rattle.papergrid_layout.specs.declared.peekable.PeekableGridDimension.{PeekableGridDimension};
@@ -36,16 +40,46 @@ pub fn cells_by_place<C>()
     ensures order { (rows : List (List C)) → AllPairs (λ x y. StandsBefore x.0 y.0) (placed rows) }
 {}
 
-/// Sizes do not depend on the order in which spans of different cells were set, since what is read of
-/// a configuration depends only on what the settings tell.
+/// Sizes do not depend on the order in which spans of different cells were set, side by side or
+/// anywhere in a list, since what is read of a configuration depends only on what the settings tell.
 pub fn order_of_spans<C>()
     ensures sizes { (settings other : List Setting) → AreSwapped settings other →
         (x y : SpannedConfig) → IsTold settings x → IsTold other y →
         (direction : Direction) (measure : C → ℕ × ℕ) (n : ℕ) (rows : List (List C)) →
         sizes_told direction (spanned_look x) measure n rows ≡ sizes_told direction (spanned_look y) measure n rows }
     ensures swapped { (settings other : List Setting) → AreSwapped settings other → TellTheSame settings other }
+    ensures reordered { (settings other : List Setting) → AreReordered settings other → TellTheSame settings other }
     ensures read { (settings other : List Setting) → TellTheSame settings other →
         (x y : SpannedConfig) → IsTold settings x → IsTold other y → spanned_look x ≡ spanned_look y }
+{}
+
+/// What lent cells ask for is what the cells held ask for, whether each is measured through the loan
+/// or taken through it first; lent texts as `Text::new` keeps them are measured alike in both ways.
+pub fn lent_cells<C, D, S: AsStr>()
+    ensures lent { (lend : C → D) (measure : D → ℕ × ℕ) (rows : List (List C)) (direction : Direction) (look : Look) →
+        demands_of direction look (λ cell. measure (lend cell)) rows
+        ≡ demands_of direction look measure (map (map lend) rows) }
+    ensures texts { (rows : List (List (Bor (Measured S)))) → All (All (λ t. IsNewText S.text t.now)) rows →
+        (direction : Direction) (look : Look) →
+        demands_of direction look (cell_measure ⟦<&'static Text<S> as Cell>⟧.width ⟦<&'static Text<S> as Cell>⟧.lines) rows
+        ≡ demands_of direction look (line_measure ⟦<&'static Text<S> as AsStr>⟧.text) rows }
+{}
+
+/// No visible cell reaches out along columns, and none along rows, exactly where there is no first
+/// one that does.
+pub fn none_reaches_out<C>()
+    ensures { (look : Look) (measure : C → ℕ × ℕ) (columns : ℕ) (rows : List (List C)) →
+        (first_out_of_table look measure columns rows ≡ None)
+        ↔ ((first_out columns (demands_of Columns look measure rows) ≡ None)
+        × (first_out (length rows) (demands_of Rows look measure rows) ≡ None)) }
+{}
+
+/// No visible cell needs more than the total with its lines: none is wider, or higher, than the table.
+pub fn total_covers_cells<C>()
+    ensures { (look : Look) (measure : C → ℕ × ℕ) (columns : ℕ) (rows : List (List C)) (direction : Direction) (total : ℕ) →
+        IsTotalled look measure columns rows direction (Ok total) →
+        All (λ cell. side direction (measure cell.1) + look.before direction cell.0 + look.after direction cell.0 ≤ total)
+        (visible_cells look rows) }
 {}
 
 /// A clone of a dimension equals it.
