@@ -31,8 +31,8 @@ ghost use Rattle.papergrid_values.specs.Writes.{numbers_fed, key_fed, kind_fed, 
 ghost use Rattle.papergrid_values.specs.Positions.{IsBefore, count_of};
 
 use crate::{
-    ANSIBuf, ANSIStr, AlignmentHorizontal, AlignmentVertical, Border, Borders, Entity, Formatting,
-    HorizontalLine, Indent, Offset, Position, Sides, VerticalLine,
+    ANSIBuf, ANSIFmt, ANSIStr, AlignmentHorizontal, AlignmentVertical, Border, Borders, Entity,
+    Formatting, HorizontalLine, Indent, Offset, Position, Sides, VerticalLine,
 };
 use std::cmp::Ordering;
 use std::hash::Hash;
@@ -180,4 +180,10 @@ pub fn plain_defaults<T: Default>()
         ⟦<HorizontalLine<T> as Default>⟧.is_default x → x ≡ horizontal_with None }
     ensures vertical_lines { (x : VerticalLine T) →
         ⟦<VerticalLine<T> as Default>⟧.is_default x → x ≡ vertical_with None }
+{}
+
+/// A reference to a colour tells the texts that the colour tells, and is held to them as it is.
+pub fn colors_by_reference<C: ANSIFmt>()
+    ensures prefix { (x : _) → ⟦<&'static C as ANSIFmt>⟧.prefix_text x ≡ C.prefix_text x.now }
+    ensures suffix { (x : _) → ⟦<&'static C as ANSIFmt>⟧.suffix_text x ≡ C.suffix_text x.now }
 {}
