@@ -20,7 +20,8 @@ use std::collections::HashMap;
 impl SpannedConfig {
     /// Sets the characters of the frame.
     pub fn set_borders(&mut self, borders: Borders<char>)
-        ensures { Appends self.old self.new (Setting.SetBorders borders ∷ []) }
+        ensures told { Appends self.old self.new (Setting.SetBorders borders ∷ []) }
+        ensures others { self.new ≡ record self.old { characters = self.new.characters } }
     {
         self.characters.set_borders(borders);
     }
@@ -34,7 +35,8 @@ impl SpannedConfig {
 
     /// Sets the colours of the frame.
     pub fn set_borders_color(&mut self, colors: Borders<ANSIBuf>)
-        ensures { Appends self.old self.new (Setting.SetBordersColor colors ∷ []) }
+        ensures told { Appends self.old self.new (Setting.SetBordersColor colors ∷ []) }
+        ensures others { self.new ≡ record self.old { colors = self.new.colors } }
     {
         self.colors.set_borders(colors);
     }
@@ -48,7 +50,8 @@ impl SpannedConfig {
 
     /// Sets the character of all lines.
     pub fn set_border_default(&mut self, character: char)
-        ensures { Appends self.old self.new (Setting.SetBorderDefault character ∷ []) }
+        ensures told { Appends self.old self.new (Setting.SetBorderDefault character ∷ []) }
+        ensures others { self.new ≡ record self.old { characters = self.new.characters } }
     {
         self.characters.set_global(character);
     }
@@ -62,7 +65,8 @@ impl SpannedConfig {
 
     /// Sets the colour of all lines, and drops all other colours of lines.
     pub fn set_border_color_default(&mut self, color: ANSIBuf)
-        ensures { Appends self.old self.new (Setting.SetBorderColorDefault color ∷ []) }
+        ensures told { Appends self.old self.new (Setting.SetBorderColorDefault color ∷ []) }
+        ensures others { self.new ≡ record self.old { colors = self.new.colors } }
     {
         self.remove_borders_colors();
         self.colors.set_global(color);
@@ -77,14 +81,16 @@ impl SpannedConfig {
 
     /// Drops all characters of lines, and keeps the missing character.
     pub fn remove_borders(&mut self)
-        ensures { Appends self.old self.new (Setting.RemoveBorders ∷ []) }
+        ensures told { Appends self.old self.new (Setting.RemoveBorders ∷ []) }
+        ensures others { self.new ≡ record self.old { characters = self.new.characters } }
     {
         self.characters = BorderTable::new(self.alloc);
     }
 
     /// Drops all colours of lines.
     pub fn remove_borders_colors(&mut self)
-        ensures { Appends self.old self.new (Setting.RemoveBordersColors ∷ []) }
+        ensures told { Appends self.old self.new (Setting.RemoveBordersColors ∷ []) }
+        ensures others { self.new ≡ record self.old { colors = self.new.colors } }
     {
         self.colors = BorderTable::new(self.alloc);
     }
@@ -96,6 +102,7 @@ impl SpannedConfig {
         requires col { pos.col + 1 < 2 ^ 64 }
         ensures ok { OnOk result (Appends self.old self.new (Setting.SetBorder pos border ∷ [])) }
         ensures err { OnErr result (self.new ≡ self.old) }
+        ensures others { self.new ≡ record self.old { characters = self.new.characters } }
     {
         self.characters.insert_border(pos, border)
     }
@@ -110,6 +117,7 @@ impl SpannedConfig {
         requires col { pos.col + 1 < 2 ^ 64 }
         ensures ok { OnOk result (Appends self.old self.new (Setting.SetBorderColor pos border ∷ [])) }
         ensures err { OnErr result (self.new ≡ self.old) }
+        ensures others { self.new ≡ record self.old { colors = self.new.colors } }
     {
         self.colors.insert_border(pos, border)
     }
@@ -138,7 +146,8 @@ impl SpannedConfig {
     pub fn remove_border(&mut self, pos: Position, shape: (usize, usize))
         requires row { pos.row + 1 < 2 ^ 64 }
         requires col { pos.col + 1 < 2 ^ 64 }
-        ensures { Appends self.old self.new (Setting.RemoveBorder pos shape ∷ []) }
+        ensures told { Appends self.old self.new (Setting.RemoveBorder pos shape ∷ []) }
+        ensures others { self.new ≡ record self.old { characters = self.new.characters } }
     {
         self.characters.remove_border(pos, shape);
     }
@@ -147,7 +156,8 @@ impl SpannedConfig {
     pub fn remove_border_color(&mut self, pos: Position, shape: (usize, usize))
         requires row { pos.row + 1 < 2 ^ 64 }
         requires col { pos.col + 1 < 2 ^ 64 }
-        ensures { Appends self.old self.new (Setting.RemoveBorderColor pos shape ∷ []) }
+        ensures told { Appends self.old self.new (Setting.RemoveBorderColor pos shape ∷ []) }
+        ensures others { self.new ≡ record self.old { colors = self.new.colors } }
     {
         self.colors.remove_border(pos, shape);
     }
@@ -161,6 +171,7 @@ impl SpannedConfig {
     ) -> Result<(), AllocError>
         ensures ok { OnOk result (Appends self.old self.new (Setting.InsertHorizontalLine row line ∷ [])) }
         ensures err { OnErr result (self.new ≡ self.old) }
+        ensures others { self.new ≡ record self.old { characters = self.new.characters } }
     {
         self.characters.insert_horizontal_line(row, line)
     }
@@ -173,20 +184,23 @@ impl SpannedConfig {
     ) -> Result<(), AllocError>
         ensures ok { OnOk result (Appends self.old self.new (Setting.InsertVerticalLine col line ∷ [])) }
         ensures err { OnErr result (self.new ≡ self.old) }
+        ensures others { self.new ≡ record self.old { characters = self.new.characters } }
     {
         self.characters.insert_vertical_line(col, line)
     }
 
     /// Removes the horizontal line above a row.
     pub fn remove_horizontal_line(&mut self, row: usize, count: usize)
-        ensures { Appends self.old self.new (Setting.RemoveHorizontalLine row count ∷ []) }
+        ensures told { Appends self.old self.new (Setting.RemoveHorizontalLine row count ∷ []) }
+        ensures others { self.new ≡ record self.old { characters = self.new.characters } }
     {
         self.characters.remove_horizontal_line(row, count);
     }
 
     /// Removes the vertical line left of a column.
     pub fn remove_vertical_line(&mut self, col: usize, count: usize)
-        ensures { Appends self.old self.new (Setting.RemoveVerticalLine col count ∷ []) }
+        ensures told { Appends self.old self.new (Setting.RemoveVerticalLine col count ∷ []) }
+        ensures others { self.new ≡ record self.old { characters = self.new.characters } }
     {
         self.characters.remove_vertical_line(col, count);
     }

@@ -23,6 +23,7 @@ impl SpannedConfig {
     ) -> Result<(), AllocError>
         ensures ok { OnOk result (Appends self.old self.new (Setting.SetHorizontalChar pos offset character ∷ [])) }
         ensures err { OnErr result (self.new ≡ self.old) }
+        ensures others { self.new ≡ record self.old { horizontal_chars = self.new.horizontal_chars } }
     {
         self.horizontal_chars.set(pos, offset, character)
     }
@@ -43,14 +44,16 @@ impl SpannedConfig {
 
     /// Removes the characters set on the line above a cell.
     pub fn remove_overridden_horizontal(&mut self, pos: Position)
-        ensures { Appends self.old self.new (Setting.RemoveOverriddenHorizontal pos ∷ []) }
+        ensures told { Appends self.old self.new (Setting.RemoveOverriddenHorizontal pos ∷ []) }
+        ensures others { self.new ≡ record self.old { horizontal_chars = self.new.horizontal_chars } }
     {
         self.horizontal_chars.remove(pos);
     }
 
     /// Removes the characters set on the lines above cells.
     pub fn remove_horizontal_chars(&mut self)
-        ensures { Appends self.old self.new (Setting.RemoveHorizontalChars ∷ []) }
+        ensures told { Appends self.old self.new (Setting.RemoveHorizontalChars ∷ []) }
+        ensures others { self.new ≡ record self.old { horizontal_chars = self.new.horizontal_chars } }
     {
         self.horizontal_chars.clear();
     }
@@ -65,6 +68,7 @@ impl SpannedConfig {
     ) -> Result<(), AllocError>
         ensures ok { OnOk result (Appends self.old self.new (Setting.SetHorizontalCharColor pos offset color ∷ [])) }
         ensures err { OnErr result (self.new ≡ self.old) }
+        ensures others { self.new ≡ record self.old { horizontal_colors = self.new.horizontal_colors } }
     {
         self.horizontal_colors.set(pos, offset, color)
     }
@@ -83,7 +87,8 @@ impl SpannedConfig {
 
     /// Removes the colours set on the lines above cells.
     pub fn remove_color_line_horizontal(&mut self)
-        ensures { Appends self.old self.new (Setting.RemoveColorLineHorizontal ∷ []) }
+        ensures told { Appends self.old self.new (Setting.RemoveColorLineHorizontal ∷ []) }
+        ensures others { self.new ≡ record self.old { horizontal_colors = self.new.horizontal_colors } }
     {
         self.horizontal_colors.clear();
     }
@@ -98,6 +103,7 @@ impl SpannedConfig {
     ) -> Result<(), AllocError>
         ensures ok { OnOk result (Appends self.old self.new (Setting.SetVerticalChar pos offset character ∷ [])) }
         ensures err { OnErr result (self.new ≡ self.old) }
+        ensures others { self.new ≡ record self.old { vertical_chars = self.new.vertical_chars } }
     {
         self.vertical_chars.set(pos, offset, character)
     }
@@ -118,14 +124,16 @@ impl SpannedConfig {
 
     /// Removes the characters set on the line left of a cell.
     pub fn remove_overridden_vertical(&mut self, pos: Position)
-        ensures { Appends self.old self.new (Setting.RemoveOverriddenVertical pos ∷ []) }
+        ensures told { Appends self.old self.new (Setting.RemoveOverriddenVertical pos ∷ []) }
+        ensures others { self.new ≡ record self.old { vertical_chars = self.new.vertical_chars } }
     {
         self.vertical_chars.remove(pos);
     }
 
     /// Removes the characters set on the lines left of cells.
     pub fn remove_vertical_chars(&mut self)
-        ensures { Appends self.old self.new (Setting.RemoveVerticalChars ∷ []) }
+        ensures told { Appends self.old self.new (Setting.RemoveVerticalChars ∷ []) }
+        ensures others { self.new ≡ record self.old { vertical_chars = self.new.vertical_chars } }
     {
         self.vertical_chars.clear();
     }
@@ -140,6 +148,7 @@ impl SpannedConfig {
     ) -> Result<(), AllocError>
         ensures ok { OnOk result (Appends self.old self.new (Setting.SetVerticalCharColor pos offset color ∷ [])) }
         ensures err { OnErr result (self.new ≡ self.old) }
+        ensures others { self.new ≡ record self.old { vertical_colors = self.new.vertical_colors } }
     {
         self.vertical_colors.set(pos, offset, color)
     }
@@ -158,7 +167,8 @@ impl SpannedConfig {
 
     /// Removes the colours set on the lines left of cells.
     pub fn remove_color_line_vertical(&mut self)
-        ensures { Appends self.old self.new (Setting.RemoveColorLineVertical ∷ []) }
+        ensures told { Appends self.old self.new (Setting.RemoveColorLineVertical ∷ []) }
+        ensures others { self.new ≡ record self.old { vertical_colors = self.new.vertical_colors } }
     {
         self.vertical_colors.clear();
     }

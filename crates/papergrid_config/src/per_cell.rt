@@ -22,6 +22,7 @@ impl SpannedConfig {
         ensures ok { OnOk result (Appends self.old self.new (Setting.SetPadding entity padding ∷ [])) }
         ensures err { OnErr result (self.new ≡ self.old) }
         ensures global { entity ≡ Entity.Global → IsOk result }
+        ensures others { self.new ≡ record self.old { padding = self.new.padding } }
     {
         self.padding.insert(entity, padding)
     }
@@ -43,6 +44,7 @@ impl SpannedConfig {
         ensures ok { OnOk result (Appends self.old self.new (Setting.SetPaddingColor entity colors ∷ [])) }
         ensures err { OnErr result (self.new ≡ self.old) }
         ensures global { entity ≡ Entity.Global → IsOk result }
+        ensures others { self.new ≡ record self.old { padding_color = self.new.padding_color } }
     {
         self.padding_color.insert(entity, colors)
     }
@@ -60,6 +62,7 @@ impl SpannedConfig {
         ensures ok { OnOk result (Appends self.old self.new (Setting.SetTrimHorizontal entity on ∷ [])) }
         ensures err { OnErr result (self.new ≡ self.old) }
         ensures global { entity ≡ Entity.Global → IsOk result }
+        ensures others { self.new ≡ record self.old { trim_horizontal = self.new.trim_horizontal } }
     {
         self.trim_horizontal.insert(entity, on)
     }
@@ -77,6 +80,7 @@ impl SpannedConfig {
         ensures ok { OnOk result (Appends self.old self.new (Setting.SetTrimVertical entity on ∷ [])) }
         ensures err { OnErr result (self.new ≡ self.old) }
         ensures global { entity ≡ Entity.Global → IsOk result }
+        ensures others { self.new ≡ record self.old { trim_vertical = self.new.trim_vertical } }
     {
         self.trim_vertical.insert(entity, on)
     }
@@ -94,6 +98,7 @@ impl SpannedConfig {
         ensures ok { OnOk result (Appends self.old self.new (Setting.SetLineAlignment entity on ∷ [])) }
         ensures err { OnErr result (self.new ≡ self.old) }
         ensures global { entity ≡ Entity.Global → IsOk result }
+        ensures others { self.new ≡ record self.old { line_alignment = self.new.line_alignment } }
     {
         self.line_alignment.insert(entity, on)
     }
@@ -131,6 +136,7 @@ impl SpannedConfig {
         ensures ok { OnOk result (Appends self.old self.new (Setting.SetAlignmentHorizontal entity alignment ∷ [])) }
         ensures err { OnErr result (self.new ≡ self.old) }
         ensures global { entity ≡ Entity.Global → IsOk result }
+        ensures others { self.new ≡ record self.old { alignment_horizontal = self.new.alignment_horizontal } }
     {
         self.alignment_horizontal.insert(entity, alignment)
     }
@@ -152,6 +158,7 @@ impl SpannedConfig {
         ensures ok { OnOk result (Appends self.old self.new (Setting.SetAlignmentVertical entity alignment ∷ [])) }
         ensures err { OnErr result (self.new ≡ self.old) }
         ensures global { entity ≡ Entity.Global → IsOk result }
+        ensures others { self.new ≡ record self.old { alignment_vertical = self.new.alignment_vertical } }
     {
         self.alignment_vertical.insert(entity, alignment)
     }
@@ -169,6 +176,7 @@ impl SpannedConfig {
         ensures ok { OnOk result (Appends self.old self.new (Setting.SetJustification entity character ∷ [])) }
         ensures err { OnErr result (self.new ≡ self.old) }
         ensures global { entity ≡ Entity.Global → IsOk result }
+        ensures others { self.new ≡ record self.old { justification = self.new.justification } }
     {
         self.justification.insert(entity, character)
     }
@@ -190,6 +198,7 @@ impl SpannedConfig {
         ensures ok { OnOk result (Appends self.old self.new (Setting.SetJustificationColor entity color ∷ [])) }
         ensures err { OnErr result (self.new ≡ self.old) }
         ensures global { entity ≡ Entity.Global → IsOk result }
+        ensures others { self.new ≡ record self.old { justification_color = self.new.justification_color } }
     {
         self.justification_color.insert(entity, color)
     }

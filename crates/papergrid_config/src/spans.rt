@@ -25,6 +25,7 @@ impl SpannedConfig {
         ensures ok { OnOk result (Appends self.old self.new (Setting.SetColumnSpan pos span ∷ [])) }
         ensures err { OnErr result (self.new ≡ self.old) }
         ensures small { span < 2 → IsOk result }
+        ensures others { self.new ≡ record self.old { spans = self.new.spans } }
     {
         self.spans.set_column(pos, span)
     }
@@ -34,6 +35,7 @@ impl SpannedConfig {
         ensures ok { OnOk result (Appends self.old self.new (Setting.SetRowSpan pos span ∷ [])) }
         ensures err { OnErr result (self.new ≡ self.old) }
         ensures small { span < 2 → IsOk result }
+        ensures others { self.new ≡ record self.old { spans = self.new.spans } }
     {
         self.spans.set_row(pos, span)
     }
@@ -84,14 +86,16 @@ impl SpannedConfig {
 
     /// Removes all column spans.
     pub fn remove_column_spans(&mut self)
-        ensures { Appends self.old self.new (Setting.RemoveColumnSpans ∷ []) }
+        ensures told { Appends self.old self.new (Setting.RemoveColumnSpans ∷ []) }
+        ensures others { self.new ≡ record self.old { spans = self.new.spans } }
     {
         self.spans.remove_columns();
     }
 
     /// Removes all row spans.
     pub fn remove_row_spans(&mut self)
-        ensures { Appends self.old self.new (Setting.RemoveRowSpans ∷ []) }
+        ensures told { Appends self.old self.new (Setting.RemoveRowSpans ∷ []) }
+        ensures others { self.new ≡ record self.old { spans = self.new.spans } }
     {
         self.spans.remove_rows();
     }
