@@ -16,7 +16,6 @@ use papergrid_values::{ANSIBuf, Border, Borders, HorizontalLine, Position, Verti
 use std::alloc::AllocError;
 use std::collections::HashMap;
 
-// The shape (rows, columns) and the counts that removals take decide nothing.
 impl SpannedConfig {
     /// Sets the characters of the frame.
     pub fn set_borders(&mut self, borders: Borders<char>)
@@ -107,7 +106,8 @@ impl SpannedConfig {
         self.characters.insert_border(pos, border)
     }
 
-    /// Sets the colours round a cell, as `set_border` does the characters.
+    /// Sets the colours round a cell that are set here, and leaves the others. Where memory is
+    /// refused the configuration is as it was. Condition: the next row and column exist in `usize`.
     pub fn set_border_color(
         &mut self,
         pos: Position,
@@ -132,7 +132,8 @@ impl SpannedConfig {
         self.characters.get_border(pos, shape).copied()
     }
 
-    /// The colours found round a cell, likewise.
+    /// The colours found round a cell, in a table of so many rows and columns. Condition: the next
+    /// row and column exist in `usize`.
     pub fn get_border_color(&self, pos: Position, shape: (usize, usize)) -> Border<&ANSIBuf>
         requires row { pos.row + 1 < 2 ^ 64 }
         requires col { pos.col + 1 < 2 ^ 64 }
@@ -142,7 +143,8 @@ impl SpannedConfig {
     }
 
     /// Removes the characters round a cell: of the edges and corners, not of lines, the frame or
-    /// all lines. Condition: the next row and column exist in `usize`.
+    /// all lines. The shape (rows, columns) decides nothing. Condition: the next row and column exist
+    /// in `usize`.
     pub fn remove_border(&mut self, pos: Position, shape: (usize, usize))
         requires row { pos.row + 1 < 2 ^ 64 }
         requires col { pos.col + 1 < 2 ^ 64 }
@@ -152,7 +154,9 @@ impl SpannedConfig {
         self.characters.remove_border(pos, shape);
     }
 
-    /// Removes the colours round a cell, likewise.
+    /// Removes the colours round a cell: of the edges and corners, not of lines, the frame or all
+    /// lines. The shape (rows, columns) decides nothing. Condition: the next row and column exist in
+    /// `usize`.
     pub fn remove_border_color(&mut self, pos: Position, shape: (usize, usize))
         requires row { pos.row + 1 < 2 ^ 64 }
         requires col { pos.col + 1 < 2 ^ 64 }
@@ -176,7 +180,8 @@ impl SpannedConfig {
         self.characters.insert_horizontal_line(row, line)
     }
 
-    /// Sets the vertical line left of a column, likewise.
+    /// Sets the vertical line left of a column, in place of the one held. Where memory is refused the
+    /// configuration is as it was.
     pub fn insert_vertical_line(
         &mut self,
         col: usize,
@@ -189,7 +194,7 @@ impl SpannedConfig {
         self.characters.insert_vertical_line(col, line)
     }
 
-    /// Removes the horizontal line above a row.
+    /// Removes the horizontal line above a row. The count of rows decides nothing.
     pub fn remove_horizontal_line(&mut self, row: usize, count: usize)
         ensures told { Appends self.old self.new (Setting.RemoveHorizontalLine row count ∷ []) }
         ensures others { self.new ≡ record self.old { characters = self.new.characters } }
@@ -197,7 +202,7 @@ impl SpannedConfig {
         self.characters.remove_horizontal_line(row, count);
     }
 
-    /// Removes the vertical line left of a column.
+    /// Removes the vertical line left of a column. The count of columns decides nothing.
     pub fn remove_vertical_line(&mut self, col: usize, count: usize)
         ensures told { Appends self.old self.new (Setting.RemoveVerticalLine col count ∷ []) }
         ensures others { self.new ≡ record self.old { characters = self.new.characters } }

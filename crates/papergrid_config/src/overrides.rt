@@ -11,10 +11,10 @@ use papergrid_values::{ANSIBuf, Offset, Position};
 use std::alloc::AllocError;
 
 // A horizontal line of a cell is the one above it, its vertical line the one left of it. Offsets
-// count columns of a terminal and lines, from the start of the line or back from its end.
+// count from the start of the line or back from its end.
 impl SpannedConfig {
-    /// Sets the character at an offset of the line above a cell. Where memory is refused the
-    /// configuration is as it was.
+    /// Sets the character at an offset of the line above a cell, in columns of a terminal. Where
+    /// memory is refused the configuration is as it was.
     pub fn set_horizontal_char(
         &mut self,
         pos: Position,
@@ -28,7 +28,8 @@ impl SpannedConfig {
         self.horizontal_chars.set(pos, offset, character)
     }
 
-    /// The character set at an offset of the line above a cell, where the line is so long.
+    /// The character set at an offset of the line above a cell, where the line is so long, both in
+    /// columns of a terminal.
     pub fn lookup_horizontal_char(&self, pos: Position, offset: usize, end: usize) -> Option<char>
         ensures { result ≡ found_override (override_at self.now.horizontal_chars pos) offset end }
     {
@@ -58,8 +59,8 @@ impl SpannedConfig {
         self.horizontal_chars.clear();
     }
 
-    /// Sets the colour at an offset of the line above a cell. Where memory is refused the
-    /// configuration is as it was.
+    /// Sets the colour at an offset of the line above a cell, in columns of a terminal. Where memory
+    /// is refused the configuration is as it was.
     pub fn set_horizontal_char_color(
         &mut self,
         pos: Position,
@@ -73,7 +74,8 @@ impl SpannedConfig {
         self.horizontal_colors.set(pos, offset, color)
     }
 
-    /// The colour set at an offset of the line above a cell, where the line is so long.
+    /// The colour set at an offset of the line above a cell, where the line is so long, both in
+    /// columns of a terminal.
     pub fn lookup_horizontal_color(
         &self,
         pos: Position,
@@ -93,8 +95,8 @@ impl SpannedConfig {
         self.horizontal_colors.clear();
     }
 
-    /// Sets the character at an offset of the line left of a cell. Where memory is refused the
-    /// configuration is as it was.
+    /// Sets the character at an offset of the line left of a cell, in lines. Where memory is refused
+    /// the configuration is as it was.
     pub fn set_vertical_char(
         &mut self,
         pos: Position,
@@ -108,7 +110,8 @@ impl SpannedConfig {
         self.vertical_chars.set(pos, offset, character)
     }
 
-    /// The character set at an offset of the line left of a cell, where the line is so long.
+    /// The character set at an offset of the line left of a cell, where the line is so long, both in
+    /// lines.
     pub fn lookup_vertical_char(&self, pos: Position, offset: usize, end: usize) -> Option<char>
         ensures { result ≡ found_override (override_at self.now.vertical_chars pos) offset end }
     {
@@ -138,7 +141,7 @@ impl SpannedConfig {
         self.vertical_chars.clear();
     }
 
-    /// Sets the colour at an offset of the line left of a cell. Where memory is refused the
+    /// Sets the colour at an offset of the line left of a cell, in lines. Where memory is refused the
     /// configuration is as it was.
     pub fn set_vertical_char_color(
         &mut self,
@@ -153,7 +156,8 @@ impl SpannedConfig {
         self.vertical_colors.set(pos, offset, color)
     }
 
-    /// The colour set at an offset of the line left of a cell, where the line is so long.
+    /// The colour set at an offset of the line left of a cell, where the line is so long, both in
+    /// lines.
     pub fn lookup_vertical_color(
         &self,
         pos: Position,
