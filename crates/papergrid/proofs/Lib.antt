@@ -1,6 +1,5 @@
 mod CharacterLemmas
 mod CutLemmas
-mod DecidedLemmas
 mod EscapeLemmas
 mod EstimateLemmas
 mod KnownLemmas

@@ -1,4 +1,3 @@
-pub mod Decided
 pub mod Estimates
 pub mod Grammar
 pub mod Layouts

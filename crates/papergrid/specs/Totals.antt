@@ -1,13 +1,11 @@
 -- What the answers for a table are, apart from how they are found.
-use Rattle.std.specs.Prelude.{◌≡◌, ◌⊎◌, ℕ, ◌+◌, ◌^◌, ◌<◌, List, Option, Some, None, flat_map, length, reverse, sum}
+use Rattle.std.specs.Prelude.{◌≡◌, ◌⊎◌, ℕ, ◌+◌, ◌^◌, ◌<◌, List, Option, Some, None, length, sum}
 use Rattle.papergrid_values.specs.declared.position.Position.{Position}
 use Rattle.papergrid_axis.specs.Answers.{AreChosen, NoneChosen}
 use Rattle.papergrid_axis.specs.declared.direction.Direction.{Direction}
 use Rattle.papergrid_axis.specs.declared.direction.Direction.TheVariants.{Columns, Rows}
-use Rattle.papergrid_tables.specs.Places.{Places, places_from}
 use Rattle.papergrid_config.specs.Lines.{count_lines}
 use Rattle.papergrid_config.specs.Made.{characters_of}
-use Rattle.papergrid_config.specs.Parts.{character_calls}
 use Rattle.papergrid_config.specs.declared.setting.Setting.{Setting}
 use Rattle.papergrid_walk.specs.Cells.{count_along, demands_of}
 use Rattle.papergrid_walk.specs.Looks.{line_along}
@@ -15,10 +13,6 @@ use Rattle.papergrid_layout.specs.Answers.{AreBothSizes, IsTooLargeFor, drawn_al
 use Rattle.papergrid.specs.Estimates.{text_measure}
 use Rattle.papergrid.specs.Looks.{look_of}
 use Rattle.papergrid.specs.Scripts.{Table}
-
--- what the settings leave at each place of the lines
-abbrev pub lines_left : List Setting → Places ℕ
-lines_left settings = places_from (reverse (flat_map character_calls settings))
 
 -- how many lines the settings make along a direction of so many columns (rows)
 abbrev pub lines_along : Direction → List Setting → ℕ → ℕ

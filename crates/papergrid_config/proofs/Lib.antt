@@ -1,4 +1,5 @@
 pub mod Applied
 pub mod Closures
 pub mod CountedLines
+pub mod DecidingCallLemmas
 pub mod FoundLemmas

@@ -1,6 +1,7 @@
 -- The definitions that the contracts cite.
 pub mod Applied
 pub mod Decided
+pub mod DecidingCall
 pub mod Laws
 pub mod Lines
 pub mod Made

@@ -1,5 +1,5 @@
 -- What a list of settings makes of the parts that are looked at place by place, and of a compact configuration.
-use Rattle.std.specs.Prelude.{ℕ, List, [], ◌∷◌, flat_map, Some, Option, option_map}
+use Rattle.std.specs.Prelude.{ℕ, List, [], ◌∷◌, flat_map, reverse, Some, Option, option_map}
 use Rattle.papergrid_values.specs.Colors.{texts_of}
 use Rattle.papergrid_values.specs.declared.ansi_buf.ANSIBuf.{ANSIBuf}
 use Rattle.papergrid_values.specs.declared.ansi_str.ANSIStr.{ANSIStr}
@@ -8,6 +8,7 @@ use Rattle.papergrid_values.specs.declared.entity.Entity.TheVariants.{Global}
 use Rattle.papergrid_values.specs.declared.sides.Sides.{Sides}
 use Rattle.papergrid_tables.specs.BorderHeld.{HeldBorders}
 use Rattle.papergrid_tables.specs.Made.{borders_made}
+use Rattle.papergrid_tables.specs.Places.{Places, places_from}
 use Rattle.papergrid_maps.specs.Made.{spans_made}
 use Rattle.papergrid_maps.specs.Spans.{Spans}
 use Rattle.papergrid_maps.specs.declared.compact.CompactConfig.{CompactConfig}
@@ -18,6 +19,10 @@ use Rattle.papergrid_config.specs.declared.setting.Setting.TheVariants.{SetPaddi
 -- the characters of lines, and the spans
 abbrev pub characters_of : List Setting → HeldBorders ℕ
 characters_of settings = borders_made (flat_map character_calls settings)
+
+-- what the settings leave at each place of the lines, as the last call that sets it
+abbrev pub lines_left : List Setting → Places ℕ
+lines_left settings = places_from (reverse (flat_map character_calls settings))
 
 abbrev pub spans_of : List Setting → Spans
 spans_of settings = spans_made (flat_map span_calls settings)

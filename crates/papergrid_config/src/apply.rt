@@ -1,6 +1,6 @@
 //! Settings as values, applied one at a time or as a list.
 
-ghost use Rattle.std.specs.Prelude.{◌≡◌, ◌∷◌, [], ◌<◌, All, true, false, OnOk, OnErr, IfErr, IsOk, length, take};
+ghost use Rattle.std.specs.Prelude.{◌≡◌, ◌∷◌, [], ◌<◌, All, true, false, OnOk, OnErr, IfErr, IfSome, IsOk, length, slice_get, take};
 ghost use Rattle.papergrid_config.specs.Applied.{is_free, is_in_range, may_grow};
 ghost use Rattle.papergrid_config.specs.Told.{Appends};
 
@@ -55,12 +55,14 @@ impl SpannedConfig {
     }
 
     /// Makes the calls in order, up to one that is refused for memory: then the configuration is
-    /// that of the settings done before it. Condition: each setting is in range.
+    /// that of the settings done before it, and that call is one that may take memory: not one of
+    /// those of which `apply` says that they take none. Condition: each setting is in range.
     pub fn apply_all(&mut self, settings: Vec<Setting>) -> Result<(), Stopped>
         requires { All (λ setting. is_in_range setting ≡ true) settings.items }
         ensures ok { OnOk result (Appends self.old self.new settings.items) }
         ensures err { IfErr result (λ stopped. Appends self.old self.new (take stopped.done settings.items)) }
         ensures refused { IfErr result (λ stopped. stopped.done < length settings.items) }
+        ensures blamed { IfErr result (λ stopped. IfSome (slice_get settings.items stopped.done) (λ setting. is_free setting ≡ false)) }
         ensures free { All (λ setting. is_free setting ≡ true) settings.items → IsOk result }
     {
         let mut done = 0;

@@ -16,11 +16,11 @@ use papergrid_values::{ANSIBuf, Border, Borders, HorizontalLine, Position, Verti
 use std::alloc::AllocError;
 use std::collections::HashMap;
 
-// The shape (rows, columns) and the counts that removals take decide nothing.
 impl SpannedConfig {
     /// Sets the characters of the frame.
     pub fn set_borders(&mut self, borders: Borders<char>)
-        ensures { Appends self.old self.new (Setting.SetBorders borders ∷ []) }
+        ensures told { Appends self.old self.new (Setting.SetBorders borders ∷ []) }
+        ensures others { self.new ≡ record self.old { characters = self.new.characters } }
     {
         self.characters.set_borders(borders);
     }
@@ -34,7 +34,8 @@ impl SpannedConfig {
 
     /// Sets the colours of the frame.
     pub fn set_borders_color(&mut self, colors: Borders<ANSIBuf>)
-        ensures { Appends self.old self.new (Setting.SetBordersColor colors ∷ []) }
+        ensures told { Appends self.old self.new (Setting.SetBordersColor colors ∷ []) }
+        ensures others { self.new ≡ record self.old { colors = self.new.colors } }
     {
         self.colors.set_borders(colors);
     }
@@ -48,7 +49,8 @@ impl SpannedConfig {
 
     /// Sets the character of all lines.
     pub fn set_border_default(&mut self, character: char)
-        ensures { Appends self.old self.new (Setting.SetBorderDefault character ∷ []) }
+        ensures told { Appends self.old self.new (Setting.SetBorderDefault character ∷ []) }
+        ensures others { self.new ≡ record self.old { characters = self.new.characters } }
     {
         self.characters.set_global(character);
     }
@@ -62,7 +64,8 @@ impl SpannedConfig {
 
     /// Sets the colour of all lines, and drops all other colours of lines.
     pub fn set_border_color_default(&mut self, color: ANSIBuf)
-        ensures { Appends self.old self.new (Setting.SetBorderColorDefault color ∷ []) }
+        ensures told { Appends self.old self.new (Setting.SetBorderColorDefault color ∷ []) }
+        ensures others { self.new ≡ record self.old { colors = self.new.colors } }
     {
         self.remove_borders_colors();
         self.colors.set_global(color);
@@ -77,14 +80,16 @@ impl SpannedConfig {
 
     /// Drops all characters of lines, and keeps the missing character.
     pub fn remove_borders(&mut self)
-        ensures { Appends self.old self.new (Setting.RemoveBorders ∷ []) }
+        ensures told { Appends self.old self.new (Setting.RemoveBorders ∷ []) }
+        ensures others { self.new ≡ record self.old { characters = self.new.characters } }
     {
         self.characters = BorderTable::new(self.alloc);
     }
 
     /// Drops all colours of lines.
     pub fn remove_borders_colors(&mut self)
-        ensures { Appends self.old self.new (Setting.RemoveBordersColors ∷ []) }
+        ensures told { Appends self.old self.new (Setting.RemoveBordersColors ∷ []) }
+        ensures others { self.new ≡ record self.old { colors = self.new.colors } }
     {
         self.colors = BorderTable::new(self.alloc);
     }
@@ -96,11 +101,13 @@ impl SpannedConfig {
         requires col { pos.col + 1 < 2 ^ 64 }
         ensures ok { OnOk result (Appends self.old self.new (Setting.SetBorder pos border ∷ [])) }
         ensures err { OnErr result (self.new ≡ self.old) }
+        ensures others { self.new ≡ record self.old { characters = self.new.characters } }
     {
         self.characters.insert_border(pos, border)
     }
 
-    /// Sets the colours round a cell, as `set_border` does the characters.
+    /// Sets the colours round a cell that are set here, and leaves the others. Where memory is
+    /// refused the configuration is as it was. Condition: the next row and column exist in `usize`.
     pub fn set_border_color(
         &mut self,
         pos: Position,
@@ -110,6 +117,7 @@ impl SpannedConfig {
         requires col { pos.col + 1 < 2 ^ 64 }
         ensures ok { OnOk result (Appends self.old self.new (Setting.SetBorderColor pos border ∷ [])) }
         ensures err { OnErr result (self.new ≡ self.old) }
+        ensures others { self.new ≡ record self.old { colors = self.new.colors } }
     {
         self.colors.insert_border(pos, border)
     }
@@ -124,7 +132,8 @@ impl SpannedConfig {
         self.characters.get_border(pos, shape).copied()
     }
 
-    /// The colours found round a cell, likewise.
+    /// The colours found round a cell, in a table of so many rows and columns. Condition: the next
+    /// row and column exist in `usize`.
     pub fn get_border_color(&self, pos: Position, shape: (usize, usize)) -> Border<&ANSIBuf>
         requires row { pos.row + 1 < 2 ^ 64 }
         requires col { pos.col + 1 < 2 ^ 64 }
@@ -134,20 +143,25 @@ impl SpannedConfig {
     }
 
     /// Removes the characters round a cell: of the edges and corners, not of lines, the frame or
-    /// all lines. Condition: the next row and column exist in `usize`.
+    /// all lines. The shape (rows, columns) decides nothing. Condition: the next row and column exist
+    /// in `usize`.
     pub fn remove_border(&mut self, pos: Position, shape: (usize, usize))
         requires row { pos.row + 1 < 2 ^ 64 }
         requires col { pos.col + 1 < 2 ^ 64 }
-        ensures { Appends self.old self.new (Setting.RemoveBorder pos shape ∷ []) }
+        ensures told { Appends self.old self.new (Setting.RemoveBorder pos shape ∷ []) }
+        ensures others { self.new ≡ record self.old { characters = self.new.characters } }
     {
         self.characters.remove_border(pos, shape);
     }
 
-    /// Removes the colours round a cell, likewise.
+    /// Removes the colours round a cell: of the edges and corners, not of lines, the frame or all
+    /// lines. The shape (rows, columns) decides nothing. Condition: the next row and column exist in
+    /// `usize`.
     pub fn remove_border_color(&mut self, pos: Position, shape: (usize, usize))
         requires row { pos.row + 1 < 2 ^ 64 }
         requires col { pos.col + 1 < 2 ^ 64 }
-        ensures { Appends self.old self.new (Setting.RemoveBorderColor pos shape ∷ []) }
+        ensures told { Appends self.old self.new (Setting.RemoveBorderColor pos shape ∷ []) }
+        ensures others { self.new ≡ record self.old { colors = self.new.colors } }
     {
         self.colors.remove_border(pos, shape);
     }
@@ -161,11 +175,13 @@ impl SpannedConfig {
     ) -> Result<(), AllocError>
         ensures ok { OnOk result (Appends self.old self.new (Setting.InsertHorizontalLine row line ∷ [])) }
         ensures err { OnErr result (self.new ≡ self.old) }
+        ensures others { self.new ≡ record self.old { characters = self.new.characters } }
     {
         self.characters.insert_horizontal_line(row, line)
     }
 
-    /// Sets the vertical line left of a column, likewise.
+    /// Sets the vertical line left of a column, in place of the one held. Where memory is refused the
+    /// configuration is as it was.
     pub fn insert_vertical_line(
         &mut self,
         col: usize,
@@ -173,20 +189,23 @@ impl SpannedConfig {
     ) -> Result<(), AllocError>
         ensures ok { OnOk result (Appends self.old self.new (Setting.InsertVerticalLine col line ∷ [])) }
         ensures err { OnErr result (self.new ≡ self.old) }
+        ensures others { self.new ≡ record self.old { characters = self.new.characters } }
     {
         self.characters.insert_vertical_line(col, line)
     }
 
-    /// Removes the horizontal line above a row.
+    /// Removes the horizontal line above a row. The count of rows decides nothing.
     pub fn remove_horizontal_line(&mut self, row: usize, count: usize)
-        ensures { Appends self.old self.new (Setting.RemoveHorizontalLine row count ∷ []) }
+        ensures told { Appends self.old self.new (Setting.RemoveHorizontalLine row count ∷ []) }
+        ensures others { self.new ≡ record self.old { characters = self.new.characters } }
     {
         self.characters.remove_horizontal_line(row, count);
     }
 
-    /// Removes the vertical line left of a column.
+    /// Removes the vertical line left of a column. The count of columns decides nothing.
     pub fn remove_vertical_line(&mut self, col: usize, count: usize)
-        ensures { Appends self.old self.new (Setting.RemoveVerticalLine col count ∷ []) }
+        ensures told { Appends self.old self.new (Setting.RemoveVerticalLine col count ∷ []) }
+        ensures others { self.new ≡ record self.old { characters = self.new.characters } }
     {
         self.characters.remove_vertical_line(col, count);
     }

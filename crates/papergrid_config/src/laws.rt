@@ -1,11 +1,16 @@
 //! Laws over the definitions that the contracts cite.
 
-ghost use Rattle.std.specs.Prelude.{◌≡◌, ◌↔◌, ◌≤◌, ℕ, IsSome, List};
+ghost use Rattle.std.specs.Prelude.{◌≡◌, ◌↔◌, ◌≤◌, ℕ, IsSome, IsTrue, List, length};
 ghost use Rattle.papergrid_values.specs.declared.position.Position.{Position};
 ghost use Rattle.papergrid_tables.specs.BorderHeld.{HeldBorders, places_of};
+ghost use Rattle.papergrid_tables.specs.LineTests.{horizontal_line_at, vertical_line_at};
 ghost use Rattle.papergrid_tables.specs.Places.{HasHorizontal, HasVertical};
+ghost use Rattle.papergrid_maps.specs.MapCalls.{decided_value};
+ghost use Rattle.papergrid_maps.specs.declared.entity_map.MapCall.{MapCall};
+ghost use Rattle.papergrid_config.specs.DecidingCall.{IsDecided};
 ghost use Rattle.papergrid_config.specs.Laws.{HoldsWhatIsDecided};
 ghost use Rattle.papergrid_config.specs.Lines.{shown_horizontal, shown_intersection, shown_vertical};
+ghost use Rattle.papergrid_config.specs.Made.{characters_of, lines_left};
 ghost use Rattle.papergrid_config.specs.Told.{IsTold};
 ghost use Rattle.papergrid_config.specs.declared.setting.Setting.{Setting};
 ghost use Rattle.papergrid_config.specs.declared.spanned.SpannedConfig.{SpannedConfig};
@@ -17,6 +22,24 @@ use crate::spanned::SpannedConfig;
 pub fn told_decides()
     ensures { (settings : List Setting) (config : SpannedConfig) → IsTold settings config →
         HoldsWhatIsDecided settings config }
+{}
+
+/// What is decided for a cell is what its deciding call says, by its place in the list: the last pin that
+/// counts, else the column's value that stands, else the row's, else the whole table's, else the one given
+/// at first; and nothing else is.
+pub fn decided_by_place<T>()
+    ensures decided { (given : T) (calls : List (MapCall T)) (r c : ℕ) →
+        IsDecided calls given r c (length calls) (decided_value given calls (record { row = r; col = c })) }
+    ensures only { (given : T) (calls : List (MapCall T)) (r c : ℕ) (v : T) →
+        IsDecided calls given r c (length calls) v → v ≡ decided_value given calls (record { row = r; col = c }) }
+{}
+
+/// The lines that settings make have a line at a place exactly where what the settings leave has one.
+pub fn lines_by_place()
+    ensures vertical { (settings : List Setting) (col count : ℕ) →
+        IsTrue (vertical_line_at (characters_of settings) col count) ↔ HasVertical (lines_left settings) col count }
+    ensures horizontal { (settings : List Setting) (row count : ℕ) →
+        IsTrue (horizontal_line_at (characters_of settings) row count) ↔ HasHorizontal (lines_left settings) row count }
 {}
 
 /// In a table of so many columns (rows) a character is shown on a line exactly where the line is

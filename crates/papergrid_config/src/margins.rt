@@ -9,28 +9,31 @@ use papergrid_values::{ANSIBuf, Indent, Offset, Sides};
 
 impl SpannedConfig {
     /// Sets the room round the table, in columns of a terminal (left, right) and lines (top,
-    /// bottom).
+    /// bottom). It is never refused.
     pub fn set_margin(&mut self, margin: Sides<Indent>)
-        ensures { Appends self.old self.new (Setting.SetMargin margin ∷ []) }
+        ensures told { Appends self.old self.new (Setting.SetMargin margin ∷ []) }
+        ensures others { self.new ≡ record self.old { margin = self.new.margin } }
     {
         self.margin = margin;
     }
 
-    /// Sets the colours of that room.
+    /// Sets the colours of that room. It is never refused.
     pub fn set_margin_color(&mut self, colors: Sides<Option<ANSIBuf>>)
-        ensures { Appends self.old self.new (Setting.SetMarginColor colors ∷ []) }
+        ensures told { Appends self.old self.new (Setting.SetMarginColor colors ∷ []) }
+        ensures others { self.new ≡ record self.old { margin_color = self.new.margin_color } }
     {
         self.margin_color = colors;
     }
 
-    /// Sets where that room begins and ends beside the table.
+    /// Sets where that room begins and ends beside the table. It is never refused.
     pub fn set_margin_offset(&mut self, offsets: Sides<Offset>)
-        ensures { Appends self.old self.new (Setting.SetMarginOffset offsets ∷ []) }
+        ensures told { Appends self.old self.new (Setting.SetMarginOffset offsets ∷ []) }
+        ensures others { self.new ≡ record self.old { margin_offset = self.new.margin_offset } }
     {
         self.margin_offset = offsets;
     }
 
-    /// The room round the table.
+    /// The room round the table, in columns of a terminal (left, right) and lines (top, bottom).
     pub fn get_margin(&self) -> Sides<Indent>
         ensures { result ≡ self.now.margin }
     {
@@ -59,9 +62,10 @@ impl SpannedConfig {
         self.margin_offset
     }
 
-    /// Sets the character of lines that have none.
+    /// Sets the character of lines that have none. It is never refused.
     pub fn set_borders_missing(&mut self, character: char)
-        ensures { Appends self.old self.new (Setting.SetBordersMissing character ∷ []) }
+        ensures told { Appends self.old self.new (Setting.SetBordersMissing character ∷ []) }
+        ensures others { self.new ≡ record self.old { missing = self.new.missing } }
     {
         self.missing = character;
     }

@@ -11,10 +11,10 @@ use papergrid_values::{ANSIBuf, Offset, Position};
 use std::alloc::AllocError;
 
 // A horizontal line of a cell is the one above it, its vertical line the one left of it. Offsets
-// count columns of a terminal and lines, from the start of the line or back from its end.
+// count from the start of the line or back from its end.
 impl SpannedConfig {
-    /// Sets the character at an offset of the line above a cell. Where memory is refused the
-    /// configuration is as it was.
+    /// Sets the character at an offset of the line above a cell, in columns of a terminal. Where
+    /// memory is refused the configuration is as it was.
     pub fn set_horizontal_char(
         &mut self,
         pos: Position,
@@ -23,11 +23,13 @@ impl SpannedConfig {
     ) -> Result<(), AllocError>
         ensures ok { OnOk result (Appends self.old self.new (Setting.SetHorizontalChar pos offset character ∷ [])) }
         ensures err { OnErr result (self.new ≡ self.old) }
+        ensures others { self.new ≡ record self.old { horizontal_chars = self.new.horizontal_chars } }
     {
         self.horizontal_chars.set(pos, offset, character)
     }
 
-    /// The character set at an offset of the line above a cell, where the line is so long.
+    /// The character set at an offset of the line above a cell, where the line is so long, both in
+    /// columns of a terminal.
     pub fn lookup_horizontal_char(&self, pos: Position, offset: usize, end: usize) -> Option<char>
         ensures { result ≡ found_override (override_at self.now.horizontal_chars pos) offset end }
     {
@@ -43,20 +45,22 @@ impl SpannedConfig {
 
     /// Removes the characters set on the line above a cell.
     pub fn remove_overridden_horizontal(&mut self, pos: Position)
-        ensures { Appends self.old self.new (Setting.RemoveOverriddenHorizontal pos ∷ []) }
+        ensures told { Appends self.old self.new (Setting.RemoveOverriddenHorizontal pos ∷ []) }
+        ensures others { self.new ≡ record self.old { horizontal_chars = self.new.horizontal_chars } }
     {
         self.horizontal_chars.remove(pos);
     }
 
     /// Removes the characters set on the lines above cells.
     pub fn remove_horizontal_chars(&mut self)
-        ensures { Appends self.old self.new (Setting.RemoveHorizontalChars ∷ []) }
+        ensures told { Appends self.old self.new (Setting.RemoveHorizontalChars ∷ []) }
+        ensures others { self.new ≡ record self.old { horizontal_chars = self.new.horizontal_chars } }
     {
         self.horizontal_chars.clear();
     }
 
-    /// Sets the colour at an offset of the line above a cell. Where memory is refused the
-    /// configuration is as it was.
+    /// Sets the colour at an offset of the line above a cell, in columns of a terminal. Where memory
+    /// is refused the configuration is as it was.
     pub fn set_horizontal_char_color(
         &mut self,
         pos: Position,
@@ -65,11 +69,13 @@ impl SpannedConfig {
     ) -> Result<(), AllocError>
         ensures ok { OnOk result (Appends self.old self.new (Setting.SetHorizontalCharColor pos offset color ∷ [])) }
         ensures err { OnErr result (self.new ≡ self.old) }
+        ensures others { self.new ≡ record self.old { horizontal_colors = self.new.horizontal_colors } }
     {
         self.horizontal_colors.set(pos, offset, color)
     }
 
-    /// The colour set at an offset of the line above a cell, where the line is so long.
+    /// The colour set at an offset of the line above a cell, where the line is so long, both in
+    /// columns of a terminal.
     pub fn lookup_horizontal_color(
         &self,
         pos: Position,
@@ -83,13 +89,14 @@ impl SpannedConfig {
 
     /// Removes the colours set on the lines above cells.
     pub fn remove_color_line_horizontal(&mut self)
-        ensures { Appends self.old self.new (Setting.RemoveColorLineHorizontal ∷ []) }
+        ensures told { Appends self.old self.new (Setting.RemoveColorLineHorizontal ∷ []) }
+        ensures others { self.new ≡ record self.old { horizontal_colors = self.new.horizontal_colors } }
     {
         self.horizontal_colors.clear();
     }
 
-    /// Sets the character at an offset of the line left of a cell. Where memory is refused the
-    /// configuration is as it was.
+    /// Sets the character at an offset of the line left of a cell, in lines. Where memory is refused
+    /// the configuration is as it was.
     pub fn set_vertical_char(
         &mut self,
         pos: Position,
@@ -98,11 +105,13 @@ impl SpannedConfig {
     ) -> Result<(), AllocError>
         ensures ok { OnOk result (Appends self.old self.new (Setting.SetVerticalChar pos offset character ∷ [])) }
         ensures err { OnErr result (self.new ≡ self.old) }
+        ensures others { self.new ≡ record self.old { vertical_chars = self.new.vertical_chars } }
     {
         self.vertical_chars.set(pos, offset, character)
     }
 
-    /// The character set at an offset of the line left of a cell, where the line is so long.
+    /// The character set at an offset of the line left of a cell, where the line is so long, both in
+    /// lines.
     pub fn lookup_vertical_char(&self, pos: Position, offset: usize, end: usize) -> Option<char>
         ensures { result ≡ found_override (override_at self.now.vertical_chars pos) offset end }
     {
@@ -118,19 +127,21 @@ impl SpannedConfig {
 
     /// Removes the characters set on the line left of a cell.
     pub fn remove_overridden_vertical(&mut self, pos: Position)
-        ensures { Appends self.old self.new (Setting.RemoveOverriddenVertical pos ∷ []) }
+        ensures told { Appends self.old self.new (Setting.RemoveOverriddenVertical pos ∷ []) }
+        ensures others { self.new ≡ record self.old { vertical_chars = self.new.vertical_chars } }
     {
         self.vertical_chars.remove(pos);
     }
 
     /// Removes the characters set on the lines left of cells.
     pub fn remove_vertical_chars(&mut self)
-        ensures { Appends self.old self.new (Setting.RemoveVerticalChars ∷ []) }
+        ensures told { Appends self.old self.new (Setting.RemoveVerticalChars ∷ []) }
+        ensures others { self.new ≡ record self.old { vertical_chars = self.new.vertical_chars } }
     {
         self.vertical_chars.clear();
     }
 
-    /// Sets the colour at an offset of the line left of a cell. Where memory is refused the
+    /// Sets the colour at an offset of the line left of a cell, in lines. Where memory is refused the
     /// configuration is as it was.
     pub fn set_vertical_char_color(
         &mut self,
@@ -140,11 +151,13 @@ impl SpannedConfig {
     ) -> Result<(), AllocError>
         ensures ok { OnOk result (Appends self.old self.new (Setting.SetVerticalCharColor pos offset color ∷ [])) }
         ensures err { OnErr result (self.new ≡ self.old) }
+        ensures others { self.new ≡ record self.old { vertical_colors = self.new.vertical_colors } }
     {
         self.vertical_colors.set(pos, offset, color)
     }
 
-    /// The colour set at an offset of the line left of a cell, where the line is so long.
+    /// The colour set at an offset of the line left of a cell, where the line is so long, both in
+    /// lines.
     pub fn lookup_vertical_color(
         &self,
         pos: Position,
@@ -158,7 +171,8 @@ impl SpannedConfig {
 
     /// Removes the colours set on the lines left of cells.
     pub fn remove_color_line_vertical(&mut self)
-        ensures { Appends self.old self.new (Setting.RemoveColorLineVertical ∷ []) }
+        ensures told { Appends self.old self.new (Setting.RemoveColorLineVertical ∷ []) }
+        ensures others { self.new ≡ record self.old { vertical_colors = self.new.vertical_colors } }
     {
         self.vertical_colors.clear();
     }

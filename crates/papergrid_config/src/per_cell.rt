@@ -13,20 +13,22 @@ use papergrid_values::{
 };
 use std::alloc::AllocError;
 
-// Each value is set for an entity: for the whole table, a column, a row or a cell. One for the
-// whole table is never refused; where memory is refused the configuration is as it was. Of a cell
-// the value is the one that the settings decide, as `EntityMap` has it.
+// Each value is set for an entity: for the whole table, a column, a row or a cell. Of a cell the
+// value is the one that the settings decide, as `EntityMap` has it.
 impl SpannedConfig {
-    /// Sets the room round an entity's cells, in columns of a terminal (left, right) and lines (top, bottom).
+    /// Sets the room round an entity's cells, in columns of a terminal (left, right) and lines
+    /// (top, bottom). Where memory is refused the configuration is as it was; a value for the whole
+    /// table is never refused.
     pub fn set_padding(&mut self, entity: Entity, padding: Sides<Indent>) -> Result<(), AllocError>
         ensures ok { OnOk result (Appends self.old self.new (Setting.SetPadding entity padding ∷ [])) }
         ensures err { OnErr result (self.new ≡ self.old) }
         ensures global { entity ≡ Entity.Global → IsOk result }
+        ensures others { self.new ≡ record self.old { padding = self.new.padding } }
     {
         self.padding.insert(entity, padding)
     }
 
-    /// The room round a cell.
+    /// The room round a cell, in columns of a terminal (left, right) and lines (top, bottom).
     pub fn get_padding(&self, pos: Position) -> &Sides<Indent>
         ensures held { result.now ≡ held_value self.now.padding pos }
         ensures decided { (settings : List Setting) → IsTold settings self.now → result.now ≡ decided.padding settings pos }
@@ -34,7 +36,8 @@ impl SpannedConfig {
         self.padding.get(pos)
     }
 
-    /// Sets the colours of the room round an entity's cells.
+    /// Sets the colours of the room round an entity's cells. Where memory is refused the
+    /// configuration is as it was; a value for the whole table is never refused.
     pub fn set_padding_color(
         &mut self,
         entity: Entity,
@@ -43,6 +46,7 @@ impl SpannedConfig {
         ensures ok { OnOk result (Appends self.old self.new (Setting.SetPaddingColor entity colors ∷ [])) }
         ensures err { OnErr result (self.new ≡ self.old) }
         ensures global { entity ≡ Entity.Global → IsOk result }
+        ensures others { self.new ≡ record self.old { padding_color = self.new.padding_color } }
     {
         self.padding_color.insert(entity, colors)
     }
@@ -55,11 +59,13 @@ impl SpannedConfig {
         self.padding_color.get(pos)
     }
 
-    /// Sets whether spaces of an entity's texts are trimmed left and right.
+    /// Sets whether spaces of an entity's texts are trimmed left and right. Where memory is refused
+    /// the configuration is as it was; a value for the whole table is never refused.
     pub fn set_trim_horizontal(&mut self, entity: Entity, on: bool) -> Result<(), AllocError>
         ensures ok { OnOk result (Appends self.old self.new (Setting.SetTrimHorizontal entity on ∷ [])) }
         ensures err { OnErr result (self.new ≡ self.old) }
         ensures global { entity ≡ Entity.Global → IsOk result }
+        ensures others { self.new ≡ record self.old { trim_horizontal = self.new.trim_horizontal } }
     {
         self.trim_horizontal.insert(entity, on)
     }
@@ -72,11 +78,14 @@ impl SpannedConfig {
         *self.trim_horizontal.get(pos)
     }
 
-    /// Sets whether blank lines of an entity's texts are trimmed at the top and the bottom.
+    /// Sets whether blank lines of an entity's texts are trimmed at the top and the bottom. Where
+    /// memory is refused the configuration is as it was; a value for the whole table is never
+    /// refused.
     pub fn set_trim_vertical(&mut self, entity: Entity, on: bool) -> Result<(), AllocError>
         ensures ok { OnOk result (Appends self.old self.new (Setting.SetTrimVertical entity on ∷ [])) }
         ensures err { OnErr result (self.new ≡ self.old) }
         ensures global { entity ≡ Entity.Global → IsOk result }
+        ensures others { self.new ≡ record self.old { trim_vertical = self.new.trim_vertical } }
     {
         self.trim_vertical.insert(entity, on)
     }
@@ -89,11 +98,13 @@ impl SpannedConfig {
         *self.trim_vertical.get(pos)
     }
 
-    /// Sets whether each line of an entity's texts is aligned by itself.
+    /// Sets whether each line of an entity's texts is aligned by itself. Where memory is refused
+    /// the configuration is as it was; a value for the whole table is never refused.
     pub fn set_line_alignment(&mut self, entity: Entity, on: bool) -> Result<(), AllocError>
         ensures ok { OnOk result (Appends self.old self.new (Setting.SetLineAlignment entity on ∷ [])) }
         ensures err { OnErr result (self.new ≡ self.old) }
         ensures global { entity ≡ Entity.Global → IsOk result }
+        ensures others { self.new ≡ record self.old { line_alignment = self.new.line_alignment } }
     {
         self.line_alignment.insert(entity, on)
     }
@@ -122,7 +133,8 @@ impl SpannedConfig {
         )
     }
 
-    /// Sets where an entity's texts stand between left and right.
+    /// Sets where an entity's texts stand between left and right. Where memory is refused the
+    /// configuration is as it was; a value for the whole table is never refused.
     pub fn set_alignment_horizontal(
         &mut self,
         entity: Entity,
@@ -131,6 +143,7 @@ impl SpannedConfig {
         ensures ok { OnOk result (Appends self.old self.new (Setting.SetAlignmentHorizontal entity alignment ∷ [])) }
         ensures err { OnErr result (self.new ≡ self.old) }
         ensures global { entity ≡ Entity.Global → IsOk result }
+        ensures others { self.new ≡ record self.old { alignment_horizontal = self.new.alignment_horizontal } }
     {
         self.alignment_horizontal.insert(entity, alignment)
     }
@@ -143,7 +156,8 @@ impl SpannedConfig {
         self.alignment_horizontal.get(pos)
     }
 
-    /// Sets where an entity's texts stand between top and bottom.
+    /// Sets where an entity's texts stand between top and bottom. Where memory is refused the
+    /// configuration is as it was; a value for the whole table is never refused.
     pub fn set_alignment_vertical(
         &mut self,
         entity: Entity,
@@ -152,6 +166,7 @@ impl SpannedConfig {
         ensures ok { OnOk result (Appends self.old self.new (Setting.SetAlignmentVertical entity alignment ∷ [])) }
         ensures err { OnErr result (self.new ≡ self.old) }
         ensures global { entity ≡ Entity.Global → IsOk result }
+        ensures others { self.new ≡ record self.old { alignment_vertical = self.new.alignment_vertical } }
     {
         self.alignment_vertical.insert(entity, alignment)
     }
@@ -164,11 +179,13 @@ impl SpannedConfig {
         self.alignment_vertical.get(pos)
     }
 
-    /// Sets the character that fills up the lines of an entity's texts.
+    /// Sets the character that fills up the lines of an entity's texts. Where memory is refused the
+    /// configuration is as it was; a value for the whole table is never refused.
     pub fn set_justification(&mut self, entity: Entity, character: char) -> Result<(), AllocError>
         ensures ok { OnOk result (Appends self.old self.new (Setting.SetJustification entity character ∷ [])) }
         ensures err { OnErr result (self.new ≡ self.old) }
         ensures global { entity ≡ Entity.Global → IsOk result }
+        ensures others { self.new ≡ record self.old { justification = self.new.justification } }
     {
         self.justification.insert(entity, character)
     }
@@ -181,7 +198,8 @@ impl SpannedConfig {
         *self.justification.get(pos)
     }
 
-    /// Sets the colour of that character.
+    /// Sets the colour of that character. Where memory is refused the configuration is as it was; a
+    /// value for the whole table is never refused.
     pub fn set_justification_color(
         &mut self,
         entity: Entity,
@@ -190,6 +208,7 @@ impl SpannedConfig {
         ensures ok { OnOk result (Appends self.old self.new (Setting.SetJustificationColor entity color ∷ [])) }
         ensures err { OnErr result (self.new ≡ self.old) }
         ensures global { entity ≡ Entity.Global → IsOk result }
+        ensures others { self.new ≡ record self.old { justification_color = self.new.justification_color } }
     {
         self.justification_color.insert(entity, color)
     }

@@ -9,7 +9,7 @@ use papergrid_values::{
 };
 
 /// A call that changes a `SpannedConfig`: each has the arguments of the method with its name, in
-/// the same order.
+/// the same order, and they mean and ask for what they do there.
 #[derive(Clone, Debug, Drop)]
 pub enum Setting {
     SetMargin(Sides<Indent>),

@@ -20,25 +20,30 @@ use std::collections::HashMap;
 // c up to c + column span, however large these sums are. A span that is not held is 1.
 impl SpannedConfig {
     /// Sets the number of columns that a cell spans: 0 does nothing and 1 removes the span that is
-    /// held, so that neither takes memory. Where memory is refused the configuration is as it was.
+    /// held, so that neither takes memory or is refused. Where memory is refused the configuration is
+    /// as it was.
     pub fn set_column_span(&mut self, pos: Position, span: usize) -> Result<(), AllocError>
         ensures ok { OnOk result (Appends self.old self.new (Setting.SetColumnSpan pos span ∷ [])) }
         ensures err { OnErr result (self.new ≡ self.old) }
         ensures small { span < 2 → IsOk result }
+        ensures others { self.new ≡ record self.old { spans = self.new.spans } }
     {
         self.spans.set_column(pos, span)
     }
 
-    /// Sets the number of rows that a cell spans, likewise.
+    /// Sets the number of rows that a cell spans: 0 does nothing and 1 removes the span that is held,
+    /// so that neither takes memory or is refused. Where memory is refused the configuration is as it
+    /// was.
     pub fn set_row_span(&mut self, pos: Position, span: usize) -> Result<(), AllocError>
         ensures ok { OnOk result (Appends self.old self.new (Setting.SetRowSpan pos span ∷ [])) }
         ensures err { OnErr result (self.new ≡ self.old) }
         ensures small { span < 2 → IsOk result }
+        ensures others { self.new ≡ record self.old { spans = self.new.spans } }
     {
         self.spans.set_row(pos, span)
     }
 
-    /// The column span held at a position, of 2 or more.
+    /// The column span held at a position, of 2 or more: a number of columns.
     pub fn get_column_span(&self, pos: Position) -> Option<usize>
         ensures held { result ≡ value_at self.now.spans.columns pos }
         ensures from_two { IfSome result (λ n. 2 ≤ n) }
@@ -46,7 +51,7 @@ impl SpannedConfig {
         self.spans.get_column(pos)
     }
 
-    /// The row span held at a position, of 2 or more.
+    /// The row span held at a position, of 2 or more: a number of rows.
     pub fn get_row_span(&self, pos: Position) -> Option<usize>
         ensures held { result ≡ value_at self.now.spans.rows pos }
         ensures from_two { IfSome result (λ n. 2 ≤ n) }
@@ -84,14 +89,16 @@ impl SpannedConfig {
 
     /// Removes all column spans.
     pub fn remove_column_spans(&mut self)
-        ensures { Appends self.old self.new (Setting.RemoveColumnSpans ∷ []) }
+        ensures told { Appends self.old self.new (Setting.RemoveColumnSpans ∷ []) }
+        ensures others { self.new ≡ record self.old { spans = self.new.spans } }
     {
         self.spans.remove_columns();
     }
 
     /// Removes all row spans.
     pub fn remove_row_spans(&mut self)
-        ensures { Appends self.old self.new (Setting.RemoveRowSpans ∷ []) }
+        ensures told { Appends self.old self.new (Setting.RemoveRowSpans ∷ []) }
+        ensures others { self.new ≡ record self.old { spans = self.new.spans } }
     {
         self.spans.remove_rows();
     }
@@ -105,8 +112,8 @@ impl SpannedConfig {
         self.spans.is_visible(pos)
     }
 
-    /// Whether all of the positions, of which the columns or the rows rise, are visible. Each span is
-    /// looked at once.
+    /// Whether all of the positions are visible. Each span is looked at once. Condition: the columns
+    /// of the positions rise, or their rows, as `rising` says.
     pub fn are_cells_visible(&self, rising: Rising, places: &[Position]) -> bool
         requires { IsRising rising places.now }
         ensures { IsTrue result ↔ All (λ p. IsTrue (is_visible self.now.spans p)) places.now }

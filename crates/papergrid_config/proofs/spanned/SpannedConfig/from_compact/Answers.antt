@@ -8,7 +8,7 @@ use Rattle.papergrid_config.proofs.spanned.SpannedConfig.from_compact.Goals as g
 pub returns : goal.returns
 returns c =
     let told =
-    c.set_borders_color.ensures _ (c.set_borders.ensures _ (c.set_margin_color.ensures _ (c.set_margin.ensures _
+    c.set_borders_color.ensures.told _ (c.set_borders.ensures.told _ (c.set_margin_color.ensures.told _ (c.set_margin.ensures.told _
     (c.in_ok-set_alignment_horizontal.ensures.ok _ (c.in_ok-set_padding_color.ensures.ok _ (c.in_ok-set_padding.ensures.ok _ c.new-config.ensures)))))) in
     let padding_color = c.in_ok-padding_color.ensures ∙ ap colored_sides c.get_padding_color.ensures in
     let margin_color = c.in_ok-owned_sides.ensures ∙ ap colored_sides c.get_margin_color.ensures in

@@ -1,5 +1,5 @@
-use Rattle.papergrid.proofs.DecidedLemmas.{decided_value-IsDecided, IsDecided-only}
-use Rattle.papergrid.proofs.laws.decided_by_place.Goals as goal
+use Rattle.papergrid_config.proofs.DecidingCallLemmas.{decided_value-IsDecided, IsDecided-only}
+use Rattle.papergrid_config.proofs.laws.decided_by_place.Goals as goal
 
 pub returns : goal.returns
 returns g c = record {

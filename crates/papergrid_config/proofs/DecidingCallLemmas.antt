@@ -4,13 +4,12 @@ use Rattle.std.specs.Prelude.{find, slice_get, is_some, unwrap_or}
 use Rattle.std.proofs.lemmas.List.{reverse-append, take_more, take_all}
 use Rattle.std.proofs.lemmas.Option.{same_Some, none-some, slice_get_cases, slice_get_within, get_or_from_slice_get}
 use borrow.Author.Tests.{eqb-true, eq-eqb}
-use Rattle.papergrid.proofs.ReadLemmas.{chosen}
 use Rattle.papergrid_values.specs.declared.position.Position.{Position}
 use Rattle.papergrid_values.specs.declared.entity.Entity.TheVariants.{Global, Column, Row, Cell}
 use Rattle.papergrid_maps.specs.declared.entity_map.MapCall.{MapCall}
 use Rattle.papergrid_maps.specs.declared.entity_map.MapCall.TheVariants.{Insert, Remove}
 use Rattle.papergrid_maps.specs.MapCalls.{column_value, row_value, global_value, pinned_value, decided_value}
-use Rattle.papergrid.specs.Decided.{concerns_column, concerns_row, sets_all, ends_pins, IsLast, ColumnStands, RowStands, IsPin, PinStands, TableStands, NoTable, NoPin, NoColumn, NoRow, IsDecided, ByPin, ByColumn, ByRow, ByTable, ByDefault}
+use Rattle.papergrid_config.specs.DecidingCall.{concerns_column, concerns_row, sets_all, ends_pins, IsLast, ColumnStands, RowStands, IsPin, PinStands, TableStands, NoTable, NoPin, NoColumn, NoRow, IsDecided, ByPin, ByColumn, ByRow, ByTable, ByDefault}
 
 -- the value that these calls decide, newest first
 abbrev decided_by : {T : Type 0} → T → List (MapCall T) → Position → T
@@ -18,6 +17,10 @@ decided_by given newest p =
     unwrap_or (pinned_value p.row p.col newest)
     (unwrap_or (column_value p.col newest)
     (unwrap_or (row_value p.row newest) (global_value given newest)))
+
+chosen : {A : Type 0} (b : Bool) (x y z : A) → cond b x y ≡ z → ((b ≡ true) × (x ≡ z)) ⊎ ((b ≡ false) × (y ≡ z))
+chosen true x y z h = inl (refl, h)
+chosen false x y z h = inr (refl, h)
 
 earlier : (j n : ℕ) → j < suc n → (j < n) ⊎ (j ≡ n)
 earlier j n h = grind arith

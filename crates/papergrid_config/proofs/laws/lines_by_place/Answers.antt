@@ -6,7 +6,7 @@ use Rattle.papergrid_tables.proofs.LineTested.{horizontal_tested, vertical_teste
 use Rattle.papergrid_tables.proofs.MadeTables.{borders_made_told}
 use Rattle.papergrid_config.specs.Made.{characters_of}
 use Rattle.papergrid_config.specs.Parts.{character_calls}
-use Rattle.papergrid.proofs.laws.lines_by_place.Goals as goal
+use Rattle.papergrid_config.proofs.laws.lines_by_place.Goals as goal
 
 pub returns-clause-vertical : goal.returns-clause-vertical
 returns-clause-vertical c settings col count =
