@@ -27,6 +27,10 @@ pub trait PeekableRecords {
     // all records that take the bodies below; what writes its own says here of which it holds.
     ghost is_plain: { Self → Type 0 } = { λ _. ⊤ };
 
+    // Holds of the positions whose cell has the lines and the width of its text, by std's lines, where
+    // that is not said of all cells.
+    ghost is_plain_at: { Self → Position → Type 0 } = { λ _ _. ⊥ };
+
     /// The text of the cell.
     fn get_text(&self, pos: Position) -> &str
         requires { has self.now pos }
@@ -37,6 +41,7 @@ pub trait PeekableRecords {
         requires at { has self.now pos }
         requires there { has_line self.now pos line }
         ensures plain { is_plain self.now → result.now ≡ slice_index_or (std_lines (text self.now pos)) line [] }
+        ensures plain_at { is_plain_at self.now pos → result.now ≡ slice_index_or (std_lines (text self.now pos)) line [] }
     {
         std_line(self.get_text(pos), line)
     }
@@ -45,6 +50,7 @@ pub trait PeekableRecords {
     fn count_lines(&self, pos: Position) -> usize
         requires { has self.now pos }
         ensures plain { is_plain self.now → result ≡ length (std_lines (text self.now pos)) }
+        ensures plain_at { is_plain_at self.now pos → result ≡ length (std_lines (text self.now pos)) }
     {
         count_std_lines(self.get_text(pos))
     }
@@ -53,6 +59,7 @@ pub trait PeekableRecords {
     fn get_width(&self, pos: Position) -> usize
         requires { has self.now pos }
         ensures plain { is_plain self.now → result ≡ text_width (text self.now pos) }
+        ensures plain_at { is_plain_at self.now pos → result ≡ text_width (text self.now pos) }
     {
         get_text_width(self.get_text(pos))
     }
@@ -62,6 +69,7 @@ pub trait PeekableRecords {
         requires at { has self.now pos }
         requires there { has_line self.now pos line }
         ensures plain { is_plain self.now → result ≡ width_of (slice_index_or (std_lines (text self.now pos)) line []) }
+        ensures plain_at { is_plain_at self.now pos → result ≡ width_of (slice_index_or (std_lines (text self.now pos)) line []) }
     {
         get_line_width(self.get_line(pos, line))
     }
@@ -75,6 +83,8 @@ impl<R: PeekableRecords> PeekableRecords for &R {
     ghost text = { λ s p. R.text s.now p };
 
     ghost is_plain = { λ s. R.is_plain s.now };
+
+    ghost is_plain_at = { λ s p. R.is_plain_at s.now p };
 
     fn get_text(&self, pos: Position) -> &str {
         R::get_text(*self, pos)
