@@ -1,4 +1,5 @@
-//! Laws of the definitions, each the contract of a function that does nothing.
+//! Laws of the definitions, each the contract of a function that does nothing. A function that calls one
+//! may cite it in its proof.
 
 ghost use Rattle.std.specs.Prelude.{◌≡◌, ◌<◌, ◌^◌, ⊤, List, Vec, length, map, ℕ};
 ghost use Rattle.std.specs.Borrow.{Bor};
@@ -43,22 +44,24 @@ pub fn vector_tells_cells<'a, T: 'a>()
     ensures told { (row : Bor (Vec T Global)) (cells : List (Bor T)) → Gives ⟦<&'a Vec<T> as IntoIterator>⟧.into_iter_gives ⟦<Iter<'a, T> as Iterator>⟧.next_gives row cells → map (λ cell. cell.now) cells ≡ row.now.items }
 {}
 
-/// Rows that an iterator over a slice of vectors gives are lawful, and their cells are those of the
-/// vectors that it has left.
+/// Rows that an iterator over a slice of vectors gives are lawful where fewer than 2^64 are left. Their
+/// cells are those of the vectors that are left.
 pub fn vectors_tell_rows<'a, T: 'a>()
     ensures lawful { (iter : Iter (Vec T Global)) → length (iter_rest iter) < 2 ^ 64 → ⟦<RowIter<Iter<'a, Vec<T>>> as IntoRecords>⟧.is_lawful (rows_from iter) }
     ensures told { (iter : Iter (Vec T Global)) (cells : List (List (Bor T))) → ⟦<RowIter<Iter<'a, Vec<T>>> as IntoRecords>⟧.tells (rows_from iter) cells → map (map (λ cell. cell.now)) cells ≡ map (λ row. row.items) (iter_rest iter) }
 {}
 
-/// Rows that are the chunks of a slice are lawful, and their cells are the items that are left of the
-/// slice, cut into rows of the chunks' size, the last of which may be shorter.
+/// Rows that are the chunks of a slice, of a size above 0, are lawful where fewer than 2^64 items are
+/// left. Their cells are the items that are left, cut into rows of that size, the last of which may be
+/// shorter.
 pub fn chunks_tell_rows<'a, T: 'a>()
     ensures lawful { (chunks : Chunks T) → 0 < chunks_size chunks → length (chunks_rest chunks) < 2 ^ 64 → ⟦<RowIter<Chunks<'a, T>> as IntoRecords>⟧.is_lawful (rows_from chunks) }
     ensures told { (chunks : Chunks T) (cells : List (List (Bor T))) → 0 < chunks_size chunks → ⟦<RowIter<Chunks<'a, T>> as IntoRecords>⟧.tells (rows_from chunks) cells → map (map (λ cell. cell.now)) cells ≡ cut_rows (chunks_size chunks) (chunks_rest chunks) }
 {}
 
-/// Rows that are the exact chunks of a slice are lawful, and their cells are the items that are left of
-/// the slice, cut into rows of the chunks' size. Those at the end that fill no row are not told.
+/// Rows that are the exact chunks of a slice, of a size above 0, are lawful where fewer than 2^64 items
+/// are left. Their cells are the items that are left, cut into rows of that size. Those at the end that
+/// fill no row are not told.
 pub fn exact_chunks_tell_rows<'a, T: 'a>()
     ensures lawful { (chunks : ChunksExact T) → 0 < chunks_exact_size chunks → length (chunks_exact_rest chunks) < 2 ^ 64 → ⟦<RowIter<ChunksExact<'a, T>> as IntoRecords>⟧.is_lawful (rows_from chunks) }
     ensures told { (chunks : ChunksExact T) (cells : List (List (Bor T))) → 0 < chunks_exact_size chunks → ⟦<RowIter<ChunksExact<'a, T>> as IntoRecords>⟧.tells (rows_from chunks) cells → map (map (λ cell. cell.now)) cells ≡ cut_whole_rows (chunks_exact_size chunks) (chunks_exact_rest chunks) }

@@ -3,6 +3,7 @@
 mod callers;
 mod consumer;
 mod flat;
+mod peeks;
 
 use crate::StrWithWidth;
 use crate::cell::Cell;
@@ -21,6 +22,7 @@ use crate::tests::callers::{
     of_slice, of_texts, of_vectors,
 };
 use crate::tests::flat::{Flat, of_flat};
+use crate::tests::peeks::of_strings;
 use crate::text::Text;
 use crate::vec_records::VecRecords;
 use papergrid_values::Position;
@@ -402,6 +404,7 @@ fn held_rows(rt: HostRuntime) -> Result<(), Fail> {
         of_held(alloc, &records)?.as_slice(),
         [3usize, 3].as_slice()
     );
+    assert_eq!(rt; of_strings(&records, Position::new(0, 1)), (1, 3));
     let copy = records.clone()?;
     assert!(rt; copy == records);
     records.push(Vec::new(alloc))?;
