@@ -5,7 +5,7 @@ use Rattle.std.specs.List.{fold}
 use Rattle.std.proofs.lemmas.List.{map-append, length-map}
 use Rattle.std.proofs.lemmas.List.Sums.{fold-append}
 use Rattle.papergrid_text.specs.ColumnWidths.{widen, greatest_widths, raised}
-use Rattle.papergrid_text.proofs.RowSteps.{told_by}
+use Rattle.papergrid_text.proofs.RowSteps.{map_map_twice, told_by}
 
 pub widen-none : (ws : List ℕ) → widen ws [] ≡ ws
 widen-none [] = refl
@@ -53,3 +53,9 @@ pub from_told : {A B R : Type 0} (v : A → B) (g : B → ℕ) (items : R → Li
     → map (map v) cells ≡ map items rows → rows ≡ known → n ≡ m → widths ≡ greatest_widths n (map (map (λ x. g (v x))) cells) → widths ≡ greatest_widths m (map (λ row. map g (items row)) known)
 from_told v g items cells rows known n m widths told same count is =
     is ∙ ap (λ k. greatest_widths k (map (map (λ x. g (v x))) cells)) count ∙ ap (greatest_widths m) (told_by v g items cells rows told ∙ ap (map (λ row. map g (items row))) same)
+
+-- the same of rows that are lists
+pub from_lists : {A B : Type 0} (v : A → B) (g : B → ℕ) (cells : List (List A)) (rows : List (List B)) (n m : ℕ) (widths : List ℕ)
+    → map (map v) cells ≡ rows → n ≡ m → widths ≡ greatest_widths n (map (map (λ x. g (v x))) cells) → widths ≡ greatest_widths m (map (map g) rows)
+from_lists v g cells rows n m widths told count is =
+    is ∙ ap (λ k. greatest_widths k (map (map (λ x. g (v x))) cells)) count ∙ ap (greatest_widths m) (sym (map_map_twice v g cells) ∙ ap (map (map g)) told)

@@ -25,7 +25,7 @@ one_more_fits {steps = steps} {it = it} short t u xs x walked step =
 
 -- ---- what a caller reads of the cells told
 
-map_map_twice : {A B C : Type 0} (v : A → B) (g : B → C) (xs : List (List A)) → map (map g) (map (map v) xs) ≡ map (map (λ x. g (v x))) xs
+pub map_map_twice : {A B C : Type 0} (v : A → B) (g : B → C) (xs : List (List A)) → map (map g) (map (map v) xs) ≡ map (map (λ x. g (v x))) xs
 map_map_twice v g [] = refl
 map_map_twice v g (x ∷ xs) = let a = map_twice v g x in let b = map_map_twice v g xs in cc
 

@@ -8,6 +8,10 @@ module _ {I : Type 0} where
   abbrev pub rows_iterated : RowIter I → I
   rows_iterated r = r.iter
 
+  -- the rows that an iterator gives
+  abbrev pub rows_from : I → RowIter I
+  rows_from iter = record { iter = iter }
+
   -- records of what can be walked, with a number of columns and a hint of the number of rows
   abbrev pub counted : I → ℕ → Option ℕ → IterRecords I
   counted rows columns hint = record { iter = rows; count_columns = columns; count_rows = hint }

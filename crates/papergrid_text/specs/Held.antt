@@ -1,5 +1,7 @@
 -- The rows that records hold.
-use Rattle.std.specs.Prelude.{ℕ, List, [], ◌∷◌, length, Vec, Option, Some, None, slice_get, MatchOption}
+use Rattle.std.specs.Prelude.{◌≡◌, ℕ, List, [], ◌∷◌, length, map, Vec, Option, Some, None, slice_get, MatchOption}
+use Rattle.std.specs.Str.Lines.{lines as std_lines}
+use Rattle.papergrid_text.specs.Text.{text_width, with_width}
 
 -- the number of columns, by the first row
 abbrev pub first_length : {T Z : Type 0} → List (Vec T Z) → ℕ
@@ -30,3 +32,7 @@ module _ {T Z : Type 0} where
   -- the text of the cell at the place, and the empty text where there is none
   abbrev pub cell_text : (T → List ℕ) → List (Vec T Z) → ℕ → ℕ → List ℕ
   cell_text text rows row col = text_of text (cell_at rows row col)
+
+-- the lines and the width of the cell are those of its text, by std's lines
+abbrev pub IsPlainCell : {T : Type 0} → (T → List ℕ) → (T → List (List ℕ × ℕ)) → (T → ℕ) → T → Type 0
+IsPlainCell text lines width cell = (lines cell ≡ map with_width (std_lines (text cell))) × (width cell ≡ text_width (text cell))

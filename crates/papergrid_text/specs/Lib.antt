@@ -1,5 +1,6 @@
 pub mod ColumnWidths
 pub mod Counted
+pub mod Cut
 pub mod Held
 pub mod HeldRows
 pub mod Kept

@@ -8,6 +8,9 @@ use crate::string::{get_line_width, get_text_width};
 use std::iter::Iterator;
 
 /// A cell of a table. Widths are in columns of a terminal.
+///
+/// An implementation says what the text, its lines with their widths, and the width of the whole are,
+/// and owes that each call answers by them alone. Nothing ties the lines and widths to the text.
 pub trait Cell {
     // The text.
     ghost text: { Self → List ℕ };
@@ -22,7 +25,7 @@ pub trait Cell {
     fn text(&self) -> &str
         ensures { result.now ≡ text self.now };
 
-    /// The line at a place.
+    /// The line at a place, counted from 0. It has to be there: the place is below `count_lines`.
     fn line(&self, line: usize) -> &str
         requires { line < length (lines self.now) }
         ensures { result.now ≡ (slice_index_or (lines self.now) line ([], 0)).0 };
@@ -35,7 +38,8 @@ pub trait Cell {
     fn width(&self) -> usize
         ensures { result ≡ width self.now };
 
-    /// The width of the line at a place.
+    /// The width of the line at a place, counted from 0. It has to be there: the place is below
+    /// `count_lines`.
     fn line_width(&self, line: usize) -> usize
         requires { line < length (lines self.now) }
         ensures { result ≡ (slice_index_or (lines self.now) line ([], 0)).1 };

@@ -15,7 +15,8 @@ pub struct RowIter<I> {
 }
 
 impl<I> RowIter<I> {
-    /// The rows that the iterator gives. They are lawful where it ends and each of its items does.
+    /// The rows that the iterator gives. They are lawful where it may be called and ends, with fewer than
+    /// 2^64 items, and so does the walk over each item.
     pub fn new(iter: I) -> RowIter<I>
         ensures { rows_iterated result ≡ iter }
     {
@@ -52,7 +53,8 @@ pub struct IterRecords<I> {
 }
 
 impl<I> IterRecords<I> {
-    /// Records with this number of columns, and a number of rows where one is known.
+    /// Records with this number of columns, and a number of rows where one is known. They are lawful where
+    /// what is walked is. Neither number is checked.
     pub fn new(iter: I, count_columns: usize, count_rows: Option<usize>) -> IterRecords<I>
         ensures { result ≡ counted iter count_columns count_rows }
     {

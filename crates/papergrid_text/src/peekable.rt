@@ -11,8 +11,10 @@ use papergrid_values::Position;
 
 /// Records whose cells are read by position. Widths are in columns of a terminal.
 ///
-/// The calls on lines and widths have bodies of their own, which measure the text by std's lines.
-/// A line that is not there is the empty text to them.
+/// An implementation says which positions and which lines may be read, and what text each cell has, and
+/// owes that `get_text` gives it. The calls on lines and widths have bodies of their own, which measure
+/// the text by std's lines. A line that is not there is the empty text to them. What has other lines or
+/// widths, and so writes these calls, says of which records or positions they are those of the text.
 pub trait PeekableRecords {
     // Holds of the positions whose cell may be read.
     ghost has: { Self → Position → Type 0 };
@@ -27,41 +29,51 @@ pub trait PeekableRecords {
     // all records that take the bodies below; what writes its own says here of which it holds.
     ghost is_plain: { Self → Type 0 } = { λ _. ⊤ };
 
-    /// The text of the cell.
+    // Holds of the positions whose cell has the lines and the width of its text, by std's lines, where
+    // that is not said of all cells.
+    ghost is_plain_at: { Self → Position → Type 0 } = { λ _ _. ⊥ };
+
+    /// The text of the cell. The records have to have a cell at the position.
     fn get_text(&self, pos: Position) -> &str
         requires { has self.now pos }
         ensures { result.now ≡ text self.now pos };
 
-    /// The line of the cell at a place.
+    /// The line of the cell at a place, counted from 0. The records have to have a cell at the position,
+    /// and the line has to be one that may be read.
     fn get_line(&self, pos: Position, line: usize) -> &str
         requires at { has self.now pos }
         requires there { has_line self.now pos line }
         ensures plain { is_plain self.now → result.now ≡ slice_index_or (std_lines (text self.now pos)) line [] }
+        ensures plain_at { is_plain_at self.now pos → result.now ≡ slice_index_or (std_lines (text self.now pos)) line [] }
     {
         std_line(self.get_text(pos), line)
     }
 
-    /// The number of lines of the cell.
+    /// The number of lines of the cell. The records have to have a cell at the position.
     fn count_lines(&self, pos: Position) -> usize
         requires { has self.now pos }
         ensures plain { is_plain self.now → result ≡ length (std_lines (text self.now pos)) }
+        ensures plain_at { is_plain_at self.now pos → result ≡ length (std_lines (text self.now pos)) }
     {
         count_std_lines(self.get_text(pos))
     }
 
-    /// The width of the cell.
+    /// The width of the cell. The records have to have a cell at the position.
     fn get_width(&self, pos: Position) -> usize
         requires { has self.now pos }
         ensures plain { is_plain self.now → result ≡ text_width (text self.now pos) }
+        ensures plain_at { is_plain_at self.now pos → result ≡ text_width (text self.now pos) }
     {
         get_text_width(self.get_text(pos))
     }
 
-    /// The width of the line of the cell at a place.
+    /// The width of the line of the cell at a place, counted from 0. The records have to have a cell at
+    /// the position, and the line has to be one that may be read.
     fn get_line_width(&self, pos: Position, line: usize) -> usize
         requires at { has self.now pos }
         requires there { has_line self.now pos line }
         ensures plain { is_plain self.now → result ≡ width_of (slice_index_or (std_lines (text self.now pos)) line []) }
+        ensures plain_at { is_plain_at self.now pos → result ≡ width_of (slice_index_or (std_lines (text self.now pos)) line []) }
     {
         get_line_width(self.get_line(pos, line))
     }
@@ -75,6 +87,8 @@ impl<R: PeekableRecords> PeekableRecords for &R {
     ghost text = { λ s p. R.text s.now p };
 
     ghost is_plain = { λ s. R.is_plain s.now };
+
+    ghost is_plain_at = { λ s p. R.is_plain_at s.now p };
 
     fn get_text(&self, pos: Position) -> &str {
         R::get_text(*self, pos)

@@ -2,7 +2,8 @@
 //! `records/exact_records.rs`.
 //!
 //! Records are lawful where their walk ends, with fewer than 2^64 rows and fewer than 2^64 cells in
-//! each. What takes records asks for it.
+//! each. What takes records asks for it. `laws` has what an implementation over std's slices and
+//! vectors needs to show it.
 
 ghost use Rattle.std.specs.Prelude.{◌≡◌, List, ℕ, ⊤, Option, map, length};
 ghost use Rattle.papergrid_text.specs.Records.{WalkIsShort, GivesRows};
@@ -10,6 +11,10 @@ ghost use Rattle.papergrid_text.specs.Records.{WalkIsShort, GivesRows};
 use std::iter::{IntoIterator, Iterator};
 
 /// What can be walked as rows of cells.
+///
+/// An implementation says which of its values are lawful, and which rows of cells a walk over them may
+/// tell. It owes that of a lawful value the walk over the rows, and that over the cells of each row, may
+/// begin, ends, and is shorter than 2^64; and that the rows of cells that a walk gives are told.
 pub trait IntoRecords: Sized {
     type Cell;
 
@@ -23,13 +28,16 @@ pub trait IntoRecords: Sized {
     // Holds of a value and the rows of cells that its walk gives.
     ghost tells: { Self → List (List Self.Cell) → Type 0 };
 
-    /// The rows.
+    /// The rows. Of lawful records, the walk over them and that over the cells of each end.
     fn iter_rows(self) -> Self::IterRows
         ensures finite { is_lawful self → WalkIsShort Self.IterRows.into_iter_gives Self.IterRows.IntoIter.can_next Self.IterRows.IntoIter.remaining Self.IterRows.IntoIter.next_gives (WalkIsShort Self.IterColumns.into_iter_gives Self.IterColumns.IntoIter.can_next Self.IterColumns.IntoIter.remaining Self.IterColumns.IntoIter.next_gives (λ _. ⊤)) result }
         ensures told { (cells : List (List Self.Cell)) → GivesRows Self.IterRows.into_iter_gives Self.IterRows.IntoIter.next_gives Self.IterColumns.into_iter_gives Self.IterColumns.IntoIter.next_gives result cells → tells self cells };
 }
 
 /// Rows of cells, with a number of columns.
+///
+/// An implementation owes what one of `IntoRecords` does, and that each count is one that the value
+/// alone decides. A row may have more or fewer cells than there are columns.
 pub trait Records: Sized {
     type Iter: IntoRecords;
 
@@ -45,7 +53,7 @@ pub trait Records: Sized {
     // The number of rows, where it is told beforehand. Nothing rests on it.
     ghost hint: { Self → Option ℕ };
 
-    /// The rows.
+    /// The rows. Of lawful records, the walk over them and that over the cells of each end.
     fn iter_rows(self) -> <Self::Iter as IntoRecords>::IterRows
         ensures finite { is_lawful self → WalkIsShort Self.Iter.IterRows.into_iter_gives Self.Iter.IterRows.IntoIter.can_next Self.Iter.IterRows.IntoIter.remaining Self.Iter.IterRows.IntoIter.next_gives (WalkIsShort Self.Iter.IterColumns.into_iter_gives Self.Iter.IterColumns.IntoIter.can_next Self.Iter.IterColumns.IntoIter.remaining Self.Iter.IterColumns.IntoIter.next_gives (λ _. ⊤)) result }
         ensures told { (cells : List (List Self.Iter.Cell)) → GivesRows Self.Iter.IterRows.into_iter_gives Self.Iter.IterRows.IntoIter.next_gives Self.Iter.IterColumns.into_iter_gives Self.Iter.IterColumns.IntoIter.next_gives result cells → tells self cells };
@@ -59,7 +67,7 @@ pub trait Records: Sized {
         ensures { result ≡ hint self.now };
 }
 
-/// Records that tell their number of rows.
+/// Records that tell their number of rows. An implementation owes a number that the value alone decides.
 pub trait ExactRecords {
     ghost rows: { Self → ℕ };
 

@@ -46,7 +46,8 @@ fn cut_line(text: &str) -> (&str, Option<&str>)
     cut_line_at(text, find_byte(text.as_bytes(), b'\n'))
 }
 
-/// The first line, and what stands after its newline, where it is known where the line ends.
+/// The first line, and what stands after its newline, where it is known where the line ends: `end` has
+/// to be the place of the first newline, in bytes, or the length of the text where there is none.
 pub fn cut_line_at(text: &str, end: usize) -> (&str, Option<&str>)
     requires { end ≡ position_or_len (λ b. b == 10) text.now }
     ensures lines { split_lines text.now ≡ result.0.now ∷ lines_of_rest result.1 }

@@ -2,11 +2,15 @@
 
 mod callers;
 mod consumer;
+mod flat;
+mod peeks;
 
 use crate::StrWithWidth;
 use crate::cell::Cell;
 use crate::iter_records::IterRecords;
-use crate::laws::{dimension_without_carriage_returns, lines_join_to_text};
+use crate::laws::{
+    dimension_without_carriage_returns, lines_join_to_text, slice_tells_cells, vector_tells_cells,
+};
 use crate::peekable::PeekableRecords;
 use crate::records::{ExactRecords, Records};
 use crate::string::{
@@ -14,8 +18,11 @@ use crate::string::{
     get_text_dimension, get_text_width, replace_tab,
 };
 use crate::tests::callers::{
-    of_held, of_lent, of_lent_records, of_nested, of_row_iter, of_slice, of_texts, of_vectors,
+    of_chunks, of_exact_chunks, of_held, of_lent, of_lent_records, of_nested, of_row_iter,
+    of_slice, of_texts, of_vectors,
 };
+use crate::tests::flat::{Flat, of_flat};
+use crate::tests::peeks::of_strings;
 use crate::text::Text;
 use crate::vec_records::VecRecords;
 use papergrid_values::Position;
@@ -48,6 +55,8 @@ fn text_measures(rt: HostRuntime) {
     assert_eq!(rt; lines.next(), None);
     lines_join_to_text();
     dimension_without_carriage_returns();
+    slice_tells_cells::<u8>();
+    vector_tells_cells::<u8>();
 }
 
 #[test]
@@ -330,6 +339,62 @@ fn greatest_widths(rt: HostRuntime) -> Result<(), Fail> {
 }
 
 #[test]
+fn exact_cells_peeked(rt: HostRuntime) -> Result<(), Fail> {
+    let alloc = rt.alloc();
+    let first = Text::exact("ab", 7, Vec::new(alloc));
+    let second = Text::exact("xyz", 9, given_lines(alloc)?);
+    let rows = vec![in alloc; vec![in alloc; first, second]?]?;
+    let records = VecRecords::new(rows);
+    let pos = Position::new(0, 0);
+    let next = Position::new(0, 1);
+    assert_eq!(rt; records.get_text(pos), "ab");
+    assert_eq!(rt; PeekableRecords::count_lines(&records, next), 2);
+    assert_eq!(rt; records.get_line(next, 1), "bc");
+    assert_eq!(rt; records.get_width(pos), 7);
+    assert_eq!(rt; records.get_line_width(next, 1), 2);
+    let lent = &records;
+    assert_eq!(rt; PeekableRecords::get_text(&lent, pos), "ab");
+    assert_eq!(rt; PeekableRecords::count_lines(&lent, pos), 1);
+    assert_eq!(rt; PeekableRecords::count_lines(&lent, next), 2);
+    assert_eq!(rt; PeekableRecords::get_line(&lent, pos, 0), "ab");
+    assert_eq!(rt; PeekableRecords::get_line(&lent, next, 1), "bc");
+    assert_eq!(rt; PeekableRecords::get_width(&lent, pos), 7);
+    assert_eq!(rt; PeekableRecords::get_width(&lent, next), 9);
+    assert_eq!(rt; PeekableRecords::get_line_width(&lent, pos, 0), 7);
+    assert_eq!(rt; PeekableRecords::get_line_width(&lent, next, 1), 2);
+    let twice = &lent;
+    assert_eq!(rt; PeekableRecords::get_text(&twice, pos), "ab");
+    assert_eq!(rt; PeekableRecords::count_lines(&twice, next), 2);
+    assert_eq!(rt; PeekableRecords::get_line(&twice, next, 1), "bc");
+    assert_eq!(rt; PeekableRecords::get_width(&twice, pos), 7);
+    assert_eq!(rt; PeekableRecords::get_line_width(&twice, pos, 0), 7);
+    Ok(())
+}
+
+#[test]
+fn rows_cut_from_one_list(rt: HostRuntime) -> Result<(), Fail> {
+    let alloc = rt.alloc();
+    let mut texts = Vec::new(alloc);
+    for text in ["a", "bcd", "xyz", "", "efghi"] {
+        texts.push(String::from_str(alloc, text)?)?;
+    }
+    let expected = [5usize, 3];
+    assert_eq!(rt;
+        of_chunks(alloc, texts.as_slice(), 2)?.as_slice(),
+        expected.as_slice()
+    );
+    assert_eq!(rt;
+        of_exact_chunks(alloc, texts.as_slice(), 2)?.as_slice(),
+        [3usize, 3].as_slice()
+    );
+    let flat = Flat { texts, columns: 2 };
+    assert_eq!(rt; of_flat(alloc, &flat)?.as_slice(), expected.as_slice());
+    assert_eq!(rt; Records::count_columns(&&flat), 2);
+    assert_eq!(rt; Records::hint_count_rows(&&flat), None);
+    Ok(())
+}
+
+#[test]
 fn held_rows(rt: HostRuntime) -> Result<(), Fail> {
     let alloc = rt.alloc();
     let mut records = VecRecords::new(owned_rows(alloc)?);
@@ -339,6 +404,7 @@ fn held_rows(rt: HostRuntime) -> Result<(), Fail> {
         of_held(alloc, &records)?.as_slice(),
         [3usize, 3].as_slice()
     );
+    assert_eq!(rt; of_strings(&records, Position::new(0, 1)), (1, 3));
     let copy = records.clone()?;
     assert!(rt; copy == records);
     records.push(Vec::new(alloc))?;

@@ -44,7 +44,8 @@ impl<S: AsStr> Model for Text<S> {
 }
 
 impl<S: AsStr> Text<S> {
-    /// Keeps the text with the width and the lines that are given.
+    /// Keeps the text with the width, in columns of a terminal, and the lines that are given. Nothing is
+    /// measured or checked. Where no line is given the text is its one line.
     pub fn exact(text: S, width: usize, lines: Vec<StrWithWidth<'static>>) -> Text<S>
         ensures { result ≡ record { text = text; width = width; lines = map given_line lines.entry.items } }
     {

@@ -106,9 +106,11 @@ impl<T> ExactRecords for VecRecords<T> {
     }
 }
 
+// The rows held, whatever the counts tell, have the cells that may be read. A line may be read where the
+// cell has it.
 impl<T: Cell> PeekableRecords for VecRecords<T> {
     ghost use Rattle.std.specs.Prelude.{◌≡◌, ◌<◌, [], length, slice_index_or, MatchOption};
-    ghost use Rattle.papergrid_text.specs.Held.{HasCell, HoldsOfCell, cell_text};
+    ghost use Rattle.papergrid_text.specs.Held.{HasCell, HoldsOfCell, IsPlainCell, cell_text};
     ghost use Rattle.papergrid_text.specs.HeldRows.{rows_held};
 
     ghost has = { λ s p. HasCell (rows_held s).items p.row p.col };
@@ -117,8 +119,10 @@ impl<T: Cell> PeekableRecords for VecRecords<T> {
 
     ghost text = { λ s p. cell_text T.text (rows_held s).items p.row p.col };
 
-    // The cells have lines and widths of their own.
+    // The cells have lines and widths of their own, which may be those of their texts.
     ghost is_plain = { λ _. ⊥ };
+
+    ghost is_plain_at = { λ s p. HoldsOfCell (IsPlainCell T.text T.lines T.width) (rows_held s).items p.row p.col };
 
     fn get_text(&self, pos: Position) -> &str {
         self.rows[pos.row][pos.col].text()

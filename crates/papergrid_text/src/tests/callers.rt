@@ -1,12 +1,14 @@
 //! The consumer at each type that records come in.
 
-ghost use Rattle.std.specs.Prelude.{◌≡◌, map, IfOk, string_bytes};
+ghost use Rattle.std.specs.Prelude.{◌≡◌, ◌<◌, map, IfOk, string_bytes};
 ghost use Rattle.papergrid_text.specs.ColumnWidths.{greatest_widths};
 ghost use Rattle.papergrid_text.specs.Counted.{counted_rows, counted_columns};
+ghost use Rattle.papergrid_text.specs.Cut.{cut_rows, cut_whole_rows};
 ghost use Rattle.papergrid_text.specs.HeldRows.{rows_held, column_count};
 ghost use Rattle.papergrid_text.specs.Text.{text_width};
 
 use crate::iter_records::{IterRecords, RowIter};
+use crate::laws::{chunks_tell_rows, exact_chunks_tell_rows, vectors_tell_rows};
 use crate::tests::consumer::widest;
 use crate::text::Text;
 use crate::vec_records::VecRecords;
@@ -49,6 +51,7 @@ pub fn of_row_iter(
 ) -> Result<Vec<usize>, AllocError>
     ensures { IfOk result (λ widths. widths.items ≡ greatest_widths columns (map (λ row. map (λ cell. text_width (string_bytes cell)) row.items) rows.now)) }
 {
+    vectors_tell_rows::<String>();
     widest(
         alloc,
         IterRecords::new(RowIter::new(rows.iter()), columns, None),
@@ -88,4 +91,30 @@ pub fn of_texts(
     ensures { IfOk result (λ widths. widths.items ≡ greatest_widths columns (map (λ row. map (λ cell. text_width (string_bytes cell.text)) row.items) rows.items)) }
 {
     widest(alloc, VecRecords::with_size(rows, 0, columns))
+}
+
+pub fn of_chunks(alloc: Global, texts: &[String], columns: usize) -> Result<Vec<usize>, AllocError>
+    requires { 0 < columns }
+    ensures { IfOk result (λ widths. widths.items ≡ greatest_widths columns (map (map (λ cell. text_width (string_bytes cell))) (cut_rows columns texts.now))) }
+{
+    chunks_tell_rows::<String>();
+    widest(
+        alloc,
+        IterRecords::new(RowIter::new(texts.chunks(columns)), columns, None),
+    )
+}
+
+pub fn of_exact_chunks(
+    alloc: Global,
+    texts: &[String],
+    columns: usize,
+) -> Result<Vec<usize>, AllocError>
+    requires { 0 < columns }
+    ensures { IfOk result (λ widths. widths.items ≡ greatest_widths columns (map (map (λ cell. text_width (string_bytes cell))) (cut_whole_rows columns texts.now))) }
+{
+    exact_chunks_tell_rows::<String>();
+    widest(
+        alloc,
+        IterRecords::new(RowIter::new(texts.chunks_exact(columns)), columns, None),
+    )
 }
