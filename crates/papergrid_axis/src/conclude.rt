@@ -5,34 +5,14 @@ ghost use Rattle.papergrid_axis.specs.declared.demand.Demand.{Demand};
 ghost use Rattle.papergrid_axis.specs.Answers.{IsCertified, IsExact};
 ghost use Rattle.papergrid_axis.specs.Ranges.{lines_to};
 ghost use Rattle.papergrid_axis.specs.Seen.{IsSeen};
-ghost use Rattle.papergrid_axis.specs.Settled.{IsSettled};
 
 use crate::axis::Axis;
 use crate::error::LayoutError;
-use crate::finish::finish;
-use crate::lines::lines_of;
 use crate::seen::Seen;
-use crate::settled::Settled;
+use crate::settled::settle;
 use crate::witness::settled_witness;
 use papergrid_values::Position;
 use std::alloc::Global;
-
-/// What the seen cells of a table of `count` columns (rows) come to, with the lines of the axis.
-fn settle<A: Axis>(
-    alloc: Global,
-    count: usize,
-    seen: &Seen,
-    axis: &A,
-) -> Result<Settled, LayoutError>
-    requires { (demands : List Demand) × IsSeen count seen.now demands }
-    ensures { (demands : List Demand) → IsSeen count seen.now demands →
-        IsSettled (lines_to (A.line axis.now) count) count demands result }
-{
-    // A count that no memory holds is refused before it is counted up to.
-    let zeros = vec![in alloc; 0; count]?;
-    let lines = lines_of(alloc, axis, count)?;
-    finish(alloc, count, zeros, seen, &lines)
-}
 
 /// The sizes of `count` columns (rows) that the seen cells ask for, with the lines of the axis.
 ///

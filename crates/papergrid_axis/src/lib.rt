@@ -4,7 +4,6 @@
 
 mod apart;
 pub mod axis;
-mod base;
 pub mod checked;
 mod chosen;
 pub mod claim;
@@ -12,16 +11,11 @@ pub mod conclude;
 pub mod demand;
 pub mod direction;
 pub mod error;
-pub mod finish;
-mod grow;
 mod growers;
 mod last_cells;
 pub mod laws;
-mod lines;
-mod order;
 pub mod seen;
-mod settled;
-mod sums;
+pub mod settled;
 mod witness;
 
 pub use axis::Axis;

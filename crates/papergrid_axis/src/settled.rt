@@ -1,18 +1,113 @@
 //! The sizes along a direction, once the cells of longer ranges were taken.
 
-ghost use Rattle.std.specs.Prelude.{◌≡◌, ◌+◌, List, None, false, length, replicate};
+ghost use Rattle.std.specs.Prelude.{All, Bool, EachIndex, IfNone, IfOk, IfSome, List, None, false, length, nat_lt, replicate, slice_index, slice_index_or, ℕ, ◌+◌, ◌≡◌};
+ghost use Rattle.papergrid_axis.specs.Ranges.{IsInTable, end_of, first_out, line_at, lines_to};
+ghost use Rattle.papergrid_axis.specs.Seen.{IsSeen, no_demand};
+ghost use Rattle.papergrid_axis.specs.KeptApart.{longer};
+ghost use Rattle.papergrid_axis.specs.Sizes.{taken};
 ghost use Rattle.papergrid_axis.specs.declared.demand.Demand.{Demand};
-ghost use Rattle.papergrid_axis.specs.Ranges.{first_out, line_at};
-ghost use Rattle.papergrid_axis.specs.Seen.{IsSeen};
+ghost use Rattle.papergrid_axis.specs.Answers.{IsRefused};
 ghost use Rattle.papergrid_axis.specs.Settled.{IsSettled};
 
-use crate::base::write_base;
+use crate::axis::Axis;
 use crate::demand::Demand;
 use crate::error::LayoutError;
 use crate::growers::grow_all;
-use crate::order::taken;
-use crate::seen::Seen;
-use std::alloc::Global;
+use crate::seen::{Seen, single_at};
+use papergrid_values::Position;
+use std::alloc::{AllocError, Global};
+
+/// Writes for each number whether there is a line before it.
+fn fill_lines<A: Axis>(lines: &mut [bool], axis: &A)
+    ensures length { length lines.new ≡ length lines.old }
+    ensures drawn { EachIndex lines.new (λ k. slice_index_or lines.new k false ≡ A.line axis.now k) }
+{
+    for i in 0..lines.len() {
+        lines[i] = axis.has_line(i);
+    }
+}
+
+/// Whether there is a line before each of `count` columns (rows), and after the last.
+fn lines_of<A: Axis>(alloc: Global, axis: &A, count: usize) -> Result<Vec<bool>, AllocError>
+    ensures length { IfOk result (λ lines. length lines.items ≡ count + 1) }
+    ensures drawn { IfOk result (λ lines. line_at lines.items ≡ lines_to (A.line axis.now) count) }
+{
+    let mut lines = vec![in alloc; false; count]?;
+    fill_lines(&mut lines, axis);
+    lines.push(axis.has_line(count))?;
+    Ok(lines)
+}
+
+/// Writes for each number what the cell needs that is kept there.
+fn write_base(sizes: &mut [usize], singles: &[Demand])
+    ensures length { length sizes.new ≡ length sizes.old }
+    ensures base { EachIndex sizes.new (λ k. slice_index sizes.new k ≡ (slice_index_or singles.now k no_demand).need) }
+{
+    for i in 0..sizes.len() {
+        sizes[i] = single_at(singles, i).need;
+    }
+}
+
+/// The cells of longer ranges as they come, by row and then by column.
+fn longer(alloc: Global, demands: &[Demand]) -> Result<Vec<Demand>, AllocError>
+    ensures { IfOk result (λ cells. cells.items ≡ longer demands.now) }
+{
+    demands
+        .iter()
+        .filter(|demand| 1 < demand.span)
+        .copied()
+        .collect(alloc)
+}
+
+/// The cells of longer ranges, the smaller spans first, and those of one span as they come.
+fn taken(alloc: Global, count: usize, demands: &[Demand]) -> Result<Vec<Demand>, AllocError>
+    requires { All (IsInTable count) demands.now }
+    ensures { IfOk result (λ cells. cells.items ≡ taken count demands.now) }
+{
+    let mut cells = longer(alloc, demands)?;
+    cells.sort_by_key(|demand| demand.span)?;
+    Ok(cells)
+}
+
+/// Whether the range of a cell ends past the last of `count` columns (rows).
+fn reaches_out(count: usize, demand: Demand) -> bool
+    ensures { result ≡ nat_lt count (end_of demand) }
+{
+    match demand.start.checked_add(demand.span) {
+        Some(end) => count < end,
+        None => true,
+    }
+}
+
+/// The position of the first cell that reaches out of `count` columns (rows).
+pub fn find_out(count: usize, demands: &[Demand]) -> Option<Position>
+    ensures { result ≡ first_out count demands.now }
+{
+    for demand in demands {
+        if reaches_out(count, *demand) {
+            return Some(demand.place());
+        }
+    }
+    None
+}
+
+/// Why the seen cells have no sizes, where one of them reaches out or has a large need.
+fn refusal(count: usize, seen: &Seen) -> Option<LayoutError>
+    requires { (demands : List Demand) × IsSeen count seen.now demands }
+    ensures refused { IfSome result (λ error.
+        (line : ℕ → Bool) (demands : List Demand) →
+        IsSeen count seen.now demands → IsRefused line count demands error) }
+    ensures inside { IfNone result (first_out count seen.now.others.items ≡ None) }
+    ensures small { IfNone result (seen.now.is_large ≡ false) }
+{
+    if let Some(position) = find_out(count, &seen.others) {
+        return Some(LayoutError::OutOfTable(position));
+    }
+    if seen.is_large {
+        return Some(LayoutError::TooLarge);
+    }
+    None
+}
 
 /// The sizes of the columns (rows) of a table, the cells of longer ranges in the order in which they
 /// were taken, and those of them that grew.
@@ -23,32 +118,31 @@ pub struct Settled {
     pub growers: Vec<Demand>,
 }
 
-/// What the seen cells of a table of `count` columns (rows) come to, of which none reaches out and
-/// none has a large need. It is made of a list of `count` zeros; `lines` tells of each of 0 to `count`
-/// whether there is a line before it.
+/// What the seen cells of a table of `count` columns (rows) come to, with the lines of the axis.
 ///
 /// # Errors
 ///
-/// `TooLarge` where the sizes with all lines come to more than the greatest `usize`.
-pub fn settle_seen(
+/// `OutOfTable` with the position of the first cell that reaches out, else `TooLarge` where the
+/// sizes with all lines come to more than the greatest `usize`.
+pub fn settle<A: Axis>(
     alloc: Global,
     count: usize,
-    zeros: Vec<usize>,
     seen: &Seen,
-    lines: &[bool],
+    axis: &A,
 ) -> Result<Settled, LayoutError>
-    requires zeros { zeros.items ≡ replicate count 0 }
-    requires seen { (demands : List Demand) × IsSeen count seen.now demands }
-    requires inside { first_out count seen.now.others.items ≡ None }
-    requires small { seen.now.is_large ≡ false }
-    requires lines { length lines.now ≡ count + 1 }
+    requires { (demands : List Demand) × IsSeen count seen.now demands }
     ensures { (demands : List Demand) → IsSeen count seen.now demands →
-        IsSettled (line_at lines.now) count demands result }
+        IsSettled (lines_to (A.line axis.now) count) count demands result }
 {
-    let mut sizes = zeros;
+    // A count that no memory holds is refused before it is counted up to.
+    let mut sizes = vec![in alloc; 0; count]?;
+    let lines = lines_of(alloc, axis, count)?;
+    if let Some(error) = refusal(count, seen) {
+        return Err(error);
+    }
     write_base(&mut sizes, &seen.singles);
     let cells = taken(alloc, count, &seen.others)?;
-    match grow_all(alloc, &mut sizes, lines, &cells)? {
+    match grow_all(alloc, &mut sizes, &lines, &cells)? {
         None => Err(LayoutError::TooLarge),
         Some(growers) => Ok(Settled {
             sizes,

@@ -1,4 +1,4 @@
-use Rattle.papergrid_axis.proofs.grow.add_shares.Given as goal
+use Rattle.papergrid_axis.proofs.growers.add_shares.Given as goal
 use Rattle.papergrid_axis.proofs.LoopLemmas.{SharesAdded}
 
 abbrev pub invariant-loop-i : goal.invariant-loop-i

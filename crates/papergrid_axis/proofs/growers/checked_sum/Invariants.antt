@@ -1,6 +1,6 @@
 use Rattle.std.proofs.Common.{◌≡◌, ◌<◌, ◌^◌, take}
 use Rattle.std.specs.Prelude.{sum}
-use Rattle.papergrid_axis.proofs.sums.checked_sum.Given as goal
+use Rattle.papergrid_axis.proofs.growers.checked_sum.Given as goal
 
 abbrev pub invariant-loop-size : goal.invariant-loop-size
 invariant-loop-size l = record {

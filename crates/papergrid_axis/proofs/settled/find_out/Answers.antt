@@ -4,7 +4,7 @@ use Rattle.std.proofs.lemmas.List.{drop_all}
 use Rattle.papergrid_axis.specs.declared.demand.Demand.{Demand}
 use Rattle.papergrid_axis.specs.Ranges.{first_out, place_of}
 use Rattle.papergrid_axis.proofs.OutLemmas.{out_at}
-use Rattle.papergrid_axis.proofs.finish.find_out.Goals as goal
+use Rattle.papergrid_axis.proofs.settled.find_out.Goals as goal
 
 abbrev no_demand : Demand
 no_demand = record { row = 0; col = 0; start = 0; span = 0; need = 0 }

@@ -2,7 +2,7 @@ use Rattle.std.proofs.Common.{arith}
 use Rattle.std.proofs.lemmas.Grind.{common_steps}
 use Rattle.papergrid_axis.specs.Ranges.{line_at}
 use Rattle.papergrid_axis.proofs.LoopLemmas.{sum-grown}
-use Rattle.papergrid_axis.proofs.grow.grow.Goals as goal
+use Rattle.papergrid_axis.proofs.growers.grow.Goals as goal
 
 pub returns-clause-total : goal.returns-clause-total
 returns-clause-total c =

@@ -5,7 +5,7 @@ use Rattle.std.proofs.lemmas.List.Sorted.{IsNonDecreasingBy-from_sort_by_key, an
 use Rattle.papergrid_axis.specs.declared.demand.Demand.{Demand}
 use Rattle.papergrid_axis.specs.KeptApart.{longer}
 use Rattle.papergrid_axis.proofs.Groups.{taken-from_sort, longer-spans}
-use Rattle.papergrid_axis.proofs.order.taken.Goals as goal
+use Rattle.papergrid_axis.proofs.settled.taken.Goals as goal
 
 pub returns : goal.returns
 returns c =

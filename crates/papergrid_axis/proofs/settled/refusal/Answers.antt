@@ -1,7 +1,7 @@
 use Rattle.std.proofs.Common.{◌∙◌, ap, sym}
 use Rattle.papergrid_axis.specs.Ranges.{first_out}
 use Rattle.papergrid_axis.proofs.OutLemmas.{out_seen, NoneHolds-large}
-use Rattle.papergrid_axis.proofs.finish.refusal.Goals as goal
+use Rattle.papergrid_axis.proofs.settled.refusal.Goals as goal
 
 pub returns-in-Some-clause-refused : goal.returns-in-Some-clause-refused
 returns-in-Some-clause-refused c = λ line demands seen.

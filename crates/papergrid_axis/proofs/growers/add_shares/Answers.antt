@@ -2,7 +2,7 @@ use Rattle.std.proofs.Common.{◌≡◌, subst, ℕ, arith}
 use Rattle.std.proofs.lemmas.List.Sums.{get_or-le-sum_by}
 use Rattle.papergrid_axis.specs.Ranges.{end_of}
 use Rattle.papergrid_axis.proofs.LoopLemmas.{SharesAdded, SharesAdded-all, share-le}
-use Rattle.papergrid_axis.proofs.grow.add_shares.Goals as goal
+use Rattle.papergrid_axis.proofs.growers.add_shares.Goals as goal
 
 pub overflow_add-sizes : goal.overflow_add-sizes
 overflow_add-sizes c =
