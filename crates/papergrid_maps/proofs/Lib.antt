@@ -9,4 +9,5 @@ pub mod MapTold
 pub mod SpanScans
 pub mod SpanTold
 pub mod SpanVisible
+pub mod ToldEqual
 pub mod WrittenCopies

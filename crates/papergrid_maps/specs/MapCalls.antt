@@ -1,9 +1,16 @@
 -- What a list of calls decides. Lists of calls are oldest first; the searches go from the newest call back.
-use Rattle.std.specs.Prelude.{ℕ, ◌==◌, ◌&&◌, if◌then◌else◌, List, [], ◌∷◌, reverse, Option, Some, None, is_some, unwrap_or}
+use Rattle.std.specs.Prelude.{ℕ, Bool, true, false, ◌==◌, ◌&&◌, if◌then◌else◌, List, [], ◌∷◌, reverse, Option, Some, None, is_some, unwrap_or}
 use Rattle.papergrid_values.specs.declared.position.Position.{Position}
 use Rattle.papergrid_values.specs.declared.entity.Entity.TheVariants.{Global, Column, Row, Cell}
 use Rattle.papergrid_maps.specs.declared.entity_map.MapCall.{MapCall}
 use Rattle.papergrid_maps.specs.declared.entity_map.MapCall.TheVariants.{Insert, Remove}
+
+module _ {T : Type 0} where
+  -- a call that may ask for memory: an insert for anything but the whole table
+  abbrev pub may_grow : MapCall T → Bool
+  may_grow (Insert Global v) = false
+  may_grow (Insert entity v) = true
+  may_grow (Remove entity) = false
 
 -- a call of Global ends what stood before it
 module _ {T : Type 0} where

@@ -1,6 +1,6 @@
 //! A value for each position, set by entity. Source: `config/spanned/entity_map.rs`.
 
-ghost use Rattle.std.specs.Prelude.{All, Any, true, false, nat_eq, List, ◌≡◌, ◌∷◌, [], map, length, IfOk, OnOk, OnErr, IsOk, IfErr, IsTrue, take, Some, if◌then◌else◌, filter, not, ◌==◌, ◌<◌, ◌↔◌};
+ghost use Rattle.std.specs.Prelude.{All, Any, true, false, nat_eq, List, ◌≡◌, ◌∷◌, [], map, length, IfOk, OnOk, OnErr, IsOk, IfErr, IsTrue, take, slice_get, IsSomeAnd, Some, if◌then◌else◌, filter, not, ◌==◌, ◌<◌, ◌↔◌};
 ghost use Rattle.std.specs.Bool.{OnTrue, OnFalse};
 ghost use Rattle.std.specs.Fn.{FnReturnsAt};
 ghost use Rattle.std.specs.HashMap.{IsUnique, keys, values, get as map_get};
@@ -10,7 +10,7 @@ ghost use Rattle.papergrid_values.specs.declared.entity.Entity.{Entity};
 ghost use Rattle.papergrid_values.specs.declared.position.Position.{Position};
 ghost use Rattle.papergrid_tables.specs.Keys.{position_eq};
 ghost use Rattle.papergrid_maps.specs.Keys.{entity_eq};
-ghost use Rattle.papergrid_maps.specs.MapCalls.{decided_value};
+ghost use Rattle.papergrid_maps.specs.MapCalls.{decided_value, may_grow};
 ghost use Rattle.papergrid_maps.specs.MapHeld.{IsTold, Appends, HasNothing, Holds, held_for, held_value, in_cells, in_columns, in_rows};
 ghost use Rattle.papergrid_maps.specs.declared.entity_map.MapCall.{MapCall};
 
@@ -100,11 +100,11 @@ impl<T> EntityMap<T> {
     }
 
     /// Whether `f` is true of a value that is held, the one for the whole table among them.
-    /// Condition: `f` may be called.
+    /// Condition: `f` may be called on what is held.
     pub fn any_held<F: Fn(&T) -> bool>(&self, f: F) -> bool
     where
         F: Drop,
-        requires { F.IsAlwaysCallable f }
+        requires { (lent : _) → Holds self.now lent.now → F.pre f lent }
         ensures yes { OnTrue result ((v : T) × Holds self.now v × FnReturnsAt F.Fn f v true) }
         ensures no { OnFalse result ((v : T) → Holds self.now v → FnReturnsAt F.Fn f v false) }
     {
@@ -242,12 +242,15 @@ impl<T: Clone> EntityMap<T> {
     }
 
     /// Makes the calls in order, up to one that is refused for memory: then the map is that of the
-    /// calls done before it. Condition: a clone of a value equals it.
+    /// calls done before it. Inserts alone take memory, but for those for the whole table.
+    /// Condition: a clone of a value equals it.
     pub fn apply_all(&mut self, calls: Vec<MapCall<T>>) -> Result<(), Stopped>
         requires equal_clones { (x y : T) → T.is_clone x y → y ≡ x }
         ensures ok { OnOk result (Appends self.old self.new calls.items) }
         ensures err { IfErr result (λ stopped. Appends self.old self.new (take stopped.done calls.items)) }
         ensures refused { IfErr result (λ stopped. stopped.done < length calls.items) }
+        ensures blamed { IfErr result (λ stopped. IsSomeAnd (slice_get calls.items stopped.done) (λ call. may_grow call ≡ true)) }
+        ensures free { All (λ call. may_grow call ≡ false) calls.items → IsOk result }
     {
         let mut done = 0;
         for call in calls {
@@ -263,6 +266,7 @@ impl<T: Clone> EntityMap<T> {
         requires equal_clones { (x y : T) → T.is_clone x y → y ≡ x }
         ensures ok { OnOk result (Appends self.old self.new (call ∷ [])) }
         ensures err { OnErr result (self.new ≡ self.old) }
+        ensures free { may_grow call ≡ false → IsOk result }
     {
         match call {
             MapCall::Insert(entity, value) => self.insert(entity, value),
@@ -335,7 +339,7 @@ fn drop_row<T: Drop>(cells: &mut HashMap<Position, T>, row: usize)
 
 // Whether `f` is true of a value of the map.
 fn any_value<K: Eq + Hash, T, F: Fn(&T) -> bool>(map: &HashMap<K, T>, f: &F) -> bool
-    requires { F.IsAlwaysCallable f.now }
+    requires { IsUnique K.eq map.now → (lent : _) → Any (λ v. v ≡ lent.now) (values map.now) → F.pre f.now lent }
     ensures yes { OnTrue result (Any (λ v. FnReturnsAt F.Fn f.now v true) (values map.now)) }
     ensures no { OnFalse result (All (λ v. FnReturnsAt F.Fn f.now v false) (values map.now)) }
     ensures unique { IsUnique K.eq map.now }

@@ -1,6 +1,6 @@
 //! Laws over the definitions that the contracts cite.
 
-ghost use Rattle.std.specs.Prelude.{◌≡◌, ◌∷◌, ◌++◌, [], List, None};
+ghost use Rattle.std.specs.Prelude.{◌≡◌, ◌∷◌, ◌++◌, [], List, None, true};
 ghost use Rattle.std.specs.List.{list_all};
 ghost use Rattle.papergrid_values.specs.declared.position.Position.{Position};
 ghost use Rattle.papergrid_maps.specs.declared.entity_map.MapCall.{MapCall};
@@ -12,8 +12,8 @@ ghost use Rattle.papergrid_maps.specs.MapHeld.{Held, IsTold, held_value};
 ghost use Rattle.papergrid_maps.specs.Spans as spans;
 ghost use Rattle.papergrid_maps.specs.Spans.{SpanCall, Spans};
 
-use crate::{Colors, CompactConfig};
-pub use papergrid_tables::laws::told_makes_borders;
+use crate::{Colors, CompactConfig, EntityMap, SpanTable};
+pub use papergrid_tables::laws::{equal_overrides, equal_told_tables, told_makes_borders};
 use papergrid_values::{ANSIStr, AlignmentHorizontal, Borders, Indent, Sides};
 use std::hash::Hash;
 
@@ -28,6 +28,15 @@ pub fn told_decides<T>()
 pub fn told_makes_spans()
     ensures told { (calls : List SpanCall) → spans.IsTold calls (spans_made calls) }
     ensures only { (calls : List SpanCall) (held : Spans) → spans.IsTold calls held → held ≡ spans_made calls }
+{}
+
+/// Two maps that were made with the same value and are told by the same calls are equal, and so
+/// are two tables of spans that are told by the same calls.
+pub fn equal_told_maps<T: Eq>()
+    ensures maps { (given : T) (calls : List (MapCall T)) (m n : Held T) → IsTold given calls m → IsTold given calls n →
+        ⟦<EntityMap<T> as PartialEq>⟧.eq m n ≡ true }
+    ensures spans { (calls : List SpanCall) (s t : Spans) → spans.IsTold calls s → spans.IsTold calls t →
+        ⟦<SpanTable as PartialEq>⟧.eq s t ≡ true }
 {}
 
 /// Colours that are empty have none at any position.

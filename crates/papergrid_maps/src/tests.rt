@@ -5,7 +5,7 @@ mod compact;
 
 ghost use Rattle.std.specs.Prelude.{◌≡◌, ◌<◌};
 
-use crate::{EntityMap, MapCall, Rising, SpanTable, Stopped};
+use crate::{EntityMap, MapCall, Rising, SpanTable, Stopped, laws};
 use papergrid_values::{Entity, Position};
 use std::alloc::{AllocError, Global};
 use std::process::Abort;
@@ -145,6 +145,36 @@ fn refused_calls(rt: HostRuntime) {
     assert_eq!(rt; *map.get(at(1, 0)), if done > 0 { 'r' } else { 'g' });
     assert_eq!(rt; *map.get(at(0, 1)), if done > 1 { 'c' } else { 'g' });
     assert_eq!(rt; *map.get(at(2, 2)), if done > 2 { 'x' } else { 'g' });
+}
+
+// Neither takes memory, so neither is refused, whatever stood before.
+#[test]
+fn calls_that_take_no_memory(rt: HostRuntime) {
+    let Ok(mut map) = grown(rt.alloc()) else {
+        return;
+    };
+    let Ok(calls) = vec![in rt.alloc();
+        MapCall::Remove(Entity::Column(1)),
+        MapCall::Insert(Entity::Global, 'z'),
+        MapCall::Remove(Entity::Cell(0, 0)),
+        MapCall::Remove(Entity::Global),
+    ] else {
+        return;
+    };
+    assert_eq!(rt; map.apply_all(calls), Ok(()));
+    assert!(rt; map.is_empty());
+    assert_eq!(rt; *map.as_ref(), 'z');
+}
+
+// Each law at a type of values.
+#[test]
+fn map_laws() {
+    laws::told_decides::<char>();
+    laws::told_makes_spans();
+    laws::told_makes_borders::<char>();
+    laws::equal_overrides::<char>();
+    laws::equal_told_tables::<char>();
+    laws::equal_told_maps::<char>();
 }
 
 #[test]

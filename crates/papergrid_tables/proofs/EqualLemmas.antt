@@ -4,7 +4,8 @@ use Rattle.std.specs.Option.{option_eq}
 use Rattle.std.specs.Cmp.{IsEquivalence, nat_eq_equiv}
 use Rattle.std.specs.Map.{lookup}
 use Rattle.std.specs.HashMap.{HashMap, entries_eq}
-use Rattle.std.specs.FinMap.{get, entries, from_entries, get-entries}
+use Rattle.std.specs.Prelude.{◌↔◌}
+use Rattle.std.specs.FinMap.{FinMap, get, entries, from_entries, get-entries}
 use Rattle.std.specs.Ordering.{eq_by_cmp, nat_cmp}
 use Rattle.std.specs.declared.cmp.Ordering.{Ordering}
 use Rattle.std_collections.specs.Layout.HashMap.{hash_map}
@@ -16,7 +17,7 @@ use Rattle.papergrid_tables.proofs.KeyLemmas.{get_at_number, get_at_position, fi
 use Rattle.std.specs.Cmp.{unsigned_ties}
 
 -- two tests with one meaning are equal
-same_test : (a b : Bool) → (a ≡ true → b ≡ true) → (b ≡ true → a ≡ true) → a ≡ b
+pub same_test : (a b : Bool) → (a ≡ true → b ≡ true) → (b ≡ true → a ≡ true) → a ≡ b
 same_test true b f g = sym (f refl)
 same_test false true f g = g refl
 same_test false false f g = refl
@@ -35,6 +36,27 @@ module _ {K X : Type 0} (E : K → K → Bool) (R : K → K → Ordering) (laws 
 
   at_entries : (es : List (K × X)) → ((q : K) → get (from_entries {R = R} es) q ≡ lookup (E q) es) → (q : K) → lookup (E q) (entries (from_entries {R = R} es)) ≡ lookup (E q) es
   at_entries es answers q = sym (find-lookup E R ties (entries (from_entries {R = R} es)) q) ∙ sym (get-entries (from_entries {R = R} es) q) ∙ answers q
+
+-- equality of finite maps is that of what they have at each key
+module _ {K X : Type 0} (E : K → K → Bool) (R : K → K → Ordering) (laws : IsEquivalence E) (ties : (x y : K) → E x y ≡ eq_by_cmp R x y) (eq : X → X → Bool) where
+  -- a hash map with its entries
+  abbrev hashed : FinMap R X → HashMap K X (Unit {0})
+  hashed m = hash_map (entries m) tt 0
+
+  found_at : (m : FinMap R X) (q : K) → lookup (E q) (entries m) ≡ get m q
+  found_at m q = sym (find-lookup E R ties (entries m) q) ∙ sym (get-entries m q)
+
+  agree : (m n : FinMap R X) → (entries_eq E (λ p q. eq p.1 q.1) (entries m) (entries n) ≡ true) ↔ ((q : K) → option_eq eq (get m q) (get n q) ≡ true)
+  agree m n = (
+    λ h q. (λ i. option_eq eq (sym (found_at m q) i) (sym (found_at n q) i)) ∙ get_from_hash_map_eq E eq laws (hashed m) (hashed n) h q,
+    λ h. hash_map_eq_from_get E eq (hashed m) (hashed n) (λ q. (λ i. option_eq eq (found_at m q i) (found_at n q i)) ∙ h q),
+  )
+
+pub numbers_agree : {X : Type 0} (eq : X → X → Bool) (m n : FinMap nat_cmp X) → (numbers_eq eq m n ≡ true) ↔ ((q : ℕ) → option_eq eq (get m q) (get n q) ≡ true)
+numbers_agree eq m n = agree eqb nat_cmp nat_eq_equiv unsigned_ties eq m n
+
+pub places_agree : {X : Type 0} (eq : X → X → Bool) (m n : FinMap position_cmp X) → (places_eq eq m n ≡ true) ↔ ((q : Position) → option_eq eq (get m q) (get n q) ≡ true)
+places_agree eq m n = agree position_eq position_cmp position_equiv position_ties eq m n
 
 -- equality of the finite maps with these entries
 pub numbers_eq-from_entries : {X : Type 0} (eq : X → X → Bool) (es fs : List (ℕ × X))

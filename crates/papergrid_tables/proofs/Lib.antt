@@ -8,6 +8,8 @@ pub mod KeyLemmas
 pub mod LineMarked
 pub mod LineTested
 pub mod MadeTables
+pub mod OffsetEqual
 pub mod OverrideTold
 pub mod PartCopies
 pub mod ResultLemmas
+pub mod ToldEqual

@@ -1,21 +1,46 @@
 -- When two tables of overrides hold the same.
-use Rattle.std.specs.Prelude.{Bool, ◌&&◌}
+use Rattle.std.specs.Prelude.{◌≡◌, Bool, true, ◌&&◌, ◌||◌, unwrap_or}
 use Rattle.std.specs.Cmp.{IsPartialEquivalence, and_per, on_per}
-use Rattle.std.specs.FinMap.{FinMap}
+use Rattle.std.specs.FinMap.{FinMap, empty, get, keys, retain_keys}
+use Rattle.std.specs.List.{list_any}
+use Rattle.std.specs.Option.{option_eq}
+use Rattle.std.specs.Ordering.{nat_cmp}
+use Rattle.papergrid_values.specs.declared.offset.Offset.{Offset}
+use Rattle.papergrid_values.specs.declared.position.Position.{Position}
 use Rattle.papergrid_tables.specs.Equal.{numbers_eq, places_eq, numbers_laws, places_laws}
 use Rattle.papergrid_tables.specs.Keys.{position_cmp}
-use Rattle.papergrid_tables.specs.Overrides.{HeldOffsets}
+use Rattle.papergrid_tables.specs.Overrides.{HeldOffsets, override_at}
+
+module _ {T : Type 0} where
+  abbrev pub no_offsets : HeldOffsets T
+  no_offsets = record { from_start = empty; from_end = empty }
+
+  abbrev pub has_number : FinMap nat_cmp T → Bool
+  has_number m = list_any (λ _. true) (keys m)
+
+  -- an override is held, from either end
+  abbrev pub has_override : HeldOffsets T → Bool
+  has_override held = has_number held.from_start || has_number held.from_end
+
+  -- the positions that have an override, with theirs
+  abbrev pub with_overrides : FinMap position_cmp (HeldOffsets T) → FinMap position_cmp (HeldOffsets T)
+  with_overrides held = retain_keys held (λ p. has_override (unwrap_or (get held p) no_offsets))
 
 module _ {T : Type 0} (eq : T → T → Bool) where
   abbrev pub offsets_eq : HeldOffsets T → HeldOffsets T → Bool
   offsets_eq s t = numbers_eq eq s.from_start t.from_start && numbers_eq eq s.from_end t.from_end
 
+  -- a position that is kept with no override counts for nothing
   abbrev pub overrides_eq : FinMap position_cmp (HeldOffsets T) → FinMap position_cmp (HeldOffsets T) → Bool
-  overrides_eq s t = places_eq offsets_eq s t
+  overrides_eq s t = places_eq offsets_eq (with_overrides s) (with_overrides t)
+
+  -- at each position and offset both hold equal values, or neither holds one
+  abbrev pub HoldTheSame : FinMap position_cmp (HeldOffsets T) → FinMap position_cmp (HeldOffsets T) → Type 0
+  HoldTheSame s t = (p : Position) (o : Offset) → option_eq eq (override_at s p o) (override_at t p o) ≡ true
 
 pub offsets_eq_laws : {T : Type 0} (eq : T → T → Bool) → IsPartialEquivalence eq → IsPartialEquivalence (offsets_eq eq)
 offsets_eq_laws {T} eq laws =
     and_per (on_per (λ (s : HeldOffsets T). s.from_start) (numbers_laws eq laws)) (on_per (λ (s : HeldOffsets T). s.from_end) (numbers_laws eq laws))
 
 pub overrides_eq_laws : {T : Type 0} (eq : T → T → Bool) → IsPartialEquivalence eq → IsPartialEquivalence (overrides_eq eq)
-overrides_eq_laws eq laws = places_laws (offsets_eq eq) (offsets_eq_laws eq laws)
+overrides_eq_laws eq laws = on_per with_overrides (places_laws (offsets_eq eq) (offsets_eq_laws eq laws))

@@ -2,7 +2,7 @@
 
 ghost use Rattle.std.specs.Prelude.{◌≡◌};
 
-use crate::{BorderTable, OffsetTable};
+use crate::{BorderTable, OffsetTable, laws};
 use papergrid_values::{Border, Borders, HorizontalLine, Offset, Position, VerticalLine};
 use std::alloc::{AllocError, Global};
 use std::test::Fail;
@@ -230,4 +230,12 @@ fn refused_overrides(rt: HostRuntime) {
             Err(_) => assert!(rt; table == copy),
         }
     }
+}
+
+// Each law at a type of values.
+#[test]
+fn table_laws() {
+    laws::told_makes_borders::<char>();
+    laws::equal_overrides::<char>();
+    laws::equal_told_tables::<char>();
 }

@@ -7,3 +7,4 @@ pub mod Lines
 pub mod Offsets
 pub mod Parts
 pub mod Positions
+pub mod Writes

@@ -1,6 +1,6 @@
 //! Laws over the definitions that the contracts cite.
 
-ghost use Rattle.std.specs.Prelude.{◌≡◌, ◌<◌, ◌≤◌, ◌⊎◌, ◌↔◌, [], ◌∷◌, ℕ, AllPairs};
+ghost use Rattle.std.specs.Prelude.{◌≡◌, ◌<◌, ◌≤◌, ◌⊎◌, ◌↔◌, [], ◌∷◌, ◌++◌, ℕ, All, AllPairs, None, false};
 ghost use Rattle.std.specs.Cmp.Lexicographic.{slice_cmp, pointwise};
 ghost use Rattle.std.specs.Hash as fed;
 ghost use Rattle.std.specs.List.{flat_map};
@@ -21,17 +21,18 @@ ghost use Rattle.papergrid_values.specs.declared.entity.Entity.{Entity};
 ghost use Rattle.papergrid_values.specs.declared.indent.Indent.{Indent};
 ghost use Rattle.papergrid_values.specs.declared.formatting.Formatting.{Formatting};
 ghost use Rattle.papergrid_values.specs.declared.offset.Offset.{Offset};
-ghost use Rattle.papergrid_values.specs.Borders.{border_parts, frame_parts};
+ghost use Rattle.papergrid_values.specs.Borders.{border_parts, border_with, frame_parts, frame_with};
 ghost use Rattle.papergrid_values.specs.Entities.{positions};
-ghost use Rattle.papergrid_values.specs.Lines.{horizontal_parts, vertical_parts};
+ghost use Rattle.papergrid_values.specs.Lines.{horizontal_parts, horizontal_with, vertical_parts, vertical_with};
 ghost use Rattle.papergrid_values.specs.Colors.{texts_of, texts_cmp};
 ghost use Rattle.papergrid_values.specs.Keys.{sides_parts, formatting_flags};
 ghost use Rattle.papergrid_values.specs.Keys.{entity_key, offset_key, horizontal_rank, vertical_rank};
+ghost use Rattle.papergrid_values.specs.Writes.{numbers_fed, key_fed, kind_fed, texts_fed};
 ghost use Rattle.papergrid_values.specs.Positions.{IsBefore, count_of};
 
 use crate::{
-    ANSIBuf, ANSIStr, AlignmentHorizontal, AlignmentVertical, Border, Borders, Entity, Formatting,
-    HorizontalLine, Indent, Offset, Position, Sides, VerticalLine,
+    ANSIBuf, ANSIFmt, ANSIStr, AlignmentHorizontal, AlignmentVertical, Border, Borders, Entity,
+    Formatting, HorizontalLine, Indent, Offset, Position, Sides, VerticalLine,
 };
 use std::cmp::Ordering;
 use std::hash::Hash;
@@ -135,4 +136,54 @@ pub fn ordered_by_fields()
     ensures borrowed_colors { (x y : ANSIStr) →
         ⟦<ANSIStr<'static> as Ord>⟧.cmp x y ≡ texts_cmp (texts_of x) (texts_of y) }
     ensures colors { (x y : ANSIBuf) → ⟦<ANSIBuf as Ord>⟧.cmp x y ≡ texts_cmp x y }
+{}
+
+/// The other values hash likewise: positions the row and then the column, entities and offsets the
+/// kind and then the numbers, indents the character and then the size, flags of formatting in the
+/// order of the fields, alignments their place in the list, colours the prefix and then the suffix.
+pub fn hashed_by_fields()
+    ensures positions { (p : Position) →
+        ⟦<Position as Hash>⟧.hash_input p ≡ numbers_fed (p.row ∷ p.col ∷ []) }
+    ensures entities { (x : Entity) → ⟦<Entity as Hash>⟧.hash_input x ≡ key_fed (entity_key x) }
+    ensures offsets { (x : Offset) → ⟦<Offset as Hash>⟧.hash_input x ≡ key_fed (offset_key x) }
+    ensures indents { (x : Indent) →
+        ⟦<Indent as Hash>⟧.hash_input x ≡ fed.char x.fill ++ fed.usize x.size }
+    ensures flags { (x : Formatting) →
+        ⟦<Formatting as Hash>⟧.hash_input x ≡ flat_map fed.bool (formatting_flags x) }
+    ensures across { (x : AlignmentHorizontal) →
+        ⟦<AlignmentHorizontal as Hash>⟧.hash_input x ≡ kind_fed (horizontal_rank x) }
+    ensures down { (x : AlignmentVertical) →
+        ⟦<AlignmentVertical as Hash>⟧.hash_input x ≡ kind_fed (vertical_rank x) }
+    ensures borrowed_colors { (x : ANSIStr) →
+        ⟦<ANSIStr<'static> as Hash>⟧.hash_input x ≡ texts_fed (texts_of x) }
+    ensures colors { (x : ANSIBuf) → ⟦<ANSIBuf as Hash>⟧.hash_input x ≡ texts_fed x }
+{}
+
+/// The default is the plain value: the first position, no room, no flag, no text, no part set, and
+/// four sides that are each the default of their type.
+pub fn plain_defaults<T: Default>()
+    ensures positions { (p : Position) →
+        ⟦<Position as Default>⟧.is_default p → p ≡ record { row = 0; col = 0 } }
+    ensures indents { (x : Indent) →
+        ⟦<Indent as Default>⟧.is_default x → x ≡ record { fill = 32; size = 0 } }
+    ensures flags { (x : Formatting) →
+        ⟦<Formatting as Default>⟧.is_default x → All (λ flag. flag ≡ false) (formatting_flags x) }
+    ensures colors { (x : ANSIStr) →
+        ⟦<ANSIStr<'static> as Default>⟧.is_default x → texts_of x ≡ ([], []) }
+    ensures sides { (x : Sides T) →
+        ⟦<Sides<T> as Default>⟧.is_default x → All T.is_default (sides_parts x) }
+    ensures borders { (x : Border T) →
+        ⟦<Border<T> as Default>⟧.is_default x → x ≡ border_with None }
+    ensures frames { (x : Borders T) →
+        ⟦<Borders<T> as Default>⟧.is_default x → x ≡ frame_with None }
+    ensures horizontal_lines { (x : HorizontalLine T) →
+        ⟦<HorizontalLine<T> as Default>⟧.is_default x → x ≡ horizontal_with None }
+    ensures vertical_lines { (x : VerticalLine T) →
+        ⟦<VerticalLine<T> as Default>⟧.is_default x → x ≡ vertical_with None }
+{}
+
+/// A reference to a colour tells the texts that the colour tells, and is held to them as it is.
+pub fn colors_by_reference<C: ANSIFmt>()
+    ensures prefix { (x : _) → ⟦<&'static C as ANSIFmt>⟧.prefix_text x ≡ C.prefix_text x.now }
+    ensures suffix { (x : _) → ⟦<&'static C as ANSIFmt>⟧.suffix_text x ≡ C.suffix_text x.now }
 {}

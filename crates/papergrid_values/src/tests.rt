@@ -388,4 +388,7 @@ fn laws_at_types() {
     laws::ordered_by_parts::<char>();
     laws::equal_by_parts::<char>();
     laws::hashed_by_parts::<char>();
+    laws::hashed_by_fields();
+    laws::plain_defaults::<char>();
+    laws::colors_by_reference::<ANSIBuf>();
 }

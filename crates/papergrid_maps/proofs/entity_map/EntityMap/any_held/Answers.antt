@@ -1,4 +1,5 @@
-use Rattle.std.proofs.Common.{refl, inl}
+use Rattle.std.proofs.Common.{◌≡◌, refl, inl, subst}
+use Rattle.papergrid_maps.specs.MapHeld.{Holds}
 use Rattle.papergrid_maps.proofs.AnyHeld.{all_held, held_in_cells, held_in_columns, held_in_rows, on_false_map, on_true_map}
 use Rattle.papergrid_maps.proofs.entity_map.EntityMap.any_held.Goals as goal
 
@@ -19,3 +20,18 @@ returns-clause-yes g c = rw (← c.self.view_is)
 pub returns-clause-no : goal.returns-clause-no
 returns-clause-no g c = rw (← c.self.view_is)
     (on_false_map c.any_value-3.result (all_held _ _ _ _ _ (record { shown = _; shows = refl; says = record { met = c.if-f.ensures } }) c.if-any_value.ensures.no c.if-any_value-2.ensures.no) c.any_value-3.ensures.no)
+
+pub any_value-requires : goal.any_value-requires
+any_value-requires g c distinct lent any =
+    let found = held_in_columns c.self.inside.global c.self.inside.columns.entries c.self.inside.rows.entries c.self.inside.cells.entries (λ v. v ≡ lent.now) distinct any in
+    c.requires lent (subst (λ held. Holds held lent.now) c.self.view_is (subst (Holds _) found.2 found.1))
+
+pub any_value-requires-2 : goal.any_value-requires-2
+any_value-requires-2 g c distinct lent any =
+    let found = held_in_rows c.self.inside.global c.self.inside.columns.entries c.self.inside.rows.entries c.self.inside.cells.entries (λ v. v ≡ lent.now) distinct any in
+    c.requires lent (subst (λ held. Holds held lent.now) c.self.view_is (subst (Holds _) found.2 found.1))
+
+pub any_value-requires-3 : goal.any_value-requires-3
+any_value-requires-3 g c distinct lent any =
+    let found = held_in_cells c.self.inside.global c.self.inside.columns.entries c.self.inside.rows.entries c.self.inside.cells.entries (λ v. v ≡ lent.now) distinct any in
+    c.requires lent (subst (λ held. Holds held lent.now) c.self.view_is (subst (Holds _) found.2 found.1))
