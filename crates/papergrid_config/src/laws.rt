@@ -1,6 +1,7 @@
 //! Laws over the definitions that the contracts cite.
 
-ghost use Rattle.std.specs.Prelude.{◌≡◌, ◌↔◌, ◌≤◌, ℕ, IsSome, IsTrue, List, length};
+ghost use Rattle.std.specs.Prelude.{◌≡◌, ◌∷◌, [], ◌↔◌, ◌≤◌, ℕ, IsSome, IsTrue, List, length};
+ghost use Rattle.std.specs.List.{list_all};
 ghost use Rattle.papergrid_values.specs.declared.position.Position.{Position};
 ghost use Rattle.papergrid_tables.specs.BorderHeld.{HeldBorders, places_of};
 ghost use Rattle.papergrid_tables.specs.LineTests.{horizontal_line_at, vertical_line_at};
@@ -16,6 +17,8 @@ ghost use Rattle.papergrid_config.specs.declared.setting.Setting.{Setting};
 ghost use Rattle.papergrid_config.specs.declared.spanned.SpannedConfig.{SpannedConfig};
 
 use crate::spanned::SpannedConfig;
+use papergrid_maps::{BorderTable, EntityMap, OffsetTable, SpanTable};
+use papergrid_values::{ANSIBuf, AlignmentHorizontal, AlignmentVertical, Indent, Offset, Sides};
 
 /// A configuration that is told by the settings has at each position what they decide, and the
 /// lines and spans that they make.
@@ -24,9 +27,9 @@ pub fn told_decides()
         HoldsWhatIsDecided settings config }
 {}
 
-/// What is decided for a cell is what its deciding call says, by its place in the list: the last pin that
-/// counts, else the column's value that stands, else the row's, else the whole table's, else the one given
-/// at first; and nothing else is.
+/// What is decided for a cell is what its deciding call says, by its place in the list: the last
+/// pin that counts, else the column's value that stands, else the row's, else the whole table's,
+/// else the one given at first; and nothing else is.
 pub fn decided_by_place<T>()
     ensures decided { (given : T) (calls : List (MapCall T)) (r c : ℕ) →
         IsDecided calls given r c (length calls) (decided_value given calls (record { row = r; col = c })) }
@@ -34,7 +37,8 @@ pub fn decided_by_place<T>()
         IsDecided calls given r c (length calls) v → v ≡ decided_value given calls (record { row = r; col = c }) }
 {}
 
-/// The lines that settings make have a line at a place exactly where what the settings leave has one.
+/// There is a line among those that settings make exactly where what the settings leave at each
+/// place has one.
 pub fn lines_by_place()
     ensures vertical { (settings : List Setting) (col count : ℕ) →
         IsTrue (vertical_line_at (characters_of settings) col count) ↔ HasVertical (lines_left settings) col count }
@@ -52,6 +56,34 @@ pub fn shown_where_lines_are()
     ensures crossing { (characters : HeldBorders ℕ) (missing : ℕ) (p : Position) (rows cols : ℕ) →
         HasHorizontal (places_of characters) p.row rows → HasVertical (places_of characters) p.col cols →
         IsSome (shown_intersection characters missing p rows cols) }
+{}
+
+/// Configurations are equal exactly where each of their parts is, and they are where they are told
+/// by the same settings.
+pub fn equal_where_told()
+    ensures by_parts { (x y : SpannedConfig) → ⟦<SpannedConfig as PartialEq>⟧.eq x y ≡ list_all (λ same. same) (
+        ⟦<EntityMap<Sides<Indent>> as PartialEq>⟧.eq x.padding y.padding
+        ∷ ⟦<EntityMap<Sides<Option<ANSIBuf>>> as PartialEq>⟧.eq x.padding_color y.padding_color
+        ∷ ⟦<EntityMap<bool> as PartialEq>⟧.eq x.trim_horizontal y.trim_horizontal
+        ∷ ⟦<EntityMap<bool> as PartialEq>⟧.eq x.trim_vertical y.trim_vertical
+        ∷ ⟦<EntityMap<bool> as PartialEq>⟧.eq x.line_alignment y.line_alignment
+        ∷ ⟦<EntityMap<AlignmentHorizontal> as PartialEq>⟧.eq x.alignment_horizontal y.alignment_horizontal
+        ∷ ⟦<EntityMap<AlignmentVertical> as PartialEq>⟧.eq x.alignment_vertical y.alignment_vertical
+        ∷ ⟦<EntityMap<char> as PartialEq>⟧.eq x.justification y.justification
+        ∷ ⟦<EntityMap<Option<ANSIBuf>> as PartialEq>⟧.eq x.justification_color y.justification_color
+        ∷ ⟦<BorderTable<char> as PartialEq>⟧.eq x.characters y.characters
+        ∷ ⟦<BorderTable<ANSIBuf> as PartialEq>⟧.eq x.colors y.colors
+        ∷ ⟦<OffsetTable<char> as PartialEq>⟧.eq x.horizontal_chars y.horizontal_chars
+        ∷ ⟦<OffsetTable<char> as PartialEq>⟧.eq x.vertical_chars y.vertical_chars
+        ∷ ⟦<OffsetTable<ANSIBuf> as PartialEq>⟧.eq x.horizontal_colors y.horizontal_colors
+        ∷ ⟦<OffsetTable<ANSIBuf> as PartialEq>⟧.eq x.vertical_colors y.vertical_colors
+        ∷ ⟦<SpanTable as PartialEq>⟧.eq x.spans y.spans
+        ∷ ⟦<Sides<Indent> as PartialEq>⟧.eq x.margin y.margin
+        ∷ ⟦<Sides<Option<ANSIBuf>> as PartialEq>⟧.eq x.margin_color y.margin_color
+        ∷ ⟦<Sides<Offset> as PartialEq>⟧.eq x.margin_offset y.margin_offset
+        ∷ ⟦<char as PartialEq>⟧.eq x.missing y.missing ∷ []) }
+    ensures told { (settings : List Setting) (x y : SpannedConfig) → IsTold settings x → IsTold settings y →
+        IsTrue (⟦<SpannedConfig as PartialEq>⟧.eq x y) }
 {}
 
 /// A clone of a configuration equals it.

@@ -8,7 +8,7 @@ ghost use Rattle.papergrid_layout.specs.Earlier.{earlier, earlier_of};
 
 use crate::sizes::Along;
 use papergrid_axis::conclude::conclude;
-use papergrid_axis::finish::find_out;
+use papergrid_axis::settled::find_out;
 use papergrid_axis::{Direction, LayoutError};
 use papergrid_text::{IntoRecords, Records};
 use papergrid_values::Position;

@@ -4,7 +4,9 @@ ghost use Rattle.std.specs.Prelude.{◌≡◌, ◌∷◌, ◌++◌, [], List, No
 ghost use Rattle.std.specs.List.{list_all};
 ghost use Rattle.papergrid_values.specs.declared.position.Position.{Position};
 ghost use Rattle.papergrid_maps.specs.declared.entity_map.MapCall.{MapCall};
-ghost use Rattle.papergrid_maps.specs.Compact.{first_difference};
+ghost use Rattle.papergrid_maps.specs.Compact.{IsNew, first_difference};
+ghost use Rattle.papergrid_maps.specs.declared.colors.NoColor.{NoColor};
+ghost use Rattle.papergrid_maps.specs.declared.colors.NoColors.{NoColors};
 ghost use Rattle.papergrid_maps.specs.declared.compact.CompactConfig.{CompactConfig};
 ghost use Rattle.papergrid_maps.specs.Made.{spans_made};
 ghost use Rattle.papergrid_maps.specs.MapCalls.{decided_value};
@@ -12,9 +14,10 @@ ghost use Rattle.papergrid_maps.specs.MapHeld.{Held, IsTold, held_value};
 ghost use Rattle.papergrid_maps.specs.Spans as spans;
 ghost use Rattle.papergrid_maps.specs.Spans.{SpanCall, Spans};
 
-use crate::{Colors, CompactConfig, EntityMap, SpanTable};
+use crate::{Colors, CompactConfig, EntityMap, NoColor, NoColors, SpanTable};
 pub use papergrid_tables::laws::{equal_overrides, equal_told_tables, told_makes_borders};
 use papergrid_values::{ANSIStr, AlignmentHorizontal, Borders, Indent, Sides};
+use std::cmp::Ordering;
 use std::hash::Hash;
 
 /// A map that was made with a value and is told by the calls has at each position the value that
@@ -76,4 +79,19 @@ pub fn compact_by_fields()
         ++ ⟦<Sides<ANSIStr<'static>> as Hash>⟧.hash_input x.padding_color
         ++ ⟦<AlignmentHorizontal as Hash>⟧.hash_input x.alignment }
     ensures cloned { (x y : CompactConfig) → ⟦<CompactConfig as Clone>⟧.is_clone x y → y ≡ x }
+{}
+
+/// The default of a compact configuration is a new one.
+pub fn plain_default()
+    ensures { (x : CompactConfig) → ⟦<CompactConfig as Default>⟧.is_default x → IsNew x }
+{}
+
+/// There is one value of no colour, and one of no colours: each equals itself, and hashes nothing.
+pub fn one_value_each()
+    ensures no_color { (x y : NoColor) → ⟦<NoColor as PartialEq>⟧.eq x y ≡ true }
+    ensures no_color_ordered { (x y : NoColor) → ⟦<NoColor as Ord>⟧.cmp x y ≡ Ordering.Equal }
+    ensures no_color_hashed { (x : NoColor) → ⟦<NoColor as Hash>⟧.hash_input x ≡ [] }
+    ensures no_colors { (x y : NoColors) → ⟦<NoColors as PartialEq>⟧.eq x y ≡ true }
+    ensures no_colors_ordered { (x y : NoColors) → ⟦<NoColors as Ord>⟧.cmp x y ≡ Ordering.Equal }
+    ensures no_colors_hashed { (x : NoColors) → ⟦<NoColors as Hash>⟧.hash_input x ≡ [] }
 {}

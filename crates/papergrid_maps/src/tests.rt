@@ -175,6 +175,8 @@ fn map_laws() {
     laws::equal_overrides::<char>();
     laws::equal_told_tables::<char>();
     laws::equal_told_maps::<char>();
+    laws::plain_default();
+    laws::one_value_each();
 }
 
 #[test]

@@ -1,0 +1,90 @@
+use Rattle.std.proofs.Common.{◌≡◌, ◌&&◌, true, false, refl, Bool, Option, Some, None}
+use Rattle.std.proofs.Math.Bool.{beq}
+use Rattle.std.specs.Prelude.{nat_eq}
+use Rattle.std.specs.Cmp.{and_equiv, bool_eq_equiv, nat_eq_equiv}
+use Rattle.std.specs.Cmp.Lexicographic.{on_texts_equal}
+use Rattle.std.specs.List.{flat_map}
+use Rattle.std.proofs.lemmas.Bool.{and_from}
+use Rattle.std.specs.contracts.prelude.OptionPartialEq.TheImpl as option
+use Rattle.papergrid_values.specs.declared.alignment.AlignmentHorizontal.{AlignmentHorizontal}
+use Rattle.papergrid_values.specs.declared.alignment.AlignmentHorizontal.TheVariants as horizontal
+use Rattle.papergrid_values.specs.declared.alignment.AlignmentVertical.{AlignmentVertical}
+use Rattle.papergrid_values.specs.declared.alignment.AlignmentVertical.TheVariants as vertical
+use Rattle.papergrid_values.specs.declared.ansi_buf.ANSIBuf.{ANSIBuf}
+use Rattle.papergrid_values.specs.declared.indent.Indent.{Indent}
+use Rattle.papergrid_values.specs.declared.offset.Offset.{Offset}
+use Rattle.papergrid_values.specs.declared.offset.Offset.TheVariants.{Start, End}
+use Rattle.papergrid_values.specs.contracts.alignment.AlignmentHorizontalPartialEq.TheImpl as alignment_horizontal
+use Rattle.papergrid_values.specs.contracts.alignment.AlignmentVerticalPartialEq.TheImpl as alignment_vertical
+use Rattle.papergrid_values.specs.contracts.ansi_buf.ANSIBuf.{the_row}
+use Rattle.papergrid_values.specs.contracts.ansi_buf.ANSIBufPartialEq.TheImpl as color
+use Rattle.papergrid_values.specs.contracts.indent.IndentPartialEq.TheImpl as indent
+use Rattle.papergrid_values.specs.contracts.offset.OffsetPartialEq.TheImpl as offset
+use Rattle.papergrid_config.specs.Parts.{character_calls, color_calls, horizontal_char_calls, horizontal_color_calls, span_calls, vertical_char_calls, vertical_color_calls}
+use Rattle.papergrid_tables.proofs.ToldEqual.{told_borders_equal, told_overrides_equal}
+use Rattle.papergrid_maps.proofs.ToldEqual.{told_maps_equal, told_spans_equal}
+use Rattle.papergrid_config.proofs.EqualLemmas.{equal_values, same_sides, sides_eq}
+use Rattle.papergrid_config.proofs.laws.equal_where_told.Goals as goal
+
+-- ---- each kind of value equals itself
+
+same_indent : (v : Indent) → indent.ghosts.eq v v ≡ true
+same_indent v = and_from _ _ (nat_eq_equiv.refl v.fill) (nat_eq_equiv.refl v.size)
+
+same_horizontal : (v : AlignmentHorizontal) → alignment_horizontal.ghosts.eq v v ≡ true
+same_horizontal horizontal.Left = refl
+same_horizontal horizontal.Center = refl
+same_horizontal horizontal.Right = refl
+
+same_vertical : (v : AlignmentVertical) → alignment_vertical.ghosts.eq v v ≡ true
+same_vertical vertical.Top = refl
+same_vertical vertical.Center = refl
+same_vertical vertical.Bottom = refl
+
+same_offset : (v : Offset) → offset.ghosts.eq v v ≡ true
+same_offset (Start n) = nat_eq_equiv.refl n
+same_offset (End n) = nat_eq_equiv.refl n
+
+same_color : (v : ANSIBuf) → color.ghosts.eq v v ≡ true
+same_color v = (and_equiv (on_texts_equal (λ (c : ANSIBuf). c.0)) (on_texts_equal (λ (c : ANSIBuf). c.1))).refl v
+
+abbrev optional_eq : Option ANSIBuf → Option ANSIBuf → Bool
+optional_eq = (option.ghosts the_row color.ghosts color.dict).eq
+
+same_optional : (v : Option ANSIBuf) → optional_eq v v ≡ true
+same_optional None = refl
+same_optional (Some v) = same_color v
+
+-- the last part decides alone
+and-true : (b : Bool) → (b && true) ≡ b
+and-true true = refl
+and-true false = refl
+
+pub returns-clause-by_parts : goal.returns-clause-by_parts
+returns-clause-by_parts c = λ x y. simp and-true
+
+pub returns-clause-told : goal.returns-clause-told
+returns-clause-told c settings x y one other =
+    let sides = sides_eq indent.ghosts.eq in
+    let colors = sides_eq optional_eq in
+    let offsets = sides_eq offset.ghosts.eq in
+    and_from _ _ (told_maps_equal sides (same_sides indent.ghosts.eq same_indent) _ _ x.padding y.padding one.padding other.padding)
+    (and_from _ _ (told_maps_equal colors (same_sides optional_eq same_optional) _ _ x.padding_color y.padding_color one.padding_color other.padding_color)
+    (and_from _ _ (told_maps_equal beq bool_eq_equiv.refl _ _ x.trim_horizontal y.trim_horizontal one.trim_horizontal other.trim_horizontal)
+    (and_from _ _ (told_maps_equal beq bool_eq_equiv.refl _ _ x.trim_vertical y.trim_vertical one.trim_vertical other.trim_vertical)
+    (and_from _ _ (told_maps_equal beq bool_eq_equiv.refl _ _ x.line_alignment y.line_alignment one.line_alignment other.line_alignment)
+    (and_from _ _ (told_maps_equal alignment_horizontal.ghosts.eq same_horizontal _ _ x.alignment_horizontal y.alignment_horizontal one.alignment_horizontal other.alignment_horizontal)
+    (and_from _ _ (told_maps_equal alignment_vertical.ghosts.eq same_vertical _ _ x.alignment_vertical y.alignment_vertical one.alignment_vertical other.alignment_vertical)
+    (and_from _ _ (told_maps_equal nat_eq nat_eq_equiv.refl _ _ x.justification y.justification one.justification other.justification)
+    (and_from _ _ (told_maps_equal optional_eq same_optional _ _ x.justification_color y.justification_color one.justification_color other.justification_color)
+    (and_from _ _ (told_borders_equal nat_eq nat_eq_equiv.refl (flat_map character_calls settings) x.characters y.characters one.characters other.characters)
+    (and_from _ _ (told_borders_equal color.ghosts.eq same_color (flat_map color_calls settings) x.colors y.colors one.colors other.colors)
+    (and_from _ _ (told_overrides_equal nat_eq nat_eq_equiv.refl (flat_map horizontal_char_calls settings) x.horizontal_chars y.horizontal_chars one.horizontal_chars other.horizontal_chars)
+    (and_from _ _ (told_overrides_equal nat_eq nat_eq_equiv.refl (flat_map vertical_char_calls settings) x.vertical_chars y.vertical_chars one.vertical_chars other.vertical_chars)
+    (and_from _ _ (told_overrides_equal color.ghosts.eq same_color (flat_map horizontal_color_calls settings) x.horizontal_colors y.horizontal_colors one.horizontal_colors other.horizontal_colors)
+    (and_from _ _ (told_overrides_equal color.ghosts.eq same_color (flat_map vertical_color_calls settings) x.vertical_colors y.vertical_colors one.vertical_colors other.vertical_colors)
+    (and_from _ _ (told_spans_equal (flat_map span_calls settings) x.spans y.spans one.spans other.spans)
+    (and_from _ _ (equal_values sides (same_sides indent.ghosts.eq same_indent) one.margin other.margin)
+    (and_from _ _ (equal_values colors (same_sides optional_eq same_optional) one.margin_color other.margin_color)
+    (and_from _ _ (equal_values offsets (same_sides offset.ghosts.eq same_offset) one.margin_offset other.margin_offset)
+    (equal_values nat_eq nat_eq_equiv.refl one.missing other.missing)))))))))))))))))))
