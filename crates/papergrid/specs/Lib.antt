@@ -5,6 +5,7 @@ pub mod Layouts
 pub mod Looks
 pub mod Outputs
 pub mod Rows
+pub mod Runs
 pub mod Scripts
 pub mod Seen
 pub mod Spelling

@@ -1,10 +1,11 @@
 //! The whole run: read to the end, judge, write.
 
 ghost use Rattle.std.specs.Prelude.{◌≡◌, ◌⊎◌, ℕ, All, take, true, false, IfOk, IfSome, OnOk, OnErr, IsErrOf};
-ghost use Rattle.std.specs.Io.KnownBytes.{Appends, IsAtEnd};
+ghost use Rattle.std.specs.Io.KnownBytes.{Appends, Consumes, IsAtEnd};
 ghost use Rattle.papergrid_config.specs.Applied.{is_in_range};
 ghost use Rattle.papergrid.specs.Estimates.{estimate_of};
 ghost use Rattle.papergrid.specs.Outputs.{end_of, estimate_end, estimate_text, output_of};
+ghost use Rattle.papergrid.specs.Runs.{IsBrokenRun, IsWholeRun};
 ghost use Rattle.papergrid.specs.Seen.{GivesEstimate, table_seen};
 ghost use Rattle.papergrid.specs.declared.running.RunFault.TheVariants.{Memory};
 
@@ -58,8 +59,10 @@ impl<T: Drop> From<AllocFailed<T>> for RunFault {
 /// All the bytes that are left.
 fn read_all<S: Source>(alloc: Global, reader: &mut S) -> Result<Vec<u8>, RunFault>
     ensures bytes { IfOk result (λ input. IfSome (S.remaining reader.old) (λ left. input.items ≡ left)) }
+    ensures given { IfOk result (λ input. Consumes (S.remaining reader.old) (S.remaining reader.new) input.items) }
     ensures end { OnOk result (IsAtEnd (S.remaining reader.new)) }
     ensures works { OnOk result (S.has_failed reader.new ≡ S.has_failed reader.old) }
+    ensures memory { IsErrOf result RunFault.Memory → S.has_failed reader.new ≡ S.has_failed reader.old }
     ensures read { IsErrOf result RunFault.Read → S.has_failed reader.new ≡ true }
     ensures never_write { IsErrOf result RunFault.Write → ⊥ }
 {
@@ -79,6 +82,7 @@ fn read_all<S: Source>(alloc: Global, reader: &mut S) -> Result<Vec<u8>, RunFaul
 fn write_all<W: Sink>(writer: &mut W, bytes: &[u8]) -> Result<(), Failed>
     ensures ok { OnOk result (Appends (W.contents writer.old) (W.contents writer.new) bytes.now) }
     ensures works { OnOk result (W.has_failed writer.new ≡ W.has_failed writer.old) }
+    ensures moves { OnOk result (W.has_stalled writer.new ≡ W.has_stalled writer.old) }
     ensures beginning { OnErr result ((n : ℕ) × Appends (W.contents writer.old) (W.contents writer.new) (take n bytes.now)) }
     ensures failed { OnErr result ((W.has_failed writer.new ≡ true) ⊎ (W.has_stalled writer.old ≡ false → W.has_stalled writer.new ≡ true)) }
 {
@@ -152,14 +156,25 @@ pub fn run<S: Source, W: Sink>(
     ensures written { OnOk result (IfSome (S.remaining reader.old) (λ input.
         Appends (W.contents writer.old) (W.contents writer.new) (output_of input))) }
     ensures answer { IfOk result (λ end. IfSome (S.remaining reader.old) (λ input. end ≡ end_of input)) }
+    // So of some input where the reader does not tell its bytes.
+    ensures some_input { IfOk result
+        (IsWholeRun (S.remaining reader.old) (S.remaining reader.new) (W.contents writer.old) (W.contents writer.new)) }
+    // No read and no write failed, and each write of a piece that isn't empty took a byte.
+    ensures reader_works { OnOk result (S.has_failed reader.new ≡ false) }
+    ensures writer_works { OnOk result (W.has_failed writer.new ≡ false) }
+    ensures writer_moves { OnOk result (W.has_stalled writer.new ≡ W.has_stalled writer.old) }
     // Which fault comes, and what was written then.
     ensures read { IsErrOf result RunFault.Read → S.has_failed reader.new ≡ true }
     ensures write { IsErrOf result RunFault.Write →
         (W.has_failed writer.new ≡ true) ⊎ (W.has_stalled writer.old ≡ false → W.has_stalled writer.new ≡ true) }
+    ensures memory { IsErrOf result RunFault.Memory → S.has_failed reader.new ≡ false }
+    ensures write_alone { IsErrOf result RunFault.Write → S.has_failed reader.new ≡ false }
     ensures read_nothing { IsErrOf result RunFault.Read → writer.new ≡ writer.old }
     ensures memory_nothing { IsErrOf result RunFault.Memory → writer.new ≡ writer.old }
     ensures beginning { IsErrOf result RunFault.Write → IfSome (S.remaining reader.old) (λ input.
         (n : ℕ) × Appends (W.contents writer.old) (W.contents writer.new) (take n (output_of input))) }
+    ensures some_beginning { IsErrOf result RunFault.Write →
+        IsBrokenRun (S.remaining reader.old) (S.remaining reader.new) (W.contents writer.old) (W.contents writer.new) }
 {
     let input = read_all(alloc, reader)?;
     let (end, output) = answer(alloc, input.as_slice())?;
