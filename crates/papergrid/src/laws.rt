@@ -8,13 +8,17 @@ ghost use Rattle.papergrid_tables.specs.Places.{HasHorizontal, HasVertical};
 ghost use Rattle.papergrid_maps.specs.declared.entity_map.MapCall.{MapCall};
 ghost use Rattle.papergrid_maps.specs.MapCalls.{decided_value};
 ghost use Rattle.papergrid_config.specs.Made.{characters_of};
+ghost use Rattle.papergrid_config.specs.Told.{IsTold};
+ghost use Rattle.papergrid_config.specs.declared.spanned.SpannedConfig.{SpannedConfig};
 ghost use Rattle.papergrid_config.specs.declared.setting.Setting.{Setting};
+ghost use Rattle.papergrid_walk.specs.Looks.{spanned_look};
 ghost use Rattle.papergrid_layout.specs.Answers.{first_out_of_table};
 ghost use Rattle.papergrid.specs.Decided.{IsDecided};
 ghost use Rattle.papergrid.specs.Estimates.{OutOfTable, Sized, TooLarge, estimate_of, text_measure};
 ghost use Rattle.papergrid.specs.Grammar.{Said, entity_of, number_of, said, script_lines};
 ghost use Rattle.papergrid.specs.Looks.{look_of};
 ghost use Rattle.papergrid.specs.Rows.{WorkedRows};
+ghost use Rattle.papergrid.specs.ScriptLines.{AreScriptLines};
 ghost use Rattle.papergrid.specs.Scripts.{Table, table_of};
 ghost use Rattle.papergrid.specs.Spelling.{IsEntity, IsLine, IsNumber};
 ghost use Rattle.papergrid.specs.Tells.{IsBad, IsFirstBad, Tells};
@@ -43,6 +47,13 @@ pub fn line_form()
     ensures spelled { (line : List ℕ) (s : Said) → IsUtf8 line → IsLine line s → said line ≡ Some s }
 {}
 
+/// The lines of an input are the one list of newline-free pieces that joins to it, without an empty last piece,
+/// each without one carriage return at its end.
+pub fn script_lines_form()
+    ensures lines { (input : List ℕ) → AreScriptLines input (script_lines input) }
+    ensures only { (input : List ℕ) (lines : List (List ℕ)) → AreScriptLines input lines → lines ≡ script_lines input }
+{}
+
 /// What is decided for a cell is what its deciding call says, by its place in the list: the last pin that
 /// counts, else the column's value that stands, else the row's, else the whole table's, else the one given
 /// at first; and nothing else is.
@@ -59,6 +70,11 @@ pub fn script_by_lines()
     ensures none_bad { (input : List ℕ) (table : Table) → table_of input ≡ Ok table → (i : ℕ) → ¬ (IsBad (script_lines input) i) }
     ensures named { (input : List ℕ) (n : ℕ) → table_of input ≡ Err n → (i : ℕ) × (n ≡ i + 1) × IsFirstBad (script_lines input) i }
     ensures found { (input : List ℕ) (i : ℕ) → IsFirstBad (script_lines input) i → table_of input ≡ Err (i + 1) }
+{}
+
+/// An estimate reads of a configuration that settings tell what the settings decide.
+pub fn look_by_settings()
+    ensures { (settings : List Setting) (config : SpannedConfig) → IsTold settings config → spanned_look config ≡ look_of settings }
 {}
 
 /// A line is counted in the totals exactly where what the settings leave has one.
