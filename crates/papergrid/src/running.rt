@@ -23,20 +23,21 @@ use std::alloc::{AllocError, AllocFailed, Global};
 pub enum RunEnd {
     /// The sizes were written.
     Done,
-    /// The table has no sizes, and why was written.
+    /// The table has no sizes, and why was written: the first visible cell that reaches out of it, or that a total
+    /// with the lines of the table is too large.
     Refused,
     /// The script has a bad line, and its number was written.
     BadScript,
 }
 
-/// What kept a run from its end.
+/// What kept a run from its end. No failed read or write was tried again.
 #[derive(Clone, Copy, Debug, PartialEq, Eq)]
 pub enum RunFault {
     /// A growth was refused. Nothing was written.
     Memory,
     /// The reader failed. Nothing was written.
     Read,
-    /// The writer failed, or took no byte. A beginning of the output was written.
+    /// The writer failed, or took no byte of a piece that isn't empty. A beginning of the output was written.
     Write,
 }
 
@@ -142,7 +143,17 @@ fn table_sizes(alloc: Global, script: Script<'_>) -> Result<Sizes, LayoutError>
     estimate(alloc, records, &config)
 }
 
-/// Reads a script to its end, and writes the sizes of its table, or why it has none.
+/// Reads a script to its end, and writes the sizes of its table, or why it has none. Widths are in columns of a
+/// terminal and heights in lines; the totals count the lines of the table, and so does a refusal as too large.
+/// Nothing is written before the input was read to its end, and all of it is kept until then.
+///
+/// Condition: neither the reader nor the writer has failed before.
+///
+/// # Errors
+///
+/// `Read` where the reader fails, `Write` where the writer fails or takes no byte of a piece that isn't empty,
+/// `Memory` where a growth is refused, over a reader that never ends too. No failed call is tried again. After
+/// `Read` and `Memory` nothing was written, after `Write` a beginning of the output.
 pub fn run<S: Source, W: Sink>(
     alloc: Global,
     reader: &mut S,
