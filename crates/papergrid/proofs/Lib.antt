@@ -10,5 +10,6 @@ mod LookLemmas
 mod RangeLemmas
 mod MarkLemmas
 mod ReadLemmas
+mod ScriptLineLemmas
 mod SpellLemmas
 mod TellsLemmas

@@ -4,6 +4,8 @@ pub mod Layouts
 pub mod Looks
 pub mod Outputs
 pub mod Rows
+pub mod Runs
+pub mod ScriptLines
 pub mod Scripts
 pub mod Seen
 pub mod Spelling

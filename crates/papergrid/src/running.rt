@@ -1,10 +1,11 @@
 //! The whole run: read to the end, judge, write.
 
 ghost use Rattle.std.specs.Prelude.{◌≡◌, ◌⊎◌, ℕ, All, take, true, false, IfOk, IfSome, OnOk, OnErr, IsErrOf};
-ghost use Rattle.std.specs.Io.KnownBytes.{Appends, IsAtEnd};
+ghost use Rattle.std.specs.Io.KnownBytes.{Appends, Consumes, IsAtEnd};
 ghost use Rattle.papergrid_config.specs.Applied.{is_in_range};
 ghost use Rattle.papergrid.specs.Estimates.{estimate_of};
 ghost use Rattle.papergrid.specs.Outputs.{end_of, estimate_end, estimate_text, output_of};
+ghost use Rattle.papergrid.specs.Runs.{IsBrokenRun, IsWholeRun};
 ghost use Rattle.papergrid.specs.Seen.{GivesEstimate, table_seen};
 ghost use Rattle.papergrid.specs.declared.running.RunFault.TheVariants.{Memory};
 
@@ -22,20 +23,21 @@ use std::alloc::{AllocError, AllocFailed, Global};
 pub enum RunEnd {
     /// The sizes were written.
     Done,
-    /// The table has no sizes, and why was written.
+    /// The table has no sizes, and why was written: the first visible cell that reaches out of it, or that a total
+    /// with the lines of the table is too large.
     Refused,
     /// The script has a bad line, and its number was written.
     BadScript,
 }
 
-/// What kept a run from its end.
+/// What kept a run from its end. No failed read or write was tried again.
 #[derive(Clone, Copy, Debug, PartialEq, Eq)]
 pub enum RunFault {
     /// A growth was refused. Nothing was written.
     Memory,
     /// The reader failed. Nothing was written.
     Read,
-    /// The writer failed, or took no byte. A beginning of the output was written.
+    /// The writer failed, or took no byte of a piece that isn't empty. A beginning of the output was written.
     Write,
 }
 
@@ -58,8 +60,10 @@ impl<T: Drop> From<AllocFailed<T>> for RunFault {
 /// All the bytes that are left.
 fn read_all<S: Source>(alloc: Global, reader: &mut S) -> Result<Vec<u8>, RunFault>
     ensures bytes { IfOk result (λ input. IfSome (S.remaining reader.old) (λ left. input.items ≡ left)) }
+    ensures given { IfOk result (λ input. Consumes (S.remaining reader.old) (S.remaining reader.new) input.items) }
     ensures end { OnOk result (IsAtEnd (S.remaining reader.new)) }
     ensures works { OnOk result (S.has_failed reader.new ≡ S.has_failed reader.old) }
+    ensures memory { IsErrOf result RunFault.Memory → S.has_failed reader.new ≡ S.has_failed reader.old }
     ensures read { IsErrOf result RunFault.Read → S.has_failed reader.new ≡ true }
     ensures never_write { IsErrOf result RunFault.Write → ⊥ }
 {
@@ -79,6 +83,7 @@ fn read_all<S: Source>(alloc: Global, reader: &mut S) -> Result<Vec<u8>, RunFaul
 fn write_all<W: Sink>(writer: &mut W, bytes: &[u8]) -> Result<(), Failed>
     ensures ok { OnOk result (Appends (W.contents writer.old) (W.contents writer.new) bytes.now) }
     ensures works { OnOk result (W.has_failed writer.new ≡ W.has_failed writer.old) }
+    ensures moves { OnOk result (W.has_stalled writer.new ≡ W.has_stalled writer.old) }
     ensures beginning { OnErr result ((n : ℕ) × Appends (W.contents writer.old) (W.contents writer.new) (take n bytes.now)) }
     ensures failed { OnErr result ((W.has_failed writer.new ≡ true) ⊎ (W.has_stalled writer.old ≡ false → W.has_stalled writer.new ≡ true)) }
 {
@@ -138,7 +143,17 @@ fn table_sizes(alloc: Global, script: Script<'_>) -> Result<Sizes, LayoutError>
     estimate(alloc, records, &config)
 }
 
-/// Reads a script to its end, and writes the sizes of its table, or why it has none.
+/// Reads a script to its end, and writes the sizes of its table, or why it has none. Widths are in columns of a
+/// terminal and heights in lines; the totals count the lines of the table, and so does a refusal as too large.
+/// Nothing is written before the input was read to its end, and all of it is kept until then.
+///
+/// Condition: neither the reader nor the writer has failed before.
+///
+/// # Errors
+///
+/// `Read` where the reader fails, `Write` where the writer fails or takes no byte of a piece that isn't empty,
+/// `Memory` where a growth is refused, over a reader that never ends too. No failed call is tried again. After
+/// `Read` and `Memory` nothing was written, after `Write` a beginning of the output.
 pub fn run<S: Source, W: Sink>(
     alloc: Global,
     reader: &mut S,
@@ -152,14 +167,25 @@ pub fn run<S: Source, W: Sink>(
     ensures written { OnOk result (IfSome (S.remaining reader.old) (λ input.
         Appends (W.contents writer.old) (W.contents writer.new) (output_of input))) }
     ensures answer { IfOk result (λ end. IfSome (S.remaining reader.old) (λ input. end ≡ end_of input)) }
+    // So of some input where the reader does not tell its bytes.
+    ensures some_input { IfOk result
+        (IsWholeRun (S.remaining reader.old) (S.remaining reader.new) (W.contents writer.old) (W.contents writer.new)) }
+    // No read and no write failed, and each write of a piece that isn't empty took a byte.
+    ensures reader_works { OnOk result (S.has_failed reader.new ≡ false) }
+    ensures writer_works { OnOk result (W.has_failed writer.new ≡ false) }
+    ensures writer_moves { OnOk result (W.has_stalled writer.new ≡ W.has_stalled writer.old) }
     // Which fault comes, and what was written then.
     ensures read { IsErrOf result RunFault.Read → S.has_failed reader.new ≡ true }
     ensures write { IsErrOf result RunFault.Write →
         (W.has_failed writer.new ≡ true) ⊎ (W.has_stalled writer.old ≡ false → W.has_stalled writer.new ≡ true) }
+    ensures memory { IsErrOf result RunFault.Memory → S.has_failed reader.new ≡ false }
+    ensures write_alone { IsErrOf result RunFault.Write → S.has_failed reader.new ≡ false }
     ensures read_nothing { IsErrOf result RunFault.Read → writer.new ≡ writer.old }
     ensures memory_nothing { IsErrOf result RunFault.Memory → writer.new ≡ writer.old }
     ensures beginning { IsErrOf result RunFault.Write → IfSome (S.remaining reader.old) (λ input.
         (n : ℕ) × Appends (W.contents writer.old) (W.contents writer.new) (take n (output_of input))) }
+    ensures some_beginning { IsErrOf result RunFault.Write →
+        IsBrokenRun (S.remaining reader.old) (S.remaining reader.new) (W.contents writer.old) (W.contents writer.new) }
 {
     let input = read_all(alloc, reader)?;
     let (end, output) = answer(alloc, input.as_slice())?;

@@ -16,13 +16,17 @@ use std::alloc::{AllocError, Global};
 use std::convert::AsStr;
 
 /// The widths of the columns of the records, in columns of a terminal, and the heights of their rows, in
-/// lines, by the configuration that the settings tell. Condition: each setting is in range.
+/// lines, by the configuration that the settings tell.
+///
+/// Conditions: each setting is in range (`is_in_range` tests it). The records are lawful: they tell one finite list
+/// of rows and one count of columns, as each vector of rows does. A cell answers the same each time.
 ///
 /// # Errors
 ///
 /// `OutOfTable` with the first visible cell that reaches out, else `TooLarge` where the widths and the
 /// vertical lines, or the heights and the horizontal lines, come to more than the greatest `usize`;
-/// `Memory` in place of any answer, where a setting asks for memory too.
+/// `Memory` in place of any answer, where a setting asks for memory too. Nothing is left of a layout that
+/// was refused.
 pub fn layout<R: Records + Drop>(
     alloc: Global,
     settings: Vec<Setting>,
@@ -39,7 +43,7 @@ where
     laid_out(alloc, records, &config)
 }
 
-/// The same by a configuration.
+/// The same by a configuration. Condition: the records are lawful.
 pub fn laid_out<R: Records + Drop>(
     alloc: Global,
     records: R,
@@ -58,7 +62,7 @@ where
     }
 }
 
-/// The configuration that the settings tell.
+/// The configuration that the settings tell. Condition: each setting is in range.
 pub fn configuration(alloc: Global, settings: Vec<Setting>) -> Result<SpannedConfig, AllocError>
     requires { All (λ setting. is_in_range setting ≡ true) settings.items }
     ensures { IfOk result (λ config. IsTold settings.items config) }

@@ -21,6 +21,10 @@ pub trait Source {
 
     /// Reads the first of the bytes that are left into the front of the buffer, and answers how many:
     /// 0 only at the end, or where the buffer is empty.
+    ///
+    /// # Errors
+    ///
+    /// `Failed` where the source failed. It read nothing then, and has failed from then on.
     fn read(&mut self, buffer: &mut [u8]) -> Result<usize, Failed>
         ensures bound { ReadsAtMost result buffer.new }
         ensures bytes { ReadConsumes (remaining self.old) (remaining self.new) result buffer.new }
@@ -39,6 +43,11 @@ pub trait Sink {
     ghost has_stalled: { Self → Bool };
 
     /// Takes some of the first bytes of the piece, and answers how many.
+    ///
+    /// # Errors
+    ///
+    /// `Failed` where the sink failed. It took nothing then, and has failed from then on. To take no byte is no
+    /// failure.
     fn write(&mut self, piece: &[u8]) -> Result<usize, Failed>
         ensures bound { WritesAtMost result piece.now }
         ensures bytes { WriteAppends (contents self.old) (contents self.new) result piece.now }

@@ -1,0 +1,23 @@
+-- What a run does to the bytes of its reader and its writer, whether or not these tell them: what is left to read, and
+-- what was written, each before and after.
+use Rattle.std.specs.Prelude.{◌≡◌, ℕ, List, Option, take}
+use Rattle.std.specs.Io.KnownBytes.{Appends, Consumes, IsAtEnd}
+use Rattle.papergrid.specs.declared.running.RunEnd.{RunEnd}
+use Rattle.papergrid.specs.Outputs.{end_of, output_of}
+
+module _ (unread_old unread_new written_old written_new : Option (List ℕ)) where
+  -- some input was read to its end, its output was written and nothing else, and the run ended as it says
+  pub record IsWholeRun (end : RunEnd) : Type 0 where
+    pub input : List ℕ
+    pub read : Consumes unread_old unread_new input
+    pub at_end : IsAtEnd unread_new
+    pub written : Appends written_old written_new (output_of input)
+    pub ended : end ≡ end_of input
+
+  -- some input was read to its end, and a beginning of its output was written and nothing else
+  pub record IsBrokenRun : Type 0 where
+    pub input : List ℕ
+    pub read : Consumes unread_old unread_new input
+    pub at_end : IsAtEnd unread_new
+    pub count : ℕ
+    pub written : Appends written_old written_new (take count (output_of input))
