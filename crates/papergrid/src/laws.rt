@@ -3,18 +3,10 @@
 ghost use Rattle.std.specs.Prelude.{◌≡◌, ◌↔◌, ◌+◌, ℕ, IsUtf8, List, Option, Some, Ok, Err};
 ghost use Rattle.papergrid_values.specs.declared.entity.Entity.{Entity};
 ghost use Rattle.papergrid_values.specs.declared.position.Position.{Position};
-<<<<<<< HEAD
-=======
-ghost use Rattle.papergrid_tables.specs.LineTests.{horizontal_line_at, vertical_line_at};
-ghost use Rattle.papergrid_tables.specs.Places.{HasHorizontal, HasVertical};
-ghost use Rattle.papergrid_maps.specs.declared.entity_map.MapCall.{MapCall};
-ghost use Rattle.papergrid_maps.specs.MapCalls.{decided_value};
-ghost use Rattle.papergrid_config.specs.Made.{characters_of};
 ghost use Rattle.papergrid_config.specs.Told.{IsTold};
 ghost use Rattle.papergrid_config.specs.declared.spanned.SpannedConfig.{SpannedConfig};
 ghost use Rattle.papergrid_config.specs.declared.setting.Setting.{Setting};
 ghost use Rattle.papergrid_walk.specs.Looks.{spanned_look};
->>>>>>> hd
 ghost use Rattle.papergrid_layout.specs.Answers.{first_out_of_table};
 ghost use Rattle.papergrid.specs.Estimates.{OutOfTable, Sized, TooLarge, estimate_of, text_measure};
 ghost use Rattle.papergrid.specs.Grammar.{Said, entity_of, number_of, said, script_lines};
@@ -49,8 +41,6 @@ pub fn line_form()
     ensures spelled { (line : List ℕ) (s : Said) → IsUtf8 line → IsLine line s → said line ≡ Some s }
 {}
 
-<<<<<<< HEAD
-=======
 /// The lines of an input are the one list of newline-free pieces that joins to it, without an empty last piece,
 /// each without one carriage return at its end.
 pub fn script_lines_form()
@@ -58,17 +48,6 @@ pub fn script_lines_form()
     ensures only { (input : List ℕ) (lines : List (List ℕ)) → AreScriptLines input lines → lines ≡ script_lines input }
 {}
 
-/// What is decided for a cell is what its deciding call says, by its place in the list: the last pin that
-/// counts, else the column's value that stands, else the row's, else the whole table's, else the one given
-/// at first; and nothing else is.
-pub fn decided_by_place<T>()
-    ensures decided { (given : T) (calls : List (MapCall T)) (r c : ℕ) →
-        IsDecided calls given r c (length calls) (decided_value given calls (record { row = r; col = c })) }
-    ensures only { (given : T) (calls : List (MapCall T)) (r c : ℕ) (v : T) →
-        IsDecided calls given r c (length calls) v → v ≡ decided_value given calls (record { row = r; col = c }) }
-{}
-
->>>>>>> hd
 /// What a script tells, and its first bad line, by all of its lines at once.
 pub fn script_by_lines()
     ensures told { (input : List ℕ) (table : Table) → table_of input ≡ Ok table → Tells (script_lines input) table }
@@ -77,22 +56,11 @@ pub fn script_by_lines()
     ensures found { (input : List ℕ) (i : ℕ) → IsFirstBad (script_lines input) i → table_of input ≡ Err (i + 1) }
 {}
 
-<<<<<<< HEAD
-=======
 /// An estimate reads of a configuration that settings tell what the settings decide.
 pub fn look_by_settings()
     ensures { (settings : List Setting) (config : SpannedConfig) → IsTold settings config → spanned_look config ≡ look_of settings }
 {}
 
-/// A line is counted in the totals exactly where what the settings leave has one.
-pub fn lines_by_place()
-    ensures vertical { (settings : List Setting) (col count : ℕ) →
-        IsTrue (vertical_line_at (characters_of settings) col count) ↔ HasVertical (lines_left settings) col count }
-    ensures horizontal { (settings : List Setting) (row count : ℕ) →
-        IsTrue (horizontal_line_at (characters_of settings) row count) ↔ HasHorizontal (lines_left settings) row count }
-{}
-
->>>>>>> hd
 /// A table is refused exactly for its first visible cell that reaches out of it, and else only where the sizes
 /// along a direction, with its lines, come to more than fits 64 bits, and so do all sizes with room where ranges
 /// are kept apart; else its sizes are those of its visible cells, with room for each of them and no size above

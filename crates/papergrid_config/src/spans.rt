@@ -26,7 +26,7 @@ impl SpannedConfig {
         ensures ok { OnOk result (Appends self.old self.new (Setting.SetColumnSpan pos span ∷ [])) }
         ensures err { OnErr result (self.new ≡ self.old) }
         ensures small { span < 2 → IsOk result }
-        ensures others { self.new ≡ record self.old { spans = self.new.spans } }
+        ensures others { self.new ≡ record self.old { spans = record self.old.spans { columns = self.new.spans.columns } } }
     {
         self.spans.set_column(pos, span)
     }
@@ -38,7 +38,7 @@ impl SpannedConfig {
         ensures ok { OnOk result (Appends self.old self.new (Setting.SetRowSpan pos span ∷ [])) }
         ensures err { OnErr result (self.new ≡ self.old) }
         ensures small { span < 2 → IsOk result }
-        ensures others { self.new ≡ record self.old { spans = self.new.spans } }
+        ensures others { self.new ≡ record self.old { spans = record self.old.spans { rows = self.new.spans.rows } } }
     {
         self.spans.set_row(pos, span)
     }
@@ -90,7 +90,7 @@ impl SpannedConfig {
     /// Removes all column spans.
     pub fn remove_column_spans(&mut self)
         ensures told { Appends self.old self.new (Setting.RemoveColumnSpans ∷ []) }
-        ensures others { self.new ≡ record self.old { spans = self.new.spans } }
+        ensures others { self.new ≡ record self.old { spans = record self.old.spans { columns = self.new.spans.columns } } }
     {
         self.spans.remove_columns();
     }
@@ -98,7 +98,7 @@ impl SpannedConfig {
     /// Removes all row spans.
     pub fn remove_row_spans(&mut self)
         ensures told { Appends self.old self.new (Setting.RemoveRowSpans ∷ []) }
-        ensures others { self.new ≡ record self.old { spans = self.new.spans } }
+        ensures others { self.new ≡ record self.old { spans = record self.old.spans { rows = self.new.spans.rows } } }
     {
         self.spans.remove_rows();
     }

@@ -21,6 +21,9 @@ use std::convert::AsStr;
 /// starts of their ranges: visible cells of disjoint ranges, whose needs less the lines inside of
 /// them add up to the widths. None where two longer column ranges are neither nested nor disjoint.
 ///
+/// Condition: the records are lawful: they tell one finite list of rows, as each vector of
+/// rows does.
+///
 /// # Errors
 ///
 /// As those of `IterGridDimension::width`.
@@ -40,6 +43,9 @@ where
 
 /// The positions of the cells that certify that the heights of the records' rows are least, as
 /// `width_witness` for columns. None where two longer row ranges are neither nested nor disjoint.
+///
+/// Condition: the records are lawful: they tell one finite list of rows, as each vector of
+/// rows does.
 ///
 /// # Errors
 ///
@@ -62,6 +68,9 @@ where
 /// columns, every visible cell fits, and the positions listed are those of visible cells of disjoint
 /// ranges, whose needs less the lines inside of them add up to the widths. Then no widths that fit
 /// have a smaller total, whoever made the list. It takes no memory.
+///
+/// Condition: the records are lawful: they tell one finite list of rows, as each vector of
+/// rows does.
 pub fn check_width_witness<R: Records + Drop>(
     records: R,
     config: &SpannedConfig,
@@ -81,6 +90,9 @@ where
 /// every visible cell fits, and the positions listed are those of visible cells of disjoint ranges,
 /// whose needs less the lines inside of them add up to the heights. Then no heights that fit have a
 /// smaller total, whoever made the list. It takes no memory.
+///
+/// Condition: the records are lawful: they tell one finite list of rows, as each vector of
+/// rows does.
 pub fn check_height_witness<R: Records + Drop>(
     records: R,
     config: &SpannedConfig,

@@ -33,6 +33,9 @@ pub struct Certified {
 /// The sizes that `IterGridDimension` estimates, and the witnesses that `width_witness` and
 /// `height_witness` give, by one walk over the records.
 ///
+/// Condition: the records are lawful: they tell one finite list of rows, as each vector of
+/// rows does.
+///
 /// # Errors
 ///
 /// As those of the estimate.

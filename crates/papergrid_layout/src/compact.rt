@@ -39,6 +39,9 @@ impl CompactGridDimension {
 
     /// The widths of the columns of the records, in columns of a terminal.
     ///
+    /// Condition: the records are lawful: they tell one finite list of rows, as each vector of
+    /// rows does.
+    ///
     /// # Errors
     ///
     /// `OutOfTable` with the first cell past the last column, else `TooLarge` where the widths come to
@@ -59,6 +62,9 @@ impl CompactGridDimension {
 
     /// The heights of the rows of the records, in lines.
     ///
+    /// Condition: the records are lawful: they tell one finite list of rows, as each vector of
+    /// rows does.
+    ///
     /// # Errors
     ///
     /// `TooLarge` where the heights come to more than the greatest `usize`; `Memory` in place of any
@@ -77,7 +83,11 @@ impl CompactGridDimension {
         sizes::<ByStdLines, R, CompactConfig>(alloc, records, config, Direction::Rows)
     }
 
-    /// The widths of the columns and the heights of the rows of the records.
+    /// The widths of the columns of the records, in columns of a terminal, and the heights of their
+    /// rows, in lines.
+    ///
+    /// Condition: the records are lawful: they tell one finite list of rows, as each vector of
+    /// rows does.
     ///
     /// # Errors
     ///

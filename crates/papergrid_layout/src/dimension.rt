@@ -60,11 +60,14 @@ pub trait Estimate<R, C> {
 
     /// Takes the sizes of the records.
     ///
+    /// Condition: the records are lawful: they tell one finite list of rows, as each vector of
+    /// rows does.
+    ///
     /// # Errors
     ///
-    /// `OutOfTable` with the first visible cell that reaches out, else `TooLarge` where the sizes come
-    /// to more than the greatest `usize`; `Memory` in place of any answer. The sizes are then as they
-    /// were.
+    /// `OutOfTable` with the first visible cell that reaches out, else `TooLarge` where the sizes with
+    /// the lines of the table (of `CompactGridDimension` the sizes alone) come to more than the
+    /// greatest `usize`; `Memory` in place of any answer. The sizes are then as they were.
     fn estimate(&mut self, records: R, config: &C) -> Result<(), LayoutError>
         requires { accepts records }
         ensures ok { IfOk result (λ _. is_estimate self.new records config.now) }

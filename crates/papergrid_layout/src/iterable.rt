@@ -44,6 +44,9 @@ impl IterGridDimension {
 
     /// The widths of the columns of the records, in columns of a terminal.
     ///
+    /// Condition: the records are lawful: they tell one finite list of rows, as each vector of
+    /// rows does.
+    ///
     /// # Errors
     ///
     /// `OutOfTable` with the first visible cell that reaches out along columns, else `TooLarge` where
@@ -65,6 +68,9 @@ impl IterGridDimension {
 
     /// The heights of the rows of the records, in lines.
     ///
+    /// Condition: the records are lawful: they tell one finite list of rows, as each vector of
+    /// rows does.
+    ///
     /// # Errors
     ///
     /// As those of `width`, along rows and with the horizontal lines.
@@ -83,6 +89,9 @@ impl IterGridDimension {
     }
 
     /// The width of the records' table: the sum of the widths and of the vertical lines.
+    ///
+    /// Condition: the records are lawful: they tell one finite list of rows, as each vector of
+    /// rows does.
     ///
     /// # Errors
     ///
@@ -105,6 +114,9 @@ impl IterGridDimension {
     }
 
     /// The height of the records' table: the sum of the heights and of the horizontal lines.
+    ///
+    /// Condition: the records are lawful: they tell one finite list of rows, as each vector of
+    /// rows does.
     ///
     /// # Errors
     ///

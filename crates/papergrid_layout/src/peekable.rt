@@ -39,6 +39,9 @@ impl PeekableGridDimension {
 
     /// The widths of the columns of the records, in columns of a terminal.
     ///
+    /// Condition: the records are lawful: they tell one finite list of rows, as each vector of
+    /// rows does.
+    ///
     /// # Errors
     ///
     /// `OutOfTable` with the first visible cell that reaches out along columns, else `TooLarge` where
@@ -60,6 +63,9 @@ impl PeekableGridDimension {
 
     /// The heights of the rows of the records, in lines.
     ///
+    /// Condition: the records are lawful: they tell one finite list of rows, as each vector of
+    /// rows does.
+    ///
     /// # Errors
     ///
     /// As those of `width`, along rows and with the horizontal lines.
@@ -77,7 +83,11 @@ impl PeekableGridDimension {
         sizes::<ByCell, R, SpannedConfig>(alloc, records, config, Direction::Rows)
     }
 
-    /// The widths of the columns and the heights of the rows of the records.
+    /// The widths of the columns of the records, in columns of a terminal, and the heights of their
+    /// rows, in lines.
+    ///
+    /// Condition: the records are lawful: they tell one finite list of rows, as each vector of
+    /// rows does.
     ///
     /// # Errors
     ///

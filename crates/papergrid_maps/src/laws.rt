@@ -1,6 +1,6 @@
 //! Laws over the definitions that the contracts cite.
 
-ghost use Rattle.std.specs.Prelude.{◌≡◌, ◌∷◌, ◌++◌, [], List, None, true};
+ghost use Rattle.std.specs.Prelude.{◌≡◌, ◌↔◌, ◌∷◌, ◌++◌, [], IsTrue, List, None, true};
 ghost use Rattle.std.specs.List.{list_all};
 ghost use Rattle.papergrid_values.specs.declared.position.Position.{Position};
 ghost use Rattle.papergrid_maps.specs.declared.entity_map.MapCall.{MapCall};
@@ -12,7 +12,7 @@ ghost use Rattle.papergrid_maps.specs.Made.{spans_made};
 ghost use Rattle.papergrid_maps.specs.MapCalls.{decided_value};
 ghost use Rattle.papergrid_maps.specs.MapHeld.{Held, IsTold, held_value};
 ghost use Rattle.papergrid_maps.specs.Spans as spans;
-ghost use Rattle.papergrid_maps.specs.Spans.{SpanCall, Spans};
+ghost use Rattle.papergrid_maps.specs.Spans.{IsVisible, SpanCall, Spans, column_span, is_visible, row_span};
 
 use crate::{Colors, CompactConfig, EntityMap, NoColor, NoColors, SpanTable};
 pub use papergrid_tables::laws::{equal_overrides, equal_told_tables, told_makes_borders};
@@ -31,6 +31,13 @@ pub fn told_decides<T>()
 pub fn told_makes_spans()
     ensures told { (calls : List SpanCall) → spans.IsTold calls (spans_made calls) }
     ensures only { (calls : List SpanCall) (held : Spans) → spans.IsTold calls held → held ≡ spans_made calls }
+{}
+
+/// A position passes the computed test of visibility exactly where it lies in no other anchor's
+/// rectangle, whatever spans are held.
+pub fn visible_by_rectangles()
+    ensures { (held : Spans) (pos : Position) →
+        IsTrue (is_visible held pos) ↔ IsVisible (column_span held) (row_span held) pos }
 {}
 
 /// Two maps that were made with the same value and are told by the same calls are equal, and so

@@ -57,6 +57,7 @@ impl SpanTable {
     pub fn set_column(&mut self, pos: Position, span: usize) -> Result<(), AllocError>
         ensures ok { OnOk result (Appends self.old self.new (SetSpan Columns pos span ∷ [])) }
         ensures err { OnErr result (self.new ≡ self.old) }
+        ensures others { self.new.rows ≡ self.old.rows }
         ensures small { span < 2 → IsOk result }
     {
         set_span(&mut self.columns, pos, span)
@@ -66,6 +67,7 @@ impl SpanTable {
     pub fn set_row(&mut self, pos: Position, span: usize) -> Result<(), AllocError>
         ensures ok { OnOk result (Appends self.old self.new (SetSpan Rows pos span ∷ [])) }
         ensures err { OnErr result (self.new ≡ self.old) }
+        ensures others { self.new.columns ≡ self.old.columns }
         ensures small { span < 2 → IsOk result }
     {
         set_span(&mut self.rows, pos, span)
@@ -89,14 +91,16 @@ impl SpanTable {
 
     /// Removes all column spans.
     pub fn remove_columns(&mut self)
-        ensures { Appends self.old self.new (RemoveSpans Columns ∷ []) }
+        ensures told { Appends self.old self.new (RemoveSpans Columns ∷ []) }
+        ensures others { self.new.rows ≡ self.old.rows }
     {
         self.columns.clear();
     }
 
     /// Removes all row spans.
     pub fn remove_rows(&mut self)
-        ensures { Appends self.old self.new (RemoveSpans Rows ∷ []) }
+        ensures told { Appends self.old self.new (RemoveSpans Rows ∷ []) }
+        ensures others { self.new.columns ≡ self.old.columns }
     {
         self.rows.clear();
     }

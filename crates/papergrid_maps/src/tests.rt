@@ -171,6 +171,7 @@ fn calls_that_take_no_memory(rt: HostRuntime) {
 fn map_laws() {
     laws::told_decides::<char>();
     laws::told_makes_spans();
+    laws::visible_by_rectangles();
     laws::told_makes_borders::<char>();
     laws::equal_overrides::<char>();
     laws::equal_told_tables::<char>();
