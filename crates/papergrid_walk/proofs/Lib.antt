@@ -1,3 +1,8 @@
+pub mod LevelLemmas
+pub mod PassLemmas
+pub mod HiddenLemmas
+pub mod SpanLemmas
+pub mod BuildLemmas
 pub mod Distinct
 pub mod PaddingLemmas
 pub mod ShownLemmas

@@ -2,8 +2,8 @@
 use Rattle.std.proofs.Common.{◌≡◌, ◌+◌, ℕ, Bool, true, List, [], arith, refl, subst, sym}
 use Rattle.std.proofs.lemmas.Option.{none-some}
 use Rattle.papergrid_values.specs.declared.position.Position.{Position}
-use Rattle.papergrid_sweep.specs.declared.anchor.Anchor.{Anchor}
-use Rattle.papergrid_sweep.specs.Hidden.{IsAhead, IsBefore, Walk}
+use Rattle.papergrid_walk.specs.declared.anchor.Anchor.{Anchor}
+use Rattle.papergrid_walk.specs.Hidden.{IsAhead, IsBefore, Walk}
 use Rattle.papergrid_walk.specs.Shown.{AreAnchorsOf, Shows}
 
 -- the start of a walk

@@ -1,5 +1,8 @@
 -- The definitions that the contracts cite.
+pub mod Anchors
 pub mod Cells
+pub mod Hidden
+pub mod Levels
 pub mod Looks
 pub mod Measures
 pub mod Paddings

@@ -1,8 +1,8 @@
 -- What a walk knows of the visible positions.
 use Rattle.std.specs.Prelude.{◌≡◌, ◌↔◌, ◌≤◌, ℕ, Bool, IsTrue, List}
 use Rattle.papergrid_values.specs.declared.position.Position.{Position}
-use Rattle.papergrid_sweep.specs.declared.anchor.Anchor.{Anchor}
-use Rattle.papergrid_sweep.specs.Hidden.{IsAhead, IsHidden, Walk}
+use Rattle.papergrid_walk.specs.declared.anchor.Anchor.{Anchor}
+use Rattle.papergrid_walk.specs.Hidden.{IsAhead, IsHidden, Walk}
 
 -- the anchors hide what is not shown
 abbrev pub AreAnchorsOf : (Position → Bool) → List Anchor → Type 0

@@ -9,12 +9,12 @@ ghost use Rattle.papergrid_walk.specs.Paddings.{AreCommon};
 ghost use Rattle.papergrid_walk.specs.Pairs.{AreBothSeen};
 ghost use Rattle.papergrid_walk.specs.Shown.{Shows};
 
+use crate::Sweep;
 use crate::measure::Measure;
 use crate::settings::{Paddings, Settings};
 use crate::shown::shown;
 use crate::walk::{ask, limit_of, measure_shown, paddings_of};
 use papergrid_axis::{Direction, Seen};
-use papergrid_sweep::Sweep;
 use papergrid_text::{IntoRecords, Records};
 use papergrid_values::Position;
 use std::alloc::{AllocError, Global};

@@ -4,15 +4,29 @@
 //! A `Measure` is a way to measure cells, and `Settings` are what is read of a configuration: spans,
 //! paddings and lines. `gather` walks records for one direction and `gather_both` for both at once.
 //! Rows are told one by one, and none is kept.
+//!
+//! Which cells are hidden by spans is told by a `Sweep` as the walk goes, by row and then by column: in
+//! time of the logarithm of the columns for each cell and for each anchor, whatever the spans are.
 #![tactic(auto)]
 
+pub mod anchor;
 pub mod both;
+pub mod build;
+pub mod laws;
+mod levels;
 pub mod measure;
 pub mod settings;
 mod shown;
+pub mod sweep;
 pub mod walk;
 
+pub use anchor::Anchor;
 pub use both::{Both, gather_both};
+pub use build::anchors_of;
 pub use measure::Measure;
 pub use settings::{Paddings, Settings};
+pub use sweep::Sweep;
 pub use walk::gather;
+
+#[cfg(test)]
+mod tests;

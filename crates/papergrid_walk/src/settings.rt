@@ -2,15 +2,15 @@
 
 ghost use Rattle.std.specs.Prelude.{◌≡◌, ◌≤◌, ◌↔◌, All, AllPairs, IfOk, IsTrue};
 ghost use Rattle.papergrid_axis.specs.Checks.{AreRising};
-ghost use Rattle.papergrid_sweep.specs.Hidden.{IsSorted};
+ghost use Rattle.papergrid_walk.specs.Hidden.{IsSorted};
 ghost use Rattle.papergrid_walk.specs.Looks.{Look, compact_look, size_after, size_before, spanned_look};
 ghost use Rattle.papergrid_walk.specs.Paddings.{AreCommon, paddings_at};
 ghost use Rattle.papergrid_walk.specs.Shown.{AreAnchorsOf};
 
+use crate::{Anchor, anchors_of};
 use papergrid_axis::Direction;
 use papergrid_config::{CompactConfig, SpannedConfig};
 use papergrid_maps::Rising;
-use papergrid_sweep::{Anchor, anchors_of};
 use papergrid_values::{Indent, Position, Sides};
 use std::alloc::{AllocError, Global};
 

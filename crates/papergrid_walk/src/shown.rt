@@ -2,11 +2,11 @@
 
 ghost use Rattle.std.specs.Prelude.{◌≡◌, ◌+◌, ◌-◌, ◌<◌, ◌^◌, Bool, IfOk};
 ghost use Rattle.papergrid_values.specs.declared.position.Position.{Position};
-ghost use Rattle.papergrid_sweep.specs.Hidden.{IsAhead};
+ghost use Rattle.papergrid_walk.specs.Hidden.{IsAhead};
 ghost use Rattle.papergrid_walk.specs.Shown.{Shows};
 
+use crate::Sweep;
 use crate::settings::Settings;
-use papergrid_sweep::Sweep;
 use papergrid_values::Position;
 use std::alloc::{AllocError, Global};
 

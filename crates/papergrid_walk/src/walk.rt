@@ -7,12 +7,12 @@ ghost use Rattle.papergrid_walk.specs.Cells.{asked, asked_by, count_along, deman
 ghost use Rattle.papergrid_walk.specs.Paddings.{AreCommon, paddings_at};
 ghost use Rattle.papergrid_walk.specs.Shown.{Shows};
 
+use crate::Sweep;
 use crate::measure::Measure;
 use crate::settings::{Paddings, Settings};
 use crate::shown::{is_shown, shown};
 use papergrid_axis::seen::keep;
 use papergrid_axis::{Direction, Seen};
-use papergrid_sweep::Sweep;
 use papergrid_text::{IntoRecords, Records};
 use papergrid_values::Position;
 use std::alloc::{AllocError, Global};

@@ -1,5 +1,5 @@
 use Rattle.std.proofs.lemmas.Result.{IfOk-weaker}
-use Rattle.papergrid_sweep.proofs.SpanLemmas.{test-by-hidden}
+use Rattle.papergrid_walk.proofs.SpanLemmas.{test-by-hidden}
 use Rattle.papergrid_walk.proofs.settings.SpannedConfigSettings.anchors.Goals as goal
 
 pub returns-clause-shows : goal.returns-clause-shows

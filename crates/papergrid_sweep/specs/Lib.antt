@@ -1,3 +1,0 @@
-pub mod Levels
-pub mod Hidden
-pub mod Anchors

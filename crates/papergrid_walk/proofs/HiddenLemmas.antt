@@ -1,0 +1,176 @@
+-- The greatest end over a column tells whether an anchor that is passed has the position.
+use Rattle.std.proofs.Common.{arith, refl, subst, ◌≢◌, ◌↔◌, IsTrue, sym, ap, ◌∙◌, inl, inr, ◌≡◌, ℕ, zero, suc, ◌+◌, ◌-◌, ◌^◌, ◌<◌, ◌≤◌, ◌⊎◌, nat_lt, List, Option, Some, None, slice_get}
+use Rattle.std.proofs.lemmas.Bool.{cases_lt, ltb-true, lt-ltb}
+use Rattle.std.proofs.lemmas.Option.{slice_get_within, slice_get-get_or}
+use Rattle.papergrid_walk.specs.declared.anchor.Anchor.{Anchor}
+use Rattle.papergrid_values.specs.declared.position.Position.{Position}
+use Rattle.papergrid_walk.specs.declared.levels.Levels.{Levels}
+use Rattle.papergrid_walk.specs.Levels.{end_at, raised_end}
+use Rattle.papergrid_walk.specs.Hidden.{cut, end_with, end_of, IsWithin, IsHidden, IsBefore, IsSorted, AllBefore, Holds}
+
+raised-first : (first last end old column row : ℕ) → row < raised_end first last end old column → old ≤ row → first ≤ column
+raised-first first last end old column row h k = grind (arith)
+
+raised-last : (first last end old column row : ℕ) → row < raised_end first last end old column → old ≤ row → column < last
+raised-last first last end old column row h k = grind (arith)
+
+raised-row : (first last end old column row : ℕ) → row < raised_end first last end old column → old ≤ row → row < end
+raised-row first last end old column row h k = grind (arith)
+
+raised-old : (first last end old column row : ℕ) → row < old → row < raised_end first last end old column
+raised-old first last end old column row h = grind (arith)
+
+raised-new : (first last end old column row : ℕ) → first ≤ column → column < last → row < end → row < raised_end first last end old column
+raised-new first last end old column row h k m = grind (arith)
+
+cut-below : (row end : ℕ) → row < cut end → row < end
+cut-below row end h = grind (arith)
+
+below-cut : (row end : ℕ) → row < end → row < 2 ^ 64 - 1 → row < cut end
+below-cut row end h k = grind (arith)
+
+-- the anchor, if there is one, has the column, and ends below the row
+pub record IsOver (found : Option Anchor) (column row : ℕ) : Type 0 where
+  pub anchor : Anchor
+  pub is_anchor : found ≡ Some anchor
+  pub after_left : anchor.position.col ≤ column
+  pub before_right : column < anchor.position.col + anchor.cols
+  pub above_bottom : row < anchor.position.row + anchor.rows
+
+with-found : (found : Option Anchor) (old column row : ℕ) → row < end_with found old column → (row < old) ⊎ IsOver found column row
+with-found None old column row h = inl h
+with-found (Some a) old column row h =
+    elim (cases_lt row old) [
+      | inl below ↦ inl below
+      | inr from ↦ inr (record {
+        anchor = a;
+        is_anchor = refl;
+        after_left = raised-first _ (a.position.col + a.cols) (cut (a.position.row + a.rows)) old column row h from;
+        before_right = raised-last a.position.col _ (cut (a.position.row + a.rows)) old column row h from;
+        above_bottom = cut-below row _ (raised-row a.position.col (a.position.col + a.cols) _ old column row h from);
+      })
+    ]
+
+with-old : (found : Option Anchor) (old column row : ℕ) → row < old → row < end_with found old column
+with-old None old column row h = h
+with-old (Some a) old column row h = raised-old a.position.col (a.position.col + a.cols) (cut (a.position.row + a.rows)) old column row h
+
+with-new : (found : Option Anchor) (old column row : ℕ) → row < 2 ^ 64 - 1 → IsOver found column row → row < end_with found old column
+with-new found old column row k over =
+    rw over.is_anchor
+    (raised-new over.anchor.position.col (over.anchor.position.col + over.anchor.cols) (cut (over.anchor.position.row + over.anchor.rows)) old column row
+    over.after_left over.before_right (below-cut row (over.anchor.position.row + over.anchor.rows) over.above_bottom k))
+
+pub record IsPassed (anchors : List Anchor) (passed column row : ℕ) : Type 0 where
+  pub index : ℕ
+  pub below : index < passed
+  pub over : IsOver (slice_get anchors index) column row
+
+pub end-found : (anchors : List Anchor) (passed column row : ℕ) → row < end_of anchors passed column → IsPassed anchors passed column row
+end-found anchors zero column row h = absurd (omega (arith, h))
+end-found anchors (suc passed) column row h =
+    elim (with-found (slice_get anchors passed) (end_of anchors passed column) column row h) [
+      | inl older ↦ (let before = end-found anchors passed column row older in
+          record { index = before.index; below = omega (arith, before.below); over = before.over })
+      | inr over ↦ record { index = passed; below = omega arith; over = over }
+    ]
+
+pub end-over : (anchors : List Anchor) (passed column row : ℕ) → row < 2 ^ 64 - 1 → IsPassed anchors passed column row → row < end_of anchors passed column
+end-over anchors zero column row k is = absurd (omega (arith, is.below))
+end-over anchors (suc passed) column row k is =
+    elim (cases_lt is.index passed) [
+      | inl below ↦ with-old (slice_get anchors passed) _ column row (end-over anchors passed column row k (record { index = is.index; below = below; over = is.over }))
+      | inr from ↦ (let e : is.index ≡ passed = omega (arith, is.below) in
+          with-new (slice_get anchors passed) (end_of anchors passed column) column row k (subst (λ j. IsOver (slice_get anchors j) column row) e is.over))
+    ]
+
+pub position-same : (p q : Position) → p.row ≡ q.row → p.col ≡ q.col → p ≡ q
+position-same p q e f =
+    let at_row : ℕ → Position = λ r. record { row = r; col = p.col } in
+    let at_col : ℕ → Position = λ c. record { row = q.row; col = c } in
+    ap at_row e ∙ ap at_col f
+
+-- an anchor whose rectangle has another position stands before it
+before-within : (a : Anchor) (p : Position) → a.position ≢ p → IsWithin a p → IsBefore a.position p
+before-within a p other within = record {
+  rows = within.below_top;
+  cols = λ e. elim (cases_lt a.position.col p.col) [
+    | inl left ↦ left
+    | inr from ↦ absurd (other (position-same a.position p e (omega (arith, within.after_left))))
+  ];
+}
+
+before-other : (q p : Position) → IsBefore q p → q ≢ p
+before-other q p before same =
+    let left = before.cols (ap (λ r. r.row) same) in
+    let e : q.col ≡ p.col = ap (λ r. r.col) same in
+    omega (arith, left)
+
+before-trans : (p q r : Position) → IsBefore p q → IsBefore q r → IsBefore p r
+before-trans p q r before after = record {
+  rows = omega (arith, before.rows, after.rows);
+  cols = λ e.
+      let level : p.row ≡ q.row = omega (arith, before.rows, after.rows) in
+      let level-after : q.row ≡ r.row = omega arith in
+      omega (arith, before.cols level, after.cols level-after);
+}
+
+pub hidden-above : (anchors : List Anchor) (passed : ℕ) (p : Position) → AllBefore anchors passed p
+    → p.row < end_of anchors passed p.col → IsHidden anchors p
+hidden-above anchors passed p before h =
+    let found = end-found anchors passed p.col p.row h in
+    let ahead = before found.index found.over.anchor found.below found.over.is_anchor in
+    record {
+      index = found.index;
+      anchor = found.over.anchor;
+      is_anchor = found.over.is_anchor;
+      is_other = before-other _ _ ahead;
+      is_in = record {
+        below_top = ahead.rows;
+        above_bottom = found.over.above_bottom;
+        after_left = found.over.after_left;
+        before_right = found.over.before_right;
+      };
+    }
+
+pub above-hidden : (anchors : List Anchor) (passed : ℕ) (p : Position) → IsSorted anchors
+    → ((a : Anchor) → slice_get anchors passed ≡ Some a → IsBefore a.position p → ⊥)
+    → p.row < 2 ^ 64 - 1 → IsHidden anchors p → p.row < end_of anchors passed p.col
+above-hidden anchors passed p sorted rest row hidden =
+    let before = before-within hidden.anchor p hidden.is_other hidden.is_in in
+    elim (cases_lt hidden.index passed) [
+      | inl below ↦ end-over anchors passed p.col p.row row (record {
+        index = hidden.index;
+        below = below;
+        over = record {
+          anchor = hidden.anchor;
+          is_anchor = hidden.is_anchor;
+          after_left = hidden.is_in.after_left;
+          before_right = hidden.is_in.before_right;
+          above_bottom = hidden.is_in.above_bottom;
+        };
+      })
+      | inr from ↦ elim (cases_lt passed hidden.index) [
+        | inl later ↦ (let next = slice_get-get_or anchors passed hidden.anchor (omega (arith, slice_get_within anchors hidden.index hidden.anchor hidden.is_anchor)) in
+            absurd (rest _ next (before-trans _ _ _ (sorted passed hidden.index _ _ later next hidden.is_anchor) before)))
+        | inr at ↦ (let e : hidden.index ≡ passed = omega arith in
+            absurd (rest hidden.anchor (subst (λ k. slice_get anchors k ≡ Some hidden.anchor) e hidden.is_anchor) before))
+      ]
+    ]
+
+-- what a step of the sweep answers
+pub hidden-at : (levels : Levels) (columns : ℕ) (slice anchors : List Anchor) (passed : ℕ) (p : Position) (end : ℕ)
+    → slice ≡ anchors → IsSorted anchors → Holds levels columns slice passed → AllBefore slice passed p
+    → ((a : Anchor) → slice_get slice passed ≡ Some a → IsBefore a.position p → ⊥)
+    → p.row < 2 ^ 64 - 1 → p.col < columns → end ≡ end_at levels p.col
+    → IsTrue (nat_lt p.row end) ↔ IsHidden anchors p
+hidden-at levels columns slice anchors passed p end same sorted holds before rest row col e =
+    let at : end ≡ end_of anchors passed p.col = e ∙ subst (λ s. Holds levels columns s passed) same holds p.col col in (
+      (λ t. let below : p.row < end = ltb-true p.row end t in
+          hidden-above anchors passed p (subst (λ s. AllBefore s passed p) same before) (subst (λ n. p.row < n) at below)),
+      (λ hidden. lt-ltb p.row end (subst (λ n. p.row < n) (sym at)
+          (above-hidden anchors passed p sorted (subst (λ s. (a : Anchor) → slice_get s passed ≡ Some a → IsBefore a.position p → ⊥) same rest) row hidden))),
+    )
+
+pub all-before-later : (anchors : List Anchor) (passed : ℕ) (p q : Position) → AllBefore anchors passed p → IsBefore p q → AllBefore anchors passed q
+all-before-later anchors passed p q before later k a below is = before-trans a.position p q (before k a below is) later

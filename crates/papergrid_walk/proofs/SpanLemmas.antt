@@ -1,0 +1,70 @@
+-- What the anchors hide is what the spans do not leave visible.
+use Rattle.std.proofs.Common.{arith, refl, sym, subst, inl, inr, ◌≡◌, ◌≢◌, ◌↔◌, IsTrue, ℕ, List, Bool, true, false}
+use Rattle.std.specs.Prelude.{not}
+use Rattle.std.proofs.lemmas.Bool.{cases_lt, false≢true, false_from_ne_true}
+use Rattle.papergrid_values.specs.declared.position.Position.{Position}
+use Rattle.papergrid_walk.specs.declared.anchor.Anchor.{Anchor}
+use Rattle.papergrid_walk.specs.Hidden.{IsHidden}
+use Rattle.papergrid_maps.specs.Spans.{IsInRectangle, IsVisible, Spans, column_span, is_visible, row_span}
+use Rattle.papergrid_maps.proofs.SpanVisible.{visible_test}
+use Rattle.papergrid_walk.specs.Anchors.{HasAnchor, AreAnchors}
+use Rattle.papergrid_walk.proofs.HiddenLemmas.{position-same}
+
+pub visible-not-hidden : (columns rows : Position → ℕ) (anchors : List Anchor) (p : Position) → AreAnchors columns rows anchors
+    → IsVisible columns rows p → IsHidden anchors p → ⊥
+visible-not-hidden columns rows anchors p are visible hidden =
+    visible hidden.anchor.position hidden.is_other (record {
+      below_top = hidden.is_in.below_top;
+      above_bottom = omega (arith, hidden.is_in.above_bottom, are.has_rows hidden.index hidden.anchor hidden.is_anchor);
+      after_left = hidden.is_in.after_left;
+      before_right = omega (arith, hidden.is_in.before_right, are.has_cols hidden.index hidden.anchor hidden.is_anchor);
+    })
+
+hidden-by : (columns rows : Position → ℕ) (anchors : List Anchor) (p q : Position) → AreAnchors columns rows anchors
+    → q ≢ p → IsInRectangle columns rows q p → HasAnchor anchors q → IsHidden anchors p
+hidden-by columns rows anchors p q are other within has =
+    let inside = subst (λ r. IsInRectangle columns rows r p) (sym has.is_there) within in
+    record {
+      index = has.index;
+      anchor = has.anchor;
+      is_anchor = has.is_anchor;
+      is_other = subst (λ r. r ≢ p) (sym has.is_there) other;
+      is_in = record {
+        below_top = inside.below_top;
+        above_bottom = omega (arith, inside.above_bottom, are.has_rows has.index has.anchor has.is_anchor);
+        after_left = inside.after_left;
+        before_right = omega (arith, inside.before_right, are.has_cols has.index has.anchor has.is_anchor);
+      };
+    }
+
+pub not-hidden-visible : (columns rows : Position → ℕ) (anchors : List Anchor) (p : Position) → AreAnchors columns rows anchors
+    → (IsHidden anchors p → ⊥) → IsVisible columns rows p
+not-hidden-visible columns rows anchors p are shown q other within =
+    elim (cases_lt (columns q) 2) [
+      | inr wide ↦ shown (hidden-by columns rows anchors p q are other within (are.wide q wide))
+      | inl narrow ↦ elim (cases_lt (rows q) 2) [
+        | inr tall ↦ shown (hidden-by columns rows anchors p q are other within (are.tall q tall))
+        | inl low ↦ other (position-same q p
+            (omega (arith, within.below_top, within.above_bottom)) (omega (arith, within.after_left, within.before_right)))
+      ]
+    ]
+
+pub visible-by-hidden : (columns rows : Position → ℕ) (anchors : List Anchor) (p : Position) → AreAnchors columns rows anchors
+    → IsVisible columns rows p ↔ (IsHidden anchors p → ⊥)
+visible-by-hidden columns rows anchors p are =
+    (visible-not-hidden columns rows anchors p are, not-hidden-visible columns rows anchors p are)
+
+pub test-by-hidden : (spans : Spans) (anchors : List Anchor) (p : Position) → AreAnchors (column_span spans) (row_span spans) anchors
+    → IsTrue (is_visible spans p) ↔ (IsHidden anchors p → ⊥)
+test-by-hidden spans anchors p are =
+    let tested = visible_test spans p in
+    let shown = visible-by-hidden (column_span spans) (row_span spans) anchors p are in
+    (λ t. shown.0 (tested.0 t), λ h. tested.1 (shown.1 h))
+
+-- the test of visibility is the contrary of what the walk answers
+pub visible-answer : (spans : Spans) (anchors : List Anchor) (p : Position) (hidden : Bool) → AreAnchors (column_span spans) (row_span spans) anchors
+    → (IsTrue hidden ↔ IsHidden anchors p) → not hidden ≡ is_visible spans p
+visible-answer spans anchors p true are h =
+    sym (false_from_ne_true _ (λ t. (test-by-hidden spans anchors p are).0 t (h.0 refl)))
+visible-answer spans anchors p false are h =
+    sym ((test-by-hidden spans anchors p are).1 (λ hidden. false≢true (h.1 hidden)))
