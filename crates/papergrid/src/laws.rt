@@ -56,7 +56,8 @@ pub fn script_by_lines()
     ensures found { (input : List ℕ) (i : ℕ) → IsFirstBad (script_lines input) i → table_of input ≡ Err (i + 1) }
 {}
 
-/// An estimate reads of a configuration that settings tell what the settings decide.
+/// What an estimate reads of a configuration that settings tell, which is which positions are visible and the spans,
+/// the paddings and the lines, is what the settings decide.
 pub fn look_by_settings()
     ensures { (settings : List Setting) (config : SpannedConfig) → IsTold settings config → spanned_look config ≡ look_of settings }
 {}

@@ -147,7 +147,8 @@ fn table_sizes(alloc: Global, script: Script<'_>) -> Result<Sizes, LayoutError>
 /// terminal and heights in lines; the totals count the lines of the table, and so does a refusal as too large.
 /// Nothing is written before the input was read to its end, and all of it is kept until then.
 ///
-/// Condition: neither the reader nor the writer has failed before.
+/// Conditions: the reader and the writer keep what their traits promise, and so tell whether they have failed, and
+/// their bytes where they know them. Neither has failed before.
 ///
 /// # Errors
 ///
