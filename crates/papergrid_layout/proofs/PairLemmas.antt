@@ -4,20 +4,21 @@ use Rattle.std.specs.Prelude.{◌↔◌, All, AllPairs, Option, Some, None, is_s
 use Rattle.std.proofs.lemmas.Bool.{cases_Bool, false≢true}
 use Rattle.std.proofs.lemmas.List.Elements.{All-head, All-tail}
 use Rattle.papergrid_values.specs.declared.position.Position.{Position}
+use Rattle.papergrid_values.specs.Positions.{IsBefore}
 use Rattle.papergrid_axis.specs.declared.direction.Direction.{Direction}
 use Rattle.papergrid_axis.specs.declared.direction.Direction.TheVariants.{Columns, Rows}
 use Rattle.papergrid_axis.specs.Ranges.{end_of, first_out}
 use Rattle.papergrid_axis.specs.Seen.{IsSeen}
 use Rattle.papergrid_axis.proofs.OutLemmas.{out_seen}
 use Rattle.papergrid_walk.specs.declared.both.Both.{Both}
-use Rattle.papergrid_walk.specs.Cells.{StandsBefore, asked, demands_of, visible_cells}
+use Rattle.papergrid_walk.specs.Cells.{asked, demands_of, visible_cells}
 use Rattle.papergrid_walk.specs.Looks.{Look}
 use Rattle.papergrid_walk.specs.Pairs.{AreBothSeen}
 use Rattle.papergrid_walk.proofs.Distinct.{AllPairs-visible, Precedes}
 use Rattle.papergrid_layout.specs.Answers.{first_out_of_table, reaches_out}
 use Rattle.papergrid_layout.specs.Earlier.{earlier, earlier_of}
 
-before-first : (p q : Position) → StandsBefore p q → earlier_of p q ≡ p
+before-first : (p q : Position) → IsBefore p q → earlier_of p q ≡ p
 before-first p q (inl l) =
     let ne : q.row ≢ p.row = omega arith in
     rw (le-ltb q.row p.row (omega arith), ne_eqb q.row p.row ne) refl
@@ -26,7 +27,7 @@ before-first p q (inr l) =
     let col : p.col < q.col = l.1 in
     rw (le-ltb q.row p.row (omega arith), eq-eqb q.row p.row (sym row), le-ltb q.col p.col (omega arith)) refl
 
-before-second : (p q : Position) → StandsBefore p q → earlier_of q p ≡ p
+before-second : (p q : Position) → IsBefore p q → earlier_of q p ≡ p
 before-second p q (inl l) = rw (lt-ltb p.row q.row l) refl
 before-second p q (inr l) =
     let row : p.row ≡ q.row = l.0 in
@@ -42,11 +43,11 @@ neither (Some p) None e = absurd (false≢true (sym (ap is_some e)))
 neither (Some p) (Some q) e = absurd (false≢true (sym (ap is_some e)))
 
 -- the earlier of one position and of later ones
-first-stays : (p : Position) (q : Option Position) → ((y : Position) → q ≡ Some y → StandsBefore p y) → earlier (Some p) q ≡ Some p
+first-stays : (p : Position) (q : Option Position) → ((y : Position) → q ≡ Some y → IsBefore p y) → earlier (Some p) q ≡ Some p
 first-stays p None later = refl
 first-stays p (Some q) later = ap Some (before-first p q (later q refl))
 
-second-stays : (p : Position) (q : Option Position) → ((y : Position) → q ≡ Some y → StandsBefore p y) → earlier q (Some p) ≡ Some p
+second-stays : (p : Position) (q : Option Position) → ((y : Position) → q ≡ Some y → IsBefore p y) → earlier q (Some p) ≡ Some p
 second-stays p None later = refl
 second-stays p (Some q) later = ap Some (before-second p q (later q refl))
 
@@ -71,14 +72,14 @@ module _ {C : Type 0} (look : Look) (measure : C → ℕ × ℕ) (columns : ℕ)
   earlier-out [] precede = refl
   earlier-out (x ∷ xs) precede =
       let rest = earlier-out xs (λ i j d l l'. precede (suc i) (suc j) d (omega arith) (omega arith)) in
-      let later : All (λ y. StandsBefore x.0 y.0) xs = λ k d l. precede 0 (suc k) d (omega arith) (omega arith) in
+      let later : All (λ y. IsBefore x.0 y.0) xs = λ k d l. precede 0 (suc k) d (omega arith) (omega arith) in
       elim (cases_Bool (nat_lt columns (x.0.col + look.span Columns x.0))) [
         | inl wide ↦ elim (cases_Bool (nat_lt (length cells) (x.0.row + look.span Rows x.0))) [
           | inl high ↦ rw (wide, high) (ap Some (same-first x.0))
-          | inr high ↦ rw (wide, high) (first-stays x.0 (first_out (length cells) (map (asked Rows look measure) xs)) (first_out-from (StandsBefore x.0) Rows (length cells) xs later))
+          | inr high ↦ rw (wide, high) (first-stays x.0 (first_out (length cells) (map (asked Rows look measure) xs)) (first_out-from (IsBefore x.0) Rows (length cells) xs later))
         ]
         | inr wide ↦ elim (cases_Bool (nat_lt (length cells) (x.0.row + look.span Rows x.0))) [
-          | inl high ↦ rw (wide, high) (second-stays x.0 (first_out columns (map (asked Columns look measure) xs)) (first_out-from (StandsBefore x.0) Columns columns xs later))
+          | inl high ↦ rw (wide, high) (second-stays x.0 (first_out columns (map (asked Columns look measure) xs)) (first_out-from (IsBefore x.0) Columns columns xs later))
           | inr high ↦ rw (wide, high) rest
         ]
       ]

@@ -3,6 +3,7 @@
 ghost use Rattle.std.specs.Prelude.{◌≡◌, ◌↔◌, ◌+◌, ◌≤◌, ℕ, All, AllPairs, Contains, List, length, map};
 ghost use Rattle.std.specs.Borrow.{Bor};
 ghost use Rattle.papergrid_values.specs.declared.position.Position.{Position};
+ghost use Rattle.papergrid_values.specs.Positions.{IsBefore};
 ghost use Rattle.papergrid_text.specs.Measured.{Measured};
 ghost use Rattle.papergrid_axis.specs.declared.direction.Direction.{Direction};
 ghost use Rattle.papergrid_axis.specs.declared.direction.Direction.TheVariants.{Columns, Rows};
@@ -10,7 +11,7 @@ ghost use Rattle.papergrid_axis.specs.Ranges.{first_out};
 ghost use Rattle.papergrid_config.specs.Told.{IsTold};
 ghost use Rattle.papergrid_config.specs.declared.setting.Setting.{Setting};
 ghost use Rattle.papergrid_config.specs.declared.spanned.SpannedConfig.{SpannedConfig};
-ghost use Rattle.papergrid_walk.specs.Cells.{StandsBefore, demands_of, placed, side, visible_cells};
+ghost use Rattle.papergrid_walk.specs.Cells.{demands_of, placed, side, visible_cells};
 ghost use Rattle.papergrid_walk.specs.Looks.{Look, spanned_look};
 ghost use Rattle.papergrid_walk.specs.Measures.{cell_measure, line_measure};
 ghost use Rattle.papergrid_layout.specs.Answers.{IsTotalled, first_out_of_table};
@@ -37,7 +38,7 @@ pub fn equal_text_measures<S: AsStr>()
 /// The cells with their positions are those that the rows have there, by row and then by column.
 pub fn cells_by_place<C>()
     ensures cells { (rows : List (List C)) (p : Position) (cell : C) → Contains (placed rows) (p, cell) ↔ IsCellAt rows p cell }
-    ensures order { (rows : List (List C)) → AllPairs (λ x y. StandsBefore x.0 y.0) (placed rows) }
+    ensures order { (rows : List (List C)) → AllPairs (λ x y. IsBefore x.0 y.0) (placed rows) }
 {}
 
 /// Sizes do not depend on the order in which spans of different cells were set, side by side or

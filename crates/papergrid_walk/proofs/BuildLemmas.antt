@@ -1,5 +1,6 @@
 -- The anchors at places in order are in order, and are those of the spans that are held there.
-use Rattle.std.proofs.Common.{arith, ap, sym, subst, refl, ◌∙◌, ◌≡◌, ℕ, zero, suc, ◌≤◌, ◌<◌, ◌++◌, List, [], ◌∷◌, Option, Some, None, map, slice_get}
+use Rattle.std.proofs.Common.{arith, ap, sym, subst, refl, ◌∙◌, ◌≡◌, ℕ, zero, suc, ◌≤◌, ◌<◌, ◌++◌, List, [], ◌∷◌, Option, Some, None, map, slice_get, inl, inr}
+use Rattle.std.proofs.lemmas.Bool.{cases_lt}
 use Rattle.std.proofs.lemmas.Option.{same_Some, none-some, slice_get-map, slice_get-get_or}
 use Rattle.std.proofs.lemmas.List.Elements.{Contains-append_left, Contains-append_right}
 use Rattle.std.proofs.lemmas.Map.Views.{Contains-keys_from_lookup}
@@ -16,10 +17,14 @@ use Rattle.papergrid_maps.specs.Spans.{Spans, column_span, row_span}
 use Rattle.papergrid_tables.proofs.KeyLemmas.{exact_position_eq}
 use Rattle.papergrid_walk.specs.declared.anchor.Anchor.{Anchor}
 use Rattle.papergrid_walk.specs.Anchors.{AreAnchors, HasAnchor, anchor_at}
-use Rattle.papergrid_walk.specs.Hidden.{IsBefore, IsSorted}
+use Rattle.papergrid_values.specs.Positions.{IsBefore}
+use Rattle.papergrid_walk.specs.Hidden.{IsSorted}
 
 less-before : (p q : Position) → position_cmp p q ≡ Less → IsBefore p q
-less-before p q h = record { rows = grind (arith, h); cols = λ e. grind (arith, h, e) }
+less-before p q h = elim (cases_lt p.row q.row) [
+  | inl above ↦ inl above
+  | inr level ↦ inr (grind (arith, h, level), grind (arith, h, level))
+]
 
 at-place : (P : Position → Type 0) (ps : List Position) (k : ℕ) (p : Position) → AllByRecursion P ps → slice_get ps k ≡ Some p → P p
 at-place P [] k p all is = absurd (none-some p is)

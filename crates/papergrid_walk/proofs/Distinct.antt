@@ -11,7 +11,8 @@ use Rattle.papergrid_axis.specs.Checks.{AreDistinct}
 use Rattle.papergrid_axis.specs.Ranges.{place_of}
 use Rattle.papergrid_axis.specs.Seen.{Holds, IsSeen, is_single}
 use Rattle.papergrid_axis.proofs.SeenLemmas.{below-own_limit}
-use Rattle.papergrid_walk.specs.Cells.{StandsBefore, asked, count_along, demands_of, limit_along, placed, placed_from, placed_row, visible_cells}
+use Rattle.papergrid_values.specs.Positions.{IsBefore}
+use Rattle.papergrid_walk.specs.Cells.{asked, count_along, demands_of, limit_along, placed, placed_from, placed_row, visible_cells}
 use Rattle.papergrid_walk.specs.Looks.{Look}
 
 pub count-le : (direction : Direction) (columns n : ℕ) → n < 18446744073709551616 → count_along direction columns n ≤ limit_along direction columns
@@ -20,7 +21,7 @@ count-le Rows columns n l = omega arith
 
 module _ {C : Type 0} where
   abbrev pub Precedes : Position × C → Position × C → Type 0
-  Precedes x y = StandsBefore x.0 y.0
+  Precedes x y = IsBefore x.0 y.0
 
   abbrev IsRight : ℕ → ℕ → Position × C → Type 0
   IsRight r c x = (x.0.row ≡ r) × (c ≤ x.0.col)

@@ -6,7 +6,8 @@ use Rattle.papergrid_walk.specs.declared.anchor.Anchor.{Anchor}
 use Rattle.papergrid_values.specs.declared.position.Position.{Position}
 use Rattle.papergrid_walk.specs.declared.levels.Levels.{Levels}
 use Rattle.papergrid_walk.specs.Levels.{end_at, raised_end}
-use Rattle.papergrid_walk.specs.Hidden.{cut, end_with, end_of, IsWithin, IsHidden, IsBefore, IsSorted, AllBefore, Holds}
+use Rattle.papergrid_values.specs.Positions.{IsBefore}
+use Rattle.papergrid_walk.specs.Hidden.{cut, end_with, end_of, IsWithin, IsHidden, IsSorted, AllBefore, Holds}
 
 raised-first : (first last end old column row : ℕ) → row < raised_end first last end old column → old ≤ row → first ≤ column
 raised-first first last end old column row h k = grind (arith)
@@ -92,28 +93,28 @@ position-same p q e f =
 
 -- an anchor whose rectangle has another position stands before it
 before-within : (a : Anchor) (p : Position) → a.position ≢ p → IsWithin a p → IsBefore a.position p
-before-within a p other within = record {
-  rows = within.below_top;
-  cols = λ e. elim (cases_lt a.position.col p.col) [
-    | inl left ↦ left
-    | inr from ↦ absurd (other (position-same a.position p e (omega (arith, within.after_left))))
-  ];
-}
+before-within a p other within = elim (cases_lt a.position.row p.row) [
+  | inl above ↦ inl above
+  | inr level ↦ elim (cases_lt a.position.col p.col) [
+    | inl left ↦ inr (omega (arith, within.below_top), left)
+    | inr from ↦ absurd (other (position-same a.position p (omega (arith, within.below_top)) (omega (arith, within.after_left))))
+  ]
+]
 
 before-other : (q p : Position) → IsBefore q p → q ≢ p
-before-other q p before same =
-    let left = before.cols (ap (λ r. r.row) same) in
-    let e : q.col ≡ p.col = ap (λ r. r.col) same in
-    omega (arith, left)
+before-other q p (inl above) same = let e : q.row ≡ p.row = ap (λ r. r.row) same in omega (arith, above)
+before-other q p (inr left) same = let e : q.col ≡ p.col = ap (λ r. r.col) same in omega (arith, left.1)
 
 before-trans : (p q r : Position) → IsBefore p q → IsBefore q r → IsBefore p r
-before-trans p q r before after = record {
-  rows = omega (arith, before.rows, after.rows);
-  cols = λ e.
-      let level : p.row ≡ q.row = omega (arith, before.rows, after.rows) in
-      let level-after : q.row ≡ r.row = omega arith in
-      omega (arith, before.cols level, after.cols level-after);
-}
+before-trans p q r (inl a) (inl b) = inl (omega arith)
+before-trans p q r (inl a) (inr b) = inl (omega (arith, b.0))
+before-trans p q r (inr a) (inl b) = inl (omega (arith, a.0))
+before-trans p q r (inr a) (inr b) = inr (a.0 ∙ b.0, omega (arith, a.1, b.1))
+
+-- what stands before a position stands in no later row
+before-row : (p q : Position) → IsBefore p q → p.row ≤ q.row
+before-row p q (inl above) = omega arith
+before-row p q (inr level) = omega (arith, level.0)
 
 pub hidden-above : (anchors : List Anchor) (passed : ℕ) (p : Position) → AllBefore anchors passed p
     → p.row < end_of anchors passed p.col → IsHidden anchors p
@@ -126,7 +127,7 @@ hidden-above anchors passed p before h =
       is_anchor = found.over.is_anchor;
       is_other = before-other _ _ ahead;
       is_in = record {
-        below_top = ahead.rows;
+        below_top = before-row _ _ ahead;
         above_bottom = found.over.above_bottom;
         after_left = found.over.after_left;
         before_right = found.over.before_right;

@@ -1,5 +1,5 @@
 -- The visible cells of told rows with their positions, and what they ask for along a direction.
-use Rattle.std.specs.Prelude.{◌≡◌, ◌<◌, ◌⊎◌, ℕ, ◌+◌, ◌-◌, ◌^◌, List, [], ◌∷◌, ◌++◌, map, filter}
+use Rattle.std.specs.Prelude.{ℕ, ◌+◌, ◌-◌, ◌^◌, List, [], ◌∷◌, ◌++◌, map, filter}
 use Rattle.papergrid_values.specs.declared.position.Position.{Position}
 use Rattle.papergrid_axis.specs.declared.demand.Demand.{Demand}
 use Rattle.papergrid_axis.specs.declared.direction.Direction.{Direction}
@@ -11,10 +11,6 @@ use Rattle.papergrid_walk.specs.Looks.{Look}
 abbrev pub side : Direction → ℕ × ℕ → ℕ
 side Columns measure = measure.0
 side Rows measure = measure.1
-
--- one position stands before another: by row, and then by column
-abbrev pub StandsBefore : Position → Position → Type 0
-StandsBefore p q = (p.row < q.row) ⊎ ((p.row ≡ q.row) × (p.col < q.col))
 
 module _ {C : Type 0} where
   -- the cells of a row, from column c on, with their positions

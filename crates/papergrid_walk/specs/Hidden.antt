@@ -3,6 +3,7 @@ use Rattle.std.specs.Prelude.{◌≡◌, ◌≢◌, ℕ, ◌+◌, ◌-◌, ◌^�
 use Rattle.papergrid_walk.specs.Levels.{end_at, Fits, raised_end}
 use Rattle.papergrid_walk.specs.declared.levels.Levels.{Levels}
 use Rattle.papergrid_values.specs.declared.position.Position.{Position}
+use Rattle.papergrid_values.specs.Positions.{IsBefore}
 use Rattle.papergrid_walk.specs.declared.anchor.Anchor.{Anchor}
 
 -- the position lies in the anchor's rectangle, whose spans are not bounded
@@ -21,10 +22,6 @@ pub record IsHidden (anchors : List Anchor) (p : Position) : Type 0 where
   pub is_in : IsWithin anchor p
 
 -- in the order of the walk: by row, and by column in a row
-pub record IsBefore (p q : Position) : Type 0 where
-  pub rows : p.row ≤ q.row
-  pub cols : p.row ≡ q.row → p.col < q.col
-
 abbrev pub IsSorted : List Anchor → Type 0
 IsSorted anchors = (j k : ℕ) (a b : Anchor) → j < k → slice_get anchors j ≡ Some a → slice_get anchors k ≡ Some b → IsBefore a.position b.position
 

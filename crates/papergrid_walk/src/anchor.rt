@@ -1,7 +1,8 @@
 //! The anchors of spans.
 
 ghost use Rattle.std.specs.Prelude.{◌<◌, ◌↔◌, IsTrue};
-ghost use Rattle.papergrid_walk.specs.Hidden.{IsBefore, IsSorted};
+ghost use Rattle.papergrid_values.specs.Positions.{IsBefore};
+ghost use Rattle.papergrid_walk.specs.Hidden.{IsSorted};
 
 use papergrid_values::Position;
 

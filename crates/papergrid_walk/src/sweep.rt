@@ -6,7 +6,8 @@ ghost use Rattle.papergrid_maps.specs.Spans.{Spans, column_span, is_visible, row
 ghost use Rattle.papergrid_walk.specs.Anchors.{AreAnchors};
 ghost use Rattle.papergrid_walk.specs.declared.anchor.Anchor.{Anchor};
 ghost use Rattle.papergrid_walk.specs.Levels.{Fits, end_at};
-ghost use Rattle.papergrid_walk.specs.Hidden.{AllBefore, Holds, IsAhead, IsBefore, IsHidden, IsSorted, IsSwept, end_with, least};
+ghost use Rattle.papergrid_values.specs.Positions.{IsBefore};
+ghost use Rattle.papergrid_walk.specs.Hidden.{AllBefore, Holds, IsAhead, IsHidden, IsSorted, IsSwept, end_with, least};
 
 use crate::anchor::Anchor;
 use crate::levels::Levels;

@@ -1,6 +1,6 @@
 use Rattle.std.proofs.Common.{◌≡◌, ℕ, ◌<◌, Some, slice_get}
 use Rattle.papergrid_walk.specs.declared.anchor.Anchor.{Anchor}
-use Rattle.papergrid_walk.specs.Hidden.{IsBefore}
+use Rattle.papergrid_values.specs.Positions.{IsBefore}
 use Rattle.papergrid_walk.proofs.anchor.are_sorted.Given as goal
 
 abbrev pub invariant-loop-i : goal.invariant-loop-i
