@@ -18,7 +18,7 @@ use Rattle.papergrid.specs.declared.script.Script.{Script}
 use Rattle.papergrid.specs.declared.script.ScriptError.{ScriptError}
 use Rattle.papergrid.specs.declared.script.ScriptError.TheVariants as script_errors
 use Rattle.papergrid.specs.Scripts.{Table, empty_table, with_line, or_bad, table_after, table_of}
-use Rattle.papergrid.specs.Seen.{GivesTable}
+use Rattle.papergrid.specs.ForProofs.Seen.{GivesTable}
 use Rattle.papergrid.proofs.LineLemmas.{table_of-pieces}
 
 -- ---- the first part

@@ -24,7 +24,7 @@ use Rattle.papergrid_layout.proofs.Told.{demands_told, witness_is_told}
 use Rattle.papergrid_layout.proofs.TotalLemmas.{all_lines-drawn}
 use Rattle.papergrid.specs.declared.estimate.Sizes.{Sizes}
 use Rattle.papergrid.specs.Estimates.{Estimate, OutOfTable, TooLarge, Sized, unless_large, unless_out, total_along, totalled, estimate_by}
-use Rattle.papergrid.specs.Seen.{GivesEstimate, places_seen}
+use Rattle.papergrid.specs.ForProofs.Seen.{GivesEstimate, places_seen}
 
 -- ---- tests and options
 

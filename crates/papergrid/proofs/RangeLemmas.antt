@@ -9,7 +9,7 @@ use Rattle.papergrid.specs.declared.script.ScriptError.{ScriptError}
 use Rattle.papergrid.specs.declared.script.ScriptError.TheVariants as script_errors
 use Rattle.papergrid.specs.Grammar.{Said, Nothing, Columns, Set, Row, Cell, said, script_lines}
 use Rattle.papergrid.specs.Scripts.{Table, table_of}
-use Rattle.papergrid.specs.Seen.{GivesTable, table_seen}
+use Rattle.papergrid.specs.ForProofs.Seen.{GivesTable, table_seen}
 use Rattle.papergrid.specs.Spelling.{IsSetting, Pad, Colspan, Rowspan, Border, Vline, Hline, Novline, Nohline}
 use Rattle.papergrid.specs.Tells.{setting_said}
 use Rattle.papergrid.proofs.ReadLemmas.{line_read}

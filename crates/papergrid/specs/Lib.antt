@@ -7,9 +7,9 @@ pub mod Rows
 pub mod Runs
 pub mod ScriptLines
 pub mod Scripts
-pub mod Seen
 pub mod Spelling
 pub mod Tells
 pub mod Texts
 pub mod Totals
 pub mod Transfer
+pub mod ForProofs

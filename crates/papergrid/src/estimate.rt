@@ -5,7 +5,7 @@ ghost use Rattle.papergrid_axis.specs.declared.direction.Direction.TheVariants.{
 ghost use Rattle.papergrid_walk.specs.Looks.{spanned_look};
 ghost use Rattle.papergrid_walk.specs.Measures.{line_measure};
 ghost use Rattle.papergrid.specs.Estimates.{estimate_by, total_along};
-ghost use Rattle.papergrid.specs.Seen.{GivesEstimate};
+ghost use Rattle.papergrid.specs.ForProofs.Seen.{GivesEstimate};
 
 use papergrid_config::SpannedConfig;
 use papergrid_layout::LayoutError;

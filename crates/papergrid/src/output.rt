@@ -3,7 +3,7 @@
 ghost use Rattle.std.specs.Prelude.{◌≡◌, ◌∷◌, ◌++◌, [], IfOk, OnOk, codes, decimal};
 ghost use Rattle.papergrid.specs.Estimates.{OutOfTable, TooLarge};
 ghost use Rattle.papergrid.specs.Outputs.{estimate_text, number_line, spaced_places, witness_line};
-ghost use Rattle.papergrid.specs.Seen.{places_seen, sizes_seen};
+ghost use Rattle.papergrid.specs.ForProofs.Seen.{places_seen, sizes_seen};
 
 use crate::estimate::Sizes;
 use itoa::Buffer;

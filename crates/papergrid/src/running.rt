@@ -6,7 +6,7 @@ ghost use Rattle.papergrid_config.specs.Applied.{is_in_range};
 ghost use Rattle.papergrid.specs.Estimates.{estimate_of};
 ghost use Rattle.papergrid.specs.Outputs.{end_of, estimate_end, estimate_text, output_of};
 ghost use Rattle.papergrid.specs.Runs.{IsBrokenRun, IsWholeRun};
-ghost use Rattle.papergrid.specs.Seen.{GivesEstimate, table_seen};
+ghost use Rattle.papergrid.specs.ForProofs.Seen.{GivesEstimate, table_seen};
 ghost use Rattle.papergrid.specs.declared.running.RunFault.TheVariants.{Memory};
 
 use crate::estimate::{Sizes, estimate};

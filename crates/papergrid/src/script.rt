@@ -7,7 +7,7 @@ ghost use Rattle.papergrid.specs.declared.script.ScriptError.TheVariants.{Memory
 ghost use Rattle.std.specs.Cow.{cow_str_bytes};
 ghost use Rattle.papergrid.specs.Grammar.{Row, Cell, without_cr};
 ghost use Rattle.papergrid.specs.Scripts.{empty_table, table_of, with_line};
-ghost use Rattle.papergrid.specs.Seen.{GivesTable, Takes, table_seen};
+ghost use Rattle.papergrid.specs.ForProofs.Seen.{GivesTable, Takes, table_seen};
 
 use crate::cut::cut_marked_line;
 use crate::script_line::take_line;

@@ -13,7 +13,7 @@ use Rattle.papergrid_axis.specs.declared.checked.Checked.{Checked}
 use Rattle.papergrid_axis.specs.declared.demand.Demand.{Demand}
 use Rattle.papergrid_axis.specs.declared.direction.Direction.{Direction}
 use Rattle.papergrid_axis.specs.Answers.{IsAccepted}
-use Rattle.papergrid_axis.specs.Checks.{AreApartAt, AreDistinct, Checks, SumsAgree, all_listed, stands_at, times_listed}
+use Rattle.papergrid_axis.specs.ForProofs.Checks.{AreApartAt, AreDistinct, Checks, SumsAgree, all_listed, stands_at, times_listed}
 use Rattle.papergrid_axis.specs.Fits.{IsLeast}
 use Rattle.papergrid_axis.specs.Ranges.{AreDisjoint, IsInTable, along, demand_of, end_of, inner_lines, place_of}
 use Rattle.papergrid_axis.proofs.Duality.{IsLeast-from_certificate}

@@ -7,7 +7,7 @@ use Rattle.std.proofs.lemmas.List.Sums.{sum_by-cons}
 use Rattle.papergrid_values.specs.declared.position.Position.{Position}
 use Rattle.papergrid_axis.specs.declared.direction.Direction.{Direction}
 use Rattle.papergrid_axis.specs.declared.direction.Direction.TheVariants.{Columns, Rows}
-use Rattle.papergrid_axis.specs.Checks.{AreApartAt, AreInOrder, AreRising}
+use Rattle.papergrid_axis.specs.ForProofs.Checks.{AreApartAt, AreInOrder, AreRising}
 use Rattle.papergrid_axis.specs.Ranges.{along}
 
 -- one more place, where each is related to the next

@@ -6,7 +6,7 @@ use Rattle.papergrid_axis.specs.declared.demand.Demand.{Demand}
 use Rattle.papergrid_axis.specs.Ranges.{end_of, holds, AreDisjoint, LiesIn, inner_lines, IsInTable}
 use Rattle.papergrid_axis.specs.Fits.{range_sum}
 use Rattle.papergrid_axis.specs.Sizes.{lack, grown, share}
-pub use Rattle.papergrid_axis.specs.LastCells.{Precedes, IsLaminar}
+pub use Rattle.papergrid_axis.specs.ForProofs.LastCells.{Precedes, IsLaminar}
 use Rattle.papergrid_axis.specs.Chosen.{growing, lies_in, outermost}
 use Rattle.papergrid_axis.proofs.Upto.{upto-ext, range_sum-within, holds_cases}
 use Rattle.papergrid_axis.proofs.RangeLemmas.{Apart, covered, not_covered}

@@ -8,7 +8,7 @@ use Rattle.std.proofs.lemmas.List.Elements.{All-contains, All-from_recursion}
 use Rattle.papergrid_axis.specs.declared.demand.Demand.{Demand}
 use Rattle.papergrid_axis.specs.Sizes.{taken}
 use Rattle.papergrid_axis.specs.Ranges.{end_of, holds, AreDisjoint, AreNested, IsKeptApart, IsInTable, LiesIn}
-use Rattle.papergrid_axis.specs.LastCells.{Precedes, IsLaminar, last_holding}
+use Rattle.papergrid_axis.specs.ForProofs.LastCells.{Precedes, IsLaminar, last_holding}
 use Rattle.papergrid_axis.specs.Chosen.{lies_in, outermost, or_else, single_at}
 use Rattle.papergrid_axis.proofs.Upto.{holds_cases}
 use Rattle.papergrid_axis.proofs.RangeLemmas.{covered, not_covered, not_both}

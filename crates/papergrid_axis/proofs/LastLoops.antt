@@ -11,8 +11,8 @@ use Rattle.papergrid_axis.specs.Sizes.{grown, lack}
 use Rattle.papergrid_axis.specs.Chosen.{growing, or_else, exact_single, single_at, outermost, chosen}
 use Rattle.papergrid_axis.proofs.RangeLemmas.{covered}
 use Rattle.papergrid_axis.proofs.LoopLemmas.{sum-grown, range_with_len-append}
-use Rattle.papergrid_axis.specs.LastCells.{AreExact, IsLaminar, last_holding, slot_of, chosen_slot}
-use Rattle.papergrid_axis.specs.Seen.{no_demand}
+use Rattle.papergrid_axis.specs.ForProofs.LastCells.{AreExact, IsLaminar, last_holding, slot_of, chosen_slot}
+use Rattle.papergrid_axis.specs.ForProofs.Seen.{no_demand}
 use Rattle.papergrid_axis.proofs.Upto.{holds_cases}
 use Rattle.papergrid_axis.proofs.FitBound.{ByRecursion-weaker}
 use Rattle.papergrid_axis.proofs.Certified.{none_some}

@@ -8,7 +8,7 @@ use Rattle.std.proofs.lemmas.List.Elements.{recursion_from_All, All-from_recursi
 use Rattle.papergrid_axis.specs.declared.demand.Demand.{Demand}
 use Rattle.papergrid_axis.specs.Ranges.{end_of, IsInTable, AreNested, AreDisjoint, IsKeptApart}
 use Rattle.papergrid_axis.specs.Sizes.{taken}
-use Rattle.papergrid_axis.specs.LastCells.{Precedes, IsLaminar}
+use Rattle.papergrid_axis.specs.ForProofs.LastCells.{Precedes, IsLaminar}
 use Rattle.papergrid_axis.proofs.FitBound.{TakesAll, ByRecursion-weaker}
 
 pub Contains-later : (ds : List Demand) (c d : Demand) → Contains ds d → Contains (c ∷ ds) d

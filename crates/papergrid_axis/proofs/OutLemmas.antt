@@ -10,7 +10,7 @@ use Rattle.papergrid_axis.specs.declared.seen.Seen.{Seen}
 use Rattle.papergrid_axis.specs.Answers.{NoneHolds}
 use Rattle.papergrid_axis.specs.Ranges.{IsInTable, end_of, first_out, place_of}
 use Rattle.papergrid_axis.specs.Fits.{HasRoom, IsTooLarge}
-use Rattle.papergrid_axis.specs.Seen.{IsSeen, is_large, others, without_need}
+use Rattle.papergrid_axis.specs.ForProofs.Seen.{IsSeen, is_large, others, without_need}
 use Rattle.papergrid_axis.specs.Sizes.{sizes_of}
 use Rattle.papergrid_axis.proofs.LoopLemmas.{large_need}
 use Rattle.papergrid_axis.proofs.SeenLemmas.{first_out-others}

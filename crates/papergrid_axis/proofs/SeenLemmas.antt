@@ -12,7 +12,7 @@ use Rattle.papergrid_axis.specs.declared.demand.Demand.{Demand}
 use Rattle.papergrid_axis.specs.Chosen.{exact_single}
 use Rattle.papergrid_axis.specs.Ranges.{IsInTable, end_of, first_out, place_of}
 use Rattle.papergrid_axis.specs.declared.seen.Seen.{Seen}
-use Rattle.papergrid_axis.specs.Seen.{Holds, IsSeen, first_greatest, is_large, is_single, kept_for, no_demand, others, without_need}
+use Rattle.papergrid_axis.specs.ForProofs.Seen.{Holds, IsSeen, first_greatest, is_large, is_single, kept_for, no_demand, others, without_need}
 use Rattle.papergrid_axis.specs.Sizes.{base_size, base_sizes, taken}
 use Rattle.papergrid_axis.proofs.Greatest.{get_or-base_sizes, length-base_sizes}
 

@@ -9,9 +9,9 @@ use Rattle.papergrid_axis.specs.Answers.{AreChosen, NoneChosen}
 use Rattle.papergrid_axis.specs.Ranges.{IsInTable, all_lines, place_of}
 use Rattle.papergrid_axis.specs.Sizes.{base_sizes, sizes_of, taken}
 use Rattle.papergrid_axis.specs.Chosen.{chosen_of, growing}
-use Rattle.papergrid_axis.specs.LastCells.{AreExact, IsLaminar}
+use Rattle.papergrid_axis.specs.ForProofs.LastCells.{AreExact, IsLaminar}
 use Rattle.papergrid_axis.specs.declared.seen.Seen.{Seen}
-use Rattle.papergrid_axis.specs.Seen.{IsSeen}
+use Rattle.papergrid_axis.specs.ForProofs.Seen.{IsSeen}
 use Rattle.papergrid_axis.proofs.Certified.{base-not_covered}
 use Rattle.papergrid_axis.proofs.GrowLemmas.{IsLaminar-growing}
 use Rattle.papergrid_axis.proofs.KeptApartLemmas.{SomeCross-unless}

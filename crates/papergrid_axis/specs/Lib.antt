@@ -1,11 +1,8 @@
 pub mod Answers
-pub mod Checks
 pub mod Chosen
 pub mod Fits
 pub mod KeptApart
-pub mod LastCells
 pub mod Ranges
 pub mod Rows
-pub mod Seen
-pub mod Settled
 pub mod Sizes
+pub mod ForProofs

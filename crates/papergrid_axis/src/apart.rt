@@ -1,7 +1,7 @@
 //! Whether ranges at listed positions have numbers in common.
 
 ghost use Rattle.std.specs.Prelude.{◌+◌, ◌≤◌, ◌↔◌, All, AllPairs, IsTrue};
-ghost use Rattle.papergrid_axis.specs.Checks.{AreApartAt};
+ghost use Rattle.papergrid_axis.specs.ForProofs.Checks.{AreApartAt};
 
 use crate::axis::Axis;
 use crate::direction::Direction;

@@ -4,7 +4,7 @@ ghost use Rattle.std.specs.Prelude.{ℕ, Bool, ◌==◌, ◌&&◌, ◌*◌, ◌-
 ghost use Rattle.papergrid_values.specs.declared.position.Position.{Position};
 ghost use Rattle.papergrid_axis.specs.declared.demand.Demand.{Demand};
 ghost use Rattle.papergrid_axis.specs.declared.direction.Direction.{Direction};
-ghost use Rattle.papergrid_axis.specs.Checks.{AreBounded, AreDistinct, Checks, IsClaim, SumsAgree, range_of};
+ghost use Rattle.papergrid_axis.specs.ForProofs.Checks.{AreBounded, AreDistinct, Checks, IsClaim, SumsAgree, range_of};
 ghost use Rattle.papergrid_axis.specs.Answers.{IsAccepted};
 ghost use Rattle.papergrid_axis.specs.Fits.{HasRoom, IsLeast};
 ghost use Rattle.papergrid_axis.specs.Ranges.{demand_of, inner_lines, lines_to};

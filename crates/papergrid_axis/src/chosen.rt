@@ -4,7 +4,7 @@ ghost use Rattle.std.specs.Prelude.{◌≡◌, All, IfOk, List, Some, filter_map
 ghost use Rattle.std.specs.List.{range_with_len};
 ghost use Rattle.papergrid_axis.specs.declared.demand.Demand.{Demand};
 ghost use Rattle.papergrid_axis.specs.Chosen.{chosen};
-ghost use Rattle.papergrid_axis.specs.LastCells.{AreExact, IsLaminar, chosen_slot, slot_of};
+ghost use Rattle.papergrid_axis.specs.ForProofs.LastCells.{AreExact, IsLaminar, chosen_slot, slot_of};
 ghost use Rattle.papergrid_axis.specs.Ranges.{IsInTable, place_of};
 
 use crate::demand::Demand;

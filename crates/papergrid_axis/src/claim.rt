@@ -1,7 +1,7 @@
 //! What a checker is given.
 
 ghost use Rattle.std.specs.Prelude.{◌≡◌, ◌↔◌, ◌&&◌, ◌==◌, AllPairs, IsTrue, count_by, nat_lt, true};
-ghost use Rattle.papergrid_axis.specs.Checks.{AreApartAt, AreInOrder, AreRising, IsClaim};
+ghost use Rattle.papergrid_axis.specs.ForProofs.Checks.{AreApartAt, AreInOrder, AreRising, IsClaim};
 ghost use Rattle.papergrid_axis.specs.Ranges.{along};
 
 use crate::apart::{are_apart, ends_by};

@@ -4,7 +4,7 @@ ghost use Rattle.std.specs.Prelude.{List};
 ghost use Rattle.papergrid_axis.specs.declared.demand.Demand.{Demand};
 ghost use Rattle.papergrid_axis.specs.Answers.{IsCertified, IsExact};
 ghost use Rattle.papergrid_axis.specs.Ranges.{lines_to};
-ghost use Rattle.papergrid_axis.specs.Seen.{IsSeen};
+ghost use Rattle.papergrid_axis.specs.ForProofs.Seen.{IsSeen};
 
 use crate::axis::Axis;
 use crate::error::LayoutError;

@@ -2,7 +2,7 @@
 
 ghost use Rattle.std.specs.Prelude.{◌≡◌, ◌+◌, ◌<◌, ◌^◌, ◌↔◌, ℕ, All, EachIndex, IsTrue, None, Some, if◌then◌else◌, length, slice_index_or, true};
 ghost use Rattle.papergrid_axis.specs.declared.demand.Demand.{Demand};
-ghost use Rattle.papergrid_axis.specs.LastCells.{IsLaminar, last_holding};
+ghost use Rattle.papergrid_axis.specs.ForProofs.LastCells.{IsLaminar, last_holding};
 ghost use Rattle.papergrid_axis.specs.Ranges.{IsInTable, LiesIn, end_of, holds};
 
 use crate::demand::Demand;

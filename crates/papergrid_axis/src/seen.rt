@@ -2,7 +2,7 @@
 
 ghost use Rattle.std.specs.Prelude.{◌≡◌, ◌+◌, ◌<◌, ◌≤◌, ◌^◌, ℕ, [], ◌∷◌, OnOk, length, slice_index_or};
 ghost use Rattle.std.specs.Option.{SomeIff};
-ghost use Rattle.papergrid_axis.specs.Seen.{Adds, Holds, kept_for, no_demand};
+ghost use Rattle.papergrid_axis.specs.ForProofs.Seen.{Adds, Holds, kept_for, no_demand};
 ghost use Rattle.papergrid_axis.specs.Ranges.{along, demand_of};
 
 use crate::demand::Demand;

@@ -2,12 +2,12 @@
 
 ghost use Rattle.std.specs.Prelude.{All, Bool, EachIndex, IfNone, IfOk, IfSome, List, None, false, length, nat_lt, replicate, slice_index, slice_index_or, ℕ, ◌+◌, ◌≡◌};
 ghost use Rattle.papergrid_axis.specs.Ranges.{IsInTable, end_of, first_out, line_at, lines_to};
-ghost use Rattle.papergrid_axis.specs.Seen.{IsSeen, no_demand};
+ghost use Rattle.papergrid_axis.specs.ForProofs.Seen.{IsSeen, no_demand};
 ghost use Rattle.papergrid_axis.specs.KeptApart.{longer};
 ghost use Rattle.papergrid_axis.specs.Sizes.{taken};
 ghost use Rattle.papergrid_axis.specs.declared.demand.Demand.{Demand};
 ghost use Rattle.papergrid_axis.specs.Answers.{IsRefused};
-ghost use Rattle.papergrid_axis.specs.Settled.{IsSettled};
+ghost use Rattle.papergrid_axis.specs.ForProofs.Settled.{IsSettled};
 
 use crate::axis::Axis;
 use crate::demand::Demand;

@@ -2,7 +2,7 @@
 
 ghost use Rattle.std.specs.Prelude.{◌+◌, ◌<◌, IfOk, List};
 ghost use Rattle.papergrid_axis.specs.declared.demand.Demand.{Demand};
-ghost use Rattle.papergrid_axis.specs.Seen.{IsSeen};
+ghost use Rattle.papergrid_axis.specs.ForProofs.Seen.{IsSeen};
 
 use crate::LayoutError;
 use crate::axis::Axis;

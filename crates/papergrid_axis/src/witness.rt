@@ -3,10 +3,10 @@
 ghost use Rattle.std.specs.Prelude.{◌↔◌, ℕ, All, Bool, IfOk, IsTrue, List, Ok};
 ghost use Rattle.papergrid_axis.specs.declared.demand.Demand.{Demand};
 ghost use Rattle.papergrid_axis.specs.Answers.{IsWitness};
-ghost use Rattle.papergrid_axis.specs.LastCells.{IsLaminar};
+ghost use Rattle.papergrid_axis.specs.ForProofs.LastCells.{IsLaminar};
 ghost use Rattle.papergrid_axis.specs.Ranges.{IsInTable};
-ghost use Rattle.papergrid_axis.specs.Seen.{IsSeen};
-ghost use Rattle.papergrid_axis.specs.Settled.{AreSettled};
+ghost use Rattle.papergrid_axis.specs.ForProofs.Seen.{IsSeen};
+ghost use Rattle.papergrid_axis.specs.ForProofs.Settled.{AreSettled};
 
 use crate::chosen::chosen_places;
 use crate::demand::Demand;

@@ -8,15 +8,15 @@ use Rattle.papergrid_values.specs.Positions.{IsBefore}
 use Rattle.papergrid_axis.specs.declared.direction.Direction.{Direction}
 use Rattle.papergrid_axis.specs.declared.direction.Direction.TheVariants.{Columns, Rows}
 use Rattle.papergrid_axis.specs.Ranges.{end_of, first_out}
-use Rattle.papergrid_axis.specs.Seen.{IsSeen}
+use Rattle.papergrid_axis.specs.ForProofs.Seen.{IsSeen}
 use Rattle.papergrid_axis.proofs.OutLemmas.{out_seen}
 use Rattle.papergrid_walk.specs.declared.both.Both.{Both}
 use Rattle.papergrid_walk.specs.Cells.{asked, demands_of, visible_cells}
 use Rattle.papergrid_walk.specs.Looks.{Look}
-use Rattle.papergrid_walk.specs.Pairs.{AreBothSeen}
+use Rattle.papergrid_walk.specs.ForProofs.Pairs.{AreBothSeen}
 use Rattle.papergrid_walk.proofs.Distinct.{AllPairs-visible, Precedes}
 use Rattle.papergrid_layout.specs.Answers.{first_out_of_table, reaches_out}
-use Rattle.papergrid_layout.specs.Earlier.{earlier, earlier_of}
+use Rattle.papergrid_layout.specs.ForProofs.Earlier.{earlier, earlier_of}
 
 before-first : (p q : Position) → IsBefore p q → earlier_of p q ≡ p
 before-first p q (inl l) =

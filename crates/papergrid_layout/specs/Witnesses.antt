@@ -8,7 +8,7 @@ use Rattle.papergrid_axis.specs.declared.direction.Direction.{Direction}
 use Rattle.papergrid_axis.specs.declared.direction.Direction.TheVariants.{Columns, Rows}
 use Rattle.papergrid_axis.specs.declared.error.LayoutError.{LayoutError}
 use Rattle.papergrid_axis.specs.Answers.{IsAccepted, IsWitness}
-use Rattle.papergrid_axis.specs.Checks.{Checks}
+use Rattle.papergrid_axis.specs.ForProofs.Checks.{Checks}
 use Rattle.papergrid_axis.specs.Fits.{IsLeast}
 use Rattle.papergrid_walk.specs.Cells.{count_along, demands_of}
 use Rattle.papergrid_walk.specs.Looks.{Look}

@@ -2,9 +2,9 @@
 
 ghost use Rattle.std.specs.Prelude.{◌≡◌, List, length};
 ghost use Rattle.papergrid_axis.specs.Ranges.{first_out};
-ghost use Rattle.papergrid_walk.specs.Pairs.{AreBothSeen};
+ghost use Rattle.papergrid_walk.specs.ForProofs.Pairs.{AreBothSeen};
 ghost use Rattle.papergrid_layout.specs.Answers.{AreBothSized, UnlessMemory};
-ghost use Rattle.papergrid_layout.specs.Earlier.{earlier, earlier_of};
+ghost use Rattle.papergrid_layout.specs.ForProofs.Earlier.{earlier, earlier_of};
 
 use crate::sizes::Along;
 use papergrid_axis::conclude::conclude;

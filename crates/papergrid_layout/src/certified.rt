@@ -3,7 +3,7 @@
 ghost use Rattle.std.specs.Prelude.{◌≡◌, List, length};
 ghost use Rattle.papergrid_walk.specs.Looks.{spanned_look};
 ghost use Rattle.papergrid_walk.specs.Measures.{line_measure};
-ghost use Rattle.papergrid_walk.specs.Pairs.{AreBothSeen};
+ghost use Rattle.papergrid_walk.specs.ForProofs.Pairs.{AreBothSeen};
 ghost use Rattle.papergrid_layout.specs.Answers.{UnlessMemory};
 ghost use Rattle.papergrid_layout.specs.Witnesses.{IsCertified};
 

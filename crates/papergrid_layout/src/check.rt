@@ -2,7 +2,7 @@
 
 ghost use Rattle.std.specs.Prelude.{◌≡◌, ◌+◌, ◌^◌, ◌<◌, ◌≤◌, ◌⊎◌, ◌∷◌, [], ⊤, List, length};
 ghost use Rattle.papergrid_text.specs.Records.{Gives, WalkIsShort};
-ghost use Rattle.papergrid_axis.specs.Checks.{AreBounded, IsClaim};
+ghost use Rattle.papergrid_axis.specs.ForProofs.Checks.{AreBounded, IsClaim};
 ghost use Rattle.papergrid_walk.specs.Cells.{asked_by, demands_of, placed_row, side};
 ghost use Rattle.papergrid_layout.specs.Witnesses.{AreShown, ChecksBy, ChecksMore, IsChecked, IsShownClaim};
 

@@ -9,7 +9,7 @@ use Rattle.papergrid_tables.proofs.ToldEqual.{numbers_same, places_same}
 use Rattle.papergrid_maps.specs.MapEq.{held_eq}
 use Rattle.papergrid_maps.specs.MapHeld as maps
 use Rattle.papergrid_maps.specs.MapHeld.{Held}
-use Rattle.papergrid_maps.specs.SpanEq.{spans_eq}
+use Rattle.papergrid_maps.specs.ForProofs.SpanEq.{spans_eq}
 use Rattle.papergrid_maps.specs.Spans as spans
 use Rattle.papergrid_maps.specs.Spans.{SpanCall, Spans}
 use Rattle.papergrid_maps.specs.declared.entity_map.MapCall.{MapCall}

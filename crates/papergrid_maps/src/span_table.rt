@@ -194,7 +194,7 @@ impl Clone for SpanTable {
 }
 
 impl PartialEq for SpanTable {
-    ghost use Rattle.papergrid_maps.specs.SpanEq.{spans_eq, spans_eq_laws};
+    ghost use Rattle.papergrid_maps.specs.ForProofs.SpanEq.{spans_eq, spans_eq_laws};
 
     ghost eq = { spans_eq };
 

@@ -4,7 +4,7 @@ use Rattle.std.specs.Option.{option_eq}
 use Rattle.papergrid_values.specs.declared.borders.Borders.{Borders}
 use Rattle.papergrid_values.specs.declared.horizontal_line.HorizontalLine.{HorizontalLine}
 use Rattle.papergrid_values.specs.declared.vertical_line.VerticalLine.{VerticalLine}
-use Rattle.papergrid_tables.specs.BorderEq.{frame_eq, horizontal_line_eq, vertical_line_eq}
+use Rattle.papergrid_tables.specs.ForProofs.BorderEq.{frame_eq, horizontal_line_eq, vertical_line_eq}
 
 and_true : (b : Bool) → b ≡ (b && true)
 and_true true = refl

@@ -1,15 +1,12 @@
 pub mod BorderCalls
-pub mod BorderCodes
-pub mod BorderEq
 pub mod BorderHeld
 pub mod BorderScan
 pub mod Changes
 pub mod Equal
 pub mod Keys
-pub mod LineMarks
 pub mod LineTests
 pub mod Made
 pub mod OffsetEq
-pub mod OverrideScan
 pub mod Overrides
 pub mod Places
+pub mod ForProofs

@@ -33,7 +33,7 @@ pub struct BorderTable<T> {
 impl<T> Model for BorderTable<T> {
     ghost use Rattle.std.specs.FinMap as map;
     ghost use Rattle.papergrid_tables.specs.BorderHeld.{HeldBorders};
-    ghost use Rattle.papergrid_tables.specs.BorderCodes.{held_borders_code};
+    ghost use Rattle.papergrid_tables.specs.ForProofs.BorderCodes.{held_borders_code};
 
     ghost Value = { HeldBorders T };
 
@@ -440,7 +440,7 @@ impl<T: Clone> Clone for BorderTable<T> {
 }
 
 impl<T: PartialEq> PartialEq for BorderTable<T> {
-    ghost use Rattle.papergrid_tables.specs.BorderEq.{borders_eq, borders_eq_laws};
+    ghost use Rattle.papergrid_tables.specs.ForProofs.BorderEq.{borders_eq, borders_eq_laws};
 
     ghost eq = { borders_eq T.eq };
 

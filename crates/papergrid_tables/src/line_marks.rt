@@ -4,7 +4,7 @@ ghost use Rattle.std.specs.Prelude.{◌≡◌, ◌==◌, ◌+◌, ◌<◌, ◌^�
 ghost use Rattle.std.specs.HashMap.{IsUnique, get as map_get, keys};
 ghost use Rattle.std.specs.List.{list_any};
 ghost use Rattle.papergrid_tables.specs.Keys.{position_eq};
-ghost use Rattle.papergrid_tables.specs.LineMarks.{number_along};
+ghost use Rattle.papergrid_tables.specs.ForProofs.LineMarks.{number_along};
 ghost use Rattle.papergrid_tables.specs.Places.{at_ends};
 
 use crate::border_parts::at_ends;

@@ -5,7 +5,7 @@ ghost use Rattle.std.specs.HashMap.{get as map_get};
 ghost use Rattle.papergrid_values.specs.declared.offset.Offset.{Offset};
 ghost use Rattle.papergrid_values.specs.declared.position.Position.{Position};
 ghost use Rattle.papergrid_tables.specs.Keys.{position_eq};
-ghost use Rattle.papergrid_tables.specs.OverrideScan.{AfterSet};
+ghost use Rattle.papergrid_tables.specs.ForProofs.OverrideScan.{AfterSet};
 ghost use Rattle.papergrid_tables.specs.Overrides.{AreSet, Appends, IsClear, IsOverridden, IsTold, RemoveAll, RemoveAt, SetAt, at_offset, found_override, is_same_offset, override_at};
 
 use crate::hashed::{take, write};
@@ -147,7 +147,7 @@ impl<T: Drop> OffsetTable<T> {
 }
 
 impl<T: Clone> Clone for Overrides<T> {
-    ghost use Rattle.papergrid_tables.specs.OverrideScan.{IsCopy};
+    ghost use Rattle.papergrid_tables.specs.ForProofs.OverrideScan.{IsCopy};
 
     // It has values at the same offsets, and is like its original where clones of the values are.
     ghost is_clone = { λ s t. IsCopy T.is_clone s t };

@@ -4,7 +4,7 @@ use Rattle.std.specs.Prelude.{slice_set, replicate}
 use Rattle.std.specs.List.{fold}
 use Rattle.std.proofs.lemmas.List.{map-append, length-map}
 use Rattle.std.proofs.lemmas.List.Sums.{fold-append}
-use Rattle.papergrid_text.specs.ColumnWidths.{widen, greatest_widths, raised}
+use Rattle.papergrid_text.specs.ForProofs.ColumnWidths.{widen, greatest_widths, raised}
 use Rattle.papergrid_text.proofs.RowSteps.{map_map_twice, told_by}
 
 pub widen-none : (ws : List ℕ) → widen ws [] ≡ ws

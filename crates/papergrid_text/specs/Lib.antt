@@ -1,4 +1,3 @@
-pub mod ColumnWidths
 pub mod Counted
 pub mod Cut
 pub mod Held
@@ -10,3 +9,4 @@ pub mod Records
 pub mod Rows
 pub mod Text
 pub mod TextOrder
+pub mod ForProofs

@@ -7,9 +7,9 @@ use Rattle.papergrid_values.specs.declared.position.Position.{Position}
 use Rattle.papergrid_axis.specs.declared.direction.Direction.{Direction}
 use Rattle.papergrid_axis.specs.declared.direction.Direction.TheVariants.{Columns, Rows}
 use Rattle.papergrid_axis.specs.declared.seen.Seen.{Seen}
-use Rattle.papergrid_axis.specs.Checks.{AreDistinct}
+use Rattle.papergrid_axis.specs.ForProofs.Checks.{AreDistinct}
 use Rattle.papergrid_axis.specs.Ranges.{place_of}
-use Rattle.papergrid_axis.specs.Seen.{Holds, IsSeen, is_single}
+use Rattle.papergrid_axis.specs.ForProofs.Seen.{Holds, IsSeen, is_single}
 use Rattle.papergrid_axis.proofs.SeenLemmas.{below-own_limit}
 use Rattle.papergrid_values.specs.Positions.{IsBefore}
 use Rattle.papergrid_walk.specs.Cells.{asked, count_along, demands_of, limit_along, placed, placed_from, placed_row, visible_cells}

@@ -5,7 +5,7 @@ use Rattle.std.proofs.lemmas.Option.{slice_get_within, slice_get-get_or}
 use Rattle.papergrid_walk.specs.declared.anchor.Anchor.{Anchor}
 use Rattle.papergrid_values.specs.declared.position.Position.{Position}
 use Rattle.papergrid_walk.specs.declared.levels.Levels.{Levels}
-use Rattle.papergrid_walk.specs.Levels.{end_at, raised_end}
+use Rattle.papergrid_walk.specs.ForProofs.Levels.{end_at, raised_end}
 use Rattle.papergrid_values.specs.Positions.{IsBefore}
 use Rattle.papergrid_walk.specs.Hidden.{cut, end_with, end_of, IsWithin, IsHidden, IsSorted, AllBefore, Holds}
 

@@ -1,7 +1,7 @@
 -- A level and those above it, raised over a range.
 use Rattle.std.proofs.Common.{arith, refl, sym, ◌∙◌, inl, inr, ◌==◌, ◌≡◌, ℕ, ◌+◌, ◌/◌, ◌%◌, ◌<◌, ◌≤◌, ◌&&◌, ◌||◌, if◌then◌else◌, Bool, true, false, nat_lt, nat_le}
 use Rattle.std.proofs.lemmas.Bool.{cases_lt, false_from_ne_true, or_from, or_left, or_right, and_left, and_right, and_from, and_parts, or_cases, ltb-true, eqb-true, lt-ltb, le-ltb, lt-leb, le-leb, eq-eqb}
-use Rattle.papergrid_walk.specs.Levels.{greater, is_side, raised_end}
+use Rattle.papergrid_walk.specs.ForProofs.Levels.{greater, is_side, raised_end}
 
 raised-both : (own above end : ℕ) → greater (greater own end) (greater above end) ≡ greater (greater own above) end
 raised-both own above end = grind (arith)

@@ -2,7 +2,7 @@
 use Rattle.std.proofs.Common.{arith, ap, ◌≡◌, ℕ, ◌/◌, ◌<◌, ◌≤◌, ◌&&◌, if◌then◌else◌, nat_lt, nat_le}
 use Rattle.papergrid_walk.specs.declared.levels.Levels.{Levels}
 use Rattle.papergrid_walk.specs.declared.levels.Levels.TheVariants.{Top, Level'}
-use Rattle.papergrid_walk.specs.Levels.{greater, raised_end, Fits}
+use Rattle.papergrid_walk.specs.ForProofs.Levels.{greater, raised_end, Fits}
 use Rattle.papergrid_walk.specs.Hidden.{least}
 
 pub fits-less : (levels : Levels) (m n : ℕ) → m ≤ n → Fits levels n → Fits levels m

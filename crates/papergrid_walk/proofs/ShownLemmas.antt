@@ -6,7 +6,7 @@ use Rattle.papergrid_values.specs.declared.position.Position.{Position}
 use Rattle.papergrid_walk.specs.declared.anchor.Anchor.{Anchor}
 use Rattle.papergrid_values.specs.Positions.{IsBefore}
 use Rattle.papergrid_walk.specs.Hidden.{IsAhead, Walk}
-use Rattle.papergrid_walk.specs.Shown.{AreAnchorsOf, Shows}
+use Rattle.papergrid_walk.specs.ForProofs.Shown.{AreAnchorsOf, Shows}
 
 -- the start of a walk
 pub shows_first : (shows : Position → Bool) (anchors : List Anchor) (columns : ℕ) → AreAnchorsOf shows anchors →

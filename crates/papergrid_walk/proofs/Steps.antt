@@ -6,7 +6,7 @@ use Rattle.std.proofs.lemmas.List.Elements.{filter-append}
 use Rattle.papergrid_values.specs.declared.position.Position.{Position}
 use Rattle.papergrid_axis.specs.declared.direction.Direction.{Direction}
 use Rattle.papergrid_axis.specs.declared.seen.Seen.{Seen}
-use Rattle.papergrid_axis.specs.Seen.{Adds, Holds}
+use Rattle.papergrid_axis.specs.ForProofs.Seen.{Adds, Holds}
 use Rattle.papergrid_walk.specs.Looks.{Look}
 use Rattle.papergrid_walk.specs.Cells.{asked, asked_by, demands_of, placed, placed_from, placed_row, visible_of}
 

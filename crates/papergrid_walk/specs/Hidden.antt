@@ -1,6 +1,6 @@
 -- The cells that anchors hide, and what a sweep over the rows holds.
 use Rattle.std.specs.Prelude.{◌≡◌, ◌≢◌, ℕ, ◌+◌, ◌-◌, ◌^◌, ◌<◌, ◌≤◌, zero, suc, List, Option, Some, None, length, slice_get, nat_lt, if◌then◌else◌}
-use Rattle.papergrid_walk.specs.Levels.{end_at, Fits, raised_end}
+use Rattle.papergrid_walk.specs.ForProofs.Levels.{end_at, Fits, raised_end}
 use Rattle.papergrid_walk.specs.declared.levels.Levels.{Levels}
 use Rattle.papergrid_values.specs.declared.position.Position.{Position}
 use Rattle.papergrid_values.specs.Positions.{IsBefore}

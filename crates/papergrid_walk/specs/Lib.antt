@@ -2,9 +2,6 @@
 pub mod Anchors
 pub mod Cells
 pub mod Hidden
-pub mod Levels
 pub mod Looks
 pub mod Measures
-pub mod Paddings
-pub mod Pairs
-pub mod Shown
+pub mod ForProofs

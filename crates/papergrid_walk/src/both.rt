@@ -3,11 +3,11 @@
 ghost use Rattle.std.specs.Prelude.{◌≡◌, ◌+◌, ◌-◌, ◌<◌, ◌^◌, ◌∷◌, [], ⊤, IfOk, List, OnOk, length};
 ghost use Rattle.papergrid_text.specs.Records.{Gives, WalkIsShort};
 ghost use Rattle.papergrid_axis.specs.declared.direction.Direction.TheVariants.{Columns, Rows};
-ghost use Rattle.papergrid_axis.specs.Seen.{Adds};
+ghost use Rattle.papergrid_axis.specs.ForProofs.Seen.{Adds};
 ghost use Rattle.papergrid_walk.specs.Cells.{asked_by, placed_row};
-ghost use Rattle.papergrid_walk.specs.Paddings.{AreCommon};
-ghost use Rattle.papergrid_walk.specs.Pairs.{AreBothSeen};
-ghost use Rattle.papergrid_walk.specs.Shown.{Shows};
+ghost use Rattle.papergrid_walk.specs.ForProofs.Paddings.{AreCommon};
+ghost use Rattle.papergrid_walk.specs.ForProofs.Pairs.{AreBothSeen};
+ghost use Rattle.papergrid_walk.specs.ForProofs.Shown.{Shows};
 
 use crate::Sweep;
 use crate::measure::Measure;

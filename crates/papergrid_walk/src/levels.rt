@@ -2,7 +2,7 @@
 //! look in time of the logarithm of the columns.
 
 ghost use Rattle.std.specs.Prelude.{◌≡◌, ℕ, ◌+◌, ◌/◌, ◌<◌, ◌≤◌, IfOk, if◌then◌else◌, length, slice_index, vec_len};
-ghost use Rattle.papergrid_walk.specs.Levels.{end_at, Fits, greater, is_side, raised_end};
+ghost use Rattle.papergrid_walk.specs.ForProofs.Levels.{end_at, Fits, greater, is_side, raised_end};
 
 use std::alloc::{AllocError, Global};
 

@@ -1,11 +1,11 @@
 //! What a walk reads of a configuration.
 
 ghost use Rattle.std.specs.Prelude.{◌≡◌, ◌≤◌, ◌↔◌, All, AllPairs, IfOk, IsTrue};
-ghost use Rattle.papergrid_axis.specs.Checks.{AreRising};
+ghost use Rattle.papergrid_axis.specs.ForProofs.Checks.{AreRising};
 ghost use Rattle.papergrid_walk.specs.Hidden.{IsSorted};
 ghost use Rattle.papergrid_walk.specs.Looks.{Look, compact_look, size_after, size_before, spanned_look};
-ghost use Rattle.papergrid_walk.specs.Paddings.{AreCommon, paddings_at};
-ghost use Rattle.papergrid_walk.specs.Shown.{AreAnchorsOf};
+ghost use Rattle.papergrid_walk.specs.ForProofs.Paddings.{AreCommon, paddings_at};
+ghost use Rattle.papergrid_walk.specs.ForProofs.Shown.{AreAnchorsOf};
 
 use crate::{Anchor, anchors_of};
 use papergrid_axis::Direction;

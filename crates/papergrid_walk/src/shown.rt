@@ -3,7 +3,7 @@
 ghost use Rattle.std.specs.Prelude.{◌≡◌, ◌+◌, ◌-◌, ◌<◌, ◌^◌, Bool, IfOk};
 ghost use Rattle.papergrid_values.specs.declared.position.Position.{Position};
 ghost use Rattle.papergrid_walk.specs.Hidden.{IsAhead};
-ghost use Rattle.papergrid_walk.specs.Shown.{Shows};
+ghost use Rattle.papergrid_walk.specs.ForProofs.Shown.{Shows};
 
 use crate::Sweep;
 use crate::settings::Settings;

@@ -5,7 +5,7 @@ ghost use Rattle.papergrid_values.specs.declared.position.Position.{Position};
 ghost use Rattle.papergrid_maps.specs.Spans.{Spans, column_span, is_visible, row_span};
 ghost use Rattle.papergrid_walk.specs.Anchors.{AreAnchors};
 ghost use Rattle.papergrid_walk.specs.declared.anchor.Anchor.{Anchor};
-ghost use Rattle.papergrid_walk.specs.Levels.{Fits, end_at};
+ghost use Rattle.papergrid_walk.specs.ForProofs.Levels.{Fits, end_at};
 ghost use Rattle.papergrid_values.specs.Positions.{IsBefore};
 ghost use Rattle.papergrid_walk.specs.Hidden.{AllBefore, Holds, IsAhead, IsHidden, IsSorted, IsSwept, end_with, least};
 

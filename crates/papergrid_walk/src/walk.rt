@@ -2,10 +2,10 @@
 
 ghost use Rattle.std.specs.Prelude.{◌≡◌, ◌+◌, ◌-◌, ◌<◌, ◌^◌, ◌∷◌, [], ⊤, if◌then◌else◌, IfOk, List, None, OnOk, Some, length};
 ghost use Rattle.papergrid_text.specs.Records.{Gives, WalkIsShort};
-ghost use Rattle.papergrid_axis.specs.Seen.{Adds, IsSeen};
+ghost use Rattle.papergrid_axis.specs.ForProofs.Seen.{Adds, IsSeen};
 ghost use Rattle.papergrid_walk.specs.Cells.{asked, asked_by, count_along, demands_of, limit_along, placed_row};
-ghost use Rattle.papergrid_walk.specs.Paddings.{AreCommon, paddings_at};
-ghost use Rattle.papergrid_walk.specs.Shown.{Shows};
+ghost use Rattle.papergrid_walk.specs.ForProofs.Paddings.{AreCommon, paddings_at};
+ghost use Rattle.papergrid_walk.specs.ForProofs.Shown.{Shows};
 
 use crate::Sweep;
 use crate::measure::Measure;

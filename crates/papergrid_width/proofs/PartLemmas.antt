@@ -10,7 +10,7 @@ use Rattle.unicode_width.specs.declared.kind.Kind.TheVariants as kinds
 use Rattle.unicode_width.specs.Kind.{kind}
 use Rattle.unicode_width.proofs.Computing.{unicode_width}
 use Rattle.unicode_width.proofs.KindLemmas.{kind_stepped}
-use Rattle.papergrid_width.specs.Parts.{is_pictograph, part_of}
+use Rattle.papergrid_width.specs.ForProofs.Parts.{is_pictograph, part_of}
 use Rattle.papergrid_width.specs.declared.part.Part.{Part}
 use Rattle.papergrid_width.specs.declared.part.Part.TheVariants as parts
 

@@ -11,8 +11,8 @@ use Rattle.unicode_width.specs.declared.state.After.TheVariants as states
 use Rattle.unicode_width.specs.declared.state.State.{State}
 use Rattle.unicode_width.specs.Width.{alone, before, plain, added, of_kind, in_context, joins, past_emoji, past_selectors, step}
 use Rattle.unicode_width.proofs.Computing.{unicode_width}
-use Rattle.papergrid_width.specs.Parts.{is_pictograph, part_of, add_before}
-use Rattle.papergrid_width.specs.Emoji.{IsStep, state_of}
+use Rattle.papergrid_width.specs.ForProofs.Parts.{is_pictograph, part_of, add_before}
+use Rattle.papergrid_width.specs.ForProofs.Emoji.{IsStep, state_of}
 use Rattle.papergrid_width.specs.declared.part.Part.{Part}
 use Rattle.papergrid_width.specs.declared.part.Part.TheVariants as parts
 use Rattle.papergrid_width.specs.declared.part.After.{After}

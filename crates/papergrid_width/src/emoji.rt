@@ -2,7 +2,7 @@
 
 ghost use Rattle.std.specs.Prelude.{◌≡◌, ◌≤◌, chars, false, IfSome};
 ghost use Rattle.unicode_width.specs.Width.{str_width};
-ghost use Rattle.papergrid_width.specs.Emoji.{IsStep};
+ghost use Rattle.papergrid_width.specs.ForProofs.Emoji.{IsStep};
 
 use crate::part::{After, add_before, part_of};
 use crate::printable::without_printable_end;

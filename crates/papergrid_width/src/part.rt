@@ -1,7 +1,7 @@
 //! The characters that texts of emoji are made of.
 
 ghost use Rattle.std.specs.Prelude.{◌≡◌};
-ghost use Rattle.papergrid_width.specs.Parts.{part_of, add_before, add_apart};
+ghost use Rattle.papergrid_width.specs.ForProofs.Parts.{part_of, add_before, add_apart};
 
 /// What a character is in a text of emoji.
 #[derive(Clone, Copy, PartialEq, Eq)]

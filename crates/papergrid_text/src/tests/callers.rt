@@ -1,7 +1,7 @@
 //! The consumer at each type that records come in.
 
 ghost use Rattle.std.specs.Prelude.{◌≡◌, ◌<◌, map, IfOk, string_bytes};
-ghost use Rattle.papergrid_text.specs.ColumnWidths.{greatest_widths};
+ghost use Rattle.papergrid_text.specs.ForProofs.ColumnWidths.{greatest_widths};
 ghost use Rattle.papergrid_text.specs.Counted.{counted_rows, counted_columns};
 ghost use Rattle.papergrid_text.specs.Cut.{cut_rows, cut_whole_rows};
 ghost use Rattle.papergrid_text.specs.HeldRows.{rows_held, column_count};

@@ -1,7 +1,7 @@
 //! A consumer of any lawful records: their contracts suffice for an exact answer.
 
 ghost use Rattle.std.specs.Prelude.{◌≡◌, List, map, IfOk};
-ghost use Rattle.papergrid_text.specs.ColumnWidths.{greatest_widths, raised};
+ghost use Rattle.papergrid_text.specs.ForProofs.ColumnWidths.{greatest_widths, raised};
 ghost use Rattle.papergrid_text.specs.Text.{text_width};
 
 use crate::records::{IntoRecords, Records};

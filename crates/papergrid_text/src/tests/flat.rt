@@ -1,7 +1,7 @@
 //! Records of one's own, over one flat list of texts. What their walk gives is proved by the laws alone.
 
 ghost use Rattle.std.specs.Prelude.{◌≡◌, ◌<◌, map, IfOk, string_bytes};
-ghost use Rattle.papergrid_text.specs.ColumnWidths.{greatest_widths};
+ghost use Rattle.papergrid_text.specs.ForProofs.ColumnWidths.{greatest_widths};
 ghost use Rattle.papergrid_text.specs.Cut.{cut_rows};
 ghost use Rattle.papergrid_text.specs.Text.{text_width};
 

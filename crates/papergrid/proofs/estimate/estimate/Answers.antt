@@ -2,7 +2,7 @@ use Rattle.std.proofs.Common.{sym, ◌∙◌}
 use Rattle.papergrid_walk.specs.Looks.{spanned_look}
 use Rattle.papergrid_walk.specs.Measures.{line_measure}
 use Rattle.papergrid.specs.Estimates.{Sized}
-use Rattle.papergrid.specs.Seen.{places_seen}
+use Rattle.papergrid.specs.ForProofs.Seen.{places_seen}
 use Rattle.papergrid.proofs.EstimateLemmas.{estimate_certified, height_fits, refused, width_fits}
 use Rattle.papergrid.proofs.estimate.estimate.Goals as goal
 

@@ -9,7 +9,7 @@ use Rattle.papergrid_walk.specs.Looks.{spanned_look}
 use Rattle.papergrid_walk.specs.Measures.{line_measure}
 use Rattle.papergrid.specs.Estimates.{Estimate, estimate_by, estimate_of, text_measure}
 use Rattle.papergrid.specs.Looks.{look_of}
-use Rattle.papergrid.specs.Seen.{table_seen, texts_of}
+use Rattle.papergrid.specs.ForProofs.Seen.{table_seen, texts_of}
 use Rattle.papergrid.specs.declared.script.Script.{Script}
 use Rattle.papergrid.proofs.EstimateLemmas.{estimate_told, gives_also}
 use Rattle.papergrid.proofs.LookLemmas.{look_told}

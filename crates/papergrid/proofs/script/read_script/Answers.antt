@@ -1,6 +1,6 @@
 use Rattle.std.proofs.Common.{Err, ap, arith, sym, ◌∙◌}
 use Rattle.papergrid.specs.Scripts.{table_of}
-use Rattle.papergrid.specs.Seen.{GivesTable}
+use Rattle.papergrid.specs.ForProofs.Seen.{GivesTable}
 use Rattle.papergrid.proofs.CutLemmas.{all_given, fault_given, line_given}
 use Rattle.papergrid.proofs.RangeLemmas.{given_in_range}
 use Rattle.papergrid.proofs.script.read_script.Goals.{else-text-input-via-then-text-input+else-is_ok, else-text-input-via-else-text-input}

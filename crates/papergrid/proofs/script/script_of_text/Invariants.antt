@@ -4,7 +4,7 @@ use Rattle.papergrid_text.specs.LinesLeft.{lines_of_rest}
 use Rattle.papergrid_text.specs.Text.{split_lines}
 use Rattle.papergrid.specs.Grammar.{without_cr}
 use Rattle.papergrid.specs.Scripts.{empty_table, table_after}
-use Rattle.papergrid.specs.Seen.{table_seen}
+use Rattle.papergrid.specs.ForProofs.Seen.{table_seen}
 use Rattle.papergrid.proofs.script.script_of_text.Given as goal
 
 -- what the whole text tells is what the rest of it does, after the lines so far

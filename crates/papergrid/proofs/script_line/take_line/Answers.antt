@@ -2,7 +2,7 @@ use Rattle.std.proofs.Common.{◌≡◌, ℕ, List, refl, subst, IfOk, Option}
 use Rattle.std.specs.Str.{IsUtf8}
 use Rattle.std.proofs.lemmas.Str.{is_utf8-from_IsUtf8}
 use Rattle.papergrid.specs.Grammar.{Said, said, text_says}
-use Rattle.papergrid.specs.Seen.{Takes, table_seen}
+use Rattle.papergrid.specs.ForProofs.Seen.{Takes, table_seen}
 use Rattle.papergrid.proofs.script_line.take_line.Goals as goal
 
 a_text : (bs : List ℕ) → IsUtf8 bs → text_says bs ≡ said bs

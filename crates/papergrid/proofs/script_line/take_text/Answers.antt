@@ -1,6 +1,6 @@
 use Rattle.std.proofs.Common.{◌≡◌, ◌++◌, ℕ, List, Option, IfOk, codes, option_map, refl, sym, ap, ◌∙◌, subst}
 use Rattle.papergrid.specs.Grammar.{Cell, Said, keyword_says, text_says}
-use Rattle.papergrid.specs.Seen.{Takes, table_seen}
+use Rattle.papergrid.specs.ForProofs.Seen.{Takes, table_seen}
 use Rattle.papergrid.specs.Texts.{unescaped}
 use Rattle.papergrid.proofs.SpellLemmas.{parted_after}
 use Rattle.papergrid.proofs.script_line.take_text.Goals as goal

@@ -1,7 +1,7 @@
 use Rattle.std.proofs.Common.{ℕ, refl, arith}
 use Rattle.std.proofs.lemmas.Bool.{false≢true}
 use Rattle.papergrid_values.specs.declared.position.Position.{Position}
-use Rattle.papergrid_axis.specs.Checks.{AreApartAt}
+use Rattle.papergrid_axis.specs.ForProofs.Checks.{AreApartAt}
 use Rattle.papergrid_axis.specs.Ranges.{demand_of}
 use Rattle.papergrid_axis.proofs.Certified.{AreDisjoint-sym}
 use Rattle.papergrid_axis.proofs.PairLemmas.{pairs-more, pairs-before}

@@ -1,6 +1,6 @@
 use Rattle.std.proofs.Common.{ℕ, ◌<◌, get_or}
 use Rattle.papergrid_values.specs.declared.position.Position.{Position}
-use Rattle.papergrid_axis.specs.Checks.{AreApartAt}
+use Rattle.papergrid_axis.specs.ForProofs.Checks.{AreApartAt}
 use Rattle.papergrid_axis.proofs.apart.are_apart.Given as goal
 
 abbrev pub invariant-loop-i : goal.invariant-loop-i

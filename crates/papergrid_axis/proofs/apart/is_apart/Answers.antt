@@ -1,7 +1,7 @@
 use Rattle.std.proofs.Common.{refl, sym, arith, take, take_all}
 use Rattle.std.proofs.lemmas.List.Elements.{All-more, All-same}
 use Rattle.papergrid_values.specs.declared.position.Position.{Position}
-use Rattle.papergrid_axis.specs.Checks.{AreApartAt}
+use Rattle.papergrid_axis.specs.ForProofs.Checks.{AreApartAt}
 use Rattle.papergrid_axis.proofs.apart.is_apart.Goals as goal
 
 abbrev no_place : Position

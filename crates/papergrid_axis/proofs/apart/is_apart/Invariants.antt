@@ -1,6 +1,6 @@
 use Rattle.std.proofs.Common.{take}
 use Rattle.std.specs.Prelude.{All}
-use Rattle.papergrid_axis.specs.Checks.{AreApartAt}
+use Rattle.papergrid_axis.specs.ForProofs.Checks.{AreApartAt}
 use Rattle.papergrid_axis.proofs.apart.is_apart.Given as goal
 
 abbrev pub invariant-loop-other : goal.invariant-loop-other

@@ -1,5 +1,5 @@
 use Rattle.std.proofs.Common.{◌≡◌, ◌+◌, ◌≤◌, ◌∙◌, sym, arith, length}
-use Rattle.papergrid_axis.specs.Checks.{range_of}
+use Rattle.papergrid_axis.specs.ForProofs.Checks.{range_of}
 use Rattle.papergrid_axis.specs.Fits.{range_sum}
 use Rattle.papergrid_axis.specs.Ranges.{inner_lines, lines_to}
 use Rattle.papergrid_axis.proofs.CheckLemmas.{inner_lines-lines_to}

@@ -1,6 +1,6 @@
 use Rattle.std.proofs.Common.{◌≡◌, ℕ, ◌+◌, ◌*◌, ◌≤◌, ◌∷◌, ◌++◌, [], ◌∙◌, ap₂, sym, refl, subst, subst₂, arith, length, true}
 use Rattle.std.proofs.lemmas.Bool.{not-false, not-true, true≢false}
-use Rattle.papergrid_axis.specs.Checks.{Checks, range_of, times_listed}
+use Rattle.papergrid_axis.specs.ForProofs.Checks.{Checks, range_of, times_listed}
 use Rattle.papergrid_axis.specs.Fits.{HasRoom}
 use Rattle.papergrid_axis.specs.Ranges.{along, demand_of, inner_lines, lines_to}
 use Rattle.papergrid_axis.proofs.ClaimLemmas.{rising-from_order}

@@ -7,7 +7,7 @@ use Rattle.std.proofs.lemmas.List.Elements.{recursion_from_All, All-weaker}
 use Rattle.papergrid_axis.specs.declared.demand.Demand.{Demand}
 use Rattle.papergrid_axis.specs.Ranges.{IsInTable}
 use Rattle.papergrid_axis.specs.Chosen.{chosen}
-use Rattle.papergrid_axis.specs.LastCells.{chosen_slot}
+use Rattle.papergrid_axis.specs.ForProofs.LastCells.{chosen_slot}
 use Rattle.papergrid_axis.proofs.LastLoops.{chosen-by_slots}
 use Rattle.papergrid_axis.proofs.chosen.choose.Goals as goal
 

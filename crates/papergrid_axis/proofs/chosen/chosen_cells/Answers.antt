@@ -1,6 +1,6 @@
 use Rattle.std.proofs.Common.{◌≡◌, ◌∙◌, sym, ap, Some, None, List, [], ◌∷◌, ◌++◌, append-nil, get_or, Vec, Global}
 use Rattle.papergrid_axis.specs.declared.demand.Demand.{Demand}
-use Rattle.papergrid_axis.specs.LastCells.{chosen_slot, slot_of}
+use Rattle.papergrid_axis.specs.ForProofs.LastCells.{chosen_slot, slot_of}
 use Rattle.papergrid_axis.proofs.LastLoops.{filter_map_slot_more}
 use Rattle.papergrid_axis.proofs.chosen.chosen_cells.Goals as goal
 use Rattle.papergrid_axis.proofs.chosen.chosen_cells.Goals.{in-Some+in_ok-push, in_default}

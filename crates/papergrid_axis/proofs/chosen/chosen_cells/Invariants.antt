@@ -1,7 +1,7 @@
 use Rattle.std.proofs.Common.{◌≡◌}
 use Rattle.std.specs.Prelude.{filter_map}
 use Rattle.std.specs.List.{range_with_len}
-use Rattle.papergrid_axis.specs.LastCells.{chosen_slot}
+use Rattle.papergrid_axis.specs.ForProofs.LastCells.{chosen_slot}
 use Rattle.papergrid_axis.proofs.chosen.chosen_cells.Given as goal
 
 abbrev pub invariant-loop-i : goal.invariant-loop-i

@@ -2,7 +2,7 @@ use Rattle.std.proofs.Common.{◌-◌, ◌≤◌, refl, subst₂, arith}
 use Rattle.std.proofs.lemmas.Bool.{false≢true}
 use Rattle.std.proofs.lemmas.List.{get_or_default}
 use Rattle.papergrid_values.specs.declared.position.Position.{Position}
-use Rattle.papergrid_axis.specs.Checks.{AreInOrder}
+use Rattle.papergrid_axis.specs.ForProofs.Checks.{AreInOrder}
 use Rattle.papergrid_axis.proofs.ClaimLemmas.{AreInOrder-trans, chain-more}
 use Rattle.papergrid_axis.proofs.claim.are_in_order.Goals as goal
 

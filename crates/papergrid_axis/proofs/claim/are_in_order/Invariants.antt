@@ -1,6 +1,6 @@
 use Rattle.std.proofs.Common.{ℕ, ◌<◌, ◌≤◌, get_or}
 use Rattle.papergrid_values.specs.declared.position.Position.{Position}
-use Rattle.papergrid_axis.specs.Checks.{AreInOrder}
+use Rattle.papergrid_axis.specs.ForProofs.Checks.{AreInOrder}
 use Rattle.papergrid_axis.proofs.claim.are_in_order.Given as goal
 
 abbrev pub invariant-loop-i : goal.invariant-loop-i

@@ -4,7 +4,7 @@ use Rattle.std.proofs.lemmas.Bool.{false≢true}
 use Rattle.std.proofs.lemmas.List.Elements.{recursion_from_All, All-take}
 use Rattle.papergrid_axis.specs.declared.demand.Demand.{Demand}
 use Rattle.papergrid_axis.specs.Ranges.{IsInTable}
-use Rattle.papergrid_axis.specs.LastCells.{IsLaminar}
+use Rattle.papergrid_axis.specs.ForProofs.LastCells.{IsLaminar}
 use Rattle.papergrid_axis.proofs.LastLoops.{IsTableOf, table-cells, IsTableOf-more, under-from_laminar}
 use Rattle.papergrid_axis.proofs.last_cells.are_laminar.Goals as goal
 

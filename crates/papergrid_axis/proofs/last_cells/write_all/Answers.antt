@@ -2,7 +2,7 @@ use Rattle.std.proofs.Common.{◌∙◌, ap, sym, arith, cond, get_or, take, Som
 use Rattle.std.proofs.lemmas.List.{take_more}
 use Rattle.papergrid_axis.specs.declared.demand.Demand.{Demand}
 use Rattle.papergrid_axis.specs.Ranges.{holds}
-use Rattle.papergrid_axis.specs.LastCells.{last_holding}
+use Rattle.papergrid_axis.specs.ForProofs.LastCells.{last_holding}
 use Rattle.papergrid_axis.proofs.LastLemmas.{last_holding_push}
 use Rattle.papergrid_axis.proofs.last_cells.write_all.Goals as goal
 

@@ -1,5 +1,5 @@
 use Rattle.std.proofs.Common.{◌≡◌, ℕ, ◌<◌, length, get_or, take, None}
-use Rattle.papergrid_axis.specs.LastCells.{last_holding}
+use Rattle.papergrid_axis.specs.ForProofs.LastCells.{last_holding}
 use Rattle.papergrid_axis.proofs.last_cells.write_all.Given as goal
 
 abbrev pub invariant-loop-demand : goal.invariant-loop-demand

@@ -1,5 +1,5 @@
 use Rattle.std.proofs.Common.{◌∙◌, ap, refl, get_or}
-use Rattle.papergrid_axis.specs.Seen.{no_demand}
+use Rattle.papergrid_axis.specs.ForProofs.Seen.{no_demand}
 use Rattle.papergrid_axis.proofs.SeenLemmas.{get_or-padded}
 use Rattle.papergrid_axis.proofs.seen.extend.Goals as goal
 

@@ -1,5 +1,5 @@
 use Rattle.std.proofs.Common.{◌≡◌, ◌+◌, ◌-◌, ℕ, get_or, length}
-use Rattle.papergrid_axis.specs.Seen.{no_demand}
+use Rattle.papergrid_axis.specs.ForProofs.Seen.{no_demand}
 use Rattle.papergrid_axis.proofs.seen.extend.Given as goal
 
 abbrev pub invariant-loop-singles : goal.invariant-loop-singles

@@ -1,6 +1,6 @@
 use Rattle.std.proofs.Common.{◌≡◌, ◌<◌, ◌^◌, ◌+◌, true, false, ap, ◌∙◌, rules}
 use Rattle.papergrid_axis.specs.Ranges.{demand_of}
-use Rattle.papergrid_axis.specs.Seen.{is_single}
+use Rattle.papergrid_axis.specs.ForProofs.Seen.{is_single}
 use Rattle.papergrid_axis.proofs.SeenLemmas.{Holds-other, Holds-single}
 use Rattle.papergrid_axis.proofs.seen.keep.Goals as goal
 use Rattle.papergrid_axis.proofs.seen.keep.Goals.{then-span-eq1+then-demand-seen+in_ok-raise, else-span-eq1+in_ok-push, else-span-eq1-via-then-span-eq1+else-demand-seen, else-span-eq1-via-else-span-eq1}

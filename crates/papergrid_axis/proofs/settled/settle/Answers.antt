@@ -4,7 +4,7 @@ use Rattle.std.proofs.lemmas.List.{with_items_is}
 use Rattle.papergrid_axis.specs.declared.demand.Demand.{Demand}
 use Rattle.papergrid_axis.specs.Chosen.{growing}
 use Rattle.papergrid_axis.specs.Ranges.{all_lines, line_at, lines_to}
-use Rattle.papergrid_axis.specs.Seen.{no_demand}
+use Rattle.papergrid_axis.specs.ForProofs.Seen.{no_demand}
 use Rattle.papergrid_axis.specs.Sizes.{base_sizes, grown, taken}
 use Rattle.papergrid_axis.proofs.Greatest.{length-base_sizes}
 use Rattle.papergrid_axis.proofs.OutLemmas.{table_demands}

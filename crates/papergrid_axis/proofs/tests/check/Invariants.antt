@@ -1,4 +1,4 @@
-use Rattle.papergrid_axis.specs.Checks.{AreBounded}
+use Rattle.papergrid_axis.specs.ForProofs.Checks.{AreBounded}
 use Rattle.papergrid_axis.proofs.tests.check.Given as goal
 
 abbrev pub invariant-loop-row : goal.invariant-loop-row

@@ -1,6 +1,6 @@
 use Rattle.std.proofs.Common.{List}
 use Rattle.papergrid_axis.specs.declared.demand.Demand.{Demand}
-use Rattle.papergrid_axis.specs.Seen.{Holds}
+use Rattle.papergrid_axis.specs.ForProofs.Seen.{Holds}
 use Rattle.papergrid_axis.proofs.tests.seen.Given as goal
 
 abbrev pub invariant-loop-row : goal.invariant-loop-row

@@ -1,7 +1,7 @@
 use Rattle.std.proofs.Common.{◌≡◌, ◌∙◌, ap, ap₂, sym, refl, subst, length, map}
 use Rattle.std.proofs.lemmas.Bool.{false≢true}
 use Rattle.papergrid_axis.specs.Chosen.{chosen}
-use Rattle.papergrid_axis.specs.LastCells.{AreExact, IsLaminar}
+use Rattle.papergrid_axis.specs.ForProofs.LastCells.{AreExact, IsLaminar}
 use Rattle.papergrid_axis.specs.Ranges.{place_of}
 use Rattle.papergrid_axis.proofs.Theorems.{table-taken, table-growing, Fits-sizes_of}
 use Rattle.papergrid_axis.proofs.WitnessLemmas.{AreChosen-from_laminar, AreExact-settled, NoneChosen-unless_laminar, IsLaminar-growers}

@@ -1,7 +1,7 @@
 use Rattle.std.proofs.Common.{subst, sym}
 use Rattle.papergrid_walk.specs.Looks.{spanned_look}
 use Rattle.papergrid_walk.specs.Measures.{line_measure}
-use Rattle.papergrid_walk.specs.Pairs.{AreBothSeen}
+use Rattle.papergrid_walk.specs.ForProofs.Pairs.{AreBothSeen}
 use Rattle.papergrid_layout.specs.Witnesses.{IsCertified}
 use Rattle.papergrid_layout.proofs.AnswerLemmas.{unless}
 use Rattle.papergrid_layout.proofs.certified.certified_sizes.Goals as goal

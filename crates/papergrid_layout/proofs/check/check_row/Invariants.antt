@@ -1,5 +1,5 @@
 use Rattle.std.proofs.Common.{◌≡◌, length}
-use Rattle.papergrid_axis.specs.Checks.{AreBounded}
+use Rattle.papergrid_axis.specs.ForProofs.Checks.{AreBounded}
 use Rattle.papergrid_walk.specs.Cells.{asked_by, placed_row}
 use Rattle.papergrid_layout.specs.Witnesses.{ChecksMore}
 use Rattle.papergrid_layout.proofs.check.check_row.Given as goal

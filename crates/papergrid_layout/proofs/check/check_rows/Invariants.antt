@@ -1,7 +1,7 @@
 use Rattle.std.proofs.Common.{◌≡◌, length}
 use Rattle.std.specs.List.{AllZip}
 use Rattle.papergrid_text.specs.Records.{Gives}
-use Rattle.papergrid_axis.specs.Checks.{AreBounded}
+use Rattle.papergrid_axis.specs.ForProofs.Checks.{AreBounded}
 use Rattle.papergrid_walk.specs.Cells.{demands_of}
 use Rattle.papergrid_layout.specs.Witnesses.{ChecksBy}
 use Rattle.papergrid_layout.proofs.check.check_rows.Given as goal

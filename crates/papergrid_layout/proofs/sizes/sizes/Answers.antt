@@ -1,5 +1,5 @@
 use Rattle.std.proofs.Common.{◌∙◌, subst, sym}
-use Rattle.papergrid_axis.specs.Seen.{IsSeen}
+use Rattle.papergrid_axis.specs.ForProofs.Seen.{IsSeen}
 use Rattle.papergrid_walk.specs.Cells.{count_along, demands_of}
 use Rattle.papergrid_layout.proofs.AnswerLemmas.{sized, unless}
 use Rattle.papergrid_layout.proofs.sizes.sizes.Goals as goal

@@ -1,7 +1,7 @@
 use Rattle.std.proofs.Common.{◌∙◌, Global, subst, sym}
 use Rattle.std.specs.Prelude.{Ok}
 use Rattle.papergrid_axis.specs.Answers.{IsRefused, IsWitness}
-use Rattle.papergrid_axis.specs.Seen.{IsSeen}
+use Rattle.papergrid_axis.specs.ForProofs.Seen.{IsSeen}
 use Rattle.papergrid_walk.specs.Cells.{count_along, demands_of}
 use Rattle.papergrid_layout.specs.Answers.{drawn_along}
 use Rattle.papergrid_layout.proofs.AnswerLemmas.{unless_want}

@@ -1,7 +1,7 @@
 use Rattle.std.proofs.Common.{◌+◌, eqb, map}
 use Rattle.std.specs.HashMap.{keys}
 use Rattle.std.specs.Map.Iter.{deref}
-use Rattle.papergrid_tables.specs.LineMarks.{number_along}
+use Rattle.papergrid_tables.specs.ForProofs.LineMarks.{number_along}
 use Rattle.papergrid_tables.proofs.LineMarked.{Marked}
 use Rattle.papergrid_tables.proofs.line_marks.mark_places.Given as goal
 

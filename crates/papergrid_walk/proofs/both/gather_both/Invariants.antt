@@ -2,9 +2,9 @@ use Rattle.std.proofs.Common.{◌≡◌, length}
 use Rattle.std.specs.List.{AllZip}
 use Rattle.papergrid_text.specs.Records.{Gives}
 use Rattle.papergrid_axis.specs.declared.direction.Direction.TheVariants.{Columns, Rows}
-use Rattle.papergrid_axis.specs.Seen.{Holds}
+use Rattle.papergrid_axis.specs.ForProofs.Seen.{Holds}
 use Rattle.papergrid_walk.specs.Cells.{demands_of, limit_along}
-use Rattle.papergrid_walk.specs.Shown.{Shows}
+use Rattle.papergrid_walk.specs.ForProofs.Shown.{Shows}
 use Rattle.papergrid_walk.proofs.both.gather_both.Given as goal
 
 abbrev pub invariant-loop-row : goal.invariant-loop-row

@@ -1,8 +1,8 @@
 use Rattle.std.proofs.Common.{◌≡◌, length}
 use Rattle.papergrid_axis.specs.declared.direction.Direction.TheVariants.{Columns, Rows}
-use Rattle.papergrid_axis.specs.Seen.{Adds}
+use Rattle.papergrid_axis.specs.ForProofs.Seen.{Adds}
 use Rattle.papergrid_walk.specs.Cells.{asked_by, placed_row}
-use Rattle.papergrid_walk.specs.Shown.{Shows}
+use Rattle.papergrid_walk.specs.ForProofs.Shown.{Shows}
 use Rattle.papergrid_walk.proofs.both.visit_row_both.Given as goal
 
 abbrev pub invariant-loop-cell : goal.invariant-loop-cell

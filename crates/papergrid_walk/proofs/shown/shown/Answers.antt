@@ -1,6 +1,6 @@
 use Rattle.std.proofs.Common.{subst, sym}
 use Rattle.std.proofs.lemmas.Result.{IfOk-weaker}
-use Rattle.papergrid_walk.specs.Shown.{Shows}
+use Rattle.papergrid_walk.specs.ForProofs.Shown.{Shows}
 use Rattle.papergrid_walk.proofs.ShownLemmas.{shows_first}
 use Rattle.papergrid_walk.proofs.shown.shown.Goals as goal
 

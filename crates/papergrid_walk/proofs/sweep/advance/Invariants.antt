@@ -1,5 +1,5 @@
 use Rattle.std.proofs.Common.{length, ◌-◌, ◌≤◌}
-use Rattle.papergrid_walk.specs.Levels.{Fits}
+use Rattle.papergrid_walk.specs.ForProofs.Levels.{Fits}
 use Rattle.papergrid_walk.specs.Hidden.{AllBefore, Holds}
 use Rattle.papergrid_walk.proofs.sweep.advance.Given as goal
 

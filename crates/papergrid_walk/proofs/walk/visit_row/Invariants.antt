@@ -1,7 +1,7 @@
 use Rattle.std.proofs.Common.{◌≡◌, length}
-use Rattle.papergrid_axis.specs.Seen.{Adds}
+use Rattle.papergrid_axis.specs.ForProofs.Seen.{Adds}
 use Rattle.papergrid_walk.specs.Cells.{asked_by, placed_row}
-use Rattle.papergrid_walk.specs.Shown.{Shows}
+use Rattle.papergrid_walk.specs.ForProofs.Shown.{Shows}
 use Rattle.papergrid_walk.proofs.walk.visit_row.Given as goal
 
 abbrev pub invariant-loop-cell : goal.invariant-loop-cell

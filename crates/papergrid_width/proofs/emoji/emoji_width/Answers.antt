@@ -4,7 +4,7 @@ use Rattle.std.proofs.lemmas.Str.{chars_from_encodes}
 use Rattle.std.specs.Str.Iter.{chars_rest}
 use Rattle.unicode_width.specs.Width.{is_plain, plain, read_before, str_width}
 use Rattle.unicode_width.proofs.WidthLemmas.{HasRead, HasRead-printable, HasRead-step}
-use Rattle.papergrid_width.specs.Emoji.{state_of}
+use Rattle.papergrid_width.specs.ForProofs.Emoji.{state_of}
 use Rattle.papergrid_width.specs.declared.part.After.TheVariants.{Other}
 use Rattle.papergrid_width.proofs.emoji.emoji_width.Goals as goal
 

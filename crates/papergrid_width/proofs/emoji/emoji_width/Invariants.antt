@@ -1,7 +1,7 @@
 use Rattle.std.proofs.Common.{length}
 use Rattle.std.specs.Prelude.{false}
 use Rattle.std.specs.Str.Iter.{chars_rest}
-use Rattle.papergrid_width.specs.Emoji.{state_of}
+use Rattle.papergrid_width.specs.ForProofs.Emoji.{state_of}
 use Rattle.unicode_width.proofs.WidthLemmas.{HasRead}
 use Rattle.papergrid_width.proofs.emoji.emoji_width.Given as goal
 

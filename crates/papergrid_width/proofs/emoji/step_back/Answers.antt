@@ -1,5 +1,5 @@
 use Rattle.std.proofs.Common.{◌≡◌, Some, sym, ◌∙◌}
-use Rattle.papergrid_width.specs.Parts.{part_of}
+use Rattle.papergrid_width.specs.ForProofs.Parts.{part_of}
 use Rattle.papergrid_width.proofs.StepLemmas.{IsPlainly, adds, emoji_base, modifier_base, plainly_other}
 use Rattle.papergrid_width.proofs.emoji.step_back.Goals as goal
 use Rattle.papergrid_width.proofs.emoji.step_back.Goals.{in_default-via-in-Selector+else-is_emoji_variation_base, in_default-via-in-Modifier+else-is_emoji_modifier_base, in_default-via-in_default}

@@ -5,7 +5,7 @@ use Rattle.std.specs.declared.borrow.CowStr.{CowStr}
 use Rattle.std.proofs.lemmas.List.{length-map, map-set, map-append}
 use Rattle.std.proofs.lemmas.Option.{slice_get-map, slice_get_read}
 use Rattle.papergrid.specs.Scripts.{onto_last}
-use Rattle.papergrid.specs.Seen.{texts_of, table_seen}
+use Rattle.papergrid.specs.ForProofs.Seen.{texts_of, table_seen}
 use Rattle.papergrid.proofs.script.Script.add_cell.Goals as goal
 
 pushed : (rows : List (Vec (CowStr Global) Global)) (row new : Vec (CowStr Global) Global) (text : CowStr Global) → slice_get rows (length rows - 1) ≡ Some row

@@ -1,7 +1,7 @@
 use Rattle.std.proofs.Common.{◌≡◌, map, length}
 use Rattle.std.specs.Prelude.{replicate}
 use Rattle.std.specs.List.{AllZip, fold}
-use Rattle.papergrid_text.specs.ColumnWidths.{widen}
+use Rattle.papergrid_text.specs.ForProofs.ColumnWidths.{widen}
 use Rattle.papergrid_text.specs.Records.{Gives}
 use Rattle.papergrid_text.specs.Text.{text_width}
 use Rattle.papergrid_text.proofs.tests.consumer.widest.Given as goal

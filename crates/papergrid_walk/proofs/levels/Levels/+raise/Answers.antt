@@ -1,5 +1,5 @@
 use Rattle.std.proofs.Common.{refl, ◌/◌, slice_index}
-use Rattle.papergrid_walk.specs.Levels.{end_at}
+use Rattle.papergrid_walk.specs.ForProofs.Levels.{end_at}
 use Rattle.papergrid_walk.proofs.LevelLemmas.{raised-by-level-at}
 use Rattle.papergrid_walk.proofs.levels.Levels.+raise.Goals as goal
 

@@ -1,11 +1,11 @@
 -- How it is decided whether ranges are kept apart: for each number the last cell, of those that are taken, whose range
--- holds it. Only contracts of private functions and proofs speak of this.
+-- holds it.
 use Rattle.std.specs.Prelude.{◌≡◌, ◌≢◌, ◌<◌, ℕ, ◌==◌, false, if◌then◌else◌, cond, ◌⊎◌, List, [], ◌∷◌, length, ⊤, Option, Some, None, slice_index, slice_index_or}
 use Rattle.std.specs.List.{AllByRecursion, list_any}
 use Rattle.papergrid_axis.specs.declared.demand.Demand.{Demand}
 use Rattle.papergrid_axis.specs.Ranges.{holds, AreDisjoint, LiesIn}
 use Rattle.papergrid_axis.specs.Chosen.{exact_single, or_else}
-use Rattle.papergrid_axis.specs.Seen.{no_demand}
+use Rattle.papergrid_axis.specs.ForProofs.Seen.{no_demand}
 
 -- a cell that is taken before another is disjoint from it or lies in its range
 abbrev pub Precedes : Demand → Demand → Type 0

@@ -1,5 +1,4 @@
--- The characters that texts of emoji are made of, and what each adds to the width of what stands after it. Only contracts of
--- private functions and proofs speak of this.
+-- The characters that texts of emoji are made of, and what each adds to the width of what stands after it.
 use Rattle.std.specs.Prelude.{ℕ, Bool, ◌&&◌, ◌||◌, ◌==◌, Option, Some, None, if◌then◌else◌}
 use Rattle.std.specs.Int.{is_in_range}
 use Rattle.papergrid_width.specs.declared.part.Part.{Part}

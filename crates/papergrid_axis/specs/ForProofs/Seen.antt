@@ -1,4 +1,4 @@
--- What a walk over cells keeps of their demands. Only contracts of functions below the public calls and proofs speak of this.
+-- What a walk over cells keeps of their demands.
 use Rattle.std.specs.Prelude.{◌≡◌, ℕ, ◌<◌, ◌≤◌, ◌^◌, ◌&&◌, ◌==◌, Bool, true, false, if◌then◌else◌, not, nat_lt, nat_le, List, ◌++◌, map, filter, find, unwrap_or, All, slice_index_or}
 use Rattle.std.specs.List.{list_any}
 use Rattle.papergrid_axis.specs.declared.demand.Demand.{Demand}

@@ -1,4 +1,4 @@
--- What is known once the cells of longer ranges were taken. Only contracts of private functions and proofs speak of this.
+-- What is known once the cells of longer ranges were taken.
 use Rattle.std.specs.Prelude.{◌≡◌, ℕ, ◌+◌, ◌^◌, ◌<◌, Bool, List, All, sum, Result, Ok, Err}
 use Rattle.papergrid_axis.specs.declared.demand.Demand.{Demand}
 use Rattle.papergrid_axis.specs.declared.error.LayoutError.{LayoutError}

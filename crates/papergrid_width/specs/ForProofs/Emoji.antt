@@ -1,4 +1,4 @@
--- What a step back in a text of emoji is, in the words of `unicode_width`. Only contracts of private functions and proofs speak of this.
+-- What a step back in a text of emoji is, in the words of `unicode_width`.
 use Rattle.std.specs.Prelude.{◌≡◌, ℕ, ◌+◌, true, false}
 use Rattle.unicode_width.specs.Width.{before, plain, step}
 use Rattle.unicode_width.specs.declared.state.After.TheVariants as states

@@ -1,4 +1,4 @@
--- The earlier of two positions. Only contracts of private functions and proofs speak of this.
+-- The earlier of two positions.
 use Rattle.std.specs.Prelude.{◌&&◌, ◌||◌, ◌==◌, nat_lt, if◌then◌else◌, Option, Some, None}
 use Rattle.papergrid_values.specs.declared.position.Position.{Position}
 

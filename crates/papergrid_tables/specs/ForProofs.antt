@@ -1,0 +1,5 @@
+-- What no contract of a public call reaches: only contracts of private functions and proofs speak of it.
+pub mod BorderCodes
+pub mod BorderEq
+pub mod LineMarks
+pub mod OverrideScan
