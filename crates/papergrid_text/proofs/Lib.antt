@@ -1,5 +1,6 @@
 pub mod ColumnWidths
 pub mod Compared
+pub mod Counts
 pub mod Cuts
 pub mod KeptClones
 pub mod Nth

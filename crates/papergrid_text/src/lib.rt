@@ -6,6 +6,7 @@
 #![tactic(auto)]
 
 pub mod cell;
+mod count;
 pub mod iter_records;
 mod kept;
 pub mod laws;
@@ -19,6 +20,7 @@ pub mod text;
 pub mod vec_records;
 
 pub use cell::Cell;
+pub use count::count_byte;
 pub use iter_records::{IterRecords, RowIter};
 pub use kept::StrWithWidth;
 pub use peekable::PeekableRecords;

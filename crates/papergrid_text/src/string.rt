@@ -10,6 +10,7 @@ ghost use Rattle.unicode_width.specs.Width.{char_width};
 ghost use Rattle.papergrid_text.specs.LinesLeft.{lines_left, lines_of_rest};
 ghost use Rattle.papergrid_text.specs.Text.{split_lines, width_of, text_width, text_dimension, is_spaced, in_place_of, tabs_replaced};
 
+use crate::count::count_byte;
 use crate::search::find_byte;
 use papergrid_width::{count_printable, is_printable, width, width_by_characters};
 use std::alloc::{AllocError, Global};
@@ -82,18 +83,6 @@ pub fn count_tabs(text: &str) -> usize
     ensures { result ≡ count_by (λ b. b == 9) text.now }
 {
     count_byte(text.as_bytes(), b'\t')
-}
-
-fn count_byte(bytes: &[u8], byte: u8) -> usize
-    ensures { result ≡ count_by (λ b. b == byte) bytes.now }
-{
-    let mut count = 0usize;
-    for b in bytes {
-        if *b == byte {
-            count += 1;
-        }
-    }
-    count
 }
 
 /// How many columns of a terminal the text takes.

@@ -7,6 +7,7 @@ mod peeks;
 
 use crate::StrWithWidth;
 use crate::cell::Cell;
+use crate::count::count_byte;
 use crate::iter_records::IterRecords;
 use crate::laws::{
     dimension_without_carriage_returns, lines_join_to_text, slice_tells_cells, vector_tells_cells,
@@ -33,6 +34,19 @@ use std::convert::AsStr;
 use std::hash::{DefaultHasher, Hash, Hasher};
 use std::iter::Iterator;
 use std::test::Fail;
+
+#[test]
+fn byte_counts(rt: HostRuntime) -> Result<(), Fail> {
+    let alloc = rt.alloc();
+    let mut newlines = String::new(alloc);
+    for count in 0..66usize {
+        assert_eq!(rt; count_byte(newlines.as_bytes(), b'\n'), count);
+        assert_eq!(rt; count_lines(newlines.as_str()), count + 1);
+        newlines.push('\n')?;
+    }
+    assert_eq!(rt; count_tabs("now is the time for all good men\t"), 1);
+    Ok(())
+}
 
 #[test]
 fn text_measures(rt: HostRuntime) {
