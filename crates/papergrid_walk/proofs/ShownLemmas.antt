@@ -1,11 +1,11 @@
 -- What a walk knows of the visible positions, step by step.
-use Rattle.std.proofs.Common.{◌≡◌, ◌+◌, ℕ, Bool, true, List, [], arith, refl, subst, sym, inl, inr}
-use Rattle.std.proofs.lemmas.Bool.{cases_lt}
+use Rattle.std.proofs.Common.{◌≡◌, ◌+◌, ℕ, Bool, true, List, [], arith, refl, subst, sym}
 use Rattle.std.proofs.lemmas.Option.{none-some}
 use Rattle.papergrid_values.specs.declared.position.Position.{Position}
 use Rattle.papergrid_walk.specs.declared.anchor.Anchor.{Anchor}
 use Rattle.papergrid_values.specs.Positions.{IsBefore}
 use Rattle.papergrid_walk.specs.Hidden.{IsAhead, Walk}
+use Rattle.papergrid_walk.proofs.HiddenLemmas.{before-from}
 use Rattle.papergrid_walk.specs.ForProofs.Shown.{AreAnchorsOf, Shows}
 
 -- the start of a walk
@@ -18,10 +18,7 @@ pub shows_later : (shows : Position → Bool) (old new : Walk) (p : Position) �
     ((q : Position) → IsBefore p q → IsAhead new q) → Shows shows old p.row p.col → Shows shows new p.row (p.col + 1)
 shows_later shows old new p same later so_far = record {
   anchors = subst (AreAnchorsOf shows) (sym same) so_far.anchors;
-  ahead = λ q below right. later q (elim (cases_lt p.row q.row) [
-    | inl above ↦ inl above
-    | inr level ↦ let e : p.row ≡ q.row = omega (arith, below) in let k = right e in inr (e, omega (arith, k))
-  ]);
+  ahead = λ q below right. later q (before-from p q below (λ e. let k = right e in omega (arith, k)));
 }
 
 -- the next row

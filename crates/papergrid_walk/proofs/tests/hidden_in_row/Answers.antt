@@ -1,4 +1,5 @@
 use Rattle.std.proofs.Common.{arith, ◌∙◌, refl}
+use Rattle.papergrid_walk.proofs.HiddenLemmas.{before-from}
 use Rattle.papergrid_walk.proofs.tests.hidden_in_row.Goals as goal
 
 pub loop-col-init : goal.loop-col-init
@@ -10,7 +11,7 @@ is_hidden-requires-clause-ahead c = c.loop-col.invariant.1 _ (omega arith) (λ e
 pub loop-col-preserved : goal.loop-col-preserved
 loop-col-preserved c = (
   c.is_hidden.ensures.columns ∙ c.loop-col.invariant.0,
-  λ q h k. c.is_hidden.ensures.later q (record { rows = h; cols = λ e. omega (arith, k e) }),
+  λ q h k. c.is_hidden.ensures.later q (before-from _ q h (λ e. omega (arith, k e))),
 )
 
 pub returns-clause-ahead : goal.returns-clause-ahead
