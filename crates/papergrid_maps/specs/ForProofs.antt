@@ -1,2 +1,2 @@
--- What no contract of a public call reaches: only contracts of private functions and proofs speak of it.
+-- What no contract of the facade's calls reaches, and no law: only contracts of functions below them and proofs speak of it.
 pub mod SpanEq
