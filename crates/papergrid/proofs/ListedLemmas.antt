@@ -13,8 +13,8 @@ use Rattle.papergrid_values.specs.declared.indent.Indent.{Indent}
 use Rattle.papergrid_values.specs.declared.position.Position.{Position}
 use Rattle.papergrid_values.specs.declared.sides.Sides.{Sides}
 use Rattle.papergrid_values.specs.declared.vertical_line.VerticalLine.{VerticalLine}
-use Rattle.papergrid_axis.specs.declared.direction.Direction.{Direction}
-use Rattle.papergrid_axis.specs.declared.direction.Direction.TheVariants.{Columns, Rows}
+use Rattle.papergrid_values.specs.declared.direction.Direction.{Direction}
+use Rattle.papergrid_values.specs.declared.direction.Direction.TheVariants.{Columns, Rows}
 use Rattle.papergrid_tables.specs.BorderCalls.{BorderCall}
 use Rattle.papergrid_tables.specs.BorderHeld.{HeldBorders}
 use Rattle.papergrid_tables.specs.Keys.{position_cmp}
@@ -171,16 +171,16 @@ module _ (calls : List SpanCall) where
   anchors = flat_map named_anchors (reverse calls)
 
   abbrev pub column_spans_listed : List (Position × ℕ)
-  column_spans_listed = listed position_cmp (λ p. from_two (decided_span spans.Columns p calls)) anchors
+  column_spans_listed = listed position_cmp (λ p. from_two (decided_span Columns p calls)) anchors
 
   abbrev pub row_spans_listed : List (Position × ℕ)
-  row_spans_listed = listed position_cmp (λ p. from_two (decided_span spans.Rows p calls)) anchors
+  row_spans_listed = listed position_cmp (λ p. from_two (decided_span Rows p calls)) anchors
 
   column_spans_are : entries (spans_made calls).columns ≡ column_spans_listed
-  column_spans_are = entries-tabulated position_cmp position_total (λ p. from_two (decided_span spans.Columns p calls)) anchors
+  column_spans_are = entries-tabulated position_cmp position_total (λ p. from_two (decided_span Columns p calls)) anchors
 
   row_spans_are : entries (spans_made calls).rows ≡ row_spans_listed
-  row_spans_are = entries-tabulated position_cmp position_total (λ p. from_two (decided_span spans.Rows p calls)) anchors
+  row_spans_are = entries-tabulated position_cmp position_total (λ p. from_two (decided_span Rows p calls)) anchors
 
   made_shows : (p : Position) → is_visible (spans_made calls) p ≡ shows_by column_spans_listed row_spans_listed p
   made_shows p = shows-entries (spans_made calls) p ∙ (λ i. shows_by (column_spans_are i) (row_spans_are i) p)

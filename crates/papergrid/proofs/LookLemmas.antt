@@ -3,8 +3,8 @@ use Rattle.std.proofs.Common.{◌≡◌, ◌≤◌, ℕ, Bool, true, false, List
 use Rattle.std.specs.Prelude.{Result, flat_map, unwrap_or}
 use Rattle.std.proofs.lemmas.Bool.Decides.{nat_tests}
 use Rattle.papergrid_values.specs.declared.position.Position.{Position}
-use Rattle.papergrid_axis.specs.declared.direction.Direction.{Direction}
-use Rattle.papergrid_axis.specs.declared.direction.Direction.TheVariants.{Columns, Rows}
+use Rattle.papergrid_values.specs.declared.direction.Direction.{Direction}
+use Rattle.papergrid_values.specs.declared.direction.Direction.TheVariants.{Columns, Rows}
 use Rattle.papergrid_axis.specs.declared.error.LayoutError.{LayoutError}
 use Rattle.papergrid_maps.specs.MapHeld.{held_value}
 use Rattle.papergrid_maps.specs.Spans as spans
@@ -48,8 +48,8 @@ one_at_least n = by_test (nat_le 2 n) refl
     by_test false e = rw e (omega arith)
 
 spans_cover : (settings : List Setting) (direction : Direction) (p : Position) → 1 ≤ span_along (spans_of settings) direction p
-spans_cover settings Columns p = rw (spans_made_told (flat_map span_calls settings) spans.Columns p) (one_at_least (spans.decided_span spans.Columns p (flat_map span_calls settings)))
-spans_cover settings Rows p = rw (spans_made_told (flat_map span_calls settings) spans.Rows p) (one_at_least (spans.decided_span spans.Rows p (flat_map span_calls settings)))
+spans_cover settings Columns p = rw (spans_made_told (flat_map span_calls settings) Columns p) (one_at_least (spans.decided_span Columns p (flat_map span_calls settings)))
+spans_cover settings Rows p = rw (spans_made_told (flat_map span_calls settings) Rows p) (one_at_least (spans.decided_span Rows p (flat_map span_calls settings)))
 
 pub look_covers : (settings : List Setting) (direction : Direction) (p : Position) → 1 ≤ (look_of settings).span direction p
 unfolding look_of

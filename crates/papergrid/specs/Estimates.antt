@@ -2,8 +2,8 @@
 -- that the sizes are least; or why there are none.
 use Rattle.std.specs.Prelude.{ℕ, ◌+◌, ◌^◌, ◌||◌, List, length, sum, Option, Some, None, nat_le, if◌then◌else◌}
 use Rattle.papergrid_values.specs.declared.position.Position.{Position}
-use Rattle.papergrid_axis.specs.declared.direction.Direction.{Direction}
-use Rattle.papergrid_axis.specs.declared.direction.Direction.TheVariants.{Columns, Rows}
+use Rattle.papergrid_values.specs.declared.direction.Direction.{Direction}
+use Rattle.papergrid_values.specs.declared.direction.Direction.TheVariants.{Columns, Rows}
 use Rattle.papergrid_config.specs.Lines.{count_lines}
 use Rattle.papergrid_walk.specs.Looks.{Look}
 use Rattle.papergrid_walk.specs.Measures.{line_measure}

@@ -1,7 +1,7 @@
 //! The sizes of a table, its totals with lines, and the cells that certify the sizes.
 
 ghost use Rattle.std.specs.Prelude.{◌≡◌, ◌+◌, ◌<◌, ◌^◌, List, length, sum};
-ghost use Rattle.papergrid_axis.specs.declared.direction.Direction.TheVariants.{Columns, Rows};
+ghost use Rattle.papergrid_values.specs.declared.direction.Direction.TheVariants.{Columns, Rows};
 ghost use Rattle.papergrid_walk.specs.Looks.{spanned_look};
 ghost use Rattle.papergrid_walk.specs.Measures.{line_measure};
 ghost use Rattle.papergrid.specs.Estimates.{estimate_by, total_along};

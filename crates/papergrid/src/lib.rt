@@ -40,7 +40,7 @@ pub mod config {
 
     /// The settings of a table.
     pub mod spanned {
-        pub use papergrid_config::{EntityMap, MapCall, Rising, Setting, SpannedConfig, Stopped};
+        pub use papergrid_config::{EntityMap, MapCall, Setting, SpannedConfig, Stopped};
     }
 }
 

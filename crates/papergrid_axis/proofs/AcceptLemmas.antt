@@ -11,11 +11,12 @@ use Rattle.std.proofs.lemmas.List.Elements.{All-contains, recursion_from_All, Al
 use Rattle.papergrid_values.specs.declared.position.Position.{Position}
 use Rattle.papergrid_axis.specs.declared.checked.Checked.{Checked}
 use Rattle.papergrid_axis.specs.declared.demand.Demand.{Demand}
-use Rattle.papergrid_axis.specs.declared.direction.Direction.{Direction}
+use Rattle.papergrid_values.specs.declared.direction.Direction.{Direction}
 use Rattle.papergrid_axis.specs.Answers.{IsAccepted}
 use Rattle.papergrid_axis.specs.ForProofs.Checks.{AreApartAt, AreDistinct, Checks, SumsAgree, all_listed, stands_at, times_listed}
 use Rattle.papergrid_axis.specs.Fits.{IsLeast}
-use Rattle.papergrid_axis.specs.Ranges.{AreDisjoint, IsInTable, along, demand_of, end_of, inner_lines, place_of}
+use Rattle.papergrid_values.specs.Positions.{along}
+use Rattle.papergrid_axis.specs.Ranges.{AreDisjoint, IsInTable, demand_of, end_of, inner_lines, place_of}
 use Rattle.papergrid_axis.proofs.Duality.{IsLeast-from_certificate}
 use Rattle.papergrid_axis.proofs.OutLemmas.{none_out}
 use Rattle.papergrid_axis.proofs.RangeLemmas.{Apart-from_AllPairs, outside, partition}

@@ -5,10 +5,10 @@ use Rattle.std.specs.List.Sorted.{IsNonDecreasingBy, IsPartitionPoint}
 use Rattle.std.proofs.lemmas.Bool.{and_parts, cases_Bool, cases_eq, eqb-true, ltb-true, ltb-false}
 use Rattle.std.proofs.lemmas.List.Sums.{sum_by-cons}
 use Rattle.papergrid_values.specs.declared.position.Position.{Position}
-use Rattle.papergrid_axis.specs.declared.direction.Direction.{Direction}
-use Rattle.papergrid_axis.specs.declared.direction.Direction.TheVariants.{Columns, Rows}
-use Rattle.papergrid_axis.specs.ForProofs.Checks.{AreApartAt, AreInOrder, AreRising}
-use Rattle.papergrid_axis.specs.Ranges.{along}
+use Rattle.papergrid_values.specs.declared.direction.Direction.{Direction}
+use Rattle.papergrid_values.specs.declared.direction.Direction.TheVariants.{Columns, Rows}
+use Rattle.papergrid_axis.specs.ForProofs.Checks.{AreApartAt, AreInOrder}
+use Rattle.papergrid_values.specs.Positions.{AreRising, along}
 
 -- one more place, where each is related to the next
 module _ (R : Position → Position → Type 0) (R-trans : (p q r : Position) → R p q → R q r → R p r) (places : List Position) (i : ℕ) (one : 1 ≤ i)

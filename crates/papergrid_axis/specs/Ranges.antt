@@ -5,13 +5,8 @@ use Rattle.std.specs.Prelude.{ℕ, ◌+◌, ◌-◌, ◌≤◌, Bool, false, ◌
 use Rattle.std.specs.List.{range_with_len}
 use Rattle.papergrid_values.specs.declared.position.Position.{Position}
 use Rattle.papergrid_axis.specs.declared.demand.Demand.{Demand}
-use Rattle.papergrid_axis.specs.declared.direction.Direction.{Direction}
-use Rattle.papergrid_axis.specs.declared.direction.Direction.TheVariants.{Columns, Rows}
-
--- the number of a place's column, or of its row
-abbrev pub along : Direction → Position → ℕ
-along Columns place = place.col
-along Rows place = place.row
+use Rattle.papergrid_values.specs.declared.direction.Direction.{Direction}
+use Rattle.papergrid_values.specs.Positions.{along}
 
 -- what the cell at a place asks for along a direction, by its span and its need
 abbrev pub demand_of : Direction → Position → ℕ → ℕ → Demand

@@ -4,9 +4,7 @@ ghost use Rattle.std.specs.Prelude.{◌+◌, ◌≤◌, ◌↔◌, All, AllPairs
 ghost use Rattle.papergrid_axis.specs.ForProofs.Checks.{AreApartAt};
 
 use crate::axis::Axis;
-use crate::direction::Direction;
-use crate::seen::number_of;
-use papergrid_values::Position;
+use papergrid_values::{Direction, Position};
 
 /// Whether a range ends at or before a number.
 pub fn ends_by(start: usize, span: usize, number: usize) -> bool
@@ -19,8 +17,8 @@ pub fn ends_by(start: usize, span: usize, number: usize) -> bool
 fn are_disjoint<A: Axis>(direction: Direction, axis: &A, a: Position, b: Position) -> bool
     ensures { IsTrue result ↔ AreApartAt direction (A.span_of axis.now) a b }
 {
-    let first = number_of(direction, a);
-    let second = number_of(direction, b);
+    let first = direction.number_of(a);
+    let second = direction.number_of(b);
     ends_by(first, axis.span(a), second) || ends_by(second, axis.span(b), first)
 }
 

@@ -3,7 +3,7 @@
 ghost use Rattle.std.specs.Prelude.{ℕ, Bool, ◌==◌, ◌&&◌, ◌*◌, ◌-◌, true, false, ◌≡◌, ◌+◌, ◌<◌, ◌≤◌, ◌^◌, ◌↔◌, ◌∷◌, ◌++◌, [], IfNone, IfSome, IsTrue, List, length, sum};
 ghost use Rattle.papergrid_values.specs.declared.position.Position.{Position};
 ghost use Rattle.papergrid_axis.specs.declared.demand.Demand.{Demand};
-ghost use Rattle.papergrid_axis.specs.declared.direction.Direction.{Direction};
+ghost use Rattle.papergrid_values.specs.declared.direction.Direction.{Direction};
 ghost use Rattle.papergrid_axis.specs.ForProofs.Checks.{AreBounded, AreDistinct, Checks, IsClaim, SumsAgree, range_of};
 ghost use Rattle.papergrid_axis.specs.Answers.{IsAccepted};
 ghost use Rattle.papergrid_axis.specs.Fits.{HasRoom, IsLeast};
@@ -11,7 +11,6 @@ ghost use Rattle.papergrid_axis.specs.Ranges.{demand_of, inner_lines, lines_to};
 
 use crate::axis::Axis;
 use crate::claim::{Claim, are_disjoint, count_listed};
-use crate::seen::number_of;
 use papergrid_values::Position;
 
 /// What is kept of the visible cells met so far: whether all of them have room in the table, and of
@@ -153,7 +152,7 @@ pub fn visit<A: Axis>(
     if !checked.holds {
         return failed(checked);
     }
-    let start = number_of(claim.direction, place);
+    let start = claim.direction.number_of(place);
     let times = count_listed(claim, place);
     match room(axis, claim.sizes, start, span, need) {
         Some(inner) => {

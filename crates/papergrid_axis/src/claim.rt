@@ -1,14 +1,12 @@
 //! What a checker is given.
 
 ghost use Rattle.std.specs.Prelude.{◌≡◌, ◌↔◌, ◌&&◌, ◌==◌, AllPairs, IsTrue, count_by, nat_lt, true};
-ghost use Rattle.papergrid_axis.specs.ForProofs.Checks.{AreApartAt, AreInOrder, AreRising, IsClaim};
-ghost use Rattle.papergrid_axis.specs.Ranges.{along};
+ghost use Rattle.papergrid_axis.specs.ForProofs.Checks.{AreApartAt, AreInOrder, IsClaim};
+ghost use Rattle.papergrid_values.specs.Positions.{AreRising, along};
 
 use crate::apart::{are_apart, ends_by};
 use crate::axis::Axis;
-use crate::direction::Direction;
-use crate::seen::number_of;
-use papergrid_values::Position;
+use papergrid_values::{Direction, Position};
 
 /// Sizes along a direction, and the places of cells that are to certify that they are least.
 #[derive(Clone, Copy, Debug)]
@@ -26,9 +24,9 @@ fn is_before<A: Axis>(direction: Direction, axis: &A, place: Position, later: Po
     ensures { IsTrue result ↔ AreInOrder direction (A.span_of axis.now) place later }
 {
     ends_by(
-        number_of(direction, place),
+        direction.number_of(place),
         axis.span(place),
-        number_of(direction, later),
+        direction.number_of(later),
     )
 }
 
@@ -65,11 +63,11 @@ fn count_rising(direction: Direction, places: &[Position], place: Position) -> u
     requires { AllPairs (AreRising direction) places.now }
     ensures { result ≡ count_by (λ p. place.row == p.row && place.col == p.col) places.now }
 {
-    let start = number_of(direction, place);
+    let start = direction.number_of(place);
     let at = places.partition_point(
         |listed: &Position| -> bool
             ensures { result ≡ nat_lt (along direction listed.now) start }
-        { number_of(direction, *listed) < start },
+        { direction.number_of(*listed) < start },
     );
     if at >= places.len() {
         return 0;

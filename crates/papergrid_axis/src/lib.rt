@@ -9,7 +9,6 @@ mod chosen;
 pub mod claim;
 pub mod conclude;
 pub mod demand;
-pub mod direction;
 pub mod error;
 mod growers;
 mod last_cells;
@@ -22,7 +21,6 @@ pub use axis::Axis;
 pub use checked::Checked;
 pub use claim::Claim;
 pub use demand::Demand;
-pub use direction::Direction;
 pub use error::LayoutError;
 pub use seen::Seen;
 

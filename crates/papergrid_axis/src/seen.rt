@@ -3,11 +3,11 @@
 ghost use Rattle.std.specs.Prelude.{◌≡◌, ◌+◌, ◌<◌, ◌≤◌, ◌^◌, ℕ, [], ◌∷◌, OnOk, length, slice_index_or};
 ghost use Rattle.std.specs.Option.{SomeIff};
 ghost use Rattle.papergrid_axis.specs.ForProofs.Seen.{Adds, Holds, kept_for, no_demand};
-ghost use Rattle.papergrid_axis.specs.Ranges.{along, demand_of};
+ghost use Rattle.papergrid_values.specs.Positions.{along};
+ghost use Rattle.papergrid_axis.specs.Ranges.{demand_of};
 
 use crate::demand::Demand;
-use crate::direction::Direction;
-use papergrid_values::Position;
+use papergrid_values::{Direction, Position};
 use std::alloc::{AllocError, Global};
 
 /// What the visible cells met so far ask for: of those that cover one column (row) alone, for each
@@ -55,16 +55,6 @@ pub fn single_at(singles: &[Demand], i: usize) -> Demand
         singles[i]
     } else {
         NO_DEMAND
-    }
-}
-
-/// The number of a place's column (row).
-pub fn number_of(direction: Direction, position: Position) -> usize
-    ensures { result ≡ along direction position }
-{
-    match direction {
-        Direction::Columns => position.col,
-        Direction::Rows => position.row,
     }
 }
 
@@ -120,7 +110,7 @@ pub fn keep(
     let demand = Demand {
         row: position.row,
         col: position.col,
-        start: number_of(direction, position),
+        start: direction.number_of(position),
         span,
         need: need.unwrap_or(usize::MAX),
     };

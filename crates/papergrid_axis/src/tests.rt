@@ -9,11 +9,10 @@ use crate::axis::Axis;
 use crate::checked::{Checked, accepts, visit, wide_need};
 use crate::claim::{Claim, are_in_order};
 use crate::conclude::{conclude, conclude_certified};
-use crate::direction::Direction;
-use crate::direction::Direction::{Columns, Rows};
 use crate::laws::{certified_are_least, sizes_by_needs, worked_rows};
 use crate::seen::{Seen, keep};
-use papergrid_values::Position;
+use papergrid_values::Direction::{Columns, Rows};
+use papergrid_values::{Direction, Position};
 use std::alloc::{AllocError, Global};
 use std::test::Fail;
 

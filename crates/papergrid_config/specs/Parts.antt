@@ -1,5 +1,6 @@
 -- The part of a configuration to which each setting belongs, as a call of that part.
 use Rattle.std.specs.Prelude.{ℕ, Bool, List, [], ◌∷◌, Option}
+use Rattle.papergrid_values.specs.declared.direction.Direction.TheVariants.{Columns, Rows}
 use Rattle.papergrid_values.specs.declared.alignment.AlignmentHorizontal.{AlignmentHorizontal}
 use Rattle.papergrid_values.specs.declared.alignment.AlignmentVertical.{AlignmentVertical}
 use Rattle.papergrid_values.specs.declared.ansi_buf.ANSIBuf.{ANSIBuf}
@@ -101,10 +102,10 @@ vertical_color_calls other = []
 -- ---- spans
 
 abbrev pub span_calls : Setting → List spans.SpanCall
-span_calls (SetColumnSpan pos n) = spans.SetSpan spans.Columns pos n ∷ []
-span_calls (SetRowSpan pos n) = spans.SetSpan spans.Rows pos n ∷ []
-span_calls RemoveColumnSpans = spans.RemoveSpans spans.Columns ∷ []
-span_calls RemoveRowSpans = spans.RemoveSpans spans.Rows ∷ []
+span_calls (SetColumnSpan pos n) = spans.SetSpan Columns pos n ∷ []
+span_calls (SetRowSpan pos n) = spans.SetSpan Rows pos n ∷ []
+span_calls RemoveColumnSpans = spans.RemoveSpans Columns ∷ []
+span_calls RemoveRowSpans = spans.RemoveSpans Rows ∷ []
 span_calls other = []
 
 -- ---- values of the whole table

@@ -8,16 +8,10 @@ ghost use Rattle.papergrid_tables.specs.Places.{HasHorizontal, HasVertical, foun
 ghost use Rattle.papergrid_config.specs.Lines.{count_lines, line_at, shown_horizontal, shown_intersection, shown_vertical};
 
 use crate::spanned::SpannedConfig;
-use papergrid_values::{ANSIBuf, Position};
+use papergrid_values::{ANSIBuf, Direction, Position};
 
 // How many lines are marked in one look at what is held.
 const WINDOW: usize = 256;
-
-#[derive(Clone, Copy)]
-enum Direction {
-    Vertical,
-    Horizontal,
-}
 
 // A table of n columns has its vertical lines at 0 to n, and one of n rows its horizontal lines.
 impl SpannedConfig {
@@ -101,7 +95,7 @@ impl SpannedConfig {
         requires { count < 2 ^ 64 - 1 }
         ensures { result ≡ count_lines (λ col. vertical_line_at self.now.characters col count) count }
     {
-        self.count_marked(Direction::Vertical, count)
+        self.count_marked(Direction::Columns, count)
     }
 
     /// How many horizontal lines a table of so many rows has. Condition: their number is below the
@@ -110,7 +104,7 @@ impl SpannedConfig {
         requires { count < 2 ^ 64 - 1 }
         ensures { result ≡ count_lines (λ row. horizontal_line_at self.now.characters row count) count }
     {
-        self.count_marked(Direction::Horizontal, count)
+        self.count_marked(Direction::Rows, count)
     }
 
     // Counts the lines a window at a time: what the table holds is looked at once for each window.
@@ -151,8 +145,8 @@ impl SpannedConfig {
         ensures marks { EachIndex marks.new (λ k. slice_index_or marks.new k false ≡ line_at direction self.now.characters (first + k) count) }
     {
         match direction {
-            Direction::Vertical => self.characters.mark_vertical(first, count, marks),
-            Direction::Horizontal => self.characters.mark_horizontal(first, count, marks),
+            Direction::Columns => self.characters.mark_vertical(first, count, marks),
+            Direction::Rows => self.characters.mark_horizontal(first, count, marks),
         }
     }
 }

@@ -14,9 +14,7 @@ pub mod setting;
 pub mod spanned;
 mod spans;
 
-pub use papergrid_maps::{
-    Colors, CompactConfig, EntityMap, MapCall, NoColor, NoColors, Rising, Stopped,
-};
+pub use papergrid_maps::{Colors, CompactConfig, EntityMap, MapCall, NoColor, NoColors, Stopped};
 pub use setting::Setting;
 pub use spanned::SpannedConfig;
 

@@ -1,18 +1,17 @@
 //! Spans, and which cells they hide. Source: `config/spanned/mod.rs`.
 
-ghost use Rattle.std.specs.Prelude.{◌≡◌, ◌∷◌, [], ◌↔◌, ◌<◌, ◌≤◌, All, OnOk, OnErr, IfOk, IfSome, IsOk, IsTrue};
+ghost use Rattle.std.specs.Prelude.{◌≡◌, ◌∷◌, [], ◌↔◌, ◌<◌, ◌≤◌, All, AllPairs, OnOk, OnErr, IfOk, IfSome, IsOk, IsTrue};
 ghost use Rattle.std.specs.HashMap.{get as map_get};
 ghost use Rattle.std.specs.FinMap.{get as value_at};
+ghost use Rattle.papergrid_values.specs.Positions.{AreRising};
 ghost use Rattle.papergrid_values.specs.declared.position.Position.{Position};
 ghost use Rattle.papergrid_tables.specs.Keys.{position_eq};
-ghost use Rattle.papergrid_maps.specs.SpanScan.{IsRising};
 ghost use Rattle.papergrid_maps.specs.Spans.{HasSpan, IsCoveredByBoth, IsCoveredByColumn, IsCoveredByRow, IsVisible, column_span, is_visible, row_span};
 ghost use Rattle.papergrid_config.specs.Told.{Appends};
 ghost use Rattle.papergrid_config.specs.declared.setting.Setting.{Setting};
 
 use crate::spanned::SpannedConfig;
-use papergrid_maps::Rising;
-use papergrid_values::Position;
+use papergrid_values::{Direction, Position};
 use std::alloc::AllocError;
 use std::collections::HashMap;
 
@@ -113,12 +112,12 @@ impl SpannedConfig {
     }
 
     /// Whether all of the positions are visible. Each span is looked at once. Condition: the columns
-    /// of the positions rise, or their rows, as `rising` says.
-    pub fn are_cells_visible(&self, rising: Rising, places: &[Position]) -> bool
-        requires { IsRising rising places.now }
+    /// of the positions rise, or their rows, as `direction` says.
+    pub fn are_cells_visible(&self, direction: Direction, places: &[Position]) -> bool
+        requires { AllPairs (AreRising direction) places.now }
         ensures { IsTrue result ↔ All (λ p. IsTrue (is_visible self.now.spans p)) places.now }
     {
-        self.spans.are_visible(rising, places)
+        self.spans.are_visible(direction, places)
     }
 
     /// Whether the position stands right of an anchor, in its row and its rectangle.

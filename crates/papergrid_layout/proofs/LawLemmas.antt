@@ -6,12 +6,13 @@ use Rattle.std.proofs.lemmas.Grind.{flat_map-append}
 use Rattle.std.proofs.lemmas.List.{append_assoc, append-nil, length-map, reverse-append}
 use Rattle.std.proofs.lemmas.List.Concat.{flat_map-cons}
 use Rattle.std.proofs.lemmas.List.Elements.{All-head, All-tail, filter-append}
+use Rattle.papergrid_values.specs.declared.direction.Direction.TheVariants.{Columns, Rows}
 use Rattle.papergrid_values.specs.declared.position.Position.{Position}
 use Rattle.papergrid_text.specs.Kept.{answered_lines}
 use Rattle.papergrid_text.specs.Measured.{Measured}
 use Rattle.papergrid_text.specs.Text.{split_lines, with_width}
 use Rattle.papergrid_text.proofs.Widths.{all_answered}
-use Rattle.papergrid_axis.specs.declared.direction.Direction.{Direction}
+use Rattle.papergrid_values.specs.declared.direction.Direction.{Direction}
 use Rattle.papergrid_axis.specs.Ranges.{demand_of}
 use Rattle.papergrid_tables.specs.Keys.{position_eq}
 use Rattle.papergrid_tables.specs.Made.{borders_made}
@@ -112,13 +113,13 @@ turned true false m n rest h = refl
 turned false true m n rest h = refl
 turned false false m n rest h = refl
 
-module _ (d : spans.Direction) (r : Position) where
+module _ (d : Direction) (r : Position) where
   span_from-tail : (newer xs ys : List SpanCall) → span_from d r xs ≡ span_from d r ys → span_from d r (newer ++ xs) ≡ span_from d r (newer ++ ys)
   span_from-tail [] xs ys e = e
   span_from-tail (RemoveSpans e ∷ newer) xs ys same = ap (λ v. if is_same_direction e d then 1 else v) (span_from-tail newer xs ys same)
   span_from-tail (SetSpan e q n ∷ newer) xs ys same = ap (λ v. if is_same_direction e d && (nat_le 1 n && position_eq q r) then n else v) (span_from-tail newer xs ys same)
 
-  turned_calls : (e f : spans.Direction) (p q : Position) (m n : ℕ) (older : List SpanCall) → (p ≡ q → ⊥) →
+  turned_calls : (e f : Direction) (p q : Position) (m n : ℕ) (older : List SpanCall) → (p ≡ q → ⊥) →
       span_from d r (SetSpan e p m ∷ SetSpan f q n ∷ older) ≡ span_from d r (SetSpan f q n ∷ SetSpan e p m ∷ older)
   turned_calls e f p q m n older differ =
       turned (is_same_direction e d && (nat_le 1 m && position_eq p r)) (is_same_direction f d && (nat_le 1 n && position_eq q r)) m n (span_from d r older)
@@ -131,25 +132,25 @@ reversed before after a b =
     ∙ ap (λ xs. xs ++ reverse before) (reverse-append (a ∷ b ∷ []) after)
     ∙ append_assoc (reverse after) (b ∷ a ∷ []) (reverse before)
 
-span_calls-set : (d : spans.Direction) (p : Position) (n : ℕ) → span_calls (set_span d p n) ≡ SetSpan d p n ∷ []
-span_calls-set spans.Columns p n = refl
-span_calls-set spans.Rows p n = refl
+span_calls-set : (d : Direction) (p : Position) (n : ℕ) → span_calls (set_span d p n) ≡ SetSpan d p n ∷ []
+span_calls-set Columns p n = refl
+span_calls-set Rows p n = refl
 
-padding_calls-set : (d : spans.Direction) (p : Position) (n : ℕ) → padding_calls (set_span d p n) ≡ []
-padding_calls-set spans.Columns p n = refl
-padding_calls-set spans.Rows p n = refl
+padding_calls-set : (d : Direction) (p : Position) (n : ℕ) → padding_calls (set_span d p n) ≡ []
+padding_calls-set Columns p n = refl
+padding_calls-set Rows p n = refl
 
-character_calls-set : (d : spans.Direction) (p : Position) (n : ℕ) → character_calls (set_span d p n) ≡ []
-character_calls-set spans.Columns p n = refl
-character_calls-set spans.Rows p n = refl
+character_calls-set : (d : Direction) (p : Position) (n : ℕ) → character_calls (set_span d p n) ≡ []
+character_calls-set Columns p n = refl
+character_calls-set Rows p n = refl
 
-module _ (before after : List Setting) (e f : spans.Direction) (p q : Position) (m n : ℕ) where
+module _ (before after : List Setting) (e f : Direction) (p q : Position) (m n : ℕ) where
   calls_around : flat_map span_calls (before ++ set_span e p m ∷ set_span f q n ∷ after) ≡ flat_map span_calls before ++ SetSpan e p m ∷ SetSpan f q n ∷ flat_map span_calls after
   calls_around =
       around span_calls before after (set_span e p m) (set_span f q n)
       ∙ (λ k. flat_map span_calls before ++ (span_calls-set e p m k ++ (span_calls-set f q n k ++ flat_map span_calls after)))
 
-  pub decided_around : (d : spans.Direction) (r : Position) → spans.decided_span d r (flat_map span_calls (before ++ set_span e p m ∷ set_span f q n ∷ after))
+  pub decided_around : (d : Direction) (r : Position) → spans.decided_span d r (flat_map span_calls (before ++ set_span e p m ∷ set_span f q n ∷ after))
       ≡ span_from d r (reverse (flat_map span_calls after) ++ SetSpan f q n ∷ SetSpan e p m ∷ reverse (flat_map span_calls before))
   decided_around d r = ap (λ calls. span_from d r (reverse calls)) calls_around ∙ ap (span_from d r) (reversed (flat_map span_calls before) (flat_map span_calls after) (SetSpan e p m) (SetSpan f q n))
 
@@ -191,7 +192,7 @@ filter-reverse test (call ∷ calls) =
     ]
 
 -- calls that have nothing to do with a cell do not decide its span
-span_from-concerned : (d : spans.Direction) (p : Position) (calls : List SpanCall) → span_from d p (filter (concerns d p) calls) ≡ span_from d p calls
+span_from-concerned : (d : Direction) (p : Position) (calls : List SpanCall) → span_from d p (filter (concerns d p) calls) ≡ span_from d p calls
 span_from-concerned d p [] = refl
 span_from-concerned d p (RemoveSpans e ∷ older) = elim (cases_Bool (is_same_direction e d)) [
   | inl t ↦ rw t (rw t refl)
@@ -217,5 +218,5 @@ reordered_tell settings other same = record {
   characters = ap borders_made same.characters;
 }
   where
-    by_concerned : (d : spans.Direction) (p : Position) (calls : List SpanCall) → spans.decided_span d p calls ≡ span_from d p (reverse (filter (concerns d p) calls))
+    by_concerned : (d : Direction) (p : Position) (calls : List SpanCall) → spans.decided_span d p calls ≡ span_from d p (reverse (filter (concerns d p) calls))
     by_concerned d p calls = sym (span_from-concerned d p (reverse calls)) ∙ ap (span_from d p) (filter-reverse (concerns d p) calls)

@@ -5,8 +5,8 @@ use Rattle.std.proofs.lemmas.Bool.{cases_Bool, false≢true}
 use Rattle.std.proofs.lemmas.List.Elements.{All-head, All-tail}
 use Rattle.papergrid_values.specs.declared.position.Position.{Position}
 use Rattle.papergrid_values.specs.Positions.{IsBefore}
-use Rattle.papergrid_axis.specs.declared.direction.Direction.{Direction}
-use Rattle.papergrid_axis.specs.declared.direction.Direction.TheVariants.{Columns, Rows}
+use Rattle.papergrid_values.specs.declared.direction.Direction.{Direction}
+use Rattle.papergrid_values.specs.declared.direction.Direction.TheVariants.{Columns, Rows}
 use Rattle.papergrid_axis.specs.Ranges.{end_of, first_out}
 use Rattle.papergrid_axis.specs.ForProofs.Seen.{IsSeen}
 use Rattle.papergrid_axis.proofs.OutLemmas.{out_seen}

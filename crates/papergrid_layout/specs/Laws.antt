@@ -4,14 +4,15 @@ use Rattle.std.specs.List.{flat_map}
 use Rattle.papergrid_values.specs.declared.position.Position.{Position}
 use Rattle.papergrid_text.specs.Measured.{Measured}
 use Rattle.papergrid_text.specs.Text.{greatest_width, kept_by_new, split_lines}
-use Rattle.papergrid_axis.specs.declared.direction.Direction.{Direction}
+use Rattle.papergrid_values.specs.declared.direction.Direction.{Direction}
 use Rattle.papergrid_axis.specs.Chosen.{chosen_of}
 use Rattle.papergrid_axis.specs.KeptApart.{is_kept_apart}
 use Rattle.papergrid_axis.specs.Ranges.{place_of}
 use Rattle.papergrid_axis.specs.Sizes.{sizes_of}
 use Rattle.papergrid_tables.specs.Keys.{position_eq}
 use Rattle.papergrid_maps.specs.Spans as spans
-use Rattle.papergrid_maps.specs.Spans.{Columns, Rows, RemoveSpans, SetSpan, SpanCall, is_same_direction}
+use Rattle.papergrid_values.specs.declared.direction.Direction.TheVariants.{Columns, Rows}
+use Rattle.papergrid_maps.specs.Spans.{RemoveSpans, SetSpan, SpanCall, is_same_direction}
 use Rattle.papergrid_config.specs.Decided as decided
 use Rattle.papergrid_config.specs.Made.{characters_of}
 use Rattle.papergrid_config.specs.Parts.{character_calls, padding_calls, span_calls}
@@ -48,25 +49,25 @@ witness_told direction look measure n rows =
 
 -- the same spans, paddings and lines
 pub record TellTheSame (settings other : List Setting) : Type 0 where
-  pub spans : (direction : spans.Direction) (p : Position) →
+  pub spans : (direction : Direction) (p : Position) →
       spans.decided_span direction p (flat_map span_calls settings) ≡ spans.decided_span direction p (flat_map span_calls other)
   pub padding : (p : Position) → decided.padding settings p ≡ decided.padding other p
   pub characters : characters_of settings ≡ characters_of other
 
 -- whether a call has to do with the span of a cell: it sets it, or removes all spans of the direction
-abbrev pub concerns : spans.Direction → Position → SpanCall → Bool
+abbrev pub concerns : Direction → Position → SpanCall → Bool
 concerns direction p (SetSpan way q n) = is_same_direction way direction && position_eq q p
 concerns direction p (RemoveSpans way) = is_same_direction way direction
 
 -- each cell's span is set by the same calls in the same order, wherever those of other cells stand; otherwise the same
 pub record AreReordered (settings other : List Setting) : Type 0 where
-  pub spans : (direction : spans.Direction) (p : Position) →
+  pub spans : (direction : Direction) (p : Position) →
       filter (concerns direction p) (flat_map span_calls settings) ≡ filter (concerns direction p) (flat_map span_calls other)
   pub padding : flat_map padding_calls settings ≡ flat_map padding_calls other
   pub characters : flat_map character_calls settings ≡ flat_map character_calls other
 
 -- what sets the column span, or the row span, of a cell
-abbrev pub set_span : spans.Direction → Position → ℕ → Setting
+abbrev pub set_span : Direction → Position → ℕ → Setting
 set_span Columns p n = SetColumnSpan p n
 set_span Rows p n = SetRowSpan p n
 
@@ -74,8 +75,8 @@ set_span Rows p n = SetRowSpan p n
 pub record AreSwapped (settings other : List Setting) : Type 0 where
   pub before : List Setting
   pub after : List Setting
-  pub first_way : spans.Direction
-  pub second_way : spans.Direction
+  pub first_way : Direction
+  pub second_way : Direction
   pub first_cell : Position
   pub second_cell : Position
   pub first_span : ℕ

@@ -7,11 +7,11 @@ ghost use Rattle.papergrid_layout.specs.Answers.{AreBothSized, UnlessMemory};
 ghost use Rattle.papergrid_layout.specs.ForProofs.Earlier.{earlier, earlier_of};
 
 use crate::sizes::Along;
+use papergrid_axis::LayoutError;
 use papergrid_axis::conclude::conclude;
 use papergrid_axis::settled::find_out;
-use papergrid_axis::{Direction, LayoutError};
 use papergrid_text::{IntoRecords, Records};
-use papergrid_values::Position;
+use papergrid_values::{Direction, Position};
 use papergrid_walk::{Both, Measure, Settings, gather_both};
 use std::alloc::Global;
 

@@ -1,7 +1,7 @@
 //! Witnesses that the sizes of records whose cells are texts are least, and their checkers.
 
 ghost use Rattle.std.specs.Prelude.{List};
-ghost use Rattle.papergrid_axis.specs.declared.direction.Direction.TheVariants.{Columns, Rows};
+ghost use Rattle.papergrid_values.specs.declared.direction.Direction.TheVariants.{Columns, Rows};
 ghost use Rattle.papergrid_walk.specs.Looks.{spanned_look};
 ghost use Rattle.papergrid_walk.specs.Measures.{line_measure};
 ghost use Rattle.papergrid_layout.specs.Answers.{UnlessMemory};
@@ -9,10 +9,10 @@ ghost use Rattle.papergrid_layout.specs.Witnesses.{IsChecked, IsWitnessed};
 
 use crate::check::check;
 use crate::witness::witness;
-use papergrid_axis::{Direction, LayoutError};
+use papergrid_axis::LayoutError;
 use papergrid_config::SpannedConfig;
 use papergrid_text::{IntoRecords, Records};
-use papergrid_values::Position;
+use papergrid_values::{Direction, Position};
 use papergrid_walk::measure::ByLines;
 use std::alloc::Global;
 use std::convert::AsStr;

@@ -9,11 +9,11 @@ ghost use Rattle.papergrid_layout.specs.Witnesses.{IsCertified};
 
 use crate::both::find_out_of_both;
 use crate::sizes::Along;
+use papergrid_axis::LayoutError;
 use papergrid_axis::conclude::conclude_certified;
-use papergrid_axis::{Direction, LayoutError};
 use papergrid_config::SpannedConfig;
 use papergrid_text::{IntoRecords, Records};
-use papergrid_values::Position;
+use papergrid_values::{Direction, Position};
 use papergrid_walk::measure::ByLines;
 use papergrid_walk::{Both, Measure, Settings, gather_both};
 use std::alloc::Global;

@@ -9,9 +9,9 @@ ghost use Rattle.papergrid_layout.specs.Witnesses.{AreShown, ChecksBy, ChecksMor
 use crate::sizes::{Along, count_of};
 use papergrid_axis::checked::{accepts, is_unchanged, visit, wide_need};
 use papergrid_axis::claim::{are_in_order, count_listed};
-use papergrid_axis::{Checked, Claim, Direction};
+use papergrid_axis::{Checked, Claim};
 use papergrid_text::{IntoRecords, Records};
-use papergrid_values::Position;
+use papergrid_values::{Direction, Position};
 use papergrid_walk::{Measure, Settings};
 use std::iter::{IntoIterator, Iterator};
 

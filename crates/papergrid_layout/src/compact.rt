@@ -2,7 +2,7 @@
 //! `dimension/compact.rs`.
 
 ghost use Rattle.std.specs.Prelude.{◌≡◌, [], List};
-ghost use Rattle.papergrid_axis.specs.declared.direction.Direction.TheVariants.{Columns, Rows};
+ghost use Rattle.papergrid_values.specs.declared.direction.Direction.TheVariants.{Columns, Rows};
 ghost use Rattle.papergrid_walk.specs.Looks.{compact_look};
 ghost use Rattle.papergrid_walk.specs.Measures.{std_line_measure};
 ghost use Rattle.papergrid_layout.specs.Answers.{AreBothSized, IsSized, UnlessMemory};
@@ -11,9 +11,10 @@ use crate::both::both_sizes;
 use crate::dimension::{Dimension, Estimate};
 use crate::size_list::SizeList;
 use crate::sizes::sizes;
-use papergrid_axis::{Direction, LayoutError};
+use papergrid_axis::LayoutError;
 use papergrid_config::CompactConfig;
 use papergrid_text::{IntoRecords, Records};
+use papergrid_values::Direction;
 use papergrid_walk::measure::ByStdLines;
 use std::alloc::Global;
 use std::convert::AsStr;
@@ -136,7 +137,7 @@ where
     <<R as Records>::Iter as IntoRecords>::Cell: AsStr + Drop,
 {
     ghost use Rattle.std.specs.Prelude.{List};
-    ghost use Rattle.papergrid_axis.specs.declared.direction.Direction.TheVariants.{Columns};
+    ghost use Rattle.papergrid_values.specs.declared.direction.Direction.TheVariants.{Columns};
     ghost use Rattle.papergrid_walk.specs.Looks.{compact_look};
     ghost use Rattle.papergrid_walk.specs.Measures.{std_line_measure};
     ghost use Rattle.papergrid_layout.specs.Answers.{AreSizesOf, IsRefusedFor, UnlessWant};

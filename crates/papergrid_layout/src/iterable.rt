@@ -1,7 +1,7 @@
 //! The sizes of records whose cells are texts. Source: `dimension/iterable.rs`.
 
 ghost use Rattle.std.specs.Prelude.{◌≡◌, ◌<◌, ◌^◌, [], List, length, sum};
-ghost use Rattle.papergrid_axis.specs.declared.direction.Direction.TheVariants.{Columns, Rows};
+ghost use Rattle.papergrid_values.specs.declared.direction.Direction.TheVariants.{Columns, Rows};
 ghost use Rattle.papergrid_walk.specs.Looks.{spanned_look};
 ghost use Rattle.papergrid_walk.specs.Measures.{line_measure};
 ghost use Rattle.papergrid_layout.specs.Answers.{IsSized, IsTotalled, UnlessMemory};
@@ -13,9 +13,10 @@ pub use crate::certificates::{
 use crate::dimension::{Dimension, Estimate};
 use crate::size_list::SizeList;
 use crate::sizes::sizes;
-use papergrid_axis::{Direction, LayoutError};
+use papergrid_axis::LayoutError;
 use papergrid_config::SpannedConfig;
 use papergrid_text::{IntoRecords, Records};
+use papergrid_values::Direction;
 use papergrid_walk::measure::ByLines;
 use std::alloc::Global;
 use std::convert::AsStr;

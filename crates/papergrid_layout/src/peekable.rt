@@ -1,7 +1,7 @@
 //! The sizes of records whose cells know their width and their lines. Source: `dimension/peekable.rs`.
 
 ghost use Rattle.std.specs.Prelude.{◌≡◌, [], List, length};
-ghost use Rattle.papergrid_axis.specs.declared.direction.Direction.TheVariants.{Columns, Rows};
+ghost use Rattle.papergrid_values.specs.declared.direction.Direction.TheVariants.{Columns, Rows};
 ghost use Rattle.papergrid_walk.specs.Looks.{spanned_look};
 ghost use Rattle.papergrid_walk.specs.Measures.{cell_measure};
 ghost use Rattle.papergrid_layout.specs.Answers.{AreBothSized, IsSized, UnlessMemory};
@@ -10,9 +10,10 @@ use crate::both::both_sizes;
 use crate::dimension::{Dimension, Estimate};
 use crate::size_list::SizeList;
 use crate::sizes::sizes;
-use papergrid_axis::{Direction, LayoutError};
+use papergrid_axis::LayoutError;
 use papergrid_config::SpannedConfig;
 use papergrid_text::{Cell, IntoRecords, Records};
+use papergrid_values::Direction;
 use papergrid_walk::measure::ByCell;
 use std::alloc::Global;
 

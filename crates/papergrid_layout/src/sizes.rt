@@ -5,9 +5,9 @@ ghost use Rattle.papergrid_walk.specs.Cells.{count_along};
 ghost use Rattle.papergrid_layout.specs.Answers.{IsSized, UnlessMemory};
 
 use papergrid_axis::conclude::conclude;
-use papergrid_axis::{Axis, Direction, LayoutError};
+use papergrid_axis::{Axis, LayoutError};
 use papergrid_text::{IntoRecords, Records};
-use papergrid_values::Position;
+use papergrid_values::{Direction, Position};
 use papergrid_walk::{Measure, Settings, gather};
 use std::alloc::Global;
 

@@ -5,10 +5,10 @@ ghost use Rattle.papergrid_layout.specs.Answers.{UnlessMemory};
 ghost use Rattle.papergrid_layout.specs.Witnesses.{IsWitnessed};
 
 use crate::sizes::{Along, count_of};
+use papergrid_axis::LayoutError;
 use papergrid_axis::conclude::conclude_certified;
-use papergrid_axis::{Direction, LayoutError};
 use papergrid_text::{IntoRecords, Records};
-use papergrid_values::Position;
+use papergrid_values::{Direction, Position};
 use papergrid_walk::{Measure, Settings, gather};
 use std::alloc::Global;
 

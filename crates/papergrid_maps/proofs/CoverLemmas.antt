@@ -1,18 +1,19 @@
 -- What the positions that a rectangle covers say of visibility.
 use Rattle.std.proofs.Common.{◌≡◌, ℕ, ◌+◌, ◌-◌, ◌<◌, ◌≤◌, Bool, true, false, List, get_or, leb, ltb, Option, Some, None, refl, sym, ap, ◌∙◌, arith, inl, inr}
-use Rattle.std.specs.Prelude.{All, unwrap_or, not, ◌≢◌, ◌↔◌, ◌⊎◌, IsTrue}
+use Rattle.std.specs.Prelude.{All, AllPairs, unwrap_or, not, ◌≢◌, ◌↔◌, ◌⊎◌, IsTrue}
 use Rattle.std.specs.List.{list_any, IsDistinct}
 use Rattle.std.specs.List.Sorted.{IsNonDecreasingBy}
 use Rattle.std.specs.Map.{lookup, keys_of}
 use Rattle.std.proofs.lemmas.Bool.{cases_Bool, cases_eq, true≢false, and_parts, and_from, leb-true, le-leb, ltb-true, lt-ltb}
 use Rattle.std.proofs.lemmas.List.{get_or_default}
 use Rattle.std.proofs.lemmas.List.Folds.{Any-from_list_any, list_any-from_Any}
+use Rattle.papergrid_values.specs.Positions.{AreRising, along}
 use Rattle.papergrid_values.specs.declared.position.Position.{Position}
 use Rattle.papergrid_tables.specs.Keys.{position_eq}
 use Rattle.papergrid_maps.specs.Spans.{column_span, row_span, is_visible, IsVisible, IsInRectangle}
-use Rattle.papergrid_maps.specs.SpanScan.{IsRising, along, covers}
-use Rattle.papergrid_maps.specs.declared.covering.Rising.{Rising}
-use Rattle.papergrid_maps.specs.declared.covering.Rising.TheVariants.{Columns, Rows}
+use Rattle.papergrid_maps.specs.SpanScan.{covers}
+use Rattle.papergrid_values.specs.declared.direction.Direction.{Direction}
+use Rattle.papergrid_values.specs.declared.direction.Direction.TheVariants.{Columns, Rows}
 use Rattle.papergrid_tables.proofs.AnyLemmas.{any_found, any_from_found}
 use Rattle.papergrid_tables.proofs.KeyLemmas.{exact_position_eq, get_at_position, position_equiv}
 use Rattle.papergrid_maps.proofs.SpanScans.{spans_of}
@@ -49,19 +50,19 @@ module _ (a : Position) (columns rows : ℕ) (p : Position) where
     | inr f ↦ f
   ]
 
-  pub none_before : (rising : Rising) → along rising p.row p.col < along rising a.row a.col → covers a columns rows p ≡ false
+  pub none_before : (direction : Direction) → along direction p < along direction a → covers a columns rows p ≡ false
   none_before Columns l = not_covered (λ within. omega (arith, l, within.after_left))
   none_before Rows l = not_covered (λ within. omega (arith, l, within.below_top))
 
-  pub none_past : (rising : Rising) → along rising a.row a.col + along rising rows columns ≤ along rising p.row p.col → covers a columns rows p ≡ false
+  pub none_past : (direction : Direction) → along direction a + along direction (record { row = rows; col = columns }) ≤ along direction p → covers a columns rows p ≡ false
   none_past Columns l = not_covered (λ within. omega (arith, l, within.before_right))
   none_past Rows l = not_covered (λ within. omega (arith, l, within.above_bottom))
 
-pub never_falls : (rising : Rising) (places : List Position) → IsRising rising places → IsNonDecreasingBy (λ p. along rising p.row p.col) places
-never_falls rising places rises i j d le l = elim (cases_eq i j) [
+pub never_falls : (direction : Direction) (places : List Position) → AllPairs (AreRising direction) places → IsNonDecreasingBy (along direction) places
+never_falls direction places rises i j d le l = elim (cases_eq i j) [
   | inl e ↦ rw e (omega arith)
   | inr ne ↦
-      let lt : along rising (get_or places i d).row (get_or places i d).col < along rising (get_or places j d).row (get_or places j d).col = rises i j d (omega arith) l in
+      let lt : along direction (get_or places i d) < along direction (get_or places j d) = rises i j d (omega arith) l in
       omega arith
 ]
 

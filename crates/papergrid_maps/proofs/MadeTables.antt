@@ -12,7 +12,9 @@ use Rattle.papergrid_tables.proofs.LineTested.{exact_position}
 use Rattle.papergrid_tables.proofs.MadeTables.{tabulates}
 use Rattle.papergrid_maps.specs.Made.{named_anchors, spans_made}
 use Rattle.papergrid_maps.specs.Spans as spans
-use Rattle.papergrid_maps.specs.Spans.{Columns, Direction, RemoveSpans, Rows, SetSpan, SpanCall, Spans, decided_span, from_two, is_same_direction, span_from}
+use Rattle.papergrid_values.specs.declared.direction.Direction.{Direction}
+use Rattle.papergrid_values.specs.declared.direction.Direction.TheVariants.{Columns, Rows}
+use Rattle.papergrid_maps.specs.Spans.{RemoveSpans, SetSpan, SpanCall, Spans, decided_span, from_two, is_same_direction, span_from}
 
 -- an anchor whose span is not 1 is named
 anchor_named : (d : Direction) (q : Position) (older : List SpanCall) → is_some (from_two (span_from d q older)) ≡ true → list_any (eq_by_cmp position_cmp q) (flat_map named_anchors older) ≡ true

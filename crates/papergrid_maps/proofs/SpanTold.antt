@@ -7,7 +7,9 @@ use Rattle.std.specs.Map.{lookup}
 use Rattle.std.specs.FinMap.{get, from_entries}
 use Rattle.papergrid_values.specs.declared.position.Position.{Position}
 use Rattle.papergrid_tables.specs.Keys.{position_cmp, position_eq}
-use Rattle.papergrid_maps.specs.Spans.{Direction, Columns, Rows, Spans, SpanCall, SetSpan, RemoveSpans, HasSpan, IsTold, Appends, spans_along, span_from, from_two}
+use Rattle.papergrid_values.specs.declared.direction.Direction.{Direction}
+use Rattle.papergrid_values.specs.declared.direction.Direction.TheVariants.{Columns, Rows}
+use Rattle.papergrid_maps.specs.Spans.{Spans, SpanCall, SetSpan, RemoveSpans, HasSpan, IsTold, Appends, spans_along, span_from, from_two}
 use Rattle.papergrid_maps.specs.SpanScan.{AreFromTwo, span_set}
 use Rattle.papergrid_tables.proofs.KeyLemmas.{get_at_position, position_equiv}
 use Rattle.papergrid_maps.proofs.SpanScans.{spans_of}

@@ -2,7 +2,8 @@
 use Rattle.std.specs.Prelude.{List, [], ◌∷◌, flat_map, reverse}
 use Rattle.papergrid_values.specs.declared.position.Position.{Position}
 use Rattle.papergrid_tables.specs.Made.{tabulated}
-use Rattle.papergrid_maps.specs.Spans.{Columns, Rows, SetSpan, SpanCall, Spans, decided_span, from_two}
+use Rattle.papergrid_values.specs.declared.direction.Direction.TheVariants.{Columns, Rows}
+use Rattle.papergrid_maps.specs.Spans.{SetSpan, SpanCall, Spans, decided_span, from_two}
 
 abbrev pub named_anchors : SpanCall → List Position
 named_anchors (SetSpan d anchor n) = anchor ∷ []

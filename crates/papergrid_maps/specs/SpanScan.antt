@@ -4,8 +4,6 @@ use Rattle.std.specs.Map.{lookup}
 use Rattle.papergrid_values.specs.declared.position.Position.{Position}
 use Rattle.papergrid_tables.specs.Keys.{position_eq}
 use Rattle.papergrid_maps.specs.Spans.{from_two}
-use Rattle.papergrid_maps.specs.declared.covering.Rising.{Rising}
-use Rattle.papergrid_maps.specs.declared.covering.Rising.TheVariants.{Columns, Rows}
 
 abbrev pub reaches_right : Position → Position × ℕ → Bool
 reaches_right p e = e.0.row == p.row && (nat_lt e.0.col p.col && nat_lt (p.col - e.0.col) e.1)
@@ -22,15 +20,6 @@ abbrev pub covers : Position → ℕ → ℕ → Position → Bool
 covers anchor columns rows p =
     not (position_eq anchor p) && (nat_le anchor.row p.row && (nat_lt (p.row - anchor.row) rows
     && (nat_le anchor.col p.col && nat_lt (p.col - anchor.col) columns)))
-
--- the number that rises, of a row's and a column's
-abbrev pub along : Rising → ℕ → ℕ → ℕ
-along Columns row col = col
-along Rows row col = row
-
--- the columns, or the rows, of the positions rise
-abbrev pub IsRising : Rising → List Position → Type 0
-IsRising rising places = AllPairs (λ p q. along rising p.row p.col < along rising q.row q.col) places
 
 -- no span below 2 is held
 abbrev pub AreFromTwo : List (Position × ℕ) → Type 0

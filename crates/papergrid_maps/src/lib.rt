@@ -12,7 +12,6 @@ pub mod span_table;
 
 pub use colors::{Colors, NoColor, NoColors};
 pub use compact::CompactConfig;
-pub use covering::Rising;
 pub use entity_map::{EntityMap, MapCall, Stopped};
 pub use papergrid_tables::{BorderTable, OffsetTable, border_table, offset_table};
 pub use span_table::SpanTable;

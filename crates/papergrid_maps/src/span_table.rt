@@ -1,17 +1,19 @@
 //! Spans by position, and what they hide. Source: `config/spanned/mod.rs`.
 
-ghost use Rattle.std.specs.Prelude.{◌≡◌, ◌∷◌, [], ◌<◌, ◌≤◌, All, OnOk, OnErr, IfOk, IfSome, IsOk, IsTrue, ◌↔◌};
+ghost use Rattle.std.specs.Prelude.{◌≡◌, ◌∷◌, [], ◌<◌, ◌≤◌, All, AllPairs, OnOk, OnErr, IfOk, IfSome, IsOk, IsTrue, ◌↔◌};
 ghost use Rattle.std.specs.HashMap.{IsUnique, IsUnchanged, get as map_get};
 ghost use Rattle.std.specs.List.{list_any};
 ghost use Rattle.std.specs.FinMap.{get as value_at};
+ghost use Rattle.papergrid_values.specs.Positions.{AreRising};
+ghost use Rattle.papergrid_values.specs.declared.direction.Direction.TheVariants.{Columns, Rows};
 ghost use Rattle.papergrid_values.specs.declared.position.Position.{Position};
 ghost use Rattle.papergrid_tables.specs.Keys.{position_eq};
-ghost use Rattle.papergrid_maps.specs.Spans.{IsTold, Appends, HasSpan, IsVisible, IsCoveredByColumn, IsCoveredByRow, IsCoveredByBoth, SetSpan, RemoveSpans, Columns, Rows, column_span, row_span, is_visible};
-ghost use Rattle.papergrid_maps.specs.SpanScan.{AreFromTwo, IsRising, reaches_right, reaches_below, reaches_into, span_set};
+ghost use Rattle.papergrid_maps.specs.Spans.{IsTold, Appends, HasSpan, IsVisible, IsCoveredByColumn, IsCoveredByRow, IsCoveredByBoth, SetSpan, RemoveSpans, column_span, row_span, is_visible};
+ghost use Rattle.papergrid_maps.specs.SpanScan.{AreFromTwo, reaches_right, reaches_below, reaches_into, span_set};
 
-use crate::covering::{Rising, columns_cover, rows_cover};
+use crate::covering::{columns_cover, rows_cover};
 use papergrid_tables::hashed::{look_up, take, write};
-use papergrid_values::Position;
+use papergrid_values::{Direction, Position};
 use std::alloc::{AllocError, Global};
 use std::collections::HashMap;
 use std::marker::Model;
@@ -171,14 +173,14 @@ impl SpanTable {
 
     /// Whether all of the positions, of which the columns or the rows rise, are visible. Each span is
     /// looked at once, with those of the positions alone that its rectangle can have.
-    pub fn are_visible(&self, rising: Rising, places: &[Position]) -> bool
-        requires { IsRising rising places.now }
+    pub fn are_visible(&self, direction: Direction, places: &[Position]) -> bool
+        requires { AllPairs (AreRising direction) places.now }
         ensures { IsTrue result ↔ All (λ p. IsTrue (is_visible self.now p)) places.now }
     {
-        if columns_cover(&self.columns, &self.rows, rising, places) {
+        if columns_cover(&self.columns, &self.rows, direction, places) {
             return false;
         }
-        !rows_cover(&self.columns, &self.rows, rising, places)
+        !rows_cover(&self.columns, &self.rows, direction, places)
     }
 }
 

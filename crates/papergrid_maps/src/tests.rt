@@ -5,8 +5,8 @@ mod compact;
 
 ghost use Rattle.std.specs.Prelude.{◌≡◌, ◌<◌};
 
-use crate::{EntityMap, MapCall, Rising, SpanTable, Stopped, laws};
-use papergrid_values::{Entity, Position};
+use crate::{EntityMap, MapCall, SpanTable, Stopped, laws};
+use papergrid_values::{Direction, Entity, Position};
 use std::alloc::{AllocError, Global};
 use std::process::Abort;
 use std::test::Fail;
@@ -207,11 +207,11 @@ fn rectangle_of_both_spans(rt: HostRuntime) -> Result<(), Fail> {
 }
 
 // Whether both positions are visible.
-fn sees_both(spans: &SpanTable, rising: Rising, first: Position, second: Position) -> bool
+fn sees_both(spans: &SpanTable, direction: Direction, first: Position, second: Position) -> bool
     requires row { first.row < second.row }
     requires col { first.col < second.col }
 {
-    spans.are_visible(rising, &[first, second])
+    spans.are_visible(direction, &[first, second])
 }
 
 // By the column span, by the row span, by both, and by one without end.
@@ -221,13 +221,13 @@ fn listed_positions(rt: HostRuntime) -> Result<(), Fail> {
     spans.set_column(at(0, 0), 3)?;
     spans.set_row(at(0, 0), 3)?;
     spans.set_row(at(5, 4), usize::MAX)?;
-    for rising in [Rising::Columns, Rising::Rows] {
-        assert!(rt; sees_both(&spans, rising, at(0, 0), at(4, 4)));
-        assert!(rt; sees_both(&spans, rising, at(3, 2), at(5, 4)));
-        assert!(rt; !sees_both(&spans, rising, at(0, 2), at(5, 4)));
-        assert!(rt; !sees_both(&spans, rising, at(2, 0), at(5, 4)));
-        assert!(rt; !sees_both(&spans, rising, at(1, 2), at(5, 4)));
-        assert!(rt; !sees_both(&spans, rising, at(0, 3), at(usize::MAX, 4)));
+    for direction in [Direction::Columns, Direction::Rows] {
+        assert!(rt; sees_both(&spans, direction, at(0, 0), at(4, 4)));
+        assert!(rt; sees_both(&spans, direction, at(3, 2), at(5, 4)));
+        assert!(rt; !sees_both(&spans, direction, at(0, 2), at(5, 4)));
+        assert!(rt; !sees_both(&spans, direction, at(2, 0), at(5, 4)));
+        assert!(rt; !sees_both(&spans, direction, at(1, 2), at(5, 4)));
+        assert!(rt; !sees_both(&spans, direction, at(0, 3), at(usize::MAX, 4)));
     }
     Ok(())
 }

@@ -11,8 +11,8 @@ ghost use Rattle.papergrid_tables.specs.Places.{IsBare, HasHorizontal, HasVertic
 
 use crate::border_parts as parts;
 use crate::hashed::{take, write};
-use crate::line_marks::{Across, Ends, mark_lines, mark_places};
-use papergrid_values::{Border, Borders, HorizontalLine, Position, VerticalLine};
+use crate::line_marks::{Ends, mark_lines, mark_places};
+use papergrid_values::{Border, Borders, Direction, HorizontalLine, Position, VerticalLine};
 use std::alloc::{AllocError, Global};
 use std::collections::HashMap;
 use std::marker::Model;
@@ -281,8 +281,8 @@ impl<T> BorderTable<T> {
             inner: frame.has_vertical(),
         };
         mark_lines(&self.vertical_lines, ends, first, count, marks);
-        mark_places(&self.vertical_edges, Across::Columns, first, marks);
-        mark_places(&self.corners, Across::Columns, first, marks);
+        mark_places(&self.vertical_edges, Direction::Columns, first, marks);
+        mark_places(&self.corners, Direction::Columns, first, marks);
     }
 
     /// Tells of each horizontal line from the first on, as many as there are marks, whether it is
@@ -303,8 +303,8 @@ impl<T> BorderTable<T> {
             inner: frame.has_horizontal(),
         };
         mark_lines(&self.horizontal_lines, ends, first, count, marks);
-        mark_places(&self.horizontal_edges, Across::Rows, first, marks);
-        mark_places(&self.corners, Across::Rows, first, marks);
+        mark_places(&self.horizontal_edges, Direction::Rows, first, marks);
+        mark_places(&self.corners, Direction::Rows, first, marks);
     }
 }
 

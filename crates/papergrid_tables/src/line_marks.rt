@@ -4,19 +4,12 @@ ghost use Rattle.std.specs.Prelude.{◌≡◌, ◌==◌, ◌+◌, ◌<◌, ◌^�
 ghost use Rattle.std.specs.HashMap.{IsUnique, get as map_get, keys};
 ghost use Rattle.std.specs.List.{list_any};
 ghost use Rattle.papergrid_tables.specs.Keys.{position_eq};
-ghost use Rattle.papergrid_tables.specs.ForProofs.LineMarks.{number_along};
+ghost use Rattle.papergrid_values.specs.Positions.{along};
 ghost use Rattle.papergrid_tables.specs.Places.{at_ends};
 
 use crate::border_parts::at_ends;
-use papergrid_values::Position;
+use papergrid_values::{Direction, Position};
 use std::collections::HashMap;
-
-/// Which of a place's two numbers counts.
-#[derive(Clone, Copy)]
-pub(crate) enum Across {
-    Columns,
-    Rows,
-}
 
 /// Whether there is a line at the first place, at the last one, and at those between.
 #[derive(Clone, Copy)]
@@ -55,26 +48,17 @@ fn is_line<L>(lines: &HashMap<usize, L>, ends: Ends, place: usize, count: usize)
 /// Marks the number of each place that has a value.
 pub(crate) fn mark_places<T>(
     places: &HashMap<Position, T>,
-    across: Across,
+    direction: Direction,
     first: usize,
     marks: &mut [bool],
 )
     ensures length { length marks.new ≡ length marks.old }
     ensures marks { EachIndex marks.new (λ k. slice_index_or marks.new k false ≡
-        (slice_index_or marks.old k false || list_any (λ p. number_along across p == first + k) (keys places.now))) }
+        (slice_index_or marks.old k false || list_any (λ p. along direction p == first + k) (keys places.now))) }
     ensures unique { IsUnique position_eq places.now }
 {
     for place in places.keys() {
-        mark(marks, first, number(across, *place));
-    }
-}
-
-fn number(across: Across, place: Position) -> usize
-    ensures { result ≡ number_along across place }
-{
-    match across {
-        Across::Columns => place.col,
-        Across::Rows => place.row,
+        mark(marks, first, direction.number_of(*place));
     }
 }
 

@@ -1,5 +1,7 @@
--- Sums and differences of positions, and their order.
+-- Sums and differences of positions, their order, and their numbers along a direction.
 use Rattle.std.specs.Prelude.{◌≡◌, ◌+◌, ◌-◌, ◌<◌, ◌≤◌, ◌^◌, ◌⊎◌, ◌==◌, ◌&&◌, ℕ, List, count_by}
+use Rattle.papergrid_values.specs.declared.direction.Direction.{Direction}
+use Rattle.papergrid_values.specs.declared.direction.Direction.TheVariants.{Columns, Rows}
 use Rattle.papergrid_values.specs.declared.position.Position.{Position}
 
 -- the position of a pair of row and column
@@ -25,6 +27,15 @@ CanSubtract p q = (q.row ≤ p.row) × (q.col ≤ p.col)
 -- p stands in an earlier row than q, or in the same row in an earlier column
 abbrev pub IsBefore : Position → Position → Type 0
 IsBefore p q = (p.row < q.row) ⊎ ((p.row ≡ q.row) × (p.col < q.col))
+
+-- the number of a position's column, or of its row
+abbrev pub along : Direction → Position → ℕ
+along Columns p = p.col
+along Rows p = p.row
+
+-- the number of p is below that of q
+abbrev pub AreRising : Direction → Position → Position → Type 0
+AreRising direction p q = along direction p < along direction q
 
 -- how many times a list holds a position
 abbrev pub count_of : Position → List Position → ℕ

@@ -9,8 +9,8 @@ use Rattle.papergrid_maps.specs.MapHeld.{held_value}
 use Rattle.papergrid_maps.specs.Spans.{Spans, column_span, is_visible, row_span}
 use Rattle.papergrid_maps.specs.declared.compact.CompactConfig.{CompactConfig}
 use Rattle.papergrid_config.specs.declared.spanned.SpannedConfig.{SpannedConfig}
-use Rattle.papergrid_axis.specs.declared.direction.Direction.{Direction}
-use Rattle.papergrid_axis.specs.declared.direction.Direction.TheVariants.{Columns, Rows}
+use Rattle.papergrid_values.specs.declared.direction.Direction.{Direction}
+use Rattle.papergrid_values.specs.declared.direction.Direction.TheVariants.{Columns, Rows}
 
 -- which positions are visible, and along each direction the span of a position, the paddings before and after its text,
 -- and, of so many columns (rows), before which of them, or at their count after the last, there is a line

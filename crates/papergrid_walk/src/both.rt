@@ -2,7 +2,7 @@
 
 ghost use Rattle.std.specs.Prelude.{◌≡◌, ◌+◌, ◌-◌, ◌<◌, ◌^◌, ◌∷◌, [], ⊤, IfOk, List, OnOk, length};
 ghost use Rattle.papergrid_text.specs.Records.{Gives, WalkIsShort};
-ghost use Rattle.papergrid_axis.specs.declared.direction.Direction.TheVariants.{Columns, Rows};
+ghost use Rattle.papergrid_values.specs.declared.direction.Direction.TheVariants.{Columns, Rows};
 ghost use Rattle.papergrid_axis.specs.ForProofs.Seen.{Adds};
 ghost use Rattle.papergrid_walk.specs.Cells.{asked_by, placed_row};
 ghost use Rattle.papergrid_walk.specs.ForProofs.Paddings.{AreCommon};
@@ -14,9 +14,9 @@ use crate::measure::Measure;
 use crate::settings::{Paddings, Settings};
 use crate::shown::shown;
 use crate::walk::{ask, limit_of, measure_shown, paddings_of};
-use papergrid_axis::{Direction, Seen};
+use papergrid_axis::Seen;
 use papergrid_text::{IntoRecords, Records};
-use papergrid_values::Position;
+use papergrid_values::{Direction, Position};
 use std::alloc::{AllocError, Global};
 use std::iter::{IntoIterator, Iterator};
 

@@ -1,17 +1,15 @@
 //! What a walk reads of a configuration.
 
 ghost use Rattle.std.specs.Prelude.{◌≡◌, ◌≤◌, ◌↔◌, All, AllPairs, IfOk, IsTrue};
-ghost use Rattle.papergrid_axis.specs.ForProofs.Checks.{AreRising};
+ghost use Rattle.papergrid_values.specs.Positions.{AreRising};
 ghost use Rattle.papergrid_walk.specs.Hidden.{IsSorted};
 ghost use Rattle.papergrid_walk.specs.Looks.{Look, compact_look, size_after, size_before, spanned_look};
 ghost use Rattle.papergrid_walk.specs.ForProofs.Paddings.{AreCommon, paddings_at};
 ghost use Rattle.papergrid_walk.specs.ForProofs.Shown.{AreAnchorsOf};
 
 use crate::{Anchor, anchors_of};
-use papergrid_axis::Direction;
 use papergrid_config::{CompactConfig, SpannedConfig};
-use papergrid_maps::Rising;
-use papergrid_values::{Indent, Position, Sides};
+use papergrid_values::{Direction, Indent, Position, Sides};
 use std::alloc::{AllocError, Global};
 
 /// The paddings left and right of a cell's text, above and below it.
@@ -111,10 +109,7 @@ impl Settings for SpannedConfig {
 
     // Each span is looked at once.
     fn are_visible(&self, direction: Direction, places: &[Position]) -> bool {
-        match direction {
-            Direction::Columns => self.are_cells_visible(Rising::Columns, places),
-            Direction::Rows => self.are_cells_visible(Rising::Rows, places),
-        }
+        self.are_cells_visible(direction, places)
     }
 
     fn anchors(&self, alloc: Global) -> Result<Vec<Anchor>, AllocError> {

@@ -11,10 +11,10 @@ use crate::Sweep;
 use crate::measure::Measure;
 use crate::settings::{Paddings, Settings};
 use crate::shown::{is_shown, shown};
+use papergrid_axis::Seen;
 use papergrid_axis::seen::keep;
-use papergrid_axis::{Direction, Seen};
 use papergrid_text::{IntoRecords, Records};
-use papergrid_values::Position;
+use papergrid_values::{Direction, Position};
 use std::alloc::{AllocError, Global};
 use std::iter::{IntoIterator, Iterator};
 

@@ -4,8 +4,9 @@ use Rattle.papergrid_values.specs.declared.position.Position.{Position}
 use Rattle.papergrid_axis.specs.declared.checked.Checked.{Checked}
 use Rattle.papergrid_axis.specs.declared.claim.Claim.{Claim}
 use Rattle.papergrid_axis.specs.declared.demand.Demand.{Demand}
-use Rattle.papergrid_axis.specs.declared.direction.Direction.{Direction}
-use Rattle.papergrid_axis.specs.Ranges.{AreDisjoint, along, demand_of, end_of, inner_lines, place_of}
+use Rattle.papergrid_values.specs.declared.direction.Direction.{Direction}
+use Rattle.papergrid_values.specs.Positions.{AreRising, along}
+use Rattle.papergrid_axis.specs.Ranges.{AreDisjoint, demand_of, end_of, inner_lines, place_of}
 use Rattle.papergrid_axis.specs.Fits.{HasRoom}
 
 -- a range with a need, wherever its cell stands
@@ -27,11 +28,7 @@ all_listed number places demands = sum_by (λ d. number d * times_listed places 
 abbrev pub AreApartAt : Direction → (Position → ℕ) → Position → Position → Type 0
 AreApartAt direction span_of p q = AreDisjoint (demand_of direction p (span_of p) 0) (demand_of direction q (span_of q) 0)
 
--- one place's number is below another's
-abbrev pub AreRising : Direction → Position → Position → Type 0
-AreRising direction p q = along direction p < along direction q
-
--- and its range ends there, or before
+-- one place's number is below another's, and its range ends there or before
 abbrev pub AreInOrder : Direction → (Position → ℕ) → Position → Position → Type 0
 AreInOrder direction span_of p q = AreRising direction p q × (along direction p + span_of p ≤ along direction q)
 

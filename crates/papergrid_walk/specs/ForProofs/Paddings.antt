@@ -1,7 +1,7 @@
 -- The paddings of a cell on its four sides.
 use Rattle.std.specs.Prelude.{◌≡◌, IfSome, Option}
 use Rattle.papergrid_values.specs.declared.position.Position.{Position}
-use Rattle.papergrid_axis.specs.declared.direction.Direction.TheVariants.{Columns, Rows}
+use Rattle.papergrid_values.specs.declared.direction.Direction.TheVariants.{Columns, Rows}
 use Rattle.papergrid_walk.specs.Looks.{Look}
 use Rattle.papergrid_walk.specs.declared.settings.Paddings.{Paddings}
 

@@ -2,7 +2,8 @@ use Rattle.std.proofs.Common.{◌≡◌, ℕ, ◌+◌, ◌*◌, ◌≤◌, ◌�
 use Rattle.std.proofs.lemmas.Bool.{not-false, not-true, true≢false}
 use Rattle.papergrid_axis.specs.ForProofs.Checks.{Checks, range_of, times_listed}
 use Rattle.papergrid_axis.specs.Fits.{HasRoom}
-use Rattle.papergrid_axis.specs.Ranges.{along, demand_of, inner_lines, lines_to}
+use Rattle.papergrid_values.specs.Positions.{along}
+use Rattle.papergrid_axis.specs.Ranges.{demand_of, inner_lines, lines_to}
 use Rattle.papergrid_axis.proofs.ClaimLemmas.{rising-from_order}
 use Rattle.papergrid_axis.proofs.CheckLemmas.{Checks-more, Checks-fails, none_room, too_many, inner_lines-span}
 use Rattle.papergrid_axis.proofs.checked.visit.Goals as goal

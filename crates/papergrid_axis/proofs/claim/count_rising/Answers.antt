@@ -3,7 +3,7 @@ use Rattle.std.specs.Prelude.{nat_lt}
 use Rattle.std.specs.List.Sorted.{IsPartitionPoint}
 use Rattle.std.proofs.lemmas.List.Sorted.{IsPartitionPoint-from_clause, IsPartitionedBy-ltb}
 use Rattle.papergrid_values.specs.declared.position.Position.{Position}
-use Rattle.papergrid_axis.specs.Ranges.{along}
+use Rattle.papergrid_values.specs.Positions.{along}
 use Rattle.papergrid_axis.proofs.ClaimLemmas.{is_same, listed-at, listed-none, never_falls}
 use Rattle.papergrid_axis.proofs.claim.count_rising.Goals as goal
 

@@ -1,6 +1,6 @@
 use Rattle.std.proofs.Common.{◌∙◌, subst, sym}
 use Rattle.papergrid_axis.specs.Answers.{AreSizes, IsRefused}
-use Rattle.papergrid_axis.specs.declared.direction.Direction.TheVariants.{Columns, Rows}
+use Rattle.papergrid_values.specs.declared.direction.Direction.TheVariants.{Columns, Rows}
 use Rattle.papergrid_walk.specs.Cells.{demands_of}
 use Rattle.papergrid_layout.specs.Answers.{drawn_along}
 use Rattle.papergrid_layout.proofs.AnswerLemmas.{refused_columns, refused_rows}

@@ -1,6 +1,6 @@
 use Rattle.std.proofs.Common.{arith, refl, subst, [], ◌∷◌, ◌++◌, ◌∙◌, length, length-append}
 use Rattle.papergrid_text.proofs.RowSteps.{one_more_fits, zip_more}
-use Rattle.papergrid_axis.specs.declared.direction.Direction.TheVariants.{Columns, Rows}
+use Rattle.papergrid_values.specs.declared.direction.Direction.TheVariants.{Columns, Rows}
 use Rattle.papergrid_axis.specs.ForProofs.Seen.{Holds}
 use Rattle.papergrid_walk.specs.Cells.{limit_along}
 use Rattle.papergrid_walk.proofs.Distinct.{IsSeen-demands, count-le}

@@ -1,7 +1,7 @@
 use Rattle.std.proofs.Common.{◌≡◌, length}
 use Rattle.std.specs.List.{AllZip}
 use Rattle.papergrid_text.specs.Records.{Gives}
-use Rattle.papergrid_axis.specs.declared.direction.Direction.TheVariants.{Columns, Rows}
+use Rattle.papergrid_values.specs.declared.direction.Direction.TheVariants.{Columns, Rows}
 use Rattle.papergrid_axis.specs.ForProofs.Seen.{Holds}
 use Rattle.papergrid_walk.specs.Cells.{demands_of, limit_along}
 use Rattle.papergrid_walk.specs.ForProofs.Shown.{Shows}

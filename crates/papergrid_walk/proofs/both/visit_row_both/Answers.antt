@@ -1,6 +1,6 @@
 use Rattle.std.proofs.Common.{arith, refl, [], ◌∷◌, length-append}
 use Rattle.papergrid_text.proofs.RowSteps.{one_more_fits}
-use Rattle.papergrid_axis.specs.declared.direction.Direction.TheVariants.{Columns, Rows}
+use Rattle.papergrid_values.specs.declared.direction.Direction.TheVariants.{Columns, Rows}
 use Rattle.papergrid_walk.proofs.ShownLemmas.{shows_below}
 use Rattle.papergrid_walk.proofs.Steps.{none_yet, step-cell}
 use Rattle.papergrid_walk.proofs.both.visit_row_both.Goals as goal

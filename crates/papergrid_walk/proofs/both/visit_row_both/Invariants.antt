@@ -1,5 +1,5 @@
 use Rattle.std.proofs.Common.{◌≡◌, length}
-use Rattle.papergrid_axis.specs.declared.direction.Direction.TheVariants.{Columns, Rows}
+use Rattle.papergrid_values.specs.declared.direction.Direction.TheVariants.{Columns, Rows}
 use Rattle.papergrid_axis.specs.ForProofs.Seen.{Adds}
 use Rattle.papergrid_walk.specs.Cells.{asked_by, placed_row}
 use Rattle.papergrid_walk.specs.ForProofs.Shown.{Shows}

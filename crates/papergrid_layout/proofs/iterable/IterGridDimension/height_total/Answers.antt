@@ -1,6 +1,6 @@
 use Rattle.std.proofs.Common.{◌∙◌, ◌+◌, ap, arith, length, sym}
 use Rattle.std.specs.Prelude.{sum}
-use Rattle.papergrid_axis.specs.declared.direction.Direction.TheVariants.{Rows}
+use Rattle.papergrid_values.specs.declared.direction.Direction.TheVariants.{Rows}
 use Rattle.papergrid_config.specs.Lines.{count_lines}
 use Rattle.papergrid_walk.specs.Cells.{demands_of}
 use Rattle.papergrid_walk.specs.Looks.{line_along, spanned_look}

@@ -1,7 +1,7 @@
 use Rattle.std.proofs.Common.{map}
 use Rattle.std.specs.Prelude.{string_bytes}
 use Rattle.papergrid_text.specs.HeldRows.{column_count, rows_held}
-use Rattle.papergrid_axis.specs.declared.direction.Direction.TheVariants.{Columns}
+use Rattle.papergrid_values.specs.declared.direction.Direction.TheVariants.{Columns}
 use Rattle.papergrid_walk.specs.Looks.{spanned_look}
 use Rattle.papergrid_walk.specs.Measures.{line_measure}
 use Rattle.papergrid_layout.proofs.Told.{sizes_told}
