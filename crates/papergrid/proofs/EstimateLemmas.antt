@@ -12,7 +12,8 @@ use Rattle.papergrid_axis.specs.declared.error.LayoutError.{LayoutError}
 use Rattle.papergrid_axis.specs.declared.error.LayoutError.TheVariants as layout_errors
 use Rattle.papergrid_axis.specs.Chosen.{chosen_of}
 use Rattle.papergrid_axis.specs.KeptApart.{is_kept_apart}
-use Rattle.papergrid_axis.specs.Ranges.{all_lines, end_of, first_out, place_of}
+use Rattle.papergrid_axis.specs.Problem.{all_lines}
+use Rattle.papergrid_axis.specs.Ranges.{end_of, first_out, place_of}
 use Rattle.papergrid_axis.specs.Sizes.{sizes_of}
 use Rattle.papergrid_walk.specs.Cells.{asked, demands_of, visible_cells}
 use Rattle.papergrid_walk.specs.Looks.{Look}

@@ -11,7 +11,8 @@ use Rattle.papergrid_values.specs.declared.direction.Direction.TheVariants.{Colu
 use Rattle.papergrid_axis.specs.Answers.{AreChosen, AreSizes, NoneChosen, NoneHolds}
 use Rattle.papergrid_axis.specs.Chosen.{chosen_of}
 use Rattle.papergrid_axis.specs.KeptApart.{is_kept_apart}
-use Rattle.papergrid_axis.specs.Ranges.{IsInTable, all_lines, first_out, place_of}
+use Rattle.papergrid_axis.specs.Problem.{all_lines}
+use Rattle.papergrid_axis.specs.Ranges.{IsInTable, first_out, place_of}
 use Rattle.papergrid_axis.proofs.KeptApartLemmas.{Decides-is_kept_apart, SomeCross-from_test}
 use Rattle.papergrid_axis.proofs.OutLemmas as out_lemmas
 use Rattle.papergrid_axis.proofs.Theorems.{AreSizes-sizes_of, IsCertificate-chosen_of, NoneHolds-sizes_of}

@@ -8,6 +8,7 @@ use Rattle.std.proofs.lemmas.Bool.{cases_Bool, and_parts, and_from}
 use Rattle.std.proofs.lemmas.List.{get_or_default, length-map}
 use Rattle.std.proofs.lemmas.List.Sums.{sum_by-cons}
 use Rattle.std.proofs.lemmas.List.Elements.{All-contains, recursion_from_All, All-from_recursion, All-weaker}
+use Rattle.papergrid_axis.specs.Problem.{given}
 use Rattle.papergrid_values.specs.declared.position.Position.{Position}
 use Rattle.papergrid_axis.specs.declared.checked.Checked.{Checked}
 use Rattle.papergrid_axis.specs.declared.demand.Demand.{Demand}
@@ -221,7 +222,7 @@ module _ (line : ℕ → Bool) (sizes : List ℕ) (places : List Position) (dire
   listed-at : (f : Demand → ℕ) (cells : List Demand) → map place_of cells ≡ places → AllByRecursion (Contains ds) cells → all_listed f places ds ≡ sum_by f cells
   listed-at f cells at all = ap (λ ps. all_listed f ps ds) (sym at) ∙ all_listed-cells f ds distinct cells all
 
-  pub accepted-from : SumsAgree checked sizes places → AllPairs (AreApartAt direction span_of) places → IsAccepted line (length sizes) ds sizes places
+  pub accepted-from : SumsAgree checked sizes places → AllPairs (AreApartAt direction span_of) places → IsAccepted (given line (length sizes) ds) sizes places
   accepted-from agree apart =
       let all = h.holds agree.holds in
       let table : All (IsInTable (length sizes)) ds = λ k e l. record { covers_one = h.spans k e l; ends_within = all.table k e l } in
@@ -242,7 +243,7 @@ module _ (line : ℕ → Bool) (sizes : List ℕ) (places : List Position) (dire
         };
       }
 
-  pub sums-from_accepted : IsAccepted line (length sizes) ds sizes places → SumsAgree checked sizes places
+  pub sums-from_accepted : IsAccepted (given line (length sizes) ds) sizes places → SumsAgree checked sizes places
   sums-from_accepted a =
       let table = none_out (length sizes) ds a.none_out h.spans in
       let so : checked.holds ≡ true = elim (cases_Bool checked.holds) [
@@ -261,13 +262,13 @@ module _ (line : ℕ → Bool) (sizes : List ℕ) (places : List Position) (dire
         adds_up = omega arith;
       }
 
-  pub apart-from_accepted : IsAccepted line (length sizes) ds sizes places → AllPairs (AreApartAt direction span_of) places
+  pub apart-from_accepted : IsAccepted (given line (length sizes) ds) sizes places → AllPairs (AreApartAt direction span_of) places
   apart-from_accepted a =
       subst (AllPairs (AreApartAt direction span_of)) a.at_places
       (pairs-from_cells direction span_of a.cells (ranged_cells a.cells a.certificate.visible) a.certificate.apart)
 
 -- accepted sizes are least
-pub IsLeast-accepted : (line : ℕ → Bool) (n : ℕ) (ds : List Demand) (sizes : List ℕ) (places : List Position) → All (λ d. 1 ≤ d.span) ds → IsAccepted line n ds sizes places → IsLeast line n ds sizes
+pub IsLeast-accepted : (line : ℕ → Bool) (n : ℕ) (ds : List Demand) (sizes : List ℕ) (places : List Position) → All (λ d. 1 ≤ d.span) ds → IsAccepted (given line n ds) sizes places → IsLeast (given line n ds) sizes
 IsLeast-accepted line n ds sizes places spans a =
     IsLeast-from_certificate line n ds a.cells sizes (none_out n ds a.none_out spans) a.fits a.certificate
 
@@ -287,7 +288,7 @@ ones_below (c ∷ cells) spans =
     omega arith
 
 -- ranges of a table that have no number in common are no more than its numbers
-pub few_places : (line : ℕ → Bool) (n : ℕ) (ds : List Demand) (sizes : List ℕ) (places : List Position) → All (λ d. 1 ≤ d.span) ds → IsAccepted line n ds sizes places → length places ≤ n
+pub few_places : (line : ℕ → Bool) (n : ℕ) (ds : List Demand) (sizes : List ℕ) (places : List Position) → All (λ d. 1 ≤ d.span) ds → IsAccepted (given line n ds) sizes places → length places ≤ n
 few_places line n ds sizes places spans a =
     let table : All (IsInTable n) ds = none_out n ds a.none_out spans in
     let cells : All (IsInTable n) a.cells = All-weaker (Contains ds) (IsInTable n) (λ d m. All-contains (IsInTable n) ds d table m) a.cells a.certificate.visible in

@@ -5,6 +5,7 @@ use Rattle.std.specs.List.{AllByRecursion, range_with_len}
 use Rattle.std.proofs.lemmas.Bool.{cases_Bool, and_parts, or_parts, or_left, or_right, eqb-false, true≢false}
 use Rattle.std.proofs.lemmas.List.Sums.{sum_by-cons}
 use Rattle.std.proofs.lemmas.List.Elements.{recursion_from_All, All-from_recursion, All-contains_itself}
+use Rattle.papergrid_axis.specs.Problem.{given}
 use Rattle.papergrid_axis.specs.declared.demand.Demand.{Demand}
 use Rattle.papergrid_axis.specs.Ranges.{end_of, holds, AreDisjoint, inner_lines, IsInTable}
 use Rattle.papergrid_axis.specs.Fits.{range_sum, IsCertificate, IsLeast}
@@ -236,7 +237,7 @@ module _ (line : ℕ → Bool) (n : ℕ) (demands growers : List Demand) (sizes 
       let s' : upto (λ i. get_or sizes i 0) (length sizes) ≡ upto (λ i. get_or sizes i 0) n = ap (upto (λ i. get_or sizes i 0)) g.many in
       omega arith
 
-  pub certificate_of_growers : IsCertificate line demands sizes (chosen n demands growers sizes)
+  pub certificate_of_growers : IsCertificate (given line n demands) sizes (chosen n demands growers sizes)
   certificate_of_growers = record {
     visible = All-from_recursion (Contains demands) (chosen n demands growers sizes) chosen-cells;
     apart = AllPairs-from_Apart (chosen n demands growers sizes) chosen-apart;
@@ -273,13 +274,13 @@ growers_are line n demands taken table takes laminar =
 
 -- the chosen cells are a certificate
 pub certificate_of : (line : ℕ → Bool) (n : ℕ) (demands taken : List Demand) → All (IsInTable n) demands → TakesAll demands taken → IsLaminar taken →
-    IsCertificate line demands (sizes_after line n demands taken) (chosen n demands (growing line (base_sizes n demands) taken) (sizes_after line n demands taken))
+    IsCertificate (given line n demands) (sizes_after line n demands taken) (chosen n demands (growing line (base_sizes n demands) taken) (sizes_after line n demands taken))
 certificate_of line n demands taken table takes laminar =
     certificate_of_growers line n demands (growing line (base_sizes n demands) taken) (sizes_after line n demands taken) (growers_are line n demands taken table takes laminar)
 
 -- so the sizes are least
 pub IsLeast-sizes_after : (line : ℕ → Bool) (n : ℕ) (demands taken : List Demand) → All (IsInTable n) demands → TakesAll demands taken → IsLaminar taken →
-    IsLeast line n demands (sizes_after line n demands taken)
+    IsLeast (given line n demands) (sizes_after line n demands taken)
 IsLeast-sizes_after line n demands taken table takes laminar =
     IsLeast-from_certificate line n demands (chosen n demands (growing line (base_sizes n demands) taken) (sizes_after line n demands taken)) (sizes_after line n demands taken) table
     (Fits-sizes_after line n demands taken table takes) (certificate_of line n demands taken table takes laminar)

@@ -2,7 +2,7 @@
 use Rattle.std.proofs.Common.{◌≡◌, ℕ, zero, suc, ◌+◌, ◌-◌, ◌*◌, ◌<◌, ◌≤◌, Bool, true, false, cond, inl, inr, List, [], ◌∷◌, ◌++◌, length, count_by, refl, sym, ap, ◌∙◌, arith}
 use Rattle.std.specs.Prelude.{All}
 use Rattle.std.specs.List.{AllByRecursion, range_with_len}
-use Rattle.std.proofs.lemmas.Bool.{cases_Bool, le-leb, true≢false, false≢true}
+use Rattle.std.proofs.lemmas.Bool.{cases_Bool, true≢false, false≢true}
 use Rattle.std.proofs.Math.Nat.{mul-le-mul_right}
 use Rattle.std.proofs.lemmas.List.Sums.{sum_by-cons, sum_by-append}
 use Rattle.std.proofs.lemmas.List.Elements.{All-append, All-cons, All-nil, recursion_from_All, All-from_recursion}
@@ -12,7 +12,7 @@ use Rattle.papergrid_axis.specs.declared.demand.Demand.{Demand}
 use Rattle.papergrid_values.specs.declared.direction.Direction.{Direction}
 use Rattle.papergrid_axis.specs.ForProofs.Checks.{CanHold, Checks, all_listed, times_listed}
 use Rattle.papergrid_axis.specs.Fits.{HasRoom}
-use Rattle.papergrid_axis.specs.Ranges.{demand_of, end_of, inner_lines, lines_to, place_of}
+use Rattle.papergrid_axis.specs.Ranges.{demand_of, end_of, inner_lines, place_of}
 use Rattle.papergrid_axis.proofs.LoopLemmas.{range_with_len-append}
 
 -- one more number
@@ -28,18 +28,13 @@ count_by-more line s i le =
     let p : count_by line (range_with_len i 1) ≡ cond (line i) 1 0 + 0 = sum_by-cons (λ j. cond (line j) 1 0) i [] in
     omega arith
 
-count_by-agree : (f g : ℕ → Bool) (a m : ℕ) → ((i : ℕ) → a ≤ i → i < a + m → f i ≡ g i) → count_by f (range_with_len a m) ≡ count_by g (range_with_len a m)
+pub count_by-agree : (f g : ℕ → Bool) (a m : ℕ) → ((i : ℕ) → a ≤ i → i < a + m → f i ≡ g i) → count_by f (range_with_len a m) ≡ count_by g (range_with_len a m)
 count_by-agree f g a zero same = refl
 count_by-agree f g a (suc m) same =
     let ih : count_by f (range_with_len (a + 1) m) ≡ count_by g (range_with_len (a + 1) m) = count_by-agree f g (a + 1) m (λ i l l'. same i (omega arith) (omega arith)) in
     let x : count_by f (range_with_len a (suc m)) ≡ cond (f a) 1 0 + count_by f (range_with_len (a + 1) m) = sum_by-cons (λ j. cond (f j) 1 0) a (range_with_len (a + 1) m) in
     let y : count_by g (range_with_len a (suc m)) ≡ cond (g a) 1 0 + count_by g (range_with_len (a + 1) m) = sum_by-cons (λ j. cond (g j) 1 0) a (range_with_len (a + 1) m) in
     x ∙ ap (λ b. cond b 1 0 + count_by f (range_with_len (a + 1) m)) (same a (omega arith) (omega arith)) ∙ ap (λ k. cond (g a) 1 0 + k) ih ∙ sym y
-
--- inside of a table only the lines of the table count
-pub inner_lines-lines_to : (line : ℕ → Bool) (n : ℕ) (d : Demand) → 1 ≤ d.span → end_of d ≤ n → inner_lines (lines_to line n) d ≡ inner_lines line d
-inner_lines-lines_to line n d one le =
-    count_by-agree (lines_to line n) line (d.start + 1) (d.span - 1) (λ i l l'. rw (le-leb i n (omega arith)) refl)
 
 -- ---- one more cell
 

@@ -4,6 +4,7 @@ use Rattle.std.specs.Prelude.{All, Contains}
 use Rattle.std.specs.List.{AllByRecursion}
 use Rattle.std.proofs.lemmas.List.Sums.{sum_by-cons}
 use Rattle.std.proofs.lemmas.List.Elements.{recursion_from_All, All-contains, All-weaker}
+use Rattle.papergrid_axis.specs.Problem.{given}
 use Rattle.papergrid_axis.specs.declared.demand.Demand.{Demand}
 use Rattle.papergrid_axis.specs.Ranges.{end_of, inner_lines, IsInTable}
 use Rattle.papergrid_axis.specs.Fits.{range_sum, HasRoom, Fits, IsLeast, IsCertificate}
@@ -25,7 +26,7 @@ needs_below line sizes (d ∷ ds) h =
 
 -- the total of a list that fits is at least that of the certificate
 pub total_bounds : (line : ℕ → Bool) (n : ℕ) (demands chosen : List Demand) (sizes other : List ℕ) →
-    All (IsInTable n) demands → IsCertificate line demands sizes chosen → Fits line n demands other → sum sizes ≤ sum other
+    All (IsInTable n) demands → IsCertificate (given line n demands) sizes chosen → Fits (given line n demands) other → sum sizes ≤ sum other
 total_bounds line n demands chosen sizes other table certificate fits =
     let f : ℕ → ℕ = λ i. get_or other i 0 in
     let inside : AllByRecursion (λ d. end_of d ≤ n) chosen =
@@ -45,6 +46,6 @@ total_bounds line n demands chosen sizes other table certificate fits =
 
 -- sizes that fit and have a certificate are least
 pub IsLeast-from_certificate : (line : ℕ → Bool) (n : ℕ) (demands chosen : List Demand) (sizes : List ℕ) →
-    All (IsInTable n) demands → Fits line n demands sizes → IsCertificate line demands sizes chosen → IsLeast line n demands sizes
+    All (IsInTable n) demands → Fits (given line n demands) sizes → IsCertificate (given line n demands) sizes chosen → IsLeast (given line n demands) sizes
 IsLeast-from_certificate line n demands chosen sizes table fits certificate =
     record { fits = fits; least = λ other h. total_bounds line n demands chosen sizes other table certificate h }

@@ -4,6 +4,7 @@ use Rattle.std.specs.Prelude.{All, Contains}
 use Rattle.std.specs.List.{AllByRecursion}
 use Rattle.std.proofs.lemmas.Bool.{cases_lt}
 use Rattle.std.proofs.lemmas.List.Elements.{recursion_from_All, All-from_recursion, All-contains}
+use Rattle.papergrid_axis.specs.Problem.{given}
 use Rattle.papergrid_axis.specs.declared.demand.Demand.{Demand}
 use Rattle.std.proofs.lemmas.List.{get_or_default}
 use Rattle.papergrid_axis.proofs.Steps.{shares_sum}
@@ -72,7 +73,7 @@ module _ (line : ℕ → Bool) (n : ℕ) (demands taken : List Demand) (table : 
       ]
 
   -- the sizes fit
-  pub Fits-sizes_after : Fits line n demands (sizes_after line n demands taken)
+  pub Fits-sizes_after : Fits (given line n demands) (sizes_after line n demands taken)
   Fits-sizes_after = record {
     one_each = length-taken line (base_sizes n demands) taken ∙ length-base_sizes n demands;
     room = λ k d l. room_of (get_or demands k d) (k, l, get_or_self demands k d l);

@@ -8,9 +8,10 @@ use Rattle.std.proofs.lemmas.List.{get_or-set_same, get_or-set_other, drop_more,
 use Rattle.std.proofs.lemmas.List.Sums.{sum_by-cons, sum_by-take-le, sum_by-take-drop, fold-append, sum_by-append}
 use Rattle.std.proofs.lemmas.Grind.{same_number_lists}
 use Rattle.papergrid_axis.specs.declared.demand.Demand.{Demand}
-use Rattle.papergrid_axis.specs.Ranges.{line_at}
-use Rattle.papergrid_axis.specs.Ranges.{end_of, inner_lines, IsInTable, all_lines}
-use Rattle.papergrid_axis.specs.Fits.{range_sum, HasRoom, IsTooLarge}
+use Rattle.papergrid_axis.specs.ForProofs.Settled.{line_at}
+use Rattle.papergrid_axis.specs.Problem.{all_lines}
+use Rattle.papergrid_axis.specs.Ranges.{end_of, inner_lines, IsInTable}
+use Rattle.papergrid_axis.specs.Fits.{range_sum, HasRoom}
 use Rattle.papergrid_axis.specs.Sizes.{share, with_shares, lack, grown}
 use Rattle.papergrid_axis.proofs.Upto.{upto, upto-point, upto-ext, upto-add, sum-upto, within, holds_cases}
 use Rattle.papergrid_axis.proofs.RangeLemmas.{masked, masked_in, masked_out, masked_sum}
@@ -206,7 +207,7 @@ need_within_total line n sizes d le room =
     ]
 
 -- a need past the greatest `usize`: every list that fits is too large
-pub large_need : (line : ℕ → Bool) (n : ℕ) (sizes : List ℕ) (d : Demand) → IsInTable n d → 18446744073709551615 < d.need → HasRoom line sizes d → IsTooLarge line n sizes
+pub large_need : (line : ℕ → Bool) (n : ℕ) (sizes : List ℕ) (d : Demand) → IsInTable n d → 18446744073709551615 < d.need → HasRoom line sizes d → 18446744073709551616 ≤ sum sizes + all_lines line n
 large_need line n sizes d table large room =
     let a : d.need ≤ sum sizes + all_lines line n = need_within_total line n sizes d table.ends_within room in
     let c : 18446744073709551616 ≤ sum sizes + all_lines line n = omega arith in

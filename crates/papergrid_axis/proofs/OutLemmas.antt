@@ -1,15 +1,16 @@
 -- The first cell out of the table, and needs past the greatest `usize`.
-use Rattle.std.proofs.Common.{◌≡◌, ℕ, ◌+◌, ◌<◌, ◌≤◌, Bool, true, false, List, [], ◌∷◌, ◌||◌, length, map, refl, ap, sym, ◌∙◌, arith, nat_lt, get_or, drop, inl, inr}
+use Rattle.std.proofs.Common.{Bool, List, [], ap, arith, drop, false, get_or, inl, inr, length, map, nat_lt, refl, sum, sym, true, ℕ, ◌+◌, ◌<◌, ◌||◌, ◌∙◌, ◌∷◌, ◌≡◌, ◌≤◌}
 use Rattle.std.specs.Prelude.{Option, Some, None, is_some, All, if◌then◌else◌}
 use Rattle.std.specs.List.{list_any}
 use Rattle.std.proofs.lemmas.List.{drop_more}
 use Rattle.std.proofs.lemmas.Bool.{false≢true, cases_Bool, ltb-false, leb-true}
 use Rattle.std.proofs.lemmas.List.Elements.{All-nil, All-cons, All-head, All-tail}
+use Rattle.papergrid_axis.specs.Problem.{all_lines, given}
 use Rattle.papergrid_axis.specs.declared.demand.Demand.{Demand}
 use Rattle.papergrid_axis.specs.declared.seen.Seen.{Seen}
 use Rattle.papergrid_axis.specs.Answers.{NoneHolds}
 use Rattle.papergrid_axis.specs.Ranges.{IsInTable, end_of, first_out, place_of}
-use Rattle.papergrid_axis.specs.Fits.{HasRoom, IsTooLarge}
+use Rattle.papergrid_axis.specs.Fits.{HasRoom}
 use Rattle.papergrid_axis.specs.ForProofs.Seen.{IsSeen, is_large, others, without_need}
 use Rattle.papergrid_axis.specs.Sizes.{sizes_of}
 use Rattle.papergrid_axis.proofs.LoopLemmas.{large_need}
@@ -43,7 +44,7 @@ none_out n (d ∷ ds) e spans =
 
 -- one large need makes every list with room for all too large
 large_any : (line : ℕ → Bool) (n : ℕ) (sizes : List ℕ) (ds : List Demand) → list_any is_large ds ≡ true → All (IsInTable n) ds → All (HasRoom line sizes) ds →
-    IsTooLarge line n sizes
+    18446744073709551616 ≤ sum sizes + all_lines line n
 large_any line n sizes [] e table room = absurd (false≢true e)
 large_any line n sizes (d ∷ ds) e table room = elim (cases_Bool (is_large d)) [
   | inl t ↦
@@ -59,12 +60,13 @@ module _ (n : ℕ) (seen : Seen) (demands : List Demand) (is : IsSeen n seen dem
   pub table_demands : first_out n seen.others.items ≡ None → All (IsInTable n) demands
   table_demands none = none_out n demands (out_seen ∙ none) is.held.spans
 
-  pub NoneHolds-large : (line : ℕ → Bool) → first_out n seen.others.items ≡ None → seen.is_large ≡ true → NoneHolds line n demands
+  pub NoneHolds-large : (line : ℕ → Bool) → first_out n seen.others.items ≡ None → seen.is_large ≡ true → NoneHolds (given line n demands)
   NoneHolds-large line none large =
       let table = table_demands none in
       let any = sym is.held.large ∙ large in
+      let problem = given line n demands in
       record {
         none_out = out_seen ∙ none;
-        too_large = large_any line n (sizes_of line n demands) demands any table (Fits-sizes_of line n demands table).room;
+        too_large = large_any line n (sizes_of problem) demands any table (Fits-sizes_of (given line n demands) table).room;
         none_holds = λ apart other fits. large_any line n other demands any table fits.room;
       }

@@ -1,49 +1,50 @@
 -- What an answer for a direction says of the cells' demands.
-use Rattle.std.specs.Prelude.{◌≡◌, ℕ, ◌+◌, ◌^◌, ◌<◌, ◌≤◌, Bool, List, EachIndex, slice_index, map, sum, Result, Ok, Err, Option, None, Some, Vec, ⊤}
+use Rattle.std.specs.Prelude.{◌≡◌, ℕ, ◌^◌, ◌<◌, ◌≤◌, List, EachIndex, slice_index, map, Result, Ok, Err, Option, None, Some, Vec, ⊤}
 use Rattle.papergrid_values.specs.declared.position.Position.{Position}
 use Rattle.papergrid_axis.specs.declared.demand.Demand.{Demand}
 use Rattle.papergrid_axis.specs.declared.error.LayoutError.{LayoutError}
 use Rattle.papergrid_axis.specs.declared.error.LayoutError.TheVariants.{OutOfTable, TooLarge, Memory}
-use Rattle.papergrid_axis.specs.Ranges.{IsKeptApart, SomeCross, all_lines, first_out, place_of}
+use Rattle.papergrid_axis.specs.Problem.{Problem, total_of}
+use Rattle.papergrid_axis.specs.Ranges.{IsKeptApart, SomeCross, first_out, place_of}
 use Rattle.papergrid_axis.specs.Fits.{Fits, IsLeast, IsTooLarge, IsCertificate, top_need}
 use Rattle.papergrid_axis.specs.Sizes.{sizes_of}
 use Rattle.papergrid_axis.specs.Chosen.{chosen_of}
 
-module _ (line : ℕ → Bool) (n : ℕ) (demands : List Demand) where
+module _ (problem : Problem) where
   -- these are the sizes, and what holds of them
   pub record AreSizes (sizes : List ℕ) : Type 0 where
-    pub none_out : first_out n demands ≡ None
-    pub exact : sizes ≡ sizes_of line n demands
-    pub total : sum sizes + all_lines line n < 2 ^ 64
-    pub fits : Fits line n demands sizes
-    pub bound : EachIndex sizes (λ i. slice_index sizes i ≤ top_need demands i)
-    pub least : IsKeptApart demands → IsLeast line n demands sizes
+    pub none_out : first_out problem.count problem.demands ≡ None
+    pub exact : sizes ≡ sizes_of problem
+    pub total : total_of problem sizes < 2 ^ 64
+    pub fits : Fits problem sizes
+    pub bound : EachIndex sizes (λ i. slice_index sizes i ≤ top_need problem.demands i)
+    pub least : IsKeptApart problem.demands → IsLeast problem sizes
 
   -- the sizes are too large, and where ranges are kept apart so is every list that fits
   pub record NoneHolds : Type 0 where
-    pub none_out : first_out n demands ≡ None
-    pub too_large : IsTooLarge line n (sizes_of line n demands)
-    pub none_holds : IsKeptApart demands → (other : List ℕ) → Fits line n demands other → IsTooLarge line n other
+    pub none_out : first_out problem.count problem.demands ≡ None
+    pub too_large : IsTooLarge problem (sizes_of problem)
+    pub none_holds : IsKeptApart problem.demands → (other : List ℕ) → Fits problem other → IsTooLarge problem other
 
   -- out of the table by the first cell that reaches out, else too large; memory may be refused in place of any answer
   abbrev pub IsRefused : LayoutError → Type 0
-  IsRefused (OutOfTable place) = first_out n demands ≡ Some place
+  IsRefused (OutOfTable place) = first_out problem.count problem.demands ≡ Some place
   IsRefused TooLarge = NoneHolds
   IsRefused (Memory e) = ⊤
 
   -- the places of the chosen cells, which certify the sizes
   pub record AreChosen (places : List Position) : Type 0 where
-    pub none_out : first_out n demands ≡ None
-    pub total : sum (sizes_of line n demands) + all_lines line n < 2 ^ 64
-    pub kept_apart : IsKeptApart demands
-    pub exact : places ≡ map place_of (chosen_of line n demands)
-    pub certificate : IsCertificate line demands (sizes_of line n demands) (chosen_of line n demands)
+    pub none_out : first_out problem.count problem.demands ≡ None
+    pub total : total_of problem (sizes_of problem) < 2 ^ 64
+    pub kept_apart : IsKeptApart problem.demands
+    pub exact : places ≡ map place_of (chosen_of problem)
+    pub certificate : IsCertificate problem (sizes_of problem) (chosen_of problem)
 
   -- there are sizes, and two longer ranges are neither nested nor disjoint
   pub record NoneChosen : Type 0 where
-    pub none_out : first_out n demands ≡ None
-    pub total : sum (sizes_of line n demands) + all_lines line n < 2 ^ 64
-    pub not_kept_apart : SomeCross demands
+    pub none_out : first_out problem.count problem.demands ≡ None
+    pub total : total_of problem (sizes_of problem) < 2 ^ 64
+    pub not_kept_apart : SomeCross problem.demands
 
   module _ {Z : Type 0} where
     -- the sizes, or why there are none
@@ -63,9 +64,9 @@ module _ (line : ℕ → Bool) (n : ℕ) (demands : List Demand) where
     IsCertified (Err e) = IsRefused e
 
 -- what a checker accepts: no cell reaches out, the sizes fit, and the places are those of cells that certify them
-pub record IsAccepted (line : ℕ → Bool) (n : ℕ) (demands : List Demand) (sizes : List ℕ) (places : List Position) : Type 0 where
-  pub none_out : first_out n demands ≡ None
-  pub fits : Fits line n demands sizes
+pub record IsAccepted (problem : Problem) (sizes : List ℕ) (places : List Position) : Type 0 where
+  pub none_out : first_out problem.count problem.demands ≡ None
+  pub fits : Fits problem sizes
   pub cells : List Demand
   pub at_places : map place_of cells ≡ places
-  pub certificate : IsCertificate line demands sizes cells
+  pub certificate : IsCertificate problem sizes cells

@@ -2,6 +2,7 @@
 use Rattle.std.specs.Prelude.{ℕ, Bool, ◌&&◌, ◌==◌, nat_lt, nat_le, if◌then◌else◌, List, [], ◌∷◌, filter_map, find, slice_index, Option, Some, None}
 use Rattle.std.specs.List.{range_with_len, list_any}
 use Rattle.papergrid_axis.specs.declared.demand.Demand.{Demand}
+use Rattle.papergrid_axis.specs.Problem.{Problem}
 use Rattle.papergrid_axis.specs.Ranges.{end_of, holds}
 use Rattle.papergrid_axis.specs.Sizes.{lack, grown, base_sizes, sizes_of, taken}
 
@@ -40,7 +41,11 @@ chosen n demands growers sizes =
     filter_map (λ i. or_else (find (λ d. d.start == i) (outermost growers)) (single_at demands growers sizes i))
     (range_with_len 0 n)
 
+-- the cells that grow of a problem
+abbrev pub growers_of : Problem → List Demand
+growers_of problem =
+    growing problem.line (base_sizes problem.count problem.demands) (taken problem.count problem.demands)
+
 -- the chosen cells
-abbrev pub chosen_of : (ℕ → Bool) → ℕ → List Demand → List Demand
-chosen_of line n demands =
-    chosen n demands (growing line (base_sizes n demands) (taken n demands)) (sizes_of line n demands)
+abbrev pub chosen_of : Problem → List Demand
+chosen_of problem = chosen problem.count problem.demands (growers_of problem) (sizes_of problem)

@@ -1,7 +1,8 @@
 -- Room for each cell, the least total, and what shows that a total is least.
 use Rattle.std.specs.Prelude.{◌≡◌, ℕ, ◌+◌, ◌^◌, ◌≤◌, max, Bool, List, [], ◌∷◌, map, length, take, drop, filter, sum, sum_by, All, AllPairs, Contains}
 use Rattle.papergrid_axis.specs.declared.demand.Demand.{Demand}
-use Rattle.papergrid_axis.specs.Ranges.{holds, inner_lines, all_lines, AreDisjoint}
+use Rattle.papergrid_axis.specs.Problem.{Problem, total_of}
+use Rattle.papergrid_axis.specs.Ranges.{holds, inner_lines, AreDisjoint}
 
 -- the sum of the sizes in the range
 abbrev pub range_sum : List ℕ → Demand → ℕ
@@ -12,18 +13,18 @@ abbrev pub HasRoom : (ℕ → Bool) → List ℕ → Demand → Type 0
 HasRoom line sizes d = d.need ≤ range_sum sizes d + inner_lines line d
 
 -- one size for each number, and room for each cell
-pub record Fits (line : ℕ → Bool) (n : ℕ) (demands : List Demand) (sizes : List ℕ) : Type 0 where
-  pub one_each : length sizes ≡ n
-  pub room : All (HasRoom line sizes) demands
+pub record Fits (problem : Problem) (sizes : List ℕ) : Type 0 where
+  pub one_each : length sizes ≡ problem.count
+  pub room : All (HasRoom problem.line sizes) problem.demands
 
 -- the sizes fit, and no list that fits has a smaller total
-pub record IsLeast (line : ℕ → Bool) (n : ℕ) (demands : List Demand) (sizes : List ℕ) : Type 0 where
-  pub fits : Fits line n demands sizes
-  pub least : (other : List ℕ) → Fits line n demands other → sum sizes ≤ sum other
+pub record IsLeast (problem : Problem) (sizes : List ℕ) : Type 0 where
+  pub fits : Fits problem sizes
+  pub least : (other : List ℕ) → Fits problem other → sum sizes ≤ sum other
 
 -- the total with all lines is past the greatest `usize`
-abbrev pub IsTooLarge : (ℕ → Bool) → ℕ → List ℕ → Type 0
-IsTooLarge line n sizes = 2 ^ 64 ≤ sum sizes + all_lines line n
+abbrev pub IsTooLarge : Problem → List ℕ → Type 0
+IsTooLarge problem sizes = 2 ^ 64 ≤ total_of problem sizes
 
 -- the greatest of some numbers, 0 where there is none
 abbrev pub greatest : List ℕ → ℕ
@@ -39,7 +40,7 @@ abbrev pub top_need : List Demand → ℕ → ℕ
 top_need demands i = greatest_need (λ d. holds d i) demands
 
 -- visible cells of pairwise disjoint ranges, whose needs less their inner lines add up to the total
-pub record IsCertificate (line : ℕ → Bool) (demands : List Demand) (sizes : List ℕ) (cells : List Demand) : Type 0 where
-  pub visible : All (Contains demands) cells
+pub record IsCertificate (problem : Problem) (sizes : List ℕ) (cells : List Demand) : Type 0 where
+  pub visible : All (Contains problem.demands) cells
   pub apart : AllPairs AreDisjoint cells
-  pub adds_up : sum_by (λ d. d.need) cells ≡ sum sizes + sum_by (inner_lines line) cells
+  pub adds_up : sum_by (λ d. d.need) cells ≡ sum sizes + sum_by (inner_lines problem.line) cells

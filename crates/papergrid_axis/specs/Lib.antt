@@ -2,6 +2,7 @@ pub mod Answers
 pub mod Chosen
 pub mod Fits
 pub mod KeptApart
+pub mod Problem
 pub mod Ranges
 pub mod Rows
 pub mod Sizes

@@ -1,7 +1,7 @@
 -- Ranges along a direction, which has n columns (rows), numbered from 0. A visible cell's range has the numbers from
 -- `start` on, `span` of them. `line i` tells whether a line is drawn at i, before number i, and at n after the last.
 -- The demands of the visible cells stand by (row, column).
-use Rattle.std.specs.Prelude.{ℕ, ◌+◌, ◌-◌, ◌≤◌, Bool, false, ◌&&◌, nat_lt, nat_le, if◌then◌else◌, ◌⊎◌, List, [], ◌∷◌, count_by, Contains, Option, Some, None, slice_index_or}
+use Rattle.std.specs.Prelude.{ℕ, ◌+◌, ◌-◌, ◌≤◌, Bool, ◌&&◌, nat_lt, nat_le, if◌then◌else◌, ◌⊎◌, List, [], ◌∷◌, count_by, Contains, Option, Some, None}
 use Rattle.std.specs.List.{range_with_len}
 use Rattle.papergrid_values.specs.declared.position.Position.{Position}
 use Rattle.papergrid_axis.specs.declared.demand.Demand.{Demand}
@@ -65,14 +65,3 @@ pub record SomeCross (demands : List Demand) : Type 0 where
 abbrev pub inner_lines : (ℕ → Bool) → Demand → ℕ
 inner_lines line d = count_by line (range_with_len (d.start + 1) (d.span - 1))
 
--- the lines at 0, 1 and so on up to n
-abbrev pub all_lines : (ℕ → Bool) → ℕ → ℕ
-all_lines line n = count_by line (range_with_len 0 (n + 1))
-
--- whether a line is drawn, by a list that says so of each number; none past its end
-abbrev pub line_at : List Bool → ℕ → Bool
-line_at lines i = slice_index_or lines i false
-
--- the lines at 0, 1 and so on up to n alone
-abbrev pub lines_to : (ℕ → Bool) → ℕ → ℕ → Bool
-lines_to line n i = nat_le i n && line i

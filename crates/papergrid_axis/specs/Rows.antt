@@ -1,6 +1,7 @@
 -- Worked tables: the sizes along one of their directions, and the cells that certify them.
 use Rattle.std.specs.Prelude.{◌≡◌, ℕ, ◌==◌, Bool, true, false, List, [], ◌∷◌, Some}
 use Rattle.papergrid_axis.specs.declared.demand.Demand.{Demand}
+use Rattle.papergrid_axis.specs.Problem.{Problem, given}
 use Rattle.papergrid_axis.specs.Ranges.{first_out}
 use Rattle.papergrid_axis.specs.Fits.{IsTooLarge}
 use Rattle.papergrid_axis.specs.Sizes.{sizes_of}
@@ -57,26 +58,26 @@ abbrev crossing_columns : List Demand
 crossing_columns = wide 0 0 2 10 ∷ wide 0 2 1 0 ∷ wide 1 0 1 0 ∷ wide 1 1 2 10 ∷ []
 
 -- the sizes, and the chosen cells
-pub record Gives (line : ℕ → Bool) (n : ℕ) (demands : List Demand) (sizes : List ℕ) (cells : List Demand) : Type 0 where
-  pub sizes_are : sizes_of line n demands ≡ sizes
-  pub cells_are : chosen_of line n demands ≡ cells
+pub record Gives (problem : Problem) (sizes : List ℕ) (cells : List Demand) : Type 0 where
+  pub sizes_are : sizes_of problem ≡ sizes
+  pub cells_are : chosen_of problem ≡ cells
 
 pub record WorkedRows : Type 0 where
-  pub readme_picture : Gives everywhere 4 picture_columns (17 ∷ 12 ∷ 16 ∷ 1 ∷ []) (wide 0 0 1 17 ∷ wide 0 1 1 12 ∷ wide 0 2 1 16 ∷ wide 0 3 1 1 ∷ [])
-  pub readme_picture_rows : Gives everywhere 2 picture_rows (1 ∷ 1 ∷ []) (high 0 1 1 1 ∷ high 1 1 1 1 ∷ [])
-  pub even_shares_over_inner_line : Gives everywhere 3 even_rows (3 ∷ 3 ∷ 1 ∷ []) (high 0 0 2 7 ∷ high 2 0 1 1 ∷ [])
-  pub remainder_to_first : Gives everywhere 2 remainder_rows (4 ∷ 3 ∷ []) (high 0 0 2 8 ∷ [])
-  pub lines_alone_satisfy : Gives everywhere 3 lined_rows (0 ∷ 0 ∷ 1 ∷ []) (high 2 1 1 1 ∷ [])
-  pub nested_column_spans : Gives nowhere 3 nested_columns (2 ∷ 4 ∷ 4 ∷ []) (wide 1 0 3 10 ∷ [])
-  pub nested_row_spans : Gives nowhere 3 nested_rows (2 ∷ 4 ∷ 4 ∷ []) (high 0 1 3 10 ∷ [])
-  pub row_spans_within_row_span : Gives nowhere 4 inner_rows (3 ∷ 2 ∷ 2 ∷ 1 ∷ []) (high 0 2 2 5 ∷ high 2 3 2 3 ∷ [])
-  pub crossing_column_spans : sizes_of nowhere 3 crossing_columns ≡ 5 ∷ 8 ∷ 2 ∷ []
-  pub crossing_row_spans : sizes_of nowhere 3 crossing_rows ≡ 6 ∷ 7 ∷ 3 ∷ []
-  pub equal_ranges : Gives nowhere 2 (wide 0 0 2 3 ∷ wide 1 0 2 6 ∷ []) (4 ∷ 2 ∷ []) (wide 1 0 2 6 ∷ [])
-  pub halves_of_the_greatest : Gives nowhere 2 (wide 0 0 2 max ∷ []) (9223372036854775808 ∷ 9223372036854775807 ∷ []) (wide 0 0 2 max ∷ [])
-  pub halves_with_a_line : Gives (λ i. i == 1) 2 (wide 0 0 2 max ∷ []) (9223372036854775807 ∷ 9223372036854775807 ∷ []) (wide 0 0 2 max ∷ [])
-  pub greatest_size : Gives nowhere 1 (wide 0 0 1 max ∷ []) (max ∷ []) (wide 0 0 1 max ∷ [])
-  pub greatest_size_and_lines : IsTooLarge everywhere 1 (sizes_of everywhere 1 (wide 0 0 1 max ∷ []))
+  pub readme_picture : Gives (given everywhere 4 picture_columns) (17 ∷ 12 ∷ 16 ∷ 1 ∷ []) (wide 0 0 1 17 ∷ wide 0 1 1 12 ∷ wide 0 2 1 16 ∷ wide 0 3 1 1 ∷ [])
+  pub readme_picture_rows : Gives (given everywhere 2 picture_rows) (1 ∷ 1 ∷ []) (high 0 1 1 1 ∷ high 1 1 1 1 ∷ [])
+  pub even_shares_over_inner_line : Gives (given everywhere 3 even_rows) (3 ∷ 3 ∷ 1 ∷ []) (high 0 0 2 7 ∷ high 2 0 1 1 ∷ [])
+  pub remainder_to_first : Gives (given everywhere 2 remainder_rows) (4 ∷ 3 ∷ []) (high 0 0 2 8 ∷ [])
+  pub lines_alone_satisfy : Gives (given everywhere 3 lined_rows) (0 ∷ 0 ∷ 1 ∷ []) (high 2 1 1 1 ∷ [])
+  pub nested_column_spans : Gives (given nowhere 3 nested_columns) (2 ∷ 4 ∷ 4 ∷ []) (wide 1 0 3 10 ∷ [])
+  pub nested_row_spans : Gives (given nowhere 3 nested_rows) (2 ∷ 4 ∷ 4 ∷ []) (high 0 1 3 10 ∷ [])
+  pub row_spans_within_row_span : Gives (given nowhere 4 inner_rows) (3 ∷ 2 ∷ 2 ∷ 1 ∷ []) (high 0 2 2 5 ∷ high 2 3 2 3 ∷ [])
+  pub crossing_column_spans : sizes_of (given nowhere 3 crossing_columns) ≡ 5 ∷ 8 ∷ 2 ∷ []
+  pub crossing_row_spans : sizes_of (given nowhere 3 crossing_rows) ≡ 6 ∷ 7 ∷ 3 ∷ []
+  pub equal_ranges : Gives (given nowhere 2 (wide 0 0 2 3 ∷ wide 1 0 2 6 ∷ [])) (4 ∷ 2 ∷ []) (wide 1 0 2 6 ∷ [])
+  pub halves_of_the_greatest : Gives (given nowhere 2 (wide 0 0 2 max ∷ [])) (9223372036854775808 ∷ 9223372036854775807 ∷ []) (wide 0 0 2 max ∷ [])
+  pub halves_with_a_line : Gives (given (λ i. i == 1) 2 (wide 0 0 2 max ∷ [])) (9223372036854775807 ∷ 9223372036854775807 ∷ []) (wide 0 0 2 max ∷ [])
+  pub greatest_size : Gives (given nowhere 1 (wide 0 0 1 max ∷ [])) (max ∷ []) (wide 0 0 1 max ∷ [])
+  pub greatest_size_and_lines : IsTooLarge (given everywhere 1 (wide 0 0 1 max ∷ [])) (sizes_of (given everywhere 1 (wide 0 0 1 max ∷ [])))
   pub out_of_table : first_out 2 (wide 0 0 3 1 ∷ []) ≡ Some (record { row = 0; col = 0 })
   pub first_out_in_each_direction : first_out 2 (wide 0 0 1 0 ∷ wide 0 1 1 0 ∷ wide 1 1 2 0 ∷ []) ≡ Some (record { row = 1; col = 1 })
-  pub empty_tables : Gives everywhere 0 [] [] []
+  pub empty_tables : Gives (given everywhere 0 []) [] []

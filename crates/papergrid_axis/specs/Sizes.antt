@@ -2,6 +2,7 @@
 use Rattle.std.specs.Prelude.{ℕ, ◌+◌, ◌-◌, ◌/◌, ◌%◌, Bool, ◌&&◌, ◌==◌, if◌then◌else◌, List, [], ◌∷◌, map, filter, flat_map, fold}
 use Rattle.std.specs.List.{range_with_len}
 use Rattle.papergrid_axis.specs.declared.demand.Demand.{Demand}
+use Rattle.papergrid_axis.specs.Problem.{Problem}
 use Rattle.papergrid_axis.specs.Ranges.{holds, inner_lines}
 use Rattle.papergrid_axis.specs.Fits.{greatest_need, range_sum}
 
@@ -36,5 +37,6 @@ abbrev pub taken : ℕ → List Demand → List Demand
 taken n demands = flat_map (λ span. filter (λ d. d.span == span) demands) (range_with_len 2 (n - 1))
 
 -- the sizes after they were taken
-abbrev pub sizes_of : (ℕ → Bool) → ℕ → List Demand → List ℕ
-sizes_of line n demands = fold (grown line) (base_sizes n demands) (taken n demands)
+abbrev pub sizes_of : Problem → List ℕ
+sizes_of problem =
+    fold (grown problem.line) (base_sizes problem.count problem.demands) (taken problem.count problem.demands)

@@ -2,12 +2,13 @@
 
 ghost use Rattle.std.specs.Prelude.{ℕ, Bool, ◌==◌, ◌&&◌, ◌*◌, ◌-◌, true, false, ◌≡◌, ◌+◌, ◌<◌, ◌≤◌, ◌^◌, ◌↔◌, ◌∷◌, ◌++◌, [], IfNone, IfSome, IsTrue, List, length, sum};
 ghost use Rattle.papergrid_values.specs.declared.position.Position.{Position};
+ghost use Rattle.papergrid_axis.specs.Problem.{given};
 ghost use Rattle.papergrid_axis.specs.declared.demand.Demand.{Demand};
 ghost use Rattle.papergrid_values.specs.declared.direction.Direction.{Direction};
 ghost use Rattle.papergrid_axis.specs.ForProofs.Checks.{AreBounded, AreDistinct, Checks, IsClaim, SumsAgree, range_of};
 ghost use Rattle.papergrid_axis.specs.Answers.{IsAccepted};
 ghost use Rattle.papergrid_axis.specs.Fits.{HasRoom, IsLeast};
-ghost use Rattle.papergrid_axis.specs.Ranges.{demand_of, inner_lines, lines_to};
+ghost use Rattle.papergrid_axis.specs.Ranges.{demand_of, inner_lines};
 
 use crate::axis::Axis;
 use crate::claim::{Claim, are_disjoint, count_listed};
@@ -80,13 +81,10 @@ fn count_inner<A: Axis>(axis: &A, start: usize, span: usize) -> usize
 fn room<A: Axis>(axis: &A, sizes: &[usize], start: usize, span: usize, need: u128) -> Option<usize>
     requires { 1 ≤ span }
     ensures inside { IfSome result (λ inner. start + span ≤ length sizes.now) }
-    ensures inner { let line = lines_to (A.line axis.now) (length sizes.now) in
-        IfSome result (λ inner. inner ≡ inner_lines line (range_of start span need)) }
-    ensures room { let line = lines_to (A.line axis.now) (length sizes.now) in
-        IfSome result (λ inner. HasRoom line sizes.now (range_of start span need)) }
-    ensures none { let line = lines_to (A.line axis.now) (length sizes.now) in
-        IfNone result (start + span ≤ length sizes.now →
-        HasRoom line sizes.now (range_of start span need) → ⊥) }
+    ensures inner { IfSome result (λ inner. inner ≡ inner_lines (A.line axis.now) (range_of start span need)) }
+    ensures room { IfSome result (λ inner. HasRoom (A.line axis.now) sizes.now (range_of start span need)) }
+    ensures none { IfNone result (start + span ≤ length sizes.now →
+        HasRoom (A.line axis.now) sizes.now (range_of start span need) → ⊥) }
 {
     if start > sizes.len() || span > sizes.len() - start {
         return None;
@@ -140,13 +138,9 @@ pub fn visit<A: Axis>(
     requires ordered { IsClaim (A.span_of axis.now) claim.now }
     requires need { need ≤ 2 ^ 66 }
     ensures bounded { AreBounded claim.now.places.now result }
-    ensures checks { let sizes = claim.now.sizes.now in
-        let line = lines_to (A.line axis.now) (length sizes) in
-        let span = A.span_of axis.now in
-        (demands : List Demand) →
-        Checks line sizes claim.now.places.now claim.now.direction span checked demands →
-        Checks line sizes claim.now.places.now claim.now.direction span result
-        (demands ++ demand_of claim.now.direction place (span place) need ∷ []) }
+    ensures checks { let checks = Checks (A.line axis.now) claim.now.sizes.now claim.now.places.now claim.now.direction (A.span_of axis.now) in
+        (demands : List Demand) → checks checked demands →
+        checks result (demands ++ demand_of claim.now.direction place (A.span_of axis.now place) need ∷ []) }
 {
     let span = axis.span(place);
     if !checked.holds {
@@ -197,18 +191,12 @@ fn sums_agree(checked: Checked, sizes: &[usize], places: &[Position]) -> bool
 pub fn accepts<A: Axis>(checked: Checked, claim: &Claim<'_>, axis: &A, count: usize) -> bool
     requires bounded { AreBounded claim.now.places.now checked }
     requires ordered { IsClaim (A.span_of axis.now) claim.now }
-    ensures exact { let sizes = claim.now.sizes.now in
-        let line = lines_to (A.line axis.now) in
-        let span = A.span_of axis.now in
-        (demands : List Demand) → AreDistinct demands →
-        Checks (line (length sizes)) sizes claim.now.places.now claim.now.direction span checked demands →
-        IsTrue result ↔ IsAccepted (line count) count demands sizes claim.now.places.now }
-    ensures least { let sizes = claim.now.sizes.now in
-        let line = lines_to (A.line axis.now) in
-        let span = A.span_of axis.now in
-        (demands : List Demand) → AreDistinct demands →
-        Checks (line (length sizes)) sizes claim.now.places.now claim.now.direction span checked demands →
-        IsTrue result → IsLeast (line count) count demands sizes }
+    ensures exact { let checks = Checks (A.line axis.now) claim.now.sizes.now claim.now.places.now claim.now.direction (A.span_of axis.now) in
+        (demands : List Demand) → AreDistinct demands → checks checked demands → IsTrue result ↔
+        IsAccepted (given (A.line axis.now) count demands) claim.now.sizes.now claim.now.places.now }
+    ensures least { let checks = Checks (A.line axis.now) claim.now.sizes.now claim.now.places.now claim.now.direction (A.span_of axis.now) in
+        (demands : List Demand) → AreDistinct demands → checks checked demands → IsTrue result →
+        IsLeast (given (A.line axis.now) count demands) claim.now.sizes.now }
 {
     if claim.sizes.len() != count {
         return false;

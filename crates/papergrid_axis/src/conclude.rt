@@ -1,9 +1,9 @@
 //! The answer for a direction of a configuration, once all cells are seen.
 
 ghost use Rattle.std.specs.Prelude.{List};
+ghost use Rattle.papergrid_axis.specs.Problem.{given};
 ghost use Rattle.papergrid_axis.specs.declared.demand.Demand.{Demand};
 ghost use Rattle.papergrid_axis.specs.Answers.{IsCertified, IsExact};
-ghost use Rattle.papergrid_axis.specs.Ranges.{lines_to};
 ghost use Rattle.papergrid_axis.specs.ForProofs.Seen.{IsSeen};
 
 use crate::axis::Axis;
@@ -28,7 +28,7 @@ pub fn conclude<A: Axis>(
 ) -> Result<Vec<usize>, LayoutError>
     requires { (demands : List Demand) × IsSeen count seen.now demands }
     ensures { (demands : List Demand) → IsSeen count seen.now demands →
-        IsExact (lines_to (A.line axis.now) count) count demands result }
+        IsExact (given (A.line axis.now) count demands) result }
 {
     match settle(alloc, count, seen, axis) {
         Ok(settled) => Ok(settled.sizes),
@@ -50,7 +50,7 @@ pub fn conclude_certified<A: Axis>(
 ) -> Result<(Vec<usize>, Option<Vec<Position>>), LayoutError>
     requires { (demands : List Demand) × IsSeen count seen.now demands }
     ensures { (demands : List Demand) → IsSeen count seen.now demands →
-        IsCertified (lines_to (A.line axis.now) count) count demands result }
+        IsCertified (given (A.line axis.now) count demands) result }
 {
     match settle(alloc, count, seen, axis) {
         Ok(settled) => match settled_witness(alloc, count, seen, &settled) {

@@ -5,6 +5,7 @@ ghost use Rattle.papergrid_axis.specs.declared.demand.Demand.{Demand};
 ghost use Rattle.papergrid_axis.specs.Chosen.{chosen_of};
 ghost use Rattle.papergrid_axis.specs.Fits.{Fits, IsCertificate, IsLeast, top_need};
 ghost use Rattle.papergrid_axis.specs.KeptApart.{is_kept_apart};
+ghost use Rattle.papergrid_axis.specs.Problem.{Problem};
 ghost use Rattle.papergrid_axis.specs.Ranges.{IsInTable, IsKeptApart, SomeCross};
 ghost use Rattle.papergrid_axis.specs.Rows.{WorkedRows};
 ghost use Rattle.papergrid_axis.specs.Sizes.{sizes_of};
@@ -16,23 +17,20 @@ pub fn worked_rows()
 
 /// Sizes that fit and have a certificate are least.
 pub fn certified_are_least()
-    ensures { (line : ℕ → Bool) (n : ℕ) (demands cells : List Demand) (sizes : List ℕ) →
-        All (IsInTable n) demands → Fits line n demands sizes →
-        IsCertificate line demands sizes cells → IsLeast line n demands sizes }
+    ensures { (problem : Problem) (cells : List Demand) (sizes : List ℕ) →
+        All (IsInTable problem.count) problem.demands → Fits problem sizes →
+        IsCertificate problem sizes cells → IsLeast problem sizes }
 {}
 
 /// The sizes along a direction fit, and none is above the greatest need over its column (row); where
 /// ranges are kept apart, the chosen cells certify them.
 pub fn sizes_by_needs()
-    ensures fit { (line : ℕ → Bool) (n : ℕ) (demands : List Demand) →
-        All (IsInTable n) demands → Fits line n demands (sizes_of line n demands) }
-    ensures bound { (line : ℕ → Bool) (n : ℕ) (demands : List Demand) →
-        All (IsInTable n) demands → (i : ℕ) → i < n →
-        slice_index (sizes_of line n demands) i ≤ top_need demands i }
-    ensures certified { (line : ℕ → Bool) (n : ℕ) (demands : List Demand) →
-        All (IsInTable n) demands → IsKeptApart demands →
-        IsCertificate line demands (sizes_of line n demands)
-        (chosen_of line n demands) }
+    ensures fit { (problem : Problem) → All (IsInTable problem.count) problem.demands →
+        Fits problem (sizes_of problem) }
+    ensures bound { (problem : Problem) → All (IsInTable problem.count) problem.demands →
+        (i : ℕ) → i < problem.count → slice_index (sizes_of problem) i ≤ top_need problem.demands i }
+    ensures certified { (problem : Problem) → All (IsInTable problem.count) problem.demands →
+        IsKeptApart problem.demands → IsCertificate problem (sizes_of problem) (chosen_of problem) }
 {}
 
 /// Whether any two longer ranges are nested or disjoint can be computed; where they are not, two of

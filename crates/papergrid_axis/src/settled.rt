@@ -1,13 +1,14 @@
 //! The sizes along a direction, once the cells of longer ranges were taken.
 
-ghost use Rattle.std.specs.Prelude.{All, Bool, EachIndex, IfNone, IfOk, IfSome, List, None, false, length, nat_lt, replicate, slice_index, slice_index_or, ℕ, ◌+◌, ◌≡◌};
-ghost use Rattle.papergrid_axis.specs.Ranges.{IsInTable, end_of, first_out, line_at, lines_to};
+ghost use Rattle.std.specs.Prelude.{All, Bool, EachIndex, IfNone, IfOk, IfSome, List, None, false, length, nat_lt, replicate, slice_index, slice_index_or, ℕ, ◌+◌, ◌≤◌, ◌≡◌};
+ghost use Rattle.papergrid_axis.specs.Problem.{given};
+ghost use Rattle.papergrid_axis.specs.Ranges.{IsInTable, end_of, first_out};
 ghost use Rattle.papergrid_axis.specs.ForProofs.Seen.{IsSeen, no_demand};
 ghost use Rattle.papergrid_axis.specs.KeptApart.{longer};
 ghost use Rattle.papergrid_axis.specs.Sizes.{taken};
 ghost use Rattle.papergrid_axis.specs.declared.demand.Demand.{Demand};
 ghost use Rattle.papergrid_axis.specs.Answers.{IsRefused};
-ghost use Rattle.papergrid_axis.specs.ForProofs.Settled.{IsSettled};
+ghost use Rattle.papergrid_axis.specs.ForProofs.Settled.{IsSettled, line_at};
 
 use crate::axis::Axis;
 use crate::demand::Demand;
@@ -30,7 +31,7 @@ fn fill_lines<A: Axis>(lines: &mut [bool], axis: &A)
 /// Whether there is a line before each of `count` columns (rows), and after the last.
 fn lines_of<A: Axis>(alloc: Global, axis: &A, count: usize) -> Result<Vec<bool>, AllocError>
     ensures length { IfOk result (λ lines. length lines.items ≡ count + 1) }
-    ensures drawn { IfOk result (λ lines. line_at lines.items ≡ lines_to (A.line axis.now) count) }
+    ensures drawn { IfOk result (λ lines. (i : ℕ) → i ≤ count → line_at lines.items i ≡ A.line axis.now i) }
 {
     let mut lines = vec![in alloc; false; count]?;
     fill_lines(&mut lines, axis);
@@ -95,8 +96,8 @@ pub fn find_out(count: usize, demands: &[Demand]) -> Option<Position>
 fn refusal(count: usize, seen: &Seen) -> Option<LayoutError>
     requires { (demands : List Demand) × IsSeen count seen.now demands }
     ensures refused { IfSome result (λ error.
-        (line : ℕ → Bool) (demands : List Demand) →
-        IsSeen count seen.now demands → IsRefused line count demands error) }
+        (line : ℕ → Bool) (demands : List Demand) → IsSeen count seen.now demands →
+        IsRefused (given line count demands) error) }
     ensures inside { IfNone result (first_out count seen.now.others.items ≡ None) }
     ensures small { IfNone result (seen.now.is_large ≡ false) }
 {
@@ -132,7 +133,7 @@ pub fn settle<A: Axis>(
 ) -> Result<Settled, LayoutError>
     requires { (demands : List Demand) × IsSeen count seen.now demands }
     ensures { (demands : List Demand) → IsSeen count seen.now demands →
-        IsSettled (lines_to (A.line axis.now) count) count demands result }
+        IsSettled (given (A.line axis.now) count demands) result }
 {
     // A count that no memory holds is refused before it is counted up to.
     let mut sizes = vec![in alloc; 0; count]?;

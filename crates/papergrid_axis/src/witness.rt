@@ -1,6 +1,7 @@
 //! The witness that sizes are least.
 
 ghost use Rattle.std.specs.Prelude.{◌↔◌, ℕ, All, Bool, IfOk, IsTrue, List, Ok};
+ghost use Rattle.papergrid_axis.specs.Problem.{given};
 ghost use Rattle.papergrid_axis.specs.declared.demand.Demand.{Demand};
 ghost use Rattle.papergrid_axis.specs.Answers.{IsWitness};
 ghost use Rattle.papergrid_axis.specs.ForProofs.LastCells.{IsLaminar};
@@ -37,9 +38,11 @@ pub fn settled_witness(
     seen: &Seen,
     settled: &Settled,
 ) -> Result<Option<Vec<Position>>, AllocError>
-    requires { (line : ℕ → Bool) × (demands : List Demand) × IsSeen count seen.now demands × AreSettled line count demands settled.now }
-    ensures { (line : ℕ → Bool) (demands : List Demand) → IsSeen count seen.now demands → AreSettled line count demands settled.now →
-        IfOk result (λ found. IsWitness line count demands (Ok found)) }
+    requires { (line : ℕ → Bool) × (demands : List Demand) × IsSeen count seen.now demands
+        × AreSettled (given line count demands) settled.now }
+    ensures { (line : ℕ → Bool) (demands : List Demand) → IsSeen count seen.now demands →
+        AreSettled (given line count demands) settled.now →
+        IfOk result (λ found. IsWitness (given line count demands) (Ok found)) }
 {
     if !is_laminar(alloc, count, &settled.cells)? {
         return Ok(None);

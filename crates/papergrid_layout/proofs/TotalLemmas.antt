@@ -9,7 +9,8 @@ use Rattle.papergrid_axis.specs.declared.demand.Demand.{Demand}
 use Rattle.papergrid_values.specs.declared.direction.Direction.{Direction}
 use Rattle.papergrid_axis.specs.Answers.{AreSizes}
 use Rattle.papergrid_axis.specs.Fits.{HasRoom}
-use Rattle.papergrid_axis.specs.Ranges.{all_lines, end_of, first_out, lines_to, place_of}
+use Rattle.papergrid_axis.specs.Problem.{all_lines}
+use Rattle.papergrid_axis.specs.Ranges.{end_of, first_out, lines_to, place_of}
 use Rattle.papergrid_axis.proofs.LoopLemmas.{need_within_total}
 use Rattle.papergrid_axis.proofs.OutLemmas.{if_none}
 use Rattle.papergrid_config.specs.Lines.{count_lines}

@@ -3,14 +3,14 @@ use Rattle.std.proofs.lemmas.Bool.{not-false, not-true, true≢false}
 use Rattle.papergrid_axis.specs.ForProofs.Checks.{Checks, range_of, times_listed}
 use Rattle.papergrid_axis.specs.Fits.{HasRoom}
 use Rattle.papergrid_values.specs.Positions.{along}
-use Rattle.papergrid_axis.specs.Ranges.{demand_of, inner_lines, lines_to}
+use Rattle.papergrid_axis.specs.Ranges.{demand_of, inner_lines}
 use Rattle.papergrid_axis.proofs.ClaimLemmas.{rising-from_order}
 use Rattle.papergrid_axis.proofs.CheckLemmas.{Checks-more, Checks-fails, none_room, too_many, inner_lines-span}
 use Rattle.papergrid_axis.proofs.checked.visit.Goals as goal
 
 pub returns-then-times-claim-clause-checks : goal.returns-then-times-claim-clause-checks
 returns-then-times-claim-clause-checks g c = λ demands before.
-    let line : ℕ → _ = lines_to (g.A.Axis.line c.args.axis.now) (length c.args.claim.now.sizes.now) in
+    let line : ℕ → _ = g.A.Axis.line c.args.axis.now in
     let span_of = g.A.Axis.span_of c.args.axis.now in
     let d = demand_of c.args.claim.now.direction c.args.place (g.A.Axis.span_of c.args.axis.now c.args.place) c.args.need in
     let inside : along c.args.claim.now.direction c.args.place + g.A.Axis.span_of c.args.axis.now c.args.place ≤ length c.args.claim.now.sizes.now =
@@ -27,7 +27,7 @@ returns-then-times-claim-clause-checks g c = λ demands before.
 
 pub returns-else-times-claim-clause-checks : goal.returns-else-times-claim-clause-checks
 returns-else-times-claim-clause-checks g c = λ demands before.
-    let line : ℕ → _ = lines_to (g.A.Axis.line c.args.axis.now) (length c.args.claim.now.sizes.now) in
+    let line : ℕ → _ = g.A.Axis.line c.args.axis.now in
     let span_of = g.A.Axis.span_of c.args.axis.now in
     let d = demand_of c.args.claim.now.direction c.args.place (g.A.Axis.span_of c.args.axis.now c.args.place) c.args.need in
     let one : 1 ≤ g.A.Axis.span_of c.args.axis.now c.args.place = omega (arith, c.span-span.ensures.value, c.span-span.ensures.positive) in
@@ -38,7 +38,7 @@ returns-else-times-claim-clause-checks g c = λ demands before.
 
 pub returns-in-None-clause-checks : goal.returns-in-None-clause-checks
 returns-in-None-clause-checks g c = λ demands before.
-    let line : ℕ → _ = lines_to (g.A.Axis.line c.args.axis.now) (length c.args.claim.now.sizes.now) in
+    let line : ℕ → _ = g.A.Axis.line c.args.axis.now in
     let span_of = g.A.Axis.span_of c.args.axis.now in
     let d = demand_of c.args.claim.now.direction c.args.place (g.A.Axis.span_of c.args.axis.now c.args.place) c.args.need in
     let one : 1 ≤ g.A.Axis.span_of c.args.axis.now c.args.place = omega (arith, c.span-span.ensures.value, c.span-span.ensures.positive) in
@@ -50,7 +50,7 @@ returns-in-None-clause-checks g c = λ demands before.
 -- after a cell that fails nothing changes
 pub returns-then-not-checked-clause-checks : goal.returns-then-not-checked-clause-checks
 returns-then-not-checked-clause-checks g c = λ demands before.
-    let line : ℕ → _ = lines_to (g.A.Axis.line c.args.axis.now) (length c.args.claim.now.sizes.now) in
+    let line : ℕ → _ = g.A.Axis.line c.args.axis.now in
     let span_of = g.A.Axis.span_of c.args.axis.now in
     let d = demand_of c.args.claim.now.direction c.args.place (g.A.Axis.span_of c.args.axis.now c.args.place) c.args.need in
     let one : 1 ≤ g.A.Axis.span_of c.args.axis.now c.args.place = omega (arith, c.span-span.ensures.value, c.span-span.ensures.positive) in

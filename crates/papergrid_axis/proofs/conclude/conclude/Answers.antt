@@ -1,8 +1,8 @@
-use Rattle.papergrid_axis.specs.Ranges.{lines_to}
+use Rattle.papergrid_axis.specs.Problem.{given}
 use Rattle.papergrid_axis.proofs.Theorems.{AreSizes-sizes_of}
 use Rattle.papergrid_axis.proofs.conclude.conclude.Goals as goal
 
 pub returns-in-Ok : goal.returns-in-Ok
 returns-in-Ok g c = λ demands seen.
     let settled = c.in-Ok.ensures demands seen in
-    AreSizes-sizes_of (lines_to (g.A.Axis.line c.args.axis.now) c.args.count) c.args.count demands settled.table c.in-Ok.settled.sizes.items settled.sizes settled.total
+    AreSizes-sizes_of (given (g.A.Axis.line c.args.axis.now) c.args.count demands) settled.table c.in-Ok.settled.sizes.items settled.sizes settled.total

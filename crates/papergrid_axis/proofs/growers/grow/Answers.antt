@@ -1,6 +1,6 @@
 use Rattle.std.proofs.Common.{arith}
 use Rattle.std.proofs.lemmas.Grind.{common_steps}
-use Rattle.papergrid_axis.specs.Ranges.{line_at}
+use Rattle.papergrid_axis.specs.ForProofs.Settled.{line_at}
 use Rattle.papergrid_axis.proofs.LoopLemmas.{sum-grown}
 use Rattle.papergrid_axis.proofs.growers.grow.Goals as goal
 

@@ -6,7 +6,7 @@ use Rattle.papergrid_axis.specs.Chosen.{growing}
 use Rattle.papergrid_axis.specs.Ranges.{IsInTable}
 use Rattle.papergrid_axis.specs.Sizes.{grown}
 use Rattle.papergrid_axis.proofs.LastLoops.{cells-more_yes, cells-more_no}
-use Rattle.papergrid_axis.specs.Ranges.{line_at}
+use Rattle.papergrid_axis.specs.ForProofs.Settled.{line_at}
 use Rattle.papergrid_axis.proofs.LoopLemmas.{sum-taken_part}
 use Rattle.papergrid_axis.proofs.growers.growing_cells.Goals as goal
 use Rattle.papergrid_axis.proofs.growers.growing_cells.Goals.{then-so_far-after+in_ok-push-in-Some, else-so_far-after}

@@ -1,5 +1,5 @@
 use Rattle.std.proofs.Common.{◌≡◌, ◌++◌, sum, fold, take, drop}
-use Rattle.papergrid_axis.specs.Ranges.{line_at}
+use Rattle.papergrid_axis.specs.ForProofs.Settled.{line_at}
 use Rattle.papergrid_axis.specs.Sizes.{grown}
 use Rattle.papergrid_axis.specs.Chosen.{growing}
 use Rattle.papergrid_axis.proofs.growers.growing_cells.Given as goal
