@@ -48,7 +48,7 @@ pub returns-then-number_of-start : goal.returns-then-number_of-start
 returns-then-number_of-start c =
     let number : Position → ℕ = along c.args.direction in
     let start : c.number_of-start.result ≡ number c.args.anchor = c.number_of-start.ensures in
-    let span : c.number_of-span.result ≡ along c.args.direction (record { row = c.args.rows; col = c.args.columns }) = c.number_of-span.ensures in
+    let span : c.number_of-span.result ≡ along c.args.direction (record { row = c.args.rows; col = c.args.columns }) = c.number_of-span.ensures ∙ ap (along c.args.direction) c.new.ensures in
     let here : c.number_of.result ≡ number (get_or c.args.places.now c.loop-i.i no_place) = c.number_of.ensures in
     let reached : number c.args.anchor ≤ number (get_or c.args.places.now c.loop-i.i no_place) = c.loop-i.invariant.1 c.loop-i.i no_place (omega arith) c.loop-i-test.true in
     let past : c.number_of-span.result ≤ c.number_of.result - c.number_of-start.result = c.if-number_of-start.true in
