@@ -1,7 +1,6 @@
 -- What an estimate is, by the answers of a dimension, and what follows from it.
 use Rattle.std.proofs.Common.{◌≡◌, ◌⊎◌, ◌∙◌, ℕ, ◌+◌, ◌<◌, ◌≤◌, ◌^◌, Bool, true, false, List, [], ◌∷◌, ◌||◌, length, map, refl, ap, sym, subst, arith, inl, inr, nat_lt, nat_le}
-use Rattle.std.specs.Prelude.{Option, Some, None, Result, Ok, Err, find, is_some, sum, if◌then◌else◌}
-use Rattle.std.proofs.lemmas.Bool.{false≢true}
+use Rattle.std.specs.Prelude.{Option, Some, None, Result, Ok, Err, find, if◌then◌else◌}
 use Rattle.std.proofs.lemmas.Bool.Decides.{nat_tests}
 use Rattle.std.proofs.lemmas.List.{length-map, map-id}
 use Rattle.papergrid_values.specs.declared.position.Position.{Position}
@@ -12,17 +11,18 @@ use Rattle.papergrid_axis.specs.declared.error.LayoutError.{LayoutError}
 use Rattle.papergrid_axis.specs.declared.error.LayoutError.TheVariants as layout_errors
 use Rattle.papergrid_axis.specs.Chosen.{chosen_of}
 use Rattle.papergrid_axis.specs.KeptApart.{is_kept_apart}
-use Rattle.papergrid_axis.specs.Problem.{all_lines}
-use Rattle.papergrid_axis.specs.Ranges.{end_of, first_out, place_of}
+use Rattle.papergrid_axis.specs.Answers.{NoneHolds}
+use Rattle.papergrid_axis.specs.Problem.{given}
+use Rattle.papergrid_axis.specs.Ranges.{place_of}
 use Rattle.papergrid_axis.specs.Sizes.{sizes_of}
-use Rattle.papergrid_walk.specs.Cells.{asked, demands_of, visible_cells}
+use Rattle.papergrid_walk.specs.Cells.{asked, demands_of, problem_of, visible_cells}
 use Rattle.papergrid_walk.specs.Looks.{Look}
-use Rattle.papergrid_layout.specs.Answers.{AreBothSizes, IsBothRefused, IsTooLargeFor, UnlessWant, count_of, drawn_along, first_out_of_table, reaches_out}
+use Rattle.papergrid_layout.specs.Answers.{AreBothSizes, IsBothRefused, UnlessWant, first_out_of_table, reaches_out}
 use Rattle.papergrid_layout.specs.Laws.{sizes_told, witness_told}
 use Rattle.papergrid_layout.specs.Witnesses.{AreCertified}
 use Rattle.papergrid_layout.specs.declared.certified.Certified.{Certified}
 use Rattle.papergrid_layout.proofs.Told.{demands_told, witness_is_told}
-use Rattle.papergrid_layout.proofs.TotalLemmas.{all_lines-drawn}
+use Rattle.papergrid_layout.proofs.PairLemmas.{none_reaches_out}
 use Rattle.papergrid.specs.declared.estimate.Sizes.{Sizes}
 use Rattle.papergrid.specs.Estimates.{Estimate, OutOfTable, TooLarge, Sized, unless_large, unless_out, total_along, totalled, estimate_by}
 use Rattle.papergrid.specs.ForProofs.Seen.{GivesEstimate, places_seen}
@@ -32,14 +32,6 @@ use Rattle.papergrid.specs.ForProofs.Seen.{GivesEstimate, places_seen}
 or_true : (a : Bool) → a || true ≡ true
 or_true true = refl
 or_true false = refl
-
-or_false : (a b : Bool) → (a || b) ≡ false → (a ≡ false) × (b ≡ false)
-or_false true b e = absurd (false≢true (sym e))
-or_false false b e = (refl, e)
-
-if_none : {A : Type 0} (b : Bool) (x : A) (r : Option A) → (if b then Some x else r) ≡ None → (b ≡ false) × (r ≡ None)
-if_none true x r e = absurd (false≢true (sym (ap is_some e)))
-if_none false x r e = (refl, e)
 
 -- ---- totals
 
@@ -55,49 +47,15 @@ sized w h m n a b narrow low =
     let high : nat_le (2 ^ 64) n ≡ false = grind (arith, nat_tests) in
     rw (wide, high) refl
 
--- the total that a direction's answer speaks of
-pub total_drawn : (direction : Direction) (look : Look) (n : ℕ) (sizes : List ℕ) → sum sizes + all_lines (drawn_along direction look n) n ≡ total_along direction look n sizes
-total_drawn direction look n sizes = ap (λ lines. sum sizes + lines) (all_lines-drawn (look.draws direction n) n)
-
 module _ {C : Type 0} (look : Look) (measure : C → ℕ × ℕ) (columns : ℕ) (cells : List (List C)) where
-  abbrev wide_demands : List Demand
-  wide_demands = demands_of Columns look measure cells
-
-  abbrev high_demands : List Demand
-  high_demands = demands_of Rows look measure cells
-
   -- ---- the first cell out of the table
-
-  none_out_among : (xs : List (Position × C)) → find (reaches_out look measure columns cells) (map (λ x. x.0) xs) ≡ None
-      → (first_out columns (map (asked Columns look measure) xs) ≡ None) × (first_out (length cells) (map (asked Rows look measure) xs) ≡ None)
-  none_out_among [] none = (refl, refl)
-  none_out_among (x ∷ xs) none =
-      let here = if_none (reaches_out look measure columns cells x.0) x.0 (find (reaches_out look measure columns cells) (map (λ y. y.0) xs)) none in
-      let both = or_false (nat_lt columns (end_of (asked Columns look measure x))) (nat_lt (length cells) (end_of (asked Rows look measure x))) here.0 in
-      let rest = none_out_among xs here.1 in
-      ((λ i. if both.0 i then Some x.0 else rest.0 i), (λ i. if both.1 i then Some x.0 else rest.1 i))
-
-  none_reaches_among : (xs : List (Position × C)) → first_out columns (map (asked Columns look measure) xs) ≡ None → first_out (length cells) (map (asked Rows look measure) xs) ≡ None
-      → find (reaches_out look measure columns cells) (map (λ x. x.0) xs) ≡ None
-  none_reaches_among [] wide high = refl
-  none_reaches_among (x ∷ xs) wide high =
-      let in_columns = if_none (nat_lt columns (end_of (asked Columns look measure x))) x.0 (first_out columns (map (asked Columns look measure) xs)) wide in
-      let in_rows = if_none (nat_lt (length cells) (end_of (asked Rows look measure x))) x.0 (first_out (length cells) (map (asked Rows look measure) xs)) high in
-      let rest = none_reaches_among xs in_columns.1 in_rows.1 in
-      λ i. if (in_columns.0 i || in_rows.0 i) then Some x.0 else rest i
-
-  pub none_out : first_out_of_table look measure columns cells ≡ None → (first_out columns wide_demands ≡ None) × (first_out (length cells) high_demands ≡ None)
-  none_out none = none_out_among (visible_cells look cells) none
-
-  pub none_reaches : first_out columns wide_demands ≡ None → first_out (length cells) high_demands ≡ None → first_out_of_table look measure columns cells ≡ None
-  none_reaches wide high = none_reaches_among (visible_cells look cells) wide high
 
   places_among : (xs : List (Position × C)) → map (λ x. x.0) xs ≡ map place_of (map (asked Columns look measure) xs)
   places_among [] = refl
   places_among (x ∷ xs) = ap (λ ps. x.0 ∷ ps) (places_among xs)
 
   -- by what the cells ask for alone
-  first_by_demands : first_out_of_table look measure columns cells ≡ find (reaches_out look measure columns cells) (map place_of wide_demands)
+  first_by_demands : first_out_of_table look measure columns cells ≡ find (reaches_out look measure columns cells) (map place_of (demands_of Columns look measure cells))
   first_by_demands = ap (find (reaches_out look measure columns cells)) (places_among (visible_cells look cells))
 
   -- ---- the answers
@@ -125,35 +83,27 @@ module _ {C : Type 0} (look : Look) (measure : C → ℕ × ℕ) (columns : ℕ)
   unfolding estimate_by
   estimate_inside none = ap (λ o. unless_out o if_inside) none
 
-  too_large_total : (direction : Direction) → IsTooLargeFor look measure columns cells direction
-      → 2 ^ 64 ≤ total_along direction look (count_of look measure columns cells direction) (sizes_told direction look measure (count_of look measure columns cells direction) cells)
-  too_large_total direction large =
-      let n = count_of look measure columns cells direction in
-      subst (λ total. 2 ^ 64 ≤ total) (total_drawn direction look n (sizes_told direction look measure n cells)) large.too_large
-
-  pub estimate_large : first_out_of_table look measure columns cells ≡ None → IsTooLargeFor look measure columns cells Columns ⊎ IsTooLargeFor look measure columns cells Rows
+  pub estimate_large : first_out_of_table look measure columns cells ≡ None → NoneHolds (problem_of look measure columns cells Columns) ⊎ NoneHolds (problem_of look measure columns cells Rows)
       → estimate_by look measure columns cells ≡ TooLarge
   estimate_large none too_large =
       estimate_inside none
       ∙ large wide_sizes high_sizes (total_along Columns look columns wide_sizes) (total_along Rows look (length cells) high_sizes) wide_witness high_witness (elim too_large [
-        | inl wide ↦ inl (too_large_total Columns wide)
-        | inr high ↦ inr (too_large_total Rows high)
+        | inl wide ↦ inl wide.too_large
+        | inr high ↦ inr high.too_large
       ])
 
   module _ (wide high : List ℕ) (are : AreBothSizes look measure columns cells wide high) where
     pub width_fits : total_along Columns look (length wide) wide < 2 ^ 64
     width_fits =
-        subst (λ n. total_along Columns look n wide < 2 ^ 64) (sym are.widths.fits.one_each)
-        (subst (λ total. total < 2 ^ 64) (total_drawn Columns look columns wide) are.widths.total)
+        subst (λ n. total_along Columns look n wide < 2 ^ 64) (sym are.widths.fits.one_each) are.widths.total
 
     pub height_fits : total_along Rows look (length high) high < 2 ^ 64
     height_fits =
-        subst (λ n. total_along Rows look n high < 2 ^ 64) (sym are.heights.fits.one_each)
-        (subst (λ total. total < 2 ^ 64) (total_drawn Rows look (length cells) high) are.heights.total)
+        subst (λ n. total_along Rows look n high < 2 ^ 64) (sym are.heights.fits.one_each) are.heights.total
 
     pub estimate_sized : estimate_by look measure columns cells ≡ Sized wide high (total_along Columns look (length wide) wide) (total_along Rows look (length high) high) wide_witness high_witness
     estimate_sized =
-        estimate_inside (none_reaches are.widths.none_out are.heights.none_out)
+        estimate_inside ((none_reaches_out look measure columns cells).1 (are.widths.none_out, are.heights.none_out))
         ∙ (λ i. unless_large (sym are.widths.exact i) (sym are.heights.exact i)
         (total_along Columns look (sym are.widths.fits.one_each i) (sym are.widths.exact i)) (total_along Rows look (sym are.heights.fits.one_each i) (sym are.heights.exact i)) wide_witness high_witness)
         ∙ sized wide high (total_along Columns look (length wide) wide) (total_along Rows look (length high) high) wide_witness high_witness width_fits height_fits
@@ -163,8 +113,8 @@ module _ {C : Type 0} (look : Look) (measure : C → ℕ × ℕ) (columns : ℕ)
       ≡ Sized certified.widths.items certified.heights.items (total_along Columns look (length certified.widths.items) certified.widths.items)
       (total_along Rows look (length certified.heights.items) certified.heights.items) (places_seen certified.width_witness) (places_seen certified.height_witness)
   estimate_certified certified are =
-      let wide = witness_is_told look (λ x. x) measure cells cells themselves Columns columns certified.width_witness are.widths in
-      let high = witness_is_told look (λ x. x) measure cells cells themselves Rows columns certified.height_witness are.heights in
+      let wide = witness_is_told look (λ x. x) measure cells cells themselves Columns columns certified.width_witness are.witnesses.widths in
+      let high = witness_is_told look (λ x. x) measure cells cells themselves Rows columns certified.height_witness are.witnesses.heights in
       estimate_sized certified.widths.items certified.heights.items are.sizes
       ∙ (λ i. Sized certified.widths.items certified.heights.items (total_along Columns look (length certified.widths.items) certified.widths.items)
       (total_along Rows look (length certified.heights.items) certified.heights.items) (sym wide i) (sym high i))
@@ -175,7 +125,7 @@ module _ {C : Type 0} (look : Look) (measure : C → ℕ × ℕ) (columns : ℕ)
 -- a witness by what the cells ask for
 abbrev witness_by : Direction → Look → ℕ → List Demand → Option (List Position)
 witness_by direction look n demands =
-    if is_kept_apart demands then Some (map place_of (chosen_of (drawn_along direction look n) n demands)) else None
+    if is_kept_apart demands then Some (map place_of (chosen_of (given (look.draws direction n) n demands))) else None
 
 -- cells that are seen through a view
 module _ {A B : Type 0} (look : Look) (v : A → B) (f : B → ℕ × ℕ) (columns : ℕ) (cells : List (List A)) (rows : List (List B)) (same : map (map v) cells ≡ rows) where
@@ -195,7 +145,7 @@ module _ {A B : Type 0} (look : Look) (v : A → B) (f : B → ℕ × ℕ) (colu
       let wide = demands_told look v f cells rows same Columns in
       let high = demands_told look v f cells rows same Rows in
       λ i. unless_out (first_told i)
-      (totalled look columns (as_many i) (sizes_of (drawn_along Columns look columns) columns (wide i)) (sizes_of (drawn_along Rows look (as_many i)) (as_many i) (high i))
+      (totalled look columns (as_many i) (sizes_of (given (look.draws Columns columns) columns (wide i))) (sizes_of (given (look.draws Rows (as_many i)) (as_many i) (high i)))
       (witness_by Columns look columns (wide i)) (witness_by Rows look (as_many i) (high i)))
 
 -- ---- results

@@ -11,21 +11,23 @@ use Rattle.papergrid_values.specs.declared.direction.Direction.TheVariants.{Colu
 use Rattle.papergrid_axis.specs.Answers.{AreChosen, AreSizes, NoneChosen, NoneHolds}
 use Rattle.papergrid_axis.specs.Chosen.{chosen_of}
 use Rattle.papergrid_axis.specs.KeptApart.{is_kept_apart}
-use Rattle.papergrid_axis.specs.Problem.{all_lines}
+use Rattle.papergrid_axis.specs.Problem.{Problem, total_of}
 use Rattle.papergrid_axis.specs.Ranges.{IsInTable, first_out, place_of}
+use Rattle.papergrid_axis.specs.Sizes.{sizes_of}
 use Rattle.papergrid_axis.proofs.KeptApartLemmas.{Decides-is_kept_apart, SomeCross-from_test}
 use Rattle.papergrid_axis.proofs.OutLemmas as out_lemmas
 use Rattle.papergrid_axis.proofs.Theorems.{AreSizes-sizes_of, IsCertificate-chosen_of, NoneHolds-sizes_of}
 use Rattle.papergrid_config.specs.Lines.{count_lines}
-use Rattle.papergrid_walk.specs.Cells.{asked, demands_of, visible_cells}
+use Rattle.papergrid_walk.specs.Cells.{asked, count_along, demands_of, problem_with, visible_cells}
 use Rattle.papergrid_walk.specs.Looks.{Look}
-use Rattle.papergrid_layout.specs.Answers.{drawn_along, first_out_of_table}
+use Rattle.papergrid_layout.specs.Answers.{first_out_of_table}
+use Rattle.papergrid_layout.proofs.PairLemmas.{none_reaches_out}
 use Rattle.papergrid_layout.specs.Laws.{sizes_told, witness_told}
 use Rattle.papergrid.specs.Estimates.{Estimate, OutOfTable, TooLarge, Sized, unless_large, unless_out, text_measure, total_along, estimate_by, estimate_of}
 use Rattle.papergrid.specs.Looks.{look_of}
 use Rattle.papergrid.specs.Scripts.{Table}
-use Rattle.papergrid.specs.Totals.{AreSized, IsTooLarge, IsWitnessOf, count_of}
-use Rattle.papergrid.proofs.EstimateLemmas.{estimate_out, none_out, total_drawn}
+use Rattle.papergrid.specs.Totals.{AreSized, IsTooLarge, IsWitnessOf, problem_of_table}
+use Rattle.papergrid.proofs.EstimateLemmas.{estimate_out}
 use Rattle.papergrid.proofs.LookLemmas.{look_covers, look_draws}
 
 -- ---- along a direction
@@ -36,44 +38,35 @@ module _ {C : Type 0} (look : Look) (measure : C → ℕ × ℕ) (cover : (direc
   covers_among (x ∷ xs) = All-cons (λ d. 1 ≤ d.span) (asked direction look measure x) (map (asked direction look measure) xs) (cover direction x.0) (covers_among xs)
 
   module _ (n : ℕ) (rows : List (List C)) (inside : first_out n (demands_of direction look measure rows) ≡ None) where
-    in_table : All (IsInTable n) (demands_of direction look measure rows)
-    in_table = out_lemmas.none_out n (demands_of direction look measure rows) inside (covers_among (visible_cells look rows))
+    abbrev problem : Problem
+    problem = problem_with look measure direction n rows
 
-    are_small : total_along direction look n (sizes_told direction look measure n rows) < 2 ^ 64 → sum (sizes_told direction look measure n rows) + all_lines (drawn_along direction look n) n < 2 ^ 64
-    are_small small = subst (λ total. total < 2 ^ 64) (sym (total_drawn direction look n (sizes_told direction look measure n rows))) small
+    in_table : All (IsInTable n) problem.demands
+    in_table = out_lemmas.none_out n problem.demands inside (covers_among (visible_cells look rows))
 
-    pub sizes_are : total_along direction look n (sizes_told direction look measure n rows) < 2 ^ 64
-        → AreSizes (drawn_along direction look n) n (demands_of direction look measure rows) (sizes_told direction look measure n rows)
-    sizes_are small =
-        AreSizes-sizes_of (drawn_along direction look n) n (demands_of direction look measure rows) in_table (sizes_told direction look measure n rows) refl
-        (are_small small)
+    pub sizes_are : total_of problem (sizes_of problem) < 2 ^ 64 → AreSizes problem (sizes_of problem)
+    sizes_are small = AreSizes-sizes_of problem in_table (sizes_of problem) refl small
 
-    pub are_chosen : total_along direction look n (sizes_told direction look measure n rows) < 2 ^ 64 → is_kept_apart (demands_of direction look measure rows) ≡ true
-        → AreChosen (drawn_along direction look n) n (demands_of direction look measure rows)
-        (map place_of (chosen_of (drawn_along direction look n) n (demands_of direction look measure rows)))
+    pub are_chosen : total_of problem (sizes_of problem) < 2 ^ 64 → is_kept_apart problem.demands ≡ true → AreChosen problem (map place_of (chosen_of problem))
     are_chosen small test =
-        let apart = (Decides-is_kept_apart (demands_of direction look measure rows)).0 test in
+        let apart = (Decides-is_kept_apart problem.demands).0 test in
         record {
           none_out = inside;
-          total = are_small small;
+          total = small;
           kept_apart = apart;
           exact = refl;
-          certificate = IsCertificate-chosen_of (drawn_along direction look n) n (demands_of direction look measure rows) in_table apart;
+          certificate = IsCertificate-chosen_of problem in_table apart;
         }
 
-    pub none_chosen : total_along direction look n (sizes_told direction look measure n rows) < 2 ^ 64 → is_kept_apart (demands_of direction look measure rows) ≡ false
-        → NoneChosen (drawn_along direction look n) n (demands_of direction look measure rows)
+    pub none_chosen : total_of problem (sizes_of problem) < 2 ^ 64 → is_kept_apart problem.demands ≡ false → NoneChosen problem
     none_chosen small test = record {
       none_out = inside;
-      total = are_small small;
-      not_kept_apart = SomeCross-from_test (demands_of direction look measure rows) test;
+      total = small;
+      not_kept_apart = SomeCross-from_test problem.demands test;
     }
 
-    pub none_hold : 2 ^ 64 ≤ total_along direction look n (sizes_told direction look measure n rows)
-        → NoneHolds (drawn_along direction look n) n (demands_of direction look measure rows)
-    none_hold past =
-        NoneHolds-sizes_of (drawn_along direction look n) n (demands_of direction look measure rows) in_table
-        (λ small. let narrow = subst (λ total. total < 2 ^ 64) (total_drawn direction look n (sizes_told direction look measure n rows)) small in absurd (omega arith))
+    pub none_hold : 2 ^ 64 ≤ total_of problem (sizes_of problem) → NoneHolds problem
+    none_hold past = NoneHolds-sizes_of problem in_table (λ small. absurd (omega arith))
 
 -- ---- the three answers
 
@@ -116,7 +109,7 @@ module _ (table : Table) where
   total_height = total_along Rows look (length table.rows) heights
 
   abbrev witness : Direction → Option (List Position)
-  witness direction = witness_told direction look text_measure (count_of direction table) table.rows
+  witness direction = witness_told direction look text_measure (count_along direction table.columns (length table.rows)) table.rows
 
   cases : (e : Estimate) → estimate_of table ≡ e
       → ((place : Position) × (first ≡ Some place) × (e ≡ OutOfTable place))
@@ -125,20 +118,19 @@ module _ (table : Table) where
   unfolding estimate_by
   cases e is = estimate_cases first widths heights total_width total_height (witness Columns) (witness Rows) e is
 
-  is_witness : (direction : Direction) → first_out (count_of direction table) (demands_of direction look text_measure table.rows) ≡ None
-      → total_along direction look (count_of direction table) (sizes_told direction look text_measure (count_of direction table) table.rows) < 2 ^ 64 → IsWitnessOf direction table (witness direction)
-  is_witness direction inside small = elim (cases_Bool (is_kept_apart (demands_of direction look text_measure table.rows))) [
-    | inl t ↦ subst (if_apart direction) (sym t) (are_chosen look text_measure (look_covers table.settings) direction (count_of direction table) table.rows inside small t)
-    | inr f ↦ subst (if_apart direction) (sym f) (none_chosen look text_measure (look_covers table.settings) direction (count_of direction table) table.rows inside small f)
+  is_witness : (direction : Direction) → first_out (problem_of_table table direction).count (problem_of_table table direction).demands ≡ None
+      → total_of (problem_of_table table direction) (sizes_of (problem_of_table table direction)) < 2 ^ 64 → IsWitnessOf (problem_of_table table direction) (witness direction)
+  is_witness direction inside small = elim (cases_Bool (is_kept_apart (problem_of_table table direction).demands)) [
+    | inl t ↦ subst if_apart (sym t) (are_chosen look text_measure (look_covers table.settings) direction (problem_of_table table direction).count table.rows inside small t)
+    | inr f ↦ subst if_apart (sym f) (none_chosen look text_measure (look_covers table.settings) direction (problem_of_table table direction).count table.rows inside small f)
   ]
     where
-      if_apart : Direction → Bool → Type 0
-      if_apart way apart =
-          IsWitnessOf way table (if apart then Some (map place_of (chosen_of (drawn_along way look (count_of way table)) (count_of way table) (demands_of way look text_measure table.rows))) else None)
+      if_apart : Bool → Type 0
+      if_apart apart = IsWitnessOf (problem_of_table table direction) (if apart then Some (map place_of (chosen_of (problem_of_table table direction))) else None)
 
   are_sized : first ≡ None → total_width < 2 ^ 64 → total_height < 2 ^ 64 → AreSized table widths heights total_width total_height (witness Columns) (witness Rows)
   are_sized none narrow low =
-      let inside = none_out look text_measure table.columns table.rows none in
+      let inside = (none_reaches_out look text_measure table.columns table.rows).0 none in
       record {
         sizes = record {
           widths = sizes_are look text_measure (look_covers table.settings) Columns table.columns table.rows inside.0 narrow;
@@ -154,7 +146,7 @@ module _ (table : Table) where
 
   are_large : first ≡ None → (2 ^ 64 ≤ total_width) ⊎ (2 ^ 64 ≤ total_height) → IsTooLarge table
   are_large none past =
-      let inside = none_out look text_measure table.columns table.rows none in
+      let inside = (none_reaches_out look text_measure table.columns table.rows).0 none in
       record {
         inside = none;
         too_large = elim past [

@@ -22,7 +22,6 @@ use Rattle.papergrid_tables.specs.LineTests.{ends_at_column, ends_at_row, vertic
 use Rattle.papergrid_tables.specs.Made.{borders_made, named_columns, named_places, named_rows, tabulated, with_value}
 use Rattle.papergrid_tables.specs.Places.{at_ends, places_from}
 use Rattle.papergrid_maps.specs.Made.{named_anchors, spans_made}
-use Rattle.papergrid_maps.specs.Spans as spans
 use Rattle.papergrid_maps.specs.Spans.{SpanCall, Spans, decided_span, from_two, is_hidden_by, is_visible}
 use Rattle.papergrid_tables.proofs.KeyLemmas.{position_total}
 use Rattle.papergrid_config.specs.Decided as decided

@@ -1,15 +1,16 @@
 -- What the answers for a table are, apart from how they are found.
 use Rattle.std.specs.Prelude.{◌≡◌, ◌⊎◌, ℕ, ◌+◌, ◌^◌, ◌<◌, List, Option, Some, None, length, sum}
 use Rattle.papergrid_values.specs.declared.position.Position.{Position}
-use Rattle.papergrid_axis.specs.Answers.{AreChosen, NoneChosen}
+use Rattle.papergrid_axis.specs.Answers.{AreChosen, NoneChosen, NoneHolds}
+use Rattle.papergrid_axis.specs.Problem.{Problem}
 use Rattle.papergrid_values.specs.declared.direction.Direction.{Direction}
 use Rattle.papergrid_values.specs.declared.direction.Direction.TheVariants.{Columns, Rows}
 use Rattle.papergrid_config.specs.Lines.{count_lines}
 use Rattle.papergrid_config.specs.Made.{characters_of}
 use Rattle.papergrid_config.specs.declared.setting.Setting.{Setting}
-use Rattle.papergrid_walk.specs.Cells.{count_along, demands_of}
+use Rattle.papergrid_walk.specs.Cells.{problem_of}
 use Rattle.papergrid_walk.specs.Looks.{line_along}
-use Rattle.papergrid_layout.specs.Answers.{AreBothSizes, IsTooLargeFor, drawn_along, first_out_of_table}
+use Rattle.papergrid_layout.specs.Answers.{AreBothSizes, first_out_of_table}
 use Rattle.papergrid.specs.Estimates.{text_measure}
 use Rattle.papergrid.specs.Looks.{look_of}
 use Rattle.papergrid.specs.Scripts.{Table}
@@ -18,25 +19,20 @@ use Rattle.papergrid.specs.Scripts.{Table}
 abbrev pub lines_along : Direction → List Setting → ℕ → ℕ
 lines_along direction settings count = count_lines (line_along (characters_of settings) direction count) count
 
+-- what the sizes of a table along a direction are found for
+abbrev pub problem_of_table : Table → Direction → Problem
+problem_of_table table = problem_of (look_of table.settings) text_measure table.columns table.rows
+
 -- no visible cell reaches out, and the sizes along one direction with its lines do not fit 64 bits
 pub record IsTooLarge (table : Table) : Type 0 where
   pub inside : first_out_of_table (look_of table.settings) text_measure table.columns table.rows ≡ None
-  pub too_large : IsTooLargeFor (look_of table.settings) text_measure table.columns table.rows Columns
-      ⊎ IsTooLargeFor (look_of table.settings) text_measure table.columns table.rows Rows
-
--- the number of columns, or of rows
-abbrev pub count_of : Direction → Table → ℕ
-count_of direction table = count_along direction table.columns (length table.rows)
+  pub too_large : NoneHolds (problem_of_table table Columns) ⊎ NoneHolds (problem_of_table table Rows)
 
 -- none where two longer ranges are neither nested nor disjoint, and only there; else the places of the chosen cells, which certify that
--- the sizes along the direction are least
-abbrev pub IsWitnessOf : Direction → Table → Option (List Position) → Type 0
-IsWitnessOf direction table None =
-    NoneChosen (drawn_along direction (look_of table.settings) (count_of direction table)) (count_of direction table)
-    (demands_of direction (look_of table.settings) text_measure table.rows)
-IsWitnessOf direction table (Some places) =
-    AreChosen (drawn_along direction (look_of table.settings) (count_of direction table)) (count_of direction table)
-    (demands_of direction (look_of table.settings) text_measure table.rows) places
+-- the sizes are least
+abbrev pub IsWitnessOf : Problem → Option (List Position) → Type 0
+IsWitnessOf problem None = NoneChosen problem
+IsWitnessOf problem (Some places) = AreChosen problem places
 
 -- exactly the sizes, with what holds of them, their totals with the lines, which fit 64 bits, and what certifies them
 pub record AreSized (table : Table) (widths heights : List ℕ) (total_width total_height : ℕ) (width_witness height_witness : Option (List Position)) : Type 0 where
@@ -45,5 +41,5 @@ pub record AreSized (table : Table) (widths heights : List ℕ) (total_width tot
   pub is_height : total_height ≡ sum heights + lines_along Rows table.settings (length table.rows)
   pub width_fits : total_width < 2 ^ 64
   pub height_fits : total_height < 2 ^ 64
-  pub certifies_widths : IsWitnessOf Columns table width_witness
-  pub certifies_heights : IsWitnessOf Rows table height_witness
+  pub certifies_widths : IsWitnessOf (problem_of_table table Columns) width_witness
+  pub certifies_heights : IsWitnessOf (problem_of_table table Rows) height_witness

@@ -46,22 +46,25 @@ module _ (problem : Problem) where
     pub total : total_of problem (sizes_of problem) < 2 ^ 64
     pub not_kept_apart : SomeCross problem.demands
 
-  module _ {Z : Type 0} where
-    -- the sizes, or why there are none
-    abbrev pub IsExact : Result (Vec ℕ Z) LayoutError → Type 0
-    IsExact (Ok sizes) = AreSizes sizes.items
-    IsExact (Err e) = IsRefused e
+  -- the sum of the sizes and of all lines
+  pub record IsTotal (total : ℕ) : Type 0 where
+    pub sizes : List ℕ
+    pub are_sizes : AreSizes sizes
+    pub adds_up : total ≡ total_of problem sizes
 
-    -- the places of the chosen cells, none where ranges are not kept apart, or why there are no sizes
-    abbrev pub IsWitness : Result (Option (Vec Position Z)) LayoutError → Type 0
-    IsWitness (Ok None) = NoneChosen
-    IsWitness (Ok (Some places)) = AreChosen places.items
-    IsWitness (Err e) = IsRefused e
+-- the places of the chosen cells, none where ranges are not kept apart
+abbrev pub IsWitness : {Z : Type 0} → Problem → Option (Vec Position Z) → Type 0
+IsWitness problem None = NoneChosen problem
+IsWitness problem (Some places) = AreChosen problem places.items
 
-    -- the sizes and the places of the chosen cells, none where ranges are not kept apart, or why there are no sizes
-    abbrev pub IsCertified : {Y : Type 0} → Result (Vec ℕ Y × Option (Vec Position Z)) LayoutError → Type 0
-    IsCertified (Ok found) = AreSizes found.0.items × IsWitness (Ok found.1)
-    IsCertified (Err e) = IsRefused e
+-- what is asked for of a problem, or why there is none
+abbrev pub Answers : {A : Type 0} → (Problem → A → Type 0) → Problem → Result A LayoutError → Type 0
+Answers holds problem (Ok answer) = holds problem answer
+Answers holds problem (Err e) = IsRefused problem e
+
+-- the sizes, or why there are none
+abbrev pub IsSized : {Z : Type 0} → Problem → Result (Vec ℕ Z) LayoutError → Type 0
+IsSized {Z} problem result = Answers (λ p (sizes : Vec ℕ Z). AreSizes p sizes.items) problem result
 
 -- what a checker accepts: no cell reaches out, the sizes fit, and the places are those of cells that certify them
 pub record IsAccepted (problem : Problem) (sizes : List ℕ) (places : List Position) : Type 0 where

@@ -7,7 +7,6 @@ pub mod axis;
 pub mod checked;
 mod chosen;
 pub mod claim;
-pub mod conclude;
 pub mod demand;
 pub mod error;
 mod growers;
@@ -15,6 +14,7 @@ mod last_cells;
 pub mod laws;
 pub mod seen;
 pub mod settled;
+pub mod solution;
 mod witness;
 
 pub use axis::Axis;
@@ -23,6 +23,7 @@ pub use claim::Claim;
 pub use demand::Demand;
 pub use error::LayoutError;
 pub use seen::Seen;
+pub use solution::{CertifiedSizes, Solution};
 
 #[cfg(test)]
 mod tests;

@@ -8,9 +8,9 @@ use crate::LayoutError;
 use crate::axis::Axis;
 use crate::checked::{Checked, accepts, visit, wide_need};
 use crate::claim::{Claim, are_in_order};
-use crate::conclude::{conclude, conclude_certified};
 use crate::laws::{certified_are_least, sizes_by_needs, worked_rows};
 use crate::seen::{Seen, keep};
+use crate::solution::{CertifiedSizes, Solution};
 use papergrid_values::Direction::{Columns, Rows};
 use papergrid_values::{Direction, Position};
 use std::alloc::{AllocError, Global};
@@ -186,7 +186,7 @@ fn sizes(
     cells: &[Cell],
 ) -> Result<Vec<usize>, LayoutError> {
     let seen = seen(alloc, direction, count, cells)?;
-    conclude(alloc, count, &seen, &axis)
+    Vec::<usize>::solve(alloc, count, &seen, &axis)
 }
 
 fn witness(
@@ -197,10 +197,7 @@ fn witness(
     cells: &[Cell],
 ) -> Result<Option<Vec<Position>>, LayoutError> {
     let seen = seen(alloc, direction, count, cells)?;
-    match conclude_certified(alloc, count, &seen, &axis) {
-        Ok((_, found)) => Ok(found),
-        Err(refused) => Err(refused),
-    }
+    Ok(CertifiedSizes::solve(alloc, count, &seen, &axis)?.witness)
 }
 
 /// Whether sizes and places are accepted for cells whose spans are those of the axis.
@@ -433,9 +430,9 @@ fn first_out_in_each_direction(rt: HostRuntime) -> Result<(), Fail> {
         &[(0, 0, 3, 1, 0), (0, 1, 1, 1, 0), (1, 1, 1, 1, 0)],
     )?;
     let out = Err(LayoutError::OutOfTable(at(1, 1)));
-    assert_eq!(rt; conclude(alloc, 2, &wide, &NONE), out);
+    assert_eq!(rt; Vec::<usize>::solve(alloc, 2, &wide, &NONE), out);
     let out = Err(LayoutError::OutOfTable(at(0, 0)));
-    assert_eq!(rt; conclude(alloc, 2, &high, &NONE), out);
+    assert_eq!(rt; Vec::<usize>::solve(alloc, 2, &high, &NONE), out);
     Ok(())
 }
 

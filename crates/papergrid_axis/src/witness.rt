@@ -42,7 +42,7 @@ pub fn settled_witness(
         × AreSettled (given line count demands) settled.now }
     ensures { (line : ℕ → Bool) (demands : List Demand) → IsSeen count seen.now demands →
         AreSettled (given line count demands) settled.now →
-        IfOk result (λ found. IsWitness (given line count demands) (Ok found)) }
+        IfOk result (IsWitness (given line count demands)) }
 {
     if !is_laminar(alloc, count, &settled.cells)? {
         return Ok(None);

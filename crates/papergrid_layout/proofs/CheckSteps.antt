@@ -6,17 +6,16 @@ use Rattle.std.proofs.lemmas.List.{append-nil, append_assoc}
 use Rattle.std.proofs.lemmas.List.Elements.{All-contains, All-map, All-weaker, filter_passes}
 use Rattle.papergrid_values.specs.declared.position.Position.{Position}
 use Rattle.papergrid_axis.specs.declared.checked.Checked.{Checked}
-use Rattle.papergrid_axis.specs.declared.demand.Demand.{Demand}
 use Rattle.papergrid_values.specs.declared.direction.Direction.{Direction}
 use Rattle.papergrid_axis.specs.Answers.{IsAccepted}
-use Rattle.papergrid_axis.specs.Fits.{IsLeast}
-use Rattle.papergrid_axis.specs.Ranges.{demand_of, lines_to, place_of}
+use Rattle.papergrid_axis.specs.Fits.{Fits, IsLeast}
+use Rattle.papergrid_axis.specs.Problem.{Problem}
+use Rattle.papergrid_axis.specs.Ranges.{demand_of, place_of}
 use Rattle.papergrid_axis.proofs.AcceptLemmas.{few_places}
 use Rattle.papergrid_axis.proofs.ClaimLemmas.{count_by-none, is_same}
-use Rattle.papergrid_walk.specs.Cells.{asked, asked_by, count_along, demands_of, placed, placed_row, side, visible_of}
+use Rattle.papergrid_walk.specs.Cells.{asked, asked_by, demands_of, placed, placed_row, problem_of, side, visible_of}
 use Rattle.papergrid_walk.specs.Looks.{Look}
 use Rattle.papergrid_walk.proofs.Steps.{asked_by-append, placed_from-more, placed_row-more}
-use Rattle.papergrid_layout.specs.Answers.{drawn_along}
 use Rattle.papergrid_layout.specs.Witnesses.{AreShown, ChecksBy, ChecksMore, IsChecked}
 
 module _ (look : Look) (direction : Direction) (sizes : List ℕ) (places : List Position) where
@@ -76,37 +75,22 @@ module _ (look : Look) (direction : Direction) (sizes : List ℕ) (places : List
         subst (ChecksBy look direction sizes places new) (sym a) k
 
 -- what is found of a table with as many columns (rows) as sizes holds of the table itself, since the sizes are as many
-module _ (direction : Direction) (look : Look) (count : ℕ) (demands : List Demand) (sizes : List ℕ) (places : List Position) where
-  abbrev IsAcceptedBy : ℕ → Type 0
-  IsAcceptedBy n = IsAccepted (lines_to (look.draws direction n) count) count demands sizes places
-
-  pub accepted-of : (answer : Bool) → IsTrue answer ↔ IsAcceptedBy (length sizes) → IsTrue answer ↔ IsAcceptedBy count
-  accepted-of answer same = (
-    λ t. let a = same.0 t in subst IsAcceptedBy a.fits.one_each a,
-    λ a. same.1 (subst IsAcceptedBy (sym a.fits.one_each) a),
-  )
-
-  pub least-of : (answer : Bool) → (IsTrue answer → IsLeast (lines_to (look.draws direction (length sizes)) count) count demands sizes) →
-      IsTrue answer → IsLeast (lines_to (look.draws direction count) count) count demands sizes
-  least-of answer then t = let a = then t in subst (λ n. IsLeast (lines_to (look.draws direction n) count) count demands sizes) a.fits.one_each a
-
--- the answer for the number of columns, or of rows
-pub checked-of : {C : Type 0} (look : Look) (measure : C → ℕ × ℕ) (columns : ℕ) (cells : List (List C)) (direction : Direction) (sizes : List ℕ) (places : List Position) (answer : Bool) (count : ℕ) →
-    count ≡ count_along direction columns (length cells) →
-    IsTrue answer ↔ IsAccepted (lines_to (look.draws direction (length sizes)) count) count (demands_of direction look measure cells) sizes places →
-    (IsTrue answer → IsLeast (lines_to (look.draws direction (length sizes)) count) count (demands_of direction look measure cells) sizes) →
-    IsChecked look measure columns cells direction sizes places answer
-checked-of look measure columns cells direction sizes places answer count same exact least = record {
-  exact = subst (λ n. IsTrue answer ↔ IsAccepted (drawn_along direction look n) n (demands_of direction look measure cells) sizes places) same
-      (accepted-of direction look count (demands_of direction look measure cells) sizes places answer exact);
-  least = subst (λ n. IsTrue answer → IsLeast (drawn_along direction look n) n (demands_of direction look measure cells) sizes) same
-      (least-of direction look count (demands_of direction look measure cells) sizes places answer least);
-}
+pub checked-of : (problem : ℕ → Problem) (sizes : List ℕ) (places : List Position) (answer : Bool) (count : ℕ) → ((n : ℕ) → (problem n).count ≡ count) →
+    IsTrue answer ↔ IsAccepted (problem (length sizes)) sizes places → (IsTrue answer → IsLeast (problem (length sizes)) sizes) → IsChecked (problem count) sizes places answer
+checked-of problem sizes places answer count counts exact least =
+    let many : (n : ℕ) → Fits (problem n) sizes → length sizes ≡ count = λ n fits. fits.one_each ∙ counts n in
+    record {
+      exact = (
+        λ t. let accepted = exact.0 t in subst (λ n. IsAccepted (problem n) sizes places) (many (length sizes) accepted.fits) accepted,
+        λ accepted. exact.1 (subst (λ n. IsAccepted (problem n) sizes places) (sym (many count accepted.fits)) accepted),
+      );
+      least = λ t. let is = least t in subst (λ n. IsLeast (problem n) sizes) (many (length sizes) is.fits) is;
+    }
 
 -- the places of a certificate are those of visible cells
-shown_places : {C : Type 0} (look : Look) (measure : C → ℕ × ℕ) (cells : List (List C)) (direction : Direction) (line : ℕ → Bool) (n : ℕ) (sizes : List ℕ) (places : List Position) →
-    IsAccepted line n (demands_of direction look measure cells) sizes places → AreShown look places
-shown_places look measure cells direction line n sizes places accepted =
+shown_places : {C : Type 0} (look : Look) (measure : C → ℕ × ℕ) (columns : ℕ) (cells : List (List C)) (direction : Direction) (sizes : List ℕ) (places : List Position) →
+    IsAccepted (problem_of look measure columns cells direction) sizes places → AreShown look places
+shown_places look measure columns cells direction sizes places accepted =
     let demands = demands_of direction look measure cells in
     let visible : All (λ d. IsTrue (look.shows (place_of d))) demands =
     All-map (λ d. IsTrue (look.shows (place_of d))) (asked direction look measure) (visible_of look (placed cells)) (filter_passes (λ cell. look.shows cell.0) (placed cells)) in
@@ -117,19 +101,18 @@ shown_places look measure cells direction line n sizes places accepted =
 -- a list that is longer than the sizes, or has a hidden cell, is never that of a certificate
 pub refused-of : {C : Type 0} (look : Look) (measure : C → ℕ × ℕ) (columns : ℕ) (cells : List (List C)) (direction : Direction) (sizes : List ℕ) (places : List Position) →
     All (λ d. 1 ≤ d.span) (demands_of direction look measure cells) → (length sizes < length places) ⊎ (AreShown look places → ⊥) →
-    IsChecked look measure columns cells direction sizes places false
+    IsChecked (problem_of look measure columns cells direction) sizes places false
 refused-of look measure columns cells direction sizes places spans reason =
-    let count = count_along direction columns (length cells) in
-    let demands = demands_of direction look measure cells in
+    let problem = problem_of look measure columns cells direction in
     record {
       exact = (
         λ t. absurd (false≢true t),
         λ accepted. elim reason [
           | inl long ↦
-              let few : length places ≤ count = few_places (drawn_along direction look count) count demands sizes places spans accepted in
-              let many : length sizes ≡ count = accepted.fits.one_each in
+              let few : length places ≤ problem.count = few_places problem.line problem.count problem.demands sizes places spans accepted in
+              let many : length sizes ≡ problem.count = accepted.fits.one_each in
               absurd (omega (arith, few, many, long))
-          | inr hidden ↦ absurd (hidden (shown_places look measure cells direction (drawn_along direction look count) count sizes places accepted))
+          | inr hidden ↦ absurd (hidden (shown_places look measure columns cells direction sizes places accepted))
         ],
       );
       least = λ t. absurd (false≢true t);

@@ -18,9 +18,8 @@ use Rattle.papergrid_config.specs.Made.{characters_of}
 use Rattle.papergrid_config.specs.Parts.{character_calls, padding_calls, span_calls}
 use Rattle.papergrid_config.specs.declared.setting.Setting.{Setting}
 use Rattle.papergrid_config.specs.declared.setting.Setting.TheVariants.{SetColumnSpan, SetRowSpan}
-use Rattle.papergrid_walk.specs.Cells.{demands_of}
+use Rattle.papergrid_walk.specs.Cells.{demands_of, problem_with}
 use Rattle.papergrid_walk.specs.Looks.{Look}
-use Rattle.papergrid_layout.specs.Answers.{drawn_along}
 
 -- a text as `Text::new` keeps it
 abbrev pub IsNewText : {S : Type 0} → (S → List ℕ) → Measured S → Type 0
@@ -37,15 +36,13 @@ IsCellAt rows p cell = (p.row < length rows) × HasCell (slice_index_or rows p.r
 
 -- the sizes along a direction, of so many columns (rows), that told rows have
 abbrev pub sizes_told : {C : Type 0} → Direction → Look → (C → ℕ × ℕ) → ℕ → List (List C) → List ℕ
-sizes_told direction look measure n rows =
-    sizes_of (drawn_along direction look n) n (demands_of direction look measure rows)
+sizes_told direction look measure n rows = sizes_of (problem_with look measure direction n rows)
 
 -- the places of the cells that certify these sizes, none where longer ranges are not kept apart
 abbrev pub witness_told : {C : Type 0} → Direction → Look → (C → ℕ × ℕ) → ℕ → List (List C) → Option (List Position)
 witness_told direction look measure n rows =
     if is_kept_apart (demands_of direction look measure rows)
-    then Some (map place_of (chosen_of (drawn_along direction look n) n (demands_of direction look measure rows)))
-    else None
+    then Some (map place_of (chosen_of (problem_with look measure direction n rows))) else None
 
 -- the same spans, paddings and lines
 pub record TellTheSame (settings other : List Setting) : Type 0 where

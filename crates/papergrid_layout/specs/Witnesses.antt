@@ -1,39 +1,29 @@
 -- What witnesses and checkers say of the rows told.
-use Rattle.std.specs.Prelude.{◌≡◌, ◌↔◌, ◌++◌, ℕ, All, Bool, true, IsTrue, List, length, Option, Result, Ok, Err, Vec}
+use Rattle.std.specs.Prelude.{◌≡◌, ◌↔◌, ◌++◌, ℕ, All, Bool, true, IsTrue, List, length, Result, Ok, Err}
 use Rattle.papergrid_values.specs.declared.position.Position.{Position}
 use Rattle.papergrid_axis.specs.declared.checked.Checked.{Checked}
 use Rattle.papergrid_axis.specs.declared.claim.Claim.{Claim}
 use Rattle.papergrid_axis.specs.declared.demand.Demand.{Demand}
 use Rattle.papergrid_values.specs.declared.direction.Direction.{Direction}
-use Rattle.papergrid_values.specs.declared.direction.Direction.TheVariants.{Columns, Rows}
 use Rattle.papergrid_axis.specs.declared.error.LayoutError.{LayoutError}
 use Rattle.papergrid_axis.specs.Answers.{IsAccepted, IsWitness}
 use Rattle.papergrid_axis.specs.ForProofs.Checks.{Checks}
 use Rattle.papergrid_axis.specs.Fits.{IsLeast}
-use Rattle.papergrid_walk.specs.Cells.{count_along, demands_of}
+use Rattle.papergrid_axis.specs.Problem.{Problem}
 use Rattle.papergrid_walk.specs.Looks.{Look}
-use Rattle.papergrid_layout.specs.Answers.{AreBothSizes, IsBothRefused, drawn_along}
+use Rattle.papergrid_layout.specs.Answers.{AreBothSizes, HoldAlong, IsBothRefused}
 use Rattle.papergrid_layout.specs.declared.certified.Certified.{Certified}
 
-module _ {C : Type 0} (look : Look) (measure : C → ℕ × ℕ) (columns : ℕ) (cells : List (List C)) (direction : Direction) where
-  -- the number of columns, or of rows
-  abbrev count : ℕ
-  count = count_along direction columns (length cells)
-
-  -- the places of the chosen cells, none where ranges are not kept apart, or why there are no sizes
-  abbrev pub IsWitnessed : {Z : Type 0} → Result (Option (Vec Position Z)) LayoutError → Type 0
-  IsWitnessed result = IsWitness (drawn_along direction look count) count (demands_of direction look measure cells) result
-
-  -- whether these sizes, with these places of cells that certify them, are accepted; those that are, are least
-  pub record IsChecked (sizes : List ℕ) (places : List Position) (answer : Bool) : Type 0 where
-    pub exact : IsTrue answer ↔ IsAccepted (drawn_along direction look count) count (demands_of direction look measure cells) sizes places
-    pub least : IsTrue answer → IsLeast (drawn_along direction look count) count (demands_of direction look measure cells) sizes
+-- whether these sizes, with these places of cells that certify them, are accepted; those that are, are least
+pub record IsChecked (problem : Problem) (sizes : List ℕ) (places : List Position) (answer : Bool) : Type 0 where
+  pub exact : IsTrue answer ↔ IsAccepted problem sizes places
+  pub least : IsTrue answer → IsLeast problem sizes
 
 -- what a checker kept of the demands of some cells, by the sizes and places that it was given. Only contracts of private
 -- functions and proofs speak of this
 abbrev pub ChecksBy : Look → Direction → List ℕ → List Position → Checked → List Demand → Type 0
 ChecksBy look direction sizes places checked demands =
-    Checks (drawn_along direction look (length sizes)) sizes places direction (look.span direction) checked demands
+    Checks (look.draws direction (length sizes)) sizes places direction (look.span direction) checked demands
 
 -- whatever was kept, these further demands were checked besides
 abbrev pub ChecksMore : Look → Direction → List ℕ → List Position → Checked → Checked → List Demand → Type 0
@@ -52,8 +42,7 @@ module _ {C : Type 0} (look : Look) (measure : C → ℕ × ℕ) (columns : ℕ)
   -- exactly the widths and the heights, and what witnesses say along both directions
   pub record AreCertified (certified : Certified) : Type 0 where
     pub sizes : AreBothSizes look measure columns cells certified.widths.items certified.heights.items
-    pub widths : IsWitnessed look measure columns cells Columns (Ok certified.width_witness)
-    pub heights : IsWitnessed look measure columns cells Rows (Ok certified.height_witness)
+    pub witnesses : HoldAlong look measure columns cells IsWitness certified.width_witness certified.height_witness
 
   -- the sizes with their witnesses, or why there are none
   abbrev pub IsCertified : Result Certified LayoutError → Type 0

@@ -1,15 +1,14 @@
-//! The sizes along both directions.
+//! What is found along both directions.
 
 ghost use Rattle.std.specs.Prelude.{◌≡◌, List, length};
 ghost use Rattle.papergrid_axis.specs.Ranges.{first_out};
 ghost use Rattle.papergrid_walk.specs.ForProofs.Pairs.{AreBothSeen};
-ghost use Rattle.papergrid_layout.specs.Answers.{AreBothSized, UnlessMemory};
+ghost use Rattle.papergrid_layout.specs.Answers.{AnswersBoth, UnlessMemory};
 ghost use Rattle.papergrid_layout.specs.ForProofs.Earlier.{earlier, earlier_of};
 
-use crate::sizes::Along;
-use papergrid_axis::LayoutError;
-use papergrid_axis::conclude::conclude;
+use crate::along::Along;
 use papergrid_axis::settled::find_out;
+use papergrid_axis::{LayoutError, Solution};
 use papergrid_text::{IntoRecords, Records};
 use papergrid_values::{Direction, Position};
 use papergrid_walk::{Both, Measure, Settings, gather_both};
@@ -39,7 +38,7 @@ fn earlier(p: Option<Position>, q: Option<Position>) -> Option<Position>
 
 /// The position of the first cell that reaches out of the table, by its range along columns or by
 /// that along rows.
-pub fn find_out_of_both(columns: usize, rows: usize, both: &Both) -> Option<Position>
+fn find_out_of_both(columns: usize, rows: usize, both: &Both) -> Option<Position>
     ensures { result ≡ earlier (first_out columns both.now.columns.others.items) (first_out rows both.now.rows.others.items) }
 {
     earlier(
@@ -48,18 +47,17 @@ pub fn find_out_of_both(columns: usize, rows: usize, both: &Both) -> Option<Posi
     )
 }
 
-/// The widths and the heights that the cells ask for which were seen of a table of so many columns
-/// and rows.
-pub fn conclude_both<M: Measure<C>, C, S: Settings>(
+/// What the cells come to along both directions which were seen of a table of so many columns and rows.
+fn conclude<T: Solution + Drop, M: Measure<C>, C, S: Settings>(
     alloc: Global,
     columns: usize,
     rows: usize,
     both: &Both,
     settings: &S,
-) -> Result<(Vec<usize>, Vec<usize>), LayoutError>
+) -> Result<(T, T), LayoutError>
     requires { (cells : List (List C)) × (rows ≡ length cells) × AreBothSeen (S.look settings.now) M.measured columns cells both.now }
     ensures { (cells : List (List C)) → rows ≡ length cells → AreBothSeen (S.look settings.now) M.measured columns cells both.now →
-        AreBothSized (S.look settings.now) M.measured columns cells result }
+        AnswersBoth (S.look settings.now) M.measured columns cells T.solves result }
 {
     if let Some(pos) = find_out_of_both(columns, rows, both) {
         return Err(LayoutError::OutOfTable(pos));
@@ -74,35 +72,35 @@ pub fn conclude_both<M: Measure<C>, C, S: Settings>(
         direction: Direction::Rows,
         count: rows,
     };
-    match conclude(alloc, columns, &both.columns, &across) {
+    match T::solve(alloc, columns, &both.columns, &across) {
         Err(no_widths) => Err(no_widths),
-        Ok(widths) => match conclude(alloc, rows, &both.rows, &down) {
+        Ok(widths) => match T::solve(alloc, rows, &both.rows, &down) {
             Err(no_heights) => Err(no_heights),
             Ok(heights) => Ok((widths, heights)),
         },
     }
 }
 
-/// The widths of the columns and the heights of the rows of the records.
+/// What the records come to along columns and along rows.
 ///
 /// # Errors
 ///
 /// `OutOfTable` with the first visible cell that reaches out along columns or rows, else `TooLarge`
 /// where the sizes along one of them come, with all lines, to more than the greatest `usize`;
 /// `Memory` in place of any answer.
-pub fn both_sizes<M, R: Records + Drop, S: Settings>(
+pub fn solve_both<T: Solution + Drop, M, R: Records + Drop, S: Settings>(
     alloc: Global,
     records: R,
     settings: &S,
-) -> Result<(Vec<usize>, Vec<usize>), LayoutError>
+) -> Result<(T, T), LayoutError>
 where
     M: Measure<<<R as Records>::Iter as IntoRecords>::Cell>,
     <<R as Records>::Iter as IntoRecords>::Cell: Drop,
     requires { R.is_lawful records }
     ensures { UnlessMemory result ((cells : List (List R.Iter.Cell)) × R.tells records cells
-        × AreBothSized (S.look settings.now) M.measured (R.columns records) cells result) }
+        × AnswersBoth (S.look settings.now) M.measured (R.columns records) cells T.solves result) }
 {
     let columns = records.count_columns();
     let (both, rows) = gather_both::<M, R, S>(alloc, records, settings)?;
-    conclude_both::<M, _, S>(alloc, columns, rows, &both, settings)
+    conclude::<T, M, _, S>(alloc, columns, rows, &both, settings)
 }

@@ -3,10 +3,10 @@
 ghost use Rattle.std.specs.Prelude.{◌≡◌, ◌+◌, ◌^◌, ◌<◌, ◌≤◌, ◌⊎◌, ◌∷◌, [], ⊤, List, length};
 ghost use Rattle.papergrid_text.specs.Records.{Gives, WalkIsShort};
 ghost use Rattle.papergrid_axis.specs.ForProofs.Checks.{AreBounded, IsClaim};
-ghost use Rattle.papergrid_walk.specs.Cells.{asked_by, demands_of, placed_row, side};
+ghost use Rattle.papergrid_walk.specs.Cells.{asked_by, demands_of, placed_row, problem_of, side};
 ghost use Rattle.papergrid_layout.specs.Witnesses.{AreShown, ChecksBy, ChecksMore, IsChecked, IsShownClaim};
 
-use crate::sizes::{Along, count_of};
+use crate::along::{Along, count_of};
 use papergrid_axis::checked::{accepts, is_unchanged, visit, wide_need};
 use papergrid_axis::claim::{are_in_order, count_listed};
 use papergrid_axis::{Checked, Claim};
@@ -156,7 +156,8 @@ where
     requires ordered { IsClaim ((S.look settings.now).span claim.now.direction) claim.now }
     requires shown { IsShownClaim (S.look settings.now) claim.now }
     ensures { (cells : List (List R.Iter.Cell)) × R.tells records cells
-        × IsChecked (S.look settings.now) M.measured (R.columns records) cells claim.now.direction claim.now.sizes.now claim.now.places.now result }
+        × IsChecked (problem_of (S.look settings.now) M.measured
+        (R.columns records) cells claim.now.direction) claim.now.sizes.now claim.now.places.now result }
 {
     let columns = records.count_columns();
     let axis = Along {
@@ -184,7 +185,8 @@ where
     requires lawful { R.is_lawful records }
     requires reason { (length sizes.now < length places.now) ⊎ (AreShown (S.look settings.now) places.now → ⊥) }
     ensures { (cells : List (List R.Iter.Cell)) × R.tells records cells
-        × IsChecked (S.look settings.now) M.measured (R.columns records) cells direction sizes.now places.now result }
+        × IsChecked (problem_of (S.look settings.now) M.measured
+        (R.columns records) cells direction) sizes.now places.now result }
 {
     let claim = Claim {
         direction,
@@ -212,7 +214,8 @@ where
     <<R as Records>::Iter as IntoRecords>::Cell: Drop,
     requires { R.is_lawful records }
     ensures { (cells : List (List R.Iter.Cell)) × R.tells records cells
-        × IsChecked (S.look settings.now) M.measured (R.columns records) cells direction sizes.now places.now result }
+        × IsChecked (problem_of (S.look settings.now) M.measured
+        (R.columns records) cells direction) sizes.now places.now result }
 {
     if places.len() > sizes.len() {
         return refuse::<M, R, S>(records, settings, direction, sizes, places);

@@ -5,12 +5,14 @@ ghost use Rattle.std.specs.Prelude.{◌≡◌, [], List};
 ghost use Rattle.papergrid_values.specs.declared.direction.Direction.TheVariants.{Columns, Rows};
 ghost use Rattle.papergrid_walk.specs.Looks.{compact_look};
 ghost use Rattle.papergrid_walk.specs.Measures.{std_line_measure};
-ghost use Rattle.papergrid_layout.specs.Answers.{AreBothSized, IsSized, UnlessMemory};
+ghost use Rattle.papergrid_axis.specs.Answers.{IsSized};
+ghost use Rattle.papergrid_walk.specs.Cells.{problem_of};
+ghost use Rattle.papergrid_layout.specs.Answers.{AreBothSized, UnlessMemory};
 
-use crate::both::both_sizes;
+use crate::both::solve_both;
 use crate::dimension::{Dimension, Estimate};
 use crate::size_list::SizeList;
-use crate::sizes::sizes;
+use crate::along::solve_along;
 use papergrid_axis::LayoutError;
 use papergrid_config::CompactConfig;
 use papergrid_text::{IntoRecords, Records};
@@ -56,9 +58,10 @@ impl CompactGridDimension {
         <<R as Records>::Iter as IntoRecords>::Cell: AsStr + Drop,
         requires { R.is_lawful records }
         ensures { UnlessMemory result ((cells : List (List R.Iter.Cell)) × R.tells records cells
-            × IsSized (compact_look config.now) (std_line_measure R.Iter.Cell.text) (R.columns records) cells Columns result) }
+            × IsSized (problem_of (compact_look config.now) (std_line_measure R.Iter.Cell.text)
+            (R.columns records) cells Columns) result) }
     {
-        sizes::<ByStdLines, R, CompactConfig>(alloc, records, config, Direction::Columns)
+        solve_along::<Vec<usize>, ByStdLines, R, CompactConfig>(alloc, records, config, Direction::Columns)
     }
 
     /// The heights of the rows of the records, in lines.
@@ -79,9 +82,10 @@ impl CompactGridDimension {
         <<R as Records>::Iter as IntoRecords>::Cell: AsStr + Drop,
         requires { R.is_lawful records }
         ensures { UnlessMemory result ((cells : List (List R.Iter.Cell)) × R.tells records cells
-            × IsSized (compact_look config.now) (std_line_measure R.Iter.Cell.text) (R.columns records) cells Rows result) }
+            × IsSized (problem_of (compact_look config.now) (std_line_measure R.Iter.Cell.text)
+            (R.columns records) cells Rows) result) }
     {
-        sizes::<ByStdLines, R, CompactConfig>(alloc, records, config, Direction::Rows)
+        solve_along::<Vec<usize>, ByStdLines, R, CompactConfig>(alloc, records, config, Direction::Rows)
     }
 
     /// The widths of the columns of the records, in columns of a terminal, and the heights of their
@@ -105,7 +109,7 @@ impl CompactGridDimension {
         ensures { UnlessMemory result ((cells : List (List R.Iter.Cell)) × R.tells records cells
             × AreBothSized (compact_look config.now) (std_line_measure R.Iter.Cell.text) (R.columns records) cells result) }
     {
-        both_sizes::<ByStdLines, R, CompactConfig>(alloc, records, config)
+        solve_both::<Vec<usize>, ByStdLines, R, CompactConfig>(alloc, records, config)
     }
 }
 
@@ -140,15 +144,19 @@ where
     ghost use Rattle.papergrid_values.specs.declared.direction.Direction.TheVariants.{Columns};
     ghost use Rattle.papergrid_walk.specs.Looks.{compact_look};
     ghost use Rattle.papergrid_walk.specs.Measures.{std_line_measure};
-    ghost use Rattle.papergrid_layout.specs.Answers.{AreSizesOf, IsRefusedFor, UnlessWant};
+    ghost use Rattle.papergrid_axis.specs.Answers.{AreSizes, IsRefused};
+    ghost use Rattle.papergrid_walk.specs.Cells.{problem_of};
+    ghost use Rattle.papergrid_layout.specs.Answers.{UnlessWant};
 
     ghost accepts = { R.is_lawful };
 
     ghost is_estimate = { λ d records config. (cells : List (List R.Iter.Cell)) × R.tells records cells
-        × AreSizesOf (compact_look config) (std_line_measure R.Iter.Cell.text) (R.columns records) cells Columns d.widths };
+        × AreSizes (problem_of (compact_look config) (std_line_measure R.Iter.Cell.text)
+        (R.columns records) cells Columns) d.widths };
 
     ghost is_refused = { λ _ records config error. UnlessWant error ((cells : List (List R.Iter.Cell)) × R.tells records cells
-        × IsRefusedFor (compact_look config) (std_line_measure R.Iter.Cell.text) (R.columns records) cells Columns error) };
+        × IsRefused (problem_of (compact_look config) (std_line_measure R.Iter.Cell.text)
+        (R.columns records) cells Columns) error) };
 
     fn estimate(&mut self, records: R, config: &CompactConfig) -> Result<(), LayoutError> {
         match CompactGridDimension::width(self.alloc, records, config) {

@@ -4,15 +4,17 @@ ghost use Rattle.std.specs.Prelude.{◌≡◌, ◌<◌, ◌^◌, [], List, lengt
 ghost use Rattle.papergrid_values.specs.declared.direction.Direction.TheVariants.{Columns, Rows};
 ghost use Rattle.papergrid_walk.specs.Looks.{spanned_look};
 ghost use Rattle.papergrid_walk.specs.Measures.{line_measure};
-ghost use Rattle.papergrid_layout.specs.Answers.{IsSized, IsTotalled, UnlessMemory};
+ghost use Rattle.papergrid_axis.specs.Answers.{Answers, IsSized, IsTotal};
+ghost use Rattle.papergrid_walk.specs.Cells.{problem_of};
+ghost use Rattle.papergrid_layout.specs.Answers.{UnlessMemory};
 
-use crate::both::both_sizes;
+use crate::both::solve_both;
 pub use crate::certificates::{
     check_height_witness, check_width_witness, height_witness, width_witness,
 };
 use crate::dimension::{Dimension, Estimate};
 use crate::size_list::SizeList;
-use crate::sizes::sizes;
+use crate::along::solve_along;
 use papergrid_axis::LayoutError;
 use papergrid_config::SpannedConfig;
 use papergrid_text::{IntoRecords, Records};
@@ -62,9 +64,10 @@ impl IterGridDimension {
         <<R as Records>::Iter as IntoRecords>::Cell: AsStr + Drop,
         requires { R.is_lawful records }
         ensures { UnlessMemory result ((cells : List (List R.Iter.Cell)) × R.tells records cells
-            × IsSized (spanned_look config.now) (line_measure R.Iter.Cell.text) (R.columns records) cells Columns result) }
+            × IsSized (problem_of (spanned_look config.now) (line_measure R.Iter.Cell.text)
+            (R.columns records) cells Columns) result) }
     {
-        sizes::<ByLines, R, SpannedConfig>(alloc, records, config, Direction::Columns)
+        solve_along::<Vec<usize>, ByLines, R, SpannedConfig>(alloc, records, config, Direction::Columns)
     }
 
     /// The heights of the rows of the records, in lines.
@@ -84,9 +87,10 @@ impl IterGridDimension {
         <<R as Records>::Iter as IntoRecords>::Cell: AsStr + Drop,
         requires { R.is_lawful records }
         ensures { UnlessMemory result ((cells : List (List R.Iter.Cell)) × R.tells records cells
-            × IsSized (spanned_look config.now) (line_measure R.Iter.Cell.text) (R.columns records) cells Rows result) }
+            × IsSized (problem_of (spanned_look config.now) (line_measure R.Iter.Cell.text)
+            (R.columns records) cells Rows) result) }
     {
-        sizes::<ByLines, R, SpannedConfig>(alloc, records, config, Direction::Rows)
+        solve_along::<Vec<usize>, ByLines, R, SpannedConfig>(alloc, records, config, Direction::Rows)
     }
 
     /// The width of the records' table: the sum of the widths and of the vertical lines.
@@ -106,7 +110,8 @@ impl IterGridDimension {
         <<R as Records>::Iter as IntoRecords>::Cell: AsStr + Drop,
         requires { R.is_lawful records }
         ensures { UnlessMemory result ((cells : List (List R.Iter.Cell)) × R.tells records cells
-            × IsTotalled (spanned_look config.now) (line_measure R.Iter.Cell.text) (R.columns records) cells Columns result) }
+            × Answers IsTotal (problem_of (spanned_look config.now) (line_measure R.Iter.Cell.text)
+            (R.columns records) cells Columns) result) }
     {
         match IterGridDimension::width(alloc, records, config) {
             Ok(widths) => Ok(sum_of(&widths) + config.count_vertical(widths.len())),
@@ -131,7 +136,8 @@ impl IterGridDimension {
         <<R as Records>::Iter as IntoRecords>::Cell: AsStr + Drop,
         requires { R.is_lawful records }
         ensures { UnlessMemory result ((cells : List (List R.Iter.Cell)) × R.tells records cells
-            × IsTotalled (spanned_look config.now) (line_measure R.Iter.Cell.text) (R.columns records) cells Rows result) }
+            × Answers IsTotal (problem_of (spanned_look config.now) (line_measure R.Iter.Cell.text)
+            (R.columns records) cells Rows) result) }
     {
         match IterGridDimension::height(alloc, records, config) {
             Ok(heights) => Ok(sum_of(&heights) + config.count_horizontal(heights.len())),
@@ -199,7 +205,7 @@ where
         × IsBothRefused (spanned_look config) (line_measure R.Iter.Cell.text) (R.columns records) cells error) };
 
     fn estimate(&mut self, records: R, config: &SpannedConfig) -> Result<(), LayoutError> {
-        match both_sizes::<ByLines, R, SpannedConfig>(self.alloc, records, config) {
+        match solve_both::<Vec<usize>, ByLines, R, SpannedConfig>(self.alloc, records, config) {
             Ok((widths, heights)) => {
                 self.widths = SizeList::of(widths);
                 self.heights = SizeList::of(heights);

@@ -7,14 +7,15 @@ ghost use Rattle.papergrid_values.specs.Positions.{IsBefore};
 ghost use Rattle.papergrid_text.specs.Measured.{Measured};
 ghost use Rattle.papergrid_values.specs.declared.direction.Direction.{Direction};
 ghost use Rattle.papergrid_values.specs.declared.direction.Direction.TheVariants.{Columns, Rows};
+ghost use Rattle.papergrid_axis.specs.Answers.{IsTotal};
 ghost use Rattle.papergrid_axis.specs.Ranges.{first_out};
 ghost use Rattle.papergrid_config.specs.Told.{IsTold};
 ghost use Rattle.papergrid_config.specs.declared.setting.Setting.{Setting};
 ghost use Rattle.papergrid_config.specs.declared.spanned.SpannedConfig.{SpannedConfig};
-ghost use Rattle.papergrid_walk.specs.Cells.{demands_of, placed, side, visible_cells};
+ghost use Rattle.papergrid_walk.specs.Cells.{demands_of, placed, problem_of, side, visible_cells};
 ghost use Rattle.papergrid_walk.specs.Looks.{Look, spanned_look};
 ghost use Rattle.papergrid_walk.specs.Measures.{cell_measure, line_measure};
-ghost use Rattle.papergrid_layout.specs.Answers.{IsTotalled, first_out_of_table};
+ghost use Rattle.papergrid_layout.specs.Answers.{first_out_of_table};
 ghost use Rattle.papergrid_layout.specs.Laws.{AreReordered, AreSwapped, IsCellAt, IsNewText, TellTheSame, sizes_told};
 ghost use Rattle.papergrid_layout.specs.declared.compact.CompactGridDimension.{CompactGridDimension};
 ghost use Rattle.papergrid_layout.specs.declared.iterable.IterGridDimension.{IterGridDimension};
@@ -78,7 +79,7 @@ pub fn none_reaches_out<C>()
 /// No visible cell needs more than the total with its lines: none is wider, or higher, than the table.
 pub fn total_covers_cells<C>()
     ensures { (look : Look) (measure : C → ℕ × ℕ) (columns : ℕ) (rows : List (List C)) (direction : Direction) (total : ℕ) →
-        IsTotalled look measure columns rows direction (Ok total) →
+        IsTotal (problem_of look measure columns rows direction) total →
         All (λ cell. side direction (measure cell.1) + look.before direction cell.0 + look.after direction cell.0 ≤ total)
         (visible_cells look rows) }
 {}

@@ -1,6 +1,7 @@
 //! Widths of columns and heights of rows, of records by a configuration.
 #![tactic(auto)]
 
+mod along;
 mod both;
 mod certificates;
 pub mod certified;
@@ -11,8 +12,6 @@ pub mod iterable;
 pub mod laws;
 pub mod peekable;
 mod size_list;
-mod sizes;
-mod witness;
 
 pub use compact::CompactGridDimension;
 pub use dimension::{Dimension, Estimate};

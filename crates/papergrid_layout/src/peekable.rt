@@ -4,12 +4,14 @@ ghost use Rattle.std.specs.Prelude.{◌≡◌, [], List, length};
 ghost use Rattle.papergrid_values.specs.declared.direction.Direction.TheVariants.{Columns, Rows};
 ghost use Rattle.papergrid_walk.specs.Looks.{spanned_look};
 ghost use Rattle.papergrid_walk.specs.Measures.{cell_measure};
-ghost use Rattle.papergrid_layout.specs.Answers.{AreBothSized, IsSized, UnlessMemory};
+ghost use Rattle.papergrid_axis.specs.Answers.{IsSized};
+ghost use Rattle.papergrid_walk.specs.Cells.{problem_of};
+ghost use Rattle.papergrid_layout.specs.Answers.{AreBothSized, UnlessMemory};
 
-use crate::both::both_sizes;
+use crate::both::solve_both;
 use crate::dimension::{Dimension, Estimate};
 use crate::size_list::SizeList;
-use crate::sizes::sizes;
+use crate::along::solve_along;
 use papergrid_axis::LayoutError;
 use papergrid_config::SpannedConfig;
 use papergrid_text::{Cell, IntoRecords, Records};
@@ -57,9 +59,10 @@ impl PeekableGridDimension {
         <<R as Records>::Iter as IntoRecords>::Cell: Cell + Drop,
         requires { R.is_lawful records }
         ensures { UnlessMemory result ((cells : List (List R.Iter.Cell)) × R.tells records cells
-            × IsSized (spanned_look config.now) (cell_measure R.Iter.Cell.width R.Iter.Cell.lines) (R.columns records) cells Columns result) }
+            × IsSized (problem_of (spanned_look config.now) (cell_measure R.Iter.Cell.width R.Iter.Cell.lines)
+            (R.columns records) cells Columns) result) }
     {
-        sizes::<ByCell, R, SpannedConfig>(alloc, records, config, Direction::Columns)
+        solve_along::<Vec<usize>, ByCell, R, SpannedConfig>(alloc, records, config, Direction::Columns)
     }
 
     /// The heights of the rows of the records, in lines.
@@ -79,9 +82,10 @@ impl PeekableGridDimension {
         <<R as Records>::Iter as IntoRecords>::Cell: Cell + Drop,
         requires { R.is_lawful records }
         ensures { UnlessMemory result ((cells : List (List R.Iter.Cell)) × R.tells records cells
-            × IsSized (spanned_look config.now) (cell_measure R.Iter.Cell.width R.Iter.Cell.lines) (R.columns records) cells Rows result) }
+            × IsSized (problem_of (spanned_look config.now) (cell_measure R.Iter.Cell.width R.Iter.Cell.lines)
+            (R.columns records) cells Rows) result) }
     {
-        sizes::<ByCell, R, SpannedConfig>(alloc, records, config, Direction::Rows)
+        solve_along::<Vec<usize>, ByCell, R, SpannedConfig>(alloc, records, config, Direction::Rows)
     }
 
     /// The widths of the columns of the records, in columns of a terminal, and the heights of their
@@ -106,7 +110,7 @@ impl PeekableGridDimension {
         ensures { UnlessMemory result ((cells : List (List R.Iter.Cell)) × R.tells records cells
             × AreBothSized (spanned_look config.now) (cell_measure R.Iter.Cell.width R.Iter.Cell.lines) (R.columns records) cells result) }
     {
-        both_sizes::<ByCell, R, SpannedConfig>(alloc, records, config)
+        solve_both::<Vec<usize>, ByCell, R, SpannedConfig>(alloc, records, config)
     }
 
     /// The widths and the heights.
@@ -161,7 +165,7 @@ where
         × IsBothRefused (spanned_look config) (cell_measure R.Iter.Cell.width R.Iter.Cell.lines) (R.columns records) cells error) };
 
     fn estimate(&mut self, records: R, config: &SpannedConfig) -> Result<(), LayoutError> {
-        match both_sizes::<ByCell, R, SpannedConfig>(self.alloc, records, config) {
+        match solve_both::<Vec<usize>, ByCell, R, SpannedConfig>(self.alloc, records, config) {
             Ok((widths, heights)) => {
                 self.widths = SizeList::of(widths);
                 self.heights = SizeList::of(heights);

@@ -1,9 +1,10 @@
 -- The visible cells of told rows with their positions, and what they ask for along a direction.
-use Rattle.std.specs.Prelude.{ℕ, ◌+◌, ◌-◌, ◌^◌, List, [], ◌∷◌, ◌++◌, map, filter}
+use Rattle.std.specs.Prelude.{ℕ, ◌+◌, ◌-◌, ◌^◌, List, [], ◌∷◌, ◌++◌, length, map, filter}
 use Rattle.papergrid_values.specs.declared.position.Position.{Position}
 use Rattle.papergrid_axis.specs.declared.demand.Demand.{Demand}
 use Rattle.papergrid_values.specs.declared.direction.Direction.{Direction}
 use Rattle.papergrid_values.specs.declared.direction.Direction.TheVariants.{Columns, Rows}
+use Rattle.papergrid_axis.specs.Problem.{Problem}
 use Rattle.papergrid_axis.specs.Ranges.{demand_of}
 use Rattle.papergrid_walk.specs.Looks.{Look}
 
@@ -50,6 +51,16 @@ module _ {C : Type 0} where
 abbrev pub count_along : Direction → ℕ → ℕ → ℕ
 count_along Columns columns rows = columns
 count_along Rows columns rows = rows
+
+module _ {C : Type 0} (look : Look) (measure : C → ℕ × ℕ) where
+  -- what the sizes along a direction, of so many columns (rows), are found for
+  abbrev pub problem_with : Direction → ℕ → List (List C) → Problem
+  problem_with direction count rows =
+      record { count = count; line = look.draws direction count; demands = demands_of direction look measure rows }
+
+  -- the same, of rows of so many columns
+  abbrev pub problem_of : ℕ → List (List C) → Direction → Problem
+  problem_of columns rows direction = problem_with direction (count_along direction columns (length rows)) rows
 
 -- below which column (row) a visible cell that covers one alone is in the table for certain: each row is one of the table
 abbrev pub limit_along : Direction → ℕ → ℕ

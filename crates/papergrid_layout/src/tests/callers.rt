@@ -5,7 +5,8 @@ ghost use Rattle.papergrid_text.specs.HeldRows.{column_count, rows_held};
 ghost use Rattle.papergrid_values.specs.declared.direction.Direction.TheVariants.{Columns};
 ghost use Rattle.papergrid_walk.specs.Looks.{spanned_look};
 ghost use Rattle.papergrid_walk.specs.Measures.{line_measure};
-ghost use Rattle.papergrid_layout.specs.Answers.{AreSizesOf};
+ghost use Rattle.papergrid_axis.specs.Answers.{AreSizes};
+ghost use Rattle.papergrid_walk.specs.Cells.{problem_of};
 
 use crate::{IterGridDimension, LayoutError};
 use papergrid_config::SpannedConfig;
@@ -17,8 +18,8 @@ pub fn of_held(
     records: VecRecords<String>,
     config: &SpannedConfig,
 ) -> Result<Vec<usize>, LayoutError>
-    ensures { IfOk result (λ widths. AreSizesOf (spanned_look config.now) (line_measure string_bytes)
-        (column_count records) (map (λ row. row.items) (rows_held records).items) Columns widths.items) }
+    ensures { IfOk result (λ widths. AreSizes (problem_of (spanned_look config.now) (line_measure string_bytes)
+        (column_count records) (map (λ row. row.items) (rows_held records).items) Columns) widths.items) }
 {
     match IterGridDimension::width(alloc, records, config) {
         Ok(widths) => Ok(widths),
@@ -31,8 +32,8 @@ pub fn of_lent(
     records: &VecRecords<String>,
     config: &SpannedConfig,
 ) -> Result<Vec<usize>, LayoutError>
-    ensures { IfOk result (λ widths. AreSizesOf (spanned_look config.now) (line_measure string_bytes)
-        (column_count records.now) (map (λ row. row.items) (rows_held records.now).items) Columns widths.items) }
+    ensures { IfOk result (λ widths. AreSizes (problem_of (spanned_look config.now) (line_measure string_bytes)
+        (column_count records.now) (map (λ row. row.items) (rows_held records.now).items) Columns) widths.items) }
 {
     match IterGridDimension::width(alloc, records, config) {
         Ok(widths) => Ok(widths),

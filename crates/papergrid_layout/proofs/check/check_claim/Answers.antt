@@ -1,6 +1,8 @@
-use Rattle.std.proofs.Common.{◌∙◌}
-use Rattle.papergrid_walk.specs.Cells.{count_along, demands_of}
+use Rattle.std.proofs.Common.{◌∙◌, refl, subst}
+use Rattle.papergrid_axis.specs.Problem.{given}
+use Rattle.papergrid_walk.specs.Cells.{count_along, demands_of, problem_with}
 use Rattle.papergrid_walk.proofs.Distinct.{AreDistinct-demands}
+use Rattle.papergrid_layout.specs.Witnesses.{IsChecked}
 use Rattle.papergrid_layout.proofs.CheckSteps.{checked-of}
 use Rattle.papergrid_layout.proofs.check.check_claim.Goals as goal
 
@@ -15,6 +17,7 @@ returns g c =
     let same = c.count_of-count.ensures ∙ (λ k. count_along claim.direction (c.count_columns-columns.ensures k) (found.3 k)) in (
       found.0,
       found.1,
-      checked-of look measured _ found.0 claim.direction claim.sizes.now claim.places.now c.accepts.result c.count_of-count.result same
-          (c.accepts.ensures.exact demands distinct found.2) (c.accepts.ensures.least demands distinct found.2),
+      subst (λ n. IsChecked (problem_with look measured claim.direction n found.0) claim.sizes.now claim.places.now c.accepts.result) same
+          (checked-of (λ n. given (look.draws claim.direction n) c.count_of-count.result demands) claim.sizes.now claim.places.now c.accepts.result c.count_of-count.result (λ n. refl)
+          (c.accepts.ensures.exact demands distinct found.2) (c.accepts.ensures.least demands distinct found.2)),
     )

@@ -2,7 +2,6 @@ use Rattle.std.proofs.Common.{arith, refl, [], ◌∷◌, ◌++◌, ◌∙◌, l
 use Rattle.papergrid_text.proofs.RowSteps.{one_more_fits, zip_more}
 use Rattle.papergrid_walk.proofs.Steps.{zip_length}
 use Rattle.papergrid_layout.proofs.CheckSteps.{check-row}
-use Rattle.papergrid_layout.specs.Answers.{drawn_along}
 use Rattle.papergrid_layout.proofs.check.check_rows.Goals as goal
 
 pub loop-row-init : goal.loop-row-init
@@ -10,7 +9,7 @@ loop-row-init g c =
     let claim = c.args.claim.now in
     let look = g.S.Settings.look c.args.settings.now in
     let short = c.iter_rows-row-items.ensures.finite c.requires.lawful c.into_iter-row-iterator.result c.into_iter-row-iterator.ensures.into_iter_gives in
-    (short.may_start, short.ends, refl, c.new-checked.ensures.bounded claim.places.now, ([], tt, c.new-checked.ensures.checks (drawn_along claim.direction look _) claim.sizes.now claim.places.now claim.direction (look.span claim.direction)))
+    (short.may_start, short.ends, refl, c.new-checked.ensures.bounded claim.places.now, ([], tt, c.new-checked.ensures.checks (look.draws claim.direction _) claim.sizes.now claim.places.now claim.direction (look.span claim.direction)))
 
 pub check_row-checked-requires-clause-short : goal.check_row-checked-requires-clause-short
 check_row-checked-requires-clause-short g c =

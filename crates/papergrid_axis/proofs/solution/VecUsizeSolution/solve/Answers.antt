@@ -1,6 +1,6 @@
 use Rattle.papergrid_axis.specs.Problem.{given}
 use Rattle.papergrid_axis.proofs.Theorems.{AreSizes-sizes_of}
-use Rattle.papergrid_axis.proofs.conclude.conclude.Goals as goal
+use Rattle.papergrid_axis.proofs.solution.VecUsizeSolution.solve.Goals as goal
 
 pub returns-in-Ok : goal.returns-in-Ok
 returns-in-Ok g c = λ demands seen.

@@ -1,6 +1,6 @@
 use Rattle.papergrid_axis.specs.Problem.{given}
 use Rattle.papergrid_axis.proofs.Theorems.{AreSizes-sizes_of}
-use Rattle.papergrid_axis.proofs.conclude.conclude_certified.Goals as goal
+use Rattle.papergrid_axis.proofs.solution.CertifiedSizesSolution.solve.Goals as goal
 
 pub settled_witness-requires : goal.settled_witness-requires
 settled_witness-requires g c = (g.A.Axis.line c.args.axis.now, c.requires.0, c.requires.1, c.in-Ok.ensures c.requires.0 c.requires.1)

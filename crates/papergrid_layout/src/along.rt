@@ -1,11 +1,11 @@
-//! The sizes along one direction.
+//! What is found along one direction.
 
 ghost use Rattle.std.specs.Prelude.{◌≡◌, List};
-ghost use Rattle.papergrid_walk.specs.Cells.{count_along};
-ghost use Rattle.papergrid_layout.specs.Answers.{IsSized, UnlessMemory};
+ghost use Rattle.papergrid_axis.specs.Answers.{Answers};
+ghost use Rattle.papergrid_walk.specs.Cells.{count_along, problem_of};
+ghost use Rattle.papergrid_layout.specs.Answers.{UnlessMemory};
 
-use papergrid_axis::conclude::conclude;
-use papergrid_axis::{Axis, LayoutError};
+use papergrid_axis::{Axis, LayoutError, Solution};
 use papergrid_text::{IntoRecords, Records};
 use papergrid_values::{Direction, Position};
 use papergrid_walk::{Measure, Settings, gather};
@@ -43,24 +43,24 @@ pub fn count_of(direction: Direction, columns: usize, rows: usize) -> usize
     }
 }
 
-/// The sizes of the records along a direction.
+/// What the records come to along a direction.
 ///
 /// # Errors
 ///
 /// `OutOfTable` with the first visible cell that reaches out, else `TooLarge` where the sizes with
 /// all lines come to more than the greatest `usize`; `Memory` in place of any answer.
-pub fn sizes<M, R: Records + Drop, S: Settings>(
+pub fn solve_along<T: Solution, M, R: Records + Drop, S: Settings>(
     alloc: Global,
     records: R,
     settings: &S,
     direction: Direction,
-) -> Result<Vec<usize>, LayoutError>
+) -> Result<T, LayoutError>
 where
     M: Measure<<<R as Records>::Iter as IntoRecords>::Cell>,
     <<R as Records>::Iter as IntoRecords>::Cell: Drop,
     requires { R.is_lawful records }
     ensures { UnlessMemory result ((cells : List (List R.Iter.Cell)) × R.tells records cells
-        × IsSized (S.look settings.now) M.measured (R.columns records) cells direction result) }
+        × Answers T.solves (problem_of (S.look settings.now) M.measured (R.columns records) cells direction) result) }
 {
     let columns = records.count_columns();
     let (seen, rows) = gather::<M, R, S>(alloc, records, settings, direction)?;
@@ -70,5 +70,5 @@ where
         direction,
         count,
     };
-    conclude(alloc, count, &seen, &axis)
+    T::solve(alloc, count, &seen, &axis)
 }

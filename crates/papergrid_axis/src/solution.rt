@@ -1,0 +1,88 @@
+//! The answer for a direction of a configuration, once all cells are seen.
+
+ghost use Rattle.std.specs.Prelude.{List};
+ghost use Rattle.papergrid_axis.specs.Answers.{Answers};
+ghost use Rattle.papergrid_axis.specs.Problem.{Problem, given};
+ghost use Rattle.papergrid_axis.specs.declared.demand.Demand.{Demand};
+ghost use Rattle.papergrid_axis.specs.ForProofs.Seen.{IsSeen};
+
+use crate::axis::Axis;
+use crate::error::LayoutError;
+use crate::seen::Seen;
+use crate::settled::settle;
+use crate::witness::settled_witness;
+use papergrid_values::Position;
+use std::alloc::Global;
+
+/// What is found of a table along a direction: the sizes alone, or also the cells that certify them.
+pub trait Solution {
+    // What holds of it, by what it was found for.
+    ghost solves: { Problem → Self → Type 0 };
+
+    /// What the seen cells of a table of `count` columns (rows) come to, with the lines of the axis.
+    ///
+    /// # Errors
+    ///
+    /// `OutOfTable` with the position of the first cell that reaches out, else `TooLarge` where the
+    /// sizes with all lines come to more than the greatest `usize`.
+    fn solve<A: Axis>(
+        alloc: Global,
+        count: usize,
+        seen: &Seen,
+        axis: &A,
+    ) -> Result<Self, LayoutError>
+        requires { (demands : List Demand) × IsSeen count seen.now demands }
+        ensures { (demands : List Demand) → IsSeen count seen.now demands →
+            Answers solves (given (A.line axis.now) count demands) result };
+}
+
+/// The sizes of the columns (rows).
+impl Solution for Vec<usize> {
+    ghost use Rattle.papergrid_axis.specs.Answers.{AreSizes};
+
+    ghost solves = { λ problem sizes. AreSizes problem sizes.items };
+
+    fn solve<A: Axis>(
+        alloc: Global,
+        count: usize,
+        seen: &Seen,
+        axis: &A,
+    ) -> Result<Vec<usize>, LayoutError> {
+        match settle(alloc, count, seen, axis) {
+            Ok(settled) => Ok(settled.sizes),
+            Err(refused) => Err(refused),
+        }
+    }
+}
+
+/// The sizes, and the places of the cells that certify that they are least; none where two longer
+/// ranges are neither nested nor disjoint.
+#[derive(Drop)]
+pub struct CertifiedSizes {
+    pub sizes: Vec<usize>,
+    pub witness: Option<Vec<Position>>,
+}
+
+impl Solution for CertifiedSizes {
+    ghost use Rattle.papergrid_axis.specs.Answers.{AreSizes, IsWitness};
+
+    ghost solves = { λ problem found. AreSizes problem found.sizes.items × IsWitness problem found.witness };
+
+    fn solve<A: Axis>(
+        alloc: Global,
+        count: usize,
+        seen: &Seen,
+        axis: &A,
+    ) -> Result<CertifiedSizes, LayoutError> {
+        match settle(alloc, count, seen, axis) {
+            Ok(settled) => match settled_witness(alloc, count, seen, &settled) {
+                Ok(witness) => Ok(CertifiedSizes {
+                    sizes: settled.sizes,
+                    witness,
+                }),
+                Err(error) => Err(LayoutError::Memory(error)),
+            },
+            Err(refused) => Err(refused),
+        }
+    }
+}
