@@ -15,7 +15,7 @@ use Rattle.papergrid_values.specs.declared.direction.Direction.TheVariants.{Colu
 use Rattle.papergrid_values.specs.declared.position.Position.{Position}
 use Rattle.papergrid_tables.specs.Keys.{position_cmp}
 use Rattle.papergrid_tables.proofs.KeyLemmas.{exact_position_eq, exact_positions, position_ties, position_total}
-use Rattle.papergrid_maps.specs.SpanIndex.{DirectedSpans, HoldsBoth, IsReachedByBoth, extent_held, extent_of}
+use Rattle.papergrid_maps.specs.ForProofs.SpanIndex.{DirectedSpans, HoldsBoth, IsReachedByBoth, extent_held, extent_of}
 use Rattle.papergrid_maps.specs.Spans.{IsCoveredByBoth, Spans, column_span, row_span}
 use Rattle.papergrid_maps.specs.declared.span_index.Extent.{Extent}
 use Rattle.papergrid_maps.proofs.IndexRanges.{any_between, is_above, of_above}

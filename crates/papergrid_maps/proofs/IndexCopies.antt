@@ -25,7 +25,7 @@ use Rattle.papergrid_tables.proofs.EqualLemmas.{places_agree}
 use Rattle.papergrid_tables.proofs.KeyLemmas.{exact_position_eq, exact_positions, get_at_position, position_equiv, position_ties, position_total}
 use Rattle.papergrid_tables.proofs.ResultLemmas.{same_answer}
 use Rattle.papergrid_tables.proofs.ToldEqual.{places_same}
-use Rattle.papergrid_maps.specs.SpanIndex.{held_along, key_of}
+use Rattle.papergrid_maps.specs.ForProofs.SpanIndex.{held_along, key_of}
 use Rattle.papergrid_maps.proofs.IndexKeys.{held_at, key_key, same_key}
 
 -- ---- by position

@@ -12,7 +12,7 @@ use Rattle.papergrid_values.specs.declared.direction.Direction.TheVariants.{Colu
 use Rattle.papergrid_values.specs.declared.position.Position.{Position}
 use Rattle.papergrid_tables.specs.Keys.{position_cmp}
 use Rattle.papergrid_tables.proofs.KeyLemmas.{exact_positions, position_ties, position_total}
-use Rattle.papergrid_maps.specs.SpanIndex.{held_along, key_of}
+use Rattle.papergrid_maps.specs.ForProofs.SpanIndex.{held_along, key_of}
 
 -- the key of a key is the position
 pub key_key : (d : Direction) (p : Position) → key_of d (key_of d p) ≡ p

@@ -1,6 +1,7 @@
 pub mod AnyHeld
 pub mod Applied
 pub mod BothHeld
+pub mod CoverLemmas
 pub mod IndexCopies
 pub mod IndexKeys
 pub mod IndexRanges

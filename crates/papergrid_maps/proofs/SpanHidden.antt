@@ -6,7 +6,7 @@ use Rattle.std.proofs.lemmas.Bool.{false≢true, cases_eq}
 use Rattle.papergrid_values.specs.declared.position.Position.{Position}
 use Rattle.papergrid_tables.specs.Keys.{position_cmp}
 use Rattle.papergrid_maps.specs.Spans.{Spans, column_span, row_span, IsCoveredByColumn, IsCoveredByRow, IsCoveredByBoth, IsVisible}
-use Rattle.papergrid_maps.specs.SpanIndex.{AreFromTwo}
+use Rattle.papergrid_maps.specs.ForProofs.SpanIndex.{AreFromTwo}
 
 -- a span that is held is at least 1, and where none is held it is 1
 at_least_one : (spans : FinMap position_cmp ℕ) → AreFromTwo spans → (p : Position) (o : Option ℕ) → get spans p ≡ o → 1 ≤ unwrap_or o 1

@@ -13,7 +13,7 @@ use Rattle.papergrid_tables.specs.Keys.{position_cmp, position_eq}
 use Rattle.papergrid_values.specs.declared.direction.Direction.{Direction}
 use Rattle.papergrid_values.specs.declared.direction.Direction.TheVariants.{Columns, Rows}
 use Rattle.papergrid_maps.specs.Spans.{Spans, SpanCall, SetSpan, RemoveSpans, HasSpan, IsTold, Appends, spans_along, span_from, from_two}
-use Rattle.papergrid_maps.specs.SpanIndex.{AreFromTwo, held_along, key_of, span_set}
+use Rattle.papergrid_maps.specs.ForProofs.SpanIndex.{AreFromTwo, held_along, key_of, span_set}
 use Rattle.papergrid_tables.proofs.KeyLemmas.{position_equiv, position_ties, position_total}
 use Rattle.papergrid_maps.proofs.IndexKeys.{held_at, key_key}
 

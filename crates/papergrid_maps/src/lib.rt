@@ -5,6 +5,7 @@
 
 pub mod colors;
 pub mod compact;
+mod covering;
 pub mod entity_map;
 pub mod laws;
 mod span_index;

@@ -1,16 +1,18 @@
 //! The spans of one direction, found by the line that they run in.
 
-ghost use Rattle.std.specs.Prelude.{◌≡◌, ◌∷◌, ◌-◌, ◌↔◌, IfOk, IsTrue, None, OnErr, OnOk, nat_eq, nat_lt};
+ghost use Rattle.std.specs.Prelude.{◌≡◌, ◌∷◌, ◌-◌, ◌↔◌, AllPairs, IfOk, IsTrue, None, OnErr, OnOk, nat_eq, nat_lt};
 ghost use Rattle.std.specs.BTreeMap.Range.{entries_between};
 ghost use Rattle.std.specs.FinMap as map;
 ghost use Rattle.std.specs.FinMap.{get as value_at};
 ghost use Rattle.std.specs.HashMap.{get as map_get};
 ghost use Rattle.std.specs.List.{list_any};
+ghost use Rattle.papergrid_values.specs.Positions.{AreRising};
 ghost use Rattle.papergrid_tables.specs.Equal.{places_eq};
 ghost use Rattle.papergrid_tables.specs.Keys.{position_cmp, position_eq};
 ghost use Rattle.papergrid_maps.specs.Spans.{HasSpan};
-ghost use Rattle.papergrid_maps.specs.SpanIndex.{IsReached, extent_of, key_of};
+ghost use Rattle.papergrid_maps.specs.ForProofs.SpanIndex.{CoversOne, IsReached, covers_held, extent_of, key_of};
 
+use crate::covering::covers_one;
 use papergrid_values::{Direction, Position};
 use std::alloc::{AllocError, Global};
 use std::collections::{BTreeMap, HashMap};
@@ -29,7 +31,7 @@ pub(crate) struct SpanIndex {
 impl Model for SpanIndex {
     ghost use Rattle.std.specs.BTreeMap.{IsOrdered};
     ghost use Rattle.papergrid_tables.specs.Keys.{position_cmp};
-    ghost use Rattle.papergrid_maps.specs.SpanIndex.{DirectedSpans, directed_code, held_along};
+    ghost use Rattle.papergrid_maps.specs.ForProofs.SpanIndex.{DirectedSpans, directed_code, held_along};
 
     ghost Value = { DirectedSpans };
 
@@ -105,6 +107,21 @@ impl SpanIndex {
         reaches_key(&self.spans, key_of(self.direction, pos))
     }
 
+    /// Whether one of the positions, of which the columns or the rows rise, lies in the rectangle of an
+    /// anchor with a span here, where `others` has the spans of the other direction. Each span is looked
+    /// at once.
+    pub(crate) fn covers_one(
+        &self,
+        others: &SpanIndex,
+        rising: Direction,
+        places: &[Position],
+    ) -> bool
+        requires { AllPairs (AreRising rising) places.now }
+        ensures { IsTrue result ↔ CoversOne self.now others.now.spans places.now }
+    {
+        entries_cover(&self.spans, self.direction, others, rising, places)
+    }
+
     /// The spans by position, or want of memory.
     pub(crate) fn by_position(&self, alloc: Global) -> Result<HashMap<Position, usize>, AllocError>
         ensures { IfOk result (λ all. (p : Position) → map_get position_eq all p ≡ value_at self.now.spans p) }
@@ -176,4 +193,22 @@ fn reaches_key(spans: &BTreeMap<Position, usize>, key: Position) -> bool
     spans
         .range(Position::new(key.row, 0)..key)
         .any(|(start, span)| key.col.saturating_sub(start.col) < *span)
+}
+
+// Whether one of the positions lies in the rectangle of an anchor with a span of the entries.
+fn entries_cover(
+    spans: &BTreeMap<Position, usize>,
+    direction: Direction,
+    others: &SpanIndex,
+    rising: Direction,
+    places: &[Position],
+) -> bool
+    requires { AllPairs (AreRising rising) places.now }
+    ensures { result ≡ list_any (covers_held direction others.now.spans places.now) spans.now.entries }
+{
+    spans.iter().any(|(key, span)| {
+        let anchor = key_of(direction, *key);
+        let extent = extent_of(direction, *span, others.get(anchor).unwrap_or(1));
+        covers_one(rising, anchor, extent.columns, extent.rows, places)
+    })
 }

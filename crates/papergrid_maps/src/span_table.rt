@@ -12,7 +12,7 @@ ghost use Rattle.papergrid_values.specs.declared.direction.Direction.TheVariants
 ghost use Rattle.papergrid_values.specs.declared.position.Position.{Position};
 ghost use Rattle.papergrid_tables.specs.Keys.{position_cmp, position_eq};
 ghost use Rattle.papergrid_maps.specs.Spans.{IsTold, Appends, HasSpan, IsVisible, IsCoveredByColumn, IsCoveredByRow, IsCoveredByBoth, SetSpan, RemoveSpans, column_span, row_span, is_visible};
-ghost use Rattle.papergrid_maps.specs.SpanIndex.{AreFromTwo, HoldsBoth, span_set};
+ghost use Rattle.papergrid_maps.specs.ForProofs.SpanIndex.{AreFromTwo, HoldsBoth, span_set};
 
 use crate::span_index::{Extent, SpanIndex, extent_of};
 use papergrid_values::{Direction, Position};
@@ -44,7 +44,7 @@ impl Model for SpanTable {
 
     ghost view = { λ s. record { columns = s.columns.spans; rows = s.rows.spans } };
 
-    ghost use Rattle.papergrid_maps.specs.SpanIndex.{AreFromTwo, HoldsBoth};
+    ghost use Rattle.papergrid_maps.specs.ForProofs.SpanIndex.{AreFromTwo, HoldsBoth};
     ghost use Rattle.papergrid_values.specs.declared.direction.Direction.TheVariants.{Columns, Rows};
 
     ghost invariant = { λ s. (s.columns.direction ≡ Columns) × (s.rows.direction ≡ Rows)
@@ -189,7 +189,10 @@ impl SpanTable {
         requires { AllPairs (AreRising direction) places.now }
         ensures { IsTrue result ↔ All (λ p. IsTrue (is_visible self.now p)) places.now }
     {
-        places.iter().all(|pos| self.is_visible(*pos))
+        if self.columns.covers_one(&self.rows, direction, places) {
+            return false;
+        }
+        !self.rows.covers_one(&self.columns, direction, places)
     }
 }
 

@@ -4,7 +4,7 @@ use Rattle.std.specs.FinMap.{get, get-insert}
 use Rattle.std.specs.Map.{lookup}
 use Rattle.papergrid_tables.specs.Keys.{position_cmp}
 use Rattle.papergrid_tables.proofs.KeyLemmas.{position_total}
-use Rattle.papergrid_maps.specs.SpanIndex.{extent_held, extent_of}
+use Rattle.papergrid_maps.specs.ForProofs.SpanIndex.{extent_held, extent_of}
 use Rattle.papergrid_maps.proofs.BothHeld.{alone_held, both_held, held_and_dropped, not_held}
 use Rattle.papergrid_maps.proofs.span_table.hold_span.Goals as goal
 

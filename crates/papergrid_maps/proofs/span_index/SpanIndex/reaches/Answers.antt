@@ -1,4 +1,4 @@
-use Rattle.papergrid_maps.specs.SpanIndex.{key_of}
+use Rattle.papergrid_maps.specs.ForProofs.SpanIndex.{key_of}
 use Rattle.papergrid_maps.proofs.IndexReached.{index_reached, key_reached}
 use Rattle.papergrid_maps.proofs.span_index.SpanIndex.reaches.Goals as goal
 

@@ -1,8 +1,9 @@
 -- Spans of one direction by the line that they run in, and the anchors with both spans.
-use Rattle.std.specs.Prelude.{◌≡◌, ◌≤◌, ◌<◌, ◌+◌, ◌&&◌, List, map, ℕ, Bool, true, false, Option, Some, None, if◌then◌else◌, nat_le, unwrap_or, refl}
+use Rattle.std.specs.Prelude.{◌≡◌, ◌≤◌, ◌<◌, ◌+◌, ◌-◌, ◌&&◌, IsSome, IsTrue, not, nat_lt, List, map, ℕ, Bool, true, false, Option, Some, None, if◌then◌else◌, nat_le, unwrap_or, refl}
 use Rattle.std.specs.BTreeMap.{BTreeMap, get as tree_get}
 use Rattle.std.specs.Coded.{Coded, code_by, coded×, coded_bool, coded_ℕ}
 use Rattle.std.specs.FinMap.{FinMap, code, from_entries, get}
+use Rattle.std.specs.List.{list_any}
 use Rattle.papergrid_values.specs.Positions.{along}
 use Rattle.papergrid_values.specs.declared.direction.Direction.{Direction}
 use Rattle.papergrid_values.specs.declared.direction.Direction.TheVariants.{Columns, Rows}
@@ -90,3 +91,25 @@ abbrev pub IsReachedByBoth : BTreeMap Position Extent → Position → Type 0
 IsReachedByBoth both p =
     (anchor : Position) × (extent : Extent) × (tree_get position_cmp both anchor ≡ Some extent)
     × (anchor.row < p.row) × (p.row < anchor.row + extent.rows) × (anchor.col < p.col) × (p.col < anchor.col + extent.columns)
+
+-- ---- rectangles and many positions
+
+-- in the rectangle of an anchor with so many columns and rows, and not the anchor
+abbrev pub covers : Position → ℕ → ℕ → Position → Bool
+covers anchor columns rows p =
+    not (position_eq anchor p) && (nat_le anchor.row p.row && (nat_lt (p.row - anchor.row) rows
+    && (nat_le anchor.col p.col && nat_lt (p.col - anchor.col) columns)))
+
+-- one of the positions lies in the rectangle of an entry by key, by its span and the span of the other direction
+abbrev pub covers_held : Direction → FinMap position_cmp ℕ → List Position → Position × ℕ → Bool
+covers_held direction others places e =
+    let anchor = key_of direction e.0 in
+    let extent = extent_of direction e.1 (unwrap_or (get others anchor) 1) in
+    list_any (covers anchor extent.columns extent.rows) places
+
+-- one of the positions lies in the rectangle of an anchor with a span of the direction
+abbrev pub CoversOne : DirectedSpans → FinMap position_cmp ℕ → List Position → Type 0
+CoversOne index others places =
+    (anchor : Position) × IsSome (get index.spans anchor)
+    × (let extent = extent_of index.direction (unwrap_or (get index.spans anchor) 1) (unwrap_or (get others anchor) 1) in
+    IsTrue (list_any (covers anchor extent.columns extent.rows) places))

@@ -1,0 +1,51 @@
+//! Whether a rectangle hides one of many positions.
+
+ghost use Rattle.std.specs.Prelude.{◌≡◌, AllPairs, nat_lt};
+ghost use Rattle.std.specs.List.{list_any};
+ghost use Rattle.papergrid_values.specs.Positions.{AreRising, along};
+ghost use Rattle.papergrid_maps.specs.ForProofs.SpanIndex.{covers};
+
+use papergrid_values::{Direction, Position};
+
+// Whether a position lies in the rectangle of another, of so many columns and rows.
+fn is_covered(anchor: Position, columns: usize, rows: usize, pos: Position) -> bool
+    ensures { result ≡ covers anchor columns rows pos }
+{
+    if anchor.row == pos.row && anchor.col == pos.col {
+        return false;
+    }
+    anchor.row <= pos.row
+        && pos.row - anchor.row < rows
+        && anchor.col <= pos.col
+        && pos.col - anchor.col < columns
+}
+
+// Whether one of the positions lies in a rectangle. Those before it are passed over by halves, and
+// none after it is looked at.
+pub(crate) fn covers_one(
+    direction: Direction,
+    anchor: Position,
+    columns: usize,
+    rows: usize,
+    places: &[Position],
+) -> bool
+    requires { AllPairs (AreRising direction) places.now }
+    ensures { result ≡ list_any (covers anchor columns rows) places.now }
+{
+    let start = direction.number_of(anchor);
+    let span = direction.number_of(Position::new(rows, columns));
+    let first = places.partition_point(
+        |pos: &Position| -> bool
+            ensures { result ≡ nat_lt (along direction pos.now) start }
+        { direction.number_of(*pos) < start },
+    );
+    for i in first..places.len() {
+        if direction.number_of(places[i]) - start >= span {
+            return false;
+        }
+        if is_covered(anchor, columns, rows, places[i]) {
+            return true;
+        }
+    }
+    false
+}
