@@ -1,22 +1,25 @@
 -- What the positions that a rectangle covers say of visibility.
-use Rattle.std.proofs.Common.{◌≡◌, ℕ, ◌+◌, ◌-◌, ◌<◌, ◌≤◌, Bool, true, false, List, get_or, leb, ltb, Option, Some, None, refl, sym, ap, ◌∙◌, arith, inl, inr}
-use Rattle.std.specs.Prelude.{All, AllPairs, unwrap_or, not, ◌≢◌, ◌↔◌, ◌⊎◌, IsTrue}
-use Rattle.std.specs.List.{list_any, IsDistinct}
+use Rattle.std.proofs.Common.{◌≡◌, ℕ, ◌+◌, ◌-◌, ◌<◌, ◌≤◌, Bool, true, false, List, get_or, leb, ltb, Option, Some, None, refl, sym, ap, subst, ◌∙◌, arith, inl, inr}
+use Rattle.std.specs.Prelude.{All, AllPairs, unwrap_or, not, is_some, ◌≢◌, ◌↔◌, ◌⊎◌, IsTrue}
+use Rattle.std.specs.BTreeMap.{BTreeMap, IsOrdered, get as tree_get}
+use Rattle.std.specs.Cmp.{eq_by_cmp_equiv}
+use Rattle.std.specs.FinMap.{FinMap, get}
+use Rattle.std.specs.List.{list_any}
 use Rattle.std.specs.List.Sorted.{IsNonDecreasingBy}
-use Rattle.std.specs.Map.{lookup, keys_of}
-use Rattle.std.proofs.lemmas.Bool.{cases_Bool, cases_eq, true≢false, and_parts, and_from, leb-true, le-leb, ltb-true, lt-ltb}
+use Rattle.std.proofs.lemmas.Bool.{cases_Bool, cases_eq, false≢true, and_parts, and_from, leb-true, le-leb, ltb-true, lt-ltb}
 use Rattle.std.proofs.lemmas.List.{get_or_default}
 use Rattle.std.proofs.lemmas.List.Folds.{Any-from_list_any, list_any-from_Any}
+use Rattle.std.proofs.lemmas.Map.Keys.{IsDistinct-from_sorted}
 use Rattle.papergrid_values.specs.Positions.{AreRising, along}
-use Rattle.papergrid_values.specs.declared.position.Position.{Position}
-use Rattle.papergrid_tables.specs.Keys.{position_eq}
-use Rattle.papergrid_maps.specs.Spans.{column_span, row_span, is_visible, IsVisible, IsInRectangle}
-use Rattle.papergrid_maps.specs.SpanScan.{covers}
 use Rattle.papergrid_values.specs.declared.direction.Direction.{Direction}
 use Rattle.papergrid_values.specs.declared.direction.Direction.TheVariants.{Columns, Rows}
+use Rattle.papergrid_values.specs.declared.position.Position.{Position}
+use Rattle.papergrid_tables.specs.Keys.{position_cmp, position_eq}
 use Rattle.papergrid_tables.proofs.AnyLemmas.{any_found, any_from_found}
-use Rattle.papergrid_tables.proofs.KeyLemmas.{exact_position_eq, get_at_position, position_equiv}
-use Rattle.papergrid_maps.proofs.SpanScans.{spans_of}
+use Rattle.papergrid_tables.proofs.KeyLemmas.{exact_position_eq, position_ties, position_total}
+use Rattle.papergrid_maps.specs.Spans.{Spans, column_span, row_span, is_visible, IsInRectangle}
+use Rattle.papergrid_maps.specs.ForProofs.SpanIndex.{CoversOne, DirectedSpans, covers, covers_held, extent_of, held_along, key_of}
+use Rattle.papergrid_maps.proofs.IndexKeys.{held_at, key_key}
 use Rattle.papergrid_maps.proofs.SpanVisible.{apart_by_test, apart_from_test, visible_test}
 
 module _ (columns rows : Position → ℕ) (a p : Position) where
@@ -66,73 +69,92 @@ never_falls direction places rises i j d le l = elim (cases_eq i j) [
       omega arith
 ]
 
--- ---- what is found in the entries
+-- ---- what the entries of an index cover
 
--- the span of an entry's key
-span_held : (es : List (Position × ℕ)) (a : Position) (n : ℕ) → lookup (position_eq a) es ≡ Some n → unwrap_or (lookup (position_eq a) es) 1 ≡ n
-span_held es a n e = ap (λ o. unwrap_or o 1) e
+module _ (d : Direction) (m : BTreeMap Position ℕ) (others : FinMap position_cmp ℕ) (places : List Position) where
+  -- the span of an entry at its position
+  span_of : (k : Position) (n : ℕ) → tree_get position_cmp m k ≡ Some n → get (held_along d m.entries) (key_of d k) ≡ Some n
+  span_of k n is = held_at d m.entries (key_of d k) ∙ ap (tree_get position_cmp m) (key_key d k) ∙ is
 
-module _ (cs rs : List (Position × ℕ)) (places : List Position) where
-  -- one of the positions lies in the rectangle of an entry
-  abbrev pub covers_wide : Position × ℕ → Bool
-  covers_wide e = list_any (covers e.0 e.1 (unwrap_or (lookup (position_eq e.0) rs) 1)) places
-
-  abbrev pub covers_tall : Position × ℕ → Bool
-  covers_tall e = list_any (covers e.0 (unwrap_or (lookup (position_eq e.0) cs) 1) e.1) places
-
-  abbrev columns : Position → ℕ
-  columns a = unwrap_or (lookup (position_eq a) cs) 1
-
-  abbrev rows : Position → ℕ
-  rows a = unwrap_or (lookup (position_eq a) rs) 1
-
-  -- by the spans of the entries
-  visible_held : (p : Position) → IsTrue (is_visible (spans_of cs rs) p) ↔ IsVisible columns rows p
-  visible_held p =
-      let same = visible_test (spans_of cs rs) p in
-      let wide : (a : Position) → column_span (spans_of cs rs) a ≡ columns a = λ a. ap (λ o. unwrap_or o 1) (get_at_position cs a) in
-      let tall : (a : Position) → row_span (spans_of cs rs) a ≡ rows a = λ a. ap (λ o. unwrap_or o 1) (get_at_position rs a) in (
-        λ t a apart within. same.0 t a apart record { below_top = within.below_top; above_bottom = rw (tall a) within.above_bottom; after_left = within.after_left; before_right = rw (wide a) within.before_right },
-        λ visible. same.1 (λ a apart within. visible a apart record { below_top = within.below_top; above_bottom = rw (tall a) at within.above_bottom; after_left = within.after_left; before_right = rw (wide a) at within.before_right }),
+  pub entries_cover : IsOrdered position_cmp m → (list_any (covers_held d others places) m.entries ≡ true) ↔ CoversOne (record { direction = d; spans = held_along d m.entries }) others places
+  entries_cover ordered =
+      let own = held_along d m.entries in
+      let laws = eq_by_cmp_equiv position_total in
+      let other : Position → ℕ = λ a. unwrap_or (get others a) 1 in
+      let in_one : Position → ℕ → Bool = λ a n. list_any (covers a ((extent_of d n (other a)).columns) ((extent_of d n (other a)).rows)) places in (
+        λ h.
+            let found = any_found laws (covers_held d others places) m.entries (IsDistinct-from_sorted position_cmp _ ordered) h in
+            let a = key_of d found.0 in
+            let span = span_of found.0 found.1 found.2 in
+            (a, subst (λ o. is_some o ≡ true) (sym span) refl, subst (λ o. in_one a (unwrap_or o 1) ≡ true) (sym span) found.3),
+        λ h.
+            let held = held_or_none (get own h.0) h.1 in
+            let k = key_of d h.0 in
+            let at_key : tree_get position_cmp m k ≡ Some held.0 = sym (held_at d m.entries h.0) ∙ held.1 in
+            let there : in_one h.0 held.0 ≡ true = subst (λ o. in_one h.0 (unwrap_or o 1) ≡ true) held.1 h.2 in
+            any_from_found laws (covers_held d others places) m.entries (λ x y e. exact_position_eq x y (position_ties x y ∙ e)) k held.0 at_key (subst (λ a. in_one a held.0 ≡ true) (sym (key_key d h.0)) there),
       )
+    where
+      held_or_none : (o : Option ℕ) → is_some o ≡ true → (n : ℕ) × (o ≡ Some n)
+      held_or_none None h = absurd (false≢true h)
+      held_or_none (Some n) h = (n, refl)
+
+-- ---- the rectangles of both directions
+
+module _ (spans : Spans) (places : List Position) where
+  abbrev covers_some : Position → Bool
+  covers_some a = list_any (covers a (column_span spans a) (row_span spans a)) places
 
   -- a position that is covered is not visible
-  hidden : (a : Position) → list_any (covers a (columns a) (rows a)) places ≡ true → All (λ p. IsTrue (is_visible (spans_of cs rs) p)) places → ⊥
+  hidden : (a : Position) → covers_some a ≡ true → All (λ p. IsTrue (is_visible spans p)) places → ⊥
   hidden a h all =
-      let found = Any-from_list_any (covers a (columns a) (rows a)) places h in
+      let found = Any-from_list_any (covers a (column_span spans a) (row_span spans a)) places h in
       let p = get_or places found.0 found.1 in
-      let covered : covers a (columns a) (rows a) p ≡ true = rw found.3 found.4 in
-      let inside = covered_inside columns rows a p covered in
-      (visible_held p).0 (all found.0 found.1 found.2) a inside.0 inside.1
+      let covered : covers a (column_span spans a) (row_span spans a) p ≡ true = rw found.3 found.4 in
+      let inside = covered_inside (column_span spans) (row_span spans) a p covered in
+      (visible_test spans p).0 (all found.0 found.1 found.2) a inside.0 inside.1
 
-  pub hidden_wide : IsDistinct position_eq (keys_of cs) → list_any covers_wide cs ≡ true → All (λ p. IsTrue (is_visible (spans_of cs rs) p)) places → ⊥
-  hidden_wide distinct h =
-      let found = any_found position_equiv covers_wide cs distinct h in
-      hidden found.0 (rw (span_held cs found.0 found.1 found.2) found.3)
-
-  pub hidden_tall : IsDistinct position_eq (keys_of rs) → list_any covers_tall rs ≡ true → All (λ p. IsTrue (is_visible (spans_of cs rs) p)) places → ⊥
-  hidden_tall distinct h =
-      let found = any_found position_equiv covers_tall rs distinct h in
-      hidden found.0 (rw (span_held rs found.0 found.1 found.2) found.3)
-
-  -- where no entry covers a position, all are visible
-  pub all_visible : list_any covers_wide cs ≡ false → list_any covers_tall rs ≡ false → All (λ p. IsTrue (is_visible (spans_of cs rs) p)) places
-  all_visible narrow short k d l = (visible_held (get_or places k d)).1 (λ a apart within.
+  -- where neither direction covers a position, all are visible
+  all_seen : ((a : Position) → is_some (get spans.columns a) ≡ true → covers_some a ≡ true → ⊥) → ((a : Position) → is_some (get spans.rows a) ≡ true → covers_some a ≡ true → ⊥)
+      → All (λ p. IsTrue (is_visible spans p)) places
+  all_seen narrow short k d l = (visible_test spans (get_or places k d)).1 (λ a apart within.
       let p = get_or places k d in
-      let covered : list_any (covers a (columns a) (rows a)) places ≡ true = list_any-from_Any (covers a (columns a) (rows a)) places (k, p, l, get_or_default places k p d l, inside_covered columns rows a p apart within) in
-      elim (held (lookup (position_eq a) cs)) [
-        | inl wide ↦ true≢false (sym (any_from_found position_equiv covers_wide cs exact_position_eq a wide.0 wide.1 (rw (span_held cs a wide.0 wide.1) at covered)) ∙ narrow)
-        | inr one ↦ elim (held (lookup (position_eq a) rs)) [
-          | inl tall ↦ true≢false (sym (any_from_found position_equiv covers_tall rs exact_position_eq a tall.0 tall.1 (rw (span_held rs a tall.0 tall.1) at covered)) ∙ short)
+      let covered : covers_some a ≡ true = list_any-from_Any (covers a (column_span spans a) (row_span spans a)) places
+      (k, p, l, get_or_default places k p d l, inside_covered (column_span spans) (row_span spans) a p apart within) in
+      elim (held (get spans.columns a)) [
+        | inl wide ↦ narrow a wide covered
+        | inr one ↦ elim (held (get spans.rows a)) [
+          | inl tall ↦ short a tall covered
           | inr one' ↦
-              let columns_one : columns a ≡ 1 = ap (λ o. unwrap_or o 1) one in
-              let rows_one : rows a ≡ 1 = ap (λ o. unwrap_or o 1) one' in
+              let columns_one : column_span spans a ≡ 1 = ap (λ o. unwrap_or o 1) one in
+              let rows_one : row_span spans a ≡ 1 = ap (λ o. unwrap_or o 1) one' in
               let row : a.row ≡ p.row = omega (arith, rows_one, within.below_top, within.above_bottom) in
               let col : a.col ≡ p.col = omega (arith, columns_one, within.after_left, within.before_right) in
               apart (λ i. record { row = row i; col = col i })
         ]
       ])
     where
-      held : (o : Option ℕ) → ((n : ℕ) × (o ≡ Some n)) ⊎ (o ≡ None)
+      held : (o : Option ℕ) → (is_some o ≡ true) ⊎ (o ≡ None)
       held None = inr refl
-      held (Some n) = inl (n, refl)
+      held (Some n) = inl refl
+
+module _ (columns rows : DirectedSpans) (by_columns : columns.direction ≡ Columns) (by_rows : rows.direction ≡ Rows) (places : List Position) where
+  abbrev both_spans : Spans
+  both_spans = record { columns = columns.spans; rows = rows.spans }
+
+  wide_one : (a : Position) → list_any (covers a ((extent_of columns.direction (column_span both_spans a) (row_span both_spans a)).columns) ((extent_of columns.direction (column_span both_spans a) (row_span both_spans a)).rows)) places
+      ≡ covers_some both_spans places a
+  wide_one a = ap (λ d. let extent = extent_of d (column_span both_spans a) (row_span both_spans a) in list_any (covers a extent.columns extent.rows) places) by_columns
+
+  tall_one : (a : Position) → list_any (covers a ((extent_of rows.direction (row_span both_spans a) (column_span both_spans a)).columns) ((extent_of rows.direction (row_span both_spans a) (column_span both_spans a)).rows)) places
+      ≡ covers_some both_spans places a
+  tall_one a = ap (λ d. let extent = extent_of d (row_span both_spans a) (column_span both_spans a) in list_any (covers a extent.columns extent.rows) places) by_rows
+
+  pub hidden_wide : CoversOne columns rows.spans places → All (λ p. IsTrue (is_visible both_spans p)) places → ⊥
+  hidden_wide h = hidden both_spans places h.0 (sym (wide_one h.0) ∙ h.2)
+
+  pub hidden_tall : CoversOne rows columns.spans places → All (λ p. IsTrue (is_visible both_spans p)) places → ⊥
+  hidden_tall h = hidden both_spans places h.0 (sym (tall_one h.0) ∙ h.2)
+
+  pub all_visible : (CoversOne columns rows.spans places → ⊥) → (CoversOne rows columns.spans places → ⊥) → All (λ p. IsTrue (is_visible both_spans p)) places
+  all_visible narrow short = all_seen both_spans places (λ a held covered. narrow (a, held, wide_one a ∙ covered)) (λ a held covered. short (a, held, tall_one a ∙ covered))

@@ -1,25 +1,34 @@
 -- One more call on spans.
 use Rattle.std.proofs.Common.{◌≡◌, ℕ, suc, ◌≤◌, Bool, true, false, cond, ◌&&◌, List, [], ◌∷◌, ◌++◌, Option, Some, None, refl, sym, ap, subst, ◌∙◌, arith, leb}
-use Rattle.std.specs.Prelude.{reverse, ◌↔◌, IsTrue, IfSome, is_some, not, length}
+use Rattle.std.specs.Prelude.{reverse, ◌↔◌, IsTrue, IfSome, is_some, not, length, unwrap_or, Result, Ok, Err, OnOk, OnErr}
 use Rattle.std.proofs.lemmas.List.{reverse-append}
-use Rattle.std.proofs.lemmas.Bool.{false≢true}
+use Rattle.std.proofs.lemmas.Bool.{false≢true, leb-true, le-leb}
+use Rattle.std.specs.BTreeMap.{is_at}
+use Rattle.std.specs.Cmp.{eq_by_cmp_equiv}
 use Rattle.std.specs.Map.{lookup}
-use Rattle.std.specs.FinMap.{get, from_entries}
+use Rattle.std.specs.Ordering.{eq_by_cmp}
+use Rattle.std.specs.FinMap.{FinMap, empty, get, get-empty, get-insert, get-remove, insert, remove}
 use Rattle.papergrid_values.specs.declared.position.Position.{Position}
 use Rattle.papergrid_tables.specs.Keys.{position_cmp, position_eq}
 use Rattle.papergrid_values.specs.declared.direction.Direction.{Direction}
 use Rattle.papergrid_values.specs.declared.direction.Direction.TheVariants.{Columns, Rows}
 use Rattle.papergrid_maps.specs.Spans.{Spans, SpanCall, SetSpan, RemoveSpans, HasSpan, IsTold, Appends, spans_along, span_from, from_two}
-use Rattle.papergrid_maps.specs.SpanScan.{AreFromTwo, span_set}
-use Rattle.papergrid_tables.proofs.KeyLemmas.{get_at_position, position_equiv}
-use Rattle.papergrid_maps.proofs.SpanScans.{spans_of}
+use Rattle.papergrid_maps.specs.ForProofs.SpanIndex.{AreFromTwo, held_along, key_of, span_set}
+use Rattle.papergrid_tables.proofs.KeyLemmas.{position_equiv, position_ties, position_total}
+use Rattle.papergrid_maps.proofs.IndexKeys.{held_at, key_key}
 
 newest : (calls : List SpanCall) (call : SpanCall) → reverse (calls ++ call ∷ []) ≡ call ∷ reverse calls
 newest calls call = reverse-append calls (call ∷ [])
 
-pub new_told : IsTold [] (spans_of [] [])
-new_told Columns p = get_at_position [] p
-new_told Rows p = get_at_position [] p
+pub new_told : IsTold [] (record { columns = empty; rows = empty })
+new_told Columns p = get-empty position_cmp p
+new_told Rows p = get-empty position_cmp p
+
+none_is_not_some : {X : Type 0} {x : X} → ◌≡◌ {A = Option X} None (Some x) → ⊥
+none_is_not_some e = false≢true (ap is_some e)
+
+same_some : (m n : ℕ) → ◌≡◌ {A = Option ℕ} (Some m) (Some n) → m ≡ n
+same_some m n e = ap (λ o. unwrap_or o m) e
 
 -- what a call makes of the spans of each direction makes a step of the table
 told_step : (old new : Spans) (call : SpanCall)
@@ -33,45 +42,80 @@ either : (b : Bool) (m n : ℕ) → cond b (from_two m) (from_two n) ≡ from_tw
 either true m n = refl
 either false m n = refl
 
-set_step : (q : Position) (n : ℕ) (old new : List (Position × ℕ)) → ((p : Position) → lookup (position_eq p) new ≡ span_set q n p (lookup (position_eq p) old))
-    → (p : Position) (span : ℕ) → get (from_entries {R = position_cmp} old) p ≡ from_two span → get (from_entries {R = position_cmp} new) p ≡ from_two (cond (leb 1 n && position_eq q p) n span)
-set_step q n old new changed p span held =
-    get_at_position new p ∙ changed p ∙ ap (span_set q n p) (sym (get_at_position old p) ∙ held) ∙ either (leb 1 n && position_eq q p) n span
+module _ (q : Position) (n : ℕ) (old new : FinMap position_cmp ℕ) (changed : (p : Position) → get new p ≡ span_set q n p (get old p)) where
+  set_step : (p : Position) (span : ℕ) → get old p ≡ from_two span → get new p ≡ from_two (cond (leb 1 n && position_eq q p) n span)
+  set_step p span held = changed p ∙ ap (span_set q n p) held ∙ either (leb 1 n && position_eq q p) n span
 
-pub told_set_column : (cs cs' rs : List (Position × ℕ)) (q : Position) (n : ℕ) → ((p : Position) → lookup (position_eq p) cs' ≡ span_set q n p (lookup (position_eq p) cs))
-    → Appends (spans_of cs rs) (spans_of cs' rs) (SetSpan Columns q n ∷ [])
-told_set_column cs cs' rs q n changed = told_step _ _ (SetSpan Columns q n) (λ d p older.
-    elim d as (λ d. get (spans_along d (spans_of cs rs)) p ≡ from_two (span_from d p older) → get (spans_along d (spans_of cs' rs)) p ≡ from_two (span_from d p (SetSpan Columns q n ∷ older))) [
-      | Columns ↦ set_step q n cs cs' changed p (span_from Columns p older)
+  pub told_set_column : (rows : FinMap position_cmp ℕ) → Appends (record { columns = old; rows = rows }) (record { columns = new; rows = rows }) (SetSpan Columns q n ∷ [])
+  told_set_column rows = told_step _ _ (SetSpan Columns q n) (λ d p older.
+      elim d as (λ d. get (spans_along d (record { columns = old; rows = rows })) p ≡ from_two (span_from d p older) → get (spans_along d (record { columns = new; rows = rows })) p ≡ from_two (span_from d p (SetSpan Columns q n ∷ older))) [
+        | Columns ↦ set_step p (span_from Columns p older)
+        | Rows ↦ λ held. held
+      ])
+
+  pub told_set_row : (columns : FinMap position_cmp ℕ) → Appends (record { columns = columns; rows = old }) (record { columns = columns; rows = new }) (SetSpan Rows q n ∷ [])
+  told_set_row columns = told_step _ _ (SetSpan Rows q n) (λ d p older.
+      elim d as (λ d. get (spans_along d (record { columns = columns; rows = old })) p ≡ from_two (span_from d p older) → get (spans_along d (record { columns = columns; rows = new })) p ≡ from_two (span_from d p (SetSpan Rows q n ∷ older))) [
+        | Columns ↦ λ held. held
+        | Rows ↦ set_step p (span_from Rows p older)
+      ])
+
+  -- no span below 2 comes to be held
+  pub kept_from_two : AreFromTwo old → AreFromTwo new
+  kept_from_two big p m is = by_test (leb 1 n && position_eq q p) m (sym (changed p) ∙ is)
+    where
+      new_from_two : (b : Bool) (m : ℕ) → leb 2 n ≡ b → cond b (Some n) None ≡ Some m → 2 ≤ m
+      new_from_two true m e h = omega (arith, leb-true 2 n e, same_some n m h)
+      new_from_two false m e h = absurd (none_is_not_some h)
+
+      by_test : (b : Bool) (m : ℕ) → cond b (from_two n) (get old p) ≡ Some m → 2 ≤ m
+      by_test true m h = new_from_two (leb 2 n) m refl h
+      by_test false m h = big p m h
+
+-- whether or not memory was refused
+pub kept_either_way : {A E : Type 0} (r : Result A E) (q : Position) (n : ℕ) (old new : FinMap position_cmp ℕ) → OnOk r ((p : Position) → get new p ≡ span_set q n p (get old p)) → OnErr r (new ≡ old)
+    → AreFromTwo old → AreFromTwo new
+kept_either_way (Ok x) q n old new changed same big = kept_from_two q n old new changed big
+kept_either_way (Err e) q n old new changed same big = subst AreFromTwo (sym same) big
+
+-- a position is tied to another in either order of the two
+tied : (p q : Position) → eq_by_cmp position_cmp p q ≡ position_eq q p
+tied p q = sym (position_ties p q) ∙ position_equiv.symm p q
+
+-- a call with 1
+pub removed_set : (old : FinMap position_cmp ℕ) (q p : Position) → get (remove old q) p ≡ span_set q 1 p (get old p)
+removed_set old q p = get-remove position_total old q p ∙ ap (λ b. cond b None (get old p)) (tied p q)
+
+-- a call with 2 or more
+pub held_set : (old : FinMap position_cmp ℕ) (q : Position) (n : ℕ) → 2 ≤ n → (p : Position) → get (insert old q n) p ≡ span_set q n p (get old p)
+held_set old q n big p =
+    let one : leb 1 n ≡ true = le-leb 1 n (omega (arith, big)) in
+    let two : leb 2 n ≡ true = le-leb 2 n big in
+    get-insert position_total old q n p
+    ∙ (λ i. cond ((tied p q ∙ ap (λ b. b && position_eq q p) (sym one)) i) (cond (sym two i) (Some n) None) (get old p))
+
+pub told_remove_columns : (columns rows : FinMap position_cmp ℕ) → Appends (record { columns = columns; rows = rows }) (record { columns = empty; rows = rows }) (RemoveSpans Columns ∷ [])
+told_remove_columns columns rows = told_step _ _ (RemoveSpans Columns) (λ d p older.
+    elim d as (λ d. get (spans_along d (record { columns = columns; rows = rows })) p ≡ from_two (span_from d p older) → get (spans_along d (record { columns = empty; rows = rows })) p ≡ from_two (span_from d p (RemoveSpans Columns ∷ older))) [
+      | Columns ↦ λ held. get-empty position_cmp p
       | Rows ↦ λ held. held
     ])
 
-pub told_set_row : (cs rs rs' : List (Position × ℕ)) (q : Position) (n : ℕ) → ((p : Position) → lookup (position_eq p) rs' ≡ span_set q n p (lookup (position_eq p) rs))
-    → Appends (spans_of cs rs) (spans_of cs rs') (SetSpan Rows q n ∷ [])
-told_set_row cs rs rs' q n changed = told_step _ _ (SetSpan Rows q n) (λ d p older.
-    elim d as (λ d. get (spans_along d (spans_of cs rs)) p ≡ from_two (span_from d p older) → get (spans_along d (spans_of cs rs')) p ≡ from_two (span_from d p (SetSpan Rows q n ∷ older))) [
+pub told_remove_rows : (columns rows : FinMap position_cmp ℕ) → Appends (record { columns = columns; rows = rows }) (record { columns = columns; rows = empty }) (RemoveSpans Rows ∷ [])
+told_remove_rows columns rows = told_step _ _ (RemoveSpans Rows) (λ d p older.
+    elim d as (λ d. get (spans_along d (record { columns = columns; rows = rows })) p ≡ from_two (span_from d p older) → get (spans_along d (record { columns = columns; rows = empty })) p ≡ from_two (span_from d p (RemoveSpans Rows ∷ older))) [
       | Columns ↦ λ held. held
-      | Rows ↦ set_step q n rs rs' changed p (span_from Rows p older)
+      | Rows ↦ λ held. get-empty position_cmp p
     ])
 
-pub told_remove_columns : (cs rs : List (Position × ℕ)) → Appends (spans_of cs rs) (spans_of [] rs) (RemoveSpans Columns ∷ [])
-told_remove_columns cs rs = told_step _ _ (RemoveSpans Columns) (λ d p older.
-    elim d as (λ d. get (spans_along d (spans_of cs rs)) p ≡ from_two (span_from d p older) → get (spans_along d (spans_of [] rs)) p ≡ from_two (span_from d p (RemoveSpans Columns ∷ older))) [
-      | Columns ↦ λ held. get_at_position [] p
-      | Rows ↦ λ held. held
-    ])
-
-pub told_remove_rows : (cs rs : List (Position × ℕ)) → Appends (spans_of cs rs) (spans_of cs []) (RemoveSpans Rows ∷ [])
-told_remove_rows cs rs = told_step _ _ (RemoveSpans Rows) (λ d p older.
-    elim d as (λ d. get (spans_along d (spans_of cs rs)) p ≡ from_two (span_from d p older) → get (spans_along d (spans_of cs [])) p ≡ from_two (span_from d p (RemoveSpans Rows ∷ older))) [
-      | Columns ↦ λ held. held
-      | Rows ↦ λ held. get_at_position [] p
-    ])
+-- an empty map holds no span
+pub none_from_two : AreFromTwo empty
+none_from_two p n is = absurd (none_is_not_some (sym (get-empty position_cmp p) ∙ is))
 
 -- a span that is held is 2 or more
-pub held_from_two : (es : List (Position × ℕ)) → AreFromTwo es → (p : Position) (o : Option ℕ) → o ≡ lookup (position_eq p) es → IfSome o (λ n. 2 ≤ n)
-held_from_two es big p None is = tt
-held_from_two es big p (Some n) is = big p n (sym is)
+pub held_from_two : (spans : FinMap position_cmp ℕ) → AreFromTwo spans → (p : Position) (o : Option ℕ) → o ≡ get spans p → IfSome o (λ n. 2 ≤ n)
+held_from_two spans big p None is = tt
+held_from_two spans big p (Some n) is = big p n (sym is)
 
 not_both : (b : Bool) → not b ≡ true → b ≡ true → ⊥
 not_both true h e = false≢true h
@@ -80,13 +124,16 @@ not_both false h e = false≢true e
 no_length : {n : ℕ} → suc n ≡ 0 → ⊥
 no_length h = omega (arith, h)
 
--- a list with entries has a key
-pub has_span : (es : List (Position × ℕ)) (b : Bool) → (IsTrue b ↔ (length es ≡ 0)) → IsTrue (not b) ↔ HasSpan (from_entries es)
-has_span [] b empty = (
+-- an index with entries has a span
+pub has_span : (d : Direction) (es : List (Position × ℕ)) (b : Bool) → (IsTrue b ↔ (length es ≡ 0)) → IsTrue (not b) ↔ HasSpan (held_along d es)
+has_span d [] b empty = (
   (λ h. absurd (not_both b h (empty.1 refl))),
-  (λ has. absurd (false≢true (subst (λ o. is_some o ≡ true) (get_at_position [] has.0) has.1))),
+  (λ has. absurd (false≢true (subst (λ o. is_some o ≡ true) (held_at d [] has.0) has.1))),
 )
-has_span (e ∷ es) b empty = (
-  (λ h. (e.0, subst (λ o. is_some o ≡ true) (sym (get_at_position (e ∷ es) e.0)) (ap (λ c. is_some (cond c (Some e.1) (lookup (position_eq e.0) es))) (position_equiv.refl e.0)))),
+has_span d (e ∷ es) b empty = (
+  (λ h.
+      let found : lookup (is_at (position_cmp (key_of d (key_of d e.0)))) (e ∷ es) ≡ Some e.1
+      = ap (λ q. lookup (is_at (position_cmp q)) (e ∷ es)) (key_key d e.0) ∙ ap (λ c. cond c (Some e.1) (lookup (is_at (position_cmp e.0)) es)) ((eq_by_cmp_equiv position_total).refl e.0) in
+      (key_of d e.0, subst (λ o. is_some o ≡ true) (sym (held_at d (e ∷ es) (key_of d e.0) ∙ found)) refl)),
   (λ has. elim b as (λ c. b ≡ c → not c ≡ true) [ true ↦ λ is. absurd (no_length (empty.0 is)) | false ↦ λ is. refl ] refl),
 )

@@ -5,6 +5,5 @@ pub mod Made
 pub mod MapCalls
 pub mod MapEq
 pub mod MapHeld
-pub mod SpanScan
 pub mod Spans
 pub mod ForProofs

@@ -8,6 +8,7 @@ pub mod compact;
 mod covering;
 pub mod entity_map;
 pub mod laws;
+mod span_index;
 pub mod span_table;
 
 pub use colors::{Colors, NoColor, NoColors};

@@ -1,22 +1,25 @@
 //! Spans by position, and what they hide. Source: `config/spanned/mod.rs`.
 
-ghost use Rattle.std.specs.Prelude.{◌≡◌, ◌∷◌, [], ◌<◌, ◌≤◌, All, AllPairs, OnOk, OnErr, IfOk, IfSome, IsOk, IsTrue, ◌↔◌};
-ghost use Rattle.std.specs.HashMap.{IsUnique, IsUnchanged, get as map_get};
+ghost use Rattle.std.specs.Prelude.{◌≡◌, ◌∷◌, [], ◌<◌, ◌≤◌, ◌-◌, ◌&&◌, All, AllPairs, OnOk, OnErr, IfOk, IfSome, IsOk, IsTrue, ◌↔◌, nat_lt};
+ghost use Rattle.std.specs.BTreeMap.{IsOrdered};
+ghost use Rattle.std.specs.BTreeMap.Range.{entries_between};
 ghost use Rattle.std.specs.List.{list_any};
+ghost use Rattle.std.specs.HashMap.{get as map_get};
+ghost use Rattle.std.specs.FinMap as map;
 ghost use Rattle.std.specs.FinMap.{get as value_at};
 ghost use Rattle.papergrid_values.specs.Positions.{AreRising};
 ghost use Rattle.papergrid_values.specs.declared.direction.Direction.TheVariants.{Columns, Rows};
 ghost use Rattle.papergrid_values.specs.declared.position.Position.{Position};
-ghost use Rattle.papergrid_tables.specs.Keys.{position_eq};
+ghost use Rattle.papergrid_tables.specs.Keys.{position_cmp, position_eq};
 ghost use Rattle.papergrid_maps.specs.Spans.{IsTold, Appends, HasSpan, IsVisible, IsCoveredByColumn, IsCoveredByRow, IsCoveredByBoth, SetSpan, RemoveSpans, column_span, row_span, is_visible};
-ghost use Rattle.papergrid_maps.specs.SpanScan.{AreFromTwo, reaches_right, reaches_below, reaches_into, span_set};
+ghost use Rattle.papergrid_maps.specs.ForProofs.SpanIndex.{AreFromTwo, HoldsBoth, span_set};
 
-use crate::covering::{columns_cover, rows_cover};
-use papergrid_tables::hashed::{look_up, take, write};
+use crate::span_index::{Extent, SpanIndex, extent_of};
 use papergrid_values::{Direction, Position};
 use std::alloc::{AllocError, Global};
-use std::collections::HashMap;
+use std::collections::{BTreeMap, HashMap};
 use std::marker::Model;
+use std::ops::Bound;
 
 /// The column spans and the row spans of two or more, by position. All other spans are 1.
 ///
@@ -24,23 +27,28 @@ use std::marker::Model;
 /// from c up to c + column span, however large these sums are.
 #[derive(Debug, Drop)]
 pub struct SpanTable {
-    columns: HashMap<Position, usize>,
-    rows: HashMap<Position, usize>,
+    alloc: Global,
+    columns: SpanIndex,
+    rows: SpanIndex,
+    // The anchors with both spans.
+    both: BTreeMap<Position, Extent>,
 }
 
 impl Model for SpanTable {
-    ghost use Rattle.std.specs.FinMap as map;
+    ghost use Rattle.std.specs.Prelude.{◌≡◌};
     ghost use Rattle.papergrid_maps.specs.Spans.{Spans, spans_code};
 
     ghost Value = { Spans };
 
     ghost coded = { spans_code };
 
-    ghost view = { λ s. record { columns = map.from_entries s.columns.entries; rows = map.from_entries s.rows.entries } };
+    ghost view = { λ s. record { columns = s.columns.spans; rows = s.rows.spans } };
 
-    ghost use Rattle.papergrid_maps.specs.SpanScan.{AreFromTwo};
+    ghost use Rattle.papergrid_maps.specs.ForProofs.SpanIndex.{AreFromTwo, HoldsBoth};
+    ghost use Rattle.papergrid_values.specs.declared.direction.Direction.TheVariants.{Columns, Rows};
 
-    ghost invariant = { λ s. AreFromTwo s.columns.entries × AreFromTwo s.rows.entries };
+    ghost invariant = { λ s. (s.columns.direction ≡ Columns) × (s.rows.direction ≡ Rows)
+        × AreFromTwo s.columns.spans × AreFromTwo s.rows.spans × HoldsBoth s.columns s.rows.spans s.both };
 }
 
 impl SpanTable {
@@ -49,8 +57,10 @@ impl SpanTable {
         ensures { IsTold [] result }
     {
         SpanTable {
-            columns: HashMap::new(alloc),
-            rows: HashMap::new(alloc),
+            alloc,
+            columns: SpanIndex::new(alloc, Direction::Columns),
+            rows: SpanIndex::new(alloc, Direction::Rows),
+            both: BTreeMap::new(alloc),
         }
     }
 
@@ -62,7 +72,7 @@ impl SpanTable {
         ensures others { self.new.rows ≡ self.old.rows }
         ensures small { span < 2 → IsOk result }
     {
-        set_span(&mut self.columns, pos, span)
+        set_span(&mut self.columns, &self.rows, &mut self.both, pos, span)
     }
 
     /// Sets the row span of a position, as `set_column` does the column span.
@@ -72,7 +82,7 @@ impl SpanTable {
         ensures others { self.new.columns ≡ self.old.columns }
         ensures small { span < 2 → IsOk result }
     {
-        set_span(&mut self.rows, pos, span)
+        set_span(&mut self.rows, &self.columns, &mut self.both, pos, span)
     }
 
     /// The column span held at a position, of 2 or more.
@@ -80,7 +90,7 @@ impl SpanTable {
         ensures held { result ≡ value_at self.now.columns pos }
         ensures from_two { IfSome result (λ n. 2 ≤ n) }
     {
-        look_up(&self.columns, pos).copied()
+        self.columns.get(pos)
     }
 
     /// The row span held at a position, of 2 or more.
@@ -88,7 +98,7 @@ impl SpanTable {
         ensures held { result ≡ value_at self.now.rows pos }
         ensures from_two { IfSome result (λ n. 2 ≤ n) }
     {
-        look_up(&self.rows, pos).copied()
+        self.rows.get(pos)
     }
 
     /// Removes all column spans.
@@ -97,6 +107,7 @@ impl SpanTable {
         ensures others { self.new.rows ≡ self.old.rows }
     {
         self.columns.clear();
+        self.both.clear();
     }
 
     /// Removes all row spans.
@@ -105,55 +116,56 @@ impl SpanTable {
         ensures others { self.new.columns ≡ self.old.columns }
     {
         self.rows.clear();
+        self.both.clear();
     }
 
     /// Whether a column span is held.
     pub fn has_columns(&self) -> bool
         ensures { IsTrue result ↔ HasSpan self.now.columns }
     {
-        !self.columns.is_empty()
+        self.columns.holds_any()
     }
 
     /// Whether a row span is held.
     pub fn has_rows(&self) -> bool
         ensures { IsTrue result ↔ HasSpan self.now.rows }
     {
-        !self.rows.is_empty()
+        self.rows.holds_any()
     }
 
     /// All column spans that are held, or want of memory.
     pub fn columns(&self) -> Result<HashMap<Position, usize>, AllocError>
         ensures { IfOk result (λ all. (p : Position) → map_get position_eq all p ≡ value_at self.now.columns p) }
     {
-        self.columns.clone()
+        self.columns.by_position(self.alloc)
     }
 
     /// All row spans that are held, or want of memory.
     pub fn rows(&self) -> Result<HashMap<Position, usize>, AllocError>
         ensures { IfOk result (λ all. (p : Position) → map_get position_eq all p ≡ value_at self.now.rows p) }
     {
-        self.rows.clone()
+        self.rows.by_position(self.alloc)
     }
 
     /// Whether the position stands right of an anchor, in its row and its rectangle.
     pub fn covered_by_column(&self, pos: Position) -> bool
         ensures { IsTrue result ↔ IsCoveredByColumn (column_span self.now) (row_span self.now) pos }
     {
-        reaches_column(&self.columns, pos)
+        self.columns.reaches(pos)
     }
 
     /// Whether the position stands below an anchor, in its column and its rectangle.
     pub fn covered_by_row(&self, pos: Position) -> bool
         ensures { IsTrue result ↔ IsCoveredByRow (column_span self.now) (row_span self.now) pos }
     {
-        reaches_row(&self.rows, pos)
+        self.rows.reaches(pos)
     }
 
     /// Whether the position stands below and right of an anchor, in its rectangle.
     pub fn covered_by_both(&self, pos: Position) -> bool
         ensures { IsTrue result ↔ IsCoveredByBoth (column_span self.now) (row_span self.now) pos }
     {
-        reaches_inside(&self.columns, &self.rows, pos)
+        reaches_inside(&self.both, pos)
     }
 
     /// Whether the position lies in no rectangle of another anchor.
@@ -177,10 +189,10 @@ impl SpanTable {
         requires { AllPairs (AreRising direction) places.now }
         ensures { IsTrue result ↔ All (λ p. IsTrue (is_visible self.now p)) places.now }
     {
-        if columns_cover(&self.columns, &self.rows, direction, places) {
+        if self.columns.covers_one(&self.rows, direction, places) {
             return false;
         }
-        !rows_cover(&self.columns, &self.rows, direction, places)
+        !self.rows.covers_one(&self.columns, direction, places)
     }
 }
 
@@ -189,8 +201,10 @@ impl Clone for SpanTable {
 
     fn clone(&self) -> Result<SpanTable, AllocError> {
         Ok(SpanTable {
+            alloc: self.alloc,
             columns: self.columns.clone()?,
             rows: self.rows.clone()?,
+            both: self.both.clone()?,
         })
     }
 }
@@ -203,64 +217,71 @@ impl PartialEq for SpanTable {
     ghost laws = { spans_eq_laws };
 
     fn eq(&self, other: &SpanTable) -> bool {
-        let columns = self.columns == other.columns;
-        let rows = self.rows == other.rows;
-        columns & rows
+        self.columns.holds_same(&other.columns) && self.rows.holds_same(&other.rows)
     }
 }
 
-// Sets a span of either direction.
+// Sets a span of one direction, where `others` has those of the other one and `both` the anchors with
+// both spans.
 fn set_span(
-    spans: &mut HashMap<Position, usize>,
+    index: &mut SpanIndex,
+    others: &SpanIndex,
+    both: &mut BTreeMap<Position, Extent>,
     pos: Position,
     span: usize,
 ) -> Result<(), AllocError>
-    ensures ok { OnOk result ((p : Position) → map_get position_eq spans.new p ≡ span_set pos span p (map_get position_eq spans.old p)) }
-    ensures err { OnErr result (IsUnchanged spans.old spans.new) }
+    requires { HoldsBoth index.old others.now.spans both.old }
+    ensures ok { OnOk result ((p : Position) → value_at index.new.spans p ≡ span_set pos span p (value_at index.old.spans p)) }
+    ensures err { OnErr result (index.new ≡ index.old) }
     ensures small { span < 2 → IsOk result }
+    ensures direction { index.new.direction ≡ index.old.direction }
+    ensures from_two { AreFromTwo index.old.spans → AreFromTwo index.new.spans }
+    ensures both { HoldsBoth index.new others.now.spans both.new }
 {
     match span {
-        0 => {}
-        1 => take(spans, pos),
-        _ => write(spans, pos, span)?,
+        0 => Ok(()),
+        1 => {
+            index.remove(pos);
+            let _ = both.remove(&pos);
+            Ok(())
+        }
+        _ => hold_span(index, others, both, pos, span),
     }
-    Ok(())
 }
 
-// Whether a span of the position's row begins left of it and reaches it.
-fn reaches_column(columns: &HashMap<Position, usize>, pos: Position) -> bool
-    ensures value { result ≡ list_any (reaches_right pos) columns.now.entries }
-    ensures unique { IsUnique position_eq columns.now }
+// Holds a span of one direction. Where memory is refused, what was taken is given back.
+fn hold_span(
+    index: &mut SpanIndex,
+    others: &SpanIndex,
+    both: &mut BTreeMap<Position, Extent>,
+    pos: Position,
+    span: usize,
+) -> Result<(), AllocError>
+    requires { HoldsBoth index.old others.now.spans both.old }
+    ensures ok { OnOk result (index.new ≡ record index.old { spans = map.insert index.old.spans pos span }) }
+    ensures err { OnErr result (index.new ≡ index.old) }
+    ensures both { HoldsBoth index.new others.now.spans both.new }
 {
-    columns.iter().any(|(anchor, n)| anchor.row == pos.row
-        && anchor.col < pos.col
-        && pos.col - anchor.col < *n)
-}
-
-// Whether a span of the position's column begins above it and reaches it.
-fn reaches_row(rows: &HashMap<Position, usize>, pos: Position) -> bool
-    ensures value { result ≡ list_any (reaches_below pos) rows.now.entries }
-    ensures unique { IsUnique position_eq rows.now }
-{
-    rows.iter().any(|(anchor, n)| anchor.col == pos.col
-        && anchor.row < pos.row
-        && pos.row - anchor.row < *n)
+    index.insert(pos, span)?;
+    let Some(other) = others.get(pos) else {
+        return Ok(());
+    };
+    match both.insert(pos, extent_of(index.direction(), span, other)) {
+        Ok(_) => Ok(()),
+        Err(_) => {
+            // Both were not held here, and so neither was this one.
+            index.remove(pos);
+            Err(AllocError)
+        }
+    }
 }
 
 // Whether a rectangle begins above and left of the position and reaches it.
-fn reaches_inside(
-    columns: &HashMap<Position, usize>,
-    rows: &HashMap<Position, usize>,
-    pos: Position,
-) -> bool
-    ensures value { result ≡ list_any (reaches_into (map_get position_eq rows.now) pos) columns.now.entries }
-    ensures unique { IsUnique position_eq columns.now }
+fn reaches_inside(both: &BTreeMap<Position, Extent>, pos: Position) -> bool
+    ensures value { result ≡ list_any (λ e. nat_lt e.0.col pos.col && (nat_lt (pos.col - e.0.col) e.1.columns && nat_lt (pos.row - e.0.row) e.1.rows)) (entries_between position_cmp Bound.Unbounded (Bound.Excluded (record { row = pos.row; col = 0 })) both.now.entries) }
+    ensures ordered { IsOrdered position_cmp both.now }
 {
-    columns.iter().any(|(anchor, n)| {
-        let m = rows.get(anchor).copied().unwrap_or(1);
-        anchor.row < pos.row
-            && pos.row - anchor.row < m
-            && anchor.col < pos.col
-            && pos.col - anchor.col < *n
-    })
+    both.range(..Position::new(pos.row, 0)).any(|(anchor, extent)| anchor.col < pos.col
+        && pos.col - anchor.col < extent.columns
+        && pos.row.saturating_sub(anchor.row) < extent.rows)
 }

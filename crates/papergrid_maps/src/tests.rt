@@ -256,6 +256,33 @@ fn held_spans(rt: HostRuntime) -> Result<(), Fail> {
     Ok(())
 }
 
+#[test]
+fn span_of_one_removes(rt: HostRuntime) -> Result<(), Fail> {
+    let mut spans = SpanTable::new(rt.alloc());
+    spans.set_column(at(3, 4), 2)?;
+    spans.set_column(at(3, 4), 1)?;
+    assert!(rt; spans == SpanTable::new(rt.alloc()));
+    assert!(rt; !spans.has_columns());
+    assert!(rt; spans.columns()?.is_empty());
+    spans.set_column(at(3, 4), 2)?;
+    spans.remove_columns();
+    assert!(rt; spans == SpanTable::new(rt.alloc()));
+    assert!(rt; !spans.has_columns());
+    assert!(rt; spans.columns()?.is_empty());
+    Ok(())
+}
+
+#[test]
+fn row_span_dropped(rt: HostRuntime) -> Result<(), Fail> {
+    let mut spans = SpanTable::new(rt.alloc());
+    spans.set_column(at(0, 0), 2)?;
+    spans.set_row(at(0, 0), 2)?;
+    spans.set_row(at(0, 0), 1)?;
+    assert!(rt; spans.is_visible(at(1, 1)) && spans.is_visible(at(1, 0)));
+    assert!(rt; !spans.is_visible(at(0, 1)));
+    Ok(())
+}
+
 fn anchors(alloc: Global) -> Result<SpanTable, AllocError> {
     let mut spans = SpanTable::new(alloc);
     for i in 0..14 {
@@ -284,5 +311,35 @@ fn refused_spans(rt: HostRuntime) {
     assert!(rt; spans.set_row(at(20, 20), 0).is_ok());
     if let Ok(all) = spans.columns() {
         assert_eq!(rt; all.len(), 14);
+    }
+}
+
+// A table with one span of the direction.
+fn one_span(alloc: Global, direction: Direction) -> Result<SpanTable, AllocError> {
+    let mut spans = SpanTable::new(alloc);
+    match direction {
+        Direction::Columns => spans.set_column(at(0, 0), 2)?,
+        Direction::Rows => spans.set_row(at(0, 0), 2)?,
+    }
+    Ok(spans)
+}
+
+// A span beside one of the other direction grows two maps: where the second is refused, the table is
+// as it was.
+#[test]
+fn refused_second_span(rt: HostRuntime) {
+    for direction in [Direction::Columns, Direction::Rows] {
+        let (Ok(mut spans), Ok(copy)) = (
+            one_span(rt.alloc(), direction),
+            one_span(rt.alloc(), direction),
+        ) else {
+            return;
+        };
+        let second = match direction {
+            Direction::Columns => spans.set_row(at(0, 0), 2),
+            Direction::Rows => spans.set_column(at(0, 0), 2),
+        };
+        assert_eq!(rt; spans == copy, second.is_err());
+        assert_eq!(rt; spans.is_visible(at(1, 1)), second.is_err());
     }
 }

@@ -5,7 +5,7 @@ use Rattle.std.proofs.lemmas.List.Folds.{list_any_at, list_any_none}
 use Rattle.std.proofs.lemmas.List.Sorted.{IsPartitionPoint-from_clause, IsPartitionedBy-ltb}
 use Rattle.papergrid_values.specs.declared.position.Position.{Position}
 use Rattle.papergrid_values.specs.Positions.{along}
-use Rattle.papergrid_maps.specs.SpanScan.{covers}
+use Rattle.papergrid_maps.specs.ForProofs.SpanIndex.{covers}
 use Rattle.papergrid_maps.proofs.CoverLemmas.{never_falls, none_before, none_past}
 use Rattle.papergrid_maps.proofs.covering.covers_one.Goals as goal
 

@@ -1,7 +1,7 @@
 use Rattle.std.proofs.Common.{◌≡◌, ℕ, ◌<◌, ◌≤◌, false, get_or, length}
 use Rattle.papergrid_values.specs.declared.position.Position.{Position}
 use Rattle.papergrid_values.specs.Positions.{along}
-use Rattle.papergrid_maps.specs.SpanScan.{covers}
+use Rattle.papergrid_maps.specs.ForProofs.SpanIndex.{covers}
 use Rattle.papergrid_maps.proofs.covering.covers_one.Given as goal
 
 -- none is covered so far, and the others are not before the anchor

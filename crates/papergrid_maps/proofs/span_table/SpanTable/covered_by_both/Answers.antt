@@ -1,5 +1,8 @@
-use Rattle.papergrid_maps.proofs.SpanScans.{covered_by_both_scan}
+use Rattle.papergrid_maps.proofs.BothHeld.{both_reached, inside_reached}
 use Rattle.papergrid_maps.proofs.span_table.SpanTable.covered_by_both.Goals as goal
 
 pub returns : goal.returns
-returns c = rw (c.reaches_inside.ensures.value, ← c.self.view_is) (covered_by_both_scan c.self.inside.columns.entries c.self.inside.rows.entries c.args.pos c.reaches_inside.ensures.unique)
+returns c =
+    let scan = both_reached c.self.inside.both c.args.pos c.reaches_inside.ensures.ordered in
+    let found = inside_reached c.self.inside.columns c.self.inside.rows.spans c.self.inside.both c.self.invariant.0 c.self.invariant.4 c.args.pos in
+    rw (c.reaches_inside.ensures.value, ← c.self.view_is) (λ h. found.0 (scan.0 h), λ h. scan.1 (found.1 h))

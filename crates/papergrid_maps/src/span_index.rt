@@ -1,0 +1,214 @@
+//! The spans of one direction, found by the line that they run in.
+
+ghost use Rattle.std.specs.Prelude.{◌≡◌, ◌∷◌, ◌-◌, ◌↔◌, AllPairs, IfOk, IsTrue, None, OnErr, OnOk, nat_eq, nat_lt};
+ghost use Rattle.std.specs.BTreeMap.Range.{entries_between};
+ghost use Rattle.std.specs.FinMap as map;
+ghost use Rattle.std.specs.FinMap.{get as value_at};
+ghost use Rattle.std.specs.HashMap.{get as map_get};
+ghost use Rattle.std.specs.List.{list_any};
+ghost use Rattle.papergrid_values.specs.Positions.{AreRising};
+ghost use Rattle.papergrid_tables.specs.Equal.{places_eq};
+ghost use Rattle.papergrid_tables.specs.Keys.{position_cmp, position_eq};
+ghost use Rattle.papergrid_maps.specs.Spans.{HasSpan};
+ghost use Rattle.papergrid_maps.specs.ForProofs.SpanIndex.{CoversOne, IsReached, covers_held, extent_of, key_of};
+
+use crate::covering::covers_one;
+use papergrid_values::{Direction, Position};
+use std::alloc::{AllocError, Global};
+use std::collections::{BTreeMap, HashMap};
+use std::marker::Model;
+use std::ops::Bound;
+
+/// The spans of one direction. Those of one line stand next to each other, by their place in it: a
+/// column span runs in its row, a row span in its column.
+#[derive(Debug, Drop)]
+pub(crate) struct SpanIndex {
+    direction: Direction,
+    // By line and then by place: the keys of row spans have row and column exchanged.
+    spans: BTreeMap<Position, usize>,
+}
+
+impl Model for SpanIndex {
+    ghost use Rattle.std.specs.BTreeMap.{IsOrdered};
+    ghost use Rattle.papergrid_tables.specs.Keys.{position_cmp};
+    ghost use Rattle.papergrid_maps.specs.ForProofs.SpanIndex.{DirectedSpans, directed_code, held_along};
+
+    ghost Value = { DirectedSpans };
+
+    ghost coded = { directed_code };
+
+    ghost view = { λ s. record { direction = s.direction; spans = held_along s.direction s.spans.entries } };
+
+    ghost invariant = { λ s. IsOrdered position_cmp s.spans };
+}
+
+impl SpanIndex {
+    /// The index with no span. It takes no memory.
+    pub(crate) fn new(alloc: Global, direction: Direction) -> SpanIndex
+        ensures { result ≡ record { direction = direction; spans = map.empty } }
+    {
+        SpanIndex {
+            direction,
+            spans: BTreeMap::new(alloc),
+        }
+    }
+
+    /// The direction of the spans.
+    pub(crate) fn direction(&self) -> Direction
+        ensures { result ≡ self.now.direction }
+    {
+        self.direction
+    }
+
+    /// Whether a span is held.
+    pub(crate) fn holds_any(&self) -> bool
+        ensures { IsTrue result ↔ HasSpan self.now.spans }
+    {
+        !self.spans.is_empty()
+    }
+
+    /// The span held at a position.
+    pub(crate) fn get(&self, pos: Position) -> Option<usize>
+        ensures { result ≡ value_at self.now.spans pos }
+    {
+        self.spans.get(&key_of(self.direction, pos)).copied()
+    }
+
+    /// Holds a span at a position. Only where none is held there can memory be refused: then the index
+    /// is as it was.
+    pub(crate) fn insert(&mut self, pos: Position, span: usize) -> Result<(), AllocError>
+        ensures ok { OnOk result (self.new ≡ record self.old { spans = map.insert self.old.spans pos span }) }
+        ensures err { OnErr result (self.new ≡ self.old) }
+        ensures absent { OnErr result (value_at self.old.spans pos ≡ None) }
+    {
+        let _ = self.spans.insert(key_of(self.direction, pos), span)?;
+        Ok(())
+    }
+
+    /// Drops the span held at a position.
+    pub(crate) fn remove(&mut self, pos: Position)
+        ensures { self.new ≡ record self.old { spans = map.remove self.old.spans pos } }
+    {
+        let _ = self.spans.remove(&key_of(self.direction, pos));
+    }
+
+    /// Drops all spans.
+    pub(crate) fn clear(&mut self)
+        ensures { self.new ≡ record self.old { spans = map.empty } }
+    {
+        self.spans.clear();
+    }
+
+    /// Whether a span of the position's line begins before it and reaches it. Only the spans of that
+    /// line that begin before it are looked at.
+    pub(crate) fn reaches(&self, pos: Position) -> bool
+        ensures { IsTrue result ↔ IsReached self.now pos }
+    {
+        reaches_key(&self.spans, key_of(self.direction, pos))
+    }
+
+    /// Whether one of the positions, of which the columns or the rows rise, lies in the rectangle of an
+    /// anchor with a span here, where `others` has the spans of the other direction. Each span is looked
+    /// at once.
+    pub(crate) fn covers_one(
+        &self,
+        others: &SpanIndex,
+        rising: Direction,
+        places: &[Position],
+    ) -> bool
+        requires { AllPairs (AreRising rising) places.now }
+        ensures { IsTrue result ↔ CoversOne self.now others.now.spans places.now }
+    {
+        entries_cover(&self.spans, self.direction, others, rising, places)
+    }
+
+    /// The spans by position, or want of memory.
+    pub(crate) fn by_position(&self, alloc: Global) -> Result<HashMap<Position, usize>, AllocError>
+        ensures { IfOk result (λ all. (p : Position) → map_get position_eq all p ≡ value_at self.now.spans p) }
+    {
+        let direction = self.direction;
+        self.spans
+            .iter()
+            .map(|(key, span)| (key_of(direction, *key), *span))
+            .collect(alloc)
+    }
+
+    /// Whether both hold the same spans.
+    pub(crate) fn holds_same(&self, other: &SpanIndex) -> bool
+        requires { self.now.direction ≡ other.now.direction }
+        ensures { result ≡ places_eq nat_eq self.now.spans other.now.spans }
+    {
+        self.spans == other.spans
+    }
+}
+
+impl Clone for SpanIndex {
+    ghost is_clone = { λ s t. t ≡ s };
+
+    fn clone(&self) -> Result<SpanIndex, AllocError> {
+        Ok(SpanIndex {
+            direction: self.direction,
+            spans: self.spans.clone()?,
+        })
+    }
+}
+
+/// The columns and the rows of an anchor's rectangle.
+#[derive(Clone, Copy, Debug)]
+pub(crate) struct Extent {
+    pub(crate) columns: usize,
+    pub(crate) rows: usize,
+}
+
+/// The rectangle of an anchor, by its span in a direction and its span in the other one.
+pub(crate) fn extent_of(direction: Direction, span: usize, other: usize) -> Extent
+    ensures { result ≡ extent_of direction span other }
+{
+    match direction {
+        Direction::Columns => Extent {
+            columns: span,
+            rows: other,
+        },
+        Direction::Rows => Extent {
+            columns: other,
+            rows: span,
+        },
+    }
+}
+
+// The line and the place in it of a position, and the position of a line and a place.
+fn key_of(direction: Direction, pos: Position) -> Position
+    ensures { result ≡ key_of direction pos }
+{
+    match direction {
+        Direction::Columns => pos,
+        Direction::Rows => Position::new(pos.col, pos.row),
+    }
+}
+
+// Whether a span of the key's line begins before the key and reaches it.
+fn reaches_key(spans: &BTreeMap<Position, usize>, key: Position) -> bool
+    ensures { result ≡ list_any (λ e. nat_lt (key.col - e.0.col) e.1) (entries_between position_cmp (Bound.Included (record { row = key.row; col = 0 })) (Bound.Excluded key) spans.now.entries) }
+{
+    spans
+        .range(Position::new(key.row, 0)..key)
+        .any(|(start, span)| key.col.saturating_sub(start.col) < *span)
+}
+
+// Whether one of the positions lies in the rectangle of an anchor with a span of the entries.
+fn entries_cover(
+    spans: &BTreeMap<Position, usize>,
+    direction: Direction,
+    others: &SpanIndex,
+    rising: Direction,
+    places: &[Position],
+) -> bool
+    requires { AllPairs (AreRising rising) places.now }
+    ensures { result ≡ list_any (covers_held direction others.now.spans places.now) spans.now.entries }
+{
+    spans.iter().any(|(key, span)| {
+        let anchor = key_of(direction, *key);
+        let extent = extent_of(direction, *span, others.get(anchor).unwrap_or(1));
+        covers_one(rising, anchor, extent.columns, extent.rows, places)
+    })
+}
