@@ -11,11 +11,13 @@ ghost use Rattle.papergrid_width.specs.ForProofs.Parts.{is_emoji_lead};
 mod emoji;
 mod part;
 pub mod printable;
+mod runs;
 #[cfg(test)]
 mod tests;
 
 use emoji::emoji_width;
 pub use printable::{count_printable, is_printable};
+use runs::width_by_runs;
 use unicode_width::UnicodeWidthStr;
 
 /// How many columns of a terminal the text takes. A control character takes one, and so does a carriage
@@ -35,13 +37,29 @@ pub fn width(text: &str) -> usize
 pub fn width_by_characters(text: &str, from: usize) -> usize
     ensures { result ≡ str_width false (chars text.now) }
 {
-    if !may_be_emoji(text, from) {
-        return text.width();
+    if may_be_emoji(text, from) {
+        return width_of_emoji(text);
     }
+    if may_have_runs(text) {
+        return width_by_runs(text);
+    }
+    text.width()
+}
+
+// The same, where most of the text may be emoji.
+fn width_of_emoji(text: &str) -> usize
+    ensures { result ≡ str_width false (chars text.now) }
+{
     match emoji_width(text) {
         Some(width) => width,
         None => text.width(),
     }
+}
+
+// Whether the text begins with a character of one or two bytes. In a text of longer ones, as most of East
+// Asia write them, ASCII is rare.
+fn may_have_runs(text: &str) -> bool {
+    matches!(text.as_bytes(), [0x00..=0xDF, ..])
 }
 
 // Whether the character there is from U+2600 to U+27BF, U+FE00 to U+FE3F or U+1F000 to U+1FFFF: most emoji

@@ -28,6 +28,16 @@ fn other_texts_are_measured_too(rt: HostRuntime) -> Result<(), Fail> {
     Ok(())
 }
 
+// Runs of ASCII stand among other characters, and the second digit is part of an emoji.
+#[test]
+fn runs_of_ascii_add_up(rt: HostRuntime) -> Result<(), Fail> {
+    assert_eq!(rt; width("naïve café au lait"), 18);
+    assert_eq!(rt; width("It’s — x…"), 9);
+    assert_eq!(rt; width("é 12️⃣ x"), 7);
+    assert_eq!(rt; width("aé❤️ b"), 6);
+    Ok(())
+}
+
 #[test]
 fn printable_text_is_as_wide_as_long(rt: HostRuntime) -> Result<(), Fail> {
     assert_eq!(rt; width(""), 0);
