@@ -6,9 +6,11 @@
 
 ghost use Rattle.std.specs.Prelude.{◌≡◌, ◌+◌, chars, false, get_or};
 ghost use Rattle.unicode_width.specs.Width.{str_width};
+ghost use Rattle.papergrid_width.specs.ForProofs.Letters.{is_letter_lead};
 ghost use Rattle.papergrid_width.specs.ForProofs.Parts.{is_emoji_lead};
 
 mod emoji;
+mod letters;
 mod part;
 pub mod printable;
 mod runs;
@@ -16,9 +18,13 @@ mod runs;
 mod tests;
 
 use emoji::emoji_width;
+use letters::width_by_letters;
 pub use printable::{count_printable, is_printable};
 use runs::width_by_runs;
 use unicode_width::UnicodeWidthStr;
+
+// Texts of so many bytes are long.
+const LONG: usize = 32;
 
 /// How many columns of a terminal the text takes. A control character takes one, and so does a carriage
 /// return with the newline after it.
@@ -40,8 +46,12 @@ pub fn width_by_characters(text: &str, from: usize) -> usize
     if may_be_emoji(text, from) {
         return width_of_emoji(text);
     }
-    if may_have_runs(text) {
+    // In a short text it does not pay to look for runs of ASCII.
+    if LONG <= text.len() {
         return width_by_runs(text);
+    }
+    if may_be_letter(text, from) {
+        return width_by_letters(text);
     }
     text.width()
 }
@@ -54,12 +64,6 @@ fn width_of_emoji(text: &str) -> usize
         Some(width) => width,
         None => text.width(),
     }
-}
-
-// Whether the text begins with a character of one or two bytes. In a text of longer ones, as most of East
-// Asia write them, ASCII is rare.
-fn may_have_runs(text: &str) -> bool {
-    matches!(text.as_bytes(), [0x00..=0xDF, ..])
 }
 
 // Whether the character there is from U+2600 to U+27BF, U+FE00 to U+FE3F or U+1F000 to U+1FFFF: most emoji
@@ -75,4 +79,15 @@ fn may_be_emoji(text: &str, from: usize) -> bool
         [0xF0, 0x9F, ..] | [0xEF, 0xB8, ..] | [0xE2, 0x98..=0x9E, ..] => true,
         _ => false,
     }
+}
+
+// Whether the character there is one of the letters of two bytes that are told.
+fn may_be_letter(text: &str, from: usize) -> bool
+    ensures { result ≡ is_letter_lead (get_or text.now from 0) }
+{
+    let bytes = text.as_bytes();
+    if bytes.len() <= from {
+        return false;
+    }
+    matches!(bytes[from], 0xC3..=0xCB | 0xCE..=0xD1)
 }

@@ -6,6 +6,7 @@ ghost use Rattle.std.specs.List.{position_or_len};
 ghost use Rattle.unicode_width.specs.Width.{str_width};
 ghost use Rattle.papergrid_width.specs.ForProofs.Runs.{IsSplitAtRun};
 
+use crate::letters::width_by_letters;
 use crate::printable::count_printable;
 use unicode_width::UnicodeWidthStr;
 
@@ -17,7 +18,7 @@ pub fn width_by_runs(text: &str) -> usize
     let mut width = 0usize;
     let mut rest = text;
     while let Some((before, run, after)) = split_at_run(rest) {
-        width += before.width() + run;
+        width += width_by_letters(before) + run;
         rest = after;
     }
     width + rest.width()
