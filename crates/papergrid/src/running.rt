@@ -14,6 +14,7 @@ use crate::output::{bad_script_text, out_of_table_text, sizes_text, too_large_te
 use crate::script::{Script, ScriptError, read_script};
 use crate::table_layout::configuration;
 use crate::transfer::{Failed, Sink, Source};
+use bumpalo::Bump;
 use papergrid_layout::LayoutError;
 use papergrid_text::IterRecords;
 use std::alloc::{AllocError, AllocFailed, Global};
@@ -104,7 +105,8 @@ fn answer(alloc: Global, input: &[u8]) -> Result<(RunEnd, Vec<u8>), AllocError>
     ensures end { IfOk result (λ answer. answer.0 ≡ end_of input.now) }
     ensures text { IfOk result (λ answer. answer.1.items ≡ output_of input.now) }
 {
-    match read_script(alloc, input) {
+    let texts = Bump::new(alloc);
+    match read_script(alloc, &texts, input) {
         Err(ScriptError::Memory) => Err(AllocError),
         Err(ScriptError::Bad(number)) => Ok((RunEnd::BadScript, bad_script_text(alloc, number)?)),
         Ok(script) => table_answer(alloc, script),
@@ -136,6 +138,7 @@ fn table_sizes(alloc: Global, script: Script<'_>) -> Result<Sizes, LayoutError>
         columns,
         settings,
         rows,
+        texts: _,
     } = script;
     let config = configuration(alloc, settings)?;
     let rows = rows.as_slice();

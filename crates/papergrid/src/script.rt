@@ -4,20 +4,19 @@ ghost use Rattle.std.specs.Prelude.{◌≡◌, [], true, All, IfOk, OnOk, Some, 
 ghost use Rattle.std.specs.Str.{IsValidUpTo};
 ghost use Rattle.papergrid_config.specs.Applied.{is_in_range};
 ghost use Rattle.papergrid.specs.declared.script.ScriptError.TheVariants.{Memory};
-ghost use Rattle.std.specs.Cow.{cow_str_bytes};
 ghost use Rattle.papergrid.specs.Grammar.{Row, Cell, without_cr};
 ghost use Rattle.papergrid.specs.Scripts.{empty_table, table_of, with_line};
 ghost use Rattle.papergrid.specs.ForProofs.Seen.{GivesTable, Takes, table_seen};
 
 use crate::cut::cut_marked_line;
 use crate::script_line::take_line;
+use bumpalo::Bump;
 use papergrid_config::Setting;
 use papergrid_text::string::count_lines;
 use simdutf8::compat::from_utf8;
 use std::alloc::{AllocError, AllocFailed, Global};
-use std::borrow::CowStr;
 
-/// What a script tells. Texts without escapes are lent from the input.
+/// What a script tells. Texts are lent from the input, those with escapes from the arena.
 #[derive(Drop)]
 pub struct Script<'a> {
     /// The number of columns.
@@ -25,7 +24,9 @@ pub struct Script<'a> {
     /// The settings, oldest first.
     pub settings: Vec<Setting>,
     /// The texts of the cells of each row.
-    pub rows: Vec<Vec<CowStr<'a>>>,
+    pub rows: Vec<Vec<&'a str>>,
+    /// Where texts with escapes are kept.
+    pub texts: &'a Bump,
 }
 
 /// Why there is no script.
@@ -53,14 +54,18 @@ impl<T: Drop> From<AllocFailed<T>> for ScriptError {
     }
 }
 
-/// The script that the input spells.
-pub fn read_script<'a>(alloc: Global, input: &'a [u8]) -> Result<Script<'a>, ScriptError>
+/// The script that the input spells. Texts with escapes are kept in the arena.
+pub fn read_script<'a>(
+    alloc: Global,
+    texts: &'a Bump,
+    input: &'a [u8],
+) -> Result<Script<'a>, ScriptError>
     ensures told { GivesTable result (table_of input.now) }
     // What a list of settings must be, to be applied.
     ensures in_range { IfOk result (λ script. All (λ setting. is_in_range setting ≡ true) script.settings.items) }
 {
     let text = text_in_front(input);
-    let read = script_of_text(alloc, text);
+    let read = script_of_text(alloc, texts, text);
     if text.len() < input.len() && read.is_ok() {
         // The line where the text ends goes on with what is no text.
         return Err(ScriptError::Bad(count_lines(text)));
@@ -80,10 +85,14 @@ fn text_in_front(input: &[u8]) -> &str
 }
 
 /// The script that the text spells.
-fn script_of_text<'a>(alloc: Global, input: &'a str) -> Result<Script<'a>, ScriptError>
+fn script_of_text<'a>(
+    alloc: Global,
+    texts: &'a Bump,
+    input: &'a str,
+) -> Result<Script<'a>, ScriptError>
     ensures { GivesTable result (table_of input.now) }
 {
-    let mut script = empty_script(alloc);
+    let mut script = empty_script(alloc, texts);
     let mut number: usize = 0;
     let mut rest = Some(input);
     while let Some(text) = rest {
@@ -98,13 +107,14 @@ fn script_of_text<'a>(alloc: Global, input: &'a str) -> Result<Script<'a>, Scrip
 }
 
 /// The script of no lines.
-fn empty_script<'a>(alloc: Global) -> Script<'a>
+fn empty_script<'a>(alloc: Global, texts: &'a Bump) -> Script<'a>
     ensures { table_seen result ≡ empty_table }
 {
     Script {
         columns: 0,
         settings: Vec::new(alloc),
         rows: Vec::new(alloc),
+        texts,
     }
 }
 
@@ -130,8 +140,8 @@ impl<'a> Script<'a> {
     }
 
     /// Adds a cell to the last row; false where there is none.
-    pub fn add_cell(&mut self, text: CowStr<'a>) -> Result<bool, AllocError>
-        ensures { IfOk result (λ fits. Takes (table_seen self.old) (Some (Cell (cow_str_bytes text.entry))) fits (table_seen self.new)) }
+    pub fn add_cell(&mut self, text: &'a str) -> Result<bool, AllocError>
+        ensures { IfOk result (λ fits. Takes (table_seen self.old) (Some (Cell text.now)) fits (table_seen self.new)) }
     {
         match self.rows.last_mut() {
             None => Ok(false),
@@ -144,7 +154,7 @@ impl<'a> Script<'a> {
 }
 
 /// A row without cells, with room for as many as the last row has.
-fn next_row<'a>(alloc: Global, rows: &[Vec<CowStr<'a>>]) -> Result<Vec<CowStr<'a>>, AllocError>
+fn next_row<'a>(alloc: Global, rows: &[Vec<&'a str>]) -> Result<Vec<&'a str>, AllocError>
     ensures { IfOk result (λ row. row.items ≡ []) }
 {
     let count = match rows.last() {

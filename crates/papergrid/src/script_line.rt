@@ -12,7 +12,6 @@ use crate::setting_line::{line_setting, padding, placed_span};
 use crate::unescape::unescaped;
 use papergrid_config::Setting;
 use std::alloc::{AllocError, Global};
-use std::borrow::CowStr;
 
 /// Takes what one more line says into the script; false, and the script as it was, where the line is a bad one.
 /// The first backslash of the line stands at `escape`, or there is none before its end.
@@ -41,7 +40,7 @@ fn take_text<'a>(
 {
     // Most lines are cells.
     if let Some(spelled) = line.strip_prefix("cell ") {
-        return take_cell(alloc, script, spelled, escape - 5);
+        return take_cell(script, spelled, escape - 5);
     }
     match line {
         "" => Ok(true),
@@ -49,7 +48,7 @@ fn take_text<'a>(
             script.add_row(alloc)?;
             Ok(true)
         }
-        "cell" => script.add_cell(CowStr::Borrowed("")),
+        "cell" => script.add_cell(""),
         _ => match split_at_byte(line, b' ') {
             Some((keyword, rest)) => take_keyword(script, keyword, rest),
             None => Ok(false),
@@ -77,7 +76,6 @@ fn take_keyword(script: &mut Script<'_>, keyword: &str, rest: &str) -> Result<bo
 
 /// Takes a cell of the text that is meant; false where the spelling is bad, or there is no row.
 fn take_cell<'a>(
-    alloc: Global,
     script: &mut Script<'a>,
     spelled: &'a str,
     escape: usize,
@@ -85,7 +83,7 @@ fn take_cell<'a>(
     requires { IsFirstEscape spelled.now escape }
     ensures { IfOk result (λ fits. Takes (table_seen script.old) (option_map Cell (unescaped spelled.now)) fits (table_seen script.new)) }
 {
-    match unescaped(alloc, spelled, escape)? {
+    match unescaped(script.texts, spelled, escape)? {
         Some(text) => script.add_cell(text),
         None => Ok(false),
     }

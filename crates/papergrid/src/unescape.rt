@@ -1,35 +1,40 @@
 //! The text of a cell as a script spells it.
 
-ghost use Rattle.std.specs.Prelude.{◌≡◌, ◌++◌, ◌∷◌, IfOk, IfSome, IsUtf8, option_map, string_bytes};
-ghost use Rattle.std.specs.Cow.{cow_str_bytes};
+ghost use Rattle.std.specs.Prelude.{◌≡◌, ◌++◌, ◌∷◌, IfOk, IfSome, IsUtf8, option_map};
 ghost use Rattle.papergrid.specs.Texts.{IsFirstEscape, backslash, escape_at, unescaped};
 
 use crate::cut::{split_around, split_at_byte};
-use std::alloc::{AllocError, Global};
-use std::borrow::CowStr;
+use bumpalo::Bump;
+use bumpalo::collections::into_bump_str;
+use std::alloc::AllocError;
 
-/// The text that is meant, where a backslash begins an escape; borrowed where there is none. The first
-/// backslash stands at `escape`, or there is none before the end.
+/// The text that is meant, where a backslash begins an escape: the same where there is none, else one in the
+/// arena. The first backslash stands at `escape`, or there is none before the end.
 pub fn unescaped<'a>(
-    alloc: Global,
+    texts: &'a Bump,
     spelled: &'a str,
     escape: usize,
-) -> Result<Option<CowStr<'a>>, AllocError>
+) -> Result<Option<&'a str>, AllocError>
     requires { IsFirstEscape spelled.now escape }
-    ensures { IfOk result (λ found. option_map cow_str_bytes found ≡ unescaped spelled.now) }
+    ensures { IfOk result (λ found. option_map (λ text. text.now) found ≡ unescaped spelled.now) }
 {
     if spelled.len() <= escape {
-        return Ok(Some(CowStr::Borrowed(spelled)));
+        return Ok(Some(spelled));
     }
     let (plain, escape) = split_around(spelled, escape);
-    Ok(with_escapes(alloc, plain, escape)?.map(|text| CowStr::Owned(text)))
+    with_escapes(texts, plain, escape)
 }
 
-/// The text that is meant, in memory of its own: by plain text, and what stands after a first backslash.
-fn with_escapes(alloc: Global, plain: &str, escape: &str) -> Result<Option<String>, AllocError>
-    ensures { IfOk result (λ found. option_map string_bytes found ≡ option_map (λ more. plain.now ++ more) (unescaped (backslash ∷ escape.now))) }
+/// The text that is meant, in the arena: by plain text, and what stands after a first backslash.
+fn with_escapes<'a>(
+    texts: &'a Bump,
+    plain: &str,
+    escape: &str,
+) -> Result<Option<&'a str>, AllocError>
+    ensures { IfOk result (λ found. option_map (λ text. text.now) found
+        ≡ option_map (λ more. plain.now ++ more) (unescaped (backslash ∷ escape.now))) }
 {
-    let mut text = String::with_capacity(alloc, plain.len() + escape.len())?;
+    let mut text = String::with_capacity(texts, plain.len() + escape.len())?;
     text.push_str(plain)?;
     let mut after = escape;
     while let Some((meant, left)) = escaped(after) {
@@ -37,7 +42,7 @@ fn with_escapes(alloc: Global, plain: &str, escape: &str) -> Result<Option<Strin
         match split_at_byte(left, b'\\') {
             None => {
                 text.push_str(left)?;
-                return Ok(Some(text));
+                return Ok(Some(into_bump_str(text)));
             }
             Some((plain, escape)) => {
                 text.push_str(plain)?;

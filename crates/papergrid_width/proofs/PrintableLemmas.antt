@@ -15,7 +15,7 @@ use Rattle.unicode_width.specs.Width.{str_width}
 below_128 : (b : ℕ) → is_in_range 0x20 0x7E b ≡ true → b < 128
 below_128 b h = grind (arith, nat_tests)
 
-ascii : (text : List ℕ) → list_all (is_in_range 0x20 0x7E) text ≡ true → IsAscii text
+pub ascii : (text : List ℕ) → list_all (is_in_range 0x20 0x7E) text ≡ true → IsAscii text
 ascii [] h = IsAscii-nil
 ascii (b ∷ bs) h =
     let parts = and_parts (is_in_range 0x20 0x7E b) (list_all (is_in_range 0x20 0x7E) bs) h in
@@ -42,7 +42,7 @@ front_step true b bs is h =
     ap (λ k. list_all (is_in_range 0x20 0x7E) (take k (b ∷ bs))) next ∙ ap (λ v. v && list_all (is_in_range 0x20 0x7E) (take n bs)) is ∙ h
 front_step false b bs is h = refl
 
-front_printable : (text : List ℕ) → list_all (is_in_range 0x20 0x7E) (take (prefix_len (is_in_range 0x20 0x7E) text) text) ≡ true
+pub front_printable : (text : List ℕ) → list_all (is_in_range 0x20 0x7E) (take (prefix_len (is_in_range 0x20 0x7E) text) text) ≡ true
 front_printable [] = refl
 front_printable (b ∷ bs) = front_step (is_in_range 0x20 0x7E b) b bs refl (front_printable bs)
 

@@ -6,17 +6,25 @@
 
 ghost use Rattle.std.specs.Prelude.{◌≡◌, ◌+◌, chars, false, get_or};
 ghost use Rattle.unicode_width.specs.Width.{str_width};
+ghost use Rattle.papergrid_width.specs.ForProofs.Letters.{is_letter_lead};
 ghost use Rattle.papergrid_width.specs.ForProofs.Parts.{is_emoji_lead};
 
 mod emoji;
+mod letters;
 mod part;
 pub mod printable;
+mod runs;
 #[cfg(test)]
 mod tests;
 
 use emoji::emoji_width;
+use letters::width_by_letters;
 pub use printable::{count_printable, is_printable};
+use runs::width_by_runs;
 use unicode_width::UnicodeWidthStr;
+
+// Texts of so many bytes are long.
+const LONG: usize = 32;
 
 /// How many columns of a terminal the text takes. A control character takes one, and so does a carriage
 /// return with the newline after it.
@@ -35,9 +43,23 @@ pub fn width(text: &str) -> usize
 pub fn width_by_characters(text: &str, from: usize) -> usize
     ensures { result ≡ str_width false (chars text.now) }
 {
-    if !may_be_emoji(text, from) {
-        return text.width();
+    if may_be_emoji(text, from) {
+        return width_of_emoji(text);
     }
+    // In a short text it does not pay to look for runs of ASCII.
+    if LONG <= text.len() {
+        return width_by_runs(text);
+    }
+    if may_be_letter(text, from) {
+        return width_by_letters(text);
+    }
+    text.width()
+}
+
+// The same, where most of the text may be emoji.
+fn width_of_emoji(text: &str) -> usize
+    ensures { result ≡ str_width false (chars text.now) }
+{
     match emoji_width(text) {
         Some(width) => width,
         None => text.width(),
@@ -57,4 +79,15 @@ fn may_be_emoji(text: &str, from: usize) -> bool
         [0xF0, 0x9F, ..] | [0xEF, 0xB8, ..] | [0xE2, 0x98..=0x9E, ..] => true,
         _ => false,
     }
+}
+
+// Whether the character there is one of the letters of two bytes that are told.
+fn may_be_letter(text: &str, from: usize) -> bool
+    ensures { result ≡ is_letter_lead (get_or text.now from 0) }
+{
+    let bytes = text.as_bytes();
+    if bytes.len() <= from {
+        return false;
+    }
+    matches!(bytes[from], 0xC3..=0xCB | 0xCE..=0xD1)
 }

@@ -28,6 +28,25 @@ fn other_texts_are_measured_too(rt: HostRuntime) -> Result<(), Fail> {
     Ok(())
 }
 
+// The last one has an accent that is a character of its own.
+#[test]
+fn letters_take_a_column_each(rt: HostRuntime) -> Result<(), Fail> {
+    assert_eq!(rt; width("naïve café"), 10);
+    assert_eq!(rt; width("Ελλάδα и Россия"), 15);
+    assert_eq!(rt; width("É cafe\u{301}"), 6);
+    Ok(())
+}
+
+// Runs of ASCII stand among other characters, and the second digit is part of an emoji.
+#[test]
+fn runs_of_ascii_add_up(rt: HostRuntime) -> Result<(), Fail> {
+    assert_eq!(rt; width("It’s “one” of them — isn’t it…"), 30);
+    assert_eq!(rt; width("It’s the time for 12️⃣ good men"), 30);
+    assert_eq!(rt; width("now is the time for é❤️ good men"), 32);
+    assert_eq!(rt; width("It’s — x…"), 9);
+    Ok(())
+}
+
 #[test]
 fn printable_text_is_as_wide_as_long(rt: HostRuntime) -> Result<(), Fail> {
     assert_eq!(rt; width(""), 0);

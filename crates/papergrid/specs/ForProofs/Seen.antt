@@ -1,8 +1,7 @@
 -- What clauses see of the values that the program holds.
 use Rattle.std.specs.Prelude.{◌≡◌, ℕ, Bool, List, map, MatchBool, Option, Some, None, option_and_then, option_map, Result, Ok, Err, Vec}
-use Rattle.std.specs.Cow.{cow_str_bytes}
+use Rattle.std.specs.Borrow.{Bor}
 use Rattle.std.specs.declared.alloc.Global.{Global}
-use Rattle.std.specs.declared.borrow.CowStr.{CowStr}
 use Rattle.papergrid_values.specs.declared.position.Position.{Position}
 use Rattle.papergrid.specs.declared.script.Script.{Script}
 use Rattle.papergrid.specs.declared.script.ScriptError.{ScriptError}
@@ -14,8 +13,8 @@ use Rattle.papergrid.specs.Grammar.{Said}
 use Rattle.papergrid.specs.Scripts.{Table, with_line}
 use Rattle.papergrid.specs.Estimates.{Estimate, OutOfTable, TooLarge, Sized}
 
-abbrev pub texts_of : Vec (CowStr Global) Global → List (List ℕ)
-texts_of cells = map cow_str_bytes cells.items
+abbrev pub texts_of : Vec (Bor (List ℕ)) Global → List (List ℕ)
+texts_of cells = map (λ text. text.now) cells.items
 
 abbrev pub table_seen : Script → Table
 table_seen script = record { columns = script.columns; settings = script.settings.items; rows = map texts_of script.rows.items }

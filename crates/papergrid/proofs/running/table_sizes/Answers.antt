@@ -1,7 +1,6 @@
 use Rattle.std.proofs.Common.{◌≡◌, ℕ, List, Vec, map, ap, ◌∙◌}
-use Rattle.std.specs.Cow.{cow_str_bytes}
+use Rattle.std.specs.Borrow.{Bor}
 use Rattle.std.specs.declared.alloc.Global.{Global}
-use Rattle.std.specs.declared.borrow.CowStr.{CowStr}
 use Rattle.papergrid_text.proofs.RowSteps.{told_by}
 use Rattle.papergrid_config.specs.Told.{IsTold}
 use Rattle.papergrid_config.specs.declared.spanned.SpannedConfig.{SpannedConfig}
@@ -16,14 +15,14 @@ use Rattle.papergrid.proofs.LookLemmas.{look_told}
 use Rattle.papergrid.proofs.running.table_sizes.Goals as goal
 
 -- what is estimated of the cells that the records tell, by the configuration, is estimated of the script's table
-seen : {A : Type 0} (view : A → CowStr Global) (script : Script) (config : SpannedConfig) (cells : List (List A)) (rows : List (Vec (CowStr Global) Global)) (columns : ℕ) (e : Estimate)
+seen : {A : Type 0} (view : A → Bor (List ℕ)) (script : Script) (config : SpannedConfig) (cells : List (List A)) (rows : List (Vec (Bor (List ℕ)) Global)) (columns : ℕ) (e : Estimate)
     → IsTold script.settings.items config → map (map view) cells ≡ map (λ row. row.items) rows → rows ≡ script.rows.items → columns ≡ script.columns
-    → e ≡ estimate_by (spanned_look config) (line_measure (λ cell. cow_str_bytes (view cell))) columns cells → e ≡ estimate_of (table_seen script)
+    → e ≡ estimate_by (spanned_look config) (line_measure (λ cell. (view cell).now)) columns cells → e ≡ estimate_of (table_seen script)
 seen view script config cells rows columns e told tells same_rows same_columns is =
-    let texts = told_by view cow_str_bytes (λ row. row.items) cells script.rows.items (tells ∙ ap (map (λ row. row.items)) same_rows) in
+    let texts = told_by view (λ text. text.now) (λ row. row.items) cells script.rows.items (tells ∙ ap (map (λ row. row.items)) same_rows) in
     is
-    ∙ (λ i. estimate_by (look_told script.settings.items config told i) (line_measure (λ cell. cow_str_bytes (view cell))) (same_columns i) cells)
-    ∙ estimate_told (look_of script.settings.items) (λ cell. cow_str_bytes (view cell)) text_measure script.columns cells (map texts_of script.rows.items) texts
+    ∙ (λ i. estimate_by (look_told script.settings.items config told i) (line_measure (λ cell. (view cell).now)) (same_columns i) cells)
+    ∙ estimate_told (look_of script.settings.items) (λ cell. (view cell).now) text_measure script.columns cells (map texts_of script.rows.items) texts
 
 pub returns : goal.returns
 returns c = gives_also c.estimate.result _ _

@@ -1,6 +1,5 @@
-use Rattle.std.proofs.Common.{◌≡◌, ◌<◌, ◌+◌, ℕ, List, length, take, drop, option_map, string_bytes, rules, sym, ap, ◌∙◌, arith}
+use Rattle.std.proofs.Common.{◌≡◌, ◌<◌, ◌+◌, ℕ, List, length, take, drop, Option, IfOk, option_map, sym, subst, ap, ◌∙◌, arith}
 use Rattle.std.specs.List.{position_or_len}
-use Rattle.std.specs.Cow.{cow_str_bytes}
 use Rattle.papergrid_text.proofs.Places.{is_there}
 use Rattle.papergrid.specs.Texts.{IsFirstEscape, backslash}
 use Rattle.papergrid.proofs.EscapeLemmas.{IsCut, is_backslash, cut_open, unescaped-whole}
@@ -26,6 +25,6 @@ cut_there spelled plain after at first within before behind =
 
 pub returns : goal.returns
 returns c =
-    let owned : option_map cow_str_bytes c.map.result ≡ option_map string_bytes c.in_ok-with_escapes.field-0 = search rules in
-    owned ∙ c.in_ok-with_escapes.ensures
-    ∙ sym (cut_open _ _ _ (cut_there c.args.spelled.now _ _ c.args.escape c.requires c.if-spelled-escape.false c.split_around.ensures.before c.split_around.ensures.after))
+    subst (λ (meant : Option (List ℕ)). IfOk c.with_escapes.result (λ found. option_map (λ text. text.now) found ≡ meant))
+    (sym (cut_open _ _ _ (cut_there c.args.spelled.now _ _ c.args.escape c.requires c.if-spelled-escape.false c.split_around.ensures.before c.split_around.ensures.after)))
+    c.with_escapes.ensures

@@ -1,10 +1,10 @@
-use Rattle.std.proofs.Common.{rules}
+use Rattle.std.proofs.Common.{Some, ap, ◌∙◌, rules}
 use Rattle.papergrid.proofs.EscapeLemmas.{stopped, past_escape, past_plain, finished}
 use Rattle.papergrid.proofs.unescape.with_escapes.Goals as goal
 
 pub returns-in-None : goal.returns-in-None
 returns-in-None c =
-    finished _ _ _ _ c.in-None.ensures.parts c.in_ok-push_str-in-None.ensures.bytes
+    ap Some c.into_bump_str.ensures ∙ finished _ _ _ _ c.in-None.ensures.parts c.in_ok-push_str-in-None.ensures.bytes
     (past_escape _ _ _ _ _ _ c.in-Some.ensures.escape c.in_ok-push.ensures.bytes c.loop-meant.invariant.meant)
 
 pub loop-meant-preserved : goal.loop-meant-preserved
