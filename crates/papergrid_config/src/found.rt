@@ -91,7 +91,7 @@ impl SpannedConfig {
         requires { count < 2 ^ 64 - 1 }
         ensures { result ≡ count_lines (λ col. vertical_line_at self.now.characters col count) count }
     {
-        (0..=count)
+        (0..count + 1)
             .filter(|col| self.has_vertical(*col, count))
             .count()
     }
@@ -102,7 +102,7 @@ impl SpannedConfig {
         requires { count < 2 ^ 64 - 1 }
         ensures { result ≡ count_lines (λ row. horizontal_line_at self.now.characters row count) count }
     {
-        (0..=count)
+        (0..count + 1)
             .filter(|row| self.has_horizontal(*row, count))
             .count()
     }

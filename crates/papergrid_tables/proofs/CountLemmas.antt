@@ -1,5 +1,5 @@
 -- Counts of a map's keys, as the map changes.
-use Rattle.std.proofs.Common.{◌≡◌, ℕ, ◌+◌, ◌<◌, ◌≤◌, Bool, true, false, ◌&&◌, cond, List, [], ◌∷◌, length, eqb, Option, Some, None, refl, sym, ap, ◌∙◌, arith}
+use Rattle.std.proofs.Common.{◌≡◌, ℕ, ◌+◌, ◌<◌, ◌≤◌, Bool, true, false, ◌&&◌, cond, List, [], ◌∷◌, eqb, Option, Some, None, refl, sym, ap, ◌∙◌, arith}
 use Rattle.std.specs.Prelude.{is_some, is_none, unwrap_or}
 use Rattle.std.specs.Option.{option_map}
 use Rattle.std.specs.List.{count_by, sum_by}
@@ -8,15 +8,12 @@ use Rattle.std.specs.HashMap.{HashMap, PutsEntry, get, keys, values}
 use Rattle.std.specs.Map.{keys_of, lookup, remove_entry, values_of}
 use Rattle.std.proofs.lemmas.Bool.{eq-eqb}
 use Rattle.std.proofs.lemmas.List.Sorted.{sum_by-IsPermutation}
-use Rattle.std.proofs.lemmas.List.Sums.{sum_by-cons, count_by-le-length}
+use Rattle.std.proofs.lemmas.List.Sums.{sum_by-cons}
 use Rattle.std.proofs.lemmas.Map.{keys-set_value}
-use Rattle.std.proofs.lemmas.Map.Entries.{length-keys_of, sum_by-remove_entry, sum_by_puts_entry, sum_by_values_permutation}
+use Rattle.std.proofs.lemmas.Map.Entries.{sum_by-remove_entry, sum_by_puts_entry, sum_by_values_permutation}
 use Rattle.papergrid_tables.specs.ForProofs.CountedLines.{is_end_set}
 
 module _ {K X : Type 0} (test : K → Bool) where
-  weight : K × X → ℕ
-  weight e = cond (test e.0) 1 0
-
   by_entries : (es : List (K × X)) → count_by test (keys_of es) ≡ sum_by (λ e. cond (test e.0) 1 0) es
   by_entries [] = refl
   by_entries (e ∷ es) =
@@ -50,10 +47,6 @@ module _ {K X : Type 0} (test : K → Bool) where
       → count_by test (keys_of fs) + cond (b && test k) 1 0 ≡ count_by test (keys_of es)
   count_removed is_key k exact es fs b same is =
       rw is (ap (λ n. n + cond (is_some (lookup is_key es) && test k) 1 0) (count_reordered (remove_entry is_key es) fs same) ∙ removed is_key k exact es)
-
-  -- no count is greater than the length
-  pub count_fits : (es : List (K × X)) (bound : ℕ) → length es < bound → count_by test (keys_of es) < bound
-  count_fits es bound fits = omega (arith, count_by-le-length test (keys_of es), length-keys_of es)
 
 -- what stands on its own line is counted there
 pub counted_here : (x new old count : ℕ) (b : Bool) → b ≡ true → new + cond (b && eqb x x) 1 0 ≡ old → count ≡ old → 0 < count
