@@ -1,6 +1,5 @@
 pub mod Applied
 pub mod Closures
-pub mod CountedLines
 pub mod DecidingCallLemmas
 pub mod EqualLemmas
 pub mod FoundLemmas

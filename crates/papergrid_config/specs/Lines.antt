@@ -2,8 +2,6 @@
 use Rattle.std.specs.Prelude.{ℕ, ◌+◌, ◌&&◌, Bool, if◌then◌else◌, Option, Some, None}
 use Rattle.std.specs.Option.{option_or}
 use Rattle.std.specs.List.{count_by, range_with_len}
-use Rattle.papergrid_values.specs.declared.direction.Direction.{Direction}
-use Rattle.papergrid_values.specs.declared.direction.Direction.TheVariants.{Columns, Rows}
 use Rattle.papergrid_values.specs.declared.position.Position.{Position}
 use Rattle.papergrid_tables.specs.BorderHeld.{HeldBorders, places_of}
 use Rattle.papergrid_tables.specs.LineTests.{horizontal_line_at, vertical_line_at}
@@ -24,11 +22,6 @@ module _ (characters : HeldBorders ℕ) (missing : ℕ) where
   abbrev pub shown_intersection : Position → ℕ → ℕ → Option ℕ
   shown_intersection p rows cols =
       shown (found_intersection (places_of characters) p rows cols) (horizontal_line_at characters p.row rows && vertical_line_at characters p.col cols) missing
-
--- whether a line is drawn at a place: vertical lines are numbered as the columns are, horizontal ones as the rows
-abbrev pub line_at : Direction → HeldBorders ℕ → ℕ → ℕ → Bool
-line_at Columns = vertical_line_at
-line_at Rows = horizontal_line_at
 
 -- how many lines there are from 0 up to the count
 abbrev pub count_lines : (ℕ → Bool) → ℕ → ℕ

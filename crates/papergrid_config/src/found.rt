@@ -1,17 +1,13 @@
 //! What stands on the lines, and which lines there are. Source: `config/spanned/mod.rs`.
 
-ghost use Rattle.std.specs.Prelude.{◌≡◌, ◌↔◌, ◌+◌, ◌-◌, ◌<◌, ◌≤◌, ◌^◌, IsTrue, EachIndex, false, length, option_copied, slice_index_or};
-ghost use Rattle.std.specs.List.{count_by, range_with_len};
+ghost use Rattle.std.specs.Prelude.{◌≡◌, ◌↔◌, ◌-◌, ◌<◌, ◌^◌, IsTrue, option_copied};
 ghost use Rattle.papergrid_tables.specs.BorderHeld.{places_of};
 ghost use Rattle.papergrid_tables.specs.LineTests.{horizontal_line_at, vertical_line_at};
 ghost use Rattle.papergrid_tables.specs.Places.{HasHorizontal, HasVertical, found_horizontal, found_intersection, found_vertical};
-ghost use Rattle.papergrid_config.specs.Lines.{count_lines, line_at, shown_horizontal, shown_intersection, shown_vertical};
+ghost use Rattle.papergrid_config.specs.Lines.{count_lines, shown_horizontal, shown_intersection, shown_vertical};
 
 use crate::spanned::SpannedConfig;
-use papergrid_values::{ANSIBuf, Direction, Position};
-
-// How many lines are marked in one look at what is held.
-const WINDOW: usize = 256;
+use papergrid_values::{ANSIBuf, Position};
 
 // A table of n columns has its vertical lines at 0 to n, and one of n rows its horizontal lines.
 impl SpannedConfig {
@@ -95,7 +91,9 @@ impl SpannedConfig {
         requires { count < 2 ^ 64 - 1 }
         ensures { result ≡ count_lines (λ col. vertical_line_at self.now.characters col count) count }
     {
-        self.count_marked(Direction::Columns, count)
+        (0..count + 1)
+            .filter(|col| self.has_vertical(*col, count))
+            .count()
     }
 
     /// How many horizontal lines a table of so many rows has. Condition: their number is below the
@@ -104,55 +102,8 @@ impl SpannedConfig {
         requires { count < 2 ^ 64 - 1 }
         ensures { result ≡ count_lines (λ row. horizontal_line_at self.now.characters row count) count }
     {
-        self.count_marked(Direction::Rows, count)
+        (0..count + 1)
+            .filter(|row| self.has_horizontal(*row, count))
+            .count()
     }
-
-    // Counts the lines a window at a time: what the table holds is looked at once for each window.
-    fn count_marked(&self, direction: Direction, count: usize) -> usize
-        requires { count < 2 ^ 64 - 1 }
-        ensures { result ≡ count_lines (λ place. line_at direction self.now.characters place count) count }
-    {
-        let mut marks = [false; WINDOW];
-        let mut first = 0;
-        let mut found = 0;
-        while first <= count {
-            let size = WINDOW.min(count + 1 - first);
-            found += self.count_window(direction, first, count, &mut marks[..size]);
-            first += size;
-        }
-        found
-    }
-
-    // Counts the lines from the first on, as many as there are marks.
-    fn count_window(
-        &self,
-        direction: Direction,
-        first: usize,
-        count: usize,
-        marks: &mut [bool],
-    ) -> usize
-        requires { first + length marks.old < 2 ^ 64 }
-        ensures lines { result ≡ count_by (λ place. line_at direction self.now.characters place count) (range_with_len first (length marks.old)) }
-        ensures few { result ≤ length marks.old }
-    {
-        self.mark_lines(direction, first, count, marks);
-        count_marks(marks)
-    }
-
-    fn mark_lines(&self, direction: Direction, first: usize, count: usize, marks: &mut [bool])
-        requires { first + length marks.old < 2 ^ 64 }
-        ensures length { length marks.new ≡ length marks.old }
-        ensures marks { EachIndex marks.new (λ k. slice_index_or marks.new k false ≡ line_at direction self.now.characters (first + k) count) }
-    {
-        match direction {
-            Direction::Columns => self.characters.mark_vertical(first, count, marks),
-            Direction::Rows => self.characters.mark_horizontal(first, count, marks),
-        }
-    }
-}
-
-fn count_marks(marks: &[bool]) -> usize
-    ensures { result ≡ count_by (λ mark. mark) marks.now }
-{
-    marks.iter().filter(|mark| **mark).count()
 }

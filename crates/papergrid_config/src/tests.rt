@@ -110,6 +110,31 @@ fn line_flags(rt: HostRuntime) {
 }
 
 #[test]
+fn overwritten_line(rt: HostRuntime) {
+    let mut config = SpannedConfig::new(rt.alloc());
+    let line = HorizontalLine::new(Some('-'), None, Some('+'), None);
+    assert!(rt; config.insert_horizontal_line(1, line).is_ok());
+    let line = HorizontalLine::new(None, None, None, None);
+    assert!(rt; config.insert_horizontal_line(1, line).is_ok());
+    config.remove_horizontal_line(2, 2);
+    assert!(rt; !config.has_vertical(0, 3) && config.has_horizontal(1, 2));
+    assert!(rt; config.count_vertical(3) == 0 && config.count_horizontal(2) == 1);
+    drop(config);
+}
+
+#[test]
+fn border_twice_then_removed(rt: HostRuntime) {
+    let mut config = SpannedConfig::new(rt.alloc());
+    assert!(rt; config.set_border(at(0, 0), Border::filled('x')).is_ok());
+    assert!(rt; config.set_border(at(0, 0), Border::filled('x')).is_ok());
+    assert!(rt; config.count_vertical(3) == 2 && config.count_horizontal(3) == 2);
+    config.remove_border(at(0, 0), (1, 1));
+    assert!(rt; config == SpannedConfig::new(rt.alloc()));
+    assert!(rt; config.count_vertical(3) == 0 && config.count_horizontal(3) == 0);
+    drop(config);
+}
+
+#[test]
 fn apply_all_paddings(rt: HostRuntime) -> Result<(), Fail> {
     let settings = vec![in rt.alloc();
         Setting::SetPadding(Entity::Cell(0, 0), padding(1)),

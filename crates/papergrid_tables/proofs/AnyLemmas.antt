@@ -1,6 +1,6 @@
 -- A test that some entry of a map passes.
-use Rattle.std.proofs.Common.{◌≡◌, ℕ, suc, Bool, true, false, List, [], ◌∷◌, Some, refl, subst}
-use Rattle.std.specs.Prelude.{◌||◌}
+use Rattle.std.proofs.Common.{◌≡◌, ℕ, suc, Bool, true, false, cond, List, [], ◌∷◌, Option, Some, refl, ap, subst}
+use Rattle.std.specs.Prelude.{◌||◌, IsSome, is_some}
 use Rattle.std.specs.List.{list_any, slice_get, IsDistinct}
 use Rattle.std.specs.Cmp.{IsEquivalence}
 use Rattle.std.specs.Map.{lookup, keys_of}
@@ -25,3 +25,16 @@ module _ {K X : Type 0} {E : K → K → Bool} (laws : IsEquivalence E) (test : 
   any_from_found exact k v h passes =
       let r = place_from_lookup (E k) es v h in
       any_passes_from_place test es r.0 (r.1, v) r.2 (subst (λ x. test (x, v) ≡ true) (exact k r.1 r.3) passes)
+
+-- some key passes
+pub some_key : {K X : Type 0} {E : K → K → Bool} (laws : IsEquivalence E) (test : K → Bool) (es : List (K × X)) → list_any test (keys_of es) ≡ true → (k : K) × (test k ≡ true) × IsSome (lookup (E k) es)
+some_key laws test [] h = absurd (false≢true h)
+some_key {K} {X} {E} laws test (e ∷ es) h =
+    elim (test e.0) as (λ b. test e.0 ≡ b → (b || list_any test (keys_of es)) ≡ true → (k : K) × (test k ≡ true) × IsSome (lookup (E k) (e ∷ es))) [
+      | true ↦ λ t h. (e.0, t, ap (λ b. is_some (cond b (Some e.1) (lookup (E e.0) es))) (laws.refl e.0))
+      | false ↦ λ t h. let later = some_key laws test es h in (later.0, later.1, still_some (E later.0 e.0) e.1 (lookup (E later.0) es) later.2)
+    ] refl h
+  where
+    still_some : (b : Bool) (x : X) (o : Option X) → IsSome o → IsSome (cond b (Some x) o)
+    still_some true x o h = refl
+    still_some false x o h = h

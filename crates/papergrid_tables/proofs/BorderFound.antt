@@ -16,11 +16,11 @@ use Rattle.papergrid_values.specs.declared.horizontal_line.HorizontalLine.{Horiz
 use Rattle.papergrid_values.specs.declared.vertical_line.VerticalLine.{VerticalLine}
 use Rattle.papergrid_tables.specs.BorderHeld.{places_of}
 use Rattle.papergrid_tables.specs.BorderScan.{has_end}
-use Rattle.papergrid_tables.specs.Keys.{position_cmp, position_eq}
+use Rattle.papergrid_tables.specs.Keys.{position_eq}
 use Rattle.papergrid_tables.specs.Places.{IsBare, HasEnd}
 use Rattle.papergrid_tables.proofs.AnyLemmas.{any_found, any_from_found}
 use Rattle.papergrid_tables.proofs.BorderTold.{table_of}
-use Rattle.papergrid_tables.proofs.KeyLemmas.{get_at_number, get_at_position, position_equiv, exact_position_eq}
+use Rattle.papergrid_tables.proofs.KeyLemmas.{get_at_number, get_at_position, position_equiv}
 use Rattle.papergrid_tables.proofs.EntryLemmas.{no_entries, none_of_nothing}
 
 -- ---- the first that is set
@@ -70,16 +70,6 @@ ends_scan first end place count es b is distinct =
     let test = λ (e : ℕ × _). has_end place count (first e.1) (end e.1) in (
       (λ h. let found = any_found nat_eq_equiv test es distinct (sym is ∙ h) in (found.0, found.1, get_at_number es found.0 ∙ found.2, (has_end_is place count _ _).0 found.3)),
       (λ h. is ∙ any_from_found nat_eq_equiv test es eqb-true h.0 h.1 (sym (get_at_number es h.0) ∙ h.2) ((has_end_is place count _ _).1 h.3)),
-    )
-
--- a place in a row or a column
-pub places_scan : {T : Type 0} (along : Position → ℕ) (n : ℕ) (es : List (Position × T)) (b : Bool) → b ≡ list_any (λ e. eqb (along e.0) n) es → IsDistinct position_eq (keys_of es)
-    → IsTrue b ↔ ((p : Position) × (along p ≡ n) × IsSome (get (from_entries {R = position_cmp} es) p))
-places_scan {T} along n es b is distinct =
-    let test = λ (e : Position × T). eqb (along e.0) n in (
-      (λ h. let found = any_found position_equiv test es distinct (sym is ∙ h) in (found.0, eqb-true _ _ found.3, ap is_some (get_at_position es found.0 ∙ found.2))),
-      (λ h. let held = some_value (get (from_entries {R = position_cmp} es) h.0) h.2 in
-          is ∙ any_from_found position_equiv test es exact_position_eq h.0 held.0 (sym (get_at_position es h.0) ∙ held.1) (eq-eqb _ _ h.1)),
     )
 
 pub key_scan : {L : Type 0} (es : List (ℕ × L)) (n : ℕ) (b : Bool) → b ≡ is_some (lookup (eqb n) es) → IsTrue b ↔ IsSome (get (from_entries {R = nat_cmp} es) n)

@@ -2,10 +2,11 @@ pub mod AnyLemmas
 pub mod BorderEqual
 pub mod BorderFound
 pub mod BorderTold
+pub mod CountLemmas
+pub mod CountedFound
 pub mod EntryLemmas
 pub mod EqualLemmas
 pub mod KeyLemmas
-pub mod LineMarked
 pub mod LineTested
 pub mod MadeTables
 pub mod OffsetEqual

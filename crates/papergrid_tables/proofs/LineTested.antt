@@ -63,11 +63,11 @@ end_test IsEnd test m is none = (
 )
 
 -- one of two tests
-pub either : {A B : Type 0} (a b : Bool) → (a ≡ true) ↔ A → (b ≡ true) ↔ B → ((a || b) ≡ true) ↔ (A ⊎ B)
+either : {A B : Type 0} (a b : Bool) → (a ≡ true) ↔ A → (b ≡ true) ↔ B → ((a || b) ≡ true) ↔ (A ⊎ B)
 either true b first second = ((λ _. inl (first.0 refl)), (λ _. refl))
 either false b first second = ((λ h. inr (second.0 h)), (λ h. ⊎_elim (λ x. absurd (false≢true (first.1 x))) (λ y. second.1 y) h))
 
-pub itself : (b : Bool) → (b ≡ true) ↔ (b ≡ true)
+itself : (b : Bool) → (b ≡ true) ↔ (b ≡ true)
 itself b = ((λ h. h), (λ h. h))
 
 module _ {T : Type 0} (held : HeldBorders T) where

@@ -1,4 +1,8 @@
 -- What no contract of the facade's calls reaches, and no law: only contracts of functions below them and proofs speak of it.
 pub mod BorderCodes
 pub mod BorderEq
+pub mod CountedLines
+pub mod CountedPlaces
+pub mod CountedTable
+pub mod Counts
 pub mod OverrideScan

@@ -1,17 +1,17 @@
 //! Steps on the maps of a `BorderTable`.
 
-ghost use Rattle.std.specs.Prelude.{◌≡◌, ◌+◌, ◌<◌, ◌≤◌, ◌^◌, ◌==◌, ◌||◌, OnOk, None, if◌then◌else◌, is_some, nat_eq, option_copied, option_and_then};
+ghost use Rattle.std.specs.Prelude.{◌≡◌, ◌+◌, ◌<◌, ◌^◌, ◌||◌, OnOk, None, if◌then◌else◌, nat_eq, option_copied, option_and_then};
 ghost use Rattle.std.specs.Option.{option_or};
-ghost use Rattle.std.specs.HashMap.{IsUnique, spare, get as map_get};
-ghost use Rattle.std.specs.List.{list_any};
+ghost use Rattle.std.specs.HashMap.{get as map_get};
+ghost use Rattle.papergrid_values.specs.declared.direction.Direction.TheVariants.{Columns, Rows};
 ghost use Rattle.papergrid_values.specs.declared.position.Position.{Position};
-ghost use Rattle.papergrid_tables.specs.BorderCalls.{at_place, below, right_of, horizontal_part, vertical_part, corner_part};
-ghost use Rattle.papergrid_tables.specs.BorderScan.{has_end};
+ghost use Rattle.papergrid_tables.specs.BorderCalls.{below, right_of, horizontal_part, vertical_part, corner_part};
+ghost use Rattle.papergrid_tables.specs.ForProofs.CountedPlaces.{AreCornersCounted, AreEdgesCounted, HasCornerRoom, HasEdgeRoom};
 ghost use Rattle.papergrid_tables.specs.Keys.{position_eq};
 ghost use Rattle.papergrid_tables.specs.Places as places;
 
-use crate::hashed::{put, take};
-use papergrid_values::{Border, Borders, HorizontalLine, Position, VerticalLine};
+use crate::counted_places::{Corners, Edges};
+use papergrid_values::{Border, Borders, Direction, HorizontalLine, Position, VerticalLine};
 use std::alloc::AllocError;
 use std::collections::HashMap;
 
@@ -136,176 +136,93 @@ pub(crate) fn at_ends(place: usize, count: usize, first: bool, end: bool, inner:
     (place == 0 && first) || (place == count && end) || (0 < place && place < count && inner)
 }
 
-// Whether a place is the first or the last one.
-fn is_end(place: usize, count: usize) -> bool
-    ensures { result ≡ (place == 0 || place == count) }
-{
-    place == 0 || place == count
-}
-
-// Whether the end of a line at a place is set.
-fn has_set_end<T>(place: usize, count: usize, first: &Option<T>, end: &Option<T>) -> bool
-    ensures { result ≡ has_end place count first.now end.now }
-{
-    (place == 0 && first.is_some()) || (place == count && end.is_some())
-}
-
-/// Whether a horizontal line that ends at a column has that end set.
-pub(crate) fn ends_at_column<T>(
-    lines: &HashMap<usize, HorizontalLine<T>>,
-    col: usize,
-    count: usize,
-) -> bool
-    ensures value { result ≡ list_any (λ e. has_end col count e.1.left e.1.right) lines.now.entries }
-    ensures unique { IsUnique nat_eq lines.now }
-{
-    let mut held = lines.iter();
-    is_end(col, count) && held.any(|(_, line)| has_set_end(col, count, &line.left, &line.right))
-}
-
-/// Whether a vertical line that ends at a row has that end set.
-pub(crate) fn ends_at_row<T>(
-    lines: &HashMap<usize, VerticalLine<T>>,
-    row: usize,
-    count: usize,
-) -> bool
-    ensures value { result ≡ list_any (λ e. has_end row count e.1.top e.1.bottom) lines.now.entries }
-    ensures unique { IsUnique nat_eq lines.now }
-{
-    let mut held = lines.iter();
-    is_end(row, count) && held.any(|(_, line)| has_set_end(row, count, &line.top, &line.bottom))
-}
-
-/// Whether a horizontal line has its left end set.
-pub(crate) fn any_left<T>(lines: &HashMap<usize, HorizontalLine<T>>) -> bool
-    ensures value { result ≡ list_any (λ e. is_some e.1.left) lines.now.entries }
-    ensures unique { IsUnique nat_eq lines.now }
-{
-    lines.iter().any(|(_, line)| line.left.is_some())
-}
-
-/// Whether a horizontal line has its right end set.
-pub(crate) fn any_right<T>(lines: &HashMap<usize, HorizontalLine<T>>) -> bool
-    ensures { result ≡ list_any (λ e. is_some e.1.right) lines.now.entries }
-{
-    lines.iter().any(|(_, line)| line.right.is_some())
-}
-
-/// Whether a vertical line has its top end set.
-pub(crate) fn any_top<T>(lines: &HashMap<usize, VerticalLine<T>>) -> bool
-    ensures value { result ≡ list_any (λ e. is_some e.1.top) lines.now.entries }
-    ensures unique { IsUnique nat_eq lines.now }
-{
-    lines.iter().any(|(_, line)| line.top.is_some())
-}
-
-/// Whether a vertical line has its bottom end set.
-pub(crate) fn any_bottom<T>(lines: &HashMap<usize, VerticalLine<T>>) -> bool
-    ensures { result ≡ list_any (λ e. is_some e.1.bottom) lines.now.entries }
-{
-    lines.iter().any(|(_, line)| line.bottom.is_some())
-}
-
-/// Whether a place in a column has a value.
-pub(crate) fn stands_in_column<T>(places: &HashMap<Position, T>, col: usize) -> bool
-    ensures value { result ≡ list_any (λ e. e.0.col == col) places.now.entries }
-    ensures unique { IsUnique position_eq places.now }
-{
-    places.iter().any(|(place, _)| place.col == col)
-}
-
-/// Whether a place in a row has a value.
-pub(crate) fn stands_in_row<T>(places: &HashMap<Position, T>, row: usize) -> bool
-    ensures value { result ≡ list_any (λ e. e.0.row == row) places.now.entries }
-    ensures unique { IsUnique position_eq places.now }
-{
-    places.iter().any(|(place, _)| place.row == row)
-}
-
 /// Makes room for the parts of a border.
 pub(crate) fn reserve<T>(
-    horizontal: &mut HashMap<Position, T>,
-    vertical: &mut HashMap<Position, T>,
-    corners: &mut HashMap<Position, T>,
+    horizontal: &mut Edges<T>,
+    vertical: &mut Edges<T>,
+    corners: &mut Corners<T>,
 ) -> Result<(), AllocError>
-    ensures same_horizontal { (q : Position) → map_get position_eq horizontal.new q ≡ map_get position_eq horizontal.old q }
-    ensures same_vertical { (q : Position) → map_get position_eq vertical.new q ≡ map_get position_eq vertical.old q }
-    ensures same_corners { (q : Position) → map_get position_eq corners.new q ≡ map_get position_eq corners.old q }
-    ensures room_horizontal { OnOk result (2 ≤ spare horizontal.new) }
-    ensures room_vertical { OnOk result (2 ≤ spare vertical.new) }
-    ensures room_corners { OnOk result (4 ≤ spare corners.new) }
+    ensures same_horizontal { (q : Position) → map_get position_eq horizontal.new.values q ≡ map_get position_eq horizontal.old.values q }
+    ensures same_vertical { (q : Position) → map_get position_eq vertical.new.values q ≡ map_get position_eq vertical.old.values q }
+    ensures same_corners { (q : Position) → map_get position_eq corners.new.values q ≡ map_get position_eq corners.old.values q }
+    ensures counted_horizontal { AreEdgesCounted Rows horizontal.old → AreEdgesCounted Rows horizontal.new }
+    ensures counted_vertical { AreEdgesCounted Columns vertical.old → AreEdgesCounted Columns vertical.new }
+    ensures counted_corners { AreCornersCounted corners.old → AreCornersCounted corners.new }
+    ensures room_horizontal { OnOk result (HasEdgeRoom 2 horizontal.new) }
+    ensures room_vertical { OnOk result (HasEdgeRoom 2 vertical.new) }
+    ensures room_corners { OnOk result (HasCornerRoom 4 corners.new) }
 {
     horizontal.reserve(2)?;
     vertical.reserve(2)?;
-    corners.reserve(4)?;
-    Ok(())
+    corners.reserve(4)
 }
 
 /// Writes the parts of a border that are set, where there is room.
 pub(crate) fn put_border<T: Drop>(
-    horizontal: &mut HashMap<Position, T>,
-    vertical: &mut HashMap<Position, T>,
-    corners: &mut HashMap<Position, T>,
+    horizontal: &mut Edges<T>,
+    vertical: &mut Edges<T>,
+    corners: &mut Corners<T>,
     pos: Position,
     border: Border<T>,
 )
     requires row { pos.row + 1 < 2 ^ 64 }
     requires col { pos.col + 1 < 2 ^ 64 }
-    requires room_horizontal { 2 ≤ spare horizontal.old }
-    requires room_vertical { 2 ≤ spare vertical.old }
-    requires room_corners { 4 ≤ spare corners.old }
-    ensures horizontal { (q : Position) → map_get position_eq horizontal.new q ≡ option_or (horizontal_part pos border q) (map_get position_eq horizontal.old q) }
-    ensures vertical { (q : Position) → map_get position_eq vertical.new q ≡ option_or (vertical_part pos border q) (map_get position_eq vertical.old q) }
-    ensures corners { (q : Position) → map_get position_eq corners.new q ≡ option_or (corner_part pos border q) (map_get position_eq corners.old q) }
+    requires room_horizontal { HasEdgeRoom 2 horizontal.old }
+    requires room_vertical { HasEdgeRoom 2 vertical.old }
+    requires room_corners { HasCornerRoom 4 corners.old }
+    requires counted_horizontal { AreEdgesCounted Rows horizontal.old }
+    requires counted_vertical { AreEdgesCounted Columns vertical.old }
+    requires counted_corners { AreCornersCounted corners.old }
+    ensures horizontal { (q : Position) → map_get position_eq horizontal.new.values q ≡ option_or (horizontal_part pos border q) (map_get position_eq horizontal.old.values q) }
+    ensures vertical { (q : Position) → map_get position_eq vertical.new.values q ≡ option_or (vertical_part pos border q) (map_get position_eq vertical.old.values q) }
+    ensures corners { (q : Position) → map_get position_eq corners.new.values q ≡ option_or (corner_part pos border q) (map_get position_eq corners.old.values q) }
+    ensures counted_horizontal { AreEdgesCounted Rows horizontal.new }
+    ensures counted_vertical { AreEdgesCounted Columns vertical.new }
+    ensures counted_corners { AreCornersCounted corners.new }
 {
     let below = Position::new(pos.row + 1, pos.col);
     let right_of = Position::new(pos.row, pos.col + 1);
     let opposite = Position::new(pos.row + 1, pos.col + 1);
-    put_part(horizontal, below, border.bottom);
-    put_part(horizontal, pos, border.top);
-    put_part(vertical, right_of, border.right);
-    put_part(vertical, pos, border.left);
-    put_part(corners, opposite, border.right_bottom_corner);
-    put_part(corners, below, border.left_bottom_corner);
-    put_part(corners, right_of, border.right_top_corner);
-    put_part(corners, pos, border.left_top_corner);
-}
-
-// Writes a part if it is set, where there is room.
-fn put_part<T: Drop>(map: &mut HashMap<Position, T>, place: Position, part: Option<T>)
-    requires room { 0 < spare map.old }
-    ensures written { (q : Position) → map_get position_eq map.new q ≡ option_or (at_place place q part) (map_get position_eq map.old q) }
-    ensures spare { spare map.old ≤ spare map.new + 1 }
-{
-    if let Some(value) = part {
-        put(map, place, value);
-    }
+    horizontal.put(Direction::Rows, below, border.bottom);
+    horizontal.put(Direction::Rows, pos, border.top);
+    vertical.put(Direction::Columns, right_of, border.right);
+    vertical.put(Direction::Columns, pos, border.left);
+    corners.put(opposite, border.right_bottom_corner);
+    corners.put(below, border.left_bottom_corner);
+    corners.put(right_of, border.right_top_corner);
+    corners.put(pos, border.left_top_corner);
 }
 
 /// Drops the edges and corners of a cell.
 pub(crate) fn take_border<T: Drop>(
-    horizontal: &mut HashMap<Position, T>,
-    vertical: &mut HashMap<Position, T>,
-    corners: &mut HashMap<Position, T>,
+    horizontal: &mut Edges<T>,
+    vertical: &mut Edges<T>,
+    corners: &mut Corners<T>,
     pos: Position,
 )
     requires row { pos.row + 1 < 2 ^ 64 }
     requires col { pos.col + 1 < 2 ^ 64 }
-    ensures horizontal { (q : Position) → map_get position_eq horizontal.new q ≡ (if position_eq pos q || position_eq (below pos) q then None else map_get position_eq horizontal.old q) }
-    ensures vertical { (q : Position) → map_get position_eq vertical.new q ≡ (if position_eq pos q || position_eq (right_of pos) q then None else map_get position_eq vertical.old q) }
-    ensures corners { (q : Position) → map_get position_eq corners.new q ≡
+    requires counted_horizontal { AreEdgesCounted Rows horizontal.old }
+    requires counted_vertical { AreEdgesCounted Columns vertical.old }
+    requires counted_corners { AreCornersCounted corners.old }
+    ensures horizontal { (q : Position) → map_get position_eq horizontal.new.values q ≡ (if position_eq pos q || position_eq (below pos) q then None else map_get position_eq horizontal.old.values q) }
+    ensures vertical { (q : Position) → map_get position_eq vertical.new.values q ≡ (if position_eq pos q || position_eq (right_of pos) q then None else map_get position_eq vertical.old.values q) }
+    ensures corners { (q : Position) → map_get position_eq corners.new.values q ≡
         (if (position_eq pos q || position_eq (right_of pos) q) || (position_eq (below pos) q || position_eq (below (right_of pos)) q) then None
-        else map_get position_eq corners.old q) }
+        else map_get position_eq corners.old.values q) }
+    ensures counted_horizontal { AreEdgesCounted Rows horizontal.new }
+    ensures counted_vertical { AreEdgesCounted Columns vertical.new }
+    ensures counted_corners { AreCornersCounted corners.new }
 {
     let below = Position::new(pos.row + 1, pos.col);
     let right_of = Position::new(pos.row, pos.col + 1);
     let opposite = Position::new(pos.row + 1, pos.col + 1);
-    take(horizontal, pos);
-    take(horizontal, below);
-    take(vertical, pos);
-    take(vertical, right_of);
-    take(corners, pos);
-    take(corners, right_of);
-    take(corners, below);
-    take(corners, opposite);
+    horizontal.take(Direction::Rows, pos);
+    horizontal.take(Direction::Rows, below);
+    vertical.take(Direction::Columns, pos);
+    vertical.take(Direction::Columns, right_of);
+    corners.take(pos);
+    corners.take(right_of);
+    corners.take(below);
+    corners.take(opposite);
 }

@@ -1,6 +1,6 @@
 //! Values for the edges, corners and lines of a table. Source: `config/spanned/borders_config.rs`.
 
-ghost use Rattle.std.specs.Prelude.{◌≡◌, ◌∷◌, [], ◌+◌, ◌<◌, ◌^◌, ◌↔◌, ◌++◌, List, ℕ, OnOk, OnErr, IfOk, IsTrue, EachIndex, false, length, nat_eq, option_copied, slice_index_or};
+ghost use Rattle.std.specs.Prelude.{◌≡◌, ◌∷◌, [], ◌+◌, ◌<◌, ◌^◌, ◌↔◌, ◌++◌, List, ℕ, OnOk, OnErr, IfOk, IsTrue, nat_eq, option_copied};
 ghost use Rattle.std.specs.HashMap.{get as map_get};
 ghost use Rattle.std.specs.FinMap.{get as value_at};
 ghost use Rattle.papergrid_values.specs.Borders.{border_map};
@@ -10,24 +10,25 @@ ghost use Rattle.papergrid_tables.specs.LineTests.{horizontal_line_at, vertical_
 ghost use Rattle.papergrid_tables.specs.Places.{IsBare, HasHorizontal, HasVertical, IsHorizontalSet, IsVerticalSet, found_border, found_horizontal, found_intersection, found_vertical};
 
 use crate::border_parts as parts;
-use crate::hashed::{take, write};
-use crate::line_marks::{Ends, mark_lines, mark_places};
-use papergrid_values::{Border, Borders, Direction, HorizontalLine, Position, VerticalLine};
+use crate::counted_lines::Lines;
+use crate::counted_places::{Corners, Edges};
+use papergrid_values::{Border, Borders, HorizontalLine, Position, VerticalLine};
 use std::alloc::{AllocError, Global};
 use std::collections::HashMap;
 use std::marker::Model;
 
 /// A value for all lines, a frame, horizontal lines by row, vertical lines by column, and the
-/// edges and corners of cells by position. Neighbouring cells share edges and corners.
+/// edges and corners of cells by position. Neighbouring cells share edges and corners. What is
+/// held on each line is counted, so that a line is found without a look at all of it.
 #[derive(Debug, Drop)]
 pub struct BorderTable<T> {
     global: Option<T>,
     frame: Borders<T>,
-    horizontal_lines: HashMap<usize, HorizontalLine<T>>,
-    vertical_lines: HashMap<usize, VerticalLine<T>>,
-    horizontal_edges: HashMap<Position, T>,
-    vertical_edges: HashMap<Position, T>,
-    corners: HashMap<Position, T>,
+    horizontal_lines: Lines<HorizontalLine<T>>,
+    vertical_lines: Lines<VerticalLine<T>>,
+    horizontal_edges: Edges<T>,
+    vertical_edges: Edges<T>,
+    corners: Corners<T>,
 }
 
 impl<T> Model for BorderTable<T> {
@@ -42,12 +43,16 @@ impl<T> Model for BorderTable<T> {
     ghost view = { λ t. record {
       global = t.global;
       frame = t.frame;
-      horizontal_lines = map.from_entries t.horizontal_lines.entries;
-      vertical_lines = map.from_entries t.vertical_lines.entries;
-      horizontal_edges = map.from_entries t.horizontal_edges.entries;
-      vertical_edges = map.from_entries t.vertical_edges.entries;
-      corners = map.from_entries t.corners.entries;
+      horizontal_lines = map.from_entries t.horizontal_lines.values.entries;
+      vertical_lines = map.from_entries t.vertical_lines.values.entries;
+      horizontal_edges = map.from_entries t.horizontal_edges.values.entries;
+      vertical_edges = map.from_entries t.vertical_edges.values.entries;
+      corners = map.from_entries t.corners.values.entries;
     } };
+
+    ghost use Rattle.papergrid_tables.specs.ForProofs.CountedTable.{IsCounted};
+
+    ghost invariant = { λ t. IsCounted t.horizontal_lines t.vertical_lines t.horizontal_edges t.vertical_edges t.corners };
 }
 
 impl<T> BorderTable<T> {
@@ -59,11 +64,11 @@ impl<T> BorderTable<T> {
         BorderTable {
             global: None,
             frame: Borders::empty(),
-            horizontal_lines: HashMap::new(alloc),
-            vertical_lines: HashMap::new(alloc),
-            horizontal_edges: HashMap::new(alloc),
-            vertical_edges: HashMap::new(alloc),
-            corners: HashMap::new(alloc),
+            horizontal_lines: Lines::new(alloc),
+            vertical_lines: Lines::new(alloc),
+            horizontal_edges: Edges::new(alloc),
+            vertical_edges: Edges::new(alloc),
+            corners: Corners::new(alloc),
         }
     }
 
@@ -74,11 +79,11 @@ impl<T> BorderTable<T> {
     {
         let global = self.global.is_none();
         let frame = self.frame.is_empty();
-        let horizontal_lines = self.horizontal_lines.is_empty();
-        let vertical_lines = self.vertical_lines.is_empty();
-        let horizontal_edges = self.horizontal_edges.is_empty();
-        let vertical_edges = self.vertical_edges.is_empty();
-        let corners = self.corners.is_empty();
+        let horizontal_lines = self.horizontal_lines.values.is_empty();
+        let vertical_lines = self.vertical_lines.values.is_empty();
+        let horizontal_edges = self.horizontal_edges.values.is_empty();
+        let vertical_edges = self.vertical_edges.values.is_empty();
+        let corners = self.corners.values.is_empty();
         let lines = horizontal_lines & vertical_lines;
         let edges = horizontal_edges & (vertical_edges & corners);
         global & (frame & (lines & edges))
@@ -90,8 +95,9 @@ impl<T> BorderTable<T> {
         ensures { option_copied result ≡ found_vertical (places_of self.now) pos count }
     {
         self.vertical_edges
+            .values
             .get(&pos)
-            .or(parts::vertical_main(&self.vertical_lines, pos.col))
+            .or(parts::vertical_main(&self.vertical_lines.values, pos.col))
             .or(parts::frame_vertical(&self.frame, pos.col, count))
             .or(self.global.as_ref())
     }
@@ -101,8 +107,9 @@ impl<T> BorderTable<T> {
         ensures { option_copied result ≡ found_horizontal (places_of self.now) pos count }
     {
         self.horizontal_edges
+            .values
             .get(&pos)
-            .or(parts::horizontal_main(&self.horizontal_lines, pos.row))
+            .or(parts::horizontal_main(&self.horizontal_lines.values, pos.row))
             .or(parts::frame_horizontal(&self.frame, pos.row, count))
             .or(self.global.as_ref())
     }
@@ -114,9 +121,10 @@ impl<T> BorderTable<T> {
         ensures { option_copied result ≡ found_intersection (places_of self.now) pos shape.0 shape.1 }
     {
         self.corners
+            .values
             .get(&pos)
-            .or(parts::of_horizontal_line(&self.horizontal_lines, pos, shape.1))
-            .or(parts::of_vertical_line(&self.vertical_lines, pos, shape.0))
+            .or(parts::of_horizontal_line(&self.horizontal_lines.values, pos, shape.1))
+            .or(parts::of_vertical_line(&self.vertical_lines.values, pos, shape.0))
             .or(parts::of_frame(&self.frame, pos, shape))
             .or(self.global.as_ref())
     }
@@ -148,14 +156,14 @@ impl<T> BorderTable<T> {
     pub fn get_horizontal_line(&self, row: usize) -> Option<&HorizontalLine<T>>
         ensures { option_copied result ≡ value_at self.now.horizontal_lines row }
     {
-        self.horizontal_lines.get(&row)
+        self.horizontal_lines.values.get(&row)
     }
 
     /// The vertical line held at a column.
     pub fn get_vertical_line(&self, col: usize) -> Option<&VerticalLine<T>>
         ensures { option_copied result ≡ value_at self.now.vertical_lines col }
     {
-        self.vertical_lines.get(&col)
+        self.vertical_lines.values.get(&col)
     }
 
     /// The frame.
@@ -233,16 +241,16 @@ impl<T> BorderTable<T> {
     pub fn is_vertical_set(&self, col: usize, count: usize) -> bool
         ensures { IsTrue result ↔ IsVerticalSet (places_of self.now) col count }
     {
-        if parts::ends_at_column(&self.horizontal_lines, col, count) {
+        if self.horizontal_lines.reach(col, count) {
             return true;
         }
-        if self.vertical_lines.contains_key(&col) {
+        if self.vertical_lines.values.contains_key(&col) {
             return true;
         }
-        if parts::stands_in_column(&self.vertical_edges, col) {
+        if self.vertical_edges.on_lines.holds(col) {
             return true;
         }
-        parts::stands_in_column(&self.corners, col)
+        self.corners.in_columns.holds(col)
     }
 
     /// Whether a horizontal line, an edge or a corner is held at a row, where there are so many
@@ -250,61 +258,16 @@ impl<T> BorderTable<T> {
     pub fn is_horizontal_set(&self, row: usize, count: usize) -> bool
         ensures { IsTrue result ↔ IsHorizontalSet (places_of self.now) row count }
     {
-        if parts::ends_at_row(&self.vertical_lines, row, count) {
+        if self.vertical_lines.reach(row, count) {
             return true;
         }
-        if self.horizontal_lines.contains_key(&row) {
+        if self.horizontal_lines.values.contains_key(&row) {
             return true;
         }
-        if parts::stands_in_row(&self.horizontal_edges, row) {
+        if self.horizontal_edges.on_lines.holds(row) {
             return true;
         }
-        parts::stands_in_row(&self.corners, row)
-    }
-
-    /// Tells of each vertical line from the first on, as many as there are marks, whether it is
-    /// there in a table of so many columns. All lines are answered by one look at each edge and
-    /// corner held. Condition: their numbers exist in `usize`.
-    pub fn mark_vertical(&self, first: usize, count: usize, marks: &mut [bool])
-        requires { first + length marks.old < 2 ^ 64 }
-        ensures length { length marks.new ≡ length marks.old }
-        ensures marks { EachIndex marks.new (λ k. slice_index_or marks.new k false ≡ vertical_line_at self.now (first + k) count) }
-    {
-        if self.global.is_some() {
-            marks.fill(true);
-            return;
-        }
-        let frame = &self.frame;
-        let ends = Ends {
-            first: frame.has_left() | parts::any_left(&self.horizontal_lines),
-            end: frame.has_right() | parts::any_right(&self.horizontal_lines),
-            inner: frame.has_vertical(),
-        };
-        mark_lines(&self.vertical_lines, ends, first, count, marks);
-        mark_places(&self.vertical_edges, Direction::Columns, first, marks);
-        mark_places(&self.corners, Direction::Columns, first, marks);
-    }
-
-    /// Tells of each horizontal line from the first on, as many as there are marks, whether it is
-    /// there in a table of so many rows, likewise.
-    pub fn mark_horizontal(&self, first: usize, count: usize, marks: &mut [bool])
-        requires { first + length marks.old < 2 ^ 64 }
-        ensures length { length marks.new ≡ length marks.old }
-        ensures marks { EachIndex marks.new (λ k. slice_index_or marks.new k false ≡ horizontal_line_at self.now (first + k) count) }
-    {
-        if self.global.is_some() {
-            marks.fill(true);
-            return;
-        }
-        let frame = &self.frame;
-        let ends = Ends {
-            first: frame.has_top() | parts::any_top(&self.vertical_lines),
-            end: frame.has_bottom() | parts::any_bottom(&self.vertical_lines),
-            inner: frame.has_horizontal(),
-        };
-        mark_lines(&self.horizontal_lines, ends, first, count, marks);
-        mark_places(&self.horizontal_edges, Direction::Rows, first, marks);
-        mark_places(&self.corners, Direction::Rows, first, marks);
+        self.corners.in_rows.holds(row)
     }
 }
 
@@ -357,7 +320,7 @@ impl<T: Drop> BorderTable<T> {
         ensures ok { OnOk result (Appends self.old self.new (InsertHorizontalLine row line ∷ [])) }
         ensures err { OnErr result (self.new ≡ self.old) }
     {
-        write(&mut self.horizontal_lines, row, line)
+        self.horizontal_lines.put(row, line)
     }
 
     /// Sets the vertical line at a column, in place of the one held. Where memory is refused the
@@ -370,21 +333,21 @@ impl<T: Drop> BorderTable<T> {
         ensures ok { OnOk result (Appends self.old self.new (InsertVerticalLine col line ∷ [])) }
         ensures err { OnErr result (self.new ≡ self.old) }
     {
-        write(&mut self.vertical_lines, col, line)
+        self.vertical_lines.put(col, line)
     }
 
     /// Removes the horizontal line at a row, whatever the number of rows.
     pub fn remove_horizontal_line(&mut self, row: usize, _count: usize)
         ensures { Appends self.old self.new (RemoveHorizontalLine row ∷ []) }
     {
-        take(&mut self.horizontal_lines, row);
+        self.horizontal_lines.take(row);
     }
 
     /// Removes the vertical line at a column, whatever the number of columns.
     pub fn remove_vertical_line(&mut self, col: usize, _count: usize)
         ensures { Appends self.old self.new (RemoveVerticalLine col ∷ []) }
     {
-        take(&mut self.vertical_lines, col);
+        self.vertical_lines.take(col);
     }
 
     /// Sets the frame.
@@ -409,7 +372,7 @@ impl<T: Clone> BorderTable<T> {
         requires equal_clones { (x y : T) → T.is_clone x y → y ≡ x }
         ensures { IfOk result (λ all. (n : ℕ) → map_get nat_eq all n ≡ value_at self.now.horizontal_lines n) }
     {
-        self.horizontal_lines.clone()
+        self.horizontal_lines.values.clone()
     }
 
     /// All vertical lines that are held, or want of memory. Condition: a clone of a value equals
@@ -418,7 +381,7 @@ impl<T: Clone> BorderTable<T> {
         requires equal_clones { (x y : T) → T.is_clone x y → y ≡ x }
         ensures { IfOk result (λ all. (n : ℕ) → map_get nat_eq all n ≡ value_at self.now.vertical_lines n) }
     {
-        self.vertical_lines.clone()
+        self.vertical_lines.values.clone()
     }
 }
 
@@ -449,11 +412,11 @@ impl<T: PartialEq> PartialEq for BorderTable<T> {
     fn eq(&self, other: &BorderTable<T>) -> bool {
         let global = self.global == other.global;
         let frame = self.frame == other.frame;
-        let horizontal_lines = self.horizontal_lines == other.horizontal_lines;
-        let vertical_lines = self.vertical_lines == other.vertical_lines;
-        let horizontal_edges = self.horizontal_edges == other.horizontal_edges;
-        let vertical_edges = self.vertical_edges == other.vertical_edges;
-        let corners = self.corners == other.corners;
+        let horizontal_lines = self.horizontal_lines.values == other.horizontal_lines.values;
+        let vertical_lines = self.vertical_lines.values == other.vertical_lines.values;
+        let horizontal_edges = self.horizontal_edges.values == other.horizontal_edges.values;
+        let vertical_edges = self.vertical_edges.values == other.vertical_edges.values;
+        let corners = self.corners.values == other.corners.values;
         let edges = horizontal_edges & (vertical_edges & corners);
         global & (frame & (horizontal_lines & (vertical_lines & edges)))
     }

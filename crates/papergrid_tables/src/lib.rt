@@ -4,9 +4,11 @@
 
 mod border_parts;
 pub mod border_table;
+mod counted_lines;
+mod counted_places;
 pub mod hashed;
 pub mod laws;
-mod line_marks;
+mod line_counts;
 pub mod offset_table;
 
 pub use border_table::BorderTable;

@@ -27,17 +27,30 @@ fn removed_border_over_line(rt: HostRuntime) -> Result<(), Fail> {
 }
 
 #[test]
-fn marked_lines(rt: HostRuntime) -> Result<(), Fail> {
+fn overwritten_line(rt: HostRuntime) -> Result<(), Fail> {
     let mut table = BorderTable::new(rt.alloc());
-    table.insert_vertical_line(2, VerticalLine::filled('v'))?;
-    table.insert_border(at(0, 3), Border::filled('x'))?;
-    let mut marks = [true; 4];
-    table.mark_vertical(1, 5, &mut marks);
-    assert_eq!(rt; marks, [false, true, true, true]);
-    table.mark_horizontal(0, 5, &mut marks);
-    assert_eq!(rt; marks, [true, true, false, false]);
-    table.mark_horizontal(3, 5, &mut marks);
-    assert_eq!(rt; marks, [false, false, true, false]);
+    let line = HorizontalLine::new(Some('-'), None, Some('+'), None);
+    table.insert_horizontal_line(1, line)?;
+    assert!(rt; table.has_vertical(0, 3) && !table.has_vertical(3, 3));
+    let line = HorizontalLine::new(None, None, None, None);
+    table.insert_horizontal_line(1, line)?;
+    assert!(rt; !table.has_vertical(0, 3) && table.has_horizontal(1, 2));
+    let copy = table.clone()?;
+    table.remove_horizontal_line(2, 2);
+    assert!(rt; table == copy);
+    assert!(rt; !table.has_vertical(0, 3) && table.has_horizontal(1, 2));
+    Ok(())
+}
+
+#[test]
+fn border_twice_then_removed(rt: HostRuntime) -> Result<(), Fail> {
+    let mut table = BorderTable::new(rt.alloc());
+    table.insert_border(at(0, 0), Border::filled('x'))?;
+    table.insert_border(at(0, 0), Border::filled('x'))?;
+    assert!(rt; sets_first_lines(&table, 10, 2));
+    table.remove_border(at(0, 0), (1, 1));
+    assert!(rt; table == BorderTable::new(rt.alloc()) && table.is_empty());
+    assert!(rt; sets_first_lines(&table, 10, 0));
     Ok(())
 }
 
@@ -187,6 +200,21 @@ fn refused_borders(rt: HostRuntime) {
         Ok(()) => assert_eq!(rt; table.get_vertical(at(8, 3), 9), Some(&'v')),
         Err(_) => assert!(rt; table == copy),
     }
+}
+
+// The first border needs room for its parts and for each count of them.
+#[test]
+fn refused_growth(rt: HostRuntime) {
+    let mut table = BorderTable::new(rt.alloc());
+    if table.insert_border(at(0, 0), Border::filled('x')).is_err() {
+        assert!(rt; table.is_empty() && sets_first_lines(&table, 10, 0));
+        if table.insert_border(at(0, 0), Border::filled('x')).is_err() {
+            return;
+        }
+    }
+    assert!(rt; sets_first_lines(&table, 10, 2));
+    table.remove_border(at(0, 0), (1, 1));
+    assert!(rt; table.is_empty() && sets_first_lines(&table, 10, 0));
 }
 
 #[test]

@@ -21,5 +21,5 @@ returns g c =
       left = part_copy (by_variants g.row.T g.T.Clone g.T.Clone-dict g.T.Destruct-dict) (λ x k. k) (λ x k. k) same x.left y.left h.1.1.0 i;
       right = part_copy (by_variants g.row.T g.T.Clone g.T.Clone-dict g.T.Destruct-dict) (λ x k. k) (λ x k. k) same x.right y.right h.1.1.1 i;
     }) _ _ copies)
-    ∙ sym (get_at_number c.self.inside.horizontal_lines.entries n))
+    ∙ sym (get_at_number c.self.inside.horizontal_lines.values.entries n))
     (ok_part c.clone.result _ _ c.clone.ensures.cases))

@@ -21,5 +21,5 @@ returns g c =
       top = part_copy (by_variants g.row.T g.T.Clone g.T.Clone-dict g.T.Destruct-dict) (λ x k. k) (λ x k. k) same x.top y.top h.1.1.0 i;
       bottom = part_copy (by_variants g.row.T g.T.Clone g.T.Clone-dict g.T.Destruct-dict) (λ x k. k) (λ x k. k) same x.bottom y.bottom h.1.1.1 i;
     }) _ _ copies)
-    ∙ sym (get_at_number c.self.inside.vertical_lines.entries n))
+    ∙ sym (get_at_number c.self.inside.vertical_lines.values.entries n))
     (ok_part c.clone.result _ _ c.clone.ensures.cases))

@@ -7,13 +7,13 @@ use Rattle.papergrid_tables.proofs.border_table.BorderTable.insert_border.Goals 
 
 pub returns-in_err-reserve-clause-err : goal.returns-in_err-reserve-clause-err
 returns-in_err-reserve-clause-err g c =
-    on_err _ (same_table c.self.inside.global c.self.inside.frame c.self.inside.horizontal_lines.entries c.self.inside.vertical_lines.entries c.self.inside.horizontal_edges.entries c.self.inside.vertical_edges.entries c.self.inside.corners.entries _ _ _ c.reserve.ensures.same_horizontal c.reserve.ensures.same_vertical c.reserve.ensures.same_corners ∙ c.self.view_is)
+    on_err _ (same_table c.self.inside.global c.self.inside.frame c.self.inside.horizontal_lines.values.entries c.self.inside.vertical_lines.values.entries c.self.inside.horizontal_edges.values.entries c.self.inside.vertical_edges.values.entries c.self.inside.corners.values.entries _ _ _ c.reserve.ensures.same_horizontal c.reserve.ensures.same_vertical c.reserve.ensures.same_corners ∙ c.self.view_is)
 
 pub returns-clause-ok : goal.returns-clause-ok
 returns-clause-ok g c =
     rw (← c.self.view_is)
-    (told_insert_border c.self.inside.global c.self.inside.frame c.self.inside.horizontal_lines.entries c.self.inside.vertical_lines.entries c.self.inside.horizontal_edges.entries c.self.inside.vertical_edges.entries c.self.inside.corners.entries
-    c.put_border.new.horizontal.entries c.put_border.new.vertical.entries c.put_border.new.corners.entries c.args.pos c.args.border
+    (told_insert_border c.self.inside.global c.self.inside.frame c.self.inside.horizontal_lines.values.entries c.self.inside.vertical_lines.values.entries c.self.inside.horizontal_edges.values.entries c.self.inside.vertical_edges.values.entries c.self.inside.corners.values.entries
+    c.put_border.new.horizontal.values.entries c.put_border.new.vertical.values.entries c.put_border.new.corners.values.entries c.args.pos c.args.border
     (λ q. c.put_border.ensures.horizontal q ∙ ap (option_or (horizontal_part c.args.pos c.args.border q)) (c.reserve.ensures.same_horizontal q))
     (λ q. c.put_border.ensures.vertical q ∙ ap (option_or (vertical_part c.args.pos c.args.border q)) (c.reserve.ensures.same_vertical q))
     (λ q. c.put_border.ensures.corners q ∙ ap (option_or (corner_part c.args.pos c.args.border q)) (c.reserve.ensures.same_corners q)))

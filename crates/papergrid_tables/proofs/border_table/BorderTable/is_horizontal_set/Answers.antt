@@ -1,20 +1,24 @@
+use Rattle.papergrid_values.specs.declared.direction.Direction.TheVariants.{Rows}
 use Rattle.papergrid_values.specs.declared.vertical_line.VerticalLine.{VerticalLine}
-use Rattle.papergrid_tables.proofs.BorderFound.{decided_by_fourth, ends_scan, holds_first, holds_second, holds_third, key_scan, places_scan}
+use Rattle.papergrid_tables.proofs.BorderFound.{decided_by_fourth, holds_first, holds_second, holds_third, key_scan}
+use Rattle.papergrid_tables.proofs.CountedFound.{ends_counted, places_counted}
 use Rattle.papergrid_tables.proofs.border_table.BorderTable.is_horizontal_set.Goals as goal
 
-pub returns-then-ends_at_row : goal.returns-then-ends_at_row
-returns-then-ends_at_row g c = rw (← c.self.view_is) (holds_first _ (ends_scan (λ (l : VerticalLine g.row.T.Denot). l.top) (λ (l : VerticalLine g.row.T.Denot). l.bottom) c.args.row c.args.count c.self.inside.vertical_lines.entries _ c.ends_at_row.ensures.value c.ends_at_row.ensures.unique) c.if-ends_at_row.true)
+pub returns-then-reach : goal.returns-then-reach
+returns-then-reach g c = rw (← c.self.view_is) (holds_first _
+    (ends_counted (λ (l : VerticalLine g.row.T.Denot). l.top) (λ (l : VerticalLine g.row.T.Denot). l.bottom) c.args.row c.args.count c.self.inside.vertical_lines _ c.self.invariant.ends_of_vertical c.reach.ensures) c.if-reach.true)
 
 pub returns-then-contains_key : goal.returns-then-contains_key
-returns-then-contains_key g c = rw (← c.self.view_is) (holds_second _ (key_scan c.self.inside.horizontal_lines.entries c.args.row _ c.contains_key.ensures) c.if-contains_key.true)
+returns-then-contains_key g c = rw (← c.self.view_is) (holds_second _ (key_scan c.self.inside.horizontal_lines.values.entries c.args.row _ c.contains_key.ensures) c.if-contains_key.true)
 
-pub returns-then-stands_in_row : goal.returns-then-stands_in_row
-returns-then-stands_in_row g c = rw (← c.self.view_is) (holds_third _ (places_scan (λ p. p.row) c.args.row c.self.inside.horizontal_edges.entries _ c.stands_in_row.ensures.value c.stands_in_row.ensures.unique) c.if-stands_in_row.true)
+pub returns-then-holds : goal.returns-then-holds
+returns-then-holds g c = rw (← c.self.view_is) (holds_third _
+    (places_counted Rows c.args.row c.self.inside.horizontal_edges.values c.self.inside.horizontal_edges.on_lines.counts _ c.self.invariant.rows_of_edges c.holds.ensures) c.if-holds.true)
 
 pub returns : goal.returns
 returns g c = rw (← c.self.view_is) (decided_by_fourth _ _ _ _
-    (ends_scan (λ (l : VerticalLine g.row.T.Denot). l.top) (λ (l : VerticalLine g.row.T.Denot). l.bottom) c.args.row c.args.count c.self.inside.vertical_lines.entries _ c.ends_at_row.ensures.value c.ends_at_row.ensures.unique)
-    (key_scan c.self.inside.horizontal_lines.entries c.args.row _ c.contains_key.ensures)
-    (places_scan (λ p. p.row) c.args.row c.self.inside.horizontal_edges.entries _ c.stands_in_row.ensures.value c.stands_in_row.ensures.unique)
-    (places_scan (λ p. p.row) c.args.row c.self.inside.corners.entries _ c.stands_in_row-2.ensures.value c.stands_in_row-2.ensures.unique)
-    c.if-ends_at_row.false c.if-contains_key.false c.if-stands_in_row.false)
+    (ends_counted (λ (l : VerticalLine g.row.T.Denot). l.top) (λ (l : VerticalLine g.row.T.Denot). l.bottom) c.args.row c.args.count c.self.inside.vertical_lines _ c.self.invariant.ends_of_vertical c.reach.ensures)
+    (key_scan c.self.inside.horizontal_lines.values.entries c.args.row _ c.contains_key.ensures)
+    (places_counted Rows c.args.row c.self.inside.horizontal_edges.values c.self.inside.horizontal_edges.on_lines.counts _ c.self.invariant.rows_of_edges c.holds.ensures)
+    (places_counted Rows c.args.row c.self.inside.corners.values c.self.inside.corners.in_rows.counts _ c.self.invariant.lines_of_corners.0 c.holds-2.ensures)
+    c.if-reach.false c.if-contains_key.false c.if-holds.false)

@@ -2,4 +2,4 @@ use Rattle.papergrid_tables.proofs.BorderTold.{told_remove_vertical_line}
 use Rattle.papergrid_tables.proofs.border_table.BorderTable.remove_vertical_line.Goals as goal
 
 pub returns : goal.returns
-returns g c = rw (← c.self.view_is) (told_remove_vertical_line c.self.inside.global c.self.inside.frame c.self.inside.horizontal_lines.entries c.self.inside.vertical_lines.entries c.self.inside.horizontal_edges.entries c.self.inside.vertical_edges.entries c.self.inside.corners.entries _ c.args.col c.take.ensures.0)
+returns g c = rw (← c.self.view_is) (told_remove_vertical_line c.self.inside.global c.self.inside.frame c.self.inside.horizontal_lines.values.entries c.self.inside.vertical_lines.values.entries c.self.inside.horizontal_edges.values.entries c.self.inside.vertical_edges.values.entries c.self.inside.corners.values.entries _ c.args.col c.take.ensures.taken.0)

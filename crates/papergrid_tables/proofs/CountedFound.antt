@@ -1,0 +1,75 @@
+-- What the counts of a border table tell of its lines.
+use Rattle.std.proofs.Common.{◌≡◌, ℕ, ◌+◌, Bool, true, false, ◌&&◌, cond, List, [], ◌∷◌, eqb, Option, Some, refl, sym, ap, ◌∙◌, arith}
+use Rattle.std.specs.Prelude.{◌||◌, ◌↔◌, IsTrue, IsSome, is_some, nat_lt}
+use Rattle.std.specs.Ordering.{nat_cmp}
+use Rattle.std.specs.FinMap.{get, from_entries}
+use Rattle.std.specs.HashMap.{HashMap, keys}
+use Rattle.std.specs.List.{count_by, list_any}
+use Rattle.std.specs.Map.{keys_of, values_of}
+use Rattle.std.proofs.lemmas.Bool.{eqb-true, eq-eqb}
+use Rattle.std.proofs.lemmas.Grind.{common_steps}
+use Rattle.std.proofs.lemmas.List.Sums.{sum_by-cons}
+use Rattle.papergrid_values.specs.Positions.{along}
+use Rattle.papergrid_values.specs.declared.direction.Direction.{Direction}
+use Rattle.papergrid_values.specs.declared.position.Position.{Position}
+use Rattle.papergrid_tables.specs.BorderScan.{has_end}
+use Rattle.papergrid_tables.specs.ForProofs.CountedLines.{AreEndsCounted}
+use Rattle.papergrid_tables.specs.ForProofs.Counts.{AreCounts, count_of}
+use Rattle.papergrid_tables.specs.Keys.{position_cmp}
+use Rattle.papergrid_tables.specs.Places.{HasEnd}
+use Rattle.papergrid_tables.specs.declared.counted_lines.Lines.{Lines}
+use Rattle.papergrid_tables.proofs.AnyLemmas.{any_from_found, some_key}
+use Rattle.papergrid_tables.proofs.BorderFound.{ends_scan, some_value}
+use Rattle.papergrid_tables.proofs.KeyLemmas.{exact_position_eq, get_at_position, position_equiv}
+
+-- a count is above 0 where something is counted
+one_first : (b : Bool) (n : ℕ) (rest : Bool) → nat_lt 0 n ≡ rest → nat_lt 0 (cond b 1 0 + n) ≡ (b || rest)
+one_first true n rest h = grind (arith, common_steps)
+one_first false n rest h = let same : 0 + n ≡ n = omega arith in ap (nat_lt 0) same ∙ h
+
+any_counted : {A : Type 0} (test : A → Bool) (xs : List A) → nat_lt 0 (count_by test xs) ≡ list_any test xs
+any_counted test [] = refl
+any_counted test (x ∷ xs) =
+    ap (nat_lt 0) (sum_by-cons (λ y. cond (test y) 1 0) x xs) ∙ one_first (test x) (count_by test xs) (list_any test xs) (any_counted test xs)
+
+module _ {K X : Type 0} where
+  by_key : (test : K → Bool) (es : List (K × X)) → list_any test (keys_of es) ≡ list_any (λ e. test e.0) es
+  by_key test [] = refl
+  by_key test (e ∷ es) = ap (λ b. test e.0 || b) (by_key test es)
+
+  by_value : (test : X → Bool) (es : List (K × X)) → list_any test (values_of es) ≡ list_any (λ e. test e.1) es
+  by_value test [] = refl
+  by_value test (e ∷ es) = ap (λ b. test e.1 || b) (by_value test es)
+
+-- some line's end here or there
+ends_apart : (x y a b u v : Bool) → (((x && a) || (y && b)) || ((x && u) || (y && v))) ≡ ((x && (a || u)) || (y && (b || v)))
+ends_apart x y a b u v = grind arith
+
+any_end : {L T : Type 0} (first end : L → Option T) (place count : ℕ) (es : List (ℕ × L))
+    → list_any (λ e. has_end place count (first e.1) (end e.1)) es ≡ ((eqb place 0 && list_any (λ e. is_some (first e.1)) es) || (eqb place count && list_any (λ e. is_some (end e.1)) es))
+any_end first end place count [] = grind arith
+any_end first end place count (e ∷ es) =
+    ap (λ b. has_end place count (first e.1) (end e.1) || b) (any_end first end place count es) ∙ ends_apart (eqb place 0) (eqb place count) _ _ _ _
+
+-- an end of a line
+pub ends_counted : {L T : Type 0} (first end : L → Option T) (place count : ℕ) (lines : Lines L) (b : Bool) → AreEndsCounted (λ line. is_some (first line)) (λ line. is_some (end line)) lines
+    → b ≡ ((eqb place 0 && nat_lt 0 lines.first_ends) || (eqb place count && nat_lt 0 lines.last_ends))
+    → IsTrue b ↔ ((n : ℕ) × (line : L) × (get (from_entries {R = nat_cmp} lines.values.entries) n ≡ Some line) × HasEnd place count (first line) (end line))
+ends_counted first end place count lines b counted is =
+    let es = lines.values.entries in
+    let firsts = ap (nat_lt 0) counted.first ∙ any_counted _ (values_of es) ∙ by_value (λ line. is_some (first line)) es in
+    let lasts = ap (nat_lt 0) counted.last ∙ any_counted _ (values_of es) ∙ by_value (λ line. is_some (end line)) es in
+    ends_scan first end place count es b (is ∙ (λ i. (eqb place 0 && firsts i) || (eqb place count && lasts i)) ∙ sym (any_end first end place count es)) counted.unique
+
+-- a place in a row or a column
+pub places_counted : {T R S : Type 0} (direction : Direction) (n : ℕ) (places : HashMap Position T R) (counts : HashMap ℕ ℕ S) (b : Bool)
+    → AreCounts direction counts (keys places) → b ≡ nat_lt 0 (count_of counts n)
+    → IsTrue b ↔ ((p : Position) × (along direction p ≡ n) × IsSome (get (from_entries {R = position_cmp} places.entries) p))
+places_counted direction n places counts b counted is =
+    let test = λ (p : Position). eqb (along direction p) n in
+    let any = is ∙ ap (nat_lt 0) (counted n) ∙ any_counted test (keys places) in (
+      (λ h. let found = some_key position_equiv test places.entries (sym any ∙ h) in (found.0, eqb-true _ _ found.1, ap is_some (get_at_position places.entries found.0) ∙ found.2)),
+      (λ h. let held = some_value (get (from_entries {R = position_cmp} places.entries) h.0) h.2 in
+          any ∙ by_key test places.entries
+          ∙ any_from_found position_equiv (λ e. test e.0) places.entries exact_position_eq h.0 held.0 (sym (get_at_position places.entries h.0) ∙ held.1) (eq-eqb _ _ h.1)),
+    )
