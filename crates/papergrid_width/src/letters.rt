@@ -1,11 +1,15 @@
 //! The width of a text of letters that have two bytes, and of printable ASCII.
 
-ghost use Rattle.std.specs.Prelude.{◌≡◌, ◌*◌, ◌≤◌, chars, false, length, IfSome};
+ghost use Rattle.std.specs.Prelude.{◌≡◌, ◌*◌, ◌≤◌, chars, false, length, IfSome, MatchOption};
+ghost use Rattle.std.specs.List.{list_all};
+ghost use Rattle.papergrid_width.specs.ForProofs.Letters.{is_letter_byte};
 ghost use Rattle.unicode_width.specs.Width.{str_width};
 
 use unicode_width::UnicodeWidthStr;
 
 /// The width of a text that may be such letters alone.
+// Out of line, so that the code for printable texts stays small.
+#[inline(never)]
 pub fn width_by_letters(text: &str) -> usize
     ensures value { result ≡ str_width false (chars text.now) }
     ensures bound { result ≤ 2 * length text.now }
@@ -19,7 +23,8 @@ pub fn width_by_letters(text: &str) -> usize
 // The width of a text of printable ASCII and of Latin, Greek and Cyrillic letters, which take a column
 // each, or `None` where it may have something else. Of the letters the long ranges are told.
 fn letter_width(text: &str) -> Option<usize>
-    ensures value { IfSome result (λ width. width ≡ str_width false (chars text.now)) }
+    ensures value { MatchOption result (list_all is_letter_byte text.now ≡ false)
+        (λ width. width ≡ str_width false (chars text.now)) }
     ensures bound { IfSome result (λ width. width ≤ length text.now) }
 {
     let mut width = 0usize;

@@ -12,6 +12,8 @@ use unicode_width::UnicodeWidthStr;
 
 /// The width of a text. Its runs of printable ASCII are as wide as they are long, and what stands between
 /// them is measured by itself.
+// Out of line, so that the code for short texts stays small.
+#[inline(never)]
 pub fn width_by_runs(text: &str) -> usize
     ensures { result ≡ str_width false (chars text.now) }
 {
