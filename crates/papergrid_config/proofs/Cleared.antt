@@ -1,0 +1,18 @@
+-- A configuration whose table of characters, or of colours, is a new one.
+use Rattle.std.proofs.Common.{ℕ, arith, List, [], ◌∷◌, ◌++◌}
+use Rattle.std.proofs.lemmas.Grind.{common_steps}
+use Rattle.papergrid_values.specs.declared.ansi_buf.ANSIBuf.{ANSIBuf}
+use Rattle.papergrid_tables.specs.BorderCalls.{BorderCall, Clear}
+use Rattle.papergrid_tables.specs.BorderHeld.{HeldBorders}
+use Rattle.papergrid_tables.specs.BorderHeld as lines
+use Rattle.papergrid_config.specs.Told.{Appends}
+use Rattle.papergrid_config.specs.declared.setting.Setting.TheVariants.{RemoveBorders, RemoveBordersColors}
+use Rattle.papergrid_config.specs.declared.spanned.SpannedConfig.{SpannedConfig}
+
+pub characters_cleared : (config : SpannedConfig) (table : HeldBorders ℕ) → ((calls : List (BorderCall ℕ)) → lines.IsTold (calls ++ Clear ∷ []) table)
+    → Appends config (record config { characters = table }) (RemoveBorders ∷ [])
+characters_cleared config table cleared settings told = grind (arith, common_steps)
+
+pub colors_cleared : (config : SpannedConfig) (table : HeldBorders ANSIBuf) → ((calls : List (BorderCall ANSIBuf)) → lines.IsTold (calls ++ Clear ∷ []) table)
+    → Appends config (record config { colors = table }) (RemoveBordersColors ∷ [])
+colors_cleared config table cleared settings told = grind (arith, common_steps)
