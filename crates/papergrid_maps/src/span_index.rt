@@ -186,9 +186,12 @@ fn key_of(direction: Direction, pos: Position) -> Position
     }
 }
 
-// Whether a span of the key's line begins before the key and reaches it.
+// Whether a span of the key's line begins before the key and reaches it. What the range has stands
+// before the key, so that no difference is cut off.
 fn reaches_key(spans: &BTreeMap<Position, usize>, key: Position) -> bool
-    ensures { result ≡ list_any (λ e. nat_lt (key.col - e.0.col) e.1) (entries_between position_cmp (Bound.Included (record { row = key.row; col = 0 })) (Bound.Excluded key) spans.now.entries) }
+    ensures { result ≡ list_any (λ e. nat_lt (key.col - e.0.col) e.1)
+        (entries_between position_cmp (Bound.Included (record { row = key.row; col = 0 })) (Bound.Excluded key)
+        spans.now.entries) }
 {
     spans
         .range(Position::new(key.row, 0)..key)

@@ -231,7 +231,8 @@ fn set_span(
     span: usize,
 ) -> Result<(), AllocError>
     requires { HoldsBoth index.old others.now.spans both.old }
-    ensures ok { OnOk result ((p : Position) → value_at index.new.spans p ≡ span_set pos span p (value_at index.old.spans p)) }
+    ensures ok { OnOk result ((p : Position) →
+        value_at index.new.spans p ≡ span_set pos span p (value_at index.old.spans p)) }
     ensures err { OnErr result (index.new ≡ index.old) }
     ensures small { span < 2 → IsOk result }
     ensures direction { index.new.direction ≡ index.old.direction }
@@ -278,7 +279,10 @@ fn hold_span(
 
 // Whether a rectangle begins above and left of the position and reaches it.
 fn reaches_inside(both: &BTreeMap<Position, Extent>, pos: Position) -> bool
-    ensures value { result ≡ list_any (λ e. nat_lt e.0.col pos.col && (nat_lt (pos.col - e.0.col) e.1.columns && nat_lt (pos.row - e.0.row) e.1.rows)) (entries_between position_cmp Bound.Unbounded (Bound.Excluded (record { row = pos.row; col = 0 })) both.now.entries) }
+    ensures value { result ≡ list_any (λ e. nat_lt e.0.col pos.col
+        && (nat_lt (pos.col - e.0.col) e.1.columns && nat_lt (pos.row - e.0.row) e.1.rows))
+        (entries_between position_cmp Bound.Unbounded (Bound.Excluded (record { row = pos.row; col = 0 }))
+        both.now.entries) }
     ensures ordered { IsOrdered position_cmp both.now }
 {
     both.range(..Position::new(pos.row, 0)).any(|(anchor, extent)| anchor.col < pos.col
