@@ -64,4 +64,3 @@ pub record SomeCross (demands : List Demand) : Type 0 where
 -- the lines strictly inside of the range
 abbrev pub inner_lines : (ℕ → Bool) → Demand → ℕ
 inner_lines line d = count_by line (range_with_len (d.start + 1) (d.span - 1))
-

@@ -9,10 +9,10 @@ ghost use Rattle.papergrid_axis.specs.Answers.{IsSized};
 ghost use Rattle.papergrid_walk.specs.Cells.{problem_of};
 ghost use Rattle.papergrid_layout.specs.Answers.{AreBothSized, UnlessMemory};
 
+use crate::along::solve_along;
 use crate::both::solve_both;
 use crate::dimension::{Dimension, Estimate};
 use crate::size_list::SizeList;
-use crate::along::solve_along;
 use papergrid_axis::LayoutError;
 use papergrid_config::CompactConfig;
 use papergrid_text::{IntoRecords, Records};
@@ -61,7 +61,12 @@ impl CompactGridDimension {
             × IsSized (problem_of (compact_look config.now) (std_line_measure R.Iter.Cell.text)
             (R.columns records) cells Columns) result) }
     {
-        solve_along::<Vec<usize>, ByStdLines, R, CompactConfig>(alloc, records, config, Direction::Columns)
+        solve_along::<Vec<usize>, ByStdLines, R, CompactConfig>(
+            alloc,
+            records,
+            config,
+            Direction::Columns,
+        )
     }
 
     /// The heights of the rows of the records, in lines.
@@ -85,7 +90,12 @@ impl CompactGridDimension {
             × IsSized (problem_of (compact_look config.now) (std_line_measure R.Iter.Cell.text)
             (R.columns records) cells Rows) result) }
     {
-        solve_along::<Vec<usize>, ByStdLines, R, CompactConfig>(alloc, records, config, Direction::Rows)
+        solve_along::<Vec<usize>, ByStdLines, R, CompactConfig>(
+            alloc,
+            records,
+            config,
+            Direction::Rows,
+        )
     }
 
     /// The widths of the columns of the records, in columns of a terminal, and the heights of their

@@ -8,13 +8,13 @@ ghost use Rattle.papergrid_axis.specs.Answers.{Answers, IsSized, IsTotal};
 ghost use Rattle.papergrid_walk.specs.Cells.{problem_of};
 ghost use Rattle.papergrid_layout.specs.Answers.{UnlessMemory};
 
+use crate::along::solve_along;
 use crate::both::solve_both;
 pub use crate::certificates::{
     check_height_witness, check_width_witness, height_witness, width_witness,
 };
 use crate::dimension::{Dimension, Estimate};
 use crate::size_list::SizeList;
-use crate::along::solve_along;
 use papergrid_axis::LayoutError;
 use papergrid_config::SpannedConfig;
 use papergrid_text::{IntoRecords, Records};
@@ -67,7 +67,12 @@ impl IterGridDimension {
             × IsSized (problem_of (spanned_look config.now) (line_measure R.Iter.Cell.text)
             (R.columns records) cells Columns) result) }
     {
-        solve_along::<Vec<usize>, ByLines, R, SpannedConfig>(alloc, records, config, Direction::Columns)
+        solve_along::<Vec<usize>, ByLines, R, SpannedConfig>(
+            alloc,
+            records,
+            config,
+            Direction::Columns,
+        )
     }
 
     /// The heights of the rows of the records, in lines.
@@ -90,7 +95,12 @@ impl IterGridDimension {
             × IsSized (problem_of (spanned_look config.now) (line_measure R.Iter.Cell.text)
             (R.columns records) cells Rows) result) }
     {
-        solve_along::<Vec<usize>, ByLines, R, SpannedConfig>(alloc, records, config, Direction::Rows)
+        solve_along::<Vec<usize>, ByLines, R, SpannedConfig>(
+            alloc,
+            records,
+            config,
+            Direction::Rows,
+        )
     }
 
     /// The width of the records' table: the sum of the widths and of the vertical lines.

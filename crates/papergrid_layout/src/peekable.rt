@@ -8,10 +8,10 @@ ghost use Rattle.papergrid_axis.specs.Answers.{IsSized};
 ghost use Rattle.papergrid_walk.specs.Cells.{problem_of};
 ghost use Rattle.papergrid_layout.specs.Answers.{AreBothSized, UnlessMemory};
 
+use crate::along::solve_along;
 use crate::both::solve_both;
 use crate::dimension::{Dimension, Estimate};
 use crate::size_list::SizeList;
-use crate::along::solve_along;
 use papergrid_axis::LayoutError;
 use papergrid_config::SpannedConfig;
 use papergrid_text::{Cell, IntoRecords, Records};
@@ -62,7 +62,12 @@ impl PeekableGridDimension {
             × IsSized (problem_of (spanned_look config.now) (cell_measure R.Iter.Cell.width R.Iter.Cell.lines)
             (R.columns records) cells Columns) result) }
     {
-        solve_along::<Vec<usize>, ByCell, R, SpannedConfig>(alloc, records, config, Direction::Columns)
+        solve_along::<Vec<usize>, ByCell, R, SpannedConfig>(
+            alloc,
+            records,
+            config,
+            Direction::Columns,
+        )
     }
 
     /// The heights of the rows of the records, in lines.
