@@ -1,16 +1,18 @@
 //! Spans, and which cells they hide. Source: `config/spanned/mod.rs`.
 
-ghost use Rattle.std.specs.Prelude.{◌≡◌, ◌∷◌, [], ◌↔◌, ◌<◌, ◌≤◌, All, AllPairs, OnOk, OnErr, IfOk, IfSome, IsOk, IsTrue};
+ghost use Rattle.std.specs.Prelude.{◌≡◌, ◌∷◌, [], ◌↔◌, ◌<◌, ◌≤◌, ◌⊎◌, All, AllPairs, OnOk, OnErr, IfOk, IfSome, IsOk, IsSome, IsTrue};
 ghost use Rattle.std.specs.HashMap.{get as map_get};
 ghost use Rattle.std.specs.FinMap.{get as value_at};
 ghost use Rattle.papergrid_values.specs.Positions.{AreRising};
 ghost use Rattle.papergrid_values.specs.declared.position.Position.{Position};
 ghost use Rattle.papergrid_tables.specs.Keys.{position_eq};
+ghost use Rattle.papergrid_maps.specs.Anchors.{AreAnchors, HasAnchor, IsSorted};
 ghost use Rattle.papergrid_maps.specs.Spans.{HasSpan, IsCoveredByBoth, IsCoveredByColumn, IsCoveredByRow, IsVisible, column_span, is_visible, row_span};
 ghost use Rattle.papergrid_config.specs.Told.{Appends};
 ghost use Rattle.papergrid_config.specs.declared.setting.Setting.{Setting};
 
 use crate::spanned::SpannedConfig;
+use papergrid_maps::Anchor;
 use papergrid_values::{Direction, Position};
 use std::alloc::AllocError;
 use std::collections::HashMap;
@@ -70,6 +72,17 @@ impl SpannedConfig {
         ensures { IfOk result (λ all. (p : Position) → map_get position_eq all p ≡ value_at self.now.spans.rows p) }
     {
         self.spans.rows()
+    }
+
+    /// An anchor for each position that holds a span, by row and then by column, or out of memory.
+    pub fn anchors(&self) -> Result<Vec<Anchor>, AllocError>
+        ensures sorted { IfOk result (λ anchors. IsSorted anchors.items) }
+        ensures spans { IfOk result (λ anchors. AreAnchors (column_span self.now.spans) (row_span self.now.spans) anchors.items) }
+        ensures held { IfOk result (λ anchors. (p : Position) → HasAnchor anchors.items p →
+            IsSome (value_at self.now.spans.columns p) ⊎ IsSome (value_at self.now.spans.rows p)) }
+        ensures from_one { (p : Position) → (1 ≤ column_span self.now.spans p) × (1 ≤ row_span self.now.spans p) }
+    {
+        self.spans.anchors()
     }
 
     /// Whether a column span is held.

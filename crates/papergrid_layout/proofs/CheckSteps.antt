@@ -1,11 +1,11 @@
 -- The steps of a checker's walk, and what it concludes.
-use Rattle.std.proofs.Common.{◌≡◌, ◌==◌, ◌&&◌, ℕ, ◌+◌, ◌<◌, ◌≤◌, Bool, true, false, ◌⊎◌, inl, inr, List, [], ◌∷◌, ◌++◌, length, count_by, get_or, ap, sym, ◌∙◌, arith, subst}
+use Rattle.std.proofs.Common.{◌≡◌, ◌==◌, ◌&&◌, ℕ, ◌+◌, ◌<◌, ◌≤◌, Bool, true, false, ◌⊎◌, inl, inr, List, [], ◌∷◌, length, count_by, get_or, sym, ◌∙◌, arith, subst}
 use Rattle.std.specs.Prelude.{All, Contains, IsTrue, ◌↔◌}
 use Rattle.std.proofs.lemmas.Bool.{and_parts, cases_Bool, eqb-true, false≢true, true≢false}
-use Rattle.std.proofs.lemmas.List.{append-nil, append_assoc}
 use Rattle.std.proofs.lemmas.List.Elements.{All-contains, All-map, All-weaker, filter_passes}
 use Rattle.papergrid_values.specs.declared.position.Position.{Position}
 use Rattle.papergrid_axis.specs.declared.checked.Checked.{Checked}
+use Rattle.papergrid_axis.specs.declared.claim.Claim.{Claim}
 use Rattle.papergrid_values.specs.declared.direction.Direction.{Direction}
 use Rattle.papergrid_axis.specs.Answers.{IsAccepted}
 use Rattle.papergrid_axis.specs.Fits.{Fits, IsLeast}
@@ -13,66 +13,35 @@ use Rattle.papergrid_axis.specs.Problem.{Problem}
 use Rattle.papergrid_axis.specs.Ranges.{demand_of, place_of}
 use Rattle.papergrid_axis.proofs.AcceptLemmas.{few_places}
 use Rattle.papergrid_axis.proofs.ClaimLemmas.{count_by-none, is_same}
-use Rattle.papergrid_walk.specs.Cells.{asked, asked_by, demands_of, placed, placed_row, problem_of, side, visible_of}
+use Rattle.papergrid_walk.specs.Cells.{asked, asked_by, demands_of, placed, problem_of, side, visible_of}
 use Rattle.papergrid_walk.specs.Looks.{Look}
-use Rattle.papergrid_walk.proofs.Steps.{asked_by-append, placed_from-more, placed_row-more}
-use Rattle.papergrid_layout.specs.Witnesses.{AreShown, ChecksBy, ChecksMore, IsChecked}
+use Rattle.papergrid_layout.specs.Witnesses.{AreShown, IsChecked}
+use Rattle.papergrid_layout.specs.ForProofs.Checking.{ChecksMore, check_none}
 
-module _ (look : Look) (direction : Direction) (sizes : List ℕ) (places : List Position) where
-  -- nothing more
-  pub check_none : (checked : Checked) → ChecksMore look direction sizes places checked checked []
-  check_none checked = λ demands before. subst (ChecksBy look direction sizes places checked) (sym (append-nil demands)) before
-
+module _ (look : Look) (claim : Claim) where
   module _ {C : Type 0} (measure : C → ℕ × ℕ) where
     -- a hidden cell is passed over
     pub check_hidden : (checked : Checked) (pos : Position) (cell : C) → look.shows pos ≡ false →
-        ChecksMore look direction sizes places checked checked (asked_by direction look measure ((pos, cell) ∷ []))
-    check_hidden checked pos cell f = rw f (check_none checked)
+        ChecksMore look claim checked checked (asked_by claim.direction look measure ((pos, cell) ∷ []))
+    check_hidden checked pos cell f = rw f (check_none look claim checked)
 
     -- a visible one is not
     pub check_shown : (old new : Checked) (pos : Position) (cell : C) (need : ℕ) → look.shows pos ≡ true →
-        need ≡ side direction (measure cell) + look.before direction pos + look.after direction pos →
-        ChecksMore look direction sizes places old new (demand_of direction pos (look.span direction pos) need ∷ []) →
-        ChecksMore look direction sizes places old new (asked_by direction look measure ((pos, cell) ∷ []))
+        need ≡ side claim.direction (measure cell) + look.before claim.direction pos + look.after claim.direction pos →
+        ChecksMore look claim old new (demand_of claim.direction pos (look.span claim.direction pos) need ∷ []) →
+        ChecksMore look claim old new (asked_by claim.direction look measure ((pos, cell) ∷ []))
     check_shown old new pos cell need t same more =
-        rw t (subst (λ n. ChecksMore look direction sizes places old new (demand_of direction pos (look.span direction pos) n ∷ [])) same more)
+        rw t (subst (λ n. ChecksMore look claim old new (demand_of claim.direction pos (look.span claim.direction pos) n ∷ [])) same more)
 
     -- one that changes nothing may be either
     pub check_same : (old new : Checked) (pos : Position) (cell : C) (need : ℕ) → new ≡ old →
-        need ≡ side direction (measure cell) + look.before direction pos + look.after direction pos →
-        ChecksMore look direction sizes places old new (demand_of direction pos (look.span direction pos) need ∷ []) →
-        ChecksMore look direction sizes places old old (asked_by direction look measure ((pos, cell) ∷ []))
+        need ≡ side claim.direction (measure cell) + look.before claim.direction pos + look.after claim.direction pos →
+        ChecksMore look claim old new (demand_of claim.direction pos (look.span claim.direction pos) need ∷ []) →
+        ChecksMore look claim old old (asked_by claim.direction look measure ((pos, cell) ∷ []))
     check_same old new pos cell need unchanged same more = elim (cases_Bool (look.shows pos)) [
-      | inl t ↦ check_shown old old pos cell need t same (subst (λ kept. ChecksMore look direction sizes places old kept (demand_of direction pos (look.span direction pos) need ∷ [])) unchanged more)
+      | inl t ↦ check_shown old old pos cell need t same (subst (λ kept. ChecksMore look claim old kept (demand_of claim.direction pos (look.span claim.direction pos) need ∷ [])) unchanged more)
       | inr f ↦ check_hidden old pos cell f
     ]
-
-    -- one more cell of a row
-    pub check-cell : (old mid new : Checked) (r c : ℕ) (cells : List C) (cell : C) → c ≡ length cells →
-        ChecksMore look direction sizes places old mid (asked_by direction look measure (placed_row r 0 cells)) →
-        ChecksMore look direction sizes places mid new (asked_by direction look measure ((record { row = r; col = c }, cell) ∷ [])) →
-        ChecksMore look direction sizes places old new (asked_by direction look measure (placed_row r 0 (cells ++ cell ∷ [])))
-    check-cell old mid new r c cells cell same before further = λ demands held.
-        let k = further _ (before demands held) in
-        let at : 0 + length cells ≡ c = omega arith in
-        let p : placed_row r 0 (cells ++ cell ∷ []) ≡ placed_row r 0 cells ++ (record { row = r; col = c }, cell) ∷ [] =
-        placed_row-more r 0 cells cell ∙ ap (λ k. placed_row r 0 cells ++ (record { row = r; col = k }, cell) ∷ []) at in
-        let a : asked_by direction look measure (placed_row r 0 (cells ++ cell ∷ [])) ≡ asked_by direction look measure (placed_row r 0 cells) ++ asked_by direction look measure ((record { row = r; col = c }, cell) ∷ []) =
-        ap (asked_by direction look measure) p ∙ asked_by-append direction look measure (placed_row r 0 cells) ((record { row = r; col = c }, cell) ∷ []) in
-        subst (ChecksBy look direction sizes places new) (sym (ap (λ ds. demands ++ ds) a ∙ sym (append_assoc demands _ _))) k
-
-    -- one more row
-    pub check-row : (old new : Checked) (r : ℕ) (rows : List (List C)) (row : List C) → r ≡ length rows →
-        ChecksBy look direction sizes places old (demands_of direction look measure rows) →
-        ChecksMore look direction sizes places old new (asked_by direction look measure (placed_row r 0 row)) →
-        ChecksBy look direction sizes places new (demands_of direction look measure (rows ++ row ∷ []))
-    check-row old new r rows row same before further =
-        let k = further _ before in
-        let at : 0 + length rows ≡ r = omega arith in
-        let p : placed (rows ++ row ∷ []) ≡ placed rows ++ placed_row r 0 row = placed_from-more 0 rows row ∙ ap (λ k. placed rows ++ placed_row k 0 row) at in
-        let a : demands_of direction look measure (rows ++ row ∷ []) ≡ demands_of direction look measure rows ++ asked_by direction look measure (placed_row r 0 row) =
-        ap (asked_by direction look measure) p ∙ asked_by-append direction look measure (placed rows) (placed_row r 0 row) in
-        subst (ChecksBy look direction sizes places new) (sym a) k
 
 -- what is found of a table with as many columns (rows) as sizes holds of the table itself, since the sizes are as many
 pub checked-of : (problem : ℕ → Problem) (sizes : List ℕ) (places : List Position) (answer : Bool) (count : ℕ) → ((n : ℕ) → (problem n).count ≡ count) →

@@ -31,7 +31,7 @@ use Rattle.papergrid_config.specs.declared.spanned.SpannedConfig.{SpannedConfig}
 use Rattle.papergrid_walk.specs.Cells.{asked_by, demands_of, placed_from, placed_row, side}
 use Rattle.papergrid_walk.specs.Looks.{Look, line_along, size_after, size_before, span_along, spanned_look}
 use Rattle.papergrid_walk.specs.Measures.{cell_measure, line_measure}
-use Rattle.papergrid_walk.proofs.Steps.{asked_by-append}
+use Rattle.papergrid_walk.specs.ForProofs.Visits.{asked_by-append}
 use Rattle.papergrid_layout.specs.Laws.{AreReordered, AreSwapped, IsNewText, TellTheSame, concerns, set_span}
 
 -- ---- measures
@@ -53,9 +53,9 @@ module _ {C : Type 0} (direction : Direction) (look : Look) (f g : C → ℕ × 
   same_from r (row ∷ rows) all =
       let one = same_row r 0 row (All-head (All P) row rows all) in
       let rest = same_from (r + 1) rows (All-tail (All P) row rows all) in
-      asked_by-append direction look f (placed_row r 0 row) (placed_from (r + 1) rows)
+      asked_by-append f direction look (placed_row r 0 row) (placed_from (r + 1) rows)
       ∙ (λ k. one k ++ rest k)
-      ∙ sym (asked_by-append direction look g (placed_row r 0 row) (placed_from (r + 1) rows))
+      ∙ sym (asked_by-append g direction look (placed_row r 0 row) (placed_from (r + 1) rows))
 
   -- where two measures agree on each cell, the cells ask for the same
   pub same_measures : (rows : List (List C)) → All (All P) rows → demands_of direction look f rows ≡ demands_of direction look g rows

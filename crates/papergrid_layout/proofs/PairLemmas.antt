@@ -10,7 +10,7 @@ use Rattle.papergrid_values.specs.declared.direction.Direction.TheVariants.{Colu
 use Rattle.papergrid_axis.specs.Ranges.{end_of, first_out}
 use Rattle.papergrid_axis.specs.ForProofs.Seen.{IsSeen}
 use Rattle.papergrid_axis.proofs.OutLemmas.{out_seen}
-use Rattle.papergrid_walk.specs.declared.both.Both.{Both}
+use Rattle.papergrid_walk.specs.declared.needs.Both.{Both}
 use Rattle.papergrid_walk.specs.Cells.{asked, demands_of, visible_cells}
 use Rattle.papergrid_walk.specs.Looks.{Look}
 use Rattle.papergrid_walk.specs.ForProofs.Pairs.{AreBothSeen}

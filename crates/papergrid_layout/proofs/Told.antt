@@ -14,7 +14,7 @@ use Rattle.papergrid_axis.specs.Ranges.{place_of}
 use Rattle.papergrid_axis.proofs.KeptApartLemmas.{Decides-is_kept_apart, not_kept_apart}
 use Rattle.papergrid_walk.specs.Cells.{asked, asked_by, count_along, demands_of, placed_from, placed_row, problem_of}
 use Rattle.papergrid_walk.specs.Looks.{Look}
-use Rattle.papergrid_walk.proofs.Steps.{asked_by-append}
+use Rattle.papergrid_walk.specs.ForProofs.Visits.{asked_by-append}
 use Rattle.papergrid_layout.specs.Laws.{witness_told}
 
 -- the places that a witness gives, by the test of ranges that are kept apart
@@ -43,9 +43,9 @@ module _ {A B : Type 0} (look : Look) (v : A → B) (f : B → ℕ × ℕ) where
   told_from direction r (row ∷ rows) =
       let one = told_row direction r 0 row in
       let rest = told_from direction (r + 1) rows in
-      asked_by-append direction look (λ x. f (v x)) (placed_row r 0 row) (placed_from (r + 1) rows)
+      asked_by-append (λ x. f (v x)) direction look (placed_row r 0 row) (placed_from (r + 1) rows)
       ∙ (λ k. one k ++ rest k)
-      ∙ sym (asked_by-append direction look f (placed_row r 0 (map v row)) (placed_from (r + 1) (map (map v) rows)))
+      ∙ sym (asked_by-append f direction look (placed_row r 0 (map v row)) (placed_from (r + 1) (map (map v) rows)))
 
   module _ (cells : List (List A)) (rows : List (List B)) (same : map (map v) cells ≡ rows) where
     pub demands_told : (direction : Direction) → demands_of direction look (λ x. f (v x)) cells ≡ demands_of direction look f rows

@@ -1,10 +1,11 @@
 //! The check that sizes along one direction are least, by a list of positions.
 
 ghost use Rattle.std.specs.Prelude.{◌≡◌, ◌+◌, ◌^◌, ◌<◌, ◌≤◌, ◌⊎◌, ◌∷◌, [], ⊤, List, length};
-ghost use Rattle.papergrid_text.specs.Records.{Gives, WalkIsShort};
 ghost use Rattle.papergrid_axis.specs.ForProofs.Checks.{AreBounded, IsClaim};
-ghost use Rattle.papergrid_walk.specs.Cells.{asked_by, demands_of, placed_row, problem_of, side};
-ghost use Rattle.papergrid_layout.specs.Witnesses.{AreShown, ChecksBy, ChecksMore, IsChecked, IsShownClaim};
+ghost use Rattle.papergrid_walk.specs.Cells.{asked_by, demands_of, problem_of, side};
+ghost use Rattle.papergrid_layout.specs.Witnesses.{AreShown, IsChecked};
+ghost use Rattle.papergrid_layout.specs.ForProofs.Checking.{ChecksBy, ChecksMore, IsShownClaim, check_more, check_none};
+ghost use Rattle.std.proofs.Common.{◌∙◌, ap, refl};
 
 use crate::along::{Along, count_of};
 use papergrid_axis::checked::{accepts, is_unchanged, visit, wide_need};
@@ -12,8 +13,9 @@ use papergrid_axis::claim::{are_in_order, count_listed};
 use papergrid_axis::{Checked, Claim};
 use papergrid_text::{IntoRecords, Records};
 use papergrid_values::{Direction, Position};
-use papergrid_walk::{Measure, Settings};
-use std::iter::{IntoIterator, Iterator};
+use papergrid_walk::{Measure, Settings, Visitor, walk};
+use std::alloc::AllocError;
+use std::marker::PhantomData;
 
 /// What the cell at a position needs along a direction, by its measure.
 fn need_along<S: Settings>(
@@ -62,7 +64,7 @@ fn check_cell<M: Measure<C>, C, S: Settings>(
     requires shown { IsShownClaim (S.look settings.now) claim.now }
     ensures bounded { AreBounded claim.now.places.now result }
     ensures checks { let look = S.look settings.now in
-        ChecksMore look claim.now.direction claim.now.sizes.now claim.now.places.now checked result
+        ChecksMore look claim.now checked result
         (asked_by claim.now.direction look M.measured ((pos, cell.now) ∷ [])) }
 {
     let axis = Along {
@@ -82,38 +84,47 @@ fn check_cell<M: Measure<C>, C, S: Settings>(
     }
 }
 
-/// What is kept of the cells met and of the visible ones of one more row.
-fn check_row<M, W: IntoIterator, S: Settings>(
-    before: Checked,
-    settings: &S,
-    claim: &Claim<'_>,
-    number: usize,
-    row: W,
-) -> Checked
-where
-    M: Measure<<W as IntoIterator>::Item>,
-    <W as IntoIterator>::Item: Drop,
-    requires short { WalkIsShort W.into_iter_gives W.IntoIter.can_next W.IntoIter.remaining W.IntoIter.next_gives (λ _. ⊤) row }
-    requires bounded { AreBounded claim.now.places.now before }
-    requires ordered { IsClaim ((S.look settings.now).span claim.now.direction) claim.now }
-    requires shown { IsShownClaim (S.look settings.now) claim.now }
-    ensures bounded { AreBounded claim.now.places.now result }
-    ensures checks { let look = S.look settings.now in
-        (cells : List W.Item) × Gives W.into_iter_gives W.IntoIter.next_gives row cells
-        × ChecksMore look claim.now.direction claim.now.sizes.now claim.now.places.now before result
-        (asked_by claim.now.direction look M.measured (placed_row number 0 cells)) }
-{
-    let mut checked = before;
-    let mut column = 0usize;
-    for cell in row {
-        let pos = Position {
-            row: number,
-            col: column,
-        };
-        checked = check_cell::<M, _, S>(checked, settings, claim, pos, &cell);
-        column += 1;
+/// What a checker was given, and what it kept of the cells met.
+#[derive(Drop)]
+struct Checker<'a, M, S> {
+    settings: &'a S,
+    claim: &'a Claim<'a>,
+    checked: Checked,
+    measure: PhantomData<M>,
+}
+
+impl<'a, M: Measure<C>, C, S: Settings> Visitor<C> for Checker<'a, M, S> {
+    ghost stands = { λ v row column. AreBounded v.claim.now.places.now v.checked
+        × IsClaim ((S.look v.settings.now).span v.claim.now.direction) v.claim.now
+        × IsShownClaim (S.look v.settings.now) v.claim.now };
+
+    ghost visits = { λ v w cells. (w.settings ≡ v.settings) × (w.claim ≡ v.claim)
+        × ChecksMore (S.look v.settings.now) v.claim.now v.checked w.checked (asked_by v.claim.now.direction (S.look v.settings.now) M.measured cells) };
+
+    // It takes no memory.
+    ghost may_fail = { ⊥ };
+
+    fn visit(&mut self, position: Position, cell: &C) -> Result<(), AllocError> {
+        self.checked = check_cell::<M, C, S>(
+            self.checked,
+            self.settings,
+            self.claim,
+            position,
+            cell,
+        );
+        Ok(())
     }
-    checked
+
+    ghost none = { λ v. (refl, refl, check_none (S.look v.settings.now) v.claim.now v.checked) };
+
+    ghost more = { λ u v w cells further first second. (
+      second.0 ∙ first.0,
+      second.1 ∙ first.1,
+      check_more M.measured (S.look u.settings.now) (S.look v.settings.now) u.claim.now v.claim.now
+          (ap (λ s. S.look s.now) first.0) (ap (λ c. c.now) first.1) u.checked v.checked w.checked cells further first.2 second.2,
+    ) };
+
+    ghost turns = { λ v row column so_far. so_far };
 }
 
 /// What is kept of the visible cells of the records, and the number of rows.
@@ -131,16 +142,19 @@ where
     ensures bounded { AreBounded claim.now.places.now result.0 }
     ensures checks { let look = S.look settings.now in
         (cells : List (List R.Iter.Cell)) × R.tells records cells
-        × ChecksBy look claim.now.direction claim.now.sizes.now claim.now.places.now result.0 (demands_of claim.now.direction look M.measured cells)
+        × ChecksBy look claim.now result.0 (demands_of claim.now.direction look M.measured cells)
         × (result.1 ≡ length cells) }
 {
-    let mut checked = Checked::new();
-    let mut count = 0usize;
-    for row in records.iter_rows() {
-        checked = check_row::<M, _, S>(checked, settings, claim, count, row);
-        count += 1;
+    let mut checker = Checker::<M, S> {
+        settings,
+        claim,
+        checked: Checked::new(),
+        measure: PhantomData,
+    };
+    match walk(records, &mut checker) {
+        Ok(rows) => (checker.checked, rows),
+        Err(_) => unreachable!(),
     }
-    (checked, count)
 }
 
 /// The check where it is known whether the ranges at the positions are in order.

@@ -1,3 +1,4 @@
+pub mod AnchorLemmas
 pub mod AnyHeld
 pub mod Applied
 pub mod BothHeld

@@ -1,3 +1,4 @@
+pub mod Anchors
 pub mod ColorsHeld
 pub mod Compact
 pub mod Keys

@@ -3,6 +3,7 @@
 //! ones.
 #![tactic(auto)]
 
+pub mod anchors;
 pub mod colors;
 pub mod compact;
 mod covering;
@@ -11,6 +12,7 @@ pub mod laws;
 mod span_index;
 pub mod span_table;
 
+pub use anchors::Anchor;
 pub use colors::{Colors, NoColor, NoColors};
 pub use compact::CompactConfig;
 pub use entity_map::{EntityMap, MapCall, Stopped};

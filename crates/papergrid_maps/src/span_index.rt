@@ -1,11 +1,16 @@
 //! The spans of one direction, found by the line that they run in.
 
-ghost use Rattle.std.specs.Prelude.{◌≡◌, ◌∷◌, ◌-◌, ◌↔◌, AllPairs, IfOk, IsTrue, None, OnErr, OnOk, nat_eq, nat_lt};
+ghost use Rattle.std.specs.Prelude.{◌≡◌, ◌∷◌, ◌-◌, ◌↔◌, AllPairs, IfOk, IsSome, IsTrue, None, OnErr, OnOk, nat_eq, nat_lt};
 ghost use Rattle.std.specs.BTreeMap.Range.{entries_between};
 ghost use Rattle.std.specs.FinMap as map;
 ghost use Rattle.std.specs.FinMap.{get as value_at};
+ghost use Rattle.std.specs.Prelude.{map as list_map};
 ghost use Rattle.std.specs.HashMap.{get as map_get};
-ghost use Rattle.std.specs.List.{list_any};
+ghost use Rattle.std.specs.List.{Contains, list_any};
+ghost use Rattle.std.specs.Map.{keys_of};
+ghost use Rattle.std.specs.List.Sorted.{IsStrictlySortedBy};
+ghost use Rattle.papergrid_values.specs.declared.direction.Direction.TheVariants.{Columns};
+ghost use Rattle.papergrid_values.specs.declared.position.Position.{Position};
 ghost use Rattle.papergrid_values.specs.Positions.{AreRising};
 ghost use Rattle.papergrid_tables.specs.Equal.{places_eq};
 ghost use Rattle.papergrid_tables.specs.Keys.{position_cmp, position_eq};
@@ -122,6 +127,14 @@ impl SpanIndex {
         entries_cover(&self.spans, self.direction, others, rising, places)
     }
 
+    /// The positions that hold a span, by line and then by place, or out of memory.
+    pub(crate) fn positions(&self, alloc: Global) -> Result<Vec<Position>, AllocError>
+        ensures held { IfOk result (λ places. (p : Position) → Contains places.items p ↔ IsSome (value_at self.now.spans p)) }
+        ensures sorted { IfOk result (λ places. self.now.direction ≡ Columns → IsStrictlySortedBy position_cmp places.items) }
+    {
+        positions_of(alloc, self.direction, &self.spans)
+    }
+
     /// The spans by position, or want of memory.
     pub(crate) fn by_position(&self, alloc: Global) -> Result<HashMap<Position, usize>, AllocError>
         ensures { IfOk result (λ all. (p : Position) → map_get position_eq all p ≡ value_at self.now.spans p) }
@@ -184,6 +197,20 @@ fn key_of(direction: Direction, pos: Position) -> Position
         Direction::Columns => pos,
         Direction::Rows => Position::new(pos.col, pos.row),
     }
+}
+
+// The positions of the keys.
+fn positions_of(
+    alloc: Global,
+    direction: Direction,
+    spans: &BTreeMap<Position, usize>,
+) -> Result<Vec<Position>, AllocError>
+    ensures { IfOk result (λ places. places.items ≡ list_map (key_of direction) (keys_of spans.now.entries)) }
+{
+    spans
+        .keys()
+        .map(|key| key_of(direction, *key))
+        .collect(alloc)
 }
 
 // Whether a span of the key's line begins before the key and reaches it. What the range has stands

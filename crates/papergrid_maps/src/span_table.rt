@@ -1,6 +1,6 @@
 //! Spans by position, and what they hide. Source: `config/spanned/mod.rs`.
 
-ghost use Rattle.std.specs.Prelude.{◌≡◌, ◌∷◌, [], ◌<◌, ◌≤◌, ◌-◌, ◌&&◌, All, AllPairs, OnOk, OnErr, IfOk, IfSome, IsOk, IsTrue, ◌↔◌, nat_lt};
+ghost use Rattle.std.specs.Prelude.{◌≡◌, ◌∷◌, [], ◌<◌, ◌≤◌, ◌-◌, ◌&&◌, ◌⊎◌, All, AllPairs, OnOk, OnErr, IfOk, IfSome, IsOk, IsSome, IsTrue, ◌↔◌, nat_lt};
 ghost use Rattle.std.specs.BTreeMap.{IsOrdered};
 ghost use Rattle.std.specs.BTreeMap.Range.{entries_between};
 ghost use Rattle.std.specs.List.{list_any};
@@ -11,9 +11,11 @@ ghost use Rattle.papergrid_values.specs.Positions.{AreRising};
 ghost use Rattle.papergrid_values.specs.declared.direction.Direction.TheVariants.{Columns, Rows};
 ghost use Rattle.papergrid_values.specs.declared.position.Position.{Position};
 ghost use Rattle.papergrid_tables.specs.Keys.{position_cmp, position_eq};
+ghost use Rattle.papergrid_maps.specs.Anchors.{AreAnchors, HasAnchor, IsSorted};
 ghost use Rattle.papergrid_maps.specs.Spans.{IsTold, Appends, HasSpan, IsVisible, IsCoveredByColumn, IsCoveredByRow, IsCoveredByBoth, SetSpan, RemoveSpans, column_span, row_span, is_visible};
 ghost use Rattle.papergrid_maps.specs.ForProofs.SpanIndex.{AreFromTwo, HoldsBoth, span_set};
 
+use crate::anchors::{Anchor, anchors_of};
 use crate::span_index::{Extent, SpanIndex, extent_of};
 use papergrid_values::{Direction, Position};
 use std::alloc::{AllocError, Global};
@@ -145,6 +147,17 @@ impl SpanTable {
         ensures { IfOk result (λ all. (p : Position) → map_get position_eq all p ≡ value_at self.now.rows p) }
     {
         self.rows.by_position(self.alloc)
+    }
+
+    /// An anchor for each position that holds a span, by row and then by column, or out of memory.
+    pub fn anchors(&self) -> Result<Vec<Anchor>, AllocError>
+        ensures sorted { IfOk result (λ anchors. IsSorted anchors.items) }
+        ensures spans { IfOk result (λ anchors. AreAnchors (column_span self.now) (row_span self.now) anchors.items) }
+        ensures held { IfOk result (λ anchors. (p : Position) → HasAnchor anchors.items p →
+            IsSome (value_at self.now.columns p) ⊎ IsSome (value_at self.now.rows p)) }
+        ensures from_one { (p : Position) → (1 ≤ column_span self.now p) × (1 ≤ row_span self.now p) }
+    {
+        anchors_of(self.alloc, &self.columns, &self.rows)
     }
 
     /// Whether the position stands right of an anchor, in its row and its rectangle.

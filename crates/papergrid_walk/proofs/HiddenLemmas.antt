@@ -2,12 +2,13 @@
 use Rattle.std.proofs.Common.{arith, refl, subst, ◌≢◌, ◌↔◌, IsTrue, sym, ap, ◌∙◌, inl, inr, ◌≡◌, ℕ, zero, suc, ◌+◌, ◌-◌, ◌^◌, ◌<◌, ◌≤◌, ◌⊎◌, nat_lt, List, Option, Some, None, slice_get}
 use Rattle.std.proofs.lemmas.Bool.{cases_lt, ltb-true, lt-ltb}
 use Rattle.std.proofs.lemmas.Option.{slice_get_within, slice_get-get_or}
-use Rattle.papergrid_walk.specs.declared.anchor.Anchor.{Anchor}
+use Rattle.papergrid_maps.specs.declared.anchors.Anchor.{Anchor}
 use Rattle.papergrid_values.specs.declared.position.Position.{Position}
 use Rattle.papergrid_walk.specs.declared.levels.Levels.{Levels}
 use Rattle.papergrid_walk.specs.ForProofs.Levels.{end_at, raised_end}
 use Rattle.papergrid_values.specs.Positions.{IsBefore}
-use Rattle.papergrid_walk.specs.Hidden.{cut, end_with, end_of, IsWithin, IsHidden, IsSorted, AllBefore, Holds}
+use Rattle.papergrid_walk.specs.Hidden.{cut, end_with, end_of, IsWithin, IsHidden, AllBefore, Holds}
+use Rattle.papergrid_maps.specs.Anchors.{IsSorted}
 
 raised-first : (first last end old column row : ℕ) → row < raised_end first last end old column → old ≤ row → first ≤ column
 raised-first first last end old column row h k = grind (arith)

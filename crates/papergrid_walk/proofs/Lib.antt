@@ -2,7 +2,6 @@ pub mod LevelLemmas
 pub mod PassLemmas
 pub mod HiddenLemmas
 pub mod SpanLemmas
-pub mod BuildLemmas
 pub mod Distinct
 pub mod PaddingLemmas
 pub mod ShownLemmas

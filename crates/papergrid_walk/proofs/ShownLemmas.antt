@@ -1,33 +1,54 @@
 -- What a walk knows of the visible positions, step by step.
-use Rattle.std.proofs.Common.{◌≡◌, ◌+◌, ℕ, Bool, true, List, [], arith, refl, subst, sym}
+use Rattle.std.proofs.Common.{◌≡◌, ◌+◌, ◌≤◌, ℕ, true, List, [], Some, slice_get, ap, arith, inl, inr, subst, sym, ◌∙◌}
+use Rattle.std.proofs.lemmas.Bool.{cases_lt}
+use Rattle.papergrid_values.specs.declared.direction.Direction.TheVariants.{Columns, Rows}
+use Rattle.papergrid_maps.specs.Anchors.{HasAnchor}
+use Rattle.papergrid_walk.specs.Looks.{Look}
 use Rattle.std.proofs.lemmas.Option.{none-some}
 use Rattle.papergrid_values.specs.declared.position.Position.{Position}
-use Rattle.papergrid_walk.specs.declared.anchor.Anchor.{Anchor}
+use Rattle.papergrid_maps.specs.declared.anchors.Anchor.{Anchor}
 use Rattle.papergrid_values.specs.Positions.{IsBefore}
-use Rattle.papergrid_walk.specs.Hidden.{IsAhead, Walk}
+use Rattle.papergrid_walk.specs.Hidden.{IsAhead, IsAnchorAt, Walk}
 use Rattle.papergrid_walk.proofs.HiddenLemmas.{before-from}
-use Rattle.papergrid_walk.specs.ForProofs.Shown.{AreAnchorsOf, Shows}
+use Rattle.papergrid_walk.specs.ForProofs.Shown.{AreAnchorsOf, Shows, anchor_in}
 
 -- the start of a walk
-pub shows_first : (shows : Position → Bool) (anchors : List Anchor) (columns : ℕ) → AreAnchorsOf shows anchors →
-    Shows shows record { anchors = anchors; columns = columns; passed = 0 } 0 0
-shows_first shows anchors columns are = record { anchors = are; ahead = λ q below right k a passed is. absurd (omega (arith, passed)) }
+pub shows_first : (look : Look) (anchors : List Anchor) (columns : ℕ) → AreAnchorsOf look anchors →
+    Shows look record { anchors = anchors; columns = columns; passed = 0 } 0 0
+shows_first look anchors columns are = record { anchors = are; ahead = λ q below right k a passed is. absurd (omega (arith, passed)) }
 
 -- one position on
-pub shows_later : (shows : Position → Bool) (old new : Walk) (p : Position) → new.anchors ≡ old.anchors →
-    ((q : Position) → IsBefore p q → IsAhead new q) → Shows shows old p.row p.col → Shows shows new p.row (p.col + 1)
-shows_later shows old new p same later so_far = record {
-  anchors = subst (AreAnchorsOf shows) (sym same) so_far.anchors;
+pub shows_later : (look : Look) (old new : Walk) (p : Position) → new.anchors ≡ old.anchors →
+    ((q : Position) → IsBefore p q → IsAhead new q) → Shows look old p.row p.col → Shows look new p.row (p.col + 1)
+shows_later look old new p same later so_far = record {
+  anchors = subst (AreAnchorsOf look) (sym same) so_far.anchors;
   ahead = λ q below right. later q (before-from p q below (λ e. let k = right e in omega (arith, k)));
 }
 
--- the next row
-pub shows_below : (shows : Position → Bool) (walk : Walk) (r c : ℕ) → Shows shows walk r c → Shows shows walk (r + 1) 0
-shows_below shows walk r c so_far = record {
-  anchors = so_far.anchors;
-  ahead = λ q below right. so_far.ahead q (omega (arith, below)) (λ e. absurd (omega (arith, below, e)));
-}
+-- where there are no anchors, all cells are visible
+pub shown_everywhere : (look : Look) → AreAnchorsOf look [] → (p : Position) → look.shows p ≡ true
+shown_everywhere look are p = (are.hide p).1 (λ hidden. none-some hidden.anchor hidden.is_anchor)
 
--- where no cell is hidden there are no anchors
-pub none_hidden : AreAnchorsOf (λ _. true) []
-none_hidden p = (λ shown hidden. none-some hidden.anchor hidden.is_anchor, λ shown. refl)
+span_one : (n : ℕ) → 1 ≤ n → (2 ≤ n → ⊥) → n ≡ 1
+span_one n from low = elim (cases_lt n 2) [ inl below ↦ omega arith | inr big ↦ absurd (low big) ]
+
+-- without an anchor a position has no span of two or more
+pub single_in : (look : Look) (anchors : List Anchor) (p : Position) → AreAnchorsOf look anchors → (HasAnchor anchors p → ⊥) →
+    record { position = p; rows = 1; cols = 1 } ≡ anchor_in look p
+single_in look anchors p are none =
+    let tall = span_one (look.span Rows p) (are.from_one Rows p) (λ big. none (are.spans.tall p big)) in
+    let wide = span_one (look.span Columns p) (are.from_one Columns p) (λ big. none (are.spans.wide p big)) in
+    λ i. record { position = p; rows = sym tall i; cols = sym wide i }
+
+-- the spans of an anchor are those of its position
+pub anchor_of : (look : Look) (anchors : List Anchor) (k : ℕ) (a : Anchor) → AreAnchorsOf look anchors → slice_get anchors k ≡ Some a →
+    a ≡ anchor_in look a.position
+anchor_of look anchors k a are is = λ i. record { position = a.position; rows = are.spans.has_rows k a is i; cols = are.spans.has_cols k a is i }
+
+-- the anchor of a position has its spans
+pub anchor_found : (look : Look) (anchors : List Anchor) (p : Position) (found : Anchor) → AreAnchorsOf look anchors → IsAnchorAt anchors p found →
+    found ≡ anchor_in look p
+anchor_found look anchors p found are is = elim is [
+  | inl has ↦ anchor_of look anchors has.0 found are has.1 ∙ ap (anchor_in look) has.2
+  | inr none ↦ none.1 ∙ single_in look anchors p are none.0
+]

@@ -1,13 +1,18 @@
 -- What the anchors hide is what the spans do not leave visible.
-use Rattle.std.proofs.Common.{arith, refl, sym, subst, inl, inr, ◌≡◌, ◌≢◌, ◌↔◌, IsTrue, ℕ, List, Bool, true, false}
-use Rattle.std.specs.Prelude.{not}
-use Rattle.std.proofs.lemmas.Bool.{cases_lt, false≢true, false_from_ne_true}
+use Rattle.std.proofs.Common.{arith, refl, sym, subst, inl, inr, ◌≢◌, ◌↔◌, ◌≤◌, IsTrue, ℕ, List, []}
+use Rattle.std.proofs.lemmas.Bool.{cases_lt}
+use Rattle.std.proofs.lemmas.Option.{none-some}
+use Rattle.papergrid_values.specs.declared.direction.Direction.TheVariants.{Columns, Rows}
+use Rattle.papergrid_maps.specs.declared.compact.CompactConfig.{CompactConfig}
+use Rattle.papergrid_config.specs.declared.spanned.SpannedConfig.{SpannedConfig}
+use Rattle.papergrid_walk.specs.Looks.{compact_look, spanned_look}
+use Rattle.papergrid_walk.specs.ForProofs.Shown.{AreAnchorsOf}
 use Rattle.papergrid_values.specs.declared.position.Position.{Position}
-use Rattle.papergrid_walk.specs.declared.anchor.Anchor.{Anchor}
+use Rattle.papergrid_maps.specs.declared.anchors.Anchor.{Anchor}
 use Rattle.papergrid_walk.specs.Hidden.{IsHidden}
 use Rattle.papergrid_maps.specs.Spans.{IsInRectangle, IsVisible, Spans, column_span, is_visible, row_span}
 use Rattle.papergrid_maps.proofs.SpanVisible.{visible_test}
-use Rattle.papergrid_walk.specs.Anchors.{HasAnchor, AreAnchors}
+use Rattle.papergrid_maps.specs.Anchors.{HasAnchor, AreAnchors}
 use Rattle.papergrid_walk.proofs.HiddenLemmas.{position-same}
 
 pub visible-not-hidden : (columns rows : Position → ℕ) (anchors : List Anchor) (p : Position) → AreAnchors columns rows anchors
@@ -61,10 +66,24 @@ test-by-hidden spans anchors p are =
     let shown = visible-by-hidden (column_span spans) (row_span spans) anchors p are in
     (λ t. shown.0 (tested.0 t), λ h. tested.1 (shown.1 h))
 
--- the test of visibility is the contrary of what the walk answers
-pub visible-answer : (spans : Spans) (anchors : List Anchor) (p : Position) (hidden : Bool) → AreAnchors (column_span spans) (row_span spans) anchors
-    → (IsTrue hidden ↔ IsHidden anchors p) → not hidden ≡ is_visible spans p
-visible-answer spans anchors p true are h =
-    sym (false_from_ne_true _ (λ t. (test-by-hidden spans anchors p are).0 t (h.0 refl)))
-visible-answer spans anchors p false are h =
-    sym ((test-by-hidden spans anchors p are).1 (λ hidden. false≢true (h.1 hidden)))
+-- the anchors of spans are what a walk by them takes
+pub anchors_of_config : (config : SpannedConfig) (anchors : List Anchor) → AreAnchors (column_span config.spans) (row_span config.spans) anchors →
+    ((p : Position) → (1 ≤ column_span config.spans p) × (1 ≤ row_span config.spans p)) → AreAnchorsOf (spanned_look config) anchors
+anchors_of_config config anchors are from_one = record {
+  hide = λ p. test-by-hidden config.spans anchors p are;
+  spans = are;
+  from_one = λ direction p. elim direction as (λ d. 1 ≤ (spanned_look config).span d p) [ Columns ↦ (from_one p).0 | Rows ↦ (from_one p).1 ];
+}
+
+-- where all cells are visible and of span 1 there are no anchors
+pub none_hidden : (config : CompactConfig) → AreAnchorsOf (compact_look config) []
+none_hidden config = record {
+  hide = λ p. (λ shown hidden. none-some hidden.anchor hidden.is_anchor, λ shown. refl);
+  spans = record {
+    has_rows = λ k a is. absurd (none-some a is);
+    has_cols = λ k a is. absurd (none-some a is);
+    wide = λ p big. absurd (omega (arith, big));
+    tall = λ p big. absurd (omega (arith, big));
+  };
+  from_one = λ direction p. omega arith;
+}

@@ -3,3 +3,4 @@ pub mod Levels
 pub mod Paddings
 pub mod Pairs
 pub mod Shown
+pub mod Visits

@@ -1,10 +1,11 @@
 -- The cells that anchors hide, and what a sweep over the rows holds.
-use Rattle.std.specs.Prelude.{◌≡◌, ◌≢◌, ℕ, ◌+◌, ◌-◌, ◌^◌, ◌<◌, ◌≤◌, zero, suc, List, Option, Some, None, length, slice_get, nat_lt, if◌then◌else◌}
+use Rattle.std.specs.Prelude.{◌≡◌, ◌≢◌, ℕ, ◌+◌, ◌-◌, ◌^◌, ◌<◌, ◌≤◌, ◌⊎◌, zero, suc, List, Option, Some, None, length, slice_get, nat_lt, if◌then◌else◌}
 use Rattle.papergrid_walk.specs.ForProofs.Levels.{end_at, Fits, raised_end}
 use Rattle.papergrid_walk.specs.declared.levels.Levels.{Levels}
 use Rattle.papergrid_values.specs.declared.position.Position.{Position}
 use Rattle.papergrid_values.specs.Positions.{IsBefore}
-use Rattle.papergrid_walk.specs.declared.anchor.Anchor.{Anchor}
+use Rattle.papergrid_maps.specs.Anchors.{HasAnchor, IsSorted}
+use Rattle.papergrid_maps.specs.declared.anchors.Anchor.{Anchor}
 
 -- the position lies in the anchor's rectangle, whose spans are not bounded
 pub record IsWithin (anchor : Anchor) (p : Position) : Type 0 where
@@ -20,10 +21,6 @@ pub record IsHidden (anchors : List Anchor) (p : Position) : Type 0 where
   pub is_anchor : slice_get anchors index ≡ Some anchor
   pub is_other : anchor.position ≢ p
   pub is_in : IsWithin anchor p
-
--- in the order of the walk: by row, and by column in a row
-abbrev pub IsSorted : List Anchor → Type 0
-IsSorted anchors = (j k : ℕ) (a b : Anchor) → j < k → slice_get anchors j ≡ Some a → slice_get anchors k ≡ Some b → IsBefore a.position b.position
 
 abbrev pub least : ℕ → ℕ → ℕ
 least a b = if nat_lt a b then a else b
@@ -66,3 +63,14 @@ pub record IsSwept (levels : Levels) (walk : Walk) : Type 0 where
 -- the walk may ask for the position
 abbrev pub IsAhead : Walk → Position → Type 0
 IsAhead walk p = AllBefore walk.anchors walk.passed p
+
+-- the walk has come to the position: the anchors before it are passed, and no others
+pub record HasReached (walk : Walk) (p : Position) : Type 0 where
+  pub before : IsAhead walk p
+  pub rest : (a : Anchor) → slice_get walk.anchors walk.passed ≡ Some a → IsBefore a.position p → ⊥
+
+-- an anchor at the position, or, where there is none, the position with spans of 1
+abbrev pub IsAnchorAt : List Anchor → Position → Anchor → Type 0
+IsAnchorAt anchors p found =
+    ((k : ℕ) × (slice_get anchors k ≡ Some found) × (found.position ≡ p))
+    ⊎ ((HasAnchor anchors p → ⊥) × (found ≡ record { position = p; rows = 1; cols = 1 }))

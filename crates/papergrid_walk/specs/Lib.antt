@@ -1,5 +1,4 @@
 -- The definitions that the contracts cite.
-pub mod Anchors
 pub mod Cells
 pub mod Hidden
 pub mod Looks

@@ -3,8 +3,8 @@
 ghost use Rattle.std.specs.Prelude.{ℕ, ◌↔◌, IsTrue, List};
 ghost use Rattle.papergrid_values.specs.declared.position.Position.{Position};
 ghost use Rattle.papergrid_maps.specs.Spans.{IsVisible, Spans, column_span, is_visible, row_span};
-ghost use Rattle.papergrid_walk.specs.declared.anchor.Anchor.{Anchor};
-ghost use Rattle.papergrid_walk.specs.Anchors.{AreAnchors};
+ghost use Rattle.papergrid_maps.specs.declared.anchors.Anchor.{Anchor};
+ghost use Rattle.papergrid_maps.specs.Anchors.{AreAnchors};
 ghost use Rattle.papergrid_walk.specs.Hidden.{IsHidden};
 
 /// A position is visible exactly where no anchor of the spans hides it.

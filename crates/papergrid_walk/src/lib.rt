@@ -9,24 +9,20 @@
 //! time of the logarithm of the columns for each cell and for each anchor, whatever the spans are.
 #![tactic(auto)]
 
-pub mod anchor;
-pub mod both;
-pub mod build;
 pub mod laws;
 mod levels;
 pub mod measure;
+pub mod needs;
 pub mod settings;
 mod shown;
 pub mod sweep;
-pub mod walk;
+pub mod visitor;
 
-pub use anchor::Anchor;
-pub use both::{Both, gather_both};
-pub use build::anchors_of;
 pub use measure::Measure;
+pub use needs::{Both, gather, gather_both};
 pub use settings::{Paddings, Settings};
 pub use sweep::Sweep;
-pub use walk::gather;
+pub use visitor::{Visitor, walk};
 
 #[cfg(test)]
 mod tests;

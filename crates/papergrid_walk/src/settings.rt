@@ -2,13 +2,13 @@
 
 ghost use Rattle.std.specs.Prelude.{◌≡◌, ◌≤◌, ◌↔◌, All, AllPairs, IfOk, IsTrue};
 ghost use Rattle.papergrid_values.specs.Positions.{AreRising};
-ghost use Rattle.papergrid_walk.specs.Hidden.{IsSorted};
+ghost use Rattle.papergrid_maps.specs.Anchors.{IsSorted};
 ghost use Rattle.papergrid_walk.specs.Looks.{Look, compact_look, size_after, size_before, spanned_look};
 ghost use Rattle.papergrid_walk.specs.ForProofs.Paddings.{AreCommon, paddings_at};
 ghost use Rattle.papergrid_walk.specs.ForProofs.Shown.{AreAnchorsOf};
 
-use crate::{Anchor, anchors_of};
 use papergrid_config::{CompactConfig, SpannedConfig};
+use papergrid_maps::Anchor;
 use papergrid_values::{Direction, Indent, Position, Sides};
 use std::alloc::{AllocError, Global};
 
@@ -39,7 +39,7 @@ pub trait Settings {
     /// What hides cells: the anchors of all spans, by row and then by column.
     fn anchors(&self, alloc: Global) -> Result<Vec<Anchor>, AllocError>
         ensures sorted { IfOk result (λ anchors. IsSorted anchors.items) }
-        ensures shows { IfOk result (λ anchors. AreAnchorsOf (look self.now).shows anchors.items) };
+        ensures shows { IfOk result (λ anchors. AreAnchorsOf (look self.now) anchors.items) };
 
     /// How many columns (rows) the cell at a position spans.
     fn span(&self, direction: Direction, pos: Position) -> usize
@@ -112,10 +112,8 @@ impl Settings for SpannedConfig {
         self.are_cells_visible(direction, places)
     }
 
-    fn anchors(&self, alloc: Global) -> Result<Vec<Anchor>, AllocError> {
-        let columns = self.get_column_spans()?;
-        let rows = self.get_row_spans()?;
-        anchors_of(alloc, &columns, &rows)
+    fn anchors(&self, _alloc: Global) -> Result<Vec<Anchor>, AllocError> {
+        self.anchors()
     }
 
     fn span(&self, direction: Direction, pos: Position) -> usize {

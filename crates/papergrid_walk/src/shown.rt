@@ -1,38 +1,52 @@
-//! Which cells are visible, asked by row and then by column.
+//! Which cells are visible and how many columns and rows they span, asked by row and then by column.
 
-ghost use Rattle.std.specs.Prelude.{◌≡◌, ◌+◌, ◌-◌, ◌<◌, ◌^◌, Bool, IfOk};
+ghost use Rattle.std.specs.Prelude.{◌≡◌, ◌+◌, ◌-◌, ◌<◌, ◌^◌, IfOk, None, Some, if◌then◌else◌};
 ghost use Rattle.papergrid_values.specs.declared.position.Position.{Position};
 ghost use Rattle.papergrid_walk.specs.Hidden.{IsAhead};
-ghost use Rattle.papergrid_walk.specs.ForProofs.Shown.{Shows};
+ghost use Rattle.papergrid_walk.specs.Looks.{Look};
+ghost use Rattle.papergrid_walk.specs.ForProofs.Shown.{Shows, anchor_in};
 
 use crate::Sweep;
 use crate::settings::Settings;
+use papergrid_maps::Anchor;
 use papergrid_values::Position;
 use std::alloc::{AllocError, Global};
 
-/// A walk at its start, by the spans of the settings. It is made for no column: `is_shown` makes room
-/// for those that it meets.
-pub fn shown<S: Settings>(alloc: Global, settings: &S) -> Result<Sweep, AllocError>
-    ensures { IfOk result (λ walk. Shows (S.look settings.now).shows walk 0 0) }
+/// A walk at its start, by the spans of the settings. It is made for no column: `visible_anchor` makes
+/// room for those that it meets.
+pub fn sweep_of<S: Settings>(alloc: Global, settings: &S) -> Result<Sweep, AllocError>
+    ensures { IfOk result (λ walk. Shows (S.look settings.now) walk 0 0) }
 {
     let anchors = settings.anchors(alloc)?;
     Sweep::new(alloc, anchors, 0)
 }
 
-/// Whether the position is visible. Each position stands behind the one that was asked for before it.
-/// Where nothing hides cells this takes no time and no memory.
-pub fn is_shown(walk: &mut Sweep, alloc: Global, pos: Position) -> Result<bool, AllocError>
-    requires asked { (shows : Position → Bool) × Shows shows walk.old pos.row pos.col }
+/// The position with its spans, where it is visible. Each position stands behind the one that was asked
+/// for before it. Where there are no spans this takes no time and no memory.
+pub fn visible_anchor(
+    walk: &mut Sweep,
+    alloc: Global,
+    pos: Position,
+) -> Result<Option<Anchor>, AllocError>
+    requires asked { (look : Look) × Shows look walk.old pos.row pos.col }
     requires row_in { pos.row < 2 ^ 64 - 1 }
     requires col_in { pos.col < 2 ^ 64 - 1 }
-    ensures visible { IfOk result (λ visible. (shows : Position → Bool) → Shows shows walk.old pos.row pos.col → visible ≡ shows pos) }
-    ensures later { IfOk result (λ _. (shows : Position → Bool) → Shows shows walk.old pos.row pos.col → Shows shows walk.new pos.row (pos.col + 1)) }
+    ensures visible { IfOk result (λ found. (look : Look) → Shows look walk.old pos.row pos.col →
+        found ≡ (if look.shows pos then Some (anchor_in look pos) else None)) }
+    ensures later { IfOk result (λ _. (look : Look) → Shows look walk.old pos.row pos.col → Shows look walk.new pos.row (pos.col + 1)) }
 {
     if walk.anchors().is_empty() {
-        return Ok(true);
+        return Ok(Some(Anchor {
+            position: pos,
+            rows: 1,
+            cols: 1,
+        }));
     }
     make_room(walk, alloc, pos.col)?;
-    Ok(!walk.is_hidden(pos))
+    if walk.is_hidden(pos) {
+        return Ok(None);
+    }
+    Ok(Some(walk.anchor_at(pos)))
 }
 
 /// Makes room for a column. The room doubles at least, so that rows which grow longer and longer are

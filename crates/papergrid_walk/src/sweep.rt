@@ -2,15 +2,14 @@
 
 ghost use Rattle.std.specs.Prelude.{◌≡◌, ℕ, ◌+◌, ◌-◌, ◌^◌, ◌<◌, ◌≤◌, ◌↔◌, IsTrue, IfOk, OnOk, OnErr, Some, length, slice_get};
 ghost use Rattle.papergrid_values.specs.declared.position.Position.{Position};
-ghost use Rattle.papergrid_maps.specs.Spans.{Spans, column_span, is_visible, row_span};
-ghost use Rattle.papergrid_walk.specs.Anchors.{AreAnchors};
-ghost use Rattle.papergrid_walk.specs.declared.anchor.Anchor.{Anchor};
+ghost use Rattle.papergrid_maps.specs.Anchors.{IsSorted};
+ghost use Rattle.papergrid_maps.specs.declared.anchors.Anchor.{Anchor};
 ghost use Rattle.papergrid_walk.specs.ForProofs.Levels.{Fits, end_at};
 ghost use Rattle.papergrid_values.specs.Positions.{IsBefore};
-ghost use Rattle.papergrid_walk.specs.Hidden.{AllBefore, Holds, IsAhead, IsHidden, IsSorted, IsSwept, end_with, least};
+ghost use Rattle.papergrid_walk.specs.Hidden.{AllBefore, HasReached, Holds, IsAhead, IsAnchorAt, IsHidden, IsSwept, end_with, least};
 
-use crate::anchor::Anchor;
 use crate::levels::Levels;
+use papergrid_maps::Anchor;
 use papergrid_values::Position;
 use std::alloc::{AllocError, Global};
 use std::marker::Model;
@@ -83,6 +82,7 @@ impl Sweep {
         requires row_in { position.row < 2 ^ 64 - 1 }
         requires col_in { position.col < self.old.columns }
         ensures hidden { IsTrue result ↔ IsHidden self.old.anchors position }
+        ensures reached { HasReached self.new position }
         ensures later { (q : Position) → IsBefore position q → IsAhead self.new q }
         ensures anchors { self.new.anchors ≡ self.old.anchors }
         ensures columns { self.new.columns ≡ self.old.columns }
@@ -97,18 +97,22 @@ impl Sweep {
         position.row < self.levels.end_at(position.col)
     }
 
-    /// Whether the position lies in no rectangle of another anchor, as the spans whose anchors
-    /// these are say it. Positions are asked for as by `is_hidden`.
-    pub fn is_visible(&mut self, position: Position) -> bool
-        requires ahead { IsAhead self.old position }
-        requires row_in { position.row < 2 ^ 64 - 1 }
-        requires col_in { position.col < self.old.columns }
-        ensures visible { (spans : Spans) → AreAnchors (column_span spans) (row_span spans) self.old.anchors → result ≡ is_visible spans position }
-        ensures later { (q : Position) → IsBefore position q → IsAhead self.new q }
-        ensures anchors { self.new.anchors ≡ self.old.anchors }
-        ensures columns { self.new.columns ≡ self.old.columns }
+    /// The position that was asked for last, with its spans: those of its anchor, 1 where it has none.
+    pub fn anchor_at(&self, position: Position) -> Anchor
+        requires { HasReached self.now position }
+        ensures { IsAnchorAt self.now.anchors position result }
     {
-        !self.is_hidden(position)
+        if self.next < self.anchors.len() {
+            let anchor = self.anchors[self.next];
+            if anchor.position == position {
+                return anchor;
+            }
+        }
+        Anchor {
+            position,
+            rows: 1,
+            cols: 1,
+        }
     }
 }
 

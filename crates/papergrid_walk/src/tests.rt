@@ -1,14 +1,13 @@
 //! Small tables, whose hidden cells follow from the rectangles.
 
-ghost use Rattle.std.specs.Prelude.{◌≡◌, ◌<◌, ◌≤◌, ◌-◌, ◌^◌, OnOk};
+ghost use Rattle.std.specs.Prelude.{◌≡◌, ◌<◌, ◌≤◌, ◌-◌, ◌^◌, ◌↔◌, IsTrue, OnOk};
 ghost use Rattle.papergrid_values.specs.declared.position.Position.{Position};
-ghost use Rattle.papergrid_walk.specs.Hidden.{IsAhead, IsSorted};
+ghost use Rattle.papergrid_maps.specs.Anchors.{IsSorted};
+ghost use Rattle.papergrid_walk.specs.Hidden.{IsAhead};
 
-use crate::anchor::{Anchor, are_sorted};
-use crate::build::anchors_of;
 use crate::laws::visible_where_not_hidden;
 use crate::sweep::Sweep;
-use papergrid_maps::SpanTable;
+use papergrid_maps::{Anchor, SpanTable};
 use papergrid_values::Position;
 use std::alloc::{AllocError, Global};
 use std::test::Fail;
@@ -27,6 +26,18 @@ fn anchor(row: usize, col: usize, rows: usize, cols: usize) -> Anchor {
         rows,
         cols,
     }
+}
+
+/// Whether the anchors stand by row and then by column, no two at one position.
+fn are_sorted(anchors: &[Anchor]) -> bool
+    ensures { IsTrue result ↔ IsSorted anchors.now }
+{
+    for i in 1..anchors.len() {
+        if !anchors[i - 1].is_before(anchors[i].position) {
+            return false;
+        }
+    }
+    true
 }
 
 /// Adds the hidden cells of a row.
@@ -183,17 +194,15 @@ fn anchors_of_a_table(rt: HostRuntime) -> Result<(), Fail> {
     spans.set_column(at(0, 2), 1)?;
     spans.set_row(at(1, 0), MAX)?;
     spans.set_column(at(0, 5), 2)?;
-    let columns = spans.columns()?;
-    let rows = spans.rows()?;
     let anchors = vec![in alloc;
         anchor(0, 5, 4, 2),
         anchor(1, 0, MAX, 1),
         anchor(2, 0, 1, 3),
     ]?;
-    assert_eq!(rt; anchors_of(alloc, &columns, &rows)?, anchors);
-    let mut walk = Sweep::new(alloc, anchors_of(alloc, &columns, &rows)?, 7)?;
+    assert_eq!(rt; spans.anchors()?, anchors);
+    let mut walk = Sweep::new(alloc, spans.anchors()?, 7)?;
     let pos = at(0, 6);
-    assert_eq!(rt; walk.is_visible(pos), spans.is_visible(pos));
+    assert_eq!(rt; !walk.is_hidden(pos), spans.is_visible(pos));
     assert!(rt; walk.columns() == 7);
     Ok(())
 }

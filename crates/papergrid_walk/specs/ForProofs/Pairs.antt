@@ -2,7 +2,7 @@
 use Rattle.std.specs.Prelude.{ℕ, List, length}
 use Rattle.papergrid_values.specs.declared.direction.Direction.TheVariants.{Columns, Rows}
 use Rattle.papergrid_axis.specs.ForProofs.Seen.{IsSeen}
-use Rattle.papergrid_walk.specs.declared.both.Both.{Both}
+use Rattle.papergrid_walk.specs.declared.needs.Both.{Both}
 use Rattle.papergrid_walk.specs.Cells.{demands_of}
 use Rattle.papergrid_walk.specs.Looks.{Look}
 

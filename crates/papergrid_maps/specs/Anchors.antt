@@ -1,0 +1,33 @@
+-- The anchors of the spans of all positions.
+use Rattle.std.specs.Prelude.{◌≡◌, ℕ, ◌<◌, ◌≤◌, List, Option, Some, slice_get, unwrap_or}
+use Rattle.std.specs.FinMap.{FinMap, get}
+use Rattle.papergrid_values.specs.Positions.{IsBefore}
+use Rattle.papergrid_tables.specs.Keys.{position_cmp}
+use Rattle.papergrid_values.specs.declared.position.Position.{Position}
+use Rattle.papergrid_maps.specs.declared.anchors.Anchor.{Anchor}
+
+-- the place of the anchor at a position
+pub record HasAnchor (anchors : List Anchor) (p : Position) : Type 0 where
+  pub index : ℕ
+  pub anchor : Anchor
+  pub is_anchor : slice_get anchors index ≡ Some anchor
+  pub is_there : anchor.position ≡ p
+
+-- the anchors have the spans of their positions, and each position with a span of two or more has an anchor
+pub record AreAnchors (columns rows : Position → ℕ) (anchors : List Anchor) : Type 0 where
+  pub has_rows : (k : ℕ) (a : Anchor) → slice_get anchors k ≡ Some a → a.rows ≡ rows a.position
+  pub has_cols : (k : ℕ) (a : Anchor) → slice_get anchors k ≡ Some a → a.cols ≡ columns a.position
+  pub wide : (p : Position) → 2 ≤ columns p → HasAnchor anchors p
+  pub tall : (p : Position) → 2 ≤ rows p → HasAnchor anchors p
+
+-- the anchor at a position, by the spans that are held, 1 where none is
+abbrev pub anchor_at : (Position → Option ℕ) → (Position → Option ℕ) → Position → Anchor
+anchor_at columns rows p = record { position = p; rows = unwrap_or (rows p) 1; cols = unwrap_or (columns p) 1 }
+
+-- by row and then by column, no two at one position
+abbrev pub IsSorted : List Anchor → Type 0
+IsSorted anchors = (j k : ℕ) (a b : Anchor) → j < k → slice_get anchors j ≡ Some a → slice_get anchors k ≡ Some b → IsBefore a.position b.position
+
+-- the span of a position, 1 where none is held
+abbrev pub span_at : FinMap position_cmp ℕ → Position → ℕ
+span_at spans p = unwrap_or (get spans p) 1

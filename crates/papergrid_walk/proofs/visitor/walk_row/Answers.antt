@@ -1,0 +1,49 @@
+use Rattle.std.proofs.Common.{arith, refl, subst, sym, [], ◌∷◌, ◌++◌, ◌∙◌, ◌+◌, ◌≡◌, ap, length, length-append}
+use Rattle.papergrid_text.proofs.RowSteps.{one_more_fits}
+use Rattle.papergrid_walk.specs.Cells.{placed_row}
+use Rattle.papergrid_walk.proofs.Steps.{placed_row-more}
+use Rattle.papergrid_walk.proofs.visitor.walk_row.Goals as goal
+
+pub loop-cell-init : goal.loop-cell-init
+loop-cell-init g c =
+    let short = c.requires.short c.into_iter-cell-iterator.result c.into_iter-cell-iterator.ensures.into_iter_gives in
+    (short.may_start, short.ends, refl, c.requires.stands, g.met.V.Visitor.none c.args.visitor.now)
+
+pub visit-requires-clause-col_in : goal.visit-requires-clause-col_in
+visit-requires-clause-col_in g c =
+    let short = c.requires.short c.into_iter-cell-iterator.result c.into_iter-cell-iterator.ensures.into_iter_gives in
+    let n = one_more_fits short c.loop-cell.cell-iterator c.next.new.self c.loop-cell.yielded c.in-Some.cell c.loop-cell.yielded_by c.in-Some.ensures.steps in
+    let e = c.loop-cell.invariant.2 in
+    omega arith
+
+pub overflow_add-column : goal.overflow_add-column
+overflow_add-column g c =
+    let short = c.requires.short c.into_iter-cell-iterator.result c.into_iter-cell-iterator.ensures.into_iter_gives in
+    let n = one_more_fits short c.loop-cell.cell-iterator c.next.new.self c.loop-cell.yielded c.in-Some.cell c.loop-cell.yielded_by c.in-Some.ensures.steps in
+    let e = c.loop-cell.invariant.2 in
+    omega arith
+
+pub loop-cell-preserved : goal.loop-cell-preserved
+loop-cell-preserved g c =
+    let goes = c.in-Some.ensures.goes.on c.loop-cell.invariant.1 in
+    let same = c.loop-cell.invariant.2 in
+    let n = length-append c.loop-cell.yielded (c.in-Some.cell ∷ []) in
+    let at : 0 + length c.loop-cell.yielded ≡ c.loop-cell.column = omega (arith, same) in
+    let cells : placed_row c.args.number 0 (c.loop-cell.yielded ++ c.in-Some.cell ∷ [])
+    ≡ placed_row c.args.number 0 c.loop-cell.yielded ++ (record { row = c.args.number; col = c.loop-cell.column }, c.in-Some.cell) ∷ [] =
+    placed_row-more c.args.number 0 c.loop-cell.yielded c.in-Some.cell
+    ∙ ap (λ k. placed_row c.args.number 0 c.loop-cell.yielded ++ (record { row = c.args.number; col = k }, c.in-Some.cell) ∷ []) at in (
+      goes.0,
+      goes.1,
+      omega arith,
+      c.in_ok-visit.ensures.stands,
+      subst (g.V.Visitor.visits c.args.visitor.now c.visit.new.self) (sym cells)
+          (g.met.V.Visitor.more c.args.visitor.now c.loop-cell.visitor c.visit.new.self _ _ c.loop-cell.invariant.4 c.in_ok-visit.ensures.visits),
+    )
+
+pub returns-clause-visits : goal.returns-clause-visits
+returns-clause-visits g c =
+    (c.loop-cell.yielded, record { iterator = c.into_iter-cell-iterator.result; made = c.into_iter-cell-iterator.ensures.into_iter_gives; walked = (c.next.new.self, (c.loop-cell.cell-iterator, c.loop-cell.yielded_by, c.in-None.ensures.steps)) }, c.loop-cell.invariant.4)
+
+pub returns-clause-stands : goal.returns-clause-stands
+returns-clause-stands g c = g.met.V.Visitor.turns c.loop-cell.visitor c.args.number c.loop-cell.column c.loop-cell.invariant.3

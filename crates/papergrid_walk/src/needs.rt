@@ -1,0 +1,281 @@
+//! What visible cells need, along a direction or along both.
+
+ghost use Rattle.std.specs.Prelude.{◌≡◌, ℕ, ◌+◌, ◌-◌, ◌<◌, ◌≤◌, ◌^◌, ◌∷◌, [], ⊤, if◌then◌else◌, IfOk, IfSome, List, None, OnOk, Some, length};
+ghost use Rattle.papergrid_values.specs.declared.direction.Direction.TheVariants.{Columns, Rows};
+ghost use Rattle.papergrid_axis.specs.ForProofs.Seen.{Adds, IsSeen};
+ghost use Rattle.papergrid_walk.specs.Cells.{asked, asked_by, count_along, demands_of, limit_along};
+ghost use Rattle.papergrid_walk.specs.Looks.{Look};
+ghost use Rattle.papergrid_walk.specs.ForProofs.Paddings.{AreCommon, paddings_at};
+ghost use Rattle.papergrid_walk.specs.ForProofs.Pairs.{AreBothSeen};
+ghost use Rattle.papergrid_walk.specs.ForProofs.Shown.{Shows, anchor_in};
+ghost use Rattle.papergrid_walk.specs.ForProofs.Visits.{adds_more, adds_none, shows_turn};
+ghost use Rattle.std.proofs.Common.{◌∙◌, ap, refl};
+
+use crate::Sweep;
+use crate::measure::Measure;
+use crate::settings::{Paddings, Settings};
+use crate::shown::{sweep_of, visible_anchor};
+use crate::visitor::{Visitor, walk};
+use papergrid_axis::Seen;
+use papergrid_axis::seen::keep;
+use papergrid_maps::Anchor;
+use papergrid_text::{IntoRecords, Records};
+use papergrid_values::{Direction, Position};
+use std::alloc::{AllocError, Global};
+use std::marker::PhantomData;
+
+/// Below which column (row) a cell that covers one alone is in the table for certain: rows are counted
+/// as they come, and none comes that is not one of the table.
+fn limit_of(direction: Direction, columns: usize) -> usize
+    ensures { result ≡ limit_along direction columns }
+{
+    match direction {
+        Direction::Columns => columns,
+        Direction::Rows => usize::MAX,
+    }
+}
+
+/// Keeps what a visible cell asks for along a direction, by its spans, its measure and its paddings.
+#[inline(always)]
+fn keep_along(
+    seen: &mut Seen,
+    direction: Direction,
+    anchor: Anchor,
+    measure: (usize, usize),
+    paddings: Paddings,
+) -> Result<(), AllocError>
+    requires { (1 ≤ anchor.cols) × (1 ≤ anchor.rows) }
+    ensures { (look : Look) → anchor ≡ anchor_in look anchor.position → paddings ≡ paddings_at look anchor.position →
+        OnOk result (Adds seen.old seen.new (asked direction look (λ _. measure) (anchor.position, measure) ∷ [])) }
+{
+    let Paddings {
+        left,
+        right,
+        top,
+        bottom,
+    } = paddings;
+    match direction {
+        Direction::Columns => keep(
+            seen,
+            direction,
+            anchor.position,
+            anchor.cols,
+            measure.0,
+            left,
+            right,
+        ),
+        Direction::Rows => keep(
+            seen,
+            direction,
+            anchor.position,
+            anchor.rows,
+            measure.1,
+            top,
+            bottom,
+        ),
+    }
+}
+
+/// What a walk reads of settings: which cells are visible, their spans and their paddings.
+#[derive(Drop)]
+pub struct View<'a, S> {
+    alloc: Global,
+    settings: &'a S,
+    sweep: Sweep,
+    // Of all cells, where they are known to be alike.
+    common: Option<Paddings>,
+}
+
+impl<'a, S: Settings> View<'a, S> {
+    /// Before the first cell.
+    fn new(alloc: Global, settings: &'a S) -> Result<View<'a, S>, AllocError>
+        ensures { IfOk result (λ view. (view.settings.now ≡ settings.now)
+            × Shows (S.look settings.now) view.sweep 0 0 × AreCommon (S.look settings.now) view.common) }
+    {
+        let sweep = sweep_of(alloc, settings)?;
+        Ok(View {
+            alloc,
+            settings,
+            sweep,
+            common: settings.common_paddings(),
+        })
+    }
+
+    /// The spans and the paddings of the cell at a position, where it is visible.
+    #[inline(always)]
+    fn read(&mut self, position: Position) -> Result<Option<(Anchor, Paddings)>, AllocError>
+        requires shows { Shows (S.look self.old.settings.now) self.old.sweep position.row position.col }
+        requires common { AreCommon (S.look self.old.settings.now) self.old.common }
+        requires row_in { position.row < 2 ^ 64 - 1 }
+        requires col_in { position.col < 2 ^ 64 - 1 }
+        ensures read { let look = S.look self.old.settings.now in
+            IfOk result (λ found. found ≡ (if look.shows position then Some (anchor_in look position, paddings_at look position) else None)) }
+        ensures later { IfOk result (λ _. Shows (S.look self.old.settings.now) self.new.sweep position.row (position.col + 1)) }
+        ensures settings { IfOk result (λ _. self.new.settings ≡ self.old.settings) }
+        ensures common { IfOk result (λ _. self.new.common ≡ self.old.common) }
+    {
+        let Some(anchor) = visible_anchor(&mut self.sweep, self.alloc, position)? else {
+            return Ok(None);
+        };
+        let paddings = match self.common {
+            Some(paddings) => paddings,
+            None => self.settings.paddings(position),
+        };
+        Ok(Some((anchor, paddings)))
+    }
+}
+
+/// What the visible cells met so far need along a direction.
+#[derive(Drop)]
+pub struct Needs<'a, M, S> {
+    view: View<'a, S>,
+    direction: Direction,
+    seen: Seen,
+    measure: PhantomData<M>,
+}
+
+impl<'a, M: Measure<C>, C, S: Settings> Visitor<C> for Needs<'a, M, S> {
+    ghost stands = { λ v row column. Shows (S.look v.view.settings.now) v.view.sweep row column × AreCommon (S.look v.view.settings.now) v.view.common };
+
+    ghost visits = { λ v w cells. (w.view.settings ≡ v.view.settings) × (w.direction ≡ v.direction)
+        × Adds v.seen w.seen (asked_by v.direction (S.look v.view.settings.now) M.measured cells) };
+
+    ghost may_fail = { ⊤ };
+
+    #[inline(always)]
+    fn visit(&mut self, position: Position, cell: &C) -> Result<(), AllocError> {
+        match self.view.read(position)? {
+            Some((anchor, paddings)) => keep_along(
+                &mut self.seen,
+                self.direction,
+                anchor,
+                M::measure(cell),
+                paddings,
+            ),
+            None => Ok(()),
+        }
+    }
+
+    ghost none = { λ v. (refl, refl, adds_none v.seen) };
+
+    ghost more = { λ u v w cells further first second. (
+      second.0 ∙ first.0,
+      second.1 ∙ first.1,
+      adds_more M.measured u.direction v.direction (S.look u.view.settings.now) (S.look v.view.settings.now) first.1 (ap (λ s. S.look s.now) first.0)
+          u.seen v.seen w.seen cells further first.2 second.2,
+    ) };
+
+    ghost turns = { λ v row column so_far. (shows_turn (S.look v.view.settings.now) v.view.sweep row column so_far.0, so_far.1) };
+}
+
+/// What the visible cells met so far need along both directions.
+#[derive(Drop)]
+pub struct BothNeeds<'a, M, S> {
+    view: View<'a, S>,
+    both: Both,
+    measure: PhantomData<M>,
+}
+
+/// What a walk keeps for both directions.
+#[derive(Drop)]
+pub struct Both {
+    pub columns: Seen,
+    pub rows: Seen,
+}
+
+impl<'a, M: Measure<C>, C, S: Settings> Visitor<C> for BothNeeds<'a, M, S> {
+    ghost stands = { λ v row column. Shows (S.look v.view.settings.now) v.view.sweep row column × AreCommon (S.look v.view.settings.now) v.view.common };
+
+    ghost visits = { λ v w cells. (w.view.settings ≡ v.view.settings)
+        × Adds v.both.columns w.both.columns (asked_by Columns (S.look v.view.settings.now) M.measured cells)
+        × Adds v.both.rows w.both.rows (asked_by Rows (S.look v.view.settings.now) M.measured cells) };
+
+    ghost may_fail = { ⊤ };
+
+    // A cell is measured once.
+    #[inline(always)]
+    fn visit(&mut self, position: Position, cell: &C) -> Result<(), AllocError> {
+        let Some((anchor, paddings)) = self.view.read(position)? else {
+            return Ok(());
+        };
+        let measure = M::measure(cell);
+        keep_along(
+            &mut self.both.columns,
+            Direction::Columns,
+            anchor,
+            measure,
+            paddings,
+        )?;
+        keep_along(
+            &mut self.both.rows,
+            Direction::Rows,
+            anchor,
+            measure,
+            paddings,
+        )
+    }
+
+    ghost none = { λ v. (refl, adds_none v.both.columns, adds_none v.both.rows) };
+
+    ghost more = { λ u v w cells further first second. (
+      second.0 ∙ first.0,
+      adds_more M.measured Columns Columns (S.look u.view.settings.now) (S.look v.view.settings.now) refl (ap (λ s. S.look s.now) first.0)
+          u.both.columns v.both.columns w.both.columns cells further first.1 second.1,
+      adds_more M.measured Rows Rows (S.look u.view.settings.now) (S.look v.view.settings.now) refl (ap (λ s. S.look s.now) first.0)
+          u.both.rows v.both.rows w.both.rows cells further first.2 second.2,
+    ) };
+
+    ghost turns = { λ v row column so_far. (shows_turn (S.look v.view.settings.now) v.view.sweep row column so_far.0, so_far.1) };
+}
+
+/// What the visible cells of the records ask for along one direction, and the number of rows.
+pub fn gather<M, R: Records + Drop, S: Settings>(
+    alloc: Global,
+    records: R,
+    settings: &S,
+    direction: Direction,
+) -> Result<(Seen, usize), AllocError>
+where
+    M: Measure<<<R as Records>::Iter as IntoRecords>::Cell>,
+    <<R as Records>::Iter as IntoRecords>::Cell: Drop,
+    requires { R.is_lawful records }
+    ensures { IfOk result (λ found. (cells : List (List R.Iter.Cell)) × R.tells records cells
+        × IsSeen (count_along direction (R.columns records) (length cells)) found.0 (demands_of direction (S.look settings.now) M.measured cells)
+        × (found.1 ≡ length cells)) }
+{
+    let limit = limit_of(direction, records.count_columns());
+    let mut needs = Needs::<M, S> {
+        view: View::new(alloc, settings)?,
+        direction,
+        seen: Seen::new(alloc, limit),
+        measure: PhantomData,
+    };
+    let rows = walk(records, &mut needs)?;
+    Ok((needs.seen, rows))
+}
+
+/// What the visible cells of the records ask for along both directions, and the number of rows.
+pub fn gather_both<M, R: Records + Drop, S: Settings>(
+    alloc: Global,
+    records: R,
+    settings: &S,
+) -> Result<(Both, usize), AllocError>
+where
+    M: Measure<<<R as Records>::Iter as IntoRecords>::Cell>,
+    <<R as Records>::Iter as IntoRecords>::Cell: Drop,
+    requires { R.is_lawful records }
+    ensures { IfOk result (λ found. (cells : List (List R.Iter.Cell)) × R.tells records cells
+        × AreBothSeen (S.look settings.now) M.measured (R.columns records) cells found.0 × (found.1 ≡ length cells)) }
+{
+    let columns = records.count_columns();
+    let mut needs = BothNeeds::<M, S> {
+        view: View::new(alloc, settings)?,
+        both: Both {
+            columns: Seen::new(alloc, limit_of(Direction::Columns, columns)),
+            rows: Seen::new(alloc, limit_of(Direction::Rows, columns)),
+        },
+        measure: PhantomData,
+    };
+    let rows = walk(records, &mut needs)?;
+    Ok((needs.both, rows))
+}
