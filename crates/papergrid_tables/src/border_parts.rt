@@ -137,21 +137,23 @@ pub(crate) fn of_frame<T>(frame: &Borders<T>, pos: Position, shape: (usize, usiz
 pub(crate) fn in_frame_vertical<T>(frame: &Borders<T>, col: usize, count: usize) -> bool
     ensures { result ≡ places.at_ends col count (has_left frame.now) (has_right frame.now) (has_vertical frame.now) }
 {
-    (col == 0 && frame.has_left())
-        || (col == count && frame.has_right())
-        || (0 < col && col < count && frame.has_vertical())
+    if 0 < col && col < count {
+        return frame.has_vertical();
+    }
+    (col == 0 && frame.has_left()) || (col == count && frame.has_right())
 }
 
 /// Whether the frame has a part for the horizontal line at a row.
 pub(crate) fn in_frame_horizontal<T>(frame: &Borders<T>, row: usize, count: usize) -> bool
     ensures { result ≡ places.at_ends row count (has_top frame.now) (has_bottom frame.now) (has_horizontal frame.now) }
 {
-    (row == 0 && frame.has_top())
-        || (row == count && frame.has_bottom())
-        || (0 < row && row < count && frame.has_horizontal())
+    if 0 < row && row < count {
+        return frame.has_horizontal();
+    }
+    (row == 0 && frame.has_top()) || (row == count && frame.has_bottom())
 }
 
-/// Whether a line, an edge or a corner is held there, of those that are counted.
+/// Whether a line is held there, or an edge or a corner counted. Most tables hold none at all.
 pub(crate) fn is_held_on<L>(
     line: usize,
     lines: &HashMap<usize, L>,
@@ -160,6 +162,9 @@ pub(crate) fn is_held_on<L>(
 ) -> bool
     ensures { result ≡ (is_some (map_get nat_eq lines.now line) || (nat_lt 0 (count_of edges.now.counts line) || nat_lt 0 (count_of corners.now.counts line))) }
 {
+    if lines.is_empty() && edges.is_bare() && corners.is_bare() {
+        return false;
+    }
     is_held(lines, line) || edges.holds(line) || corners.holds(line)
 }
 
