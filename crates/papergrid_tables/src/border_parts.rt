@@ -165,6 +165,20 @@ pub(crate) fn is_held_on<L>(
     if lines.is_empty() && edges.is_bare() && corners.is_bare() {
         return false;
     }
+    is_found_on(line, lines, edges, corners)
+}
+
+// The same by look-ups. They stand apart, so that a question about a table that holds none keeps no
+// registers for them.
+#[inline(never)]
+fn is_found_on<L>(
+    line: usize,
+    lines: &HashMap<usize, L>,
+    edges: &LineCounts,
+    corners: &LineCounts,
+) -> bool
+    ensures { result ≡ (is_some (map_get nat_eq lines.now line) || (nat_lt 0 (count_of edges.now.counts line) || nat_lt 0 (count_of corners.now.counts line))) }
+{
     is_held(lines, line) || edges.holds(line) || corners.holds(line)
 }
 
