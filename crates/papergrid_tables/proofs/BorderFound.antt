@@ -83,22 +83,13 @@ holds_first a first h = ((λ _. inl (first.0 h)), (λ _. refl))
 pub holds_second : {A B C : Type 0} (b : Bool) → (IsTrue b ↔ B) → b ≡ true → IsTrue true ↔ (A ⊎ (B ⊎ C))
 holds_second b second h = ((λ _. inr (inl (second.0 h))), (λ _. refl))
 
-pub holds_third : {A B C D : Type 0} (c : Bool) → (IsTrue c ↔ C) → c ≡ true → IsTrue true ↔ (A ⊎ (B ⊎ (C ⊎ D)))
-holds_third c third h = ((λ _. inr (inr (inl (third.0 h)))), (λ _. refl))
+pub decided_by_rest : {A B : Type 0} (a b : Bool) → (IsTrue a ↔ A) → (IsTrue b ↔ B) → a ≡ false → IsTrue b ↔ (A ⊎ B)
+decided_by_rest a b first second no_first = ((λ h. inr (second.0 h)), (λ h. ⊎_elim (λ x. absurd (false≢true (sym no_first ∙ first.1 x))) (λ y. second.1 y) h))
 
-pub decided_by_third : {A B C : Type 0} (a b c : Bool) → (IsTrue a ↔ A) → (IsTrue b ↔ B) → (IsTrue c ↔ C) → a ≡ false → b ≡ false → IsTrue c ↔ (A ⊎ (B ⊎ C))
-decided_by_third a b c first second third no_first no_second = (
-  (λ h. inr (inr (third.0 h))),
-  (λ h. ⊎_elim (λ x. absurd (false≢true (sym no_first ∙ first.1 x))) (λ rest. ⊎_elim (λ x. absurd (false≢true (sym no_second ∙ second.1 x))) (λ x. third.1 x) rest) h),
-)
-
-pub decided_by_fourth : {A B C D : Type 0} (a b c d : Bool) → (IsTrue a ↔ A) → (IsTrue b ↔ B) → (IsTrue c ↔ C) → (IsTrue d ↔ D) → a ≡ false → b ≡ false → c ≡ false → IsTrue d ↔ (A ⊎ (B ⊎ (C ⊎ D)))
-decided_by_fourth a b c d first second third fourth no_first no_second no_third = (
-  (λ h. inr (inr (inr (fourth.0 h)))),
-  (λ h. ⊎_elim (λ x. absurd (false≢true (sym no_first ∙ first.1 x)))
-      (λ rest. ⊎_elim (λ x. absurd (false≢true (sym no_second ∙ second.1 x)))
-      (λ rest. ⊎_elim (λ x. absurd (false≢true (sym no_third ∙ third.1 x))) (λ x. fourth.1 x) rest) rest) h),
-)
+-- one of two tests
+pub either : {A B : Type 0} (a b : Bool) → (a ≡ true) ↔ A → (b ≡ true) ↔ B → ((a || b) ≡ true) ↔ (A ⊎ B)
+either true b first second = ((λ _. inl (first.0 refl)), (λ _. refl))
+either false b first second = decided_by_rest false b first second refl
 
 pub by_value : (a b : Bool) → a ≡ b → IsTrue a ↔ (b ≡ true)
 by_value a b is = ((λ h. sym is ∙ h), (λ h. is ∙ h))

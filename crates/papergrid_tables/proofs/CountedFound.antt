@@ -1,9 +1,9 @@
 -- What the counts of a border table tell of its lines.
 use Rattle.std.proofs.Common.{◌≡◌, ℕ, ◌+◌, Bool, true, false, ◌&&◌, cond, List, [], ◌∷◌, eqb, Option, Some, refl, sym, ap, ◌∙◌, arith}
-use Rattle.std.specs.Prelude.{◌||◌, ◌↔◌, IsTrue, IsSome, is_some, nat_lt}
+use Rattle.std.specs.Prelude.{◌||◌, ◌⊎◌, ◌↔◌, IsTrue, IsSome, is_some, nat_lt}
 use Rattle.std.specs.Ordering.{nat_cmp}
 use Rattle.std.specs.FinMap.{get, from_entries}
-use Rattle.std.specs.HashMap.{HashMap, keys}
+use Rattle.std.specs.HashMap.{HashMap, keys, get as get_in}
 use Rattle.std.specs.List.{count_by, list_any}
 use Rattle.std.specs.Map.{keys_of, values_of}
 use Rattle.std.proofs.lemmas.Bool.{eqb-true, eq-eqb}
@@ -19,7 +19,7 @@ use Rattle.papergrid_tables.specs.Keys.{position_cmp}
 use Rattle.papergrid_tables.specs.Places.{HasEnd}
 use Rattle.papergrid_tables.specs.declared.counted_lines.Lines.{Lines}
 use Rattle.papergrid_tables.proofs.AnyLemmas.{any_from_found, some_key}
-use Rattle.papergrid_tables.proofs.BorderFound.{ends_scan, some_value}
+use Rattle.papergrid_tables.proofs.BorderFound.{either, ends_scan, key_scan, some_value}
 use Rattle.papergrid_tables.proofs.KeyLemmas.{exact_position_eq, get_at_position, position_equiv}
 
 -- a count is above 0 where something is counted
@@ -73,3 +73,14 @@ places_counted direction n places counts b counted is =
           any ∙ by_key test places.entries
           ∙ any_from_found position_equiv (λ e. test e.0) places.entries exact_position_eq h.0 held.0 (sym (get_at_position places.entries h.0) ∙ held.1) (eq-eqb _ _ h.1)),
     )
+
+-- a line, an edge or a corner
+pub any_held : {L T R S U V W : Type 0} (direction : Direction) (n : ℕ) (lines : HashMap ℕ L W) (edges : HashMap Position T R) (edge_counts : HashMap ℕ ℕ S) (corners : HashMap Position T U) (corner_counts : HashMap ℕ ℕ V) (b : Bool)
+    → AreCounts direction edge_counts (keys edges) → AreCounts direction corner_counts (keys corners)
+    → b ≡ (is_some (get_in eqb lines n) || (nat_lt 0 (count_of edge_counts n) || nat_lt 0 (count_of corner_counts n)))
+    → IsTrue b ↔ (IsSome (get (from_entries {R = nat_cmp} lines.entries) n)
+    ⊎ (((p : Position) × (along direction p ≡ n) × IsSome (get (from_entries {R = position_cmp} edges.entries) p))
+    ⊎ ((p : Position) × (along direction p ≡ n) × IsSome (get (from_entries {R = position_cmp} corners.entries) p))))
+any_held direction n lines edges edge_counts corners corner_counts b edges_counted corners_counted is =
+    rw is (either _ _ (key_scan lines.entries n _ refl)
+    (either _ _ (places_counted direction n edges edge_counts _ edges_counted refl) (places_counted direction n corners corner_counts _ corners_counted refl)))

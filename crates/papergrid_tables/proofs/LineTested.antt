@@ -1,12 +1,12 @@
 -- The tests of lines say what the definition of lines says.
-use Rattle.std.proofs.Common.{◌≡◌, ℕ, Bool, true, false, eqb, Option, Some, None, refl, sym, ap, subst, ◌∙◌, inl, inr, ⊎_elim}
-use Rattle.std.specs.Prelude.{◌||◌, ◌⊎◌, ◌↔◌, IsTrue, IsSome, is_some}
+use Rattle.std.proofs.Common.{◌≡◌, ℕ, Bool, true, false, eqb, Option, Some, None, refl, sym, ap, subst, ◌∙◌}
+use Rattle.std.specs.Prelude.{◌↔◌, IsTrue, IsSome, is_some}
 use Rattle.std.specs.Cmp.{unsigned_tied}
 use Rattle.std.specs.Ordering.{eq_by_cmp, nat_cmp}
 use Rattle.std.specs.declared.cmp.Ordering.{Ordering}
 use Rattle.std.specs.List.{list_any}
 use Rattle.std.specs.FinMap.{FinMap, get, keys, contains_key-keys}
-use Rattle.std.proofs.lemmas.Bool.{false≢true, eqb-true, eq-eqb}
+use Rattle.std.proofs.lemmas.Bool.{eqb-true, eq-eqb}
 use Rattle.std.proofs.lemmas.Map.Keys.{any_passes_from_place}
 use Rattle.papergrid_values.specs.declared.position.Position.{Position}
 use Rattle.papergrid_values.specs.declared.horizontal_line.HorizontalLine.{HorizontalLine}
@@ -16,7 +16,7 @@ use Rattle.papergrid_tables.specs.Keys.{position_cmp}
 use Rattle.papergrid_tables.specs.LineTests.{ends_at_column, ends_at_row, horizontal_line_at, vertical_line_at}
 use Rattle.papergrid_tables.specs.Places.{HasHorizontal, HasVertical, HasEnd}
 use Rattle.papergrid_tables.proofs.AnyLemmas.{any_place}
-use Rattle.papergrid_tables.proofs.BorderFound.{has_end_is, some_value}
+use Rattle.papergrid_tables.proofs.BorderFound.{either, has_end_is, some_value}
 use Rattle.papergrid_tables.proofs.KeyLemmas.{exact_position_eq, position_ties, position_equiv}
 
 -- some key that is held passes
@@ -61,11 +61,6 @@ end_test IsEnd test m is none = (
       (found.0, held.0, held.1, (is held.0).0 (subst (λ o. test o ≡ true) held.1 found.2))),
   (λ h. from_key exact_number number_ties m (λ n. test (get m n)) h.0 (ap is_some h.2) (subst (λ o. test o ≡ true) (sym h.2) ((is h.1).1 h.3))),
 )
-
--- one of two tests
-either : {A B : Type 0} (a b : Bool) → (a ≡ true) ↔ A → (b ≡ true) ↔ B → ((a || b) ≡ true) ↔ (A ⊎ B)
-either true b first second = ((λ _. inl (first.0 refl)), (λ _. refl))
-either false b first second = ((λ h. inr (second.0 h)), (λ h. ⊎_elim (λ x. absurd (false≢true (first.1 x))) (λ y. second.1 y) h))
 
 itself : (b : Bool) → (b ≡ true) ↔ (b ≡ true)
 itself b = ((λ h. h), (λ h. h))

@@ -7,7 +7,9 @@ use Rattle.std.specs.Map.{keys_of, lookup, values_of}
 use Rattle.std.proofs.lemmas.List.Sums.{sum_by-cons}
 use Rattle.std.proofs.lemmas.Map.Entries.{entries_from_clone}
 use Rattle.papergrid_values.specs.declared.direction.Direction.{Direction}
+use Rattle.papergrid_values.specs.declared.horizontal_line.HorizontalLine.{HorizontalLine}
 use Rattle.papergrid_values.specs.declared.position.Position.{Position}
+use Rattle.papergrid_values.specs.declared.vertical_line.VerticalLine.{VerticalLine}
 use Rattle.papergrid_tables.specs.ForProofs.CountedLines.{AreEndsCounted}
 use Rattle.papergrid_tables.specs.ForProofs.Counts.{AreCounts, number_on}
 use Rattle.papergrid_tables.specs.declared.counted_lines.Lines.{Lines}
@@ -25,6 +27,23 @@ module _ {T : Type 0} (R : Option T → Option T → Type 0) (appears : (x : T) 
   part_set None (Some y) h = absurd (appears y h)
   part_set (Some x) None h = absurd (goes x h)
   part_set (Some x) (Some y) h = refl
+
+  -- lines, part by part
+  pub horizontal_line_copy : ((x y : T) → R (Some x) (Some y) → y ≡ x) → (old copy : HorizontalLine T) → R old.main copy.main → R old.intersection copy.intersection → R old.left copy.left → R old.right copy.right → copy ≡ old
+  horizontal_line_copy same old copy main crossing first last = λ i. record {
+    main = part_copy same old.main copy.main main i;
+    intersection = part_copy same old.intersection copy.intersection crossing i;
+    left = part_copy same old.left copy.left first i;
+    right = part_copy same old.right copy.right last i;
+  }
+
+  pub vertical_line_copy : ((x y : T) → R (Some x) (Some y) → y ≡ x) → (old copy : VerticalLine T) → R old.main copy.main → R old.intersection copy.intersection → R old.top copy.top → R old.bottom copy.bottom → copy ≡ old
+  vertical_line_copy same old copy main crossing first last = λ i. record {
+    main = part_copy same old.main copy.main main i;
+    intersection = part_copy same old.intersection copy.intersection crossing i;
+    top = part_copy same old.top copy.top first i;
+    bottom = part_copy same old.bottom copy.bottom last i;
+  }
 
 module _ {K X : Type 0} (C : K → K → Type 0) (D : X → X → Type 0) where
   pub keys_copied : ((x y : K) → C x y → y ≡ x) → (es fs : List (K × X)) → AllZip (λ p q. C p.0 q.0 × D p.1 q.1) es fs → keys_of fs ≡ keys_of es

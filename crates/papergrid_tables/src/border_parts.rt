@@ -1,16 +1,20 @@
 //! Steps on the maps of a `BorderTable`.
 
-ghost use Rattle.std.specs.Prelude.{◌≡◌, ◌+◌, ◌<◌, ◌^◌, ◌||◌, OnOk, None, if◌then◌else◌, nat_eq, option_copied, option_and_then};
+ghost use Rattle.std.specs.Prelude.{◌≡◌, ◌+◌, ◌<◌, ◌^◌, ◌||◌, OnOk, None, if◌then◌else◌, is_some, nat_eq, nat_lt, option_copied, option_and_then};
 ghost use Rattle.std.specs.Option.{option_or};
 ghost use Rattle.std.specs.HashMap.{get as map_get};
+ghost use Rattle.papergrid_values.specs.Borders.{has_bottom, has_horizontal, has_left, has_right, has_top, has_vertical};
 ghost use Rattle.papergrid_values.specs.declared.direction.Direction.TheVariants.{Columns, Rows};
 ghost use Rattle.papergrid_values.specs.declared.position.Position.{Position};
 ghost use Rattle.papergrid_tables.specs.BorderCalls.{below, right_of, horizontal_part, vertical_part, corner_part};
 ghost use Rattle.papergrid_tables.specs.ForProofs.CountedPlaces.{AreCornersCounted, AreEdgesCounted, HasCornerRoom, HasEdgeRoom};
+ghost use Rattle.papergrid_tables.specs.ForProofs.Counts.{count_of};
 ghost use Rattle.papergrid_tables.specs.Keys.{position_eq};
 ghost use Rattle.papergrid_tables.specs.Places as places;
 
 use crate::counted_places::{Corners, Edges};
+use crate::hashed::is_held;
+use crate::line_counts::LineCounts;
 use papergrid_values::{Border, Borders, Direction, HorizontalLine, Position, VerticalLine};
 use std::alloc::AllocError;
 use std::collections::HashMap;
@@ -129,11 +133,53 @@ pub(crate) fn of_frame<T>(frame: &Borders<T>, pos: Position, shape: (usize, usiz
     }
 }
 
-/// The answer for the first place, for the last one, or for those between.
-pub(crate) fn at_ends(place: usize, count: usize, first: bool, end: bool, inner: bool) -> bool
-    ensures { result ≡ places.at_ends place count first end inner }
+/// Whether the frame has a part for the vertical line at a column.
+pub(crate) fn in_frame_vertical<T>(frame: &Borders<T>, col: usize, count: usize) -> bool
+    ensures { result ≡ places.at_ends col count (has_left frame.now) (has_right frame.now) (has_vertical frame.now) }
 {
-    (place == 0 && first) || (place == count && end) || (0 < place && place < count && inner)
+    if 0 < col && col < count {
+        return frame.has_vertical();
+    }
+    (col == 0 && frame.has_left()) || (col == count && frame.has_right())
+}
+
+/// Whether the frame has a part for the horizontal line at a row.
+pub(crate) fn in_frame_horizontal<T>(frame: &Borders<T>, row: usize, count: usize) -> bool
+    ensures { result ≡ places.at_ends row count (has_top frame.now) (has_bottom frame.now) (has_horizontal frame.now) }
+{
+    if 0 < row && row < count {
+        return frame.has_horizontal();
+    }
+    (row == 0 && frame.has_top()) || (row == count && frame.has_bottom())
+}
+
+/// Whether a line is held there, or an edge or a corner counted. Most tables hold none at all.
+pub(crate) fn is_held_on<L>(
+    line: usize,
+    lines: &HashMap<usize, L>,
+    edges: &LineCounts,
+    corners: &LineCounts,
+) -> bool
+    ensures { result ≡ (is_some (map_get nat_eq lines.now line) || (nat_lt 0 (count_of edges.now.counts line) || nat_lt 0 (count_of corners.now.counts line))) }
+{
+    if lines.is_empty() && edges.is_bare() && corners.is_bare() {
+        return false;
+    }
+    is_found_on(line, lines, edges, corners)
+}
+
+// The same by look-ups. They stand apart, so that a question about a table that holds none keeps no
+// registers for them.
+#[inline(never)]
+fn is_found_on<L>(
+    line: usize,
+    lines: &HashMap<usize, L>,
+    edges: &LineCounts,
+    corners: &LineCounts,
+) -> bool
+    ensures { result ≡ (is_some (map_get nat_eq lines.now line) || (nat_lt 0 (count_of edges.now.counts line) || nat_lt 0 (count_of corners.now.counts line))) }
+{
+    is_held(lines, line) || edges.holds(line) || corners.holds(line)
 }
 
 /// Makes room for the parts of a border.

@@ -195,14 +195,7 @@ impl<T> BorderTable<T> {
         if self.global.is_some() {
             return true;
         }
-        let frame = &self.frame;
-        if parts::at_ends(
-            col,
-            count,
-            frame.has_left(),
-            frame.has_right(),
-            frame.has_vertical(),
-        ) {
+        if parts::in_frame_vertical(&self.frame, col, count) {
             return true;
         }
         self.is_vertical_set(col, count)
@@ -223,14 +216,7 @@ impl<T> BorderTable<T> {
         if self.global.is_some() {
             return true;
         }
-        let frame = &self.frame;
-        if parts::at_ends(
-            row,
-            count,
-            frame.has_top(),
-            frame.has_bottom(),
-            frame.has_horizontal(),
-        ) {
+        if parts::in_frame_horizontal(&self.frame, row, count) {
             return true;
         }
         self.is_horizontal_set(row, count)
@@ -244,13 +230,12 @@ impl<T> BorderTable<T> {
         if self.horizontal_lines.reach(col, count) {
             return true;
         }
-        if self.vertical_lines.values.contains_key(&col) {
-            return true;
-        }
-        if self.vertical_edges.on_lines.holds(col) {
-            return true;
-        }
-        self.corners.in_columns.holds(col)
+        parts::is_held_on(
+            col,
+            &self.vertical_lines.values,
+            &self.vertical_edges.on_lines,
+            &self.corners.in_columns,
+        )
     }
 
     /// Whether a horizontal line, an edge or a corner is held at a row, where there are so many
@@ -261,13 +246,12 @@ impl<T> BorderTable<T> {
         if self.vertical_lines.reach(row, count) {
             return true;
         }
-        if self.horizontal_lines.values.contains_key(&row) {
-            return true;
-        }
-        if self.horizontal_edges.on_lines.holds(row) {
-            return true;
-        }
-        self.corners.in_rows.holds(row)
+        parts::is_held_on(
+            row,
+            &self.horizontal_lines.values,
+            &self.horizontal_edges.on_lines,
+            &self.corners.in_rows,
+        )
     }
 }
 

@@ -15,6 +15,24 @@ pub(crate) struct Ends {
     last: bool,
 }
 
+impl Ends {
+    // Of no line.
+    const NONE: Ends = Ends {
+        first: false,
+        last: false,
+    };
+
+    fn of<T>(first: &Option<T>, last: &Option<T>) -> Ends
+        ensures first { result.first ≡ is_some first.now }
+        ensures last { result.last ≡ is_some last.now }
+    {
+        Ends {
+            first: first.is_some(),
+            last: last.is_some(),
+        }
+    }
+}
+
 /// A line with two ends.
 pub(crate) trait Ended {
     ghost has_first: { Self → Bool };
@@ -33,10 +51,7 @@ impl<T> Ended for HorizontalLine<T> {
     ghost has_last = { λ l. is_some l.right };
 
     fn ends(&self) -> Ends {
-        Ends {
-            first: self.left.is_some(),
-            last: self.right.is_some(),
-        }
+        Ends::of(&self.left, &self.right)
     }
 }
 
@@ -46,10 +61,7 @@ impl<T> Ended for VerticalLine<T> {
     ghost has_last = { λ l. is_some l.bottom };
 
     fn ends(&self) -> Ends {
-        Ends {
-            first: self.top.is_some(),
-            last: self.bottom.is_some(),
-        }
+        Ends::of(&self.top, &self.bottom)
     }
 }
 
@@ -123,14 +135,6 @@ impl<L: Ended + Drop> Lines<L> {
         let old = self.values.remove(&number);
         self.recount(ends_of(old.as_ref()), Ends::NONE);
     }
-}
-
-impl Ends {
-    // Of no line.
-    const NONE: Ends = Ends {
-        first: false,
-        last: false,
-    };
 }
 
 // Which ends of a line are set, if there is one.

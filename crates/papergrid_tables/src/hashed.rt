@@ -1,6 +1,6 @@
 //! Single steps on hashed maps, told by what each key has.
 
-ghost use Rattle.std.specs.Prelude.{◌≡◌, ◌+◌, ◌<◌, ◌≤◌, Some, None, OnOk, OnErr, option_copied};
+ghost use Rattle.std.specs.Prelude.{◌≡◌, ◌+◌, ◌<◌, ◌≤◌, Some, None, OnOk, OnErr, is_some, option_copied};
 ghost use Rattle.std.specs.HashMap.{spare, IsUnchanged, Updates, get as map_get};
 
 use std::alloc::AllocError;
@@ -12,6 +12,13 @@ pub fn look_up<K: Eq + Hash + Copy, T>(map: &HashMap<K, T>, key: K) -> Option<&T
     ensures value { option_copied result ≡ map_get K.eq map.now key }
 {
     if map.is_empty() { None } else { map.get(&key) }
+}
+
+/// Whether a key has something. Where the map is empty, no hash is made.
+pub fn is_held<K: Eq + Hash + Copy, T>(map: &HashMap<K, T>, key: K) -> bool
+    ensures { result ≡ is_some (map_get K.eq map.now key) }
+{
+    look_up(map, key).is_some()
 }
 
 /// Writes a value where there is room, so that memory cannot be refused.

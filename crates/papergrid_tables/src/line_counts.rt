@@ -1,6 +1,6 @@
 //! Counts by the number of a line.
 
-ghost use Rattle.std.specs.Prelude.{◌≡◌, ◌+◌, ◌<◌, ◌≤◌, ◌^◌, ◌==◌, ℕ, OnOk, if◌then◌else◌, nat_lt};
+ghost use Rattle.std.specs.Prelude.{◌≡◌, ◌+◌, ◌<◌, ◌≤◌, ◌^◌, ◌==◌, ℕ, IsTrue, OnOk, if◌then◌else◌, nat_lt};
 ghost use Rattle.std.specs.HashMap.{spare};
 ghost use Rattle.papergrid_tables.specs.ForProofs.Counts.{count_of};
 
@@ -51,6 +51,13 @@ impl LineCounts {
         if let Some(held) = self.counts.get_mut(&line) {
             *held -= 1;
         }
+    }
+
+    /// Whether no line has a count. Where each count is 0 it may say no.
+    pub(crate) fn is_bare(&self) -> bool
+        ensures { IsTrue result → (n : ℕ) → count_of self.now.counts n ≡ 0 }
+    {
+        self.counts.is_empty()
     }
 
     /// Whether there is one on a line.

@@ -6,7 +6,7 @@ use Rattle.papergrid_values.specs.declared.vertical_line.VerticalLine.{VerticalL
 use Rattle.papergrid_values.specs.declared.position.Position.{Position}
 use Rattle.papergrid_tables.proofs.BorderTold.{table_of}
 use Rattle.papergrid_values.specs.declared.direction.Direction.TheVariants.{Columns, Rows}
-use Rattle.papergrid_tables.proofs.PartCopies.{counts_copied, ends_copied, keys_copied, part_copy, part_set}
+use Rattle.papergrid_tables.proofs.PartCopies.{counts_copied, ends_copied, horizontal_line_copy, keys_copied, part_copy, part_set, vertical_line_copy}
 use Rattle.papergrid_tables.proofs.border_table.BorderTableClone.clone.Goals as goal
 
 pub returns : goal.returns
@@ -34,18 +34,8 @@ returns g c = record {
         right = part_copy (by_variants g.row.T g.T.Clone g.T.Clone-dict g.T.Destruct-dict) (λ x k. k) (λ x k. k) same old.frame.right c.in_ok-clone-2.field-0.right framed.1.1.1.1.1.1.1.1.1.1.1.1.1.0 i;
         right_intersection = part_copy (by_variants g.row.T g.T.Clone g.T.Clone-dict g.T.Destruct-dict) (λ x k. k) (λ x k. k) same old.frame.right_intersection c.in_ok-clone-2.field-0.right_intersection framed.1.1.1.1.1.1.1.1.1.1.1.1.1.1 i;
       } in
-      let horizontal_lines = entries_from_clone _ _ (λ (x y : ℕ) k. k) (λ (x y : HorizontalLine T) h. λ i. record {
-        main = part_copy (by_variants g.row.T g.T.Clone g.T.Clone-dict g.T.Destruct-dict) (λ x k. k) (λ x k. k) same x.main y.main h.0 i;
-        intersection = part_copy (by_variants g.row.T g.T.Clone g.T.Clone-dict g.T.Destruct-dict) (λ x k. k) (λ x k. k) same x.intersection y.intersection h.1.0 i;
-        left = part_copy (by_variants g.row.T g.T.Clone g.T.Clone-dict g.T.Destruct-dict) (λ x k. k) (λ x k. k) same x.left y.left h.1.1.0 i;
-        right = part_copy (by_variants g.row.T g.T.Clone g.T.Clone-dict g.T.Destruct-dict) (λ x k. k) (λ x k. k) same x.right y.right h.1.1.1 i;
-      }) _ _ c.in_ok-clone-3.ensures.cases.0 in
-      let vertical_lines = entries_from_clone _ _ (λ (x y : ℕ) k. k) (λ (x y : VerticalLine T) h. λ i. record {
-        main = part_copy (by_variants g.row.T g.T.Clone g.T.Clone-dict g.T.Destruct-dict) (λ x k. k) (λ x k. k) same x.main y.main h.0 i;
-        intersection = part_copy (by_variants g.row.T g.T.Clone g.T.Clone-dict g.T.Destruct-dict) (λ x k. k) (λ x k. k) same x.intersection y.intersection h.1.0 i;
-        top = part_copy (by_variants g.row.T g.T.Clone g.T.Clone-dict g.T.Destruct-dict) (λ x k. k) (λ x k. k) same x.top y.top h.1.1.0 i;
-        bottom = part_copy (by_variants g.row.T g.T.Clone g.T.Clone-dict g.T.Destruct-dict) (λ x k. k) (λ x k. k) same x.bottom y.bottom h.1.1.1 i;
-      }) _ _ c.in_ok-clone-4.ensures.cases.0 in
+      let horizontal_lines = entries_from_clone _ _ (λ (x y : ℕ) k. k) (λ (x y : HorizontalLine T) h. horizontal_line_copy (by_variants g.row.T g.T.Clone g.T.Clone-dict g.T.Destruct-dict) (λ x k. k) (λ x k. k) same x y h.0 h.1.0 h.1.1.0 h.1.1.1) _ _ c.in_ok-clone-3.ensures.cases.0 in
+      let vertical_lines = entries_from_clone _ _ (λ (x y : ℕ) k. k) (λ (x y : VerticalLine T) h. vertical_line_copy (by_variants g.row.T g.T.Clone g.T.Clone-dict g.T.Destruct-dict) (λ x k. k) (λ x k. k) same x y h.0 h.1.0 h.1.1.0 h.1.1.1) _ _ c.in_ok-clone-4.ensures.cases.0 in
       let horizontal_edges = entries_from_clone _ _ (λ (x y : Position) h. h) same _ _ c.in_ok-clone-5.ensures.cases.0 in
       let vertical_edges = entries_from_clone _ _ (λ (x y : Position) h. h) same _ _ c.in_ok-clone-6.ensures.cases.0 in
       let corners = entries_from_clone _ _ (λ (x y : Position) h. h) same _ _ c.in_ok-clone-7.ensures.cases.0 in
