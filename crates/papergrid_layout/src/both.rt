@@ -18,11 +18,7 @@ use std::alloc::Global;
 fn earlier_of(p: Position, q: Position) -> Position
     ensures { result ≡ earlier_of p q }
 {
-    if q.row < p.row || q.row == p.row && q.col < p.col {
-        q
-    } else {
-        p
-    }
+    if q < p { q } else { p }
 }
 
 /// The same, where there are any.

@@ -28,8 +28,7 @@ impl Anchor {
     pub fn is_before(&self, position: Position) -> bool
         ensures { IsTrue result ↔ IsBefore self.now.position position }
     {
-        self.position.row < position.row
-            || self.position.row == position.row && self.position.col < position.col
+        self.position < position
     }
 }
 
