@@ -51,7 +51,9 @@ pub mod colors {
 
 /// Widths of columns and heights of rows.
 pub mod dimension {
-    pub use papergrid_layout::{Dimension, Estimate, LayoutError};
+    pub use papergrid_layout::{
+        Dimension, Estimate, LayoutError, Place, PlaceError, place, total_height, total_width,
+    };
 
     /// The sizes of tables whose cells all have the same settings.
     pub mod compact {

@@ -3,5 +3,7 @@ pub mod CheckSteps
 pub mod LawLemmas
 pub mod PairLemmas
 pub mod PlaceLemmas
+pub mod PlaceLaws
+pub mod PlaceSums
 pub mod Told
 pub mod TotalLemmas

@@ -1,5 +1,6 @@
 -- The definitions that the contracts cite.
 pub mod Answers
 pub mod Laws
+pub mod Places
 pub mod Witnesses
 pub mod ForProofs

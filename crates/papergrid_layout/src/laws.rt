@@ -1,6 +1,6 @@
 //! Laws of the definitions, each the contract of a function that does nothing.
 
-ghost use Rattle.std.specs.Prelude.{◌≡◌, ◌↔◌, ◌+◌, ◌≤◌, ℕ, All, AllPairs, Contains, List, length, map};
+ghost use Rattle.std.specs.Prelude.{◌≡◌, ◌↔◌, ◌+◌, ◌≤◌, ◌<◌, ◌^◌, ℕ, All, AllPairs, Contains, Err, List, length, map, slice_index};
 ghost use Rattle.std.specs.Borrow.{Bor};
 ghost use Rattle.papergrid_values.specs.declared.position.Position.{Position};
 ghost use Rattle.papergrid_values.specs.Positions.{IsBefore};
@@ -15,8 +15,10 @@ ghost use Rattle.papergrid_config.specs.declared.spanned.SpannedConfig.{SpannedC
 ghost use Rattle.papergrid_walk.specs.Cells.{demands_of, placed, problem_of, side, visible_cells};
 ghost use Rattle.papergrid_walk.specs.Looks.{Look, spanned_look};
 ghost use Rattle.papergrid_walk.specs.Measures.{cell_measure, line_measure};
-ghost use Rattle.papergrid_layout.specs.Answers.{first_out_of_table};
+ghost use Rattle.papergrid_layout.specs.Answers.{AreBothSizes, first_out_of_table};
 ghost use Rattle.papergrid_layout.specs.Laws.{AreReordered, AreSwapped, IsCellAt, IsNewText, TellTheSame, sizes_told};
+ghost use Rattle.papergrid_layout.specs.Places.{AreApart, HasRoomAtPlace, HaveNoneInCommon, IsPlaced, place_at, total_along};
+ghost use Rattle.papergrid_layout.specs.declared.placement.PlaceError.TheVariants.{TooLarge};
 ghost use Rattle.papergrid_layout.specs.declared.compact.CompactGridDimension.{CompactGridDimension};
 ghost use Rattle.papergrid_layout.specs.declared.iterable.IterGridDimension.{IterGridDimension};
 ghost use Rattle.papergrid_layout.specs.declared.peekable.PeekableGridDimension.{PeekableGridDimension};
@@ -89,4 +91,28 @@ pub fn equal_clones()
     ensures iterable { (x y : IterGridDimension) → ⟦<IterGridDimension as Clone>⟧.is_clone x y → y ≡ x }
     ensures peekable { (x y : PeekableGridDimension) → ⟦<PeekableGridDimension as Clone>⟧.is_clone x y → y ≡ x }
     ensures compact { (x y : CompactGridDimension) → ⟦<CompactGridDimension as Clone>⟧.is_clone x y → y ≡ x }
+{}
+
+/// The places of two cells of one table whose rectangles have no position in common do not meet.
+pub fn places_apart()
+    ensures { (look : Look) (widths heights : ℕ → ℕ) (shape : ℕ × ℕ) (p q : Position) →
+        HaveNoneInCommon look p q → AreApart (place_at look widths heights shape p) (place_at look widths heights shape q) }
+{}
+
+/// With the sizes that records have, each visible cell has a place, and room in it, and none is refused
+/// as too large. The totals fit, and are those of the records' table.
+pub fn places_have_room<C>()
+    ensures room { (look : Look) (measure : C → ℕ × ℕ) (columns : ℕ) (rows : List (List C)) (widths heights : List ℕ) →
+        AreBothSizes look measure columns rows widths heights →
+        All (HasRoomAtPlace look measure (length rows, columns) widths heights) (visible_cells look rows) }
+    ensures never_too_large { (look : Look) (measure : C → ℕ × ℕ) (columns : ℕ) (rows : List (List C)) (widths heights : List ℕ) →
+        AreBothSizes look measure columns rows widths heights → (p : Position) →
+        IsPlaced look (slice_index widths) (slice_index heights) (length rows, columns) p (Err TooLarge) → ⊥ }
+    ensures fit { (look : Look) (measure : C → ℕ × ℕ) (columns : ℕ) (rows : List (List C)) (widths heights : List ℕ) →
+        AreBothSizes look measure columns rows widths heights → (direction : Direction) →
+        total_along look (slice_index widths) (slice_index heights) (length rows, columns) direction < 2 ^ 64 }
+    ensures totals { (look : Look) (measure : C → ℕ × ℕ) (columns : ℕ) (rows : List (List C)) (widths heights : List ℕ) →
+        AreBothSizes look measure columns rows widths heights → (direction : Direction) (total : ℕ) →
+        IsTotal (problem_of look measure columns rows direction) total
+        ↔ (total ≡ total_along look (slice_index widths) (slice_index heights) (length rows, columns) direction) }
 {}

@@ -11,13 +11,20 @@ pub mod dimension;
 pub mod iterable;
 pub mod laws;
 pub mod peekable;
+mod placed;
+pub mod placement;
+mod ruler;
 mod size_list;
+mod totals;
 
 pub use compact::CompactGridDimension;
 pub use dimension::{Dimension, Estimate};
 pub use iterable::IterGridDimension;
 pub use papergrid_axis::LayoutError;
 pub use peekable::PeekableGridDimension;
+pub use placed::place;
+pub use placement::{Place, PlaceError};
+pub use totals::{total_height, total_width};
 
 #[cfg(test)]
 mod tests;

@@ -2,6 +2,7 @@
 
 mod callers;
 mod certificates;
+mod places;
 mod refused;
 mod visible;
 

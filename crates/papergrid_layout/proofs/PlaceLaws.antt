@@ -1,0 +1,214 @@
+-- What the laws of places rest on.
+use Rattle.std.proofs.Common.{◌≡◌, ◌∙◌, ℕ, zero, suc, ◌+◌, ◌<◌, ◌≤◌, Bool, true, inl, inr, List, [], ◌∷◌, length, get_or, take, drop, sum, refl, sym, ap, arith, map, nat_lt}
+use Rattle.std.specs.Prelude.{All, None, Err, ◌^◌, ◌↔◌, filter, slice_index}
+use Rattle.std.specs.List.{range_with_len}
+use Rattle.std.proofs.lemmas.Bool.{cases_Bool, cases_lt, ltb-false}
+use Rattle.std.proofs.lemmas.List.{drop_more, take_all}
+use Rattle.std.proofs.lemmas.List.Sums.{sum_by-cons}
+use Rattle.std.proofs.lemmas.List.Elements.{All-cons, All-head, All-nil, All-tail}
+use Rattle.papergrid_values.specs.declared.position.Position.{Position}
+use Rattle.papergrid_values.specs.declared.direction.Direction.{Direction}
+use Rattle.papergrid_values.specs.declared.direction.Direction.TheVariants.{Columns, Rows}
+use Rattle.papergrid_values.specs.Positions.{along}
+use Rattle.papergrid_axis.specs.declared.demand.Demand.{Demand}
+use Rattle.papergrid_axis.specs.Answers.{AreSizes, IsTotal}
+use Rattle.papergrid_axis.specs.Fits.{HasRoom, range_sum}
+use Rattle.papergrid_axis.specs.Problem.{Problem, total_of}
+use Rattle.papergrid_axis.specs.Ranges.{end_of, first_out, inner_lines, place_of}
+use Rattle.papergrid_axis.proofs.OutLemmas.{if_none}
+use Rattle.papergrid_walk.specs.Cells.{asked, placed, problem_of, side, visible_cells}
+use Rattle.papergrid_walk.specs.Looks.{Look}
+use Rattle.papergrid_layout.specs.Answers.{AreBothSizes}
+use Rattle.papergrid_layout.specs.Places.{AreApart, HasRoomAtPlace, HaveNoneInCommon, IsPlaced, extent, offset, place_at, sum_from, total, total_along}
+use Rattle.papergrid_layout.specs.declared.placement.PlaceError.TheVariants.{TooLarge}
+use Rattle.papergrid_layout.proofs.PlaceSums.{extent-before}
+
+-- ---- apart
+
+-- two ranges with numbers, of which neither ends before the other begins, have a number in common
+pub record Meet (s n t m : ℕ) : Type 0 where
+  pub number : ℕ
+  pub in_one : (s ≤ number) × (number < s + n)
+  pub in_other : (t ≤ number) × (number < t + m)
+
+module _ (size : ℕ → ℕ) (line : ℕ → Bool) where
+  abbrev IsIn : ℕ → ℕ → ℕ → Type 0
+  IsIn s n x = (offset size line s ≤ x) × (x < offset size line s + extent size line s n)
+
+  some_number : (s n x : ℕ) → IsIn s n x → 1 ≤ n
+  some_number s zero x h =
+      let none : extent size line s 0 ≡ 0 = refl in
+      let a : offset size line s ≤ x = h.0 in
+      let b : x < offset size line s + extent size line s 0 = h.1 in
+      absurd (omega arith)
+  some_number s (suc n) x h = omega arith
+
+  overlap : (s n t m x : ℕ) → IsIn s n x → IsIn t m x → t < s + n
+  overlap s n t m x h k = elim (cases_lt t (s + n)) [
+    | inl l ↦ l
+    | inr le ↦
+        let before : offset size line s + extent size line s n ≤ offset size line t = extent-before size line s n t le in
+        let a : x < offset size line s + extent size line s n = h.1 in
+        let b : offset size line t ≤ x = k.0 in
+        absurd (omega arith)
+  ]
+
+  pub meets : (s n t m x : ℕ) → IsIn s n x → IsIn t m x → Meet s n t m
+  meets s n t m x h k =
+      let a : t < s + n = overlap s n t m x h k in
+      let b : s < t + m = overlap t m s n x k h in
+      let one : 1 ≤ n = some_number s n x h in
+      let some : 1 ≤ m = some_number t m x k in
+      elim (cases_lt s t) [
+        | inl l ↦ record { number = t; in_one = ((omega arith), (omega arith)); in_other = ((omega arith), (omega arith)) }
+        | inr ge ↦ record { number = s; in_one = ((omega arith), (omega arith)); in_other = ((omega arith), (omega arith)) }
+      ]
+
+pub apart : (look : Look) (widths heights : ℕ → ℕ) (shape : ℕ × ℕ) (p q : Position) → HaveNoneInCommon look p q →
+    AreApart (place_at look widths heights shape p) (place_at look widths heights shape q)
+apart look widths heights shape p q none x y in_p in_q =
+    let across = meets widths (look.draws Columns shape.1) p.col (look.span Columns p) q.col (look.span Columns q) x
+    (in_p.after_left, in_p.before_right) (in_q.after_left, in_q.before_right) in
+    let down = meets heights (look.draws Rows shape.0) p.row (look.span Rows p) q.row (look.span Rows q) y
+    (in_p.below_top, in_p.above_bottom) (in_q.below_top, in_q.above_bottom) in
+    none (record { row = down.number; col = across.number })
+    (record { below_top = down.in_one.0; above_bottom = down.in_one.1; after_left = across.in_one.0; before_right = across.in_one.1 })
+    (record { below_top = down.in_other.0; above_bottom = down.in_other.1; after_left = across.in_other.0; before_right = across.in_other.1 })
+
+-- ---- sizes as lists
+
+sum_from-list : (sizes : List ℕ) (s n : ℕ) → s + n ≤ length sizes → sum (take n (drop s sizes)) ≡ sum_from (slice_index sizes) s n
+sum_from-list sizes s zero le = refl
+sum_from-list sizes s (suc n) le =
+    let e : drop s sizes ≡ get_or sizes s 0 ∷ drop (s + 1) sizes = drop_more sizes s 0 (omega arith) in
+    let b : sum (take (suc n) (drop s sizes)) ≡ sum (get_or sizes s 0 ∷ take n (drop (s + 1) sizes)) = ap (λ zs. sum (take (suc n) zs)) e in
+    let c : sum (get_or sizes s 0 ∷ take n (drop (s + 1) sizes)) ≡ get_or sizes s 0 + sum (take n (drop (s + 1) sizes)) =
+    sum_by-cons (λ x. x) (get_or sizes s 0) (take n (drop (s + 1) sizes)) in
+    let d : sum_from (slice_index sizes) s (suc n) ≡ slice_index sizes s + sum_from (slice_index sizes) (s + 1) n =
+    sum_by-cons (slice_index sizes) s (range_with_len (s + 1) n) in
+    let ih : sum (take n (drop (s + 1) sizes)) ≡ sum_from (slice_index sizes) (s + 1) n = sum_from-list sizes (s + 1) n (omega arith) in
+    omega arith
+
+-- the total by sizes as a list is that of the problem
+total-told : (problem : Problem) (sizes : List ℕ) → length sizes ≡ problem.count →
+    total (slice_index sizes) problem.line problem.count ≡ total_of problem sizes
+total-told problem sizes many =
+    let whole : sum (take (length sizes) (drop 0 sizes)) ≡ sum_from (slice_index sizes) 0 (length sizes) = sum_from-list sizes 0 (length sizes) (omega arith) in
+    let all : sum (take (length sizes) (drop 0 sizes)) ≡ sum sizes = ap sum (take_all (length sizes) sizes (omega arith)) in
+    let at : sum_from (slice_index sizes) 0 (length sizes) ≡ sum_from (slice_index sizes) 0 problem.count = ap (sum_from (slice_index sizes) 0) many in
+    omega arith
+
+pub fits-told : (problem : Problem) (sizes : List ℕ) → AreSizes problem sizes → total (slice_index sizes) problem.line problem.count < 2 ^ 64
+fits-told problem sizes are =
+    let told : total (slice_index sizes) problem.line problem.count ≡ total_of problem sizes = total-told problem sizes are.fits.one_each in
+    let fits : total_of problem sizes < 2 ^ 64 = are.total in
+    omega arith
+
+pub total-is : (problem : Problem) (sizes : List ℕ) → AreSizes problem sizes → (answer : ℕ) → IsTotal problem answer →
+    answer ≡ total (slice_index sizes) problem.line problem.count
+total-is problem sizes are answer is =
+    is.adds_up ∙ ap (total_of problem) (is.are_sizes.exact ∙ sym are.exact) ∙ sym (total-told problem sizes are.fits.one_each)
+
+pub is-total : (problem : Problem) (sizes : List ℕ) → AreSizes problem sizes → (answer : ℕ) →
+    answer ≡ total (slice_index sizes) problem.line problem.count → IsTotal problem answer
+is-total problem sizes are answer e = record { sizes = sizes; are_sizes = are; adds_up = e ∙ total-told problem sizes are.fits.one_each }
+
+-- ---- room
+
+-- a range that lies in the table is as long as what it has room for
+extent-room : (line : ℕ → Bool) (sizes : List ℕ) (d : Demand) → end_of d ≤ length sizes → HasRoom line sizes d →
+    d.need ≤ extent (slice_index sizes) line d.start d.span
+extent-room line sizes d le room =
+    let told : range_sum sizes d ≡ sum_from (slice_index sizes) d.start d.span = sum_from-list sizes d.start d.span le in
+    let need : d.need ≤ range_sum sizes d + inner_lines line d = room in
+    omega arith
+
+module _ {C : Type 0} (look : Look) (measure : C → ℕ × ℕ) (columns : ℕ) (cells : List (List C)) (widths heights : List ℕ)
+    (are : AreBothSizes look measure columns cells widths heights) where
+  abbrev problem : Direction → Problem
+  problem = problem_of look measure columns cells
+
+  abbrev size : Direction → List ℕ
+  size Columns = widths
+  size Rows = heights
+
+  sized : (direction : Direction) → AreSizes (problem direction) (size direction)
+  sized Columns = are.widths
+  sized Rows = are.heights
+
+  pub both-fit : (direction : Direction) → total_along look (slice_index widths) (slice_index heights) (length cells, columns) direction < 2 ^ 64
+  both-fit Columns = fits-told (problem Columns) widths are.widths
+  both-fit Rows = fits-told (problem Rows) heights are.heights
+
+  abbrev HasRoomIn : Position × C → Type 0
+  HasRoomIn = HasRoomAtPlace look measure (length cells, columns) widths heights
+
+  -- the cell's range lies in the table, and has room for it
+  record IsGood (direction : Direction) (x : Position × C) : Type 0 where
+    ends : along direction x.0 + look.span direction x.0 ≤ (problem direction).count
+    room : side direction (measure x.1) + look.before direction x.0 + look.after direction x.0
+        ≤ extent (slice_index (size direction)) (problem direction).line (along direction x.0) (look.span direction x.0)
+
+  good : (direction : Direction) (xs : List (Position × C)) → first_out (problem direction).count (map (asked direction look measure) xs) ≡ None →
+      All (HasRoom (problem direction).line (size direction)) (map (asked direction look measure) xs) → All (IsGood direction) xs
+  good direction [] none room = All-nil (IsGood direction)
+  good direction (x ∷ xs) none room =
+      let d = asked direction look measure x in
+      let ds = map (asked direction look measure) xs in
+      let inside = if_none (nat_lt (problem direction).count (end_of d)) (place_of d) (first_out (problem direction).count ds) none in
+      let ends : end_of d ≤ (problem direction).count = ltb-false (problem direction).count (end_of d) inside.0 in
+      let many : length (size direction) ≡ (problem direction).count = (sized direction).fits.one_each in
+      All-cons (IsGood direction) x xs
+      (record {
+        ends = ends;
+        room = extent-room (problem direction).line (size direction) d (omega arith) (All-head (HasRoom (problem direction).line (size direction)) d ds room);
+      })
+      (good direction xs inside.1 (All-tail (HasRoom (problem direction).line (size direction)) d ds room))
+
+  abbrev IsShown : Position × C → Type 0
+  IsShown x = look.shows x.0 ≡ true
+
+  shown : (xs : List (Position × C)) → All IsShown (filter (λ x. look.shows x.0) xs)
+  shown [] = All-nil IsShown
+  shown (x ∷ xs) = elim (cases_Bool (look.shows x.0)) [
+    | inl t ↦ rw t (All-cons IsShown x (filter (λ y. look.shows y.0) xs) t (shown xs))
+    | inr f ↦ rw f (shown xs)
+  ]
+
+  each : (xs : List (Position × C)) → All IsShown xs → All (IsGood Columns) xs → All (IsGood Rows) xs → All HasRoomIn xs
+  each [] visible across down = All-nil HasRoomIn
+  each (x ∷ xs) visible across down =
+      let wide = All-head (IsGood Columns) x xs across in
+      let high = All-head (IsGood Rows) x xs down in
+      All-cons HasRoomIn x xs
+      (record {
+        place = place_at look (slice_index widths) (slice_index heights) (length cells, columns) x.0;
+        is_placed = record {
+          inside = record { visible = All-head IsShown x xs visible; across = wide.ends; down = high.ends };
+          fit = both-fit;
+          exact = refl;
+        };
+        wide_enough = wide.room;
+        high_enough = high.room;
+      })
+      (each xs (All-tail IsShown x xs visible) (All-tail (IsGood Columns) x xs across) (All-tail (IsGood Rows) x xs down))
+
+  pub all-have-room : All HasRoomIn (visible_cells look cells)
+  all-have-room =
+      each (visible_cells look cells) (shown (placed cells))
+      (good Columns (visible_cells look cells) are.widths.none_out are.widths.fits.room)
+      (good Rows (visible_cells look cells) are.heights.none_out are.heights.fits.room)
+
+  pub never-too-large : (p : Position) → IsPlaced look (slice_index widths) (slice_index heights) (length cells, columns) p (Err TooLarge) → ⊥
+  never-too-large p refused =
+      let across = both-fit Columns in
+      let down = both-fit Rows in
+      elim refused.1 [
+        | inl large ↦ omega arith
+        | inr large ↦ omega arith
+      ]
+
+  pub totals : (direction : Direction) (answer : ℕ) → IsTotal (problem direction) answer
+      ↔ (answer ≡ total_along look (slice_index widths) (slice_index heights) (length cells, columns) direction)
+  totals Columns answer = (total-is (problem Columns) widths are.widths answer, is-total (problem Columns) widths are.widths answer)
+  totals Rows answer = (total-is (problem Rows) heights are.heights answer, is-total (problem Rows) heights are.heights answer)

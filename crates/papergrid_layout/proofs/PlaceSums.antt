@@ -1,0 +1,108 @@
+-- Where columns (rows) begin, and how long ranges of them are.
+use Rattle.std.proofs.Common.{◌≡◌, ℕ, zero, suc, ◌+◌, ◌-◌, ◌<◌, ◌≤◌, Bool, true, false, cond, inl, inr, [], refl, sym, ap, subst, ◌∙◌, arith, count_by, nat_lt}
+use Rattle.std.specs.Prelude.{Option, None, ◌^◌}
+use Rattle.std.specs.Option.{SomeIff}
+use Rattle.std.specs.List.{range_with_len, sum_by}
+use Rattle.std.proofs.lemmas.Bool.{cases_lt, ltb-false}
+use Rattle.std.proofs.lemmas.List.Sums.{sum_by-append, sum_by-cons}
+use Rattle.papergrid_axis.specs.Problem.{all_lines}
+use Rattle.papergrid_axis.proofs.LoopLemmas.{range_with_len-append}
+use Rattle.papergrid_values.specs.declared.direction.Direction.{Direction}
+use Rattle.papergrid_values.specs.declared.direction.Direction.TheVariants.{Columns, Rows}
+use Rattle.papergrid_values.specs.declared.position.Position.{Position}
+use Rattle.papergrid_walk.specs.Looks.{Look}
+use Rattle.papergrid_layout.specs.Places.{HasPlace, extent, offset, sum_from, total, total_along}
+
+-- numbers in a row, cut in two
+sum-cut : (f : ℕ → ℕ) (a m k : ℕ) → sum_by f (range_with_len a (m + k)) ≡ sum_by f (range_with_len a m) + sum_by f (range_with_len (a + m) k)
+sum-cut f a m k = ap (sum_by f) (range_with_len-append a m k) ∙ sum_by-append f (range_with_len a m) (range_with_len (a + m) k)
+
+sum-one : (f : ℕ → ℕ) (a : ℕ) → sum_by f (range_with_len a 1) ≡ f a
+sum-one f a = let e : sum_by f (range_with_len a 1) ≡ f a + 0 = sum_by-cons f a [] in omega arith
+
+module _ (size : ℕ → ℕ) (line : ℕ → Bool) where
+  abbrev drawn : ℕ → ℕ
+  drawn i = cond (line i) 1 0
+
+  -- a range ends where the next number begins, but for the line before that one
+  pub offset-after : (s n : ℕ) → 1 ≤ n → offset size line (s + n) ≡ offset size line s + extent size line s n + drawn (s + n)
+  offset-after s n one =
+      let sizes : sum_from size 0 (s + n) ≡ sum_from size 0 s + sum_from size (0 + s) n = sum-cut size 0 s n in
+      let at : sum_from size (0 + s) n ≡ sum_from size s n = ap (λ k. sum_from size k n) (let e : 0 + s ≡ s = omega arith in e) in
+      let parts : all_lines line (s + n) ≡ count_by line (range_with_len 0 ((s + 1) + ((n - 1) + 1))) =
+      ap (λ k. count_by line (range_with_len 0 k)) (let e : s + n + 1 ≡ (s + 1) + ((n - 1) + 1) = omega arith in e) in
+      let first : count_by line (range_with_len 0 ((s + 1) + ((n - 1) + 1))) ≡ count_by line (range_with_len 0 (s + 1)) + count_by line (range_with_len (0 + (s + 1)) ((n - 1) + 1)) =
+      sum-cut drawn 0 (s + 1) ((n - 1) + 1) in
+      let from : count_by line (range_with_len (0 + (s + 1)) ((n - 1) + 1)) ≡ count_by line (range_with_len (s + 1) ((n - 1) + 1)) =
+      ap (λ k. count_by line (range_with_len k ((n - 1) + 1))) (let e : 0 + (s + 1) ≡ s + 1 = omega arith in e) in
+      let second : count_by line (range_with_len (s + 1) ((n - 1) + 1)) ≡ count_by line (range_with_len (s + 1) (n - 1)) + count_by line (range_with_len (s + 1 + (n - 1)) 1) =
+      sum-cut drawn (s + 1) (n - 1) 1 in
+      let last : count_by line (range_with_len (s + 1 + (n - 1)) 1) ≡ drawn (s + n) =
+      sum-one drawn (s + 1 + (n - 1)) ∙ ap drawn (let e : s + 1 + (n - 1) ≡ s + n = omega arith in e) in
+      omega arith
+
+  -- the next number begins after this one and the line before it
+  pub offset-next : (i : ℕ) → offset size line (i + 1) ≡ offset size line i + size i + drawn (i + 1)
+  offset-next i =
+      let after : offset size line (i + 1) ≡ offset size line i + extent size line i 1 + drawn (i + 1) = offset-after i 1 (omega arith) in
+      let one : extent size line i 1 ≡ size i = let e : sum_from size i 1 ≡ size i = sum-one size i in omega arith in
+      omega arith
+
+  -- a range of no number is empty
+  extent-none : (s : ℕ) → extent size line s 0 ≡ 0
+  extent-none s = refl
+
+  pub offset-rises : (s t : ℕ) → s ≤ t → offset size line s ≤ offset size line t
+  offset-rises s t le = elim (cases_lt s t) [
+    | inl l ↦
+        let after : offset size line (s + (t - s)) ≡ offset size line s + extent size line s (t - s) + drawn (s + (t - s)) = offset-after s (t - s) (omega arith) in
+        let at : offset size line (s + (t - s)) ≡ offset size line t = ap (offset size line) (let e : s + (t - s) ≡ t = omega arith in e) in
+        omega arith
+    | inr ge ↦ let at : offset size line s ≡ offset size line t = ap (offset size line) (let e : s ≡ t = omega arith in e) in omega arith
+  ]
+
+  -- of two ranges the one that ends before the other begins
+  pub extent-before : (s n t : ℕ) → s + n ≤ t → offset size line s + extent size line s n ≤ offset size line t
+  extent-before s zero t le =
+      let rises : offset size line s ≤ offset size line t = offset-rises s t (omega arith) in
+      let none : extent size line s 0 ≡ 0 = extent-none s in
+      omega arith
+  extent-before s (suc n) t le =
+      let after : offset size line (s + suc n) ≡ offset size line s + extent size line s (suc n) + drawn (s + suc n) = offset-after s (suc n) (omega arith) in
+      let rises : offset size line (s + suc n) ≤ offset size line t = offset-rises (s + suc n) t le in
+      omega arith
+
+  -- a range that does not end past the last number ends within the total
+  pub within-total : (s n count first long : ℕ) → ◌≡◌ {A = ℕ × ℕ} (first, long) (offset size line s, extent size line s n) → false ≡ nat_lt count (s + n) →
+      first + long ≤ total size line count
+  within-total s n count first long at inside =
+      let begins : first ≡ offset size line s = ap (λ p. p.0) at in
+      let goes : long ≡ extent size line s n = ap (λ p. p.1) at in
+      let before : offset size line s + extent size line s n ≤ offset size line count = extent-before s n count (ltb-false count (s + n) (sym inside)) in
+      omega arith
+
+-- where none is found, there is none
+pub none-of : {T : Type 0} (found : Option T) (P : Type 0) (x : T) → found ≡ None → (P → ⊥) → SomeIff found P x
+none-of found P x e never = subst (λ r. SomeIff r P x) (sym e) never
+
+-- the place of a cell by what is found along both directions
+pub has-place : (look : Look) (widths heights : ℕ → ℕ) (shape : ℕ × ℕ) (p : Position) (left top width height : ℕ) → look.shows p ≡ true →
+    false ≡ nat_lt shape.1 (p.col + look.span Columns p) → false ≡ nat_lt shape.0 (p.row + look.span Rows p) →
+    (total widths (look.draws Columns shape.1) shape.1 < 2 ^ 64)
+    × ◌≡◌ {A = ℕ × ℕ} (left, width) (offset widths (look.draws Columns shape.1) p.col, extent widths (look.draws Columns shape.1) p.col (look.span Columns p)) →
+    (total heights (look.draws Rows shape.0) shape.0 < 2 ^ 64)
+    × ◌≡◌ {A = ℕ × ℕ} (top, height) (offset heights (look.draws Rows shape.0) p.row, extent heights (look.draws Rows shape.0) p.row (look.span Rows p)) →
+    HasPlace look widths heights shape p (record { left = left; top = top; width = width; height = height })
+has-place look widths heights shape p left top width height visible across down wide high = record {
+  inside = record {
+    visible = visible;
+    across = ltb-false shape.1 (p.col + look.span Columns p) (sym across);
+    down = ltb-false shape.0 (p.row + look.span Rows p) (sym down);
+  };
+  fit = fit;
+  exact = (λ k. record { left = (wide.1 k).0; top = (high.1 k).0; width = (wide.1 k).1; height = (high.1 k).1 });
+}
+  where
+    fit : (direction : Direction) → total_along look widths heights shape direction < 2 ^ 64
+    fit Columns = wide.0
+    fit Rows = high.0

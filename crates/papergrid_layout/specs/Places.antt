@@ -1,0 +1,118 @@
+-- Where cells stand in their table as it is printed: in columns of a terminal from its left edge on, in lines from its top on.
+use Rattle.std.specs.Prelude.{◌≡◌, ℕ, ◌+◌, ◌-◌, ◌^◌, ◌<◌, ◌≤◌, ◌⊎◌, Bool, true, false, List, slice_index, sum_by, count_by, Result, Ok, Err}
+use Rattle.std.specs.List.{range_with_len}
+use Rattle.papergrid_values.specs.declared.position.Position.{Position}
+use Rattle.papergrid_values.specs.declared.direction.Direction.{Direction}
+use Rattle.papergrid_values.specs.declared.direction.Direction.TheVariants.{Columns, Rows}
+use Rattle.papergrid_values.specs.Positions.{along}
+use Rattle.papergrid_axis.specs.declared.error.LayoutError.{LayoutError}
+use Rattle.papergrid_axis.specs.declared.error.LayoutError.TheVariants as layout_error
+use Rattle.papergrid_axis.specs.Problem.{all_lines}
+use Rattle.papergrid_maps.specs.Spans.{IsInRectangle}
+use Rattle.papergrid_walk.specs.Cells.{count_along, side}
+use Rattle.papergrid_walk.specs.Looks.{Look}
+use Rattle.papergrid_layout.specs.declared.placement.Place.{Place}
+use Rattle.papergrid_layout.specs.declared.placement.PlaceError.{PlaceError}
+use Rattle.papergrid_layout.specs.declared.placement.PlaceError.TheVariants.{Hidden, OutOfTable, TooLarge}
+
+-- the sizes of so many columns (rows) from number s on, added up
+abbrev pub sum_from : (ℕ → ℕ) → ℕ → ℕ → ℕ
+sum_from size s many = sum_by size (range_with_len s many)
+
+module _ (size : ℕ → ℕ) (line : ℕ → Bool) where
+  -- where number s begins: after the sizes of those before it and the lines at 0, 1 and so on up to s
+  abbrev pub offset : ℕ → ℕ
+  offset s = sum_from size 0 s + all_lines line s
+
+  -- how long a range of n from number s on is: their sizes, and the lines strictly inside of the range
+  abbrev pub extent : ℕ → ℕ → ℕ
+  extent s n = sum_from size s n + count_by line (range_with_len (s + 1) (n - 1))
+
+  -- how long all are, of which there are so many: their sizes and all lines
+  abbrev pub total : ℕ → ℕ
+  total count = sum_from size 0 count + all_lines line count
+
+-- the total, or too large where it is past the greatest `usize`
+abbrev pub IsTotalOf : ℕ → Result ℕ LayoutError → Type 0
+IsTotalOf total (Ok answer) = answer ≡ total
+IsTotalOf total (Err e) = (e ≡ layout_error.TooLarge) × (2 ^ 64 ≤ total)
+
+-- the widths along columns, the heights along rows
+abbrev pub size_along : (ℕ → ℕ) → (ℕ → ℕ) → Direction → ℕ → ℕ
+size_along widths heights Columns = widths
+size_along widths heights Rows = heights
+
+-- a table: what is read of its configuration, its widths and heights, and its shape (rows, columns)
+module _ (look : Look) (widths heights : ℕ → ℕ) (shape : ℕ × ℕ) where
+  -- how many columns (rows) it has
+  abbrev pub count_of : Direction → ℕ
+  count_of direction = count_along direction shape.1 shape.0
+
+  -- its total along a direction
+  abbrev pub total_along : Direction → ℕ
+  total_along direction = total (size_along widths heights direction) (look.draws direction (count_of direction)) (count_of direction)
+
+  -- where the cell at a position begins along a direction
+  abbrev pub begin_along : Direction → Position → ℕ
+  begin_along direction p = offset (size_along widths heights direction) (look.draws direction (count_of direction)) (along direction p)
+
+  -- how long it is
+  abbrev pub length_along : Direction → Position → ℕ
+  length_along direction p =
+      extent (size_along widths heights direction) (look.draws direction (count_of direction)) (along direction p) (look.span direction p)
+
+  -- its place
+  abbrev pub place_at : Position → Place
+  place_at p = record {
+    left = begin_along Columns p;
+    top = begin_along Rows p;
+    width = length_along Columns p;
+    height = length_along Rows p;
+  }
+
+  -- its range ends past the last column (row)
+  abbrev pub ReachesOut : Position → Direction → Type 0
+  ReachesOut p direction = count_of direction < along direction p + look.span direction p
+
+  -- it is visible, and reaches out in neither direction
+  pub record IsInside (p : Position) : Type 0 where
+    pub visible : look.shows p ≡ true
+    pub across : p.col + look.span Columns p ≤ shape.1
+    pub down : p.row + look.span Rows p ≤ shape.0
+
+  -- it has this place, in a table whose totals fit
+  pub record HasPlace (p : Position) (place : Place) : Type 0 where
+    pub inside : IsInside p
+    pub fit : (direction : Direction) → total_along direction < 2 ^ 64
+    pub exact : place ≡ place_at p
+
+  -- its place, or why it has none: it is hidden, else it reaches out, else a total is past the greatest `usize`
+  abbrev pub IsPlaced : Position → Result Place PlaceError → Type 0
+  IsPlaced p (Ok place) = HasPlace p place
+  IsPlaced p (Err Hidden) = look.shows p ≡ false
+  IsPlaced p (Err OutOfTable) = (look.shows p ≡ true) × (ReachesOut p Columns ⊎ ReachesOut p Rows)
+  IsPlaced p (Err TooLarge) = IsInside p × ((2 ^ 64 ≤ total_along Columns) ⊎ (2 ^ 64 ≤ total_along Rows))
+
+-- the place covers column x of the terminal in line y
+pub record Covers (place : Place) (x y : ℕ) : Type 0 where
+  pub after_left : place.left ≤ x
+  pub before_right : x < place.left + place.width
+  pub below_top : place.top ≤ y
+  pub above_bottom : y < place.top + place.height
+
+-- no column of the terminal in a line is covered by both
+abbrev pub AreApart : Place → Place → Type 0
+AreApart a b = (x y : ℕ) → Covers a x y → Covers b x y → ⊥
+
+-- no position lies in the rectangles of both cells
+abbrev pub HaveNoneInCommon : Look → Position → Position → Type 0
+HaveNoneInCommon look p q =
+    (r : Position) → IsInRectangle (look.span Columns) (look.span Rows) p r → IsInRectangle (look.span Columns) (look.span Rows) q r → ⊥
+
+module _ {C : Type 0} (look : Look) (measure : C → ℕ × ℕ) (shape : ℕ × ℕ) (widths heights : List ℕ) where
+  -- the cell has a place, which is at least as wide and as high as its measure with its paddings
+  pub record HasRoomAtPlace (cell : Position × C) : Type 0 where
+    pub place : Place
+    pub is_placed : IsPlaced look (slice_index widths) (slice_index heights) shape cell.0 (Ok place)
+    pub wide_enough : side Columns (measure cell.1) + look.before Columns cell.0 + look.after Columns cell.0 ≤ place.width
+    pub high_enough : side Rows (measure cell.1) + look.before Rows cell.0 + look.after Rows cell.0 ≤ place.height

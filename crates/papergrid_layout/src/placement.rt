@@ -1,0 +1,24 @@
+//! Where cells stand in their table.
+
+/// Where a cell stands: its first column of the terminal and its first line, counted from the left
+/// edge and the top of the table, and over how many of them it goes, the lines between its columns
+/// and rows among them.
+#[derive(Clone, Copy, Debug, PartialEq, Eq)]
+pub struct Place {
+    pub left: usize,
+    pub top: usize,
+    pub width: usize,
+    pub height: usize,
+}
+
+/// Why a position has no place.
+#[derive(Clone, Copy, Debug, PartialEq, Eq)]
+pub enum PlaceError {
+    /// The position is hidden by the span of another one.
+    Hidden,
+    /// It is visible, and its range ends past the last column or the last row.
+    OutOfTable,
+    /// It is visible and in the table, and along a direction the sizes with all lines come to more
+    /// than the greatest `usize`.
+    TooLarge,
+}

@@ -1,0 +1,104 @@
+//! The sizes and the lines of a table along one direction, and where its columns (rows) begin.
+
+ghost use Rattle.std.specs.Prelude.{◌≡◌, ◌+◌, ◌<◌, ◌≤◌, ◌^◌, ℕ, cond, nat_lt};
+ghost use Rattle.std.specs.Option.{SomeIff};
+ghost use Rattle.papergrid_values.specs.Positions.{along};
+ghost use Rattle.papergrid_layout.specs.Places.{extent, offset, size_along, total};
+ghost use Rattle.papergrid_layout.specs.ForProofs.Rulers.{has_along};
+
+use crate::dimension::Dimension;
+use papergrid_values::{Direction, Position};
+use papergrid_walk::Settings;
+
+/// The sizes of a dimension, and the spans and the lines of settings, along a direction in which the
+/// table has so many columns (rows).
+#[derive(Clone, Copy)]
+pub struct Ruler<'a, D, S> {
+    pub dim: &'a D,
+    pub settings: &'a S,
+    pub direction: Direction,
+    pub count: usize,
+}
+
+impl<'a, D: Dimension, S: Settings> Ruler<'a, D, S> {
+    /// The width of a column, or the height of a row.
+    fn size(&self, i: usize) -> usize
+        requires { has_along (D.has_column self.now.dim.now) (D.has_row self.now.dim.now) self.now.direction i }
+        ensures { result ≡ size_along (D.width_of self.now.dim.now) (D.height_of self.now.dim.now) self.now.direction i }
+    {
+        match self.direction {
+            Direction::Columns => self.dim.get_width(i),
+            Direction::Rows => self.dim.get_height(i),
+        }
+    }
+
+    /// What the line at `i` takes: 1 where it is drawn.
+    fn line(&self, i: usize) -> usize
+        ensures { result ≡ cond ((S.look self.now.settings.now).draws self.now.direction self.now.count i) 1 0 }
+    {
+        if self.settings.has_line(self.direction, self.count, i) {
+            1
+        } else {
+            0
+        }
+    }
+
+    /// Where column (row) `end` begins, if that fits, from where an earlier one begins.
+    fn offset_from(&self, start: usize, from: usize, end: usize) -> Option<usize>
+        requires order { start ≤ end }
+        requires sizes { (i : ℕ) → i < end →
+            has_along (D.has_column self.now.dim.now) (D.has_row self.now.dim.now) self.now.direction i }
+        requires from { let size = size_along (D.width_of self.now.dim.now) (D.height_of self.now.dim.now) self.now.direction in
+            from ≡ offset size ((S.look self.now.settings.now).draws self.now.direction self.now.count) start }
+        ensures { let size = size_along (D.width_of self.now.dim.now) (D.height_of self.now.dim.now) self.now.direction in
+            let found = offset size ((S.look self.now.settings.now).draws self.now.direction self.now.count) end in
+            SomeIff result (found < 2 ^ 64) found }
+    {
+        let mut offset = from;
+        for i in start..end {
+            offset = offset.checked_add(self.size(i))?;
+            offset = offset.checked_add(self.line(i + 1))?;
+        }
+        Some(offset)
+    }
+
+    /// Whether the range of the cell at a position ends past the last column (row).
+    pub fn reaches_out(&self, pos: Position) -> bool
+        ensures { result ≡ nat_lt self.now.count (along self.now.direction pos + (S.look self.now.settings.now).span self.now.direction pos) }
+    {
+        let start = self.direction.number_of(pos);
+        let span = self.settings.span(self.direction, pos);
+        self.count < start || self.count - start < span
+    }
+
+    /// Where the cell at a position begins and how long it is, if the total of all sizes and lines fits.
+    pub fn part(&self, pos: Position) -> Option<(usize, usize)>
+        requires inside { along self.now.direction pos + (S.look self.now.settings.now).span self.now.direction pos ≤ self.now.count }
+        requires sizes { (i : ℕ) → i < self.now.count →
+            has_along (D.has_column self.now.dim.now) (D.has_row self.now.dim.now) self.now.direction i }
+        ensures { let size = size_along (D.width_of self.now.dim.now) (D.height_of self.now.dim.now) self.now.direction in
+            let line = (S.look self.now.settings.now).draws self.now.direction self.now.count in
+            let start = along self.now.direction pos in
+            SomeIff result (total size line self.now.count < 2 ^ 64)
+            (offset size line start, extent size line start ((S.look self.now.settings.now).span self.now.direction pos)) }
+    {
+        let count = self.count;
+        let start = self.direction.number_of(pos);
+        let end = start + self.settings.span(self.direction, pos);
+        let offset = self.offset_from(0, self.line(0), start)?;
+        let next = self.offset_from(start, offset, end)?;
+        let _total = self.offset_from(end, next, count)?;
+        Some((offset, next - self.line(end) - offset))
+    }
+
+    /// The total of all sizes and lines, if it fits.
+    pub fn total(&self) -> Option<usize>
+        requires { (i : ℕ) → i < self.now.count →
+            has_along (D.has_column self.now.dim.now) (D.has_row self.now.dim.now) self.now.direction i }
+        ensures { let size = size_along (D.width_of self.now.dim.now) (D.height_of self.now.dim.now) self.now.direction in
+            let found = total size ((S.look self.now.settings.now).draws self.now.direction self.now.count) self.now.count in
+            SomeIff result (found < 2 ^ 64) found }
+    {
+        self.offset_from(0, self.line(0), self.count)
+    }
+}

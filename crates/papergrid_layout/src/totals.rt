@@ -1,0 +1,62 @@
+//! How wide and how high a table is, by the sizes of any dimension.
+
+ghost use Rattle.std.specs.Prelude.{◌<◌, ℕ};
+ghost use Rattle.papergrid_values.specs.declared.direction.Direction.TheVariants.{Columns, Rows};
+ghost use Rattle.papergrid_walk.specs.Looks.{spanned_look};
+ghost use Rattle.papergrid_layout.specs.Places.{IsTotalOf, total};
+
+use crate::dimension::Dimension;
+use crate::ruler::Ruler;
+use papergrid_axis::LayoutError;
+use papergrid_config::SpannedConfig;
+use papergrid_values::Direction;
+
+/// The width of a table of so many columns, in columns of a terminal: the sum of the widths and of
+/// the vertical lines. It takes no memory.
+///
+/// Condition: the dimension has a width for each of the columns.
+///
+/// # Errors
+///
+/// `TooLarge` where that comes to more than the greatest `usize`, and no other one.
+pub fn total_width<D: Dimension>(
+    dim: &D,
+    cfg: &SpannedConfig,
+    columns: usize,
+) -> Result<usize, LayoutError>
+    requires { (column : ℕ) → column < columns → D.has_column dim.now column }
+    ensures { IsTotalOf (total (D.width_of dim.now) ((spanned_look cfg.now).draws Columns columns) columns) result }
+{
+    let across = Ruler {
+        dim,
+        settings: cfg,
+        direction: Direction::Columns,
+        count: columns,
+    };
+    across.total().ok_or(LayoutError::TooLarge)
+}
+
+/// The height of a table of so many rows, in lines: the sum of the heights and of the horizontal
+/// lines. It takes no memory.
+///
+/// Condition: the dimension has a height for each of the rows.
+///
+/// # Errors
+///
+/// `TooLarge` where that comes to more than the greatest `usize`, and no other one.
+pub fn total_height<D: Dimension>(
+    dim: &D,
+    cfg: &SpannedConfig,
+    rows: usize,
+) -> Result<usize, LayoutError>
+    requires { (row : ℕ) → row < rows → D.has_row dim.now row }
+    ensures { IsTotalOf (total (D.height_of dim.now) ((spanned_look cfg.now).draws Rows rows) rows) result }
+{
+    let down = Ruler {
+        dim,
+        settings: cfg,
+        direction: Direction::Rows,
+        count: rows,
+    };
+    down.total().ok_or(LayoutError::TooLarge)
+}
