@@ -1,8 +1,20 @@
 //! Places of cells.
 
-use crate::tests::{GREATEST, NESTED_COLUMNS, PICTURE, Sizes, Table, estimated, set_all};
-use crate::{Dimension, LayoutError, Place, PlaceError, place, total_height, total_width};
+ghost use Rattle.std.specs.Prelude.{IfOk, map, string_bytes};
+ghost use Rattle.papergrid_text.specs.HeldRows.{column_count, rows_held};
+ghost use Rattle.papergrid_values.specs.declared.direction.Direction.TheVariants.{Columns};
+ghost use Rattle.papergrid_walk.specs.Looks.{spanned_look};
+ghost use Rattle.papergrid_walk.specs.Measures.{line_measure};
+ghost use Rattle.papergrid_axis.specs.Answers.{IsTotal};
+ghost use Rattle.papergrid_walk.specs.Cells.{problem_of};
+
+use crate::tests::{GREATEST, NESTED_COLUMNS, PICTURE, Sizes, Table, estimated, set_all, strings};
+use crate::{
+    Dimension, Estimate, IterGridDimension, LayoutError, Place, PlaceError, place, total_height,
+    total_width,
+};
 use papergrid_config::SpannedConfig;
+use papergrid_text::{Records, VecRecords};
 use papergrid_values::{Borders, Position};
 use std::alloc::Global;
 
@@ -139,4 +151,33 @@ fn is_too_large(alloc: Global, table: Table) -> bool {
 #[test]
 fn place_too_large(rt: HostRuntime) {
     assert!(rt; is_too_large(rt.alloc(), GREATEST));
+}
+
+/// The width of a table by the sizes of an estimate.
+fn width_by_estimate(
+    alloc: Global,
+    records: VecRecords<String>,
+    config: &SpannedConfig,
+) -> Result<usize, LayoutError>
+    ensures { IfOk result (λ width. IsTotal (problem_of (spanned_look config.now) (line_measure string_bytes)
+        (column_count records) (map (λ row. row.items) (rows_held records).items) Columns) width) }
+{
+    let columns = records.count_columns();
+    let mut dimension = IterGridDimension::new(alloc);
+    match dimension.estimate(records, config) {
+        Ok(()) => total_width(&dimension, config, columns),
+        Err(error) => Err(error),
+    }
+}
+
+// No span is set, so the columns are as wide as their longest texts: 10, 8 and 1.
+#[test]
+fn width_of_estimated(rt: HostRuntime) {
+    let config = SpannedConfig::new(rt.alloc());
+    let width = match strings(rt.alloc(), NESTED_COLUMNS) {
+        Ok(records) => width_by_estimate(rt.alloc(), records, &config),
+        Err(error) => Err(LayoutError::Memory(error)),
+    };
+    drop(config);
+    assert_eq!(rt; width, Ok(19));
 }
