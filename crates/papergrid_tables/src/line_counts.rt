@@ -1,6 +1,6 @@
 //! Counts by the number of a line.
 
-ghost use Rattle.std.specs.Prelude.{◌≡◌, ◌+◌, ◌<◌, ◌≤◌, ◌^◌, ◌==◌, ℕ, IsTrue, OnOk, if◌then◌else◌, nat_lt};
+ghost use Rattle.std.specs.Prelude.{◌≡◌, ◌↔◌, ◌+◌, ◌<◌, ◌≤◌, ◌^◌, ◌==◌, ℕ, IsTrue, OnOk, if◌then◌else◌, length, nat_lt};
 ghost use Rattle.std.specs.HashMap.{spare};
 ghost use Rattle.papergrid_tables.specs.ForProofs.Counts.{count_of};
 
@@ -53,9 +53,10 @@ impl LineCounts {
         }
     }
 
-    /// Whether no line has a count. Where each count is 0 it may say no.
+    /// Whether no count is kept at all, not even one that is 0.
     pub(crate) fn is_bare(&self) -> bool
-        ensures { IsTrue result → (n : ℕ) → count_of self.now.counts n ≡ 0 }
+        ensures kept { IsTrue result ↔ (length self.now.counts.entries ≡ 0) }
+        ensures none { IsTrue result → (n : ℕ) → count_of self.now.counts n ≡ 0 }
     {
         self.counts.is_empty()
     }

@@ -1,4 +1,5 @@
-//! The search for a byte, many bytes at a time.
+//! The search for a byte, many bytes at a time. The kit's `memchr` tests 32 bytes at least, which costs
+//! more on lines as short as those of a script.
 
 ghost use Rattle.std.specs.Prelude.{◌≡◌, ◌≤◌, ◌==◌, ◌+◌, ◌||◌, length};
 ghost use Rattle.std.specs.List.{position_or_len};
