@@ -71,10 +71,15 @@ fn push_places(text: &mut Vec<u8>, places: &[Position]) -> Result<(), AllocError
     Ok(())
 }
 
-/// Adds the digits of the number.
+/// Adds the digits of the number. Most numbers of a table have one.
+#[tactic(auto, using(std::proofs::lemmas::Fmt::decimal_digit))]
 fn push_number(text: &mut Vec<u8>, number: usize) -> Result<(), AllocError>
     ensures { OnOk result (text.new.items ≡ text.old.items ++ decimal number) }
 {
+    if number < 10 {
+        text.push(b'0' + number as u8)?;
+        return Ok(());
+    }
     let mut digits = Buffer::new();
     text.extend_from_slice(digits.format(number).as_bytes())
 }

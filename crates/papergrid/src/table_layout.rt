@@ -63,6 +63,7 @@ where
 }
 
 /// The configuration that the settings tell. Condition: each setting is in range.
+#[inline(always)]
 pub fn configuration(alloc: Global, settings: Vec<Setting>) -> Result<SpannedConfig, AllocError>
     requires { All (λ setting. is_in_range setting ≡ true) settings.items }
     ensures { IfOk result (λ config. IsTold settings.items config) }

@@ -1,10 +1,10 @@
 //! The cells that are chosen to certify the sizes.
 
-ghost use Rattle.std.specs.Prelude.{◌≡◌, All, IfOk, List, Some, filter_map, length, map};
+ghost use Rattle.std.specs.Prelude.{◌≡◌, ◌<◌, ℕ, All, IfOk, List, None, Some, filter_map, length, map, slice_index_or};
 ghost use Rattle.std.specs.List.{range_with_len};
 ghost use Rattle.papergrid_axis.specs.declared.demand.Demand.{Demand};
 ghost use Rattle.papergrid_axis.specs.Chosen.{chosen};
-ghost use Rattle.papergrid_axis.specs.ForProofs.LastCells.{AreExact, IsLaminar, chosen_slot, slot_of};
+ghost use Rattle.papergrid_axis.specs.ForProofs.LastCells.{AreExact, IsLaminar, chosen_slot, last_holding, slot_of};
 ghost use Rattle.papergrid_axis.specs.Ranges.{IsInTable, place_of};
 
 use crate::demand::Demand;
@@ -30,6 +30,16 @@ fn slot(last: Option<Demand>, single: Demand, size: usize, i: usize) -> Option<D
     }
 }
 
+/// The cell at a number; none past the end.
+fn cell_at(last: &[Option<Demand>], i: usize) -> Option<Demand>
+    ensures { result ≡ slice_index_or last.now i None }
+{
+    match last.get(i) {
+        Some(cell) => *cell,
+        None => None,
+    }
+}
+
 /// The chosen cells, by one look at each number.
 fn chosen_cells(
     alloc: Global,
@@ -37,17 +47,33 @@ fn chosen_cells(
     singles: &[Demand],
     sizes: &[usize],
 ) -> Result<Vec<Demand>, AllocError>
-    requires { length last.now ≡ length sizes.now }
     ensures { let slots = chosen_slot last.now singles.now sizes.now in
         IfOk result (λ cells. cells.items ≡ filter_map slots (range_with_len 0 (length sizes.now))) }
 {
     let mut cells = Vec::new(alloc);
     for i in 0..sizes.len() {
-        if let Some(demand) = slot(last[i], single_at(singles, i), sizes[i], i) {
+        if let Some(demand) = slot(cell_at(last, i), single_at(singles, i), sizes[i], i) {
             cells.push(demand)?;
         }
     }
     Ok(cells)
+}
+
+/// For each number the last cell whose range holds it. Where there is no cell this takes no memory.
+fn last_of(
+    alloc: Global,
+    count: usize,
+    cells: &[Demand],
+) -> Result<Vec<Option<Demand>>, AllocError>
+    requires { All (IsInTable count) cells.now }
+    ensures { IfOk result (λ last. (i : ℕ) → i < count → slice_index_or last.items i None ≡ last_holding cells.now i) }
+{
+    if cells.is_empty() {
+        return Ok(Vec::new(alloc));
+    }
+    let mut last = vec![in alloc; None; count]?;
+    write_all(&mut last, cells);
+    Ok(last)
 }
 
 /// The chosen cells of those that grew, by the sizes after they did.
@@ -62,8 +88,7 @@ fn choose(
     ensures { (demands : List Demand) → AreExact demands growers.now sizes.now singles.now →
         IfOk result (λ cells. cells.items ≡ chosen (length sizes.now) demands growers.now sizes.now) }
 {
-    let mut last = vec![in alloc; None; sizes.len()]?;
-    write_all(&mut last, growers);
+    let last = last_of(alloc, sizes.len(), growers)?;
     chosen_cells(alloc, &last, singles, sizes)
 }
 

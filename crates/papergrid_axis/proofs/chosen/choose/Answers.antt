@@ -13,13 +13,12 @@ use Rattle.papergrid_axis.proofs.chosen.choose.Goals as goal
 
 pub returns : goal.returns
 returns c = λ demands exact.
-    let last : c.deref.result.now ≡ c.write_all.new.last = c.deref.ensures.value ∙ with_items_is c.in_ok-last.last c.write_all.new.last (omega arith) in
     IfOk-weaker c.chosen_cells.result
     (λ v. v.items ≡ filter_map (chosen_slot c.deref.result.now c.args.singles.now c.args.sizes.now) (range_with_len 0 (length c.args.sizes.now)))
     (λ v. v.items ≡ chosen (length c.args.sizes.now) demands c.args.growers.now c.args.sizes.now)
     (λ v e. e ∙ chosen-by_slots demands c.args.growers.now c.args.sizes.now c.deref.result.now c.args.singles.now c.requires.laminar
     (recursion_from_All (λ d. 1 ≤ d.span) c.args.growers.now
     (All-weaker (IsInTable (length c.args.sizes.now)) (λ d. 1 ≤ d.span) (λ d t. t.covers_one) c.args.growers.now c.requires.growers))
-    (λ i l. ap (λ (xs : List (Option Demand)). get_or xs i None) last ∙ c.write_all.ensures i (omega (arith, c.in_ok-last.ensures.len, c.deref_mut.ensures.len, c.write_all.auto.last)))
+    (λ i l. ap (λ (xs : List (Option Demand)). get_or xs i None) c.deref.ensures.value ∙ c.in_ok-last.ensures i l)
     exact)
     c.chosen_cells.ensures

@@ -1,4 +1,4 @@
-use Rattle.std.proofs.Common.{◌≡◌, ◌∙◌, sym, ap, Some, None, List, [], ◌∷◌, ◌++◌, append-nil, get_or, Vec, Global}
+use Rattle.std.proofs.Common.{◌≡◌, ◌∙◌, sym, ap, Option, Some, None, List, [], ◌∷◌, ◌++◌, append-nil, get_or, Vec, Global}
 use Rattle.papergrid_axis.specs.declared.demand.Demand.{Demand}
 use Rattle.papergrid_axis.specs.ForProofs.LastCells.{chosen_slot, slot_of}
 use Rattle.papergrid_axis.proofs.LastLoops.{filter_map_slot_more}
@@ -7,7 +7,7 @@ use Rattle.papergrid_axis.proofs.chosen.chosen_cells.Goals.{in-Some+in_ok-push, 
 
 pub loop-i-preserved : goal.loop-i-preserved
 loop-i-preserved c =
-    let slot = c.slot.ensures ∙ ap (λ (d : Demand). slot_of (get_or c.args.last.now c.loop-i.i None) (Some d) (get_or c.args.sizes.now c.loop-i.i 0) c.loop-i.i) c.single_at.ensures in
+    let slot = c.slot.ensures ∙ ap (λ (o : Option Demand). slot_of o (Some c.single_at.result) (get_or c.args.sizes.now c.loop-i.i 0) c.loop-i.i) c.cell_at.ensures ∙ ap (λ (d : Demand). slot_of (get_or c.args.last.now c.loop-i.i None) (Some d) (get_or c.args.sizes.now c.loop-i.i 0) c.loop-i.i) c.single_at.ensures in
     let more = filter_map_slot_more (chosen_slot c.args.last.now c.args.singles.now c.args.sizes.now) c.loop-i.i in
     elim c.match-slot.branch [
       | in-Some+in_ok-push w ↦
