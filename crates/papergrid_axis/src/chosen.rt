@@ -50,23 +50,6 @@ fn chosen_cells(
     Ok(cells)
 }
 
-/// The chosen cells of those that grew, by the sizes after they did.
-fn choose(
-    alloc: Global,
-    singles: &[Demand],
-    growers: &[Demand],
-    sizes: &[usize],
-) -> Result<Vec<Demand>, AllocError>
-    requires growers { All (IsInTable (length sizes.now)) growers.now }
-    requires laminar { IsLaminar growers.now }
-    ensures { (demands : List Demand) → AreExact demands growers.now sizes.now singles.now →
-        IfOk result (λ cells. cells.items ≡ chosen (length sizes.now) demands growers.now sizes.now) }
-{
-    let mut last = vec![in alloc; None; sizes.len()]?;
-    write_all(&mut last, growers);
-    chosen_cells(alloc, &last, singles, sizes)
-}
-
 /// Where the cells stand.
 fn places(alloc: Global, cells: &[Demand]) -> Result<Vec<Position>, AllocError>
     ensures { IfOk result (λ places. places.items ≡ map place_of cells.now) }
@@ -87,6 +70,8 @@ pub fn chosen_places(
     ensures { (demands : List Demand) → AreExact demands growers.now sizes.now singles.now →
         IfOk result (λ places. places.items ≡ map place_of (chosen (length sizes.now) demands growers.now sizes.now)) }
 {
-    let cells = choose(alloc, singles, growers, sizes)?;
+    let mut last = vec![in alloc; None; sizes.len()]?;
+    write_all(&mut last, growers);
+    let cells = chosen_cells(alloc, &last, singles, sizes)?;
     places(alloc, &cells)
 }

@@ -1,25 +1,20 @@
-use Rattle.std.proofs.Common.{◌≡◌, ◌≤◌, ◌∙◌, ap, arith, List, Option, None, get_or, length}
-use Rattle.std.specs.Prelude.{filter_map}
-use Rattle.std.specs.List.{range_with_len}
+use Rattle.std.proofs.Common.{◌≡◌, ◌≤◌, ◌∙◌, ap, arith, List, Option, None, get_or, length, map}
 use Rattle.std.proofs.lemmas.Result.{IfOk-weaker}
 use Rattle.std.proofs.lemmas.List.{with_items_is}
 use Rattle.std.proofs.lemmas.List.Elements.{recursion_from_All, All-weaker}
 use Rattle.papergrid_axis.specs.declared.demand.Demand.{Demand}
-use Rattle.papergrid_axis.specs.Ranges.{IsInTable}
+use Rattle.papergrid_axis.specs.Ranges.{IsInTable, place_of}
 use Rattle.papergrid_axis.specs.Chosen.{chosen}
-use Rattle.papergrid_axis.specs.ForProofs.LastCells.{chosen_slot}
 use Rattle.papergrid_axis.proofs.LastLoops.{chosen-by_slots}
-use Rattle.papergrid_axis.proofs.chosen.choose.Goals as goal
+use Rattle.papergrid_axis.proofs.chosen.chosen_places.Goals as goal
 
 pub returns : goal.returns
 returns c = λ demands exact.
     let last : c.deref.result.now ≡ c.write_all.new.last = c.deref.ensures.value ∙ with_items_is c.in_ok-last.last c.write_all.new.last (omega arith) in
-    IfOk-weaker c.chosen_cells.result
-    (λ v. v.items ≡ filter_map (chosen_slot c.deref.result.now c.args.singles.now c.args.sizes.now) (range_with_len 0 (length c.args.sizes.now)))
-    (λ v. v.items ≡ chosen (length c.args.sizes.now) demands c.args.growers.now c.args.sizes.now)
-    (λ v e. e ∙ chosen-by_slots demands c.args.growers.now c.args.sizes.now c.deref.result.now c.args.singles.now c.requires.laminar
+    let cells : c.in_ok-cells.cells.items ≡ chosen (length c.args.sizes.now) demands c.args.growers.now c.args.sizes.now =
+    c.in_ok-cells.ensures ∙ chosen-by_slots demands c.args.growers.now c.args.sizes.now c.deref.result.now c.args.singles.now c.requires.laminar
     (recursion_from_All (λ d. 1 ≤ d.span) c.args.growers.now
     (All-weaker (IsInTable (length c.args.sizes.now)) (λ d. 1 ≤ d.span) (λ d t. t.covers_one) c.args.growers.now c.requires.growers))
     (λ i l. ap (λ (xs : List (Option Demand)). get_or xs i None) last ∙ c.write_all.ensures i (omega (arith, c.in_ok-last.ensures.len, c.deref_mut.ensures.len, c.write_all.auto.last)))
-    exact)
-    c.chosen_cells.ensures
+    exact in
+    IfOk-weaker c.places.result _ _ (λ v e. e ∙ ap (map place_of) (c.deref-2.ensures.value ∙ cells)) c.places.ensures
