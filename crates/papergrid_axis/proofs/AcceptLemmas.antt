@@ -1,5 +1,5 @@
 -- The sums over the listed cells tell whether the places are those of a certificate.
-use Rattle.std.proofs.Common.{◌≡◌, ℕ, zero, suc, ◌+◌, ◌*◌, ◌<◌, ◌≤◌, ◌≢◌, Bool, true, false, cond, inl, inr, List, [], ◌∷◌, length, map, get_or, sum, sum_by, refl, sym, ap, ap₂, ◌∙◌, subst, subst₂, arith, eqb, eqb-true, eq-eqb}
+use Rattle.std.proofs.Common.{◌≡◌, ℕ, zero, suc, ◌+◌, ◌*◌, ◌<◌, ◌≤◌, ◌≢◌, ◌==◌, ◌&&◌, Bool, true, false, cond, inl, inr, List, [], ◌∷◌, length, map, get_or, sum, sum_by, refl, sym, ap, ap₂, ◌∙◌, subst, subst₂, arith, eqb, eqb-true, eq-eqb}
 use Rattle.std.specs.Prelude.{All, AllPairs, Contains, ⊤}
 use Rattle.std.specs.List.{AllByRecursion}
 use Rattle.std.proofs.Math.Nat.{mul-suc, mul-zero}
@@ -14,15 +14,17 @@ use Rattle.papergrid_axis.specs.declared.checked.Checked.{Checked}
 use Rattle.papergrid_axis.specs.declared.demand.Demand.{Demand}
 use Rattle.papergrid_values.specs.declared.direction.Direction.{Direction}
 use Rattle.papergrid_axis.specs.Answers.{IsAccepted}
-use Rattle.papergrid_axis.specs.ForProofs.Checks.{AreApartAt, AreDistinct, Checks, SumsAgree, all_listed, stands_at, times_listed}
+use Rattle.papergrid_axis.specs.ForProofs.Checks.{AreApartAt, AreDistinct, Checks, SumsAgree, all_listed, times_listed}
 use Rattle.papergrid_axis.specs.Fits.{IsLeast}
-use Rattle.papergrid_values.specs.Positions.{along}
 use Rattle.papergrid_axis.specs.Ranges.{AreDisjoint, IsInTable, demand_of, end_of, inner_lines, place_of}
 use Rattle.papergrid_axis.proofs.Duality.{IsLeast-from_certificate}
 use Rattle.papergrid_axis.proofs.OutLemmas.{none_out}
 use Rattle.papergrid_axis.proofs.RangeLemmas.{Apart-from_AllPairs, outside, partition}
 use Rattle.papergrid_axis.proofs.Theorems.{first_out-none}
 use Rattle.papergrid_axis.proofs.Upto.{upto, within}
+
+abbrev stands_at : Demand → Position → Bool
+stands_at d p = d.row == p.row && d.col == p.col
 
 at_place : (d : Demand) (p : Position) → stands_at d p ≡ true → place_of d ≡ p
 at_place d p t =
@@ -181,20 +183,10 @@ module _ (direction : Direction) (span_of : Position → ℕ) where
   IsRanged d = d ≡ demand_of direction (place_of d) (span_of (place_of d)) d.need
 
   apart-from_cells : (a b : Demand) → IsRanged a → IsRanged b → AreDisjoint a b → AreApartAt direction span_of (place_of a) (place_of b)
-  apart-from_cells a b ra rb apart =
-      let sa : a.start ≡ along direction (place_of a) = ap (λ (d : Demand). d.start) ra in
-      let na : a.span ≡ span_of (place_of a) = ap (λ (d : Demand). d.span) ra in
-      let sb : b.start ≡ along direction (place_of b) = ap (λ (d : Demand). d.start) rb in
-      let nb : b.span ≡ span_of (place_of b) = ap (λ (d : Demand). d.span) rb in
-      elim apart [ inl l ↦ inl (omega arith) | inr l ↦ inr (omega arith) ]
+  apart-from_cells a b ra rb = subst₂ AreDisjoint ra rb
 
   apart-from_places : (a b : Demand) → IsRanged a → IsRanged b → AreApartAt direction span_of (place_of a) (place_of b) → AreDisjoint a b
-  apart-from_places a b ra rb apart =
-      let sa : a.start ≡ along direction (place_of a) = ap (λ (d : Demand). d.start) ra in
-      let na : a.span ≡ span_of (place_of a) = ap (λ (d : Demand). d.span) ra in
-      let sb : b.start ≡ along direction (place_of b) = ap (λ (d : Demand). d.start) rb in
-      let nb : b.span ≡ span_of (place_of b) = ap (λ (d : Demand). d.span) rb in
-      elim apart [ inl l ↦ inl (omega arith) | inr l ↦ inr (omega arith) ]
+  apart-from_places a b ra rb = subst₂ AreDisjoint (sym ra) (sym rb)
 
   pairs-from_places : (cells : List Demand) → All IsRanged cells → AllPairs (AreApartAt direction span_of) (map place_of cells) → AllPairs AreDisjoint cells
   pairs-from_places cells ranged pairs i j e l l' =

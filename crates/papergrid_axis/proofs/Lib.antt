@@ -18,6 +18,7 @@ pub mod OutLemmas
 pub mod PairLemmas
 pub mod RangeLemmas
 pub mod SeenLemmas
+mod SettleLemmas
 pub mod Steps
 pub mod Theorems
 pub mod Upto

@@ -60,11 +60,7 @@ fn chosen_cells(
 }
 
 /// For each number the last cell whose range holds it. Where there is no cell this takes no memory.
-fn last_of(
-    alloc: Global,
-    count: usize,
-    cells: &[Demand],
-) -> Result<Vec<Option<Demand>>, AllocError>
+fn last_of(alloc: Global, count: usize, cells: &[Demand]) -> Result<Vec<Option<Demand>>, AllocError>
     requires { All (IsInTable count) cells.now }
     ensures { IfOk result (λ last. (i : ℕ) → i < count → slice_index_or last.items i None ≡ last_holding cells.now i) }
 {
@@ -74,22 +70,6 @@ fn last_of(
     let mut last = vec![in alloc; None; count]?;
     write_all(&mut last, cells);
     Ok(last)
-}
-
-/// The chosen cells of those that grew, by the sizes after they did.
-fn choose(
-    alloc: Global,
-    singles: &[Demand],
-    growers: &[Demand],
-    sizes: &[usize],
-) -> Result<Vec<Demand>, AllocError>
-    requires growers { All (IsInTable (length sizes.now)) growers.now }
-    requires laminar { IsLaminar growers.now }
-    ensures { (demands : List Demand) → AreExact demands growers.now sizes.now singles.now →
-        IfOk result (λ cells. cells.items ≡ chosen (length sizes.now) demands growers.now sizes.now) }
-{
-    let last = last_of(alloc, sizes.len(), growers)?;
-    chosen_cells(alloc, &last, singles, sizes)
 }
 
 /// Where the cells stand.
@@ -112,6 +92,7 @@ pub fn chosen_places(
     ensures { (demands : List Demand) → AreExact demands growers.now sizes.now singles.now →
         IfOk result (λ places. places.items ≡ map place_of (chosen (length sizes.now) demands growers.now sizes.now)) }
 {
-    let cells = choose(alloc, singles, growers, sizes)?;
+    let last = last_of(alloc, sizes.len(), growers)?;
+    let cells = chosen_cells(alloc, &last, singles, sizes)?;
     places(alloc, &cells)
 }

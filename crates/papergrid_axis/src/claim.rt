@@ -1,8 +1,8 @@
 //! What a checker is given.
 
-ghost use Rattle.std.specs.Prelude.{◌≡◌, ◌↔◌, ◌&&◌, ◌==◌, AllPairs, IsTrue, count_by, nat_lt, true};
+ghost use Rattle.std.specs.Prelude.{◌≡◌, ◌↔◌, AllPairs, IsTrue, nat_lt, true};
 ghost use Rattle.papergrid_axis.specs.ForProofs.Checks.{AreApartAt, AreInOrder, IsClaim};
-ghost use Rattle.papergrid_values.specs.Positions.{AreRising, along};
+ghost use Rattle.papergrid_values.specs.Positions.{AreRising, along, count_of};
 
 use crate::apart::{are_apart, ends_by};
 use crate::axis::Axis;
@@ -44,24 +44,15 @@ pub fn are_in_order<A: Axis>(direction: Direction, axis: &A, places: &[Position]
 
 /// How often a position is listed.
 fn count_all(places: &[Position], place: Position) -> usize
-    ensures { result ≡ count_by (λ p. place.row == p.row && place.col == p.col) places.now }
+    ensures { result ≡ count_of place places.now }
 {
-    places
-        .iter()
-        .filter(|listed| place.row == listed.row && place.col == listed.col)
-        .count()
-}
-
-fn is_same(place: Position, listed: Position) -> bool
-    ensures { result ≡ (place.row == listed.row && place.col == listed.col) }
-{
-    place.row == listed.row && place.col == listed.col
+    places.iter().filter(|listed| place == **listed).count()
 }
 
 /// How often a position is listed, where the numbers of the places rise.
 fn count_rising(direction: Direction, places: &[Position], place: Position) -> usize
     requires { AllPairs (AreRising direction) places.now }
-    ensures { result ≡ count_by (λ p. place.row == p.row && place.col == p.col) places.now }
+    ensures { result ≡ count_of place places.now }
 {
     let start = direction.number_of(place);
     let at = places.partition_point(
@@ -69,16 +60,16 @@ fn count_rising(direction: Direction, places: &[Position], place: Position) -> u
             ensures { result ≡ nat_lt (along direction listed.now) start }
         { direction.number_of(*listed) < start },
     );
-    if at >= places.len() {
+    let Some(listed) = places.get(at) else {
         return 0;
-    }
-    if is_same(place, places[at]) { 1 } else { 0 }
+    };
+    usize::from(place == *listed)
 }
 
 /// How often a position is listed.
 pub fn count_listed(claim: &Claim<'_>, place: Position) -> usize
     requires { claim.now.is_ordered ≡ true → AllPairs (AreRising claim.now.direction) claim.now.places.now }
-    ensures { result ≡ count_by (λ p. place.row == p.row && place.col == p.col) claim.now.places.now }
+    ensures { result ≡ count_of place claim.now.places.now }
 {
     if claim.is_ordered {
         count_rising(claim.direction, claim.places, place)

@@ -48,10 +48,8 @@ impl Solution for Vec<usize> {
         seen: &Seen,
         axis: &A,
     ) -> Result<Vec<usize>, LayoutError> {
-        match settle(alloc, count, seen, axis) {
-            Ok(settled) => Ok(settled.sizes),
-            Err(refused) => Err(refused),
-        }
+        let settled = settle(alloc, count, seen, axis)?;
+        Ok(settled.sizes)
     }
 }
 
@@ -74,15 +72,11 @@ impl Solution for CertifiedSizes {
         seen: &Seen,
         axis: &A,
     ) -> Result<CertifiedSizes, LayoutError> {
-        match settle(alloc, count, seen, axis) {
-            Ok(settled) => match settled_witness(alloc, count, seen, &settled) {
-                Ok(witness) => Ok(CertifiedSizes {
-                    sizes: settled.sizes,
-                    witness,
-                }),
-                Err(error) => Err(LayoutError::Memory(error)),
-            },
-            Err(refused) => Err(refused),
-        }
+        let settled = settle(alloc, count, seen, axis)?;
+        let witness = settled_witness(alloc, count, seen, &settled)?;
+        Ok(CertifiedSizes {
+            sizes: settled.sizes,
+            witness,
+        })
     }
 }

@@ -5,6 +5,7 @@ ghost use Rattle.papergrid_axis.specs.declared.demand.Demand.{Demand};
 ghost use Rattle.papergrid_axis.specs.ForProofs.Seen.{IsSeen};
 
 use crate::LayoutError;
+use crate::LayoutError::{OutOfTable, TooLarge};
 use crate::axis::Axis;
 use crate::checked::{Checked, accepts, visit, wide_need};
 use crate::claim::{Claim, are_in_order};
@@ -14,7 +15,6 @@ use crate::solution::{CertifiedSizes, Solution};
 use papergrid_values::Direction::{Columns, Rows};
 use papergrid_values::{Direction, Position};
 use std::alloc::{AllocError, Global};
-use std::test::Fail;
 
 const MAX: usize = 18446744073709551615;
 
@@ -60,16 +60,6 @@ impl Axis for Sample {
 
 const ORIGIN: Position = Position { row: 0, col: 0 };
 
-/// No cell with a span, and all lines.
-const LINED: Sample = Sample {
-    first: ORIGIN,
-    first_span: 1,
-    second: ORIGIN,
-    second_span: 1,
-    all: true,
-    line: 0,
-};
-
 /// No cell with a span, and no line.
 const NONE: Sample = Sample {
     first: ORIGIN,
@@ -80,16 +70,12 @@ const NONE: Sample = Sample {
     line: MAX,
 };
 
+/// No cell with a span, and all lines.
+const LINED: Sample = Sample { all: true, ..NONE };
+
 /// No cell with a span, and one line.
 fn one_line(line: usize) -> Sample {
-    Sample {
-        first: ORIGIN,
-        first_span: 1,
-        second: ORIGIN,
-        second_span: 1,
-        all: false,
-        line,
-    }
+    Sample { line, ..NONE }
 }
 
 const PICTURE: [Cell; 5] = [
@@ -189,15 +175,49 @@ fn sizes(
     Vec::<usize>::solve(alloc, count, &seen, &axis)
 }
 
-fn witness(
+fn certified(
     alloc: Global,
     direction: Direction,
     count: usize,
     axis: Sample,
     cells: &[Cell],
-) -> Result<Option<Vec<Position>>, LayoutError> {
+) -> Result<CertifiedSizes, LayoutError> {
     let seen = seen(alloc, direction, count, cells)?;
-    Ok(CertifiedSizes::solve(alloc, count, &seen, &axis)?.witness)
+    CertifiedSizes::solve(alloc, count, &seen, &axis)
+}
+
+/// Whether these are the sizes, alone and with their places, and these the places.
+fn finds(
+    alloc: Global,
+    direction: Direction,
+    axis: Sample,
+    cells: &[Cell],
+    expected: &[usize],
+    places: Option<&[Position]>,
+) -> Result<bool, LayoutError> {
+    let count = expected.len();
+    let alone = sizes(alloc, direction, count, axis, cells)?;
+    let found = certified(alloc, direction, count, axis, cells)?;
+    let agree = match (&found.witness, places) {
+        (Some(witness), Some(places)) => witness.as_slice() == places,
+        (None, None) => true,
+        _ => false,
+    };
+    Ok(agree && alone.as_slice() == expected && found.sizes.as_slice() == expected)
+}
+
+/// Whether there are no sizes, alone or with their places, for this reason.
+fn refuses(
+    alloc: Global,
+    direction: Direction,
+    count: usize,
+    axis: Sample,
+    cells: &[Cell],
+    reason: LayoutError,
+) -> bool {
+    let alone = sizes(alloc, direction, count, axis, cells).err();
+    let found = certified(alloc, direction, count, axis, cells).err();
+    alone == Some(reason) && found == Some(reason)
 }
 
 /// Whether sizes and places are accepted for cells whose spans are those of the axis.
@@ -224,43 +244,49 @@ fn check(
 }
 
 #[test]
-fn readme_picture(rt: HostRuntime) -> Result<(), Fail> {
+fn readme_picture(rt: HostRuntime) {
     let alloc = rt.alloc();
-    let widths = vec![in alloc; 17, 12, 16, 1]?;
-    let cells = vec![in alloc; at(0, 0), at(0, 1), at(0, 2), at(0, 3)]?;
-    assert_eq!(rt; sizes(alloc, Columns, 4, LINED, &PICTURE), Ok(widths));
     assert_eq!(rt;
-        witness(alloc, Columns, 4, LINED, &PICTURE),
-        Ok(Some(cells))
+        finds(
+            alloc,
+            Columns,
+            LINED,
+            &PICTURE,
+            &[17, 12, 16, 1],
+            Some(&[at(0, 0), at(0, 1), at(0, 2), at(0, 3)])
+        ),
+        Ok(true)
     );
-    Ok(())
 }
 
 #[test]
-fn even_shares_over_inner_line(rt: HostRuntime) -> Result<(), Fail> {
+fn even_shares_over_inner_line(rt: HostRuntime) {
     let alloc = rt.alloc();
-    let heights = vec![in alloc; 3, 3, 1]?;
-    let cells = vec![in alloc; at(0, 0), at(2, 0)]?;
-    assert_eq!(rt; sizes(alloc, Rows, 3, LINED, &EVEN), Ok(heights));
-    assert_eq!(rt; witness(alloc, Rows, 3, LINED, &EVEN), Ok(Some(cells)));
-    Ok(())
+    assert_eq!(rt;
+        finds(
+            alloc,
+            Rows,
+            LINED,
+            &EVEN,
+            &[3, 3, 1],
+            Some(&[at(0, 0), at(2, 0)])
+        ),
+        Ok(true)
+    );
 }
 
 #[test]
-fn remainder_to_first(rt: HostRuntime) -> Result<(), Fail> {
+fn remainder_to_first(rt: HostRuntime) {
     let alloc = rt.alloc();
     let rows = [(0, 0, 2, 8, 0), (0, 1, 1, 1, 0), (1, 1, 1, 1, 0)];
     assert_eq!(rt;
-        sizes(alloc, Rows, 2, LINED, &rows),
-        Ok(vec![in alloc; 4, 3]?)
+        finds(alloc, Rows, LINED, &rows, &[4, 3], Some(&[at(0, 0)])),
+        Ok(true)
     );
-    let cells = vec![in alloc; at(0, 0)]?;
-    assert_eq!(rt; witness(alloc, Rows, 2, LINED, &rows), Ok(Some(cells)));
-    Ok(())
 }
 
 #[test]
-fn lines_alone_satisfy(rt: HostRuntime) -> Result<(), Fail> {
+fn lines_alone_satisfy(rt: HostRuntime) {
     let alloc = rt.alloc();
     let rows = [
         (0, 0, 3, 1, 0),
@@ -270,49 +296,44 @@ fn lines_alone_satisfy(rt: HostRuntime) -> Result<(), Fail> {
         (2, 2, 1, 1, 0),
     ];
     assert_eq!(rt;
-        sizes(alloc, Rows, 3, LINED, &rows),
-        Ok(vec![in alloc; 0, 0, 1]?)
+        finds(alloc, Rows, LINED, &rows, &[0, 0, 1], Some(&[at(2, 1)])),
+        Ok(true)
     );
-    let cells = vec![in alloc; at(2, 1)]?;
-    assert_eq!(rt; witness(alloc, Rows, 3, LINED, &rows), Ok(Some(cells)));
-    Ok(())
 }
 
 #[test]
-fn nested_column_spans(rt: HostRuntime) -> Result<(), Fail> {
+fn nested_spans(rt: HostRuntime) {
     let alloc = rt.alloc();
-    let widths = vec![in alloc; 2, 4, 4]?;
-    let cells = vec![in alloc; at(1, 0)]?;
-    assert_eq!(rt; sizes(alloc, Columns, 3, NONE, &NESTED), Ok(widths));
-    assert_eq!(rt; witness(alloc, Columns, 3, NONE, &NESTED), Ok(Some(cells)));
-    Ok(())
-}
-
-#[test]
-fn nested_row_spans(rt: HostRuntime) -> Result<(), Fail> {
-    let alloc = rt.alloc();
-    let heights = vec![in alloc; 2, 4, 4]?;
-    let cells = vec![in alloc; at(0, 1)]?;
-    assert_eq!(rt; sizes(alloc, Rows, 3, NONE, &NESTED_ROWS), Ok(heights));
     assert_eq!(rt;
-        witness(alloc, Rows, 3, NONE, &NESTED_ROWS),
-        Ok(Some(cells))
+        finds(alloc, Columns, NONE, &NESTED, &[2, 4, 4], Some(&[at(1, 0)])),
+        Ok(true)
     );
-    Ok(())
+    assert_eq!(rt;
+        finds(
+            alloc,
+            Rows,
+            NONE,
+            &NESTED_ROWS,
+            &[2, 4, 4],
+            Some(&[at(0, 1)])
+        ),
+        Ok(true)
+    );
+    assert_eq!(rt;
+        finds(
+            alloc,
+            Rows,
+            NONE,
+            &INNER_ROWS,
+            &[3, 2, 2, 1],
+            Some(&[at(0, 2), at(2, 3)])
+        ),
+        Ok(true)
+    );
 }
 
 #[test]
-fn row_spans_within_row_span(rt: HostRuntime) -> Result<(), Fail> {
-    let alloc = rt.alloc();
-    let heights = vec![in alloc; 3, 2, 2, 1]?;
-    let cells = vec![in alloc; at(0, 2), at(2, 3)]?;
-    assert_eq!(rt; sizes(alloc, Rows, 4, NONE, &INNER_ROWS), Ok(heights));
-    assert_eq!(rt; witness(alloc, Rows, 4, NONE, &INNER_ROWS), Ok(Some(cells)));
-    Ok(())
-}
-
-#[test]
-fn crossing_row_spans(rt: HostRuntime) -> Result<(), Fail> {
+fn crossing_spans(rt: HostRuntime) {
     let alloc = rt.alloc();
     let rows = [
         (0, 0, 2, 10, 0),
@@ -320,131 +341,87 @@ fn crossing_row_spans(rt: HostRuntime) -> Result<(), Fail> {
         (1, 1, 2, 10, 0),
         (2, 0, 1, 1, 0),
     ];
-    let heights = vec![in alloc; 6, 7, 3]?;
-    assert_eq!(rt; sizes(alloc, Rows, 3, NONE, &rows), Ok(heights));
-    assert_eq!(rt; witness(alloc, Rows, 3, NONE, &rows), Ok(None));
-    Ok(())
+    assert_eq!(rt; finds(alloc, Rows, NONE, &rows, &[6, 7, 3], None), Ok(true));
+    assert_eq!(rt;
+        finds(alloc, Columns, NONE, &CROSSING, &[5, 8, 2], None),
+        Ok(true)
+    );
 }
 
 #[test]
-fn crossing_column_spans(rt: HostRuntime) -> Result<(), Fail> {
-    let alloc = rt.alloc();
-    let widths = vec![in alloc; 5, 8, 2]?;
-    assert_eq!(rt; sizes(alloc, Columns, 3, NONE, &CROSSING), Ok(widths));
-    assert_eq!(rt; witness(alloc, Columns, 3, NONE, &CROSSING), Ok(None));
-    Ok(())
-}
-
-#[test]
-fn equal_ranges(rt: HostRuntime) -> Result<(), Fail> {
+fn equal_ranges(rt: HostRuntime) {
     let alloc = rt.alloc();
     let cells = [(0, 0, 2, 3, 0), (1, 0, 2, 6, 0)];
-    assert_eq!(rt;
-        sizes(alloc, Columns, 2, NONE, &cells),
-        Ok(vec![in alloc; 4, 2]?)
-    );
-    let places = vec![in alloc; at(1, 0)]?;
-    assert_eq!(rt; witness(alloc, Columns, 2, NONE, &cells), Ok(Some(places)));
     let rows = [(0, 0, 2, 6, 0), (0, 1, 2, 3, 0)];
-    let places = vec![in alloc; at(0, 0)]?;
-    assert_eq!(rt; witness(alloc, Rows, 2, NONE, &rows), Ok(Some(places)));
-    Ok(())
+    assert_eq!(rt;
+        finds(alloc, Columns, NONE, &cells, &[4, 2], Some(&[at(1, 0)])),
+        Ok(true)
+    );
+    assert_eq!(rt;
+        finds(alloc, Rows, NONE, &rows, &[3, 3], Some(&[at(0, 0)])),
+        Ok(true)
+    );
 }
 
 #[test]
-fn greatest_size(rt: HostRuntime) -> Result<(), Fail> {
+fn greatest_size(rt: HostRuntime) {
     let alloc = rt.alloc();
     let cell = [(0, 0, 1, 0, MAX)];
     assert_eq!(rt;
-        sizes(alloc, Columns, 1, NONE, &cell),
-        Ok(vec![in alloc; MAX]?)
+        finds(alloc, Columns, NONE, &cell, &[MAX], Some(&[at(0, 0)])),
+        Ok(true)
     );
-    let places = vec![in alloc; at(0, 0)]?;
-    assert_eq!(rt; witness(alloc, Columns, 1, NONE, &cell), Ok(Some(places)));
-    let too_large = Err(LayoutError::TooLarge);
-    assert_eq!(rt; sizes(alloc, Columns, 1, one_line(1), &cell), too_large);
-    assert_eq!(rt;
-        sizes(alloc, Columns, 1, NONE, &[(0, 0, 1, 1, MAX)]),
-        Err(LayoutError::TooLarge)
-    );
-    assert_eq!(rt;
-        witness(alloc, Columns, 1, LINED, &cell),
-        Err(LayoutError::TooLarge)
-    );
-    Ok(())
+    let larger = [(0, 0, 1, 1, MAX)];
+    assert!(rt; refuses(alloc, Columns, 1, NONE, &larger, TooLarge));
+    assert!(rt; refuses(alloc, Columns, 1, one_line(1), &cell, TooLarge));
+    assert!(rt; refuses(alloc, Columns, 1, LINED, &cell, TooLarge));
 }
 
 #[test]
-fn halves_of_the_greatest(rt: HostRuntime) -> Result<(), Fail> {
+fn halves_of_the_greatest(rt: HostRuntime) {
     let alloc = rt.alloc();
     let cell = [(0, 0, 2, 0, MAX)];
-    let widths = vec![in alloc; HALF + 1, HALF]?;
-    assert_eq!(rt; sizes(alloc, Columns, 2, NONE, &cell), Ok(widths));
-    let widths = vec![in alloc; HALF, HALF]?;
-    assert_eq!(rt; sizes(alloc, Columns, 2, one_line(1), &cell), Ok(widths));
+    let place = [at(0, 0)];
+    let above = [HALF + 1, HALF];
     assert_eq!(rt;
-        sizes(alloc, Columns, 2, one_line(0), &cell),
-        Err(LayoutError::TooLarge)
+        finds(alloc, Columns, NONE, &cell, &above, Some(&place)),
+        Ok(true)
     );
-    Ok(())
-}
-
-#[test]
-fn out_of_table(rt: HostRuntime) -> Result<(), Fail> {
-    let alloc = rt.alloc();
-    let out = Err(LayoutError::OutOfTable(at(0, 0)));
-    assert_eq!(rt; sizes(alloc, Columns, 2, NONE, &[(0, 0, 3, 1, 0)]), out);
-    let cells = [(0, 0, 1, 1, 0), (0, 1, 1, 1, 0)];
-    let out = Err(LayoutError::OutOfTable(at(0, 1)));
-    assert_eq!(rt; witness(alloc, Columns, 1, NONE, &cells), out);
-    let greatest = Err(LayoutError::OutOfTable(at(0, 0)));
+    let halves = [HALF, HALF];
     assert_eq!(rt;
-        sizes(alloc, Columns, 1, NONE, &[(0, 0, MAX, 1, 0)]),
-        greatest
+        finds(alloc, Columns, one_line(1), &cell, &halves, Some(&place)),
+        Ok(true)
     );
-    Ok(())
+    assert!(rt; refuses(alloc, Columns, 2, one_line(0), &cell, TooLarge));
 }
 
 #[test]
-fn out_before_too_large(rt: HostRuntime) -> Result<(), Fail> {
+fn out_of_table(rt: HostRuntime) {
     let alloc = rt.alloc();
-    let cells = [(0, 0, 1, 1, MAX), (0, 1, 1, 1, MAX)];
-    let out = Err(LayoutError::OutOfTable(at(0, 1)));
-    assert_eq!(rt; sizes(alloc, Columns, 1, NONE, &cells), out);
-    Ok(())
+    let wide = [(0, 0, 3, 1, 0)];
+    assert!(rt; refuses(alloc, Columns, 2, NONE, &wide, OutOfTable(at(0, 0))));
+    let second = [(0, 0, 1, 1, 0), (0, 1, 1, 1, 0)];
+    assert!(rt; refuses(alloc, Columns, 1, NONE, &second, OutOfTable(at(0, 1))));
+    let greatest = [(0, 0, MAX, 1, 0)];
+    assert!(rt; refuses(alloc, Columns, 1, NONE, &greatest, OutOfTable(at(0, 0))));
+    let large = [(0, 0, 1, 1, MAX), (0, 1, 1, 1, MAX)];
+    assert!(rt; refuses(alloc, Columns, 1, NONE, &large, OutOfTable(at(0, 1))));
 }
 
 #[test]
-fn first_out_in_each_direction(rt: HostRuntime) -> Result<(), Fail> {
+fn first_out_in_each_direction(rt: HostRuntime) {
     let alloc = rt.alloc();
-    let wide = seen(
-        alloc,
-        Columns,
-        2,
-        &[(0, 0, 1, 0, 0), (0, 1, 1, 0, 0), (1, 1, 2, 0, 0)],
-    )?;
-    let high = seen(
-        alloc,
-        Rows,
-        2,
-        &[(0, 0, 3, 1, 0), (0, 1, 1, 1, 0), (1, 1, 1, 1, 0)],
-    )?;
-    let out = Err(LayoutError::OutOfTable(at(1, 1)));
-    assert_eq!(rt; Vec::<usize>::solve(alloc, 2, &wide, &NONE), out);
-    let out = Err(LayoutError::OutOfTable(at(0, 0)));
-    assert_eq!(rt; Vec::<usize>::solve(alloc, 2, &high, &NONE), out);
-    Ok(())
+    let wide = [(0, 0, 1, 0, 0), (0, 1, 1, 0, 0), (1, 1, 2, 0, 0)];
+    assert!(rt; refuses(alloc, Columns, 2, NONE, &wide, OutOfTable(at(1, 1))));
+    let high = [(0, 0, 3, 1, 0), (0, 1, 1, 1, 0), (1, 1, 1, 1, 0)];
+    assert!(rt; refuses(alloc, Rows, 2, NONE, &high, OutOfTable(at(0, 0))));
 }
 
 #[test]
-fn empty_tables(rt: HostRuntime) -> Result<(), Fail> {
+fn empty_tables(rt: HostRuntime) {
     let alloc = rt.alloc();
-    assert_eq!(rt; sizes(alloc, Columns, 0, LINED, &[]), Ok(Vec::new(alloc)));
-    assert_eq!(rt;
-        witness(alloc, Rows, 0, NONE, &[]),
-        Ok(Some(Vec::new(alloc)))
-    );
-    Ok(())
+    assert_eq!(rt; finds(alloc, Columns, LINED, &[], &[], Some(&[])), Ok(true));
+    assert_eq!(rt; finds(alloc, Rows, NONE, &[], &[], Some(&[])), Ok(true));
 }
 
 // No block is that large, and nothing is counted up to the count.

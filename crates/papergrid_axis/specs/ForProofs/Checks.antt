@@ -1,11 +1,11 @@
 -- What a checker keeps of the visible cells that it met, given sizes and a list of places.
-use Rattle.std.specs.Prelude.{◌≡◌, ℕ, ◌+◌, sum, ◌*◌, ◌^◌, ◌≤◌, Bool, true, false, ◌&&◌, ◌==◌, List, length, sum_by, count_by, ◌≢◌, All, AllPairs}
+use Rattle.std.specs.Prelude.{◌≡◌, ℕ, ◌+◌, sum, ◌*◌, ◌^◌, ◌≤◌, Bool, true, false, List, length, sum_by, ◌≢◌, All, AllPairs}
 use Rattle.papergrid_values.specs.declared.position.Position.{Position}
 use Rattle.papergrid_axis.specs.declared.checked.Checked.{Checked}
 use Rattle.papergrid_axis.specs.declared.claim.Claim.{Claim}
 use Rattle.papergrid_axis.specs.declared.demand.Demand.{Demand}
 use Rattle.papergrid_values.specs.declared.direction.Direction.{Direction}
-use Rattle.papergrid_values.specs.Positions.{AreRising, along}
+use Rattle.papergrid_values.specs.Positions.{AreRising, along, count_of}
 use Rattle.papergrid_axis.specs.Ranges.{AreDisjoint, demand_of, end_of, inner_lines, place_of}
 use Rattle.papergrid_axis.specs.Fits.{HasRoom}
 
@@ -13,12 +13,9 @@ use Rattle.papergrid_axis.specs.Fits.{HasRoom}
 abbrev pub range_of : ℕ → ℕ → ℕ → Demand
 range_of start span need = record { row = 0; col = 0; start = start; span = span; need = need }
 
-abbrev pub stands_at : Demand → Position → Bool
-stands_at d p = d.row == p.row && d.col == p.col
-
 -- how often the cell is listed
 abbrev pub times_listed : List Position → Demand → ℕ
-times_listed places d = count_by (stands_at d) places
+times_listed places d = count_of (place_of d) places
 
 -- the sum of a number of each cell, taken as often as the cell is listed
 abbrev pub all_listed : (Demand → ℕ) → List Position → List Demand → ℕ

@@ -1,4 +1,4 @@
-use Rattle.std.proofs.Common.{◌≡◌, ℕ, ◌+◌, ◌*◌, ◌≤◌, ◌∷◌, ◌++◌, [], ◌∙◌, ap₂, sym, refl, subst, subst₂, arith, length, true}
+use Rattle.std.proofs.Common.{◌≡◌, ℕ, ◌+◌, ◌*◌, ◌<◌, ◌≤◌, ◌∷◌, ◌++◌, [], ◌∙◌, ap₂, sym, refl, subst, subst₂, arith, length, true}
 use Rattle.std.proofs.lemmas.Bool.{not-false, not-true, true≢false}
 use Rattle.papergrid_axis.specs.ForProofs.Checks.{Checks, range_of, times_listed}
 use Rattle.papergrid_axis.specs.Fits.{HasRoom}
@@ -27,36 +27,23 @@ returns-then-times-claim-clause-checks g c = λ demands before.
 
 pub returns-else-times-claim-clause-checks : goal.returns-else-times-claim-clause-checks
 returns-else-times-claim-clause-checks g c = λ demands before.
-    let line : ℕ → _ = g.A.Axis.line c.args.axis.now in
-    let span_of = g.A.Axis.span_of c.args.axis.now in
     let d = demand_of c.args.claim.now.direction c.args.place (g.A.Axis.span_of c.args.axis.now c.args.place) c.args.need in
     let one : 1 ≤ g.A.Axis.span_of c.args.axis.now c.args.place = omega (arith, c.span-span.ensures.value, c.span-span.ensures.positive) in
     let times : c.count_listed-times.result ≡ times_listed c.args.claim.now.places.now d = c.count_listed-times.ensures in
-    subst (λ r. Checks line c.args.claim.now.sizes.now c.args.claim.now.places.now c.args.claim.now.direction span_of r (demands ++ d ∷ [])) (sym c.failed-else-times-claim.ensures)
-    (Checks-fails line c.args.claim.now.sizes.now c.args.claim.now.places.now c.args.claim.now.direction span_of c.args.checked demands d before refl one
-    (λ so. too_many line c.args.claim.now.sizes.now c.args.claim.now.places.now c.args.claim.now.direction span_of c.args.checked demands d before refl one so (omega (arith, times, c.if-times-claim.false, c.requires.bounded.few))))
+    let many : length c.args.claim.now.places.now < c.args.checked.found + times_listed c.args.claim.now.places.now d = omega (arith, times, c.if-times-claim.false, c.requires.bounded.few) in
+    rw c.failed-else-times-claim.ensures (Checks-fails _ _ _ _ _ c.args.checked demands d before refl one (λ so. too_many _ _ _ _ _ c.args.checked demands d before refl one so many))
 
 pub returns-in-None-clause-checks : goal.returns-in-None-clause-checks
 returns-in-None-clause-checks g c = λ demands before.
-    let line : ℕ → _ = g.A.Axis.line c.args.axis.now in
-    let span_of = g.A.Axis.span_of c.args.axis.now in
-    let d = demand_of c.args.claim.now.direction c.args.place (g.A.Axis.span_of c.args.axis.now c.args.place) c.args.need in
+    let none = subst₂ (λ s n. s + n ≤ length c.args.claim.now.sizes.now → HasRoom (g.A.Axis.line c.args.axis.now) c.args.claim.now.sizes.now (range_of s n c.args.need) → ⊥) c.number_of-start.ensures c.span-span.ensures.value c.in-None.ensures.none in
     let one : 1 ≤ g.A.Axis.span_of c.args.axis.now c.args.place = omega (arith, c.span-span.ensures.value, c.span-span.ensures.positive) in
-    let none = subst₂ (λ s n. s + n ≤ length c.args.claim.now.sizes.now → HasRoom line c.args.claim.now.sizes.now (range_of s n c.args.need) → ⊥) c.number_of-start.ensures c.span-span.ensures.value c.in-None.ensures.none in
-    subst (λ r. Checks line c.args.claim.now.sizes.now c.args.claim.now.places.now c.args.claim.now.direction span_of r (demands ++ d ∷ [])) (sym c.failed-in-None.ensures)
-    (Checks-fails line c.args.claim.now.sizes.now c.args.claim.now.places.now c.args.claim.now.direction span_of c.args.checked demands d before refl one
-    (λ so. none_room line c.args.claim.now.sizes.now c.args.claim.now.places.now c.args.claim.now.direction span_of c.args.checked demands d before refl one none))
+    rw c.failed-in-None.ensures (Checks-fails _ _ _ _ _ c.args.checked demands _ before refl one (λ so. none_room _ _ _ _ _ c.args.checked demands _ before refl one none))
 
 -- after a cell that fails nothing changes
 pub returns-then-not-checked-clause-checks : goal.returns-then-not-checked-clause-checks
 returns-then-not-checked-clause-checks g c = λ demands before.
-    let line : ℕ → _ = g.A.Axis.line c.args.axis.now in
-    let span_of = g.A.Axis.span_of c.args.axis.now in
-    let d = demand_of c.args.claim.now.direction c.args.place (g.A.Axis.span_of c.args.axis.now c.args.place) c.args.need in
     let one : 1 ≤ g.A.Axis.span_of c.args.axis.now c.args.place = omega (arith, c.span-span.ensures.value, c.span-span.ensures.positive) in
-    subst (λ r. Checks line c.args.claim.now.sizes.now c.args.claim.now.places.now c.args.claim.now.direction span_of r (demands ++ d ∷ [])) (sym c.failed.ensures)
-    (Checks-fails line c.args.claim.now.sizes.now c.args.claim.now.places.now c.args.claim.now.direction span_of c.args.checked demands d before refl one
-    (λ so. absurd (true≢false (sym so ∙ not-true c.args.checked.holds c.if-not-checked.true))))
+    rw c.failed.ensures (Checks-fails _ _ _ _ _ c.args.checked demands _ before refl one (λ so. absurd (true≢false (sym so ∙ not-true c.args.checked.holds c.if-not-checked.true))))
 
 pub count_listed-times-requires : goal.count_listed-times-requires
 count_listed-times-requires g c = λ t. rising-from_order c.args.claim.now.direction (g.A.Axis.span_of c.args.axis.now) c.args.claim.now.places.now (c.requires.ordered t)

@@ -2,7 +2,7 @@ use Rattle.std.proofs.Common.{◌≡◌, ◌++◌, sum, fold, take, drop}
 use Rattle.papergrid_axis.specs.ForProofs.Settled.{line_at}
 use Rattle.papergrid_axis.specs.Sizes.{grown}
 use Rattle.papergrid_axis.specs.Chosen.{growing}
-use Rattle.papergrid_axis.proofs.growers.growing_cells.Given as goal
+use Rattle.papergrid_axis.proofs.growers.grow_all.Given as goal
 
 abbrev pub invariant-loop-demand : goal.invariant-loop-demand
 invariant-loop-demand l =
