@@ -63,6 +63,7 @@ where
 }
 
 /// The configuration that the settings tell. Condition: each setting is in range.
+// It is made where its caller keeps it: it is large, and is not moved.
 #[inline(always)]
 pub fn configuration(alloc: Global, settings: Vec<Setting>) -> Result<SpannedConfig, AllocError>
     requires { All (λ setting. is_in_range setting ≡ true) settings.items }

@@ -70,7 +70,6 @@ impl SpannedConfig {
     }
 
     /// Whether there is a vertical line at a column, where there are so many columns.
-    #[inline(always)]
     pub fn has_vertical(&self, col: usize, count: usize) -> bool
         ensures line { IsTrue result ↔ HasVertical (places_of self.now.characters) col count }
         ensures test { result ≡ vertical_line_at self.now.characters col count }
@@ -79,7 +78,6 @@ impl SpannedConfig {
     }
 
     /// Whether there is a horizontal line at a row, where there are so many rows.
-    #[inline(always)]
     pub fn has_horizontal(&self, row: usize, count: usize) -> bool
         ensures line { IsTrue result ↔ HasHorizontal (places_of self.now.characters) row count }
         ensures test { result ≡ horizontal_line_at self.now.characters row count }

@@ -182,7 +182,6 @@ impl<T> BorderTable<T> {
 
     /// Whether there is a vertical line at a column, where there are so many columns: a value for
     /// all lines, a part of the frame, or `is_vertical_set`.
-    #[inline(always)]
     pub fn has_vertical(&self, col: usize, count: usize) -> bool
         ensures line { IsTrue result ↔ HasVertical (places_of self.now) col count }
         ensures test { result ≡ vertical_line_at self.now col count }
@@ -190,7 +189,6 @@ impl<T> BorderTable<T> {
         self.is_vertical_line(col, count)
     }
 
-    #[inline(always)]
     fn is_vertical_line(&self, col: usize, count: usize) -> bool
         ensures { IsTrue result ↔ HasVertical (places_of self.now) col count }
     {
@@ -205,7 +203,6 @@ impl<T> BorderTable<T> {
 
     /// Whether there is a horizontal line at a row, where there are so many rows: a value for all
     /// lines, a part of the frame, or `is_horizontal_set`.
-    #[inline(always)]
     pub fn has_horizontal(&self, row: usize, count: usize) -> bool
         ensures line { IsTrue result ↔ HasHorizontal (places_of self.now) row count }
         ensures test { result ≡ horizontal_line_at self.now row count }
@@ -213,7 +210,6 @@ impl<T> BorderTable<T> {
         self.is_horizontal_line(row, count)
     }
 
-    #[inline(always)]
     fn is_horizontal_line(&self, row: usize, count: usize) -> bool
         ensures { IsTrue result ↔ HasHorizontal (places_of self.now) row count }
     {
