@@ -185,21 +185,16 @@ placed_read bytes at text h =
 worded : (keyword word rest : List ℕ) (setting : Setting) → bytes_eq keyword word ≡ true → IsSetting (word ++ 32 ∷ rest) setting → IsSetting (keyword ++ 32 ∷ rest) setting
 worded keyword word rest setting same h = subst (λ (w : List ℕ). IsSetting (w ++ 32 ∷ rest) setting) (sym (is_word keyword word same)) h
 
-colspan_read : (rest : List ℕ) (setting : Setting) → option_map (λ at. SetColumnSpan at.0 at.1) (placed_span rest) ≡ Some setting → IsSetting (codes "colspan " ++ rest) setting
-colspan_read rest setting h =
-    let at = map_some (λ (at : Position × ℕ). SetColumnSpan at.0 at.1) (placed_span rest) setting h in
+-- a span of either direction, by the word that begins it
+spanned_read : (word : List ℕ) (set : Position → ℕ → Setting)
+    → ((spelled digits : List ℕ) (place : Position) (n : ℕ) → IsPosition spelled place → IsNumber digits n → IsSetting (word ++ (spelled ++ 32 ∷ digits)) (set place n))
+    → (rest : List ℕ) (setting : Setting) → option_map (λ at. set at.0 at.1) (placed_span rest) ≡ Some setting → IsSetting (word ++ rest) setting
+spanned_read word set spells rest setting h =
+    let at = map_some (λ (at : Position × ℕ). set at.0 at.1) (placed_span rest) setting h in
     let is = span_read rest at.0 at.1 in
-    subst (IsSetting (codes "colspan " ++ rest)) at.2
-    (subst (λ (r : List ℕ). IsSetting (codes "colspan " ++ r) (SetColumnSpan at.0.0 at.0.1)) (sym is.whole)
-    (Colspan is.spelled is.digits at.0.0 at.0.1 is.is_position is.is_number))
-
-rowspan_read : (rest : List ℕ) (setting : Setting) → option_map (λ at. SetRowSpan at.0 at.1) (placed_span rest) ≡ Some setting → IsSetting (codes "rowspan " ++ rest) setting
-rowspan_read rest setting h =
-    let at = map_some (λ (at : Position × ℕ). SetRowSpan at.0 at.1) (placed_span rest) setting h in
-    let is = span_read rest at.0 at.1 in
-    subst (IsSetting (codes "rowspan " ++ rest)) at.2
-    (subst (λ (r : List ℕ). IsSetting (codes "rowspan " ++ r) (SetRowSpan at.0.0 at.0.1)) (sym is.whole)
-    (Rowspan is.spelled is.digits at.0.0 at.0.1 is.is_position is.is_number))
+    subst (IsSetting (word ++ rest)) at.2
+    (subst (λ (r : List ℕ). IsSetting (word ++ r) (set at.0.0 at.0.1)) (sym is.whole)
+    (spells is.spelled is.digits at.0.0 at.0.1 is.is_position is.is_number))
 
 border_read : (rest : List ℕ) (setting : Setting) → IsUtf8 rest → option_map (λ c. SetBorders (frame_with (Some c))) (character_of rest) ≡ Some setting → IsSetting (codes "border " ++ rest) setting
 border_read rest setting text h =
@@ -264,9 +259,9 @@ unfolding setting_of
 setting_read keyword rest setting text h = elim (chosen (bytes_eq keyword (codes "pad")) (padding_of rest) _ (Some setting) h) [
   | inl pad ↦ worded keyword (codes "pad") rest setting pad.0 (padding_read rest setting pad.1)
   | inr past_pad ↦ elim (chosen (bytes_eq keyword (codes "colspan")) (option_map (λ at. SetColumnSpan at.0 at.1) (placed_span rest)) _ (Some setting) past_pad.1) [
-    | inl colspan ↦ worded keyword (codes "colspan") rest setting colspan.0 (colspan_read rest setting colspan.1)
+    | inl colspan ↦ worded keyword (codes "colspan") rest setting colspan.0 (spanned_read (codes "colspan ") SetColumnSpan Colspan rest setting colspan.1)
     | inr past_colspan ↦ elim (chosen (bytes_eq keyword (codes "rowspan")) (option_map (λ at. SetRowSpan at.0 at.1) (placed_span rest)) (line_setting keyword rest) (Some setting) past_colspan.1) [
-      | inl rowspan ↦ worded keyword (codes "rowspan") rest setting rowspan.0 (rowspan_read rest setting rowspan.1)
+      | inl rowspan ↦ worded keyword (codes "rowspan") rest setting rowspan.0 (spanned_read (codes "rowspan ") SetRowSpan Rowspan rest setting rowspan.1)
       | inr line ↦ line_setting_read keyword rest setting text line.1
     ]
   ]

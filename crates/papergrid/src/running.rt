@@ -17,7 +17,7 @@ use crate::transfer::{Failed, Sink, Source};
 use bumpalo::Bump;
 use papergrid_layout::LayoutError;
 use papergrid_text::IterRecords;
-use std::alloc::{AllocError, AllocFailed, Global};
+use std::alloc::{AllocError, Global};
 
 /// How a run ended that read its whole input and wrote its whole output.
 #[derive(Clone, Copy, Debug, PartialEq, Eq)]
@@ -46,14 +46,6 @@ impl From<AllocError> for RunFault {
     ghost from_gives = { λ _ e. e ≡ Memory };
 
     fn from(_error: AllocError) -> RunFault {
-        RunFault::Memory
-    }
-}
-
-impl<T: Drop> From<AllocFailed<T>> for RunFault {
-    ghost from_gives = { λ _ e. e ≡ Memory };
-
-    fn from(_error: AllocFailed<T>) -> RunFault {
         RunFault::Memory
     }
 }

@@ -14,7 +14,7 @@ use bumpalo::Bump;
 use papergrid_config::Setting;
 use papergrid_text::string::count_lines;
 use simdutf8::compat::from_utf8;
-use std::alloc::{AllocError, AllocFailed, Global};
+use std::alloc::{AllocError, Global};
 
 /// What a script tells. Texts are lent from the input, those with escapes from the arena.
 #[derive(Drop)]
@@ -32,7 +32,7 @@ pub struct Script<'a> {
 /// Why there is no script.
 #[derive(Debug, Drop)]
 pub enum ScriptError {
-    /// Want of memory.
+    /// Memory was refused.
     Memory,
     /// The first bad line, counted from 1.
     Bad(usize),
@@ -42,14 +42,6 @@ impl From<AllocError> for ScriptError {
     ghost from_gives = { λ _ e. e ≡ Memory };
 
     fn from(_error: AllocError) -> ScriptError {
-        ScriptError::Memory
-    }
-}
-
-impl<T: Drop> From<AllocFailed<T>> for ScriptError {
-    ghost from_gives = { λ _ e. e ≡ Memory };
-
-    fn from(_error: AllocFailed<T>) -> ScriptError {
         ScriptError::Memory
     }
 }

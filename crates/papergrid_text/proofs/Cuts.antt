@@ -12,7 +12,7 @@ use Rattle.std.specs.declared.slice.Iter.{Iter}
 use Rattle.std.proofs.lemmas.Bool.{cases_lt}
 use Rattle.papergrid_text.specs.Cut.{cut_rows, cut_whole_rows}
 use Rattle.papergrid_text.specs.Records.{IsShort, Gives, GivesRows}
-use Rattle.papergrid_text.proofs.Walks.{map_from_zip, lent_drains}
+use Rattle.papergrid_text.proofs.Walks.{map_from_zip, lent_drains, short_by}
 
 -- the n items at the front, or all where there are fewer
 cut_at : {A : Type 0} (n : ℕ) (a b : List A) → length a ≡ min n (length (a ++ b)) → (take n (a ++ b) ≡ a) × (drop n (a ++ b) ≡ b)
@@ -78,12 +78,7 @@ module _ {X : Type 0} where
 
   pub chunks_short : (P : Bor (List X) → Type 0) → ((x : Bor (List X)) → P x) → (s : Chunks X) → 0 < chunks_size s → length (chunks_rest s) < 2 ^ 64 →
       IsShort (λ s. 0 < chunks_size s) (λ s. at_most (chunk_count (length (chunks_rest s)) (chunks_size s))) (chunks_steps {A = X}) P s
-  chunks_short P all s pos small = record {
-    may_start = pos;
-    ends = tt;
-    fits = λ xs t walked. let n = cut_fits s t xs pos walked in omega arith;
-    each = λ xs t x u walked step. all x;
-  }
+  chunks_short P all s pos small = short_by P all s pos tt (λ xs t walked. let n = cut_fits s t xs pos walked in omega arith)
 
   chunks_drains : (s : Chunks X) (xs : List (Bor (List X))) → 0 < chunks_size s → Drains (chunks_steps {A = X}) s xs → map (λ x. x.now) xs ≡ cut_rows (chunks_size s) (chunks_rest s)
   chunks_drains s xs pos (u, (t, walked, last)) =
@@ -126,12 +121,7 @@ module _ {X : Type 0} where
 
   pub whole_chunks_short : (P : Bor (List X) → Type 0) → ((x : Bor (List X)) → P x) → (s : ChunksExact X) → 0 < chunks_exact_size s → length (chunks_exact_rest s) < 2 ^ 64 →
       IsShort (λ s. 0 < chunks_exact_size s) (λ s. at_most (length (chunks_exact_rest s) / chunks_exact_size s)) (chunks_exact_steps {A = X}) P s
-  whole_chunks_short P all s pos small = record {
-    may_start = pos;
-    ends = tt;
-    fits = λ xs t walked. let n = whole_fits s t xs pos walked in omega arith;
-    each = λ xs t x u walked step. all x;
-  }
+  whole_chunks_short P all s pos small = short_by P all s pos tt (λ xs t walked. let n = whole_fits s t xs pos walked in omega arith)
 
   whole_drains : (s : ChunksExact X) (xs : List (Bor (List X))) → 0 < chunks_exact_size s → Drains (chunks_exact_steps {A = X}) s xs → map (λ x. x.now) xs ≡ cut_whole_rows (chunks_exact_size s) (chunks_exact_rest s)
   whole_drains s xs pos (u, (t, walked, last)) =

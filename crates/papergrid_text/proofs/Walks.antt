@@ -1,7 +1,7 @@
 -- What the walks of std's vectors and slices give.
-use Rattle.std.proofs.Common.{◌≡◌, ◌+◌, ◌<◌, ◌^◌, List, [], ◌∷◌, ◌++◌, length, map, refl, ap, sym, ◌∙◌, arith, zero-add, Bor, Vec, length-append}
+use Rattle.std.proofs.Common.{◌≡◌, ◌+◌, ◌<◌, ◌^◌, List, [], ◌∷◌, ◌++◌, length, map, refl, ap, sym, ◌∙◌, arith, Option, zero-add, Bor, Vec, length-append}
 use Rattle.std.specs.Prelude.{vec_len, ⊤}
-use Rattle.std.specs.Iterator.{Yields, Drains, at_most}
+use Rattle.std.specs.Iterator.{Count, IsFinite, Yields, Drains, at_most}
 use Rattle.std.specs.List.{AllZip}
 use Rattle.std.specs.Slice.Iter.{iter_steps, iter_rest}
 use Rattle.std.specs.declared.slice.Iter.{Iter}
@@ -64,23 +64,25 @@ module _ {X : Type 0} where
 
 -- ---- how long the walks are
 
+-- any walk from here gives fewer items than 2^64, and no item is asked for more than it has
+pub short_by : {S A : Type 0} {can : S → Type 0} {left : S → Count} {steps : S → Option A → S → Type 0} (P : A → Type 0) → ((x : A) → P x) → (it : S) → can it → IsFinite (left it) →
+    ((xs : List A) (t : S) → Yields steps it xs t → length xs < 2 ^ 64) → IsShort can left steps P it
+short_by P all it may ends fits = record {
+  may_start = may;
+  ends = ends;
+  fits = fits;
+  each = λ xs t x u walked step. all x;
+}
+
 module _ {X Z : Type 0} where
   pub owned_short : (P : X → Type 0) → ((x : X) → P x) → (s : IntoIter X Z) → into_iter_len s < 2 ^ 64 → IsShort (λ _. ⊤) (λ s. at_most (into_iter_len s)) (into_iter_steps {X = X} {Z = Z}) P s
-  owned_short P all s small = record {
-    may_start = tt;
-    ends = tt;
-    fits = λ xs t walked. let r = owned_yields s t xs walked in omega arith;
-    each = λ xs t x u walked step. all x;
-  }
+  owned_short P all s small = short_by P all s tt tt (λ xs t walked. let r = owned_yields s t xs walked in omega arith)
 
 module _ {X : Type 0} where
   pub lent_short : (P : Bor X → Type 0) → ((x : Bor X) → P x) → (s : Iter X) → length (iter_rest s) < 2 ^ 64 → IsShort (λ _. ⊤) (λ s. at_most (length (iter_rest s))) (iter_steps {A = X}) P s
-  lent_short P all s small = record {
-    may_start = tt;
-    ends = tt;
-    fits = λ xs t walked. let e = ap length (lent_yields s t xs walked) ∙ length-append (map (λ x. x.now) xs) (iter_rest t) in let m = length-map xs (λ (x : Bor X). x.now) in omega arith;
-    each = λ xs t x u walked step. all x;
-  }
+  lent_short P all s small =
+      short_by P all s tt tt
+      (λ xs t walked. let e = ap length (lent_yields s t xs walked) ∙ length-append (map (λ x. x.now) xs) (iter_rest t) in let m = length-map xs (λ (x : Bor X). x.now) in omega arith)
 
 -- ---- rows of cells
 

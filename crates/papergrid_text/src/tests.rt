@@ -259,6 +259,25 @@ fn refused_memory(rt: HostRuntime) {
     }
 }
 
+/// What the records say of a cell: its text, how many lines it has, its width, and a line with its
+/// width.
+fn peek<R: PeekableRecords>(
+    records: &R,
+    pos: Position,
+    line: usize,
+) -> (&str, usize, usize, &str, usize)
+    requires at { R.has records.now pos }
+    requires there { R.has_line records.now pos line }
+{
+    (
+        records.get_text(pos),
+        records.count_lines(pos),
+        records.get_width(pos),
+        records.get_line(pos, line),
+        records.get_line_width(pos, line),
+    )
+}
+
 // Records that write `get_text` alone.
 #[derive(Drop)]
 struct OneText;
@@ -288,23 +307,11 @@ fn false_counts_and_provided_peeks(rt: HostRuntime) -> Result<(), Fail> {
     assert_eq!(rt; Records::count_columns(&&records), 9);
     assert_eq!(rt; Records::hint_count_rows(&&records), Some(5));
     assert_eq!(rt; records.len(), 1);
-    assert_eq!(rt; records.get_text(pos), "a");
-    assert_eq!(rt; records.get_line(pos, 0), "a");
-    assert_eq!(rt; PeekableRecords::count_lines(&records, pos), 1);
-    assert_eq!(rt; records.get_width(pos), 1);
-    assert_eq!(rt; records.get_line_width(pos, 0), 1);
+    assert_eq!(rt; peek(&records, pos, 0), ("a", 1, 1, "a", 1));
     let one = OneText;
-    assert_eq!(rt; one.count_lines(pos), 2);
-    assert_eq!(rt; one.get_line(pos, 1), "b");
+    assert_eq!(rt; peek(&one, pos, 1), ("a\nb", 2, 1, "b", 1));
+    assert_eq!(rt; peek(&&one, pos, 1), ("a\nb", 2, 1, "b", 1));
     assert_eq!(rt; one.get_line(pos, 2), "");
-    assert_eq!(rt; one.get_line_width(pos, 1), 1);
-    assert_eq!(rt; one.get_width(pos), 1);
-    let lent = &one;
-    assert_eq!(rt; PeekableRecords::get_text(&lent, pos), "a\nb");
-    assert_eq!(rt; PeekableRecords::count_lines(&lent, pos), 2);
-    assert_eq!(rt; PeekableRecords::get_line(&lent, pos, 1), "b");
-    assert_eq!(rt; PeekableRecords::get_width(&lent, pos), 1);
-    assert_eq!(rt; PeekableRecords::get_line_width(&lent, pos, 1), 1);
     Ok(())
 }
 

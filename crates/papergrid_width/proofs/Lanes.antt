@@ -1,8 +1,8 @@
 -- From the mask of one load of bytes to how many of them pass a test, from the front on.
-use Rattle.std.proofs.Common.{◌≡◌, ◌+◌, ◌<◌, ◌≤◌, ◌%◌, ◌^◌, ℕ, List, [], ◌∷◌, Bool, true, not, cond, map, length, drop, get_or, Fits, w8, refl, ap, ap₂, sym, ◌∙◌, arith}
+use Rattle.std.proofs.Common.{◌≡◌, ◌+◌, ◌-◌, ◌<◌, ◌≤◌, ◌%◌, ◌^◌, ℕ, List, [], ◌∷◌, Bool, true, not, cond, map, length, take, drop, get_or, Fits, w8, refl, ap, ap₂, sym, ◌∙◌, arith}
 use Rattle.std.specs.List.{prefix_len}
 use Rattle.std.proofs.lemmas.Bool.{agree_below, agree_below_at, cond-true, eq-eqb}
-use Rattle.std.proofs.lemmas.List.{length-map, take-append-drop, drop-drop}
+use Rattle.std.proofs.lemmas.List.{length-map, length-take, take-append-drop, drop-drop}
 use Rattle.std.proofs.lemmas.List.Folds.{prefix_len-append}
 use Rattle.std.proofs.lemmas.List.Sums.{prefix_len-le-length}
 use Rattle.std.proofs.lemmas.Simd.{map-map, mask_l-mod, length-chunk, chunk-fits, below_from_Fits, leading_from_mask_l, trailing_mask_l}
@@ -43,7 +43,7 @@ module _ (q : ℕ → Bool) (d : List ℕ) (i n : ℕ) (z : List ℕ) (room : i 
   first_other some = ap (count_trailing_zeros 64) mask ∙ trailing_mask_l stops 64 (chunk i n d) (omega (arith, long)) (omega (arith, mask)) ∙ same
 
 -- where all of a load pass, the bytes after it are counted on
-pub counted_on : (q : ℕ → Bool) (bytes : List ℕ) (i n r : ℕ) → i + n ≤ length bytes → r ≡ prefix_len q (chunk i n bytes) → n ≤ r → (r ≡ n) × (prefix_len q (drop i bytes) ≡ r + prefix_len q (drop (i + r) bytes))
+counted_on : (q : ℕ → Bool) (bytes : List ℕ) (i n r : ℕ) → i + n ≤ length bytes → r ≡ prefix_len q (chunk i n bytes) → n ≤ r → (r ≡ n) × (prefix_len q (drop i bytes) ≡ r + prefix_len q (drop (i + r) bytes))
 counted_on q bytes i n r room is all =
     let long = length-chunk i n bytes room in
     let bound = prefix_len-le-length q (chunk i n bytes) in
@@ -54,3 +54,17 @@ counted_on q bytes i n r room is all =
           ∙ cond-true _ _ _ (eq-eqb _ _ full) ∙ ap (λ k. k + prefix_len q (drop n (drop i bytes))) (long ∙ sym same)
           ∙ ap (λ rest. r + prefix_len q rest) (drop-drop n i bytes ∙ ap (λ k. drop (i + k) bytes) (sym same)),
     )
+
+-- so where i bytes passed, those of the load pass too
+pub counted_more : (q : ℕ → Bool) (bytes : List ℕ) (i n r : ℕ) → i + n ≤ length bytes → r ≡ prefix_len q (chunk i n bytes) → n ≤ r → i + prefix_len q (drop i bytes) ≡ prefix_len q bytes →
+    (i + r ≤ length bytes) × (i + r + prefix_len q (drop (i + r) bytes) ≡ prefix_len q bytes)
+counted_more q bytes i n r room is all so_far =
+    let on = counted_on q bytes i n r room is all in
+    (omega (arith, on.0), omega (arith, on.1))
+
+-- i bytes, and those after them that pass, are bytes of the text
+pub counted_within : (q : ℕ → Bool) (bytes : List ℕ) (i : ℕ) → i ≤ length bytes → i + prefix_len q (take (length bytes - i) (drop i bytes)) ≤ length bytes
+counted_within q bytes i within =
+    let bound = prefix_len-le-length q (take (length bytes - i) (drop i bytes)) in
+    let long = length-take (length bytes - i) (drop i bytes) in
+    omega arith

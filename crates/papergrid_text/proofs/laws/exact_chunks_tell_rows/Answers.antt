@@ -1,14 +1,10 @@
-use Rattle.std.proofs.Common.{ap, arith, length}
-use Rattle.std.specs.Slice.Iter.{chunks_exact_rest, chunks_exact_size}
 use Rattle.papergrid_text.proofs.Cuts.{whole_chunks_short, whole_chunk_cells}
 use Rattle.papergrid_text.proofs.Walks.{lent_short}
 use Rattle.papergrid_text.proofs.laws.exact_chunks_tell_rows.Goals as goal
 
 pub returns-clause-lawful : goal.returns-clause-lawful
 returns-clause-lawful g c = λ chunks some small it made.
-    let rest = ap (λ s. length (chunks_exact_rest s)) made in
-    let size = ap (λ s. chunks_exact_size s) made in
-    whole_chunks_short _ (λ row cells made_cells. lent_short _ (λ cell. tt) cells made_cells.1) it (omega arith) (omega arith)
+    whole_chunks_short _ (λ row cells made_cells. lent_short _ (λ cell. tt) cells made_cells.1) it (rw made some) (rw made small)
 
 pub returns-clause-told : goal.returns-clause-told
 returns-clause-told g c = λ chunks cells some gave. whole_chunk_cells (λ row it made. made.0) chunks cells some gave

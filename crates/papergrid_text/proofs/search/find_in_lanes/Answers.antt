@@ -2,7 +2,7 @@ use Rattle.std.proofs.Common.{◌≡◌, ◌||◌, Bool, true, false, not, cond,
 use Rattle.std.specs.Prelude.{◌==◌}
 use Rattle.std.proofs.lemmas.Simd.{zip2_of_maps, zip2_splat, length-chunk}
 use lib.Bits.{bit_or}
-use lib.Lanes.{chunk, top}
+use lib.Lanes.{top}
 use Rattle.papergrid_width.proofs.Lanes.{all_pass, first_other}
 use Rattle.papergrid_text.proofs.search.find_in_lanes.Goals as goal
 
@@ -14,14 +14,12 @@ either_lane false false = refl
 
 pub returns-then-mask-eq0 : goal.returns-then-mask-eq0
 returns-then-mask-eq0 c =
-    let v = chunk c.args.from 16 c.args.bytes.now in
     let long = length-chunk c.args.from 16 c.args.bytes.now c.requires in
     all_pass (λ b. not ((b == c.args.one) || (b == c.args.other))) c.args.bytes.now c.args.from 16 _ c.requires (omega arith) c.type_inv.bytes _
-    (zip2_of_maps _ _ _ v (zip2_splat _ v 16 c.args.one long) (zip2_splat _ v 16 c.args.other long)) (λ b below. either_lane (b == c.args.one) (b == c.args.other)) c.if-mask-eq0.true
+    (zip2_of_maps _ _ _ _ (zip2_splat _ _ 16 c.args.one long) (zip2_splat _ _ 16 c.args.other long)) (λ b below. either_lane (b == c.args.one) (b == c.args.other)) c.if-mask-eq0.true
 
 pub returns-else-mask-eq0 : goal.returns-else-mask-eq0
 returns-else-mask-eq0 c =
-    let v = chunk c.args.from 16 c.args.bytes.now in
     let long = length-chunk c.args.from 16 c.args.bytes.now c.requires in
     first_other (λ b. not ((b == c.args.one) || (b == c.args.other))) c.args.bytes.now c.args.from 16 _ c.requires (omega arith) c.type_inv.bytes _
-    (zip2_of_maps _ _ _ v (zip2_splat _ v 16 c.args.one long) (zip2_splat _ v 16 c.args.other long)) (λ b below. either_lane (b == c.args.one) (b == c.args.other)) c.if-mask-eq0.false
+    (zip2_of_maps _ _ _ _ (zip2_splat _ _ 16 c.args.one long) (zip2_splat _ _ 16 c.args.other long)) (λ b below. either_lane (b == c.args.one) (b == c.args.other)) c.if-mask-eq0.false

@@ -1,4 +1,4 @@
-use Rattle.std.proofs.Common.{ap, sym, subst, ◌∙◌, ◌<◌}
+use Rattle.std.proofs.Common.{ap, ap₂, sym, subst, ◌∙◌, ◌<◌}
 use Rattle.std.proofs.lemmas.Result.{IfOk-weaker}
 use Rattle.std.specs.Prelude.{string_bytes}
 use Rattle.std.specs.Slice.Iter.{chunks_rest, chunks_size}
@@ -12,6 +12,4 @@ pub returns : goal.returns
 returns c =
     let is = ap (λ r. rows_iterated (counted_rows r)) c.new-2.ensures ∙ c.new.ensures in
     let size = ap (λ s. chunks_size s) is ∙ c.chunks.ensures.size in
-    let rest = ap (λ s. chunks_rest s) is ∙ c.chunks.ensures.rest in
-    let some = subst (λ n. 0 < n) (sym size) c.requires in
-    IfOk-weaker c.widest.result _ _ (λ w t. from_lists (λ cell. cell.now) (λ cell. text_width (string_bytes cell)) t.0 _ _ _ w.items (c.chunks_tell_rows.ensures.told _ t.0 some t.1 ∙ (λ i. cut_rows (size i) (rest i))) (ap (λ r. counted_columns r) c.new-2.ensures) t.2) c.widest.ensures
+    IfOk-weaker c.widest.result _ _ (λ w t. from_lists (λ cell. cell.now) (λ cell. text_width (string_bytes cell)) t.0 _ _ _ w.items (c.chunks_tell_rows.ensures.told _ t.0 (subst (λ n. 0 < n) (sym size) c.requires) t.1 ∙ ap₂ cut_rows size (ap (λ s. chunks_rest s) is ∙ c.chunks.ensures.rest)) (ap (λ r. counted_columns r) c.new-2.ensures) t.2) c.widest.ensures
