@@ -1,7 +1,7 @@
 use Rattle.std.proofs.Common.{◌≡◌, ◌+◌, ◌<◌, ◌≤◌, ◌∙◌, ap, refl, sum, fold, length, inl, inr, arith}
 use Rattle.std.proofs.lemmas.Bool.{cases_lt, false≢true}
 use Rattle.papergrid_axis.specs.ForProofs.Settled.{line_at}
-use Rattle.papergrid_axis.specs.Problem.{all_lines}
+use Rattle.papergrid_values.specs.Lines.{all_lines}
 use Rattle.papergrid_axis.specs.Sizes.{grown}
 use Rattle.papergrid_axis.proofs.FitBound.{length-taken}
 use Rattle.papergrid_axis.proofs.LoopLemmas.{sum-taken_part}

@@ -4,7 +4,8 @@ use Rattle.std.proofs.lemmas.List.{with_items_is}
 use Rattle.papergrid_axis.specs.declared.demand.Demand.{Demand}
 use Rattle.papergrid_axis.specs.Chosen.{growing}
 use Rattle.papergrid_axis.specs.ForProofs.Settled.{line_at}
-use Rattle.papergrid_axis.specs.Problem.{all_lines, given}
+use Rattle.papergrid_axis.specs.Problem.{given}
+use Rattle.papergrid_values.specs.Lines.{all_lines}
 use Rattle.papergrid_axis.specs.ForProofs.Seen.{no_demand}
 use Rattle.papergrid_axis.specs.Sizes.{base_sizes, grown, taken}
 use Rattle.papergrid_axis.proofs.DrawnLemmas.{growers-drawn, lines-drawn, sizes-drawn}
