@@ -7,7 +7,8 @@ use Rattle.std.proofs.lemmas.Str.{encode_ascii}
 use borrow.Author.Tests.{eqb-true}
 use Rattle.papergrid_text.proofs.Places.{first_in_front, no_more_than}
 use Rattle.papergrid.specs.Grammar.{without_cr}
-use Rattle.papergrid.specs.Texts.{IsFirstEscape, unescaped, escape_of, escape_at, put_first}
+use Rattle.papergrid.specs.Texts.{unescaped, escape_of, put_first}
+use Rattle.papergrid.specs.ForProofs.Escapes.{IsFirstEscape, escape_at}
 
 abbrev pub is_backslash : ℕ → Bool
 is_backslash b = nat_eq b 92

@@ -17,7 +17,7 @@ use Rattle.papergrid_axis.specs.Sizes.{sizes_of}
 use Rattle.papergrid_axis.proofs.KeptApartLemmas.{Decides-is_kept_apart, SomeCross-from_test}
 use Rattle.papergrid_axis.proofs.OutLemmas as out_lemmas
 use Rattle.papergrid_axis.proofs.Theorems.{AreSizes-sizes_of, IsCertificate-chosen_of, NoneHolds-sizes_of}
-use Rattle.papergrid_config.specs.Lines.{count_lines}
+use Rattle.papergrid_values.specs.Lines.{all_lines}
 use Rattle.papergrid_walk.specs.Cells.{asked, count_along, demands_of, problem_with, visible_cells}
 use Rattle.papergrid_walk.specs.Looks.{Look}
 use Rattle.papergrid_layout.specs.Answers.{first_out_of_table}
@@ -136,8 +136,8 @@ module _ (table : Table) where
           widths = sizes_are look text_measure (look_covers table.settings) Columns table.columns table.rows inside.0 narrow;
           heights = sizes_are look text_measure (look_covers table.settings) Rows (length table.rows) table.rows inside.1 low;
         };
-        is_width = ap (λ draws. sum widths + count_lines (draws table.columns) table.columns) (look_draws table.settings Columns);
-        is_height = ap (λ draws. sum heights + count_lines (draws (length table.rows)) (length table.rows)) (look_draws table.settings Rows);
+        is_width = ap (λ draws. sum widths + all_lines (draws table.columns) table.columns) (look_draws table.settings Columns);
+        is_height = ap (λ draws. sum heights + all_lines (draws (length table.rows)) (length table.rows)) (look_draws table.settings Rows);
         width_fits = narrow;
         height_fits = low;
         certifies_widths = is_witness Columns inside.0 narrow;

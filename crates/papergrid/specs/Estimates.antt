@@ -4,7 +4,7 @@ use Rattle.std.specs.Prelude.{ℕ, ◌+◌, ◌^◌, ◌||◌, List, length, sum
 use Rattle.papergrid_values.specs.declared.position.Position.{Position}
 use Rattle.papergrid_values.specs.declared.direction.Direction.{Direction}
 use Rattle.papergrid_values.specs.declared.direction.Direction.TheVariants.{Columns, Rows}
-use Rattle.papergrid_config.specs.Lines.{count_lines}
+use Rattle.papergrid_values.specs.Lines.{all_lines}
 use Rattle.papergrid_walk.specs.Looks.{Look}
 use Rattle.papergrid_walk.specs.Measures.{line_measure}
 use Rattle.papergrid_layout.specs.Answers.{first_out_of_table}
@@ -30,7 +30,7 @@ unless_out None sized = sized
 
 -- the sum of sizes along a direction, with the lines between, before and after them
 abbrev pub total_along : Direction → Look → ℕ → List ℕ → ℕ
-total_along direction look count sizes = sum sizes + count_lines (look.draws direction count) count
+total_along direction look count sizes = sum sizes + all_lines (look.draws direction count) count
 
 -- with totals
 abbrev pub totalled : Look → ℕ → ℕ → List ℕ → List ℕ → Option (List Position) → Option (List Position) → Estimate

@@ -1,6 +1,5 @@
 -- The texts of cells as a script spells them. A text is the list of its bytes.
-use Rattle.std.specs.Prelude.{◌≡◌, ℕ, List, [], ◌∷◌, length, min, Option, Some, None, option_map, ◌==◌, if◌then◌else◌}
-use Rattle.std.specs.List.{position_or_len}
+use Rattle.std.specs.Prelude.{ℕ, List, [], ◌∷◌, Option, Some, None, option_map, ◌==◌, if◌then◌else◌}
 
 abbrev pub newline : ℕ
 newline = 10
@@ -12,11 +11,6 @@ backslash = 92
 abbrev pub escape_of : ℕ → Option ℕ
 escape_of b = if b == 110 then Some newline else if b == 116 then Some 9 else if b == backslash then Some backslash else None
 
--- what the escape means that stands after a backslash, and what is left behind it
-abbrev pub escape_at : List ℕ → Option (ℕ × List ℕ)
-escape_at [] = None
-escape_at (b ∷ bs) = option_map (λ meant. (meant, bs)) (escape_of b)
-
 abbrev pub put_first : Option ℕ → Option (List ℕ) → Option (List ℕ)
 put_first None rest = None
 put_first (Some b) rest = option_map (λ bs. b ∷ bs) rest
@@ -27,7 +21,3 @@ unescaped [] = Some []
 unescaped (b ∷ []) = if b == backslash then None else Some (b ∷ [])
 unescaped (b ∷ c ∷ bs) =
     if b == backslash then put_first (escape_of c) (unescaped bs) else option_map (λ rest. b ∷ rest) (unescaped (c ∷ bs))
-
--- the first backslash stands there, or there is none before the end
-abbrev pub IsFirstEscape : List ℕ → ℕ → Type 0
-IsFirstEscape bytes at = position_or_len (λ b. b == backslash) bytes ≡ min at (length bytes)

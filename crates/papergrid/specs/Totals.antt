@@ -5,7 +5,7 @@ use Rattle.papergrid_axis.specs.Answers.{AreChosen, NoneChosen, NoneHolds}
 use Rattle.papergrid_axis.specs.Problem.{Problem}
 use Rattle.papergrid_values.specs.declared.direction.Direction.{Direction}
 use Rattle.papergrid_values.specs.declared.direction.Direction.TheVariants.{Columns, Rows}
-use Rattle.papergrid_config.specs.Lines.{count_lines}
+use Rattle.papergrid_values.specs.Lines.{all_lines}
 use Rattle.papergrid_config.specs.Made.{characters_of}
 use Rattle.papergrid_config.specs.declared.setting.Setting.{Setting}
 use Rattle.papergrid_walk.specs.Cells.{problem_of}
@@ -17,7 +17,7 @@ use Rattle.papergrid.specs.Scripts.{Table}
 
 -- how many lines the settings make along a direction of so many columns (rows)
 abbrev pub lines_along : Direction → List Setting → ℕ → ℕ
-lines_along direction settings count = count_lines (line_along (characters_of settings) direction count) count
+lines_along direction settings count = all_lines (line_along (characters_of settings) direction count) count
 
 -- what the sizes of a table along a direction are found for
 abbrev pub problem_of_table : Table → Direction → Problem

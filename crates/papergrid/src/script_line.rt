@@ -3,7 +3,8 @@
 ghost use Rattle.std.specs.Prelude.{◌≢◌, IfOk, codes, option_map};
 ghost use Rattle.papergrid.specs.Grammar.{Cell, Set, keyword_says, said, setting_of, text_says};
 ghost use Rattle.papergrid.specs.ForProofs.Seen.{Takes, table_seen};
-ghost use Rattle.papergrid.specs.Texts.{IsFirstEscape, unescaped};
+ghost use Rattle.papergrid.specs.Texts.{unescaped};
+ghost use Rattle.papergrid.specs.ForProofs.Escapes.{IsFirstEscape};
 
 use crate::cut::split_at_byte;
 use crate::number::number;

@@ -1,7 +1,8 @@
 //! The text of a cell as a script spells it.
 
 ghost use Rattle.std.specs.Prelude.{◌≡◌, ◌++◌, ◌∷◌, IfOk, IfSome, IsUtf8, option_map};
-ghost use Rattle.papergrid.specs.Texts.{IsFirstEscape, backslash, escape_at, unescaped};
+ghost use Rattle.papergrid.specs.Texts.{backslash, unescaped};
+ghost use Rattle.papergrid.specs.ForProofs.Escapes.{IsFirstEscape, escape_at};
 
 use crate::cut::{split_around, split_at_byte};
 use bumpalo::Bump;

@@ -6,7 +6,8 @@ use Rattle.std.proofs.lemmas.List.Elements.{recursion_from_All}
 use Rattle.papergrid_axis.specs.declared.demand.Demand.{Demand}
 use Rattle.papergrid_axis.specs.Chosen.{growers_of, growing}
 use Rattle.papergrid_axis.specs.Fits.{range_sum}
-use Rattle.papergrid_axis.specs.Problem.{all_lines, given}
+use Rattle.papergrid_axis.specs.Problem.{given}
+use Rattle.papergrid_values.specs.Lines.{all_lines}
 use Rattle.papergrid_axis.specs.Ranges.{IsInTable, inner_lines}
 use Rattle.papergrid_axis.specs.Sizes.{base_sizes, grown, lack, sizes_of, taken, with_shares}
 use Rattle.papergrid_axis.proofs.CheckLemmas.{count_by-agree}

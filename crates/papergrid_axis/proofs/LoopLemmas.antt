@@ -9,7 +9,7 @@ use Rattle.std.proofs.lemmas.List.Sums.{sum_by-cons, sum_by-take-le, sum_by-take
 use Rattle.std.proofs.lemmas.Grind.{same_number_lists}
 use Rattle.papergrid_axis.specs.declared.demand.Demand.{Demand}
 use Rattle.papergrid_axis.specs.ForProofs.Settled.{line_at}
-use Rattle.papergrid_axis.specs.Problem.{all_lines}
+use Rattle.papergrid_values.specs.Lines.{all_lines}
 use Rattle.papergrid_axis.specs.Ranges.{end_of, inner_lines, IsInTable}
 use Rattle.papergrid_axis.specs.Fits.{range_sum, HasRoom}
 use Rattle.papergrid_axis.specs.Sizes.{share, with_shares, lack, grown}

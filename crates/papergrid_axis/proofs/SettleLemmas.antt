@@ -8,7 +8,8 @@ use Rattle.papergrid_axis.specs.Answers.{NoneHolds}
 use Rattle.papergrid_axis.specs.Chosen.{growing}
 use Rattle.papergrid_axis.specs.ForProofs.Seen.{IsSeen, no_demand}
 use Rattle.papergrid_axis.specs.ForProofs.Settled.{AreSettled}
-use Rattle.papergrid_axis.specs.Problem.{all_lines, given}
+use Rattle.papergrid_axis.specs.Problem.{given}
+use Rattle.papergrid_values.specs.Lines.{all_lines}
 use Rattle.papergrid_axis.specs.Ranges.{IsInTable, first_out}
 use Rattle.papergrid_axis.specs.Sizes.{base_sizes, grown, taken}
 use Rattle.papergrid_axis.proofs.DrawnLemmas.{growers-drawn, lines-drawn, sizes-drawn}

@@ -6,7 +6,8 @@ use Rattle.std.proofs.lemmas.Bool.{cases_lt}
 use Rattle.std.proofs.lemmas.List.Elements.{All-contains, All-weaker, All-from_recursion, recursion_from_All}
 use Rattle.papergrid_axis.specs.declared.demand.Demand.{Demand}
 use Rattle.papergrid_axis.specs.Answers.{AreSizes, NoneHolds}
-use Rattle.papergrid_axis.specs.Problem.{Problem, all_lines, total_of}
+use Rattle.papergrid_axis.specs.Problem.{Problem, total_of}
+use Rattle.papergrid_values.specs.Lines.{all_lines}
 use Rattle.papergrid_axis.specs.Ranges.{IsInTable, IsKeptApart, end_of, first_out}
 use Rattle.papergrid_axis.specs.Fits.{Fits, IsLeast, IsTooLarge, IsCertificate, top_need}
 use Rattle.papergrid_axis.specs.Sizes.{base_sizes, taken, sizes_of}

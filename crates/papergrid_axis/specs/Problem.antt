@@ -1,6 +1,6 @@
 -- What the sizes along a direction are found for.
-use Rattle.std.specs.Prelude.{ℕ, ◌+◌, Bool, List, sum, count_by}
-use Rattle.std.specs.List.{range_with_len}
+use Rattle.std.specs.Prelude.{ℕ, ◌+◌, Bool, List, sum}
+use Rattle.papergrid_values.specs.Lines.{all_lines}
 use Rattle.papergrid_axis.specs.declared.demand.Demand.{Demand}
 
 -- how many columns (rows) there are, whether a line is drawn at i, before number i or, at the count, after the last, and what
@@ -13,10 +13,6 @@ pub record Problem : Type 0 where
 -- the problem of these lines, so many columns (rows) and these demands
 abbrev pub given : (ℕ → Bool) → ℕ → List Demand → Problem
 given line count demands = record { count = count; line = line; demands = demands }
-
--- the lines at 0, 1 and so on up to n
-abbrev pub all_lines : (ℕ → Bool) → ℕ → ℕ
-all_lines line n = count_by line (range_with_len 0 (n + 1))
 
 -- the sum of the sizes and of all lines
 abbrev pub total_of : Problem → List ℕ → ℕ

@@ -3,7 +3,7 @@
 ghost use Rattle.std.specs.Prelude.{All, IfNone, IfOk, IfSome, IsTrue, count_by, fold, length, sum, ◌+◌, ◌<◌, ◌^◌, ◌↔◌, ◌≡◌, ◌≤◌};
 ghost use Rattle.std.specs.Option.{SomeIff};
 ghost use Rattle.papergrid_axis.specs.ForProofs.Settled.{line_at};
-ghost use Rattle.papergrid_axis.specs.Problem.{all_lines};
+ghost use Rattle.papergrid_values.specs.Lines.{all_lines};
 ghost use Rattle.papergrid_axis.specs.Ranges.{IsInTable, inner_lines};
 ghost use Rattle.papergrid_axis.specs.Fits.{range_sum};
 ghost use Rattle.papergrid_axis.specs.Sizes.{grown, with_shares};

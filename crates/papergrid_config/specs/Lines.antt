@@ -1,7 +1,6 @@
 -- The lines of a configuration, and what is shown on them.
-use Rattle.std.specs.Prelude.{ℕ, ◌+◌, ◌&&◌, Bool, if◌then◌else◌, Option, Some, None}
+use Rattle.std.specs.Prelude.{ℕ, ◌&&◌, Bool, if◌then◌else◌, Option, Some, None}
 use Rattle.std.specs.Option.{option_or}
-use Rattle.std.specs.List.{count_by, range_with_len}
 use Rattle.papergrid_values.specs.declared.position.Position.{Position}
 use Rattle.papergrid_tables.specs.BorderHeld.{HeldBorders, places_of}
 use Rattle.papergrid_tables.specs.LineTests.{horizontal_line_at, vertical_line_at}
@@ -22,7 +21,3 @@ module _ (characters : HeldBorders ℕ) (missing : ℕ) where
   abbrev pub shown_intersection : Position → ℕ → ℕ → Option ℕ
   shown_intersection p rows cols =
       shown (found_intersection (places_of characters) p rows cols) (horizontal_line_at characters p.row rows && vertical_line_at characters p.col cols) missing
-
--- how many lines there are from 0 up to the count
-abbrev pub count_lines : (ℕ → Bool) → ℕ → ℕ
-count_lines is_line count = count_by is_line (range_with_len 0 (count + 1))

@@ -4,7 +4,8 @@ ghost use Rattle.std.specs.Prelude.{◌≡◌, ◌↔◌, ◌-◌, ◌<◌, ◌^
 ghost use Rattle.papergrid_tables.specs.BorderHeld.{places_of};
 ghost use Rattle.papergrid_tables.specs.LineTests.{horizontal_line_at, vertical_line_at};
 ghost use Rattle.papergrid_tables.specs.Places.{HasHorizontal, HasVertical, found_horizontal, found_intersection, found_vertical};
-ghost use Rattle.papergrid_config.specs.Lines.{count_lines, shown_horizontal, shown_intersection, shown_vertical};
+ghost use Rattle.papergrid_config.specs.Lines.{shown_horizontal, shown_intersection, shown_vertical};
+ghost use Rattle.papergrid_values.specs.Lines.{all_lines};
 
 use crate::spanned::SpannedConfig;
 use papergrid_values::{ANSIBuf, Position};
@@ -89,7 +90,7 @@ impl SpannedConfig {
     /// the greatest `usize`.
     pub fn count_vertical(&self, count: usize) -> usize
         requires { count < 2 ^ 64 - 1 }
-        ensures { result ≡ count_lines (λ col. vertical_line_at self.now.characters col count) count }
+        ensures { result ≡ all_lines (λ col. vertical_line_at self.now.characters col count) count }
     {
         (0..count + 1)
             .filter(|col| self.has_vertical(*col, count))
@@ -100,7 +101,7 @@ impl SpannedConfig {
     /// greatest `usize`.
     pub fn count_horizontal(&self, count: usize) -> usize
         requires { count < 2 ^ 64 - 1 }
-        ensures { result ≡ count_lines (λ row. horizontal_line_at self.now.characters row count) count }
+        ensures { result ≡ all_lines (λ row. horizontal_line_at self.now.characters row count) count }
     {
         (0..count + 1)
             .filter(|row| self.has_horizontal(*row, count))

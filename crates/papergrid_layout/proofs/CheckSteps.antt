@@ -15,8 +15,8 @@ use Rattle.papergrid_axis.proofs.AcceptLemmas.{few_places}
 use Rattle.papergrid_axis.proofs.ClaimLemmas.{count_by-none, is_same}
 use Rattle.papergrid_walk.specs.Cells.{asked, asked_by, demands_of, placed, problem_of, side, visible_of}
 use Rattle.papergrid_walk.specs.Looks.{Look}
-use Rattle.papergrid_layout.specs.Witnesses.{AreShown, IsChecked}
-use Rattle.papergrid_layout.specs.ForProofs.Checking.{ChecksMore, check_none}
+use Rattle.papergrid_layout.specs.Witnesses.{IsChecked}
+use Rattle.papergrid_layout.specs.ForProofs.Checking.{AreShown, ChecksMore, check_none}
 
 module _ (look : Look) (claim : Claim) where
   module _ {C : Type 0} (measure : C → ℕ × ℕ) where

@@ -5,7 +5,7 @@ use Rattle.std.specs.Option.{SomeIff}
 use Rattle.std.specs.List.{range_with_len, sum_by}
 use Rattle.std.proofs.lemmas.Bool.{cases_lt, ltb-false}
 use Rattle.std.proofs.lemmas.List.Sums.{sum_by-append, sum_by-cons}
-use Rattle.papergrid_axis.specs.Problem.{all_lines}
+use Rattle.papergrid_values.specs.Lines.{all_lines}
 use Rattle.papergrid_axis.proofs.LoopLemmas.{range_with_len-append}
 use Rattle.papergrid_values.specs.declared.direction.Direction.{Direction}
 use Rattle.papergrid_values.specs.declared.direction.Direction.TheVariants.{Columns, Rows}

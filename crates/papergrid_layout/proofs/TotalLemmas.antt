@@ -7,7 +7,8 @@ use Rattle.papergrid_values.specs.declared.position.Position.{Position}
 use Rattle.papergrid_values.specs.declared.direction.Direction.{Direction}
 use Rattle.papergrid_axis.specs.Answers.{AreSizes, IsTotal}
 use Rattle.papergrid_axis.specs.Fits.{HasRoom}
-use Rattle.papergrid_axis.specs.Problem.{Problem, all_lines, total_of}
+use Rattle.papergrid_axis.specs.Problem.{Problem, total_of}
+use Rattle.papergrid_values.specs.Lines.{all_lines}
 use Rattle.papergrid_axis.specs.Ranges.{end_of, first_out, place_of}
 use Rattle.papergrid_axis.proofs.LoopLemmas.{need_within_total}
 use Rattle.papergrid_axis.proofs.OutLemmas.{if_none}

@@ -7,7 +7,7 @@ use Rattle.papergrid_values.specs.declared.direction.Direction.TheVariants.{Colu
 use Rattle.papergrid_values.specs.Positions.{along}
 use Rattle.papergrid_axis.specs.declared.error.LayoutError.{LayoutError}
 use Rattle.papergrid_axis.specs.declared.error.LayoutError.TheVariants as layout_error
-use Rattle.papergrid_axis.specs.Problem.{all_lines}
+use Rattle.papergrid_values.specs.Lines.{all_lines}
 use Rattle.papergrid_maps.specs.Spans.{IsInRectangle}
 use Rattle.papergrid_walk.specs.Cells.{count_along, side}
 use Rattle.papergrid_walk.specs.Looks.{Look}

@@ -1,5 +1,5 @@
 -- What witnesses and checkers say of the rows told.
-use Rattle.std.specs.Prelude.{◌↔◌, ℕ, All, Bool, IsTrue, List, Result, Ok, Err}
+use Rattle.std.specs.Prelude.{◌↔◌, ℕ, Bool, IsTrue, List, Result, Ok, Err}
 use Rattle.papergrid_values.specs.declared.position.Position.{Position}
 use Rattle.papergrid_axis.specs.declared.error.LayoutError.{LayoutError}
 use Rattle.papergrid_axis.specs.Answers.{IsAccepted, IsWitness}
@@ -13,10 +13,6 @@ use Rattle.papergrid_layout.specs.declared.certified.Certified.{Certified}
 pub record IsChecked (problem : Problem) (sizes : List ℕ) (places : List Position) (answer : Bool) : Type 0 where
   pub exact : IsTrue answer ↔ IsAccepted problem sizes places
   pub least : IsTrue answer → IsLeast problem sizes
-
--- the cells at these places are visible
-abbrev pub AreShown : Look → List Position → Type 0
-AreShown look places = All (λ p. IsTrue (look.shows p)) places
 
 module _ {C : Type 0} (look : Look) (measure : C → ℕ × ℕ) (columns : ℕ) (cells : List (List C)) where
   -- exactly the widths and the heights, and what witnesses say along both directions

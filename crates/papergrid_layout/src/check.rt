@@ -3,8 +3,8 @@
 ghost use Rattle.std.specs.Prelude.{◌≡◌, ◌+◌, ◌^◌, ◌<◌, ◌≤◌, ◌⊎◌, ◌∷◌, [], ⊤, List, length};
 ghost use Rattle.papergrid_axis.specs.ForProofs.Checks.{AreBounded, IsClaim};
 ghost use Rattle.papergrid_walk.specs.Cells.{asked_by, demands_of, problem_of, side};
-ghost use Rattle.papergrid_layout.specs.Witnesses.{AreShown, IsChecked};
-ghost use Rattle.papergrid_layout.specs.ForProofs.Checking.{ChecksBy, ChecksMore, IsShownClaim, check_more, check_none};
+ghost use Rattle.papergrid_layout.specs.Witnesses.{IsChecked};
+ghost use Rattle.papergrid_layout.specs.ForProofs.Checking.{AreShown, ChecksBy, ChecksMore, IsShownClaim, check_more, check_none};
 ghost use Rattle.std.proofs.Common.{◌∙◌, ap, refl};
 
 use crate::along::{Along, count_of};

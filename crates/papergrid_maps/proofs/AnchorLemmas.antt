@@ -9,7 +9,7 @@ use Rattle.std.proofs.lemmas.Map.Views.{btree_map_contains_key_iff}
 use Rattle.papergrid_values.specs.declared.direction.Direction.{Direction}
 use Rattle.papergrid_values.specs.declared.direction.Direction.TheVariants.{Columns}
 use Rattle.papergrid_tables.proofs.KeyLemmas.{exact_positions, position_total}
-use Rattle.papergrid_maps.specs.ForProofs.SpanIndex.{AreFromTwo, held_along, key_of}
+use Rattle.papergrid_maps.specs.ForProofs.SpanIndex.{AreFromTwo, anchor_at, held_along, key_of}
 use Rattle.papergrid_maps.proofs.IndexKeys.{held_at, key_key}
 use Rattle.std.proofs.Common.{arith, ap, sym, subst, refl, ◌∙◌, ◌≡◌, ℕ, zero, suc, ◌≤◌, ◌<◌, List, [], ◌∷◌, Option, Some, None, map, slice_get, inl, inr}
 use Rattle.std.proofs.lemmas.Bool.{cases_lt}
@@ -24,7 +24,8 @@ use Rattle.std.specs.declared.cmp.Ordering.TheVariants.{Less}
 use Rattle.papergrid_values.specs.declared.position.Position.{Position}
 use Rattle.papergrid_tables.specs.Keys.{position_cmp}
 use Rattle.papergrid_maps.specs.declared.anchors.Anchor.{Anchor}
-use Rattle.papergrid_maps.specs.Anchors.{AreAnchors, HasAnchor, IsSorted, anchor_at, span_at}
+use Rattle.papergrid_maps.specs.Anchors.{AreAnchors, HasAnchor, IsSorted}
+use Rattle.papergrid_maps.specs.Spans.{span_at}
 use Rattle.papergrid_values.specs.Positions.{IsBefore}
 
 less-before : (p q : Position) → position_cmp p q ≡ Less → IsBefore p q

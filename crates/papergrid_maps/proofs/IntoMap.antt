@@ -1,8 +1,8 @@
 -- The entries of three maps, gathered in one.
-use Rattle.std.proofs.Common.{◌≡◌, ℕ, false, cond, List, [], ◌∷◌, map, eqb, Option, Some, None, refl, sym, ap, ◌∙◌}
+use Rattle.std.proofs.Common.{◌≡◌, ℕ, Bool, false, cond, List, [], ◌∷◌, map, eqb, Option, Some, None, refl, sym, ap, ◌∙◌}
 use Rattle.std.specs.Option.{option_or}
 use Rattle.std.specs.List.{IsDistinct}
-use Rattle.std.specs.Cmp.{nat_eq_equiv}
+use Rattle.std.specs.Cmp.{IsEquivalence, nat_eq_equiv}
 use Rattle.std.specs.Map.{lookup, keys_of, update, update_all}
 use Rattle.std.proofs.lemmas.Map.Made.{update_all_distinct}
 use Rattle.papergrid_values.specs.contracts.entity.EntityPartialEq.TheImpl.{eq-value}
@@ -11,7 +11,7 @@ use Rattle.papergrid_values.specs.declared.entity.Entity.TheVariants.{Global, Co
 use Rattle.papergrid_values.specs.declared.position.Position.{Position}
 use Rattle.papergrid_tables.specs.Keys.{position_eq}
 use Rattle.papergrid_maps.specs.Keys.{entity_eq}
-use Rattle.papergrid_maps.specs.MapHeld.{held_for, in_cells, in_columns, in_rows}
+use Rattle.papergrid_maps.specs.MapHeld.{held_for}
 use Rattle.papergrid_tables.proofs.KeyLemmas.{get_at_number, get_at_position, position_equiv}
 use Rattle.papergrid_maps.proofs.MapHeldLemmas.{view_of}
 
@@ -37,59 +37,57 @@ same_entity (Cell i j) (Cell k l) = refl
 pub entity_eq_is : eq-value.it ≡ entity_eq
 entity_eq_is = λ i x y. same_entity x y i
 
+abbrev pub cell_of : Position → Entity
+cell_of p = Cell p.row p.col
+
 module _ {T : Type 0} where
+  -- `new` has the entries, each for the entity of its key, over what `old` has
+  pub record Adds {K : Type 0} (h : K → Entity) (es : List (K × T)) (old new : Entity → Option T) : Type 0 where
+    pub each : (q : Entity) → new q ≡ update_all eq-value.it old (map (λ e. (h e.0, e.1)) es) q
+
   -- entries of one kind change nothing for an entity of another
-  elsewhere : {K : Type 0} (h : K → Entity) (q : Entity) → ((k : K) → entity_eq (h k) q ≡ false) → (f : Entity → Option T) (es : List (K × T))
-      → update_all entity_eq f (map (λ e. (h e.0, e.1)) es) q ≡ f q
-  elsewhere h q apart f [] = refl
-  elsewhere h q apart f (e ∷ es) =
-      elsewhere h q apart (update entity_eq f (h e.0) (Some e.1)) es ∙ ap (λ b. cond b (Some e.1) (f q)) (apart e.0)
+  unchanged : {K : Type 0} (h : K → Entity) (q : Entity) → ((k : K) → eq-value.it (h k) q ≡ false) → (f : Entity → Option T) (es : List (K × T))
+      → update_all eq-value.it f (map (λ e. (h e.0, e.1)) es) q ≡ f q
+  unchanged h q apart f [] = refl
+  unchanged h q apart f (e ∷ es) =
+      unchanged h q apart (update eq-value.it f (h e.0) (Some e.1)) es ∙ ap (λ b. cond b (Some e.1) (f q)) (apart e.0)
 
-  at_column : (f : Entity → Option T) (es : List (ℕ × T)) (c : ℕ) → update_all entity_eq f (map (λ e. (Column e.0, e.1)) es) (Column c) ≡ update_all eqb (λ k. f (Column k)) es c
-  at_column f [] c = refl
-  at_column f (e ∷ es) c = at_column (update entity_eq f (Column e.0) (Some e.1)) es c
+  elsewhere : {K : Type 0} (h : K → Entity) (q : Entity) → ((k : K) → eq-value.it (h k) q ≡ false) → {es : List (K × T)} {old new : Entity → Option T}
+      → Adds h es old new → new q ≡ old q
+  elsewhere h q apart {es = es} {old = old} adds = adds.each q ∙ unchanged h q apart old es
 
-  at_row : (f : Entity → Option T) (es : List (ℕ × T)) (r : ℕ) → update_all entity_eq f (map (λ e. (Row e.0, e.1)) es) (Row r) ≡ update_all eqb (λ k. f (Row k)) es r
-  at_row f [] r = refl
-  at_row f (e ∷ es) r = at_row (update entity_eq f (Row e.0) (Some e.1)) es r
+  module _ {K : Type 0} (h : K → Entity) (eq : K → K → Bool) (same : (j k : K) → eq-value.it (h j) (h k) ≡ eq j k) where
+    at_key : (f : Entity → Option T) (es : List (K × T)) (k : K) → update_all eq-value.it f (map (λ e. (h e.0, e.1)) es) (h k) ≡ update_all eq (λ j. f (h j)) es k
+    at_key f [] k = refl
+    at_key f (e ∷ es) k =
+        at_key (update eq-value.it f (h e.0) (Some e.1)) es k
+        ∙ ap (λ g. update_all eq g es k) (λ i j. cond (same e.0 j i) (Some e.1) (f (h j)))
 
-  at_cell : (f : Entity → Option T) (es : List (Position × T)) (p : Position)
-      → update_all entity_eq f (map (λ e. (Cell e.0.row e.0.col, e.1)) es) (Cell p.row p.col) ≡ update_all position_eq (λ k. f (Cell k.row k.col)) es p
-  at_cell f [] p = refl
-  at_cell f (e ∷ es) p = at_cell (update entity_eq f (Cell e.0.row e.0.col) (Some e.1)) es p
+    -- an entity of the kind has what its key has, where it had nothing
+    there : IsEquivalence eq → {es : List (K × T)} {old new : Entity → Option T} → IsDistinct eq (keys_of es) → Adds h es old new
+        → (k : K) → old (h k) ≡ None → new (h k) ≡ lookup (eq k) es
+    there equiv {es = es} {old = old} distinct adds k none =
+        adds.each (h k) ∙ at_key old es k ∙ update_all_distinct equiv eq (λ x y. refl) (λ j. old (h j)) es k distinct
+        ∙ ap (option_or (lookup (eq k) es)) none ∙ or_none (lookup (eq k) es)
+      where
+        or_none : (o : Option T) → option_or o None ≡ o
+        or_none None = refl
+        or_none (Some v) = refl
 
-  pub added_columns : (f : Entity → Option T) (es : List (ℕ × T)) → IsDistinct eqb (keys_of es) → (q : Entity)
-      → update_all entity_eq f (map (λ e. (Column e.0, e.1)) es) q ≡ option_or (in_columns (λ c. lookup (eqb c) es) q) (f q)
-  added_columns f es distinct Global = elsewhere (λ c. Column c) Global (λ c. refl) f es
-  added_columns f es distinct (Column c) = at_column f es c ∙ update_all_distinct nat_eq_equiv eqb (λ x y. refl) (λ k. f (Column k)) es c distinct
-  added_columns f es distinct (Row r) = elsewhere (λ c. Column c) (Row r) (λ c. refl) f es
-  added_columns f es distinct (Cell r c) = elsewhere (λ c. Column c) (Cell r c) (λ c. refl) f es
-
-  pub added_rows : (f : Entity → Option T) (es : List (ℕ × T)) → IsDistinct eqb (keys_of es) → (q : Entity)
-      → update_all entity_eq f (map (λ e. (Row e.0, e.1)) es) q ≡ option_or (in_rows (λ r. lookup (eqb r) es) q) (f q)
-  added_rows f es distinct Global = elsewhere (λ r. Row r) Global (λ r. refl) f es
-  added_rows f es distinct (Column c) = elsewhere (λ r. Row r) (Column c) (λ r. refl) f es
-  added_rows f es distinct (Row r) = at_row f es r ∙ update_all_distinct nat_eq_equiv eqb (λ x y. refl) (λ k. f (Row k)) es r distinct
-  added_rows f es distinct (Cell r c) = elsewhere (λ r. Row r) (Cell r c) (λ r. refl) f es
-
-  pub added_cells : (f : Entity → Option T) (es : List (Position × T)) → IsDistinct position_eq (keys_of es) → (q : Entity)
-      → update_all entity_eq f (map (λ e. (Cell e.0.row e.0.col, e.1)) es) q ≡ option_or (in_cells (λ p. lookup (position_eq p) es) q) (f q)
-  added_cells f es distinct Global = elsewhere (λ (p : Position). Cell p.row p.col) Global (λ p. refl) f es
-  added_cells f es distinct (Column c) = elsewhere (λ (p : Position). Cell p.row p.col) (Column c) (λ p. refl) f es
-  added_cells f es distinct (Row r) = elsewhere (λ (p : Position). Cell p.row p.col) (Row r) (λ p. refl) f es
-  added_cells f es distinct (Cell r c) =
+  -- what columns, rows and cells have, added in turn, and the global value over it, is what is held
+  pub gathered : (g : T) {cs rs : List (ℕ × T)} {ks : List (Position × T)} {none first second third : Entity → Option T}
+      → IsDistinct eqb (keys_of cs) → IsDistinct eqb (keys_of rs) → IsDistinct position_eq (keys_of ks) → ((q : Entity) → none q ≡ None)
+      → Adds (λ c. Column c) cs none first → Adds (λ r. Row r) rs first second → Adds cell_of ks second third
+      → (q : Entity) → cond (eq-value.it Global q) (Some g) (third q) ≡ held_for (view_of g cs rs ks) q
+  gathered g columns rows cells none one two three Global = refl
+  gathered g {cs = cs} columns rows cells none one two three (Column c) =
+      elsewhere cell_of (Column c) (λ p. refl) three ∙ elsewhere (λ r. Row r) (Column c) (λ r. refl) two
+      ∙ there (λ c. Column c) eqb (λ j k. refl) nat_eq_equiv columns one c (none (Column c)) ∙ sym (get_at_number cs c)
+  gathered g {rs = rs} columns rows cells none one two three (Row r) =
+      elsewhere cell_of (Row r) (λ p. refl) three
+      ∙ there (λ r. Row r) eqb (λ j k. refl) nat_eq_equiv rows two r (elsewhere (λ c. Column c) (Row r) (λ c. refl) one ∙ none (Row r)) ∙ sym (get_at_number rs r)
+  gathered g {ks = ks} columns rows cells none one two three (Cell r c) =
       let p : Position = record { row = r; col = c } in
-      at_cell f es p ∙ update_all_distinct position_equiv position_eq (λ x y. refl) (λ (k : Position). f (Cell k.row k.col)) es p distinct
-
-  or_none : (o : Option T) → option_or o None ≡ o
-  or_none None = refl
-  or_none (Some v) = refl
-
-  -- what the three maps have, and the global value over it, is what is held
-  pub gathered : (g : T) (cs rs : List (ℕ × T)) (ks : List (Position × T)) (q : Entity)
-      → cond (entity_eq Global q) (Some g) (option_or (in_cells (λ p. lookup (position_eq p) ks) q) (option_or (in_rows (λ r. lookup (eqb r) rs) q) (option_or (in_columns (λ c. lookup (eqb c) cs) q) None)))
-      ≡ held_for (view_of g cs rs ks) q
-  gathered g cs rs ks Global = refl
-  gathered g cs rs ks (Column c) = or_none _ ∙ sym (get_at_number cs c)
-  gathered g cs rs ks (Row r) = or_none _ ∙ sym (get_at_number rs r)
-  gathered g cs rs ks (Cell r c) = or_none _ ∙ sym (get_at_position ks (record { row = r; col = c }))
+      there cell_of position_eq (λ j k. refl) position_equiv cells three p
+      (elsewhere (λ r. Row r) (Cell r c) (λ r. refl) two ∙ elsewhere (λ c. Column c) (Cell r c) (λ c. refl) one ∙ none (Cell r c))
+      ∙ sym (get_at_position ks p)

@@ -1,8 +1,6 @@
 -- The anchors of the spans of all positions.
-use Rattle.std.specs.Prelude.{◌≡◌, ℕ, ◌<◌, ◌≤◌, List, Option, Some, slice_get, unwrap_or}
-use Rattle.std.specs.FinMap.{FinMap, get}
+use Rattle.std.specs.Prelude.{◌≡◌, ℕ, ◌<◌, ◌≤◌, List, Some, slice_get}
 use Rattle.papergrid_values.specs.Positions.{IsBefore}
-use Rattle.papergrid_tables.specs.Keys.{position_cmp}
 use Rattle.papergrid_values.specs.declared.position.Position.{Position}
 use Rattle.papergrid_maps.specs.declared.anchors.Anchor.{Anchor}
 
@@ -20,14 +18,6 @@ pub record AreAnchors (columns rows : Position → ℕ) (anchors : List Anchor) 
   pub wide : (p : Position) → 2 ≤ columns p → HasAnchor anchors p
   pub tall : (p : Position) → 2 ≤ rows p → HasAnchor anchors p
 
--- the anchor at a position, by the spans that are held, 1 where none is
-abbrev pub anchor_at : (Position → Option ℕ) → (Position → Option ℕ) → Position → Anchor
-anchor_at columns rows p = record { position = p; rows = unwrap_or (rows p) 1; cols = unwrap_or (columns p) 1 }
-
 -- by row and then by column, no two at one position
 abbrev pub IsSorted : List Anchor → Type 0
 IsSorted anchors = (j k : ℕ) (a b : Anchor) → j < k → slice_get anchors j ≡ Some a → slice_get anchors k ≡ Some b → IsBefore a.position b.position
-
--- the span of a position, 1 where none is held
-abbrev pub span_at : FinMap position_cmp ℕ → Position → ℕ
-span_at spans p = unwrap_or (get spans p) 1

@@ -62,16 +62,3 @@ module _ {T : Type 0} where
   held_for held (Column c) = get held.columns c
   held_for held (Row r) = get held.rows r
   held_for held (Cell r c) = get held.cells (record { row = r; col = c })
-
-  -- what three maps have for an entity
-  abbrev pub in_columns : (ℕ → Option T) → Entity → Option T
-  in_columns has (Column c) = has c
-  in_columns has entity = None
-
-  abbrev pub in_rows : (ℕ → Option T) → Entity → Option T
-  in_rows has (Row r) = has r
-  in_rows has entity = None
-
-  abbrev pub in_cells : (Position → Option T) → Entity → Option T
-  in_cells has (Cell r c) = has (record { row = r; col = c })
-  in_cells has entity = None

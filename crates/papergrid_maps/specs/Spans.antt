@@ -1,12 +1,11 @@
 -- Spans: what the calls decide, what is held, and what a rectangle hides.
-use Rattle.std.specs.Prelude.{◌≡◌, ℕ, ◌+◌, ◌<◌, ◌≤◌, ◌≢◌, ◌&&◌, not, nat_lt, nat_le, Bool, true, false, if◌then◌else◌, List, [], ◌∷◌, ◌++◌, reverse, Option, Some, None, IsSome, unwrap_or, refl}
+use Rattle.std.specs.Prelude.{◌≡◌, ℕ, ◌+◌, ◌<◌, ◌≤◌, ◌≢◌, ◌&&◌, not, nat_lt, nat_le, Bool, true, false, if◌then◌else◌, List, [], ◌∷◌, ◌++◌, reverse, Option, Some, None, IsSome, unwrap_or}
 use Rattle.std.specs.List.{list_any}
-use Rattle.std.specs.FinMap.{FinMap, get, keys, code}
-use Rattle.std.specs.Coded.{Coded, code_by, coded×, coded_ℕ}
+use Rattle.std.specs.FinMap.{FinMap, get, keys}
 use Rattle.papergrid_values.specs.declared.direction.Direction.{Direction}
 use Rattle.papergrid_values.specs.declared.direction.Direction.TheVariants.{Columns, Rows}
 use Rattle.papergrid_values.specs.declared.position.Position.{Position}
-use Rattle.papergrid_tables.specs.Keys.{position_cmp, position_eq, coded_position}
+use Rattle.papergrid_tables.specs.Keys.{position_cmp, position_eq}
 
 abbrev pub is_same_direction : Direction → Direction → Bool
 is_same_direction Columns Columns = true
@@ -34,11 +33,6 @@ pub record Spans : Type 0 where
   pub columns : FinMap position_cmp ℕ
   pub rows : FinMap position_cmp ℕ
 
-abbrev pub spans_code : Coded Spans
-spans_code =
-    code_by (FinMap position_cmp ℕ × FinMap position_cmp ℕ) (coded× (code coded_position coded_ℕ) (code coded_position coded_ℕ))
-    (λ s. (s.columns, s.rows)) (λ p. record { columns = p.0; rows = p.1 }) (λ _. refl)
-
 abbrev pub spans_along : Direction → Spans → FinMap position_cmp ℕ
 spans_along Columns spans = spans.columns
 spans_along Rows spans = spans.rows
@@ -59,12 +53,15 @@ Appends old new further = (calls : List SpanCall) → IsTold calls old → IsTol
 abbrev pub HasSpan : FinMap position_cmp ℕ → Type 0
 HasSpan spans = (p : Position) × IsSome (get spans p)
 
--- the spans of all positions, 1 where none is held
+-- the span of a position, 1 where none is held
+abbrev pub span_at : FinMap position_cmp ℕ → Position → ℕ
+span_at spans p = unwrap_or (get spans p) 1
+
 abbrev pub column_span : Spans → Position → ℕ
-column_span spans p = unwrap_or (get spans.columns p) 1
+column_span spans p = span_at spans.columns p
 
 abbrev pub row_span : Spans → Position → ℕ
-row_span spans p = unwrap_or (get spans.rows p) 1
+row_span spans p = span_at spans.rows p
 
 -- ---- rectangles, by the column spans and the row spans of all positions
 

@@ -8,7 +8,9 @@ ghost use Rattle.papergrid_values.specs.Positions.{IsBefore};
 ghost use Rattle.papergrid_values.specs.declared.direction.Direction.TheVariants.{Columns};
 ghost use Rattle.papergrid_values.specs.declared.position.Position.{Position};
 ghost use Rattle.papergrid_tables.specs.Keys.{position_cmp};
-ghost use Rattle.papergrid_maps.specs.Anchors.{AreAnchors, HasAnchor, IsSorted, anchor_at, span_at};
+ghost use Rattle.papergrid_maps.specs.Anchors.{AreAnchors, HasAnchor, IsSorted};
+ghost use Rattle.papergrid_maps.specs.Spans.{span_at};
+ghost use Rattle.papergrid_maps.specs.ForProofs.SpanIndex.{anchor_at};
 
 use crate::span_index::SpanIndex;
 use papergrid_values::Position;

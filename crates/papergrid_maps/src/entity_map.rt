@@ -11,7 +11,7 @@ ghost use Rattle.papergrid_values.specs.declared.position.Position.{Position};
 ghost use Rattle.papergrid_tables.specs.Keys.{position_eq};
 ghost use Rattle.papergrid_maps.specs.Keys.{entity_eq};
 ghost use Rattle.papergrid_maps.specs.MapCalls.{decided_value, may_grow};
-ghost use Rattle.papergrid_maps.specs.MapHeld.{IsTold, Appends, HasNothing, Holds, held_for, held_value, in_cells, in_columns, in_rows};
+ghost use Rattle.papergrid_maps.specs.MapHeld.{IsTold, Appends, HasNothing, Holds, held_for, held_value};
 ghost use Rattle.papergrid_maps.specs.declared.entity_map.MapCall.{MapCall};
 
 use papergrid_tables::hashed::{look_up, put, take};
@@ -134,9 +134,12 @@ impl<T> EntityMap<T> {
             cells,
         } = self;
         let mut all = HashMap::new(alloc);
-        add_columns(&mut all, columns)?;
-        add_rows(&mut all, rows)?;
-        add_cells(&mut all, cells)?;
+        let columns = columns.into_iter();
+        all.extend(columns.map(|(col, value)| (Entity::Column(col), value)))?;
+        let rows = rows.into_iter();
+        all.extend(rows.map(|(row, value)| (Entity::Row(row), value)))?;
+        let cells = cells.into_iter();
+        all.extend(cells.map(|(cell, value)| (Entity::Cell(cell.row, cell.col), value)))?;
         match all.insert(Entity::Global, global) {
             Ok(_) => Ok(all),
             Err(_) => Err(AllocError),
@@ -350,38 +353,4 @@ fn any_value<K: Eq + Hash, T, F: Fn(&T) -> bool>(map: &HashMap<K, T>, f: &F) -> 
         }
     }
     false
-}
-
-fn add_columns<T: Drop>(
-    all: &mut HashMap<Entity, T>,
-    columns: HashMap<usize, T>,
-) -> Result<(), AllocError>
-    ensures { OnOk result ((e : Entity) → map_get entity_eq all.new e ≡ option_or (in_columns (map_get nat_eq columns) e) (map_get entity_eq all.old e)) }
-{
-    all.extend(
-        columns
-            .into_iter()
-            .map(|(col, value)| (Entity::Column(col), value)),
-    )
-}
-
-fn add_rows<T: Drop>(
-    all: &mut HashMap<Entity, T>,
-    rows: HashMap<usize, T>,
-) -> Result<(), AllocError>
-    ensures { OnOk result ((e : Entity) → map_get entity_eq all.new e ≡ option_or (in_rows (map_get nat_eq rows) e) (map_get entity_eq all.old e)) }
-{
-    all.extend(
-        rows.into_iter()
-            .map(|(row, value)| (Entity::Row(row), value)),
-    )
-}
-
-fn add_cells<T: Drop>(
-    all: &mut HashMap<Entity, T>,
-    cells: HashMap<Position, T>,
-) -> Result<(), AllocError>
-    ensures { OnOk result ((e : Entity) → map_get entity_eq all.new e ≡ option_or (in_cells (map_get position_eq cells) e) (map_get entity_eq all.old e)) }
-{
-    all.extend(cells.into_iter().map(|(place, value)| (Entity::Cell(place.row, place.col), value)))
 }

@@ -38,7 +38,8 @@ pub struct SpanTable {
 
 impl Model for SpanTable {
     ghost use Rattle.std.specs.Prelude.{◌≡◌};
-    ghost use Rattle.papergrid_maps.specs.Spans.{Spans, spans_code};
+    ghost use Rattle.papergrid_maps.specs.Spans.{Spans};
+    ghost use Rattle.papergrid_maps.specs.ForProofs.SpanIndex.{spans_code};
 
     ghost Value = { Spans };
 

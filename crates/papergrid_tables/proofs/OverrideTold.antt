@@ -15,8 +15,8 @@ use Rattle.papergrid_values.specs.declared.offset.Offset.TheVariants.{Start, End
 use Rattle.papergrid_values.specs.declared.position.Position.{Position}
 use Rattle.papergrid_tables.specs.Changes.{Keeps, Removes, Writes, after, last}
 use Rattle.papergrid_tables.specs.Keys.{position_cmp, position_eq}
-use Rattle.papergrid_tables.specs.Overrides.{HeldOffsets, OffsetCall, SetAt, RemoveAt, RemoveAll, AreSet, Appends, IsClear, IsOverridden, IsTold, at_offset, at_override, is_same_offset, override_at}
-use Rattle.papergrid_tables.specs.ForProofs.OverrideScan.{AfterSet}
+use Rattle.papergrid_tables.specs.Overrides.{HeldOffsets, OffsetCall, SetAt, RemoveAt, RemoveAll, Appends, IsClear, IsOverridden, IsTold, at_offset, at_override, is_same_offset, override_at}
+use Rattle.papergrid_tables.specs.ForProofs.OverrideScan.{AfterSet, AreSet}
 use Rattle.papergrid_tables.proofs.KeyLemmas.{get_at_number, get_at_position, exact_position_eq, position_equiv}
 use Rattle.papergrid_tables.proofs.EntryLemmas.{none_of_nothing}
 

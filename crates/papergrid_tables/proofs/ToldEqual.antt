@@ -7,10 +7,10 @@ use Rattle.std.proofs.lemmas.Bool.{and_from}
 use Rattle.papergrid_values.specs.Borders.{frame_parts}
 use Rattle.papergrid_values.specs.Lines.{horizontal_parts, vertical_parts}
 use Rattle.papergrid_tables.specs.BorderCalls.{BorderCall}
-use Rattle.papergrid_tables.specs.ForProofs.BorderEq.{borders_eq, horizontal_line_eq, vertical_line_eq}
+use Rattle.papergrid_tables.specs.ForProofs.BorderEq.{borders_eq, horizontal_line_eq, parts_eq, vertical_line_eq}
 use Rattle.papergrid_tables.specs.BorderHeld as borders
 use Rattle.papergrid_tables.specs.BorderHeld.{HeldBorders}
-use Rattle.papergrid_tables.specs.Equal.{numbers_eq, parts_eq, places_eq}
+use Rattle.papergrid_tables.specs.Equal.{numbers_eq, places_eq}
 use Rattle.papergrid_tables.specs.Keys.{position_cmp}
 use Rattle.papergrid_tables.specs.OffsetEq.{overrides_eq}
 use Rattle.papergrid_tables.specs.Overrides as overrides

@@ -1,8 +1,6 @@
 -- Overrides at the offsets of positions: what the calls leave, what is held, and what is found.
-use Rattle.std.specs.Prelude.{◌≡◌, ℕ, ◌-◌, ◌==◌, ◌&&◌, nat_lt, Bool, false, if◌then◌else◌, List, ◌++◌, reverse, Option, Some, None, IsSome, option_and_then, refl}
-use Rattle.std.specs.Coded.{Coded, code_by, coded×, coded_ℕ}
-use Rattle.std.specs.FinMap.{FinMap, get, code}
-use Rattle.std.specs.Map.{lookup}
+use Rattle.std.specs.Prelude.{◌≡◌, ℕ, ◌-◌, ◌==◌, ◌&&◌, nat_lt, Bool, false, if◌then◌else◌, List, ◌++◌, reverse, Option, Some, None, IsSome, option_and_then}
+use Rattle.std.specs.FinMap.{FinMap, get}
 use Rattle.std.specs.Option.{option_or}
 use Rattle.std.specs.Ordering.{nat_cmp}
 use Rattle.papergrid_values.specs.declared.offset.Offset.{Offset}
@@ -26,11 +24,6 @@ is_same_offset a b = false
 pub record HeldOffsets (T : Type 0) : Type 0 where
   pub from_start : FinMap nat_cmp T
   pub from_end : FinMap nat_cmp T
-
-abbrev pub offsets_code : {T : Type 0} → Coded T → Coded (HeldOffsets T)
-offsets_code {T} c =
-    code_by (FinMap nat_cmp T × FinMap nat_cmp T) (coded× (code coded_ℕ c) (code coded_ℕ c))
-    (λ h. (h.from_start, h.from_end)) (λ p. record { from_start = p.0; from_end = p.1 }) (λ _. refl)
 
 module _ {T : Type 0} where
   -- what a call does to the override of a position at an offset
@@ -67,8 +60,3 @@ module _ {T : Type 0} where
   -- no position has one
   abbrev pub IsClear : FinMap position_cmp (HeldOffsets T) → Type 0
   IsClear held = (p : Position) (o : Offset) → override_at held p o ≡ None
-
-  -- each position with overrides has one
-  abbrev pub AreSet : List (Position × HeldOffsets T) → Type 0
-  AreSet es =
-      (p : Position) (offsets : HeldOffsets T) → lookup (position_eq p) es ≡ Some offsets → (o : Offset) × IsSome (at_offset offsets o)

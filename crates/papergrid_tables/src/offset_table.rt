@@ -5,8 +5,8 @@ ghost use Rattle.std.specs.HashMap.{get as map_get};
 ghost use Rattle.papergrid_values.specs.declared.offset.Offset.{Offset};
 ghost use Rattle.papergrid_values.specs.declared.position.Position.{Position};
 ghost use Rattle.papergrid_tables.specs.Keys.{position_eq};
-ghost use Rattle.papergrid_tables.specs.ForProofs.OverrideScan.{AfterSet};
-ghost use Rattle.papergrid_tables.specs.Overrides.{AreSet, Appends, IsClear, IsOverridden, IsTold, RemoveAll, RemoveAt, SetAt, at_offset, found_override, is_same_offset, override_at};
+ghost use Rattle.papergrid_tables.specs.ForProofs.OverrideScan.{AfterSet, AreSet};
+ghost use Rattle.papergrid_tables.specs.Overrides.{Appends, IsClear, IsOverridden, IsTold, RemoveAll, RemoveAt, SetAt, at_offset, found_override, is_same_offset, override_at};
 
 use crate::hashed::{take, write};
 use papergrid_values::{Offset, Position};
@@ -30,7 +30,8 @@ struct Overrides<T> {
 
 impl<T> Model for Overrides<T> {
     ghost use Rattle.std.specs.FinMap as map;
-    ghost use Rattle.papergrid_tables.specs.Overrides.{HeldOffsets, offsets_code};
+    ghost use Rattle.papergrid_tables.specs.Overrides.{HeldOffsets};
+    ghost use Rattle.papergrid_tables.specs.ForProofs.OverrideScan.{offsets_code};
 
     ghost Value = { HeldOffsets T };
 
@@ -42,7 +43,8 @@ impl<T> Model for Overrides<T> {
 impl<T> Model for OffsetTable<T> {
     ghost use Rattle.std.specs.FinMap as map;
     ghost use Rattle.papergrid_tables.specs.Keys.{position_cmp, coded_position};
-    ghost use Rattle.papergrid_tables.specs.Overrides.{AreSet, HeldOffsets, offsets_code};
+    ghost use Rattle.papergrid_tables.specs.Overrides.{HeldOffsets};
+    ghost use Rattle.papergrid_tables.specs.ForProofs.OverrideScan.{AreSet, offsets_code};
 
     ghost Value = { map.FinMap position_cmp (HeldOffsets T) };
 

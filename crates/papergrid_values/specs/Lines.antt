@@ -1,5 +1,6 @@
--- The parts of a line.
-use Rattle.std.specs.Prelude.{List, [], ◌∷◌, Option}
+-- The parts of a line, and how many lines there are.
+use Rattle.std.specs.Prelude.{ℕ, ◌+◌, Bool, List, [], ◌∷◌, Option}
+use Rattle.std.specs.List.{count_by, range_with_len}
 use Rattle.papergrid_values.specs.declared.horizontal_line.HorizontalLine.{HorizontalLine}
 use Rattle.papergrid_values.specs.declared.vertical_line.VerticalLine.{VerticalLine}
 
@@ -17,3 +18,7 @@ horizontal_with part = record { main = part; intersection = part; left = part; r
 
 abbrev pub vertical_with : {T : Type 0} → Option T → VerticalLine T
 vertical_with part = record { main = part; intersection = part; top = part; bottom = part }
+
+-- how many of the lines at 0, 1 and so on up to n there are
+abbrev pub all_lines : (ℕ → Bool) → ℕ → ℕ
+all_lines line n = count_by line (range_with_len 0 (n + 1))

@@ -7,7 +7,6 @@ ghost use Rattle.papergrid_values.specs.Parts.{none_set, EachSet, PartsGive};
 ghost use Rattle.papergrid_values.specs.Borders.{border_parts, border_with, border_map};
 ghost use Rattle.papergrid_values.specs.Borders.{has_border_top, has_border_bottom, has_border_left, has_border_right};
 
-use crate::part;
 use std::alloc::AllocError;
 
 /// The four edges and four corners of a cell, each of which is set or not.
@@ -192,16 +191,11 @@ impl<T> Border<T> {
     pub fn convert<B: From<T>>(self) -> Border<B>
         ensures { PartsGive B.from_gives (border_parts self) (border_parts result) }
     {
-        Border {
-            top: part::converted(self.top),
-            bottom: part::converted(self.bottom),
-            left: part::converted(self.left),
-            right: part::converted(self.right),
-            left_top_corner: part::converted(self.left_top_corner),
-            left_bottom_corner: part::converted(self.left_bottom_corner),
-            right_top_corner: part::converted(self.right_top_corner),
-            right_bottom_corner: part::converted(self.right_bottom_corner),
-        }
+        self.map(
+            |part: T| -> B
+                ensures { B.from_gives part result }
+            { B::from(part) },
+        )
     }
 }
 

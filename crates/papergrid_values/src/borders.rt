@@ -4,8 +4,6 @@ ghost use Rattle.std.specs.Prelude.{◌≡◌, Some, None};
 ghost use Rattle.papergrid_values.specs.Parts.{none_set, EachSet, PartsGive};
 ghost use Rattle.papergrid_values.specs.Borders as frame;
 
-use crate::part;
-
 /// The parts of a table's frame, each of which is set or not: its edges and corners, the lines
 /// inside, and where they cross each other and the edges.
 #[derive(Clone, Copy, Debug, Default, PartialEq, Eq, PartialOrd, Ord, Hash, Drop)]
@@ -163,23 +161,11 @@ impl<T> Borders<T> {
         U: From<T>,
         ensures { PartsGive U.from_gives (frame.frame_parts self) (frame.frame_parts result) }
     {
-        Borders {
-            top: part::converted(self.top),
-            top_left: part::converted(self.top_left),
-            top_right: part::converted(self.top_right),
-            top_intersection: part::converted(self.top_intersection),
-            bottom: part::converted(self.bottom),
-            bottom_left: part::converted(self.bottom_left),
-            bottom_right: part::converted(self.bottom_right),
-            bottom_intersection: part::converted(self.bottom_intersection),
-            horizontal: part::converted(self.horizontal),
-            vertical: part::converted(self.vertical),
-            intersection: part::converted(self.intersection),
-            left: part::converted(self.left),
-            left_intersection: part::converted(self.left_intersection),
-            right: part::converted(self.right),
-            right_intersection: part::converted(self.right_intersection),
-        }
+        self.map(
+            |part: T| -> U
+                ensures { U.from_gives part result }
+            { U::from(part) },
+        )
     }
 
     /// The frame with what `f` answers at each part that is set. Condition: `f` may be called

@@ -16,7 +16,6 @@ pub mod horizontal_line;
 pub mod indent;
 pub mod laws;
 pub mod offset;
-mod part;
 pub mod position;
 pub mod sides;
 pub mod vertical_line;

@@ -299,22 +299,16 @@ fn orders_by_fields(rt: HostRuntime) -> Result<(), Fail> {
     in_order(&rt, AlignmentHorizontal::Center, AlignmentHorizontal::Right)?;
     in_order(&rt, AlignmentVertical::Top, AlignmentVertical::Center)?;
     in_order(&rt, AlignmentVertical::Center, AlignmentVertical::Bottom)?;
-    in_order(
-        &rt,
-        Border {
-            top: None,
-            ..Border::filled(9)
-        },
-        Border::filled(0),
-    )?;
-    in_order(
-        &rt,
-        Borders {
-            top: None,
-            ..Borders::filled(9)
-        },
-        Borders::filled(0),
-    )?;
+    let border = Border {
+        top: None,
+        ..Border::filled(9)
+    };
+    in_order(&rt, border, Border::filled(0))?;
+    let frame = Borders {
+        top: None,
+        ..Borders::filled(9)
+    };
+    in_order(&rt, frame, Borders::filled(0))?;
     in_order(
         &rt,
         HorizontalLine::full(0, 9, 9, 9),

@@ -12,7 +12,8 @@ use Rattle.papergrid_axis.specs.Ranges.{place_of}
 use Rattle.papergrid_axis.specs.ForProofs.Seen.{Holds, IsSeen, is_single}
 use Rattle.papergrid_axis.proofs.SeenLemmas.{below-own_limit}
 use Rattle.papergrid_values.specs.Positions.{IsBefore}
-use Rattle.papergrid_walk.specs.Cells.{asked, count_along, demands_of, limit_along, placed, placed_from, placed_row, visible_cells}
+use Rattle.papergrid_walk.specs.Cells.{asked, count_along, demands_of, placed, placed_from, placed_row, visible_cells}
+use Rattle.papergrid_walk.specs.ForProofs.Limits.{limit_along}
 use Rattle.papergrid_walk.specs.Looks.{Look}
 
 pub count-le : (direction : Direction) (columns n : ℕ) → n < 18446744073709551616 → count_along direction columns n ≤ limit_along direction columns

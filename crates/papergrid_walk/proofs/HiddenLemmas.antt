@@ -7,7 +7,8 @@ use Rattle.papergrid_values.specs.declared.position.Position.{Position}
 use Rattle.papergrid_walk.specs.declared.levels.Levels.{Levels}
 use Rattle.papergrid_walk.specs.ForProofs.Levels.{end_at, raised_end}
 use Rattle.papergrid_values.specs.Positions.{IsBefore}
-use Rattle.papergrid_walk.specs.Hidden.{cut, end_with, end_of, IsWithin, IsHidden, AllBefore, Holds}
+use Rattle.papergrid_walk.specs.Hidden.{IsWithin, IsHidden}
+use Rattle.papergrid_walk.specs.ForProofs.Swept.{cut, end_with, end_of, AllBefore, Holds}
 use Rattle.papergrid_maps.specs.Anchors.{IsSorted}
 
 raised-first : (first last end old column row : ℕ) → row < raised_end first last end old column → old ≤ row → first ≤ column

@@ -3,7 +3,7 @@ use Rattle.std.proofs.Common.{arith, ap, ◌≡◌, ℕ, ◌/◌, ◌<◌, ◌�
 use Rattle.papergrid_walk.specs.declared.levels.Levels.{Levels}
 use Rattle.papergrid_walk.specs.declared.levels.Levels.TheVariants.{Top, Level'}
 use Rattle.papergrid_walk.specs.ForProofs.Levels.{greater, raised_end, Fits}
-use Rattle.papergrid_walk.specs.Hidden.{least}
+use Rattle.papergrid_walk.specs.ForProofs.Swept.{least}
 
 pub fits-less : (levels : Levels) (m n : ℕ) → m ≤ n → Fits levels n → Fits levels m
 fits-less Top m n h f = omega (arith, f)

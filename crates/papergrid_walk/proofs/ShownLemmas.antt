@@ -8,7 +8,7 @@ use Rattle.std.proofs.lemmas.Option.{none-some}
 use Rattle.papergrid_values.specs.declared.position.Position.{Position}
 use Rattle.papergrid_maps.specs.declared.anchors.Anchor.{Anchor}
 use Rattle.papergrid_values.specs.Positions.{IsBefore}
-use Rattle.papergrid_walk.specs.Hidden.{IsAhead, IsAnchorAt, Walk}
+use Rattle.papergrid_walk.specs.ForProofs.Swept.{IsAhead, IsAnchorAt, Walk}
 use Rattle.papergrid_walk.proofs.HiddenLemmas.{before-from}
 use Rattle.papergrid_walk.specs.ForProofs.Shown.{AreAnchorsOf, Shows, anchor_in}
 

@@ -1,5 +1,5 @@
 -- The visible cells of told rows with their positions, and what they ask for along a direction.
-use Rattle.std.specs.Prelude.{ℕ, ◌+◌, ◌-◌, ◌^◌, List, [], ◌∷◌, ◌++◌, length, map, filter}
+use Rattle.std.specs.Prelude.{ℕ, ◌+◌, List, [], ◌∷◌, ◌++◌, length, map, filter}
 use Rattle.papergrid_values.specs.declared.position.Position.{Position}
 use Rattle.papergrid_axis.specs.declared.demand.Demand.{Demand}
 use Rattle.papergrid_values.specs.declared.direction.Direction.{Direction}
@@ -61,8 +61,3 @@ module _ {C : Type 0} (look : Look) (measure : C → ℕ × ℕ) where
   -- the same, of rows of so many columns
   abbrev pub problem_of : ℕ → List (List C) → Direction → Problem
   problem_of columns rows direction = problem_with direction (count_along direction columns (length rows)) rows
-
--- below which column (row) a visible cell that covers one alone is in the table for certain: each row is one of the table
-abbrev pub limit_along : Direction → ℕ → ℕ
-limit_along Columns columns = columns
-limit_along Rows columns = 2 ^ 64 - 1

@@ -3,7 +3,8 @@
 ghost use Rattle.std.specs.Prelude.{◌≡◌, ℕ, ◌+◌, ◌-◌, ◌<◌, ◌≤◌, ◌^◌, ◌∷◌, [], ⊤, if◌then◌else◌, IfOk, IfSome, List, None, OnOk, Some, length};
 ghost use Rattle.papergrid_values.specs.declared.direction.Direction.TheVariants.{Columns, Rows};
 ghost use Rattle.papergrid_axis.specs.ForProofs.Seen.{Adds, IsSeen};
-ghost use Rattle.papergrid_walk.specs.Cells.{asked, asked_by, count_along, demands_of, limit_along};
+ghost use Rattle.papergrid_walk.specs.Cells.{asked, asked_by, count_along, demands_of};
+ghost use Rattle.papergrid_walk.specs.ForProofs.Limits.{limit_along};
 ghost use Rattle.papergrid_walk.specs.Looks.{Look};
 ghost use Rattle.papergrid_walk.specs.ForProofs.Paddings.{AreCommon, paddings_at};
 ghost use Rattle.papergrid_walk.specs.ForProofs.Pairs.{AreBothSeen};

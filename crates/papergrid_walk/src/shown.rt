@@ -2,7 +2,7 @@
 
 ghost use Rattle.std.specs.Prelude.{◌≡◌, ◌+◌, ◌-◌, ◌<◌, ◌^◌, IfOk, None, Some, if◌then◌else◌};
 ghost use Rattle.papergrid_values.specs.declared.position.Position.{Position};
-ghost use Rattle.papergrid_walk.specs.Hidden.{IsAhead};
+ghost use Rattle.papergrid_walk.specs.ForProofs.Swept.{IsAhead};
 ghost use Rattle.papergrid_walk.specs.Looks.{Look};
 ghost use Rattle.papergrid_walk.specs.ForProofs.Shown.{Shows, anchor_in};
 

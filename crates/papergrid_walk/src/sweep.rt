@@ -6,7 +6,8 @@ ghost use Rattle.papergrid_maps.specs.Anchors.{IsSorted};
 ghost use Rattle.papergrid_maps.specs.declared.anchors.Anchor.{Anchor};
 ghost use Rattle.papergrid_walk.specs.ForProofs.Levels.{Fits, end_at};
 ghost use Rattle.papergrid_values.specs.Positions.{IsBefore};
-ghost use Rattle.papergrid_walk.specs.Hidden.{AllBefore, HasReached, Holds, IsAhead, IsAnchorAt, IsHidden, IsSwept, end_with, least};
+ghost use Rattle.papergrid_walk.specs.Hidden.{IsHidden};
+ghost use Rattle.papergrid_walk.specs.ForProofs.Swept.{AllBefore, HasReached, Holds, IsAhead, IsAnchorAt, IsSwept, end_with, least};
 
 use crate::levels::Levels;
 use papergrid_maps::Anchor;
@@ -24,7 +25,7 @@ pub struct Sweep {
 }
 
 impl Model for Sweep {
-    ghost use Rattle.papergrid_walk.specs.Hidden.{IsSwept, Walk};
+    ghost use Rattle.papergrid_walk.specs.ForProofs.Swept.{IsSwept, Walk};
 
     ghost Value = { Walk };
 

@@ -3,7 +3,7 @@
 ghost use Rattle.std.specs.Prelude.{◌≡◌, ◌<◌, ◌≤◌, ◌-◌, ◌^◌, ◌↔◌, IsTrue, OnOk};
 ghost use Rattle.papergrid_values.specs.declared.position.Position.{Position};
 ghost use Rattle.papergrid_maps.specs.Anchors.{IsSorted};
-ghost use Rattle.papergrid_walk.specs.Hidden.{IsAhead};
+ghost use Rattle.papergrid_walk.specs.ForProofs.Swept.{IsAhead};
 
 use crate::laws::visible_where_not_hidden;
 use crate::sweep::Sweep;

@@ -1,5 +1,6 @@
 -- What a checker keeps of the visible cells that it met, by the claim that it was given.
 use Rattle.std.proofs.Common.{◌≡◌, ℕ, true, List, [], ◌++◌, length, sym, ap, subst, ◌∙◌}
+use Rattle.std.specs.Prelude.{All, IsTrue}
 use Rattle.std.proofs.lemmas.List.{append-nil, append_assoc}
 use Rattle.papergrid_values.specs.declared.position.Position.{Position}
 use Rattle.papergrid_axis.specs.declared.checked.Checked.{Checked}
@@ -9,7 +10,10 @@ use Rattle.papergrid_axis.specs.ForProofs.Checks.{Checks}
 use Rattle.papergrid_walk.specs.Cells.{asked_by}
 use Rattle.papergrid_walk.specs.Looks.{Look}
 use Rattle.papergrid_walk.specs.ForProofs.Visits.{asked_by-append}
-use Rattle.papergrid_layout.specs.Witnesses.{AreShown}
+
+-- the cells at these places are visible
+abbrev pub AreShown : Look → List Position → Type 0
+AreShown look places = All (λ p. IsTrue (look.shows p)) places
 
 -- the places of a claim that is said to be in order are those of visible cells
 abbrev pub IsShownClaim : Look → Claim → Type 0

@@ -9,7 +9,8 @@ use Rattle.papergrid_values.specs.declared.direction.Direction.{Direction}
 use Rattle.papergrid_values.specs.declared.direction.Direction.TheVariants.{Columns, Rows}
 use Rattle.papergrid_values.specs.declared.position.Position.{Position}
 use Rattle.papergrid_tables.specs.Keys.{coded_position, position_cmp, position_eq}
-use Rattle.papergrid_maps.specs.Spans.{from_two}
+use Rattle.papergrid_maps.specs.Spans.{Spans, from_two, span_at}
+use Rattle.papergrid_maps.specs.declared.anchors.Anchor.{Anchor}
 use Rattle.papergrid_maps.specs.declared.span_index.Extent.{Extent}
 
 -- the line that a span of the direction runs in: its row for a column span, its column for a row span
@@ -44,6 +45,11 @@ directed_code =
     (λ s. (is_columns s.direction, s.spans)) (λ p. record { direction = direction_by p.0; spans = p.1 })
     (λ s i. record { direction = same_direction s.direction i; spans = s.spans })
 
+abbrev pub spans_code : Coded Spans
+spans_code =
+    code_by (FinMap position_cmp ℕ × FinMap position_cmp ℕ) (coded× (code coded_position coded_ℕ) (code coded_position coded_ℕ))
+    (λ s. (s.columns, s.rows)) (λ p. record { columns = p.0; rows = p.1 }) (λ _. refl)
+
 -- the spans of entries by key, each at its position
 abbrev pub held_along : Direction → List (Position × ℕ) → FinMap position_cmp ℕ
 held_along direction es = from_entries (map (λ e. (key_of direction e.0, e.1)) es)
@@ -53,7 +59,7 @@ abbrev pub IsReached : DirectedSpans → Position → Type 0
 IsReached index p =
     let direction = index.direction in
     (anchor : Position) × (line_of direction anchor ≡ line_of direction p) × (along direction anchor < along direction p)
-    × (along direction p < along direction anchor + unwrap_or (get index.spans anchor) 1)
+    × (along direction p < along direction anchor + span_at index.spans anchor)
 
 -- the same, by keys
 abbrev pub IsKeyReached : BTreeMap Position ℕ → Position → Type 0
@@ -70,6 +76,10 @@ abbrev pub span_set : Position → ℕ → Position → Option ℕ → Option �
 span_set q n p old = if nat_le 1 n && position_eq q p then from_two n else old
 
 -- ---- both spans
+
+-- the anchor at a position, by the spans that are held, 1 where none is
+abbrev pub anchor_at : (Position → Option ℕ) → (Position → Option ℕ) → Position → Anchor
+anchor_at columns rows p = record { position = p; rows = unwrap_or (rows p) 1; cols = unwrap_or (columns p) 1 }
 
 -- the rectangle by a span of the direction and a span of the other one
 abbrev pub extent_of : Direction → ℕ → ℕ → Extent
@@ -104,12 +114,12 @@ covers anchor columns rows p =
 abbrev pub covers_held : Direction → FinMap position_cmp ℕ → List Position → Position × ℕ → Bool
 covers_held direction others places e =
     let anchor = key_of direction e.0 in
-    let extent = extent_of direction e.1 (unwrap_or (get others anchor) 1) in
+    let extent = extent_of direction e.1 (span_at others anchor) in
     list_any (covers anchor extent.columns extent.rows) places
 
 -- one of the positions lies in the rectangle of an anchor with a span of the direction
 abbrev pub CoversOne : DirectedSpans → FinMap position_cmp ℕ → List Position → Type 0
 CoversOne index others places =
     (anchor : Position) × IsSome (get index.spans anchor)
-    × (let extent = extent_of index.direction (unwrap_or (get index.spans anchor) 1) (unwrap_or (get others anchor) 1) in
+    × (let extent = extent_of index.direction (span_at index.spans anchor) (span_at others anchor) in
     IsTrue (list_any (covers anchor extent.columns extent.rows) places))

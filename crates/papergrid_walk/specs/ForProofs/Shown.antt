@@ -5,7 +5,8 @@ use Rattle.papergrid_values.specs.declared.direction.Direction.TheVariants.{Colu
 use Rattle.papergrid_values.specs.declared.position.Position.{Position}
 use Rattle.papergrid_maps.specs.Anchors.{AreAnchors}
 use Rattle.papergrid_maps.specs.declared.anchors.Anchor.{Anchor}
-use Rattle.papergrid_walk.specs.Hidden.{IsAhead, IsHidden, Walk}
+use Rattle.papergrid_walk.specs.Hidden.{IsHidden}
+use Rattle.papergrid_walk.specs.ForProofs.Swept.{IsAhead, Walk}
 use Rattle.papergrid_walk.specs.Looks.{Look}
 
 -- the anchors hide what is not shown, and have the spans of two and more

@@ -8,7 +8,7 @@ use Rattle.papergrid_axis.specs.declared.seen.Seen.{Seen}
 use Rattle.papergrid_axis.specs.ForProofs.Seen.{Adds, Holds}
 use Rattle.papergrid_walk.specs.Cells.{asked, asked_by, visible_of}
 use Rattle.papergrid_walk.specs.ForProofs.Shown.{Shows}
-use Rattle.papergrid_walk.specs.Hidden.{Walk}
+use Rattle.papergrid_walk.specs.ForProofs.Swept.{Walk}
 use Rattle.papergrid_walk.specs.Looks.{Look}
 
 -- after a row comes the next one

@@ -1,7 +1,8 @@
 use Rattle.std.proofs.Common.{◌≡◌, ◌<◌, ◌+◌, ℕ, List, length, take, drop, Option, IfOk, option_map, sym, subst, ap, ◌∙◌, arith}
 use Rattle.std.specs.List.{position_or_len}
 use Rattle.papergrid_text.proofs.Places.{is_there}
-use Rattle.papergrid.specs.Texts.{IsFirstEscape, backslash}
+use Rattle.papergrid.specs.Texts.{backslash}
+use Rattle.papergrid.specs.ForProofs.Escapes.{IsFirstEscape}
 use Rattle.papergrid.proofs.EscapeLemmas.{IsCut, is_backslash, cut_open, unescaped-whole}
 use Rattle.papergrid.proofs.unescape.unescaped.Goals as goal
 

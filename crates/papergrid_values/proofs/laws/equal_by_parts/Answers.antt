@@ -1,10 +1,6 @@
 -- The last part decides alone, as it does before an empty rest.
-use Rattle.std.proofs.Common.{◌≡◌, refl, Bool, true, false, ◌&&◌}
+use Rattle.std.proofs.Math.Bool.{and-true}
 use Rattle.papergrid_values.proofs.laws.equal_by_parts.Goals as goal
-
-and-true : (b : Bool) → (b && true) ≡ b
-and-true true = refl
-and-true false = refl
 
 pub returns-clause-borders : goal.returns-clause-borders
 returns-clause-borders g c = λ x y. simp and-true

@@ -1,6 +1,7 @@
 use Rattle.std.proofs.Common.{[], ap, arith, length, subst, ◌∙◌}
 use Rattle.papergrid_axis.specs.ForProofs.Seen.{Holds}
-use Rattle.papergrid_walk.specs.Cells.{demands_of, limit_along}
+use Rattle.papergrid_walk.specs.Cells.{demands_of}
+use Rattle.papergrid_walk.specs.ForProofs.Limits.{limit_along}
 use Rattle.papergrid_walk.proofs.Distinct.{IsSeen-demands, count-le}
 use Rattle.papergrid_walk.proofs.needs.gather.Goals as goal
 

@@ -1,7 +1,8 @@
 use Rattle.std.proofs.Common.{[], ap, arith, length, subst, ◌∙◌}
 use Rattle.papergrid_values.specs.declared.direction.Direction.TheVariants.{Columns, Rows}
 use Rattle.papergrid_axis.specs.ForProofs.Seen.{Holds}
-use Rattle.papergrid_walk.specs.Cells.{demands_of, limit_along}
+use Rattle.papergrid_walk.specs.Cells.{demands_of}
+use Rattle.papergrid_walk.specs.ForProofs.Limits.{limit_along}
 use Rattle.papergrid_walk.proofs.Distinct.{IsSeen-demands, count-le}
 use Rattle.papergrid_walk.proofs.needs.gather_both.Goals as goal
 

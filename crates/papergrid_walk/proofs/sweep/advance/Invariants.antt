@@ -1,6 +1,6 @@
 use Rattle.std.proofs.Common.{length, ◌-◌, ◌≤◌}
 use Rattle.papergrid_walk.specs.ForProofs.Levels.{Fits}
-use Rattle.papergrid_walk.specs.Hidden.{AllBefore, Holds}
+use Rattle.papergrid_walk.specs.ForProofs.Swept.{AllBefore, Holds}
 use Rattle.papergrid_walk.proofs.sweep.advance.Given as goal
 
 abbrev pub invariant-loop-next : goal.invariant-loop-next

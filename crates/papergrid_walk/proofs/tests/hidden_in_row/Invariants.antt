@@ -1,6 +1,6 @@
 use Rattle.std.proofs.Common.{◌≡◌, ◌≤◌}
 use Rattle.papergrid_values.specs.declared.position.Position.{Position}
-use Rattle.papergrid_walk.specs.Hidden.{IsAhead}
+use Rattle.papergrid_walk.specs.ForProofs.Swept.{IsAhead}
 use Rattle.papergrid_walk.proofs.tests.hidden_in_row.Given as goal
 
 abbrev pub invariant-loop-col : goal.invariant-loop-col

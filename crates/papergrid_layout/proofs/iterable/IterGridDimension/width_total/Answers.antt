@@ -1,7 +1,7 @@
 use Rattle.std.proofs.Common.{◌∙◌, ◌+◌, ap, arith, length, sym}
 use Rattle.std.specs.Prelude.{sum}
 use Rattle.papergrid_values.specs.declared.direction.Direction.TheVariants.{Columns}
-use Rattle.papergrid_config.specs.Lines.{count_lines}
+use Rattle.papergrid_values.specs.Lines.{all_lines}
 use Rattle.papergrid_walk.specs.Cells.{problem_with}
 use Rattle.papergrid_walk.specs.Looks.{line_along, spanned_look}
 use Rattle.papergrid_walk.specs.Measures.{line_measure}
@@ -12,7 +12,7 @@ pub overflow_add-result : goal.overflow_add-result
 overflow_add-result g c =
     let told = c.in-Ok.ensures in
     let many = c.len.ensures ∙ sym c.deref.ensures.len ∙ ap length c.deref.ensures.value ∙ told.2.fits.one_each in
-    let lines = c.count_vertical.ensures ∙ (λ k. count_lines (line_along c.args.config.now.characters Columns (many k)) (many k)) in
+    let lines = c.count_vertical.ensures ∙ (λ k. all_lines (line_along c.args.config.now.characters Columns (many k)) (many k)) in
     let below = total_fits (problem_with (spanned_look c.args.config.now) (line_measure g.R.Iter.Cell.AsStr.text) Columns (g.R.Records.columns c.args.records) told.0) c.in-Ok.widths.items
     c.sum_of.result c.count_vertical.result told.2 (c.sum_of.ensures ∙ ap sum c.deref.ensures.value) lines in
     omega (arith, below)
@@ -21,6 +21,6 @@ pub returns-in-Ok : goal.returns-in-Ok
 returns-in-Ok g c =
     let told = c.in-Ok.ensures in
     let many = c.len.ensures ∙ sym c.deref.ensures.len ∙ ap length c.deref.ensures.value ∙ told.2.fits.one_each in
-    let lines = c.count_vertical.ensures ∙ (λ k. count_lines (line_along c.args.config.now.characters Columns (many k)) (many k)) in
+    let lines = c.count_vertical.ensures ∙ (λ k. all_lines (line_along c.args.config.now.characters Columns (many k)) (many k)) in
     let summed = c.sum_of.ensures ∙ ap sum c.deref.ensures.value in
     (told.0, told.1, record { sizes = c.in-Ok.widths.items; are_sizes = told.2; adds_up = (λ k. summed k + lines k) })
