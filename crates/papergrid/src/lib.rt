@@ -52,7 +52,8 @@ pub mod colors {
 /// Widths of columns and heights of rows.
 pub mod dimension {
     pub use papergrid_layout::{
-        Dimension, Estimate, LayoutError, Place, PlaceError, place, total_height, total_width,
+        Dimension, Estimate, LayoutError, Place, PlaceError, cell_at, place, places, total_height,
+        total_width,
     };
 
     /// The sizes of tables whose cells all have the same settings.

@@ -5,5 +5,8 @@ pub mod PairLemmas
 pub mod PlaceLemmas
 pub mod PlaceLaws
 pub mod PlaceSums
+pub mod MarkLemmas
+pub mod PlacingLemmas
+pub mod PointLemmas
 pub mod Told
 pub mod TotalLemmas

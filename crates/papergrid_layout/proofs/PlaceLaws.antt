@@ -1,6 +1,6 @@
 -- What the laws of places rest on.
 use Rattle.std.proofs.Common.{◌≡◌, ◌∙◌, ℕ, zero, suc, ◌+◌, ◌<◌, ◌≤◌, Bool, true, inl, inr, List, [], ◌∷◌, length, get_or, take, drop, sum, refl, sym, ap, arith, map, nat_lt}
-use Rattle.std.specs.Prelude.{All, None, Err, ◌^◌, ◌↔◌, filter, slice_index}
+use Rattle.std.specs.Prelude.{All, None, Err, ◌^◌, ◌↔◌, ◌≢◌, ◌⊎◌, filter, slice_index}
 use Rattle.std.specs.List.{range_with_len}
 use Rattle.std.proofs.lemmas.Bool.{cases_Bool, cases_lt, ltb-false}
 use Rattle.std.proofs.lemmas.List.{drop_more, take_all}
@@ -16,10 +16,11 @@ use Rattle.papergrid_axis.specs.Fits.{HasRoom, range_sum}
 use Rattle.papergrid_axis.specs.Problem.{Problem, total_of}
 use Rattle.papergrid_axis.specs.Ranges.{end_of, first_out, inner_lines, place_of}
 use Rattle.papergrid_axis.proofs.OutLemmas.{if_none}
+use Rattle.papergrid_walk.proofs.HiddenLemmas.{position-same}
 use Rattle.papergrid_walk.specs.Cells.{asked, placed, problem_of, side, visible_cells}
 use Rattle.papergrid_walk.specs.Looks.{Look}
 use Rattle.papergrid_layout.specs.Answers.{AreBothSizes}
-use Rattle.papergrid_layout.specs.Places.{AreApart, HasRoomAtPlace, HaveNoneInCommon, IsPlaced, extent, offset, place_at, sum_from, total, total_along}
+use Rattle.papergrid_layout.specs.Places.{AreApart, HasRoomAtPlace, HaveNoneInCommon, IsInside, IsPlaced, StandsOver, extent, offset, place_at, sum_from, total, total_along}
 use Rattle.papergrid_layout.specs.declared.placement.PlaceError.TheVariants.{TooLarge}
 use Rattle.papergrid_layout.proofs.PlaceSums.{extent-before}
 
@@ -74,6 +75,30 @@ apart look widths heights shape p q none x y in_p in_q =
     none (record { row = down.number; col = across.number })
     (record { below_top = down.in_one.0; above_bottom = down.in_one.1; after_left = across.in_one.0; before_right = across.in_one.1 })
     (record { below_top = down.in_other.0; above_bottom = down.in_other.1; after_left = across.in_other.0; before_right = across.in_other.1 })
+
+-- two positions are one, or differ
+same-or-other : (p q : Position) → (p ≡ q) ⊎ (p ≢ q)
+same-or-other p q = elim (cases_lt p.row q.row) [
+  | inl above ↦ inr (λ e. let same : p.row ≡ q.row = ap (λ (r : Position). r.row) e in omega arith)
+  | inr from ↦ elim (cases_lt q.row p.row) [
+    | inl below ↦ inr (λ e. let same : p.row ≡ q.row = ap (λ (r : Position). r.row) e in omega arith)
+    | inr level ↦ elim (cases_lt p.col q.col) [
+      | inl left ↦ inr (λ e. let same : p.col ≡ q.col = ap (λ (r : Position). r.col) e in omega arith)
+      | inr right ↦ elim (cases_lt q.col p.col) [
+        | inl beyond ↦ inr (λ e. let same : p.col ≡ q.col = ap (λ (r : Position). r.col) e in omega arith)
+        | inr there ↦ inl (position-same p q (omega arith) (omega arith))
+      ]
+    ]
+  ]
+]
+
+pub one-over : (look : Look) (widths heights : ℕ → ℕ) (shape : ℕ × ℕ) (x y : ℕ) (p : Position) → StandsOver look widths heights shape x y p →
+    ((q : Position) → IsInside look widths heights shape q → q ≢ p → HaveNoneInCommon look p q) →
+    (q : Position) → StandsOver look widths heights shape x y q → q ≡ p
+one-over look widths heights shape x y p over alone q other = elim (same-or-other q p) [
+  | inl same ↦ same
+  | inr differ ↦ absurd (apart look widths heights shape p q (alone q other.placed.inside differ) x y over.covers other.covers)
+]
 
 -- ---- sizes as lists
 

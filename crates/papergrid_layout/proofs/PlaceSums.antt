@@ -1,17 +1,18 @@
 -- Where columns (rows) begin, and how long ranges of them are.
 use Rattle.std.proofs.Common.{◌≡◌, ℕ, zero, suc, ◌+◌, ◌-◌, ◌<◌, ◌≤◌, Bool, true, false, cond, inl, inr, [], refl, sym, ap, subst, ◌∙◌, arith, count_by, nat_lt}
-use Rattle.std.specs.Prelude.{Option, None, ◌^◌}
-use Rattle.std.specs.Option.{SomeIff}
+use Rattle.std.specs.Prelude.{Option, None, Some, ◌^◌}
+use Rattle.std.specs.Option.{SomeIff, ok_or}
 use Rattle.std.specs.List.{range_with_len, sum_by}
 use Rattle.std.proofs.lemmas.Bool.{cases_lt, ltb-false}
 use Rattle.std.proofs.lemmas.List.Sums.{sum_by-append, sum_by-cons}
 use Rattle.papergrid_values.specs.Lines.{all_lines}
+use Rattle.papergrid_axis.specs.declared.error.LayoutError.TheVariants as layout_error
 use Rattle.papergrid_axis.proofs.LoopLemmas.{range_with_len-append}
 use Rattle.papergrid_values.specs.declared.direction.Direction.{Direction}
 use Rattle.papergrid_values.specs.declared.direction.Direction.TheVariants.{Columns, Rows}
 use Rattle.papergrid_values.specs.declared.position.Position.{Position}
 use Rattle.papergrid_walk.specs.Looks.{Look}
-use Rattle.papergrid_layout.specs.Places.{HasPlace, extent, offset, sum_from, total, total_along}
+use Rattle.papergrid_layout.specs.Places.{HasPlace, IsInside, IsTotalOf, extent, offset, sum_from, total, total_along}
 
 -- numbers in a row, cut in two
 sum-cut : (f : ℕ → ℕ) (a m k : ℕ) → sum_by f (range_with_len a (m + k)) ≡ sum_by f (range_with_len a m) + sum_by f (range_with_len (a + m) k)
@@ -85,6 +86,27 @@ module _ (size : ℕ → ℕ) (line : ℕ → Bool) where
 pub none-of : {T : Type 0} (found : Option T) (P : Type 0) (x : T) → found ≡ None → (P → ⊥) → SomeIff found P x
 none-of found P x e never = subst (λ r. SomeIff r P x) (sym e) never
 
+-- where no part is found along a direction, the total does not fit
+pub too-large : {T : Type 0} (found : Option T) (whole : ℕ) (x : T) → found ≡ None → SomeIff found (whole < 2 ^ 64) x → 2 ^ 64 ≤ whole
+too-large found whole x e h = elim (cases_lt whole (2 ^ 64)) [
+  | inl fits ↦ absurd (subst (λ r. SomeIff r (whole < 2 ^ 64) x) e h fits)
+  | inr past ↦ past
+]
+
+-- a total that is found, or too large
+pub total-or : (found : Option ℕ) (whole : ℕ) → SomeIff found (whole < 2 ^ 64) whole → IsTotalOf whole (ok_or found layout_error.TooLarge)
+total-or None whole h = (refl, too-large None whole whole refl h)
+total-or (Some n) whole h = h.1
+
+-- a visible cell that does not reach out lies in the table
+pub is-inside : (look : Look) (widths heights : ℕ → ℕ) (shape : ℕ × ℕ) (p : Position) → look.shows p ≡ true →
+    false ≡ nat_lt shape.1 (p.col + look.span Columns p) → false ≡ nat_lt shape.0 (p.row + look.span Rows p) → IsInside look widths heights shape p
+is-inside look widths heights shape p visible across down = record {
+  visible = visible;
+  across = ltb-false shape.1 (p.col + look.span Columns p) (sym across);
+  down = ltb-false shape.0 (p.row + look.span Rows p) (sym down);
+}
+
 -- the place of a cell by what is found along both directions
 pub has-place : (look : Look) (widths heights : ℕ → ℕ) (shape : ℕ × ℕ) (p : Position) (left top width height : ℕ) → look.shows p ≡ true →
     false ≡ nat_lt shape.1 (p.col + look.span Columns p) → false ≡ nat_lt shape.0 (p.row + look.span Rows p) →
@@ -94,11 +116,7 @@ pub has-place : (look : Look) (widths heights : ℕ → ℕ) (shape : ℕ × ℕ
     × ◌≡◌ {A = ℕ × ℕ} (top, height) (offset heights (look.draws Rows shape.0) p.row, extent heights (look.draws Rows shape.0) p.row (look.span Rows p)) →
     HasPlace look widths heights shape p (record { left = left; top = top; width = width; height = height })
 has-place look widths heights shape p left top width height visible across down wide high = record {
-  inside = record {
-    visible = visible;
-    across = ltb-false shape.1 (p.col + look.span Columns p) (sym across);
-    down = ltb-false shape.0 (p.row + look.span Rows p) (sym down);
-  };
+  inside = is-inside look widths heights shape p visible across down;
   fit = fit;
   exact = (λ k. record { left = (wide.1 k).0; top = (high.1 k).0; width = (wide.1 k).1; height = (high.1 k).1 });
 }

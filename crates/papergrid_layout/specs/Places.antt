@@ -1,10 +1,10 @@
 -- Where cells stand in their table as it is printed: in columns of a terminal from its left edge on, in lines from its top on.
-use Rattle.std.specs.Prelude.{◌≡◌, ℕ, ◌+◌, ◌-◌, ◌^◌, ◌<◌, ◌≤◌, ◌⊎◌, Bool, true, false, List, slice_index, sum_by, count_by, Result, Ok, Err}
+use Rattle.std.specs.Prelude.{◌≡◌, ℕ, ◌+◌, ◌-◌, ◌^◌, ◌<◌, ◌≤◌, ◌⊎◌, ⊤, All, AllPairs, Bool, true, false, Contains, List, None, Option, Some, slice_index, sum_by, count_by, Result, Ok, Err}
 use Rattle.std.specs.List.{range_with_len}
 use Rattle.papergrid_values.specs.declared.position.Position.{Position}
 use Rattle.papergrid_values.specs.declared.direction.Direction.{Direction}
 use Rattle.papergrid_values.specs.declared.direction.Direction.TheVariants.{Columns, Rows}
-use Rattle.papergrid_values.specs.Positions.{along}
+use Rattle.papergrid_values.specs.Positions.{IsBefore, along}
 use Rattle.papergrid_axis.specs.declared.error.LayoutError.{LayoutError}
 use Rattle.papergrid_axis.specs.declared.error.LayoutError.TheVariants as layout_error
 use Rattle.papergrid_values.specs.Lines.{all_lines}
@@ -41,6 +41,13 @@ IsTotalOf total (Err e) = (e ≡ layout_error.TooLarge) × (2 ^ 64 ≤ total)
 abbrev pub size_along : (ℕ → ℕ) → (ℕ → ℕ) → Direction → ℕ → ℕ
 size_along widths heights Columns = widths
 size_along widths heights Rows = heights
+
+-- the place covers column x of the terminal in line y
+pub record Covers (place : Place) (x y : ℕ) : Type 0 where
+  pub after_left : place.left ≤ x
+  pub before_right : x < place.left + place.width
+  pub below_top : place.top ≤ y
+  pub above_bottom : y < place.top + place.height
 
 -- a table: what is read of its configuration, its widths and heights, and its shape (rows, columns)
 module _ (look : Look) (widths heights : ℕ → ℕ) (shape : ℕ × ℕ) where
@@ -93,12 +100,39 @@ module _ (look : Look) (widths heights : ℕ → ℕ) (shape : ℕ × ℕ) where
   IsPlaced p (Err OutOfTable) = (look.shows p ≡ true) × (ReachesOut p Columns ⊎ ReachesOut p Rows)
   IsPlaced p (Err TooLarge) = IsInside p × ((2 ^ 64 ≤ total_along Columns) ⊎ (2 ^ 64 ≤ total_along Rows))
 
--- the place covers column x of the terminal in line y
-pub record Covers (place : Place) (x y : ℕ) : Type 0 where
-  pub after_left : place.left ≤ x
-  pub before_right : x < place.left + place.width
-  pub below_top : place.top ≤ y
-  pub above_bottom : y < place.top + place.height
+  -- a visible position of the table
+  pub record IsVisibleCell (p : Position) : Type 0 where
+    pub visible : look.shows p ≡ true
+    pub row_in : p.row < shape.0
+    pub col_in : p.col < shape.1
+
+  -- all visible positions of the table with their places, by row and then by column
+  pub record HaveAllPlaces (list : List (Position × Place)) : Type 0 where
+    pub in_order : AllPairs (λ x y. IsBefore x.0 y.0) list
+    pub placed : All (λ x. HasPlace x.0 x.1) list
+    pub complete : (p : Position) → IsVisibleCell p → (place : Place) × Contains list (p, place)
+
+  -- the first visible position of the table that has no place, and why it has none
+  pub record IsFirstRefused (p : Position) (error : PlaceError) : Type 0 where
+    pub is_cell : IsVisibleCell p
+    pub refused : IsPlaced p (Err error)
+    pub earlier : (q : Position) → IsVisibleCell q → IsBefore q p → (place : Place) × HasPlace q place
+
+  -- why the visible positions have no places: the first that has none decides; memory may be refused in place of any answer
+  abbrev pub ArePlacesRefused : LayoutError → Type 0
+  ArePlacesRefused (layout_error.OutOfTable p) = IsFirstRefused p OutOfTable
+  ArePlacesRefused layout_error.TooLarge = (p : Position) × IsFirstRefused p TooLarge
+  ArePlacesRefused (layout_error.Memory e) = ⊤
+
+  -- the cell at a position has a place, and that covers column x of the terminal in line y
+  pub record StandsOver (x y : ℕ) (p : Position) : Type 0 where
+    pub placed : HasPlace p (place_at p)
+    pub covers : Covers (place_at p) x y
+
+  -- the first position, by row and then by column, whose cell does, or none
+  abbrev pub IsFirstOver : ℕ → ℕ → Option Position → Type 0
+  IsFirstOver x y None = (p : Position) → StandsOver x y p → ⊥
+  IsFirstOver x y (Some p) = StandsOver x y p × ((q : Position) → StandsOver x y q → IsBefore q p → ⊥)
 
 -- no column of the terminal in a line is covered by both
 abbrev pub AreApart : Place → Place → Type 0

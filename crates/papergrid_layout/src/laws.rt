@@ -1,6 +1,6 @@
 //! Laws of the definitions, each the contract of a function that does nothing.
 
-ghost use Rattle.std.specs.Prelude.{◌≡◌, ◌↔◌, ◌+◌, ◌≤◌, ◌<◌, ◌^◌, ℕ, All, AllPairs, Contains, Err, List, length, map, slice_index};
+ghost use Rattle.std.specs.Prelude.{◌≡◌, ◌≢◌, ◌↔◌, ◌+◌, ◌≤◌, ◌<◌, ◌^◌, ℕ, All, AllPairs, Contains, Err, List, length, map, slice_index};
 ghost use Rattle.std.specs.Borrow.{Bor};
 ghost use Rattle.papergrid_values.specs.declared.position.Position.{Position};
 ghost use Rattle.papergrid_values.specs.Positions.{IsBefore};
@@ -17,7 +17,7 @@ ghost use Rattle.papergrid_walk.specs.Looks.{Look, spanned_look};
 ghost use Rattle.papergrid_walk.specs.Measures.{cell_measure, line_measure};
 ghost use Rattle.papergrid_layout.specs.Answers.{AreBothSizes, first_out_of_table};
 ghost use Rattle.papergrid_layout.specs.Laws.{AreReordered, AreSwapped, IsCellAt, IsNewText, TellTheSame, sizes_told};
-ghost use Rattle.papergrid_layout.specs.Places.{AreApart, HasRoomAtPlace, HaveNoneInCommon, IsPlaced, place_at, total_along};
+ghost use Rattle.papergrid_layout.specs.Places.{AreApart, HasRoomAtPlace, HaveNoneInCommon, IsInside, IsPlaced, StandsOver, place_at, total_along};
 ghost use Rattle.papergrid_layout.specs.declared.placement.PlaceError.TheVariants.{TooLarge};
 ghost use Rattle.papergrid_layout.specs.declared.compact.CompactGridDimension.{CompactGridDimension};
 ghost use Rattle.papergrid_layout.specs.declared.iterable.IterGridDimension.{IterGridDimension};
@@ -97,6 +97,14 @@ pub fn equal_clones()
 pub fn places_apart()
     ensures { (look : Look) (widths heights : ℕ → ℕ) (shape : ℕ × ℕ) (p q : Position) →
         HaveNoneInCommon look p q → AreApart (place_at look widths heights shape p) (place_at look widths heights shape q) }
+{}
+
+/// A point stands under one cell alone where that cell shares no position with any other one that lies in
+/// the table.
+pub fn points_in_one_cell()
+    ensures { (look : Look) (widths heights : ℕ → ℕ) (shape : ℕ × ℕ) (x y : ℕ) (p : Position) → StandsOver look widths heights shape x y p →
+        ((q : Position) → IsInside look widths heights shape q → q ≢ p → HaveNoneInCommon look p q) →
+        (q : Position) → StandsOver look widths heights shape x y q → q ≡ p }
 {}
 
 /// With the sizes that records have, each visible cell has a place, and room in it, and none is refused

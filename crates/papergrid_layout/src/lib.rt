@@ -10,9 +10,12 @@ pub mod compact;
 pub mod dimension;
 pub mod iterable;
 pub mod laws;
+mod marks;
 pub mod peekable;
 mod placed;
 pub mod placement;
+mod placing;
+mod point;
 mod ruler;
 mod size_list;
 mod totals;
@@ -24,6 +27,8 @@ pub use papergrid_axis::LayoutError;
 pub use peekable::PeekableGridDimension;
 pub use placed::place;
 pub use placement::{Place, PlaceError};
+pub use placing::places;
+pub use point::cell_at;
 pub use totals::{total_height, total_width};
 
 #[cfg(test)]

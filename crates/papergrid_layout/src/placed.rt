@@ -35,18 +35,8 @@ pub fn place<D: Dimension>(
         IfOk result (λ place. (place.left + place.width ≤ total Columns) × (place.top + place.height ≤ total Rows)) }
 {
     let (rows, columns) = shape;
-    let across = Ruler {
-        dim,
-        settings: cfg,
-        direction: Direction::Columns,
-        count: columns,
-    };
-    let down = Ruler {
-        dim,
-        settings: cfg,
-        direction: Direction::Rows,
-        count: rows,
-    };
+    let across = Ruler::new(dim, cfg, Direction::Columns, columns);
+    let down = Ruler::new(dim, cfg, Direction::Rows, rows);
     if !cfg.is_visible(pos) {
         return Err(PlaceError::Hidden);
     }

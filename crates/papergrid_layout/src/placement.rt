@@ -1,5 +1,8 @@
 //! Where cells stand in their table.
 
+ghost use Rattle.std.specs.Prelude.{◌↔◌, IsTrue};
+ghost use Rattle.papergrid_layout.specs.Places.{Covers};
+
 /// Where a cell stands: its first column of the terminal and its first line, counted from the left
 /// edge and the top of the table, and over how many of them it goes, the lines between its columns
 /// and rows among them.
@@ -9,6 +12,18 @@ pub struct Place {
     pub top: usize,
     pub width: usize,
     pub height: usize,
+}
+
+impl Place {
+    /// Whether it covers a column of the terminal in a line.
+    pub(crate) fn covers(&self, column: usize, line: usize) -> bool
+        ensures { IsTrue result ↔ Covers self.now column line }
+    {
+        self.left <= column
+            && column - self.left < self.width
+            && self.top <= line
+            && line - self.top < self.height
+    }
 }
 
 /// Why a position has no place.

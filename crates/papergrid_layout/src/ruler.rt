@@ -1,14 +1,17 @@
 //! The sizes and the lines of a table along one direction, and where its columns (rows) begin.
 
-ghost use Rattle.std.specs.Prelude.{◌≡◌, ◌+◌, ◌<◌, ◌≤◌, ◌^◌, ℕ, cond, nat_lt};
+ghost use Rattle.std.specs.Prelude.{◌≡◌, ◌+◌, ◌<◌, ◌≤◌, ◌^◌, ◌⊎◌, ℕ, IfOk, MatchOption, cond, nat_lt};
 ghost use Rattle.std.specs.Option.{SomeIff};
 ghost use Rattle.papergrid_values.specs.Positions.{along};
 ghost use Rattle.papergrid_layout.specs.Places.{extent, offset, size_along, total};
+ghost use Rattle.papergrid_layout.specs.ForProofs.Placing.{AreMarks};
 ghost use Rattle.papergrid_layout.specs.ForProofs.Rulers.{has_along};
 
 use crate::dimension::Dimension;
+use crate::marks::Marks;
 use papergrid_values::{Direction, Position};
 use papergrid_walk::Settings;
+use std::alloc::{AllocError, Global};
 
 /// The sizes of a dimension, and the spans and the lines of settings, along a direction in which the
 /// table has so many columns (rows).
@@ -21,6 +24,18 @@ pub struct Ruler<'a, D, S> {
 }
 
 impl<'a, D: Dimension, S: Settings> Ruler<'a, D, S> {
+    /// Of so many columns (rows), by these sizes and settings.
+    pub fn new(dim: &'a D, settings: &'a S, direction: Direction, count: usize) -> Ruler<'a, D, S>
+        ensures { result ≡ record { dim = dim.entry; settings = settings.entry; direction = direction; count = count } }
+    {
+        Ruler {
+            dim,
+            settings,
+            direction,
+            count,
+        }
+    }
+
     /// The width of a column, or the height of a row.
     fn size(&self, i: usize) -> usize
         requires { has_along (D.has_column self.now.dim.now) (D.has_row self.now.dim.now) self.now.direction i }
@@ -100,5 +115,51 @@ impl<'a, D: Dimension, S: Settings> Ruler<'a, D, S> {
             SomeIff result (found < 2 ^ 64) found }
     {
         self.offset_from(0, self.line(0), self.count)
+    }
+
+    /// Where each column (row) begins and ends, where the total fits.
+    pub fn marks(&self, alloc: Global) -> Result<Marks, AllocError>
+        requires sizes { (i : ℕ) → i < self.now.count →
+            has_along (D.has_column self.now.dim.now) (D.has_row self.now.dim.now) self.now.direction i }
+        requires fits { let size = size_along (D.width_of self.now.dim.now) (D.height_of self.now.dim.now) self.now.direction in
+            total size ((S.look self.now.settings.now).draws self.now.direction self.now.count) self.now.count < 2 ^ 64 }
+        ensures { let size = size_along (D.width_of self.now.dim.now) (D.height_of self.now.dim.now) self.now.direction in
+            IfOk result (AreMarks size ((S.look self.now.settings.now).draws self.now.direction self.now.count) self.now.count) }
+    {
+        let mut begins = Vec::new(alloc);
+        let mut ends = Vec::new(alloc);
+        let mut begin = self.line(0);
+        for i in 0..self.count {
+            let end = begin + self.size(i);
+            begins.push(begin)?;
+            ends.push(end)?;
+            begin = end + self.line(i + 1);
+        }
+        Ok(Marks { begins, ends })
+    }
+
+    /// The column (row) from whose begin to that of the next one a point lies, where the total fits. None
+    /// where it lies before the first begin or not before the end of the table.
+    pub fn number_at(&self, point: usize) -> Option<usize>
+        requires sizes { (i : ℕ) → i < self.now.count →
+            has_along (D.has_column self.now.dim.now) (D.has_row self.now.dim.now) self.now.direction i }
+        requires fits { let size = size_along (D.width_of self.now.dim.now) (D.height_of self.now.dim.now) self.now.direction in
+            total size ((S.look self.now.settings.now).draws self.now.direction self.now.count) self.now.count < 2 ^ 64 }
+        ensures { let size = size_along (D.width_of self.now.dim.now) (D.height_of self.now.dim.now) self.now.direction in
+            let line = (S.look self.now.settings.now).draws self.now.direction self.now.count in
+            MatchOption result ((point < offset size line 0) ⊎ (offset size line self.now.count ≤ point))
+            (λ i. (i < self.now.count) × (offset size line i ≤ point) × (point < offset size line (i + 1))) }
+    {
+        let mut begin = self.line(0);
+        if point < begin {
+            return None;
+        }
+        for i in 0..self.count {
+            begin += self.size(i) + self.line(i + 1);
+            if point < begin {
+                return Some(i);
+            }
+        }
+        None
     }
 }

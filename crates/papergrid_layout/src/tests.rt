@@ -3,6 +3,7 @@
 mod callers;
 mod certificates;
 mod places;
+mod points;
 mod refused;
 mod visible;
 

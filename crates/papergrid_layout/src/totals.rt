@@ -3,13 +3,29 @@
 ghost use Rattle.std.specs.Prelude.{◌<◌, ℕ};
 ghost use Rattle.papergrid_values.specs.declared.direction.Direction.TheVariants.{Columns, Rows};
 ghost use Rattle.papergrid_walk.specs.Looks.{spanned_look};
-ghost use Rattle.papergrid_layout.specs.Places.{IsTotalOf, total};
+ghost use Rattle.papergrid_layout.specs.Places.{IsTotalOf, size_along, total};
+ghost use Rattle.papergrid_layout.specs.ForProofs.Rulers.{has_along};
 
 use crate::dimension::Dimension;
 use crate::ruler::Ruler;
 use papergrid_axis::LayoutError;
 use papergrid_config::SpannedConfig;
 use papergrid_values::Direction;
+
+/// The total along a direction, of so many columns (rows).
+fn total_along<D: Dimension>(
+    dim: &D,
+    cfg: &SpannedConfig,
+    direction: Direction,
+    count: usize,
+) -> Result<usize, LayoutError>
+    requires { (i : ℕ) → i < count → has_along (D.has_column dim.now) (D.has_row dim.now) direction i }
+    ensures { let size = size_along (D.width_of dim.now) (D.height_of dim.now) direction in
+        IsTotalOf (total size ((spanned_look cfg.now).draws direction count) count) result }
+{
+    let ruler = Ruler::new(dim, cfg, direction, count);
+    ruler.total().ok_or(LayoutError::TooLarge)
+}
 
 /// The width of a table of so many columns, in columns of a terminal: the sum of the widths and of
 /// the vertical lines. It takes no memory.
@@ -27,13 +43,7 @@ pub fn total_width<D: Dimension>(
     requires { (column : ℕ) → column < columns → D.has_column dim.now column }
     ensures { IsTotalOf (total (D.width_of dim.now) ((spanned_look cfg.now).draws Columns columns) columns) result }
 {
-    let across = Ruler {
-        dim,
-        settings: cfg,
-        direction: Direction::Columns,
-        count: columns,
-    };
-    across.total().ok_or(LayoutError::TooLarge)
+    total_along(dim, cfg, Direction::Columns, columns)
 }
 
 /// The height of a table of so many rows, in lines: the sum of the heights and of the horizontal
@@ -52,11 +62,5 @@ pub fn total_height<D: Dimension>(
     requires { (row : ℕ) → row < rows → D.has_row dim.now row }
     ensures { IsTotalOf (total (D.height_of dim.now) ((spanned_look cfg.now).draws Rows rows) rows) result }
 {
-    let down = Ruler {
-        dim,
-        settings: cfg,
-        direction: Direction::Rows,
-        count: rows,
-    };
-    down.total().ok_or(LayoutError::TooLarge)
+    total_along(dim, cfg, Direction::Rows, rows)
 }

@@ -14,7 +14,7 @@ mod levels;
 pub mod measure;
 pub mod needs;
 pub mod settings;
-mod shown;
+pub mod shown;
 pub mod sweep;
 pub mod visitor;
 

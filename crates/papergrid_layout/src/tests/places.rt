@@ -20,9 +20,9 @@ use std::alloc::Global;
 
 /// Sizes that were taken out of a dimension.
 #[derive(Clone, Copy)]
-struct Taken<'a> {
-    widths: &'a [usize],
-    heights: &'a [usize],
+pub struct Taken<'a> {
+    pub widths: &'a [usize],
+    pub heights: &'a [usize],
 }
 
 impl<'a> Dimension for Taken<'a> {
@@ -84,7 +84,7 @@ fn are_totals(
         && total_height(&taken, config, taken.heights.len()) == height
 }
 
-fn at(left: usize, top: usize, width: usize, height: usize) -> Result<Place, PlaceError> {
+pub fn at(left: usize, top: usize, width: usize, height: usize) -> Result<Place, PlaceError> {
     Ok(Place {
         left,
         top,

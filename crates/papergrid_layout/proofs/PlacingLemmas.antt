@@ -1,0 +1,195 @@
+-- What is known of the listed places, step by step.
+use Rattle.std.proofs.Common.{◌≡◌, ◌∙◌, ℕ, ◌+◌, ◌<◌, ◌≤◌, ◌^◌, ◌⊎◌, Bool, true, false, inl, inr, List, [], ◌∷◌, ◌++◌, None, Some, refl, sym, ap, subst, arith}
+use Rattle.std.specs.Prelude.{Contains, Err, if◌then◌else◌}
+use Rattle.std.proofs.lemmas.Bool.{cases_lt, false≢true}
+use Rattle.std.proofs.lemmas.List.Elements.{All-append, All-cons, All-contains, All-nil, All-weaker, Contains-append_left, Contains-push}
+use Rattle.std.proofs.lemmas.List.Quantifiers.{all_pairs_push}
+use Rattle.std.proofs.lemmas.Option.{none-some}
+use Rattle.papergrid_values.specs.declared.direction.Direction.{Direction}
+use Rattle.papergrid_values.specs.declared.direction.Direction.TheVariants.{Columns, Rows}
+use Rattle.papergrid_values.specs.declared.position.Position.{Position}
+use Rattle.papergrid_values.specs.Positions.{IsBefore, position_of}
+use Rattle.papergrid_config.specs.declared.spanned.SpannedConfig.{SpannedConfig}
+use Rattle.papergrid_maps.specs.declared.anchors.Anchor.{Anchor}
+use Rattle.papergrid_maps.proofs.SpanVisible.{visible_test}
+use Rattle.papergrid_walk.specs.ForProofs.Shown.{anchor_in}
+use Rattle.papergrid_walk.specs.ForProofs.Visits.{shows_turn}
+use Rattle.papergrid_walk.specs.Looks.{Look, spanned_look}
+use Rattle.papergrid_walk.proofs.HiddenLemmas.{position-same}
+use Rattle.papergrid_layout.specs.Places.{HasPlace, HaveAllPlaces, IsFirstRefused, IsPlaced, IsVisibleCell, extent, offset, place_at, total_along}
+use Rattle.papergrid_layout.specs.declared.placement.Place.{Place}
+use Rattle.papergrid_layout.specs.declared.placement.PlaceError.{PlaceError}
+use Rattle.papergrid_layout.specs.declared.placement.PlaceError.TheVariants.{OutOfTable}
+use Rattle.papergrid_layout.specs.declared.placing.Placing.{Placing}
+use Rattle.papergrid_layout.specs.ForProofs.Placing.{ArePlacedBefore, HasPlaced, Table}
+
+-- ---- what is found of a position
+
+pub found-shown : {A : Type 0} (shows : Bool) (x found : A) → Some found ≡ (if shows then Some x else None) → (shows ≡ true) × (found ≡ x)
+found-shown true x found e = (refl, cc)
+found-shown false x found e = absurd (none-some found (sym e))
+
+pub found-hidden : {A : Type 0} (shows : Bool) (x : A) → None ≡ (if shows then Some x else None) → shows ≡ false
+found-hidden true x e = absurd (none-some x e)
+found-hidden false x e = refl
+
+-- the place by what is found along both directions
+pub place-found : (table : Table) (anchor : Anchor) (left top width height : ℕ) → anchor ≡ anchor_in table.look anchor.position →
+    ◌≡◌ {A = ℕ × ℕ} (left, width)
+    (offset table.widths (table.look.draws Columns table.shape.1) anchor.position.col, extent table.widths (table.look.draws Columns table.shape.1) anchor.position.col anchor.cols) →
+    ◌≡◌ {A = ℕ × ℕ} (top, height)
+    (offset table.heights (table.look.draws Rows table.shape.0) anchor.position.row, extent table.heights (table.look.draws Rows table.shape.0) anchor.position.row anchor.rows) →
+    ◌≡◌ {A = Place} (record { left = left; top = top; width = width; height = height }) (place_at table.look table.widths table.heights table.shape anchor.position)
+place-found table anchor left top width height e wide high =
+    let p = anchor.position in
+    let long = ap (λ x. x.1) wide ∙ ap (extent table.widths (table.look.draws Columns table.shape.1) p.col) (ap (λ (a : Anchor). a.cols) e) in
+    let tall = ap (λ x. x.1) high ∙ ap (extent table.heights (table.look.draws Rows table.shape.0) p.row) (ap (λ (a : Anchor). a.rows) e) in
+    λ k. record { left = (wide k).0; top = (high k).0; width = long k; height = tall k }
+
+-- its spans at its own position
+pub anchor-own : (look : Look) (p : Position) (anchor : Anchor) → anchor ≡ anchor_in look p → anchor ≡ anchor_in look anchor.position
+anchor-own look p anchor e = e ∙ ap (anchor_in look) (sym (ap (λ (a : Anchor). a.position) e))
+
+-- the position has the place that was found for it
+pub has-found : (table : Table) (p : Position) (anchor : Anchor) (place : Place) →
+    ((direction : Direction) → total_along table.look table.widths table.heights table.shape direction < 2 ^ 64) →
+    table.look.shows p ≡ true → anchor ≡ anchor_in table.look p →
+    (((anchor.position.col + anchor.cols ≤ table.shape.1) × (anchor.position.row + anchor.rows ≤ table.shape.0))
+    × (place ≡ place_at table.look table.widths table.heights table.shape anchor.position)) →
+    HasPlace table.look table.widths table.heights table.shape p place
+has-found table p anchor place fit visible e found =
+    let told = subst (λ (a : Anchor). ((a.position.col + a.cols ≤ table.shape.1) × (a.position.row + a.rows ≤ table.shape.0))
+    × (place ≡ place_at table.look table.widths table.heights table.shape a.position)) e found in
+    record { inside = record { visible = visible; across = told.0.0; down = told.0.1 }; fit = fit; exact = told.1 }
+
+-- where no place was found for it, it reaches out
+pub is-out : (table : Table) (p : Position) (anchor : Anchor) → table.look.shows p ≡ true → anchor ≡ anchor_in table.look p →
+    ((anchor.position.col + anchor.cols ≤ table.shape.1) × (anchor.position.row + anchor.rows ≤ table.shape.0) → ⊥) →
+    IsPlaced table.look table.widths table.heights table.shape p (Err OutOfTable)
+is-out table p anchor visible e none =
+    let told = subst (λ (a : Anchor). (a.position.col + a.cols ≤ table.shape.1) × (a.position.row + a.rows ≤ table.shape.0) → ⊥) e none in (
+      visible,
+      elim (cases_lt table.shape.1 (p.col + table.look.span Columns p)) [
+        | inl wide ↦ inl wide
+        | inr narrow ↦ elim (cases_lt table.shape.0 (p.row + table.look.span Rows p)) [
+          | inl high ↦ inr high
+          | inr low ↦ absurd (told (narrow, low))
+        ]
+      ],
+    )
+
+-- ---- order
+
+pub before-step : (p : Position) (r c : ℕ) → IsBefore p (position_of (r, c)) → IsBefore p (position_of (r, c + 1))
+before-step p r c (inl above) = inl above
+before-step p r c (inr left) = inr (left.0, let l : p.col < c = left.1 in omega arith)
+
+pub before-next : (p : Position) (r c : ℕ) → IsBefore p (position_of (r, c + 1)) → IsBefore p (position_of (r, c)) ⊎ (p ≡ position_of (r, c))
+before-next p r c (inl above) = inl (inl above)
+before-next p r c (inr left) = elim (cases_lt p.col c) [
+  | inl l ↦ inl (inr (left.0, l))
+  | inr ge ↦ let l : p.col < c + 1 = left.1 in inr (position-same p (position_of (r, c)) left.0 (omega arith))
+]
+
+before-row : (p : Position) (r c : ℕ) → IsBefore p (position_of (r, c)) → IsBefore p (position_of (r + 1, 0))
+before-row p r c (inl above) = let l : p.row < r = above in inl (omega arith)
+before-row p r c (inr left) = let e : p.row ≡ r = left.0 in inl (omega arith)
+
+before-turn : (p : Position) (r c : ℕ) → p.col < c → IsBefore p (position_of (r + 1, 0)) → IsBefore p (position_of (r, c))
+before-turn p r c in_row (inl above) = elim (cases_lt p.row r) [
+  | inl l ↦ inl l
+  | inr ge ↦ let l : p.row < r + 1 = above in inr (omega arith, in_row)
+]
+before-turn p r c in_row (inr left) = let l : p.col < 0 = left.1 in absurd (omega arith)
+
+-- the first position is hidden by none
+pub first-shown : (config : SpannedConfig) → (spanned_look config).shows (position_of (0, 0)) ≡ true
+first-shown config =
+    (visible_test config.spans (position_of (0, 0))).1
+    (λ anchor other within. other (position-same anchor (position_of (0, 0)) (omega (arith, within.below_top)) (omega (arith, within.after_left))))
+
+pub none-before : (p : Position) → IsBefore p (position_of (0, 0)) → ⊥
+none-before p before = elim before [ inl l ↦ omega (arith, l) | inr l ↦ let l' = l.1 in omega (arith, l') ]
+
+-- ---- the list
+
+module _ (table : Table) where
+  abbrev Has : Position × Place → Type 0
+  Has x = HasPlace table.look table.widths table.heights table.shape x.0 x.1
+
+  abbrev Before : ℕ → ℕ → Position × Place → Type 0
+  Before r c x = IsBefore x.0 (position_of (r, c))
+
+  abbrev IsCell : Position → Type 0
+  IsCell = IsVisibleCell table.look table.widths table.heights table.shape
+
+  pub placed-none : ArePlacedBefore table 0 0 []
+  placed-none = record {
+    in_order = λ i j d l l'. absurd (omega arith);
+    placed = All-nil Has;
+    before = All-nil (Before 0 0);
+    complete = λ p cell before. absurd (none-before p before);
+  }
+
+  -- past a hidden position
+  pub placed-hidden : (r c : ℕ) (list : List (Position × Place)) → table.look.shows (position_of (r, c)) ≡ false → ArePlacedBefore table r c list →
+      ArePlacedBefore table r (c + 1) list
+  placed-hidden r c list hidden are = record {
+    in_order = are.in_order;
+    placed = are.placed;
+    before = All-weaker (Before r c) (Before r (c + 1)) (λ x h. before-step x.0 r c h) list are.before;
+    complete = λ p cell before. elim (before-next p r c before) [
+      | inl earlier ↦ are.complete p cell earlier
+      | inr same ↦ absurd (false≢true (sym hidden ∙ ap table.look.shows (sym same) ∙ cell.visible))
+    ];
+  }
+
+  -- past a visible position that has a place
+  pub placed-more : (r c : ℕ) (list : List (Position × Place)) (place : Place) → Has (position_of (r, c), place) → ArePlacedBefore table r c list →
+      ArePlacedBefore table r (c + 1) (list ++ (position_of (r, c), place) ∷ [])
+  placed-more r c list place has are = record {
+    in_order = all_pairs_push (λ x y. IsBefore x.0 y.0) list (position_of (r, c), place) are.in_order are.before;
+    placed = All-append Has list ((position_of (r, c), place) ∷ []) are.placed (All-cons Has (position_of (r, c), place) [] has (All-nil Has));
+    before = All-append (Before r (c + 1)) list ((position_of (r, c), place) ∷ [])
+        (All-weaker (Before r c) (Before r (c + 1)) (λ x h. before-step x.0 r c h) list are.before)
+        (All-cons (Before r (c + 1)) (position_of (r, c), place) [] (inr (refl, omega arith)) (All-nil (Before r (c + 1))));
+    complete = λ p cell before. elim (before-next p r c before) [
+      | inl earlier ↦ let found = are.complete p cell earlier in (found.0, Contains-append_left list ((position_of (r, c), place) ∷ []) (p, found.0) found.1)
+      | inr same ↦ (place, subst (λ q. Contains (list ++ (position_of (r, c), place) ∷ []) (q, place)) (sym same) (Contains-push list (position_of (r, c), place)))
+    ];
+  }
+
+  -- after a row comes the next one
+  pub placed-turn : (r : ℕ) (list : List (Position × Place)) → ArePlacedBefore table r table.shape.1 list → ArePlacedBefore table (r + 1) 0 list
+  placed-turn r list are = record {
+    in_order = are.in_order;
+    placed = are.placed;
+    before = All-weaker (Before r table.shape.1) (Before (r + 1) 0) (λ x h. before-row x.0 r table.shape.1 h) list are.before;
+    complete = λ p cell before. are.complete p cell (before-turn p r table.shape.1 cell.col_in before);
+  }
+
+  pub all-placed : (list : List (Position × Place)) → ArePlacedBefore table table.shape.0 0 list →
+      HaveAllPlaces table.look table.widths table.heights table.shape list
+  all-placed list are = record {
+    in_order = are.in_order;
+    placed = are.placed;
+    complete = λ p cell. are.complete p cell (inl cell.row_in);
+  }
+
+  pub first-refused : (r c : ℕ) (list : List (Position × Place)) (error : PlaceError) → IsCell (position_of (r, c)) →
+      IsPlaced table.look table.widths table.heights table.shape (position_of (r, c)) (Err error) → ArePlacedBefore table r c list →
+      IsFirstRefused table.look table.widths table.heights table.shape (position_of (r, c)) error
+  first-refused r c list error cell refused are = record {
+    is_cell = cell;
+    refused = refused;
+    earlier = λ q shown before. let found = are.complete q shown before in (found.0, All-contains Has list (q, found.0) are.placed found.1);
+  }
+
+  -- the walk at the end of a row
+  pub has-turned : (r c : ℕ) (placing : Placing) → c ≡ table.shape.1 → HasPlaced table r c placing → HasPlaced table (r + 1) 0 placing
+  has-turned r c placing end has = record {
+    fit = has.fit;
+    marked = has.marked;
+    shows = shows_turn table.look placing.sweep r c has.shows;
+    list = placed-turn r placing.places.items (subst (λ k. ArePlacedBefore table r k placing.places.items) end has.list);
+  }

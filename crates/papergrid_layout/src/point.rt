@@ -1,0 +1,135 @@
+//! The cell at a point of a table as it is printed.
+
+ghost use Rattle.std.specs.Prelude.{◌≡◌, ◌<◌, ◌≤◌, ◌↔◌, ℕ, IsTrue, MatchOption};
+ghost use Rattle.papergrid_values.specs.declared.position.Position.{Position};
+ghost use Rattle.papergrid_values.specs.declared.direction.Direction.TheVariants.{Columns, Rows};
+ghost use Rattle.papergrid_maps.specs.Spans.{IsInRectangle};
+ghost use Rattle.papergrid_walk.specs.Looks.{spanned_look};
+ghost use Rattle.papergrid_layout.specs.Places.{IsFirstOver, StandsOver};
+
+use crate::dimension::Dimension;
+use crate::placed::place;
+use crate::ruler::Ruler;
+use papergrid_config::SpannedConfig;
+use papergrid_values::{Direction, Position};
+use papergrid_walk::Settings;
+
+/// A table of the shape (rows, columns), a column of the terminal in a line of it, and a position that lies in
+/// the rectangle of each cell that stands over these.
+#[derive(Clone, Copy)]
+struct Point<'a, D> {
+    dim: &'a D,
+    cfg: &'a SpannedConfig,
+    shape: (usize, usize),
+    column: usize,
+    line: usize,
+    within: Position,
+}
+
+impl<'a, D: Dimension> Point<'a, D> {
+    /// Whether the cell at a position, none below or right of the one within, stands over the point. Most do
+    /// not by their spans alone.
+    fn is_under(&self, pos: Position) -> bool
+        requires columns { (column : ℕ) → column < self.now.shape.1 → D.has_column self.now.dim.now column }
+        requires rows { (row : ℕ) → row < self.now.shape.0 → D.has_row self.now.dim.now row }
+        requires before { (pos.row ≤ self.now.within.row) × (pos.col ≤ self.now.within.col) }
+        requires reach { let look = spanned_look self.now.cfg.now in (q : Position) →
+            StandsOver look (D.width_of self.now.dim.now) (D.height_of self.now.dim.now) self.now.shape self.now.column self.now.line q →
+            IsInRectangle (look.span Columns) (look.span Rows) q self.now.within }
+        ensures { IsTrue result ↔ StandsOver (spanned_look self.now.cfg.now) (D.width_of self.now.dim.now) (D.height_of self.now.dim.now)
+            self.now.shape self.now.column self.now.line pos }
+    {
+        if self.within.col - pos.col >= self.cfg.span(Direction::Columns, pos) {
+            return false;
+        }
+        if self.within.row - pos.row >= self.cfg.span(Direction::Rows, pos) {
+            return false;
+        }
+        match place(self.dim, self.cfg, self.shape, pos) {
+            Ok(place) => place.covers(self.column, self.line),
+            Err(_) => false,
+        }
+    }
+
+    /// The first position of a row whose cell stands over the point.
+    fn first_in_row(&self, row: usize) -> Option<Position>
+        requires columns { (column : ℕ) → column < self.now.shape.1 → D.has_column self.now.dim.now column }
+        requires rows { (row : ℕ) → row < self.now.shape.0 → D.has_row self.now.dim.now row }
+        requires before { row ≤ self.now.within.row }
+        requires reach { let look = spanned_look self.now.cfg.now in (q : Position) →
+            StandsOver look (D.width_of self.now.dim.now) (D.height_of self.now.dim.now) self.now.shape self.now.column self.now.line q →
+            IsInRectangle (look.span Columns) (look.span Rows) q self.now.within }
+        ensures { let IsUnder = StandsOver (spanned_look self.now.cfg.now) (D.width_of self.now.dim.now) (D.height_of self.now.dim.now)
+            self.now.shape self.now.column self.now.line in
+            MatchOption result ((q : Position) → q.row ≡ row → IsUnder q → ⊥)
+            (λ p. (p.row ≡ row) × IsUnder p × ((q : Position) → q.row ≡ row → q.col < p.col → IsUnder q → ⊥)) }
+    {
+        for col in 0..=self.within.col {
+            let pos = Position { row, col };
+            if self.is_under(pos) {
+                return Some(pos);
+            }
+        }
+        None
+    }
+
+    /// The first position, by row and then by column, whose cell stands over the point.
+    fn first(&self) -> Option<Position>
+        requires columns { (column : ℕ) → column < self.now.shape.1 → D.has_column self.now.dim.now column }
+        requires rows { (row : ℕ) → row < self.now.shape.0 → D.has_row self.now.dim.now row }
+        requires reach { let look = spanned_look self.now.cfg.now in (q : Position) →
+            StandsOver look (D.width_of self.now.dim.now) (D.height_of self.now.dim.now) self.now.shape self.now.column self.now.line q →
+            IsInRectangle (look.span Columns) (look.span Rows) q self.now.within }
+        ensures { IsFirstOver (spanned_look self.now.cfg.now) (D.width_of self.now.dim.now) (D.height_of self.now.dim.now)
+            self.now.shape self.now.column self.now.line result }
+    {
+        for row in 0..=self.within.row {
+            let found = self.first_in_row(row);
+            if found.is_some() {
+                return found;
+            }
+        }
+        None
+    }
+}
+
+/// The position of the cell at a column of the terminal in a line of a table of the shape (rows, columns),
+/// both counted from the left edge and the top of the table: that of the first cell, by row and then by
+/// column, whose place covers the point. None on a line of the table over which no such place goes, outside
+/// of the table, and where no cell has a place since a total is more than the greatest `usize`. It takes no
+/// memory, and time that grows with the rows and columns, at a hidden position with the cells.
+///
+/// Condition: the dimension has a width for each of the columns and a height for each of the rows.
+pub fn cell_at<D: Dimension>(
+    dim: &D,
+    cfg: &SpannedConfig,
+    shape: (usize, usize),
+    column: usize,
+    line: usize,
+) -> Option<Position>
+    requires columns { (column : ℕ) → column < shape.1 → D.has_column dim.now column }
+    requires rows { (row : ℕ) → row < shape.0 → D.has_row dim.now row }
+    ensures { IsFirstOver (spanned_look cfg.now) (D.width_of dim.now) (D.height_of dim.now) shape column line result }
+{
+    let (rows, columns) = shape;
+    let across = Ruler::new(dim, cfg, Direction::Columns, columns);
+    let down = Ruler::new(dim, cfg, Direction::Rows, rows);
+    let _width = across.total()?;
+    let _height = down.total()?;
+    let within = Position {
+        row: down.number_at(line)?,
+        col: across.number_at(column)?,
+    };
+    let point = Point {
+        dim,
+        cfg,
+        shape,
+        column,
+        line,
+        within,
+    };
+    if cfg.is_visible(within) {
+        return point.is_under(within).then_some(within);
+    }
+    point.first()
+}
