@@ -1,10 +1,9 @@
 -- The lines of a script, one after another.
-use Rattle.std.proofs.Common.{◌≡◌, ◌<◌, ◌+◌, ◌∷◌, [], ℕ, List, Option, Some, None, Result, Ok, Err, false, map, length, get_or, drop, nat_eq, refl, sym, ap, ◌∙◌, arith}
+use Rattle.std.proofs.Common.{◌≡◌, ◌+◌, ◌∷◌, [], ℕ, List, Option, Some, None, Result, Ok, Err, false, map, length, nat_eq, refl, ◌∙◌, arith}
 use Rattle.std.specs.Prelude.{option_and_then}
 use Rattle.std.specs.List.{slice_split}
 use Rattle.std.specs.Str.{chars, is_utf8}
 use Rattle.std.proofs.lemmas.Bool.Decides.{nat_tests}
-use Rattle.std.proofs.lemmas.List.{at_drop_more, at_drop_all}
 use Rattle.papergrid.specs.Grammar.{Said, Nothing, said, text_says, without_cr, without_empty_last, script_lines}
 use Rattle.papergrid.specs.Scripts.{Table, empty_table, with_line, or_bad, table_after, table_of}
 
@@ -33,11 +32,6 @@ next_line : (R : Result Table ℕ) (left more : List (List ℕ)) (n : ℕ) (line
     → R ≡ table_after n old (map without_cr left) → R ≡ or_bad n (option_and_then (with_line old) read) (λ next. table_after (n + 1) next (map without_cr more))
 next_line R left more n line read old cut is so_far = so_far ∙ rw (cut, is) refl
 
-pub good_line : (R : Result Table ℕ) (left more : List (List ℕ)) (n : ℕ) (line : List ℕ) (read : Option Said) (old new : Table) → left ≡ line ∷ more → read ≡ said (without_cr line)
-    → option_and_then (with_line old) read ≡ Some new
-    → R ≡ table_after n old (map without_cr left) → R ≡ table_after (n + 1) new (map without_cr more)
-good_line R left more n line read old new cut is good so_far = next_line R left more n line read old cut is so_far ∙ rw good refl
-
 pub bad_line : (R : Result Table ℕ) (left more : List (List ℕ)) (n : ℕ) (line : List ℕ) (read : Option Said) (old : Table) → left ≡ line ∷ more → read ≡ said (without_cr line)
     → option_and_then (with_line old) read ≡ None
     → R ≡ table_after n old (map without_cr left) → R ≡ Err n
@@ -45,11 +39,3 @@ bad_line R left more n line read old cut is bad so_far = next_line R left more n
 
 pub no_more_lines : (R : Result Table ℕ) (left : List (List ℕ)) (n : ℕ) (table : Table) → left ≡ [] → R ≡ table_after n table (map without_cr left) → R ≡ Ok table
 no_more_lines R left n table none so_far = so_far ∙ rw none refl
-
--- pieces from a place on
-pub cut_at : (pieces : List (List ℕ)) (n k : ℕ) (line : List ℕ) → (k < length pieces) × (line ≡ get_or pieces k line) → n ≡ k → drop n pieces ≡ line ∷ drop (n + 1) pieces
-cut_at pieces n k line at same =
-    ap (λ j. drop j pieces) same ∙ at_drop_more (λ rest. rest) pieces k line at.0 ∙ rw (sym at.1, same) refl
-
-pub cut_at_end : (pieces : List (List ℕ)) (n k : ℕ) → k ≡ length pieces → n ≡ k → drop n pieces ≡ []
-cut_at_end pieces n k all same = at_drop_all (λ rest. rest) pieces n (omega arith)

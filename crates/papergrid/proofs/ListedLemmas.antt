@@ -2,7 +2,7 @@
 use Rattle.std.proofs.Common.{◌≡◌, ℕ, Bool, List, [], ◌∷◌, ◌++◌, Option, Some, None, map, length, refl, sym, ap, ◌∙◌, ◌==◌, arith}
 use Rattle.std.specs.Prelude.{◌||◌, Result, Ok, Err, is_some, flat_map, not, reverse, unwrap_or}
 use Rattle.std.specs.Cmp.{IsTotalOrder, nat_cmp_total}
-use Rattle.std.specs.FinMap.{FinMap, empty, entries, find, put, get-entries, entries-insert, len-empty, len-entries}
+use Rattle.std.specs.FinMap.{FinMap, contains_key, empty, entries, find, get, keys, put, get-entries, entries-insert, len-empty, len-entries}
 use Rattle.std.specs.List.{list_any}
 use Rattle.std.specs.Ordering.{nat_cmp}
 use Rattle.std.specs.declared.cmp.Ordering.{Ordering}
@@ -16,7 +16,6 @@ use Rattle.papergrid_values.specs.declared.vertical_line.VerticalLine.{VerticalL
 use Rattle.papergrid_values.specs.declared.direction.Direction.{Direction}
 use Rattle.papergrid_values.specs.declared.direction.Direction.TheVariants.{Columns, Rows}
 use Rattle.papergrid_tables.specs.BorderCalls.{BorderCall}
-use Rattle.papergrid_tables.specs.BorderHeld.{HeldBorders}
 use Rattle.papergrid_tables.specs.Keys.{position_cmp}
 use Rattle.papergrid_tables.specs.LineTests.{ends_at_column, ends_at_row, vertical_line_at, horizontal_line_at}
 use Rattle.papergrid_tables.specs.Made.{borders_made, named_columns, named_places, named_rows, tabulated, with_value}
@@ -61,40 +60,33 @@ module _ {K X : Type 0} (R : K → K → Ordering) where
 
 -- ---- lines, by lists
 
+-- by the value of the whole table, the frame, the lines across that end there, a line of its own, the edges and the corners
+abbrev line_by : {T A L : Type 0} → Option T → Bool → (Option A → Bool) → List (ℕ × A) → List (ℕ × L) → (Position → ℕ) → List (Position × T) → List (Position × T) → ℕ → Bool
+line_by global framed ends across lines number edges corners place =
+    is_some global
+    || (framed
+    || (list_any (λ k. ends (find nat_cmp k across)) (map (λ e. e.0) across)
+    || (is_some (find nat_cmp place lines)
+    || (list_any (λ p. number p == place) (map (λ e. e.0) edges) || list_any (λ p. number p == place) (map (λ e. e.0) corners)))))
+
+line-entries : {T A L : Type 0} (global : Option T) (framed : Bool) (ends : Option A → Bool) (across : FinMap nat_cmp A) (lines : FinMap nat_cmp L) (number : Position → ℕ) (edges corners : FinMap position_cmp T) (place : ℕ)
+    → (is_some global || (framed || (list_any (λ k. ends (get across k)) (keys across) || (contains_key lines place || (list_any (λ p. number p == place) (keys edges) || list_any (λ p. number p == place) (keys corners))))))
+    ≡ line_by global framed ends (entries across) (entries lines) number (entries edges) (entries corners) place
+line-entries global framed ends across lines number edges corners place = λ i.
+    is_some global
+    || (framed
+    || (list_any (λ k. ends (get-entries across k i)) (map (λ e. e.0) (entries across))
+    || (is_some (get-entries lines place i)
+    || (list_any (λ p. number p == place) (map (λ e. e.0) (entries edges)) || list_any (λ p. number p == place) (map (λ e. e.0) (entries corners))))))
+
 module _ {T : Type 0} (global : Option T) (frame : Borders T) where
   abbrev pub vertical_by : List (ℕ × HorizontalLine T) → List (ℕ × VerticalLine T) → List (Position × T) → List (Position × T) → ℕ → ℕ → Bool
   vertical_by across lines edges corners c count =
-      is_some global
-      || (at_ends c count (has_left frame) (has_right frame) (has_vertical frame)
-      || (list_any (λ r. ends_at_column c count (find nat_cmp r across)) (map (λ e. e.0) across)
-      || (is_some (find nat_cmp c lines)
-      || (list_any (λ p. p.col == c) (map (λ e. e.0) edges) || list_any (λ p. p.col == c) (map (λ e. e.0) corners)))))
+      line_by global (at_ends c count (has_left frame) (has_right frame) (has_vertical frame)) (ends_at_column c count) across lines (λ p. p.col) edges corners c
 
   abbrev pub horizontal_by : List (ℕ × VerticalLine T) → List (ℕ × HorizontalLine T) → List (Position × T) → List (Position × T) → ℕ → ℕ → Bool
   horizontal_by across lines edges corners r count =
-      is_some global
-      || (at_ends r count (has_top frame) (has_bottom frame) (has_horizontal frame)
-      || (list_any (λ c. ends_at_row r count (find nat_cmp c across)) (map (λ e. e.0) across)
-      || (is_some (find nat_cmp r lines)
-      || (list_any (λ p. p.row == r) (map (λ e. e.0) edges) || list_any (λ p. p.row == r) (map (λ e. e.0) corners)))))
-
-vertical-entries : {T : Type 0} (held : HeldBorders T) (c count : ℕ)
-    → vertical_line_at held c count ≡ vertical_by held.global held.frame (entries held.horizontal_lines) (entries held.vertical_lines) (entries held.vertical_edges) (entries held.corners) c count
-vertical-entries held c count = λ i.
-    is_some held.global
-    || (at_ends c count (has_left held.frame) (has_right held.frame) (has_vertical held.frame)
-    || (list_any (λ r. ends_at_column c count (get-entries held.horizontal_lines r i)) (map (λ e. e.0) (entries held.horizontal_lines))
-    || (is_some (get-entries held.vertical_lines c i)
-    || (list_any (λ p. p.col == c) (map (λ e. e.0) (entries held.vertical_edges)) || list_any (λ p. p.col == c) (map (λ e. e.0) (entries held.corners))))))
-
-horizontal-entries : {T : Type 0} (held : HeldBorders T) (r count : ℕ)
-    → horizontal_line_at held r count ≡ horizontal_by held.global held.frame (entries held.vertical_lines) (entries held.horizontal_lines) (entries held.horizontal_edges) (entries held.corners) r count
-horizontal-entries held r count = λ i.
-    is_some held.global
-    || (at_ends r count (has_top held.frame) (has_bottom held.frame) (has_horizontal held.frame)
-    || (list_any (λ c. ends_at_row r count (get-entries held.vertical_lines c i)) (map (λ e. e.0) (entries held.vertical_lines))
-    || (is_some (get-entries held.horizontal_lines r i)
-    || (list_any (λ p. p.row == r) (map (λ e. e.0) (entries held.horizontal_edges)) || list_any (λ p. p.row == r) (map (λ e. e.0) (entries held.corners))))))
+      line_by global (at_ends r count (has_top frame) (has_bottom frame) (has_horizontal frame)) (ends_at_row r count) across lines (λ p. p.row) edges corners r
 
 -- ---- the lines that calls make
 
@@ -134,14 +126,16 @@ module _ {T : Type 0} (calls : List (BorderCall T)) where
 
   made_vertical : (c count : ℕ) → vertical_line_at (borders_made calls) c count ≡ vertical_listed c count
   made_vertical c count =
+      let made = borders_made calls in
       let edges_are = entries-tabulated position_cmp position_total (places_from older).vertical_edge (flat_map named_places older) in
-      vertical-entries (borders_made calls) c count
+      line-entries made.global (at_ends c count (has_left made.frame) (has_right made.frame) (has_vertical made.frame)) (ends_at_column c count) made.horizontal_lines made.vertical_lines (λ p. p.col) made.vertical_edges made.corners c
       ∙ (λ i. vertical_by (places_from older).global (places_from older).frame (rows_are i) (columns_are i) (edges_are i) (corners_are i) c count)
 
   made_horizontal : (r count : ℕ) → horizontal_line_at (borders_made calls) r count ≡ horizontal_listed r count
   made_horizontal r count =
+      let made = borders_made calls in
       let edges_are = entries-tabulated position_cmp position_total (places_from older).horizontal_edge (flat_map named_places older) in
-      horizontal-entries (borders_made calls) r count
+      line-entries made.global (at_ends r count (has_top made.frame) (has_bottom made.frame) (has_horizontal made.frame)) (ends_at_row r count) made.vertical_lines made.horizontal_lines (λ p. p.row) made.horizontal_edges made.corners r
       ∙ (λ i. horizontal_by (places_from older).global (places_from older).frame (columns_are i) (rows_are i) (edges_are i) (corners_are i) r count)
 
 -- ---- spans, by lists

@@ -89,13 +89,17 @@ padding_of spelled = do
 
 -- ---- spans
 
+-- what stands before the first space, and what stands after it
+abbrev pub pair_of : {A B : Type 0} → (List ℕ → Option A) → (List ℕ → Option B) → List ℕ → Option (A × B)
+pair_of first second spelled = do
+  parts ← parted_at space spelled
+  before ← first parts.0
+  after ← second parts.1
+  Some (before, after)
+
 -- a position, and a number of columns or rows after it and a space
 unfoldable pub placed_span : List ℕ → Option (Position × ℕ)
-placed_span spelled = do
-  parts ← parted_at space spelled
-  place ← position_of parts.0
-  count ← number_of parts.1
-  Some (place, count)
+placed_span spelled = pair_of position_of number_of spelled
 
 -- ---- borders and lines
 
@@ -110,11 +114,7 @@ character_of spelled = one_alone (chars spelled)
 
 -- a number, and one character after it and a space
 unfoldable pub placed_character : List ℕ → Option (ℕ × ℕ)
-placed_character spelled = do
-  parts ← parted_at space spelled
-  place ← number_of parts.0
-  c ← character_of parts.1
-  Some (place, c)
+placed_character spelled = pair_of number_of character_of spelled
 
 -- lines of one character, whose crossings and ends are not set
 abbrev pub vertical_main : ℕ → VerticalLine ℕ

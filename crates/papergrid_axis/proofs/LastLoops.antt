@@ -23,35 +23,9 @@ pub record WrittenOver (d : Demand) (old new : List (Option Demand)) (i : ℕ) :
   pub inside : (k : ℕ) → d.start ≤ k → k < i → get_or new k None ≡ Some d
   pub rest : (k : ℕ) → (k < d.start) ⊎ (i ≤ k) → get_or new k None ≡ get_or old k None
 
-pub WrittenOver-none : (d : Demand) (last : List (Option Demand)) → WrittenOver d last last d.start
-WrittenOver-none d last = record { inside = λ k l l'. absurd (omega arith); rest = λ k out. refl }
-
-pub WrittenOver-more : (d : Demand) (old new : List (Option Demand)) (i : ℕ) → d.start ≤ i → i < length new → WrittenOver d old new i → WrittenOver d old (set new i (Some d)) (i + 1)
-WrittenOver-more d old new i from inside h = record {
-  inside = λ k l l'. elim (cases_eq k i) [
-    | inl e ↦ rw e (get_or-set_same new i (Some d) None inside)
-    | inr ne ↦ get_or-set_other new i k (Some d) None ne ∙ h.inside k l (omega arith)
-  ];
-  rest = λ k out.
-      let ne : k ≢ i = elim out [ inl x ↦ omega arith | inr x ↦ omega arith ] in
-      get_or-set_other new i k (Some d) None ne ∙ h.rest k (elim out [ inl x ↦ inl x | inr x ↦ inr (omega arith) ]);
-}
-
-pub WrittenOver-all : (d : Demand) (old new : List (Option Demand)) → WrittenOver d old new (end_of d) → (k : ℕ) → get_or new k None ≡ cond (holds d k) (Some d) (get_or old k None)
-WrittenOver-all d old new h k = elim (holds_cases d k) [
-  | inl x ↦ rw x.0 (h.inside k x.1 x.2)
-  | inr x ↦ rw x.0 (h.rest k x.1)
-]
-
 -- the cells at the numbers of the range below i lie in it
 abbrev pub AreUnder : Demand → List (Option Demand) → ℕ → Type 0
 AreUnder d last i = (k : ℕ) (o : Demand) → d.start ≤ k → k < i → get_or last k None ≡ Some o → LiesIn o d
-
-pub AreUnder-all : (d : Demand) (last : List (Option Demand)) → AreUnder d last (end_of d) → (i : ℕ) (o : Demand) → holds d i ≡ true → get_or last i None ≡ Some o → LiesIn o d
-AreUnder-all d last below i o h e = elim (holds_cases d i) [
-  | inl x ↦ below i o x.1 x.2 e
-  | inr x ↦ absurd (true≢false (sym h ∙ x.0))
-]
 
 -- the table of the cells looked at so far, of which each precedes all later ones
 pub record IsTableOf (n : ℕ) (ds : List Demand) (last : List (Option Demand)) : Type 0 where

@@ -99,28 +99,6 @@ pub record SharesAdded (amount : ℕ) (d : Demand) (old new : List ℕ) (i next_
   pub rest : (k : ℕ) → i ≤ k → get_or new k 0 ≡ get_or old k 0
   pub next : i < end_of d → next_share ≡ share amount d i
 
-pub SharesAdded-none : (amount : ℕ) (d : Demand) (sizes : List ℕ) → 1 ≤ d.span → SharesAdded amount d sizes sizes d.start (amount / d.span + amount % d.span)
-SharesAdded-none amount d sizes one = record {
-  below = λ k l. let z : share amount d k ≡ 0 = share-out amount d k one (inl l) in omega arith;
-  rest = λ k l. refl;
-  next = λ l. sym (share-first amount d d.start refl);
-}
-
-pub SharesAdded-more : (amount : ℕ) (d : Demand) (old new : List ℕ) (i next_share : ℕ) → length new ≡ length old → d.start ≤ i → i < end_of d → i < length new →
-    SharesAdded amount d old new i next_share → SharesAdded amount d old (set new i (get_or new i 0 + next_share)) (i + 1) (amount / d.span)
-SharesAdded-more amount d old new i next_share same from before inside h = record {
-  below = λ k l. elim (cases_eq k i) [
-    | inl e ↦
-        let a : get_or (set new i (get_or new i 0 + next_share)) i 0 ≡ get_or new i 0 + next_share = get_or-set_same new i (get_or new i 0 + next_share) 0 inside in
-        let b : get_or new i 0 ≡ get_or old i 0 = h.rest i (omega arith) in
-        let c : next_share ≡ share amount d i = h.next before in
-        rw e (omega arith)
-    | inr ne ↦ get_or-set_other new i k (get_or new i 0 + next_share) 0 ne ∙ h.below k (omega arith)
-  ];
-  rest = λ k l. let ne : k ≢ i = omega arith in get_or-set_other new i k (get_or new i 0 + next_share) 0 ne ∙ h.rest k (omega arith);
-  next = λ l. sym (share-later amount d (i + 1) (omega arith) l);
-}
-
 pub SharesAdded-all : (amount : ℕ) (d : Demand) (old new : List ℕ) (next_share : ℕ) → 1 ≤ d.span → length new ≡ length old →
     SharesAdded amount d old new (end_of d) next_share → new ≡ with_shares amount d 0 old
 SharesAdded-all amount d old new next_share one same h =

@@ -61,11 +61,3 @@ one_split text = record {
 pub shown_yields : {S A : Type 0} (rest : S → List A) (s t : S) (xs : List (Bor A)) → Yields (YieldsFirstRef rest) s xs t → rest s ≡ map (λ x. x.now) xs ++ rest t
 shown_yields rest s t [] e = ap rest e
 shown_yields rest s t (x ∷ xs) (j, step, others) = step ∙ ap (λ ys. x.now ∷ ys) (shown_yields rest j t xs others)
-
--- there are no more lines than bytes and one
-pub line_fits : (lines : List (Bor (List ℕ))) (line : Bor (List ℕ)) (text : List ℕ) (left : List (List ℕ)) → split_lines text ≡ map (λ x. x.now) lines ++ line.now ∷ left → length lines ≤ length text
-line_fits lines line text left e =
-    let a = ap length e ∙ length-append (map (λ x. x.now) lines) (line.now ∷ left) in
-    let b = length-map lines (λ (x : Bor (List ℕ)). x.now) in
-    let d = length-slice_split (λ b. b == 10) text in
-    let f = count_by-le-length (λ b. b == 10) text in omega arith

@@ -23,9 +23,6 @@ encodes-spaces (suc n) = rw (encode_ascii 32 (lit< tt), encodes-spaces n) refl
 pub spaces_if : (n left c : ℕ) (old new : List ℕ) → is_spaced n left c ≡ true → new ≡ old ++ replicate n 32 → new ≡ old ++ encode_utf8_all (in_place_of n (left, c))
 spaces_if n left c old new passes e = rw (passes, encodes-spaces n) e
 
-pub char_if : (n left c : ℕ) (old new : List ℕ) → is_spaced n left c ≡ false → new ≡ old ++ encode_utf8 c → new ≡ old ++ encode_utf8_all (in_place_of n (left, c))
-char_if n left c old new fails e = rw (fails, append-nil (encode_utf8 c)) e
-
 -- ---- one more character
 
 -- the last of the characters, or `left` where there is none

@@ -1,77 +1,54 @@
-//! Readers and writers that fail, that stall, and that move one byte at a time.
+//! Readers and writers that fail, that stall, and that move few bytes at a time.
 
 use crate::{Failed, ReadSource, RunEnd, RunFault, Sink, Source, WriteSink, run};
+use std::alloc::Global;
 use std::io;
 use std::io::{ErrorKind, Read, Write};
+use std::process::Abort;
 use std::test::Fail;
 
-const SCRIPT: &[u8] = b"columns 2\nrow\ncell ab\ncell c\n";
+/// Worked scripts, and what is written for them.
+const WORKED: [(&[u8], &[u8]); 3] = [
+    (
+        b"columns 2\npad * 1 1 0 0\npad 0,1 0 3 1 0\nrow\ncell ab\ncell c\\nde\nrow\ncell\ncell xyz\n",
+        b"widths 4 5\nheights 3 1\ntotal 9 4\nwitness widths 0,0 0,1\nwitness heights 0,1 1,0\n",
+    ),
+    (
+        b"columns 4\nborder +\ncolspan 1,1 3\nrowspan 0,0 2\npad 0,0 4 4 1 1\nrow\ncell Papergrid\ncell is a library\ncell for print tables\ncell !\nrow\ncell\ncell Just like this\ncell\ncell\n",
+        b"widths 17 12 16 1\nheights 1 1\ntotal 51 5\nwitness widths 0,0 0,1 0,2 0,3\nwitness heights 0,1 1,1\n",
+    ),
+    (
+        b"columns 3\ncolspan 1,0 3\ncolspan 2,1 2\nrow\ncell a\ncell a\ncell a\nrow\ncell 0123456789\nrow\ncell a\ncell 01234567\n",
+        b"widths 2 4 4\nheights 1 1 1\ntotal 10 3\nwitness widths 1,0\nwitness heights 0,0 1,0 2,0\n",
+    ),
+];
 
-const OUTPUT: &[u8] =
-    b"widths 2 1\nheights 1\ntotal 3 1\nwitness widths 0,0 0,1\nwitness heights 0,0\n";
-
-/// Gives one byte at a time, and fails once it was called so many times.
-#[derive(Drop)]
-struct Tired<'a> {
-    bytes: &'a [u8],
-    calls: usize,
+/// At which of the calls, counted from 0, something is wrong.
+#[derive(Clone, Copy)]
+struct Faults {
+    first: usize,
+    /// Whether all later calls are wrong too.
+    for_good: bool,
 }
 
-impl Read for Tired<'_> {
-    fn read(&mut self, buffer: &mut [u8]) -> io::Result<usize> {
-        if self.calls == 0 {
-            return Err(io::Error::from(io::ErrorKind::Other));
-        }
-        self.calls -= 1;
-        match self.bytes.split_first() {
-            Some((byte, others)) if !buffer.is_empty() => {
-                buffer[0] = *byte;
-                self.bytes = others;
-                Ok(1)
-            }
-            _ => Ok(0),
-        }
+/// No call.
+const NO_FAULT: Faults = Faults {
+    first: usize::MAX,
+    for_good: false,
+};
+
+impl Faults {
+    fn hold(self, call: usize) -> bool {
+        call == self.first || self.for_good && self.first < call
     }
 }
 
-/// Takes one byte at a time while there is room, and then fails, or takes nothing.
-#[derive(Drop)]
-struct Narrow {
-    written: Vec<u8>,
-    room: usize,
-    fails: bool,
-}
-
-impl Write for Narrow {
-    fn write(&mut self, piece: &[u8]) -> io::Result<usize> {
-        if self.room == 0 {
-            return if self.fails {
-                Err(io::Error::from(io::ErrorKind::Other))
-            } else {
-                Ok(0)
-            };
-        }
-        match piece.first() {
-            Some(byte) => {
-                self.written.push(*byte)?;
-                self.room -= 1;
-                Ok(1)
-            }
-            None => Ok(0),
-        }
-    }
-
-    fn flush(&mut self) -> io::Result<()> {
-        Ok(())
-    }
-}
-
-/// Gives one byte at a time. It fails at one call, and at no other.
+/// Gives one byte at a time, and fails at some calls.
 #[derive(Drop)]
 struct FaultyRead<'a> {
     bytes: &'a [u8],
     kind: ErrorKind,
-    fails_at: usize,
+    faults: Faults,
     calls: usize,
 }
 
@@ -79,7 +56,7 @@ impl Read for FaultyRead<'_> {
     fn read(&mut self, buffer: &mut [u8]) -> io::Result<usize> {
         let call = self.calls;
         self.calls = call.saturating_add(1);
-        if call == self.fails_at {
+        if self.faults.hold(call) {
             return Err(io::Error::from(self.kind));
         }
         match self.bytes.split_first() {
@@ -93,12 +70,13 @@ impl Read for FaultyRead<'_> {
     }
 }
 
-/// Takes one byte at a time. At one call, and at no other, it fails, or without a kind takes nothing.
+/// Takes a few bytes at a time. At some calls it fails, or without a kind takes nothing.
 #[derive(Drop)]
 struct FaultyWrite {
     written: Vec<u8>,
+    most: usize,
     kind: Option<ErrorKind>,
-    fails_at: usize,
+    faults: Faults,
     calls: usize,
 }
 
@@ -106,19 +84,15 @@ impl Write for FaultyWrite {
     fn write(&mut self, piece: &[u8]) -> io::Result<usize> {
         let call = self.calls;
         self.calls = call.saturating_add(1);
-        if call == self.fails_at {
+        if self.faults.hold(call) {
             return match self.kind {
                 Some(kind) => Err(io::Error::from(kind)),
                 None => Ok(0),
             };
         }
-        match piece.first() {
-            Some(byte) => {
-                self.written.push(*byte)?;
-                Ok(1)
-            }
-            None => Ok(0),
-        }
+        let count = self.most.min(piece.len());
+        self.written.extend_from_slice(&piece[..count])?;
+        Ok(count)
     }
 
     fn flush(&mut self) -> io::Result<()> {
@@ -126,117 +100,126 @@ impl Write for FaultyWrite {
     }
 }
 
-/// A read that fails at any call is told, and nothing is written.
-#[test]
-fn failing_reads(rt: HostRuntime) -> Result<(), Fail> {
-    let alloc = rt.alloc();
-    for calls in 0..SCRIPT.len() + 1 {
-        let mut written: Vec<u8> = Vec::new(alloc);
-        let mut reader = ReadSource::new(Tired {
-            bytes: SCRIPT,
-            calls,
-        });
-        let mut writer = WriteSink::new(&mut written);
-        let end = run(alloc, &mut reader, &mut writer);
-        assert_eq!(rt; end, Err(RunFault::Read), "after {calls} calls");
-        assert!(rt; written.is_empty());
+/// Checks that a read that fails is told and is the last one, and that nothing is written.
+fn check_failing_read(
+    rt: &impl Abort,
+    alloc: Global,
+    script: &[u8],
+    kind: ErrorKind,
+    faults: Faults,
+) {
+    let mut written: Vec<u8> = Vec::new(alloc);
+    let mut faulty = FaultyRead {
+        bytes: script,
+        kind,
+        faults,
+        calls: 0,
+    };
+    let mut reader = ReadSource::new(&mut faulty);
+    let mut writer = WriteSink::new(&mut written);
+    let end = run(alloc, &mut reader, &mut writer);
+    assert_eq!(rt; end, Err(RunFault::Read));
+    assert_eq!(rt; faulty.calls.checked_sub(1), Some(faults.first));
+    assert!(rt; written.is_empty());
+}
+
+/// Checks that a write that goes wrong is told and is the last one, and that a beginning of the output was
+/// written, or that all of it was before.
+fn check_faulty_write(
+    rt: &impl Abort,
+    alloc: Global,
+    script: &[u8],
+    output: &[u8],
+    most: usize,
+    kind: Option<ErrorKind>,
+    faults: Faults,
+) {
+    let mut faulty = FaultyWrite {
+        written: Vec::new(alloc),
+        most,
+        kind,
+        faults,
+        calls: 0,
+    };
+    let mut reader = ReadSource::new(script);
+    let mut writer = WriteSink::new(&mut faulty);
+    let end = run(alloc, &mut reader, &mut writer);
+    let taken = faults.first.saturating_mul(most);
+    if taken < output.len() {
+        assert_eq!(rt; end, Err(RunFault::Write));
+        assert_eq!(rt; faulty.calls.checked_sub(1), Some(faults.first));
+        assert_eq!(rt; faulty.written.len(), taken);
+        assert!(rt; output.starts_with(faulty.written.as_slice()));
+    } else {
+        assert_eq!(rt; end, Ok(RunEnd::Done));
+        assert_eq!(rt; faulty.written.as_slice(), output);
     }
-    Ok(())
+}
+
+/// A read that fails at any call is told, whether it fails again or not, and an interrupted one too.
+#[test]
+fn failing_reads(rt: HostRuntime) {
+    let alloc = rt.alloc();
+    for (script, _) in WORKED {
+        for first in 0..script.len() + 1 {
+            for for_good in [false, true] {
+                let faults = Faults { first, for_good };
+                check_failing_read(&rt, alloc, script, ErrorKind::Other, faults);
+                check_failing_read(&rt, alloc, script, ErrorKind::Interrupted, faults);
+            }
+        }
+    }
+}
+
+/// A write that fails, or takes nothing, after any number of bytes is told, whether the next one would work or not.
+#[test]
+fn faulty_writes(rt: HostRuntime) {
+    let alloc = rt.alloc();
+    for (script, output) in WORKED {
+        for first in 0..output.len() {
+            for kind in [Some(ErrorKind::Other), Some(ErrorKind::Interrupted), None] {
+                for for_good in [false, true] {
+                    let faults = Faults { first, for_good };
+                    check_faulty_write(&rt, alloc, script, output, 1, kind, faults);
+                    check_faulty_write(&rt, alloc, script, output, 7, kind, faults);
+                }
+            }
+        }
+    }
 }
 
 /// One byte at a time on both ends makes no difference.
 #[test]
-fn slow_ends(rt: HostRuntime) -> Result<(), Fail> {
+fn slow_ends(rt: HostRuntime) {
     let alloc = rt.alloc();
-    let mut reader = ReadSource::new(Tired {
-        bytes: SCRIPT,
-        calls: SCRIPT.len() + 1,
-    });
-    let mut narrow = Narrow {
-        written: Vec::new(alloc),
-        room: OUTPUT.len(),
-        fails: true,
-    };
-    let mut writer = WriteSink::new(&mut narrow);
-    assert_eq!(rt; run(alloc, &mut reader, &mut writer), Ok(RunEnd::Done));
-    assert_eq!(rt; narrow.written.as_slice(), OUTPUT);
-    Ok(())
-}
-
-/// A write that fails, or takes nothing, after any number of bytes is told, and what was taken is a
-/// beginning of the output.
-#[test]
-fn failing_writes(rt: HostRuntime) -> Result<(), Fail> {
-    let alloc = rt.alloc();
-    for fails in [true, false] {
-        for room in 0..OUTPUT.len() {
-            let mut narrow = Narrow {
-                written: Vec::new(alloc),
-                room,
-                fails,
-            };
-            let mut reader = ReadSource::new(SCRIPT);
-            let mut writer = WriteSink::new(&mut narrow);
-            let end = run(alloc, &mut reader, &mut writer);
-            assert_eq!(rt; end, Err(RunFault::Write), "after {room} bytes");
-            assert_eq!(rt; narrow.written.as_slice(), &OUTPUT[..room]);
-        }
+    for (script, output) in WORKED {
+        let mut reader = ReadSource::new(FaultyRead {
+            bytes: script,
+            kind: ErrorKind::Other,
+            faults: NO_FAULT,
+            calls: 0,
+        });
+        let mut slow = FaultyWrite {
+            written: Vec::new(alloc),
+            most: 1,
+            kind: None,
+            faults: NO_FAULT,
+            calls: 0,
+        };
+        let mut writer = WriteSink::new(&mut slow);
+        assert_eq!(rt; run(alloc, &mut reader, &mut writer), Ok(RunEnd::Done));
+        assert_eq!(rt; slow.written.as_slice(), output);
     }
-    Ok(())
-}
-
-/// One failed read is the end, an interrupted one too: it is not tried again, though the next one would work.
-#[test]
-fn one_failed_read(rt: HostRuntime) -> Result<(), Fail> {
-    let alloc = rt.alloc();
-    for kind in [ErrorKind::Other, ErrorKind::Interrupted] {
-        for fails_at in 0..SCRIPT.len() + 1 {
-            let mut written: Vec<u8> = Vec::new(alloc);
-            let mut faulty = FaultyRead {
-                bytes: SCRIPT,
-                kind,
-                fails_at,
-                calls: 0,
-            };
-            let mut reader = ReadSource::new(&mut faulty);
-            let mut writer = WriteSink::new(&mut written);
-            let end = run(alloc, &mut reader, &mut writer);
-            assert_eq!(rt; end, Err(RunFault::Read), "at call {fails_at}");
-            assert_eq!(rt; faulty.calls, fails_at + 1);
-            assert!(rt; written.is_empty());
-        }
-    }
-    Ok(())
-}
-
-/// One failed write is the end, and so is one that takes nothing: it is not tried again, though the next one would
-/// work.
-#[test]
-fn one_failed_write(rt: HostRuntime) -> Result<(), Fail> {
-    let alloc = rt.alloc();
-    for kind in [Some(ErrorKind::Other), Some(ErrorKind::Interrupted), None] {
-        for fails_at in 0..OUTPUT.len() {
-            let mut faulty = FaultyWrite {
-                written: Vec::new(alloc),
-                kind,
-                fails_at,
-                calls: 0,
-            };
-            let mut reader = ReadSource::new(SCRIPT);
-            let mut writer = WriteSink::new(&mut faulty);
-            let end = run(alloc, &mut reader, &mut writer);
-            assert_eq!(rt; end, Err(RunFault::Write), "at call {fails_at}");
-            assert_eq!(rt; faulty.calls, fails_at + 1);
-            assert_eq!(rt; faulty.written.as_slice(), &OUTPUT[..fails_at]);
-        }
-    }
-    Ok(())
 }
 
 /// Each error of a reader or a writer of std is a failure at once, and the call after it works.
 #[test]
 fn errors_of_std(rt: HostRuntime) -> Result<(), Fail> {
     let alloc = rt.alloc();
+    let at_first = Faults {
+        first: 0,
+        for_good: false,
+    };
     for kind in [
         ErrorKind::Interrupted,
         ErrorKind::WouldBlock,
@@ -247,7 +230,7 @@ fn errors_of_std(rt: HostRuntime) -> Result<(), Fail> {
         let mut source = ReadSource::new(FaultyRead {
             bytes: b"a",
             kind,
-            fails_at: 0,
+            faults: at_first,
             calls: 0,
         });
         let mut buffer = [0u8; 2];
@@ -256,8 +239,9 @@ fn errors_of_std(rt: HostRuntime) -> Result<(), Fail> {
         assert_eq!(rt; buffer[0], b'a');
         let mut faulty = FaultyWrite {
             written: Vec::new(alloc),
+            most: 1,
             kind: Some(kind),
-            fails_at: 0,
+            faults: at_first,
             calls: 0,
         };
         let mut sink = WriteSink::new(&mut faulty);

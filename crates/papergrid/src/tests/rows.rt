@@ -303,89 +303,41 @@ fn bad_scripts(rt: HostRuntime) -> Result<(), Fail> {
 /// A line of each fault is named by its number, and a later fault is not looked at.
 #[test]
 fn first_bad_line(rt: HostRuntime) -> Result<(), Fail> {
-    let second: [&[u8]; 10] = [
-        b"\xff",
-        b"columns 18446744073709551616",
-        b"columns +1",
-        b"columns ",
-        b"columns 1 ",
-        b" columns 1",
-        b"column 1",
-        b"pad * 1 2 3",
-        b"pad x1 1 2 3 4",
-        b"cell a",
-    ];
-    for line in second {
-        check_bad_second(&rt, rt.alloc(), line)?;
-    }
-    Ok(())
+    check_bad_seconds(
+        &rt,
+        rt.alloc(),
+        b"\xff\ncolumns 18446744073709551616\ncolumns +1\ncolumns \ncolumns 1 \n columns 1\ncolumn 1\npad * 1 2 3\npad x1 1 2 3 4\ncell a",
+    )
 }
 
 /// A border or a line is of exactly one character, and stands at a number.
 #[test]
 fn bad_line_characters(rt: HostRuntime) -> Result<(), Fail> {
-    let second: [&[u8]; 16] = [
-        b"border",
-        b"border ",
-        b"border \r",
-        b"border xy",
-        b"border  |",
-        b"border |\xcc\x81",
-        b"border \xcc",
-        b"borders |",
-        b"vline 1",
-        b"vline 1 ",
-        b"vline x |",
-        b"vline  1 |",
-        b"vline 1  |",
-        b"vline 18446744073709551616 |",
-        b"hline 1",
-        b"hline -1 -",
-    ];
-    for line in second {
-        check_bad_second(&rt, rt.alloc(), line)?;
-    }
-    Ok(())
+    check_bad_seconds(
+        &rt,
+        rt.alloc(),
+        b"border\nborder \nborder \r\nborder xy\nborder  |\nborder |\xcc\x81\nborder \xcc\nborders |\nvline 1\nvline 1 \nvline x |\nvline  1 |\nvline 1  |\nvline 18446744073709551616 |\nhline 1\nhline -1 -",
+    )
 }
 
 /// A span is of one cell, and of one number of columns or rows.
 #[test]
 fn bad_spans(rt: HostRuntime) -> Result<(), Fail> {
-    let second: [&[u8]; 10] = [
-        b"colspan",
-        b"colspan 0,0",
-        b"colspan 0,0 ",
-        b"colspan 0,0 2 ",
-        b"colspan 0 2",
-        b"colspan c0 2",
-        b"colspan 0, 0 2",
-        b"rowspan * 2",
-        b"rowspan 0,0 -1",
-        b"rowspan 0,0 18446744073709551616",
-    ];
-    for line in second {
-        check_bad_second(&rt, rt.alloc(), line)?;
-    }
-    Ok(())
+    check_bad_seconds(
+        &rt,
+        rt.alloc(),
+        b"colspan\ncolspan 0,0\ncolspan 0,0 \ncolspan 0,0 2 \ncolspan 0 2\ncolspan c0 2\ncolspan 0, 0 2\nrowspan * 2\nrowspan 0,0 -1\nrowspan 0,0 18446744073709551616",
+    )
 }
 
 /// A removed line has a number and nothing else.
 #[test]
 fn bad_removals(rt: HostRuntime) -> Result<(), Fail> {
-    let second: [&[u8]; 8] = [
-        b"novline",
-        b"novline ",
-        b"novline 1 ",
-        b"novline 1 |",
-        b"novline c1",
-        b"nohline",
-        b"nohline 1 2",
-        b"nohline 18446744073709551616",
-    ];
-    for line in second {
-        check_bad_second(&rt, rt.alloc(), line)?;
-    }
-    Ok(())
+    check_bad_seconds(
+        &rt,
+        rt.alloc(),
+        b"novline\nnovline \nnovline 1 \nnovline 1 |\nnovline c1\nnohline\nnohline 1 2\nnohline 18446744073709551616",
+    )
 }
 
 /// Lines that are good, a space, a tab and a character of several bytes among theirs: only the line
@@ -401,16 +353,19 @@ fn good_lines(rt: HostRuntime) -> Result<(), Fail> {
     )
 }
 
-/// Checks that the line is bad where it is the second one.
-fn check_bad_second(rt: &impl Abort, alloc: Global, line: &[u8]) -> Result<(), Fail> {
-    let script = [b"columns 1\n", line, b"\n\xff\n"].concat(alloc)?;
-    check(
-        rt,
-        alloc,
-        script.as_slice(),
-        "bad script at line 2\n",
-        RunEnd::BadScript,
-    )
+/// Checks that each of the lines is bad where it is the second one.
+fn check_bad_seconds(rt: &impl Abort, alloc: Global, lines: &[u8]) -> Result<(), Fail> {
+    for line in lines.split(|byte| *byte == b'\n') {
+        let script = [b"columns 1\n", line, b"\n\xff\n"].concat(alloc)?;
+        check(
+            rt,
+            alloc,
+            script.as_slice(),
+            "bad script at line 2\n",
+            RunEnd::BadScript,
+        )?;
+    }
+    Ok(())
 }
 
 /// CR LF, leading zeros, a last line without a newline, and a tab and a CR in a text.
