@@ -23,7 +23,7 @@ table_seen script = record { columns = script.columns; settings = script.setting
 abbrev pub Takes : Table → Option Said → Bool → Table → Type 0
 Takes old says fits new = MatchBool fits (option_and_then (with_line old) says ≡ Some new) (option_and_then (with_line old) says ≡ None)
 
--- the table that a script tells, or a bad line; want of memory says nothing
+-- the table that a script tells, or a bad line; refused memory says nothing
 abbrev pub GivesTable : Result Script ScriptError → Result Table ℕ → Type 0
 GivesTable (Ok script) told = told ≡ Ok (table_seen script)
 GivesTable (Err (script_errors.Bad number)) told = told ≡ Err number
@@ -37,7 +37,7 @@ sizes_seen sizes =
     Sized sizes.widths.items sizes.heights.items sizes.total_width sizes.total_height
     (places_seen sizes.width_witness) (places_seen sizes.height_witness)
 
--- what is estimated is so; want of memory says nothing
+-- what is estimated is so; refused memory says nothing
 abbrev pub GivesEstimate : Result Sizes LayoutError → (Estimate → Type 0) → Type 0
 GivesEstimate (Ok sizes) IsSo = IsSo (sizes_seen sizes)
 GivesEstimate (Err (layout_errors.OutOfTable place)) IsSo = IsSo (OutOfTable place)
