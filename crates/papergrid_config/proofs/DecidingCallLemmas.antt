@@ -5,18 +5,20 @@ use Rattle.std.proofs.lemmas.List.{reverse-append, take_more, take_all}
 use Rattle.std.proofs.lemmas.Option.{same_Some, none-some, slice_get_cases, slice_get_within, get_or_from_slice_get}
 use borrow.Author.Tests.{eqb-true, eq-eqb}
 use Rattle.papergrid_values.specs.declared.position.Position.{Position}
+use Rattle.papergrid_values.specs.declared.entity.Entity.{Entity}
 use Rattle.papergrid_values.specs.declared.entity.Entity.TheVariants.{Global, Column, Row, Cell}
 use Rattle.papergrid_maps.specs.declared.entity_map.MapCall.{MapCall}
 use Rattle.papergrid_maps.specs.declared.entity_map.MapCall.TheVariants.{Insert, Remove}
-use Rattle.papergrid_maps.specs.MapCalls.{column_value, row_value, global_value, pinned_value, decided_value}
-use Rattle.papergrid_config.specs.DecidingCall.{concerns_column, concerns_row, sets_all, ends_pins, IsLast, ColumnStands, RowStands, IsPin, PinStands, TableStands, NoTable, NoPin, NoColumn, NoRow, IsDecided, ByPin, ByColumn, ByRow, ByTable, ByDefault}
+use Rattle.papergrid_maps.specs.Keys.{entity_eq}
+use Rattle.papergrid_maps.specs.MapCalls.{decided_value, global_value, pinned_value, standing_value}
+use Rattle.papergrid_config.specs.DecidingCall.{concerns, sets_all, ends_pins, IsLast, EntityStands, IsPin, PinStands, TableStands, NoTable, NoPin, NoEntity, IsDecided, ByPin, ByColumn, ByRow, ByTable, ByDefault}
 
 -- the value that these calls decide, newest first
 abbrev decided_by : {T : Type 0} → T → List (MapCall T) → Position → T
 decided_by given newest p =
     unwrap_or (pinned_value p.row p.col newest)
-    (unwrap_or (column_value p.col newest)
-    (unwrap_or (row_value p.row newest) (global_value given newest)))
+    (unwrap_or (standing_value (Column p.col) newest)
+    (unwrap_or (standing_value (Row p.row) newest) (global_value given newest)))
 
 chosen : {A : Type 0} (b : Bool) (x y z : A) → cond b x y ≡ z → ((b ≡ true) × (x ≡ z)) ⊎ ((b ≡ false) × (y ≡ z))
 chosen true x y z h = inl (refl, h)
@@ -28,47 +30,41 @@ earlier j n h = grind arith
 -- ---- the values found, by the calls found
 
 module _ {T : Type 0} where
-  abbrev column_set : Option (MapCall T) → Option T
-  column_set (Some (Insert (Column k) v)) = Some v
-  column_set found = None
-
-  abbrev row_set : Option (MapCall T) → Option T
-  row_set (Some (Insert (Row k) v)) = Some v
-  row_set found = None
+  abbrev entity_set : Option (MapCall T) → Option T
+  entity_set (Some (Insert Global v)) = None
+  entity_set (Some (Insert entity v)) = Some v
+  entity_set found = None
 
   abbrev table_set : T → Option (MapCall T) → T
   table_set given (Some (Insert Global v)) = v
   table_set given found = given
 
-  set_column : (b : Bool) (k : ℕ) (v : T) (o : Option (MapCall T)) → cond b (Some v) (column_set o) ≡ column_set (cond b (Some (Insert (Column k) v)) o)
-  set_column true k v o = refl
-  set_column false k v o = refl
+  set_entity : (b : Bool) (call : MapCall T) (o : Option (MapCall T)) → cond b (entity_set (Some call)) (entity_set o) ≡ entity_set (cond b (Some call) o)
+  set_entity true call o = refl
+  set_entity false call o = refl
 
-  set_row : (b : Bool) (k : ℕ) (v : T) (o : Option (MapCall T)) → cond b (Some v) (row_set o) ≡ row_set (cond b (Some (Insert (Row k) v)) o)
-  set_row true k v o = refl
-  set_row false k v o = refl
+  entity_found : (e : Entity) (newest : List (MapCall T)) → standing_value e newest ≡ entity_set (find (concerns e) newest)
+  entity_found e [] = refl
+  entity_found e (Insert Global v ∷ older) = refl
+  entity_found e (Remove Global ∷ older) = refl
+  entity_found e (Insert (Column k) v ∷ older) = ap (cond (entity_eq (Column k) e) (Some v)) (entity_found e older) ∙ set_entity (entity_eq (Column k) e) (Insert (Column k) v) (find (concerns e) older)
+  entity_found e (Insert (Row k) v ∷ older) = ap (cond (entity_eq (Row k) e) (Some v)) (entity_found e older) ∙ set_entity (entity_eq (Row k) e) (Insert (Row k) v) (find (concerns e) older)
+  entity_found e (Insert (Cell i j) v ∷ older) = ap (cond (entity_eq (Cell i j) e) (Some v)) (entity_found e older) ∙ set_entity (entity_eq (Cell i j) e) (Insert (Cell i j) v) (find (concerns e) older)
+  entity_found e (Remove (Column k) ∷ older) = entity_found e older
+  entity_found e (Remove (Row k) ∷ older) = entity_found e older
+  entity_found e (Remove (Cell i j) ∷ older) = entity_found e older
 
-  column_found : (c : ℕ) (newest : List (MapCall T)) → column_value c newest ≡ column_set (find (concerns_column c) newest)
-  column_found c [] = refl
-  column_found c (Insert Global v ∷ older) = refl
-  column_found c (Remove Global ∷ older) = refl
-  column_found c (Insert (Column k) v ∷ older) = ap (λ o. cond (nat_eq k c) (Some v) o) (column_found c older) ∙ set_column (nat_eq k c) k v (find (concerns_column c) older)
-  column_found c (Insert (Row k) v ∷ older) = column_found c older
-  column_found c (Insert (Cell i j) v ∷ older) = column_found c older
-  column_found c (Remove (Column k) ∷ older) = column_found c older
-  column_found c (Remove (Row k) ∷ older) = column_found c older
-  column_found c (Remove (Cell i j) ∷ older) = column_found c older
+  set_itself : (e : Entity) (v : T) → entity_eq Global e ≡ false → entity_set (Some (Insert e v)) ≡ Some v
+  set_itself Global v not_all = cc
+  set_itself (Column c) v not_all = refl
+  set_itself (Row r) v not_all = refl
+  set_itself (Cell r c) v not_all = refl
 
-  row_found : (r : ℕ) (newest : List (MapCall T)) → row_value r newest ≡ row_set (find (concerns_row r) newest)
-  row_found r [] = refl
-  row_found r (Insert Global v ∷ older) = refl
-  row_found r (Remove Global ∷ older) = refl
-  row_found r (Insert (Row k) v ∷ older) = ap (λ o. cond (nat_eq k r) (Some v) o) (row_found r older) ∙ set_row (nat_eq k r) k v (find (concerns_row r) older)
-  row_found r (Insert (Column k) v ∷ older) = row_found r older
-  row_found r (Insert (Cell i j) v ∷ older) = row_found r older
-  row_found r (Remove (Column k) ∷ older) = row_found r older
-  row_found r (Remove (Row k) ∷ older) = row_found r older
-  row_found r (Remove (Cell i j) ∷ older) = row_found r older
+  concerns_itself : (e : Entity) (v : T) → concerns e (Insert e v) ≡ true
+  concerns_itself Global v = refl
+  concerns_itself (Column c) v = eq-eqb c c refl
+  concerns_itself (Row r) v = eq-eqb r r refl
+  concerns_itself (Cell r c) v = rw (eq-eqb r r refl, eq-eqb c c refl) refl
 
   table_found : (given : T) (newest : List (MapCall T)) → global_value given newest ≡ table_set given (find sets_all newest)
   table_found given [] = refl
@@ -84,8 +80,8 @@ module _ {T : Type 0} where
   -- the value to which a call pins a cell, after these older calls
   abbrev pin_of : ℕ → ℕ → List (MapCall T) → MapCall T → Option T
   pin_of r c older (Insert (Cell i j) v) = cond (nat_eq i r && nat_eq j c) (Some v) None
-  pin_of r c older (Insert (Row i) v) = cond (nat_eq i r && is_some (column_value c older)) (Some v) None
-  pin_of r c older (Insert (Column j) v) = cond (nat_eq j c && is_some (row_value r older)) (Some v) None
+  pin_of r c older (Insert (Row i) v) = cond (nat_eq i r && is_some (standing_value (Column c) older)) (Some v) None
+  pin_of r c older (Insert (Column j) v) = cond (nat_eq j c && is_some (standing_value (Row r) older)) (Some v) None
   pin_of r c older call = None
 
   abbrev or_older : Option T → Option T → Option T
@@ -101,8 +97,8 @@ module _ {T : Type 0} where
   pinned_step r c (Insert Global v) older = refl
   pinned_step r c (Remove Global) older = refl
   pinned_step r c (Insert (Cell i j) v) older = pick (nat_eq i r && nat_eq j c) v (pinned_value r c older)
-  pinned_step r c (Insert (Row i) v) older = pick (nat_eq i r && is_some (column_value c older)) v (pinned_value r c older)
-  pinned_step r c (Insert (Column j) v) older = pick (nat_eq j c && is_some (row_value r older)) v (pinned_value r c older)
+  pinned_step r c (Insert (Row i) v) older = pick (nat_eq i r && is_some (standing_value (Column c) older)) v (pinned_value r c older)
+  pinned_step r c (Insert (Column j) v) older = pick (nat_eq j c && is_some (standing_value (Row r) older)) v (pinned_value r c older)
   pinned_step r c (Remove (Cell i j)) older = refl
   pinned_step r c (Remove (Row i)) older = refl
   pinned_step r c (Remove (Column j)) older = refl
@@ -121,6 +117,13 @@ module _ {T : Type 0} where
 and_true : (a b : Bool) → a && b ≡ true → (a ≡ true) × (b ≡ true)
 and_true true b h = (refl, h)
 and_true false b h = cc
+
+same_entity : (d e : Entity) → entity_eq d e ≡ true → d ≡ e
+same_entity Global Global h = refl
+same_entity (Column i) (Column j) h = ap (λ k. Column k) (eqb-true i j h)
+same_entity (Row i) (Row j) h = ap (λ k. Row k) (eqb-true i j h)
+same_entity (Cell i j) (Cell k l) h = let both = and_true (nat_eq i k) (nat_eq j l) h in λ t. Cell (eqb-true i k both.0 t) (eqb-true j l both.1 t)
+same_entity d e h = cc
 
 -- ---- places in the list
 
@@ -183,39 +186,23 @@ module _ {T : Type 0} (calls : List (MapCall T)) where
 
   -- ---- values that stand
 
-  column_stands : (c n : ℕ) (v : T) → n ≤ length calls → column_value c (newest n) ≡ Some v → ColumnStands calls c n v
-  column_stands c n v within h = of_found (find (concerns_column c) (newest n)) refl (sym (column_found c (newest n)) ∙ h)
+  entity_stands : (e : Entity) (n : ℕ) (v : T) → n ≤ length calls → standing_value e (newest n) ≡ Some v → EntityStands calls e n v
+  entity_stands e n v within h = of_found (find (concerns e) (newest n)) refl (sym (entity_found e (newest n)) ∙ h)
     where
-      of_found : (o : Option (MapCall T)) → find (concerns_column c) (newest n) ≡ o → column_set o ≡ Some v → ColumnStands calls c n v
-      of_found None e set = cc
-      of_found (Some (Insert (Column k) w)) e set =
-          let last = find_last (concerns_column c) n (Insert (Column k) w) within e in
-          let same_column : k ≡ c = eqb-true k c last.2 in
-          (last.0, subst (λ call. IsLast calls (concerns_column c) n last.0 call) (rw (same_column, same_Some w v set) refl) last.1)
-      of_found (Some (Insert Global w)) e set = cc
-      of_found (Some (Insert (Row k) w)) e set = cc
-      of_found (Some (Insert (Cell k j) w)) e set = cc
-      of_found (Some (Remove entity)) e set = cc
+      placed : (d : Entity) (w : T) (i : ℕ) → IsLast calls (concerns e) n i (Insert d w) → entity_eq d e ≡ true → w ≡ v → EntityStands calls e n v
+      placed d w i last same value = (i, subst (λ call. IsLast calls (concerns e) n i call) (λ t. Insert (same_entity d e same t) (value t)) last)
 
-  column_is : (c n : ℕ) (v : T) → n ≤ length calls → ColumnStands calls c n v → column_value c (newest n) ≡ Some v
-  column_is c n v within h = column_found c (newest n) ∙ ap column_set (last_find (concerns_column c) n h.0 (Insert (Column c) v) within h.1 (eq-eqb c c refl))
+      of_found : (o : Option (MapCall T)) → find (concerns e) (newest n) ≡ o → entity_set o ≡ Some v → EntityStands calls e n v
+      of_found None is set = cc
+      of_found (Some (Insert Global w)) is set = cc
+      of_found (Some (Insert (Column k) w)) is set = let last = find_last (concerns e) n _ within is in placed (Column k) w last.0 last.1 last.2 (same_Some w v set)
+      of_found (Some (Insert (Row k) w)) is set = let last = find_last (concerns e) n _ within is in placed (Row k) w last.0 last.1 last.2 (same_Some w v set)
+      of_found (Some (Insert (Cell i j) w)) is set = let last = find_last (concerns e) n _ within is in placed (Cell i j) w last.0 last.1 last.2 (same_Some w v set)
+      of_found (Some (Remove entity)) is set = cc
 
-  row_stands : (r n : ℕ) (v : T) → n ≤ length calls → row_value r (newest n) ≡ Some v → RowStands calls r n v
-  row_stands r n v within h = of_found (find (concerns_row r) (newest n)) refl (sym (row_found r (newest n)) ∙ h)
-    where
-      of_found : (o : Option (MapCall T)) → find (concerns_row r) (newest n) ≡ o → row_set o ≡ Some v → RowStands calls r n v
-      of_found None e set = cc
-      of_found (Some (Insert (Row k) w)) e set =
-          let last = find_last (concerns_row r) n (Insert (Row k) w) within e in
-          let same_row : k ≡ r = eqb-true k r last.2 in
-          (last.0, subst (λ call. IsLast calls (concerns_row r) n last.0 call) (rw (same_row, same_Some w v set) refl) last.1)
-      of_found (Some (Insert Global w)) e set = cc
-      of_found (Some (Insert (Column k) w)) e set = cc
-      of_found (Some (Insert (Cell k j) w)) e set = cc
-      of_found (Some (Remove entity)) e set = cc
-
-  row_is : (r n : ℕ) (v : T) → n ≤ length calls → RowStands calls r n v → row_value r (newest n) ≡ Some v
-  row_is r n v within h = row_found r (newest n) ∙ ap row_set (last_find (concerns_row r) n h.0 (Insert (Row r) v) within h.1 (eq-eqb r r refl))
+  entity_is : (e : Entity) → entity_eq Global e ≡ false → (n : ℕ) (v : T) → n ≤ length calls → EntityStands calls e n v → standing_value e (newest n) ≡ Some v
+  entity_is e not_all n v within h =
+      entity_found e (newest n) ∙ ap entity_set (last_find (concerns e) n h.0 (Insert e v) within h.1 (concerns_itself e v)) ∙ set_itself e v not_all
 
   table_is : (given : T) (n : ℕ) (v : T) → n ≤ length calls → TableStands calls n v → global_value given (newest n) ≡ v
   table_is given n v within h = table_found given (newest n) ∙ ap (table_set given) (last_find sets_all n h.0 (Insert Global v) within h.1 refl)
@@ -255,13 +242,13 @@ module _ {T : Type 0} (calls : List (MapCall T)) where
       let p = both_hold (nat_eq i r) (nat_eq j c) w v h in
       inl (at ∙ rw (eqb-true i r p.0, eqb-true j c p.1, p.2) refl)
   pin_is r c n (Insert (Row i) w) v at within h =
-      let p = both_hold (nat_eq i r) (is_some (column_value c (newest n))) w v h in
-      let column = some_value (column_value c (newest n)) p.1 in
-      inr (inl (at ∙ rw (eqb-true i r p.0, p.2) refl, (column.0, column_stands c n column.0 within column.1)))
+      let p = both_hold (nat_eq i r) (is_some (standing_value (Column c) (newest n))) w v h in
+      let column = some_value (standing_value (Column c) (newest n)) p.1 in
+      inr (inl (at ∙ rw (eqb-true i r p.0, p.2) refl, (column.0, entity_stands (Column c) n column.0 within column.1)))
   pin_is r c n (Insert (Column j) w) v at within h =
-      let p = both_hold (nat_eq j c) (is_some (row_value r (newest n))) w v h in
-      let row = some_value (row_value r (newest n)) p.1 in
-      inr (inr (at ∙ rw (eqb-true j c p.0, p.2) refl, (row.0, row_stands r n row.0 within row.1)))
+      let p = both_hold (nat_eq j c) (is_some (standing_value (Row r) (newest n))) w v h in
+      let row = some_value (standing_value (Row r) (newest n)) p.1 in
+      inr (inr (at ∙ rw (eqb-true j c p.0, p.2) refl, (row.0, entity_stands (Row r) n row.0 within row.1)))
   pin_is r c n (Insert Global w) v at within h = cc
   pin_is r c n (Remove entity) v at within h = cc
 
@@ -273,10 +260,10 @@ module _ {T : Type 0} (calls : List (MapCall T)) where
     | inr other ↦ elim other [
       | inl row ↦
           let same : Insert (Row r) v ≡ call = same_call n n _ _ row.0 at refl in
-          subst (λ d. pin_of r c (newest n) d ≡ Some v) same (rw (eq-eqb r r refl, column_is c n row.1.0 within row.1.1) refl)
+          subst (λ d. pin_of r c (newest n) d ≡ Some v) same (rw (eq-eqb r r refl, entity_is (Column c) refl n row.1.0 within row.1.1) refl)
       | inr column ↦
           let same : Insert (Column c) v ≡ call = same_call n n _ _ column.0 at refl in
-          subst (λ d. pin_of r c (newest n) d ≡ Some v) same (rw (eq-eqb c c refl, row_is r n column.1.0 within column.1.1) refl)
+          subst (λ d. pin_of r c (newest n) d ≡ Some v) same (rw (eq-eqb c c refl, entity_is (Row r) refl n column.1.0 within column.1.1) refl)
     ]
   ]
 
@@ -351,55 +338,52 @@ module _ {T : Type 0} (calls : List (MapCall T)) where
   is_decided : (given : T) (r c n : ℕ) → n ≤ length calls → IsDecided calls given r c n (found_by given r c n)
   is_decided given r c n within = by_pin (pinned_value r c (newest n)) refl
     where
-      by_table : NoPin calls r c n → NoColumn calls c n → NoRow calls r n → IsDecided calls given r c n (global_value given (newest n))
+      by_table : NoPin calls r c n → NoEntity calls (Column c) n → NoEntity calls (Row r) n → IsDecided calls given r c n (global_value given (newest n))
       by_table no_pin no_column no_row = elim (table_stands given n within) [
         | inl table ↦ ByTable (global_value given (newest n)) no_pin no_column no_row table
         | inr none ↦ subst (IsDecided calls given r c n) (sym none.1) (ByDefault no_pin no_column no_row none.0)
       ]
 
-      by_row : (o : Option T) → row_value r (newest n) ≡ o → NoPin calls r c n → NoColumn calls c n → IsDecided calls given r c n (unwrap_or o (global_value given (newest n)))
-      by_row (Some v) e no_pin no_column = ByRow v no_pin no_column (row_stands r n v within e)
-      by_row None e no_pin no_column = by_table no_pin no_column (λ w h. none-some w (sym e ∙ row_is r n w within h))
+      by_row : (o : Option T) → standing_value (Row r) (newest n) ≡ o → NoPin calls r c n → NoEntity calls (Column c) n → IsDecided calls given r c n (unwrap_or o (global_value given (newest n)))
+      by_row (Some v) e no_pin no_column = ByRow v no_pin no_column (entity_stands (Row r) n v within e)
+      by_row None e no_pin no_column = by_table no_pin no_column (λ w h. none-some w (sym e ∙ entity_is (Row r) refl n w within h))
 
-      by_column : (o : Option T) → column_value c (newest n) ≡ o → NoPin calls r c n
-          → IsDecided calls given r c n (unwrap_or o (unwrap_or (row_value r (newest n)) (global_value given (newest n))))
-      by_column (Some v) e no_pin = ByColumn v no_pin (column_stands c n v within e)
-      by_column None e no_pin = by_row (row_value r (newest n)) refl no_pin (λ w h. none-some w (sym e ∙ column_is c n w within h))
+      by_column : (o : Option T) → standing_value (Column c) (newest n) ≡ o → NoPin calls r c n
+          → IsDecided calls given r c n (unwrap_or o (unwrap_or (standing_value (Row r) (newest n)) (global_value given (newest n))))
+      by_column (Some v) e no_pin = ByColumn v no_pin (entity_stands (Column c) n v within e)
+      by_column None e no_pin = by_row (standing_value (Row r) (newest n)) refl no_pin (λ w h. none-some w (sym e ∙ entity_is (Column c) refl n w within h))
 
       by_pin : (o : Option T) → pinned_value r c (newest n) ≡ o
-          → IsDecided calls given r c n (unwrap_or o (unwrap_or (column_value c (newest n)) (unwrap_or (row_value r (newest n)) (global_value given (newest n)))))
+          → IsDecided calls given r c n (unwrap_or o (unwrap_or (standing_value (Column c) (newest n)) (unwrap_or (standing_value (Row r) (newest n)) (global_value given (newest n)))))
       by_pin (Some v) e = ByPin v (pin_stands r c n v within e)
-      by_pin None e = by_column (column_value c (newest n)) refl (λ w h. none-some w (sym e ∙ pin_found r c n w within h))
+      by_pin None e = by_column (standing_value (Column c) (newest n)) refl (λ w h. none-some w (sym e ∙ pin_found r c n w within h))
 
   no_pinned : (r c n : ℕ) → n ≤ length calls → NoPin calls r c n → pinned_value r c (newest n) ≡ None
   no_pinned r c n within none = none_of (pinned_value r c (newest n)) (λ w e. none w (pin_stands r c n w within e))
 
-  no_column : (c n : ℕ) → n ≤ length calls → NoColumn calls c n → column_value c (newest n) ≡ None
-  no_column c n within none = none_of (column_value c (newest n)) (λ w e. none w (column_stands c n w within e))
-
-  no_row : (r n : ℕ) → n ≤ length calls → NoRow calls r n → row_value r (newest n) ≡ None
-  no_row r n within none = none_of (row_value r (newest n)) (λ w e. none w (row_stands r n w within e))
+  no_value : (e : Entity) (n : ℕ) → n ≤ length calls → NoEntity calls e n → standing_value e (newest n) ≡ None
+  no_value e n within none = none_of (standing_value e (newest n)) (λ w is. none w (entity_stands e n w within is))
 
   decided_is : (given : T) (r c n : ℕ) (v : T) → n ≤ length calls → IsDecided calls given r c n v → found_by given r c n ≡ v
   decided_is given r c n _ within (ByPin v pin) = let e = pin_found r c n v within pin in rw e refl
   decided_is given r c n _ within (ByColumn v none column) =
       let p = no_pinned r c n within none in
-      let e = column_is c n v within column in
+      let e = entity_is (Column c) refl n v within column in
       rw (p, e) refl
   decided_is given r c n _ within (ByRow v none none_column row) =
       let p = no_pinned r c n within none in
-      let q = no_column c n within none_column in
-      let e = row_is r n v within row in
+      let q = no_value (Column c) n within none_column in
+      let e = entity_is (Row r) refl n v within row in
       rw (p, q, e) refl
   decided_is given r c n _ within (ByTable v none none_column none_row table) =
       let p = no_pinned r c n within none in
-      let q = no_column c n within none_column in
-      let s = no_row r n within none_row in
+      let q = no_value (Column c) n within none_column in
+      let s = no_value (Row r) n within none_row in
       rw (p, q, s) (table_is given n v within table)
   decided_is given r c n _ within (ByDefault none none_column none_row none_table) =
       let p = no_pinned r c n within none in
-      let q = no_column c n within none_column in
-      let s = no_row r n within none_row in
+      let q = no_value (Column c) n within none_column in
+      let s = no_value (Row r) n within none_row in
       rw (p, q, s) (elim (table_stands given n within) [ inl table ↦ absurd (none_table _ table) | inr left ↦ left.1 ])
 
   -- all the calls

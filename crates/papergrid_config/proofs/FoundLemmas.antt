@@ -13,10 +13,6 @@ use Rattle.papergrid_tables.proofs.LineTested.{horizontal_tested, vertical_teste
 use Rattle.papergrid_config.specs.Lines.{shown, shown_horizontal, shown_intersection, shown_vertical}
 
 module _ {T : Type 0} where
-  some_or : (a b : Option T) → IsSome (option_or a b) → IsSome a ⊎ IsSome b
-  some_or None b h = inr h
-  some_or (Some x) b h = inl refl
-
   some_then : {L : Type 0} (f : L → Option T) (o : Option L) → IsSome (option_and_then f o) → IsSome o
   some_then f None h = h
   some_then f (Some line) h = refl
@@ -57,26 +53,24 @@ module _ {T : Type 0} (frame : Borders T) where
       (cases_eq r count))
       (cases_eq r 0)
 
+-- what is found along a line is an edge's, a line's, the frame's or all lines'
+found_somewhere : {T F X L E Y : Type 0} (edge line part global : Option T) → (IsSome edge → E) → (IsSome line → L) → (IsSome part → F)
+    → IsSome (option_or edge (option_or line (option_or part global))) → IsSome global ⊎ (F ⊎ (X ⊎ (L ⊎ (E ⊎ Y))))
+found_somewhere (Some x) line part global on_edge on_line on_frame h = inr (inr (inr (inr (inl (on_edge refl)))))
+found_somewhere None (Some x) part global on_edge on_line on_frame h = inr (inr (inr (inl (on_line refl))))
+found_somewhere None None (Some x) global on_edge on_line on_frame h = inr (inl (on_frame refl))
+found_somewhere None None None global on_edge on_line on_frame h = inl h
+
 module _ {T : Type 0} (places : Places T) (p : Position) (count : ℕ) where
   found_on_vertical : p.col ≤ count → IsSome (found_vertical places p count) → HasVertical places p.col count
-  found_on_vertical within h =
-      ⊎_elim
-      (λ edge. inr (inr (inr (inr (inl (p, refl, edge))))))
-      (λ h. ⊎_elim
-      (λ line. inr (inr (inr (inl (some_then (λ l. l.main) (places.vertical_line p.col) line)))))
-      (λ h. ⊎_elim (λ part. inr (inl (vertical_part_found places.frame p.col count within part))) (λ global. inl global) (some_or (frame_vertical places.frame p.col count) places.global h))
-      (some_or (option_and_then (λ l. l.main) (places.vertical_line p.col)) _ h))
-      (some_or (places.vertical_edge p) _ h)
+  found_on_vertical within =
+      found_somewhere (places.vertical_edge p) _ (frame_vertical places.frame p.col count) places.global (λ edge. (p, refl, edge))
+      (some_then (λ l. l.main) (places.vertical_line p.col)) (vertical_part_found places.frame p.col count within)
 
   found_on_horizontal : p.row ≤ count → IsSome (found_horizontal places p count) → HasHorizontal places p.row count
-  found_on_horizontal within h =
-      ⊎_elim
-      (λ edge. inr (inr (inr (inr (inl (p, refl, edge))))))
-      (λ h. ⊎_elim
-      (λ line. inr (inr (inr (inl (some_then (λ l. l.main) (places.horizontal_line p.row) line)))))
-      (λ h. ⊎_elim (λ part. inr (inl (horizontal_part_found places.frame p.row count within part))) (λ global. inl global) (some_or (frame_horizontal places.frame p.row count) places.global h))
-      (some_or (option_and_then (λ l. l.main) (places.horizontal_line p.row)) _ h))
-      (some_or (places.horizontal_edge p) _ h)
+  found_on_horizontal within =
+      found_somewhere (places.horizontal_edge p) _ (frame_horizontal places.frame p.row count) places.global (λ edge. (p, refl, edge))
+      (some_then (λ l. l.main) (places.horizontal_line p.row)) (horizontal_part_found places.frame p.row count within)
 
 -- what is shown is found, or the line is there
 found_or_line : (found : Option ℕ) (is_line : Bool) (missing : ℕ) → IsSome (shown found is_line missing) → IsSome found ⊎ (is_line ≡ true)
@@ -89,22 +83,22 @@ shown_on_line None true missing h = refl
 shown_on_line None false missing h = absurd (false≢true h)
 shown_on_line (Some c) is_line missing h = refl
 
+-- something is shown where there is a line, if what is found is found on one
+shown_where_line : {Line : Type 0} (found : Option ℕ) (is_line : Bool) (missing : ℕ) → (is_line ≡ true) ↔ Line → (IsSome found → Line)
+    → IsSome (shown found is_line missing) ↔ Line
+shown_where_line found is_line missing tested on_line = (
+  (λ h. ⊎_elim on_line tested.0 (found_or_line found is_line missing h)),
+  (λ line. shown_on_line found is_line missing (tested.1 line)),
+)
+
 module _ (characters : HeldBorders ℕ) (missing : ℕ) (p : Position) where
   pub vertical_shown : (count : ℕ) → p.col ≤ count → IsSome (shown_vertical characters missing p count) ↔ HasVertical (places_of characters) p.col count
   vertical_shown count within =
-      let found = found_vertical (places_of characters) p count in
-      let tested = vertical_tested characters p.col count in (
-        (λ h. ⊎_elim (λ set. found_on_vertical (places_of characters) p count within set) (λ line. tested.0 line) (found_or_line found (vertical_line_at characters p.col count) missing h)),
-        (λ line. shown_on_line found (vertical_line_at characters p.col count) missing (tested.1 line)),
-      )
+      shown_where_line (found_vertical (places_of characters) p count) _ missing (vertical_tested characters p.col count) (found_on_vertical (places_of characters) p count within)
 
   pub horizontal_shown : (count : ℕ) → p.row ≤ count → IsSome (shown_horizontal characters missing p count) ↔ HasHorizontal (places_of characters) p.row count
   horizontal_shown count within =
-      let found = found_horizontal (places_of characters) p count in
-      let tested = horizontal_tested characters p.row count in (
-        (λ h. ⊎_elim (λ set. found_on_horizontal (places_of characters) p count within set) (λ line. tested.0 line) (found_or_line found (horizontal_line_at characters p.row count) missing h)),
-        (λ line. shown_on_line found (horizontal_line_at characters p.row count) missing (tested.1 line)),
-      )
+      shown_where_line (found_horizontal (places_of characters) p count) _ missing (horizontal_tested characters p.row count) (found_on_horizontal (places_of characters) p count within)
 
   pub crossing_shown : (rows cols : ℕ) → HasHorizontal (places_of characters) p.row rows → HasVertical (places_of characters) p.col cols → IsSome (shown_intersection characters missing p rows cols)
   crossing_shown rows cols horizontal vertical =

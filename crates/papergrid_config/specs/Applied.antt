@@ -1,5 +1,5 @@
 -- Which settings may be applied, and which need no memory.
-use Rattle.std.specs.Prelude.{◌+◌, ◌^◌, ◌&&◌, nat_lt, not, Bool, true, false}
+use Rattle.std.specs.Prelude.{◌+◌, ◌^◌, ◌&&◌, nat_lt, not, Bool, true, false, Option, Some, None, is_some, option_map, unwrap_or}
 use Rattle.papergrid_values.specs.declared.entity.Entity.{Entity}
 use Rattle.papergrid_values.specs.declared.entity.Entity.TheVariants.{Global}
 use Rattle.papergrid_values.specs.declared.position.Position.{Position}
@@ -18,9 +18,18 @@ is_in_range (RemoveBorder p shape) = has_neighbours p
 is_in_range (RemoveBorderColor p shape) = has_neighbours p
 is_in_range other = true
 
-abbrev pub is_global : Entity → Bool
-is_global Global = true
-is_global other = false
+-- the entity for which a setting sets a value
+abbrev pub entity_of : Setting → Option Entity
+entity_of (SetPadding entity v) = Some entity
+entity_of (SetPaddingColor entity v) = Some entity
+entity_of (SetTrimHorizontal entity v) = Some entity
+entity_of (SetTrimVertical entity v) = Some entity
+entity_of (SetLineAlignment entity v) = Some entity
+entity_of (SetAlignmentHorizontal entity v) = Some entity
+entity_of (SetAlignmentVertical entity v) = Some entity
+entity_of (SetJustification entity v) = Some entity
+entity_of (SetJustificationColor entity v) = Some entity
+entity_of other = None
 
 -- the calls that may ask for memory
 abbrev pub may_grow : Setting → Bool
@@ -30,32 +39,18 @@ may_grow (SetHorizontalChar p offset c) = true
 may_grow (SetVerticalChar p offset c) = true
 may_grow (SetHorizontalCharColor p offset color) = true
 may_grow (SetVerticalCharColor p offset color) = true
-may_grow (SetPadding e v) = true
-may_grow (SetPaddingColor e v) = true
-may_grow (SetTrimHorizontal e v) = true
-may_grow (SetTrimVertical e v) = true
-may_grow (SetLineAlignment e v) = true
-may_grow (SetAlignmentHorizontal e v) = true
-may_grow (SetAlignmentVertical e v) = true
-may_grow (SetJustification e v) = true
-may_grow (SetJustificationColor e v) = true
 may_grow (SetBorder p border) = true
 may_grow (SetBorderColor p border) = true
 may_grow (SetColumnSpan p n) = true
 may_grow (SetRowSpan p n) = true
-may_grow other = false
+may_grow other = is_some (entity_of other)
+
+abbrev pub is_global : Entity → Bool
+is_global Global = true
+is_global other = false
 
 -- none is asked for by the others, by a value for the whole table, and by a span below 2
 abbrev pub is_free : Setting → Bool
-is_free (SetPadding e v) = is_global e
-is_free (SetPaddingColor e v) = is_global e
-is_free (SetTrimHorizontal e v) = is_global e
-is_free (SetTrimVertical e v) = is_global e
-is_free (SetLineAlignment e v) = is_global e
-is_free (SetAlignmentHorizontal e v) = is_global e
-is_free (SetAlignmentVertical e v) = is_global e
-is_free (SetJustification e v) = is_global e
-is_free (SetJustificationColor e v) = is_global e
 is_free (SetColumnSpan p n) = nat_lt n 2
 is_free (SetRowSpan p n) = nat_lt n 2
-is_free other = not (may_grow other)
+is_free other = unwrap_or (option_map is_global (entity_of other)) (not (may_grow other))

@@ -1,6 +1,8 @@
 -- What a list of calls decides for a cell, by places in the list: apart from any search.
 use Rattle.std.specs.Prelude.{◌≡◌, ◌⊎◌, ℕ, ◌<◌, ◌==◌, ◌&&◌, Bool, true, false, List, Some, slice_get}
+use Rattle.papergrid_values.specs.declared.entity.Entity.{Entity}
 use Rattle.papergrid_values.specs.declared.entity.Entity.TheVariants.{Global, Column, Row, Cell}
+use Rattle.papergrid_maps.specs.Keys.{entity_eq}
 use Rattle.papergrid_maps.specs.declared.entity_map.MapCall.{MapCall}
 use Rattle.papergrid_maps.specs.declared.entity_map.MapCall.TheVariants.{Insert, Remove}
 
@@ -11,15 +13,11 @@ module _ {T : Type 0} where
   is_global (Remove Global) = true
   is_global call = false
 
-  -- a call that sets this column, or is for the whole table
-  abbrev pub concerns_column : ℕ → MapCall T → Bool
-  concerns_column c (Insert (Column k) v) = k == c
-  concerns_column c call = is_global call
-
-  -- the same of a row
-  abbrev pub concerns_row : ℕ → MapCall T → Bool
-  concerns_row r (Insert (Row k) v) = k == r
-  concerns_row r call = is_global call
+  -- a call that sets this column (row), or is for the whole table
+  abbrev pub concerns : Entity → MapCall T → Bool
+  concerns entity (Insert Global v) = true
+  concerns entity (Insert other v) = entity_eq other entity
+  concerns entity call = is_global call
 
   -- a call that sets the whole table
   abbrev pub sets_all : MapCall T → Bool
@@ -40,20 +38,16 @@ module _ {T : Type 0} (calls : List (MapCall T)) where
     pub at : slice_get calls i ≡ Some call
     pub last : (j : ℕ) (other : MapCall T) → i < j → j < n → slice_get calls j ≡ Some other → test other ≡ false
 
-  -- after the first n calls a column has a value that stands: the last of them that sets it, or is for the whole table, sets it so
-  abbrev pub ColumnStands : ℕ → ℕ → T → Type 0
-  ColumnStands c n v = (i : ℕ) × IsLast (concerns_column c) n i (Insert (Column c) v)
-
-  -- the same of a row
-  abbrev pub RowStands : ℕ → ℕ → T → Type 0
-  RowStands r n v = (i : ℕ) × IsLast (concerns_row r) n i (Insert (Row r) v)
+  -- after the first n calls a column (row) has a value that stands: the last of them that sets it, or is for the whole table, sets it so
+  abbrev pub EntityStands : Entity → ℕ → T → Type 0
+  EntityStands entity n v = (i : ℕ) × IsLast (concerns entity) n i (Insert entity v)
 
   -- the i-th call pins the cell to a value: it sets the cell, or its row while a value of its column stands, or the other way round
   abbrev pub IsPin : ℕ → ℕ → ℕ → T → Type 0
   IsPin r c i v =
       (slice_get calls i ≡ Some (Insert (Cell r c) v))
-      ⊎ (((slice_get calls i ≡ Some (Insert (Row r) v)) × ((w : T) × ColumnStands c i w))
-      ⊎ ((slice_get calls i ≡ Some (Insert (Column c) v)) × ((w : T) × RowStands r i w)))
+      ⊎ (((slice_get calls i ≡ Some (Insert (Row r) v)) × ((w : T) × EntityStands (Column c) i w))
+      ⊎ ((slice_get calls i ≡ Some (Insert (Column c) v)) × ((w : T) × EntityStands (Row r) i w)))
 
   -- after the first n calls the cell has a pin that counts: the last one, and no later call ends the pins
   pub record PinStands (r c n : ℕ) (v : T) : Type 0 where
@@ -71,11 +65,8 @@ module _ {T : Type 0} (calls : List (MapCall T)) where
   abbrev pub NoPin : ℕ → ℕ → ℕ → Type 0
   NoPin r c n = (w : T) → ¬ (PinStands r c n w)
 
-  abbrev pub NoColumn : ℕ → ℕ → Type 0
-  NoColumn c n = (w : T) → ¬ (ColumnStands c n w)
-
-  abbrev pub NoRow : ℕ → ℕ → Type 0
-  NoRow r n = (w : T) → ¬ (RowStands r n w)
+  abbrev pub NoEntity : Entity → ℕ → Type 0
+  NoEntity entity n = (w : T) → ¬ (EntityStands entity n w)
 
   abbrev pub NoTable : ℕ → Type 0
   NoTable n = (w : T) → ¬ (TableStands n w)
@@ -84,7 +75,7 @@ module _ {T : Type 0} (calls : List (MapCall T)) where
   -- else the whole table's, else the one given at first
   pub data IsDecided (given : T) (r c n : ℕ) : T → Type 0 where
     ByPin : (v : T) → PinStands r c n v → IsDecided given r c n v
-    ByColumn : (v : T) → NoPin r c n → ColumnStands c n v → IsDecided given r c n v
-    ByRow : (v : T) → NoPin r c n → NoColumn c n → RowStands r n v → IsDecided given r c n v
-    ByTable : (v : T) → NoPin r c n → NoColumn c n → NoRow r n → TableStands n v → IsDecided given r c n v
-    ByDefault : NoPin r c n → NoColumn c n → NoRow r n → NoTable n → IsDecided given r c n given
+    ByColumn : (v : T) → NoPin r c n → EntityStands (Column c) n v → IsDecided given r c n v
+    ByRow : (v : T) → NoPin r c n → NoEntity (Column c) n → EntityStands (Row r) n v → IsDecided given r c n v
+    ByTable : (v : T) → NoPin r c n → NoEntity (Column c) n → NoEntity (Row r) n → TableStands n v → IsDecided given r c n v
+    ByDefault : NoPin r c n → NoEntity (Column c) n → NoEntity (Row r) n → NoTable n → IsDecided given r c n given

@@ -224,14 +224,14 @@ impl SpannedConfig {
         self.characters.get_vertical_line(col)
     }
 
-    /// All horizontal lines that are held, by row, or want of memory.
+    /// All horizontal lines that are held, by row, or out of memory.
     pub fn get_horizontal_lines(&self) -> Result<HashMap<usize, HorizontalLine<char>>, AllocError>
         ensures { IfOk result (λ all. (n : ℕ) → map_get nat_eq all n ≡ value_at self.now.characters.horizontal_lines n) }
     {
         self.characters.get_horizontal_lines()
     }
 
-    /// All vertical lines that are held, by column, or want of memory.
+    /// All vertical lines that are held, by column, or out of memory.
     pub fn get_vertical_lines(&self) -> Result<HashMap<usize, VerticalLine<char>>, AllocError>
         ensures { IfOk result (λ all. (n : ℕ) → map_get nat_eq all n ≡ value_at self.now.characters.vertical_lines n) }
     {

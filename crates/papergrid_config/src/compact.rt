@@ -12,7 +12,7 @@ use std::alloc::{AllocError, Global};
 
 impl SpannedConfig {
     /// The configuration with what a compact one has: its padding, the padding's colours and the
-    /// alignment for the whole table, its margin, its frame and their colours, or want of memory.
+    /// alignment for the whole table, its margin, its frame and their colours, or out of memory.
     /// Colours of a padding and a margin are set even where both of their texts are empty.
     pub fn from_compact(alloc: Global, compact: &CompactConfig) -> Result<SpannedConfig, AllocError>
         ensures { IfOk result (λ config. IsTold (compact_settings compact.now) config) }
@@ -53,10 +53,8 @@ fn owned_frame(
     ensures { IfOk result (λ frame. frame ≡ colored_frame colors.now) }
 {
     let mut frame = Borders::empty();
-    match copy_frame(alloc, colors, &mut frame) {
-        Ok(()) => Ok(frame),
-        Err(error) => Err(error),
-    }
+    copy_frame(alloc, colors, &mut frame)?;
+    Ok(frame)
 }
 
 fn copy_frame(

@@ -60,14 +60,14 @@ impl SpannedConfig {
         self.spans.get_row(pos)
     }
 
-    /// All column spans that are held, or want of memory.
+    /// All column spans that are held, or out of memory.
     pub fn get_column_spans(&self) -> Result<HashMap<Position, usize>, AllocError>
         ensures { IfOk result (λ all. (p : Position) → map_get position_eq all p ≡ value_at self.now.spans.columns p) }
     {
         self.spans.columns()
     }
 
-    /// All row spans that are held, or want of memory.
+    /// All row spans that are held, or out of memory.
     pub fn get_row_spans(&self) -> Result<HashMap<Position, usize>, AllocError>
         ensures { IfOk result (λ all. (p : Position) → map_get position_eq all p ≡ value_at self.now.spans.rows p) }
     {

@@ -66,11 +66,17 @@ fn neighbouring_borders(rt: HostRuntime) {
     drop(config);
 }
 
+// The first cell spans two rows and two columns.
+fn square(alloc: Global) -> Result<SpannedConfig, AllocError> {
+    let mut config = SpannedConfig::new(alloc);
+    config.set_row_span(at(0, 0), 2)?;
+    config.set_column_span(at(0, 0), 2)?;
+    Ok(config)
+}
+
 #[test]
-fn rectangle_of_both_spans(rt: HostRuntime) {
-    let mut config = SpannedConfig::new(rt.alloc());
-    assert!(rt; config.set_row_span(at(0, 0), 2).is_ok());
-    assert!(rt; config.set_column_span(at(0, 0), 2).is_ok());
+fn rectangle_of_both_spans(rt: HostRuntime) -> Result<(), Fail> {
+    let config = square(rt.alloc())?;
     for hidden in [at(0, 1), at(1, 0), at(1, 1)] {
         assert!(rt; !config.is_cell_visible(hidden));
     }
@@ -78,13 +84,12 @@ fn rectangle_of_both_spans(rt: HostRuntime) {
         assert!(rt; config.is_cell_visible(visible));
     }
     drop(config);
+    Ok(())
 }
 
 #[test]
-fn spans(rt: HostRuntime) {
-    let mut config = SpannedConfig::new(rt.alloc());
-    assert!(rt; config.set_row_span(at(0, 0), 2).is_ok());
-    assert!(rt; config.set_column_span(at(0, 0), 2).is_ok());
+fn spans(rt: HostRuntime) -> Result<(), Fail> {
+    let mut config = square(rt.alloc())?;
     assert!(rt; config.is_cell_covered_by_column_span(at(0, 1)));
     assert!(rt; config.is_cell_covered_by_row_span(at(1, 0)));
     assert!(rt; config.is_cell_covered_by_both_spans(at(1, 1)));
@@ -95,6 +100,7 @@ fn spans(rt: HostRuntime) {
     config.remove_row_spans();
     assert!(rt; !config.has_row_spans());
     drop(config);
+    Ok(())
 }
 
 #[test]

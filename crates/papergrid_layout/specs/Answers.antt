@@ -9,7 +9,7 @@ use Rattle.papergrid_axis.specs.Problem.{Problem}
 use Rattle.papergrid_walk.specs.Cells.{problem_of, visible_cells}
 use Rattle.papergrid_walk.specs.Looks.{Look}
 
--- P, but for want of memory
+-- P, but for out of memory
 abbrev pub UnlessWant : LayoutError → Type 0 → Type 0
 UnlessWant (OutOfTable p) P = P
 UnlessWant TooLarge P = P

@@ -16,7 +16,7 @@ use Rattle.papergrid_maps.specs.declared.entity_map.MapCall.TheVariants.{Insert,
 use Rattle.papergrid_tables.proofs.EntryLemmas.{same_numbers, same_places}
 use Rattle.papergrid_tables.proofs.KeyLemmas.{get_at_number, get_at_position}
 use Rattle.papergrid_maps.proofs.MapHeldLemmas.{view_of}
-use Rattle.papergrid_maps.proofs.MapTold.{IsStep, global_after, column_after, row_after, cell_after}
+use Rattle.papergrid_maps.proofs.MapTold.{IsStep, cell_after, global_after, value_after}
 
 abbrev at : ℕ → ℕ → Position
 at r c = record { row = r; col = c }
@@ -52,14 +52,14 @@ module _ {T : Type 0} where
   -- a step of the entries is one of what they hold
   pub step_of_entries : (call : MapCall T) (g g' : T) (cs rs cs' rs' : List (ℕ × T)) (ks ks' : List (Position × T))
       → g' ≡ global_after call g
-      → ((c : ℕ) → lookup (eqb c) cs' ≡ column_after call c (lookup (eqb c) cs))
-      → ((r : ℕ) → lookup (eqb r) rs' ≡ row_after call r (lookup (eqb r) rs))
+      → ((c : ℕ) → lookup (eqb c) cs' ≡ value_after call (Column c) (lookup (eqb c) cs))
+      → ((r : ℕ) → lookup (eqb r) rs' ≡ value_after call (Row r) (lookup (eqb r) rs))
       → ((p : Position) → lookup (position_eq p) ks' ≡ cell_after call p (lookup (eqb p.col) cs) (lookup (eqb p.row) rs) (lookup (position_eq p) ks))
       → IsStep (view_of g cs rs ks) (view_of g' cs' rs' ks') call
   step_of_entries call g g' cs rs cs' rs' ks ks' global columns rows cells = record {
     global = global;
-    columns = λ c. get_at_number cs' c ∙ columns c ∙ ap (column_after call c) (sym (get_at_number cs c));
-    rows = λ r. get_at_number rs' r ∙ rows r ∙ ap (row_after call r) (sym (get_at_number rs r));
+    columns = λ c. get_at_number cs' c ∙ columns c ∙ ap (value_after call (Column c)) (sym (get_at_number cs c));
+    rows = λ r. get_at_number rs' r ∙ rows r ∙ ap (value_after call (Row r)) (sym (get_at_number rs r));
     cells = λ p. get_at_position ks' p ∙ cells p ∙ (λ i. cell_after call p (sym (get_at_number cs p.col) i) (sym (get_at_number rs p.row) i) (sym (get_at_position ks p) i));
   }
 

@@ -7,7 +7,7 @@ use Rattle.std.proofs.lemmas.Bool.{false≢true, and_parts, and_from, or_right, 
 use Rattle.std.proofs.lemmas.Map.Keys.{any_passes_from_place}
 use Rattle.papergrid_values.specs.declared.position.Position.{Position}
 use Rattle.papergrid_tables.specs.Keys.{position_cmp, position_eq}
-use Rattle.papergrid_maps.specs.Spans.{Spans, column_span, row_span, is_hidden_by, is_in_rectangle, is_visible, IsVisible, IsInRectangle}
+use Rattle.papergrid_maps.specs.Spans.{HasSpan, Spans, column_span, row_span, is_hidden_by, is_in_rectangle, is_visible, IsVisible, IsInRectangle}
 use Rattle.papergrid_tables.proofs.AnyLemmas.{any_place}
 use Rattle.papergrid_tables.proofs.KeyLemmas.{exact_position_eq, position_ties, position_equiv}
 
@@ -67,6 +67,19 @@ held_or_not : (o : Option ℕ) → (is_some o ≡ true) ⊎ (is_some o ≡ true 
 held_or_not None = inr false≢true
 held_or_not (Some n) = inl refl
 
+-- a position with no span hides no other one
+hides_none : (spans : Spans) (anchor p : Position) → (is_some (get spans.columns anchor) ≡ true → ⊥) → (is_some (get spans.rows anchor) ≡ true → ⊥)
+    → anchor ≢ p → IsInRectangle (column_span spans) (row_span spans) anchor p → ⊥
+hides_none spans anchor p narrow short apart within =
+    let one_column : column_span spans anchor ≡ 1 = one_where_none (get spans.columns anchor) narrow in
+    let one_row : row_span spans anchor ≡ 1 = one_where_none (get spans.rows anchor) short in
+    let row : anchor.row ≡ p.row = omega (arith, one_row, within.below_top, within.above_bottom) in
+    let col : anchor.col ≡ p.col = omega (arith, one_column, within.after_left, within.before_right) in
+    apart (λ i. record { row = row i; col = col i })
+
+pub visible_without_spans : (spans : Spans) (p : Position) → (HasSpan spans.columns → ⊥) → (HasSpan spans.rows → ⊥) → IsVisible (column_span spans) (row_span spans) p
+visible_without_spans spans p narrow short anchor = hides_none spans anchor p (λ held. narrow (anchor, held)) (λ held. short (anchor, held))
+
 hides : (spans : Spans) (p anchor : Position) → anchor ≢ p → IsInRectangle (column_span spans) (row_span spans) anchor p
     → is_hidden_by (column_span spans) (row_span spans) (keys spans.columns ++ keys spans.rows) p ≡ true
 hides spans p anchor apart within =
@@ -74,12 +87,7 @@ hides spans p anchor apart within =
     let passes : test anchor ≡ true = and_from _ _ (apart_by_test anchor p apart) (tests_rectangle _ _ anchor p within) in
     ⊎_elim (λ wide. any_append test (keys spans.columns) (keys spans.rows) (among spans.columns anchor test wide passes))
     (λ narrow. ⊎_elim (λ tall. any_prepend test (keys spans.columns) (keys spans.rows) (among spans.rows anchor test tall passes))
-    (λ short.
-    let one_column : column_span spans anchor ≡ 1 = one_where_none (get spans.columns anchor) narrow in
-    let one_row : row_span spans anchor ≡ 1 = one_where_none (get spans.rows anchor) short in
-    let row : anchor.row ≡ p.row = omega (arith, one_row, within.below_top, within.above_bottom) in
-    let col : anchor.col ≡ p.col = omega (arith, one_column, within.after_left, within.before_right) in
-    absurd (apart (λ i. record { row = row i; col = col i })))
+    (λ short. absurd (hides_none spans anchor p narrow short apart within))
     (held_or_not (get spans.rows anchor)))
     (held_or_not (get spans.columns anchor))
 

@@ -1,7 +1,9 @@
 -- What a list of calls decides. Lists of calls are oldest first; the searches go from the newest call back.
 use Rattle.std.specs.Prelude.{ℕ, Bool, true, false, ◌==◌, ◌&&◌, if◌then◌else◌, List, [], ◌∷◌, reverse, Option, Some, None, is_some, unwrap_or}
 use Rattle.papergrid_values.specs.declared.position.Position.{Position}
+use Rattle.papergrid_values.specs.declared.entity.Entity.{Entity}
 use Rattle.papergrid_values.specs.declared.entity.Entity.TheVariants.{Global, Column, Row, Cell}
+use Rattle.papergrid_maps.specs.Keys.{entity_eq}
 use Rattle.papergrid_maps.specs.declared.entity_map.MapCall.{MapCall}
 use Rattle.papergrid_maps.specs.declared.entity_map.MapCall.TheVariants.{Insert, Remove}
 
@@ -14,21 +16,13 @@ module _ {T : Type 0} where
 
 -- a call of Global ends what stood before it
 module _ {T : Type 0} where
-  -- the value of a column that stands: its last insert since the last call of Global
-  abbrev pub column_value : ℕ → List (MapCall T) → Option T
-  column_value c [] = None
-  column_value c (Insert Global v ∷ older) = None
-  column_value c (Remove Global ∷ older) = None
-  column_value c (Insert (Column k) v ∷ older) = if k == c then Some v else column_value c older
-  column_value c (call ∷ older) = column_value c older
-
-  -- the same of a row
-  abbrev pub row_value : ℕ → List (MapCall T) → Option T
-  row_value r [] = None
-  row_value r (Insert Global v ∷ older) = None
-  row_value r (Remove Global ∷ older) = None
-  row_value r (Insert (Row k) v ∷ older) = if k == r then Some v else row_value r older
-  row_value r (call ∷ older) = row_value r older
+  -- the value of a column (row) that stands: its last insert since the last call of Global
+  abbrev pub standing_value : Entity → List (MapCall T) → Option T
+  standing_value entity [] = None
+  standing_value entity (Insert Global v ∷ older) = None
+  standing_value entity (Remove Global ∷ older) = None
+  standing_value entity (Insert other v ∷ older) = if entity_eq other entity then Some v else standing_value entity older
+  standing_value entity (call ∷ older) = standing_value entity older
 
   -- the last value inserted for Global, or else the one given at first
   abbrev pub global_value : T → List (MapCall T) → T
@@ -43,8 +37,8 @@ module _ {T : Type 0} where
   pinned_value r c (Insert Global v ∷ older) = None
   pinned_value r c (Remove Global ∷ older) = None
   pinned_value r c (Insert (Cell i j) v ∷ older) = if i == r && j == c then Some v else pinned_value r c older
-  pinned_value r c (Insert (Row i) v ∷ older) = if i == r && is_some (column_value c older) then Some v else pinned_value r c older
-  pinned_value r c (Insert (Column j) v ∷ older) = if j == c && is_some (row_value r older) then Some v else pinned_value r c older
+  pinned_value r c (Insert (Row i) v ∷ older) = if i == r && is_some (standing_value (Column c) older) then Some v else pinned_value r c older
+  pinned_value r c (Insert (Column j) v ∷ older) = if j == c && is_some (standing_value (Row r) older) then Some v else pinned_value r c older
   pinned_value r c (Remove (Cell i j) ∷ older) = if i == r && j == c then None else pinned_value r c older
   pinned_value r c (Remove (Row i) ∷ older) = if i == r then None else pinned_value r c older
   pinned_value r c (Remove (Column j) ∷ older) = if j == c then None else pinned_value r c older
@@ -54,5 +48,5 @@ module _ {T : Type 0} where
   decided_value given calls p =
       let newest_first = reverse calls in
       unwrap_or (pinned_value p.row p.col newest_first)
-      (unwrap_or (column_value p.col newest_first)
-      (unwrap_or (row_value p.row newest_first) (global_value given newest_first)))
+      (unwrap_or (standing_value (Column p.col) newest_first)
+      (unwrap_or (standing_value (Row p.row) newest_first) (global_value given newest_first)))

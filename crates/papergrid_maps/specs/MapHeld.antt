@@ -4,7 +4,7 @@ use Rattle.std.specs.Ordering.{nat_cmp}
 use Rattle.std.specs.FinMap.{FinMap, get, code}
 use Rattle.std.specs.Coded.{Coded, code_by, coded×, coded_ℕ}
 use Rattle.papergrid_tables.specs.Keys.{position_cmp, coded_position}
-use Rattle.papergrid_maps.specs.MapCalls.{column_value, row_value, global_value, pinned_value}
+use Rattle.papergrid_maps.specs.MapCalls.{global_value, pinned_value, standing_value}
 use Rattle.papergrid_values.specs.declared.position.Position.{Position}
 use Rattle.papergrid_values.specs.declared.entity.Entity.{Entity}
 use Rattle.papergrid_values.specs.declared.entity.Entity.TheVariants.{Global, Column, Row, Cell}
@@ -34,8 +34,8 @@ module _ {T : Type 0} where
   -- a map that was made with a value, and then given the calls, holds this
   pub record IsTold (given : T) (calls : List (MapCall T)) (held : Held T) : Type 0 where
     pub global : held.global ≡ global_value given (reverse calls)
-    pub columns : (c : ℕ) → get held.columns c ≡ column_value c (reverse calls)
-    pub rows : (r : ℕ) → get held.rows r ≡ row_value r (reverse calls)
+    pub columns : (c : ℕ) → get held.columns c ≡ standing_value (Column c) (reverse calls)
+    pub rows : (r : ℕ) → get held.rows r ≡ standing_value (Row r) (reverse calls)
     pub cells : (p : Position) → get held.cells p ≡ pinned_value p.row p.col (reverse calls)
 
   -- told by any calls, the map is told by these and then the further ones

@@ -11,7 +11,7 @@ use papergrid_values::{Direction, Position};
 fn is_covered(anchor: Position, columns: usize, rows: usize, pos: Position) -> bool
     ensures { result ≡ covers anchor columns rows pos }
 {
-    if anchor.row == pos.row && anchor.col == pos.col {
+    if anchor == pos {
         return false;
     }
     anchor.row <= pos.row

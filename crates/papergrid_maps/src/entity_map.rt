@@ -1,10 +1,9 @@
 //! A value for each position, set by entity. Source: `config/spanned/entity_map.rs`.
 
-ghost use Rattle.std.specs.Prelude.{All, Any, true, false, nat_eq, List, ◌≡◌, ◌∷◌, [], map, length, IfOk, OnOk, OnErr, IsOk, IfErr, IsTrue, take, slice_get, IsSomeAnd, Some, if◌then◌else◌, filter, not, ◌==◌, ◌<◌, ◌↔◌};
+ghost use Rattle.std.specs.Prelude.{All, Any, true, false, List, ◌≡◌, ◌∷◌, [], map, length, IfOk, OnOk, OnErr, IsOk, IfErr, IsTrue, take, slice_get, IsSomeAnd, Some, if◌then◌else◌, filter, not, ◌==◌, ◌<◌, ◌↔◌};
 ghost use Rattle.std.specs.Bool.{OnTrue, OnFalse};
 ghost use Rattle.std.specs.Fn.{FnReturnsAt};
 ghost use Rattle.std.specs.HashMap.{IsUnique, keys, values, get as map_get};
-ghost use Rattle.std.specs.Option.{option_or};
 ghost use Rattle.std.specs.Set.{is_member};
 ghost use Rattle.papergrid_values.specs.declared.entity.Entity.{Entity};
 ghost use Rattle.papergrid_values.specs.declared.position.Position.{Position};
@@ -120,7 +119,7 @@ impl<T> EntityMap<T> {
         any_value(&self.cells, &f)
     }
 
-    /// What is held for each entity, or want of memory.
+    /// What is held for each entity, or out of memory.
     pub fn into_map(self) -> Result<HashMap<Entity, T>, AllocError>
     where
         T: Drop,

@@ -135,7 +135,7 @@ impl SpanIndex {
         positions_of(alloc, self.direction, &self.spans)
     }
 
-    /// The spans by position, or want of memory.
+    /// The spans by position, or out of memory.
     pub(crate) fn by_position(&self, alloc: Global) -> Result<HashMap<Position, usize>, AllocError>
         ensures { IfOk result (λ all. (p : Position) → map_get position_eq all p ≡ value_at self.now.spans p) }
     {

@@ -136,14 +136,14 @@ impl SpanTable {
         self.rows.holds_any()
     }
 
-    /// All column spans that are held, or want of memory.
+    /// All column spans that are held, or out of memory.
     pub fn columns(&self) -> Result<HashMap<Position, usize>, AllocError>
         ensures { IfOk result (λ all. (p : Position) → map_get position_eq all p ≡ value_at self.now.columns p) }
     {
         self.columns.by_position(self.alloc)
     }
 
-    /// All row spans that are held, or want of memory.
+    /// All row spans that are held, or out of memory.
     pub fn rows(&self) -> Result<HashMap<Position, usize>, AllocError>
         ensures { IfOk result (λ all. (p : Position) → map_get position_eq all p ≡ value_at self.now.rows p) }
     {
@@ -188,6 +188,9 @@ impl SpanTable {
         ensures test { result ≡ is_visible self.now pos }
     {
         let _held = &self.columns;
+        if !self.has_columns() && !self.has_rows() {
+            return true;
+        }
         if self.covered_by_column(pos) {
             return false;
         }

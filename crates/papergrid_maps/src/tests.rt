@@ -6,7 +6,8 @@ mod compact;
 ghost use Rattle.std.specs.Prelude.{◌≡◌, ◌<◌};
 
 use crate::{EntityMap, MapCall, SpanTable, Stopped, laws};
-use papergrid_values::{Direction, Entity, Position};
+use papergrid_values::Direction::{self, Columns, Rows};
+use papergrid_values::{Entity, Position};
 use std::alloc::{AllocError, Global};
 use std::process::Abort;
 use std::test::Fail;
@@ -180,10 +181,30 @@ fn map_laws() {
     laws::one_value_each();
 }
 
+fn set_span(
+    spans: &mut SpanTable,
+    direction: Direction,
+    pos: Position,
+    span: usize,
+) -> Result<(), AllocError> {
+    match direction {
+        Columns => spans.set_column(pos, span),
+        Rows => spans.set_row(pos, span),
+    }
+}
+
+// A table with these spans, set in order.
+fn spans_of(alloc: Global, set: &[(Direction, Position, usize)]) -> Result<SpanTable, AllocError> {
+    let mut spans = SpanTable::new(alloc);
+    for (direction, pos, span) in set {
+        set_span(&mut spans, *direction, *pos, *span)?;
+    }
+    Ok(spans)
+}
+
 #[test]
 fn greatest_column_span(rt: HostRuntime) -> Result<(), Fail> {
-    let mut spans = SpanTable::new(rt.alloc());
-    spans.set_column(at(0, 5), usize::MAX)?;
+    let spans = spans_of(rt.alloc(), &[(Columns, at(0, 5), usize::MAX)])?;
     assert!(rt; spans.covered_by_column(at(0, usize::MAX)));
     assert!(rt; !spans.covered_by_column(at(0, 5)));
     assert!(rt; !spans.covered_by_column(at(1, 6)));
@@ -192,9 +213,7 @@ fn greatest_column_span(rt: HostRuntime) -> Result<(), Fail> {
 
 #[test]
 fn rectangle_of_both_spans(rt: HostRuntime) -> Result<(), Fail> {
-    let mut spans = SpanTable::new(rt.alloc());
-    spans.set_row(at(0, 0), 2)?;
-    spans.set_column(at(0, 0), 2)?;
+    let spans = spans_of(rt.alloc(), &[(Rows, at(0, 0), 2), (Columns, at(0, 0), 2)])?;
     for hidden in [at(0, 1), at(1, 0), at(1, 1)] {
         assert!(rt; !spans.is_visible(hidden));
     }
@@ -217,16 +236,15 @@ fn sees_both(spans: &SpanTable, direction: Direction, first: Position, second: P
 // By the column span, by the row span, by both, and by one without end.
 #[test]
 fn listed_positions(rt: HostRuntime) -> Result<(), Fail> {
-    let mut spans = SpanTable::new(rt.alloc());
-    spans.set_column(at(0, 0), 3)?;
-    spans.set_row(at(0, 0), 3)?;
+    let square = [(Columns, at(0, 0), 3), (Rows, at(0, 0), 3)];
+    let mut spans = spans_of(rt.alloc(), &square)?;
     spans.set_row(at(5, 4), usize::MAX)?;
-    for direction in [Direction::Columns, Direction::Rows] {
+    for direction in [Columns, Rows] {
         assert!(rt; sees_both(&spans, direction, at(0, 0), at(4, 4)));
         assert!(rt; sees_both(&spans, direction, at(3, 2), at(5, 4)));
-        assert!(rt; !sees_both(&spans, direction, at(0, 2), at(5, 4)));
-        assert!(rt; !sees_both(&spans, direction, at(2, 0), at(5, 4)));
-        assert!(rt; !sees_both(&spans, direction, at(1, 2), at(5, 4)));
+        for hidden in [at(0, 2), at(2, 0), at(1, 2)] {
+            assert!(rt; !sees_both(&spans, direction, hidden, at(5, 4)));
+        }
         assert!(rt; !sees_both(&spans, direction, at(0, 3), at(usize::MAX, 4)));
     }
     Ok(())
@@ -234,9 +252,7 @@ fn listed_positions(rt: HostRuntime) -> Result<(), Fail> {
 
 #[test]
 fn held_spans(rt: HostRuntime) -> Result<(), Fail> {
-    let mut spans = SpanTable::new(rt.alloc());
-    spans.set_column(at(1, 2), 3)?;
-    spans.set_row(at(1, 2), 4)?;
+    let spans = spans_of(rt.alloc(), &[(Columns, at(1, 2), 3), (Rows, at(1, 2), 4)])?;
     assert_eq!(rt; spans.get_column(at(1, 2)), Some(3));
     assert_eq!(rt; spans.get_row(at(1, 2)), Some(4));
     assert_eq!(rt; spans.columns()?.get(&at(1, 2)), Some(&3));
@@ -246,7 +262,7 @@ fn held_spans(rt: HostRuntime) -> Result<(), Fail> {
 
 #[test]
 fn equal_spans(rt: HostRuntime) -> Result<(), Fail> {
-    let mut spans = one_span(rt.alloc(), Direction::Columns)?;
+    let mut spans = spans_of(rt.alloc(), &[(Columns, at(0, 0), 2)])?;
     let copy = spans.clone()?;
     spans.set_column(at(0, 0), 0)?;
     assert!(rt; copy == spans);
@@ -257,9 +273,7 @@ fn equal_spans(rt: HostRuntime) -> Result<(), Fail> {
 
 #[test]
 fn removed_spans(rt: HostRuntime) -> Result<(), Fail> {
-    let mut spans = SpanTable::new(rt.alloc());
-    spans.set_column(at(0, 0), 2)?;
-    spans.set_row(at(1, 2), 4)?;
+    let mut spans = spans_of(rt.alloc(), &[(Columns, at(0, 0), 2), (Rows, at(1, 2), 4)])?;
     spans.remove_columns();
     assert!(rt; !spans.has_columns() && spans.has_rows());
     spans.remove_rows();
@@ -269,25 +283,23 @@ fn removed_spans(rt: HostRuntime) -> Result<(), Fail> {
 
 #[test]
 fn span_of_one_removes(rt: HostRuntime) -> Result<(), Fail> {
-    let mut spans = SpanTable::new(rt.alloc());
-    spans.set_column(at(3, 4), 2)?;
-    spans.set_column(at(3, 4), 1)?;
-    assert!(rt; spans == SpanTable::new(rt.alloc()));
-    assert!(rt; !spans.has_columns());
-    assert!(rt; spans.columns()?.is_empty());
-    spans.set_column(at(3, 4), 2)?;
-    spans.remove_columns();
-    assert!(rt; spans == SpanTable::new(rt.alloc()));
-    assert!(rt; !spans.has_columns());
-    assert!(rt; spans.columns()?.is_empty());
+    let by_one = spans_of(
+        rt.alloc(),
+        &[(Columns, at(3, 4), 2), (Columns, at(3, 4), 1)],
+    )?;
+    let mut removed = spans_of(rt.alloc(), &[(Columns, at(3, 4), 2)])?;
+    removed.remove_columns();
+    for spans in [&by_one, &removed] {
+        assert!(rt; *spans == SpanTable::new(rt.alloc()));
+        assert!(rt; !spans.has_columns());
+        assert!(rt; spans.columns()?.is_empty());
+    }
     Ok(())
 }
 
 #[test]
 fn row_span_dropped(rt: HostRuntime) -> Result<(), Fail> {
-    let mut spans = SpanTable::new(rt.alloc());
-    spans.set_column(at(0, 0), 2)?;
-    spans.set_row(at(0, 0), 2)?;
+    let mut spans = spans_of(rt.alloc(), &[(Columns, at(0, 0), 2), (Rows, at(0, 0), 2)])?;
     spans.set_row(at(0, 0), 1)?;
     assert!(rt; spans.is_visible(at(1, 1)) && spans.is_visible(at(1, 0)));
     assert!(rt; !spans.is_visible(at(0, 1)));
@@ -317,31 +329,17 @@ fn refused_spans(rt: HostRuntime) {
     }
 }
 
-// A table with one span of the direction.
-fn one_span(alloc: Global, direction: Direction) -> Result<SpanTable, AllocError> {
-    let mut spans = SpanTable::new(alloc);
-    match direction {
-        Direction::Columns => spans.set_column(at(0, 0), 2)?,
-        Direction::Rows => spans.set_row(at(0, 0), 2)?,
-    }
-    Ok(spans)
-}
-
 // A span beside one of the other direction grows two maps: where the second is refused, the table is
 // as it was.
 #[test]
 fn refused_second_span(rt: HostRuntime) {
-    for direction in [Direction::Columns, Direction::Rows] {
-        let (Ok(mut spans), Ok(copy)) = (
-            one_span(rt.alloc(), direction),
-            one_span(rt.alloc(), direction),
-        ) else {
+    for (held, other) in [(Columns, Rows), (Rows, Columns)] {
+        let one = [(held, at(0, 0), 2)];
+        let (Ok(mut spans), Ok(copy)) = (spans_of(rt.alloc(), &one), spans_of(rt.alloc(), &one))
+        else {
             return;
         };
-        let second = match direction {
-            Direction::Columns => spans.set_row(at(0, 0), 2),
-            Direction::Rows => spans.set_column(at(0, 0), 2),
-        };
+        let second = set_span(&mut spans, other, at(0, 0), 2);
         assert_eq!(rt; spans == copy, second.is_err());
         assert_eq!(rt; spans.is_visible(at(1, 1)), second.is_err());
     }

@@ -350,7 +350,7 @@ impl<T: Drop> BorderTable<T> {
 }
 
 impl<T: Clone> BorderTable<T> {
-    /// All horizontal lines that are held, or want of memory. Condition: a clone of a value equals
+    /// All horizontal lines that are held, or out of memory. Condition: a clone of a value equals
     /// it.
     pub fn get_horizontal_lines(&self) -> Result<HashMap<usize, HorizontalLine<T>>, AllocError>
         requires equal_clones { (x y : T) → T.is_clone x y → y ≡ x }
@@ -359,7 +359,7 @@ impl<T: Clone> BorderTable<T> {
         self.horizontal_lines.values.clone()
     }
 
-    /// All vertical lines that are held, or want of memory. Condition: a clone of a value equals
+    /// All vertical lines that are held, or out of memory. Condition: a clone of a value equals
     /// it.
     pub fn get_vertical_lines(&self) -> Result<HashMap<usize, VerticalLine<T>>, AllocError>
         requires equal_clones { (x y : T) → T.is_clone x y → y ≡ x }

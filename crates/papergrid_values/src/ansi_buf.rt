@@ -33,7 +33,7 @@ impl Model for ANSIBuf {
 }
 
 impl ANSIBuf {
-    /// The colour with copies of these texts, or want of memory.
+    /// The colour with copies of these texts, or out of memory.
     pub fn new(alloc: Global, prefix: &str, suffix: &str) -> Result<ANSIBuf, AllocError>
         ensures { IfOk result (λ color. color ≡ (prefix.now, suffix.now)) }
     {
@@ -43,7 +43,7 @@ impl ANSIBuf {
         })
     }
 
-    /// The colour with copies of a borrowed one's texts, or want of memory.
+    /// The colour with copies of a borrowed one's texts, or out of memory.
     pub fn copy_of(alloc: Global, color: ANSIStr<'_>) -> Result<ANSIBuf, AllocError>
         ensures { IfOk result (λ copy. copy ≡ texts_of color.entry) }
     {

@@ -218,7 +218,7 @@ impl<T> Border<&T> {
         }
     }
 
-    /// The border with a clone of each part that is lent, or want of memory where a clone met it.
+    /// The border with a clone of each part that is lent, or out of memory where a clone is.
     /// It equals the parts lent where clones of them do.
     pub fn cloned(&self) -> Result<Border<T>, AllocError>
     where

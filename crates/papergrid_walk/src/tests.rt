@@ -131,10 +131,10 @@ fn anchor_is_no_cell(rt: HostRuntime) -> Result<(), Fail> {
 fn greatest_spans(rt: HostRuntime) -> Result<(), Fail> {
     let alloc = rt.alloc();
     let wide = vec![in alloc; anchor(0, 1, 1, MAX), anchor(1, MAX, MAX, MAX)]?;
-    let row = vec![in alloc; at(0, 2), at(0, 3)]?;
-    assert_eq!(rt; hidden(alloc, wide, 3, 4)?, Some(row));
     let tall = vec![in alloc; anchor(1, 0, MAX, 1), anchor(MAX, 0, MAX, MAX)]?;
+    let row = vec![in alloc; at(0, 2), at(0, 3)]?;
     let column = vec![in alloc; at(2, 0), at(3, 0)]?;
+    assert_eq!(rt; hidden(alloc, wide, 3, 4)?, Some(row));
     assert_eq!(rt; hidden(alloc, tall, 4, 2)?, Some(column));
     Ok(())
 }

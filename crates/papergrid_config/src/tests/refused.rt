@@ -250,13 +250,12 @@ fn copies(rt: &impl Abort, config: &SpannedConfig) {
 
 #[test]
 fn refused_copies(rt: HostRuntime) {
-    let Ok(settings) = held(rt.alloc()) else {
-        return;
-    };
-    let all = settings.len();
     let mut config = SpannedConfig::new(rt.alloc());
-    if taken(&mut config, settings) == all {
-        copies(&rt, &config);
+    if let Ok(settings) = held(rt.alloc()) {
+        let all = settings.len();
+        if give(&mut config, settings, all).is_ok() {
+            copies(&rt, &config);
+        }
     }
     drop(config);
 }

@@ -7,7 +7,7 @@ use crate::{
 use papergrid_config::{CompactConfig, SpannedConfig};
 use std::alloc::Global;
 
-/// Whether sizes were kept for want of memory, or those of the picture were given.
+/// Whether sizes were kept for out of memory, or those of the picture were given.
 fn is_kept_or_given(answer: Result<(), LayoutError>, sizes: &Sizes) -> bool {
     match answer {
         Ok(()) => are(sizes, &[17, 12, 16, 1], &[1, 1]),

@@ -5,7 +5,7 @@ use Rattle.std.proofs.lemmas.Iterator.{YieldsList-from_map}
 use Rattle.std.proofs.lemmas.Iterator.Adapters.{items_from_extend}
 use Rattle.std.proofs.lemmas.Iterator.Consumers.{YieldsList-at, YieldsList-from_rest}
 use Rattle.papergrid_values.specs.contracts.entity.EntityPartialEq.TheImpl.{eq-value}
-use Rattle.papergrid_values.specs.declared.entity.Entity.TheVariants.{Column, Global, Row}
+use Rattle.papergrid_values.specs.declared.entity.Entity.TheVariants.{Column, Row}
 use Rattle.papergrid_values.specs.declared.position.Position.{Position}
 use Rattle.papergrid_tables.specs.Keys.{position_eq}
 use Rattle.papergrid_maps.proofs.IntoMap.{cell_of, entity_eq_is, gathered}
