@@ -24,16 +24,6 @@ module _ (size : ℕ → ℕ) (line : ℕ → Bool) where
       let part : offset size line s + extent size line s n ≡ offset size line last + size last = extent-end s n last one e in
       omega arith
 
--- where the next column (row) begins, in a table whose total fits
-pub next-begin : (size : ℕ → ℕ) (line : ℕ → Bool) (count i begin got drew : ℕ) → i < count → total size line count < 2 ^ 64 →
-    begin ≡ offset size line i → got ≡ size i → drew ≡ cond (line (i + 1)) 1 0 →
-    (begin + got + drew ≡ offset size line (i + 1)) × (begin + got + drew < 2 ^ 64)
-next-begin size line count i begin got drew below fits at taken drawn =
-    let next : offset size line (i + 1) ≡ offset size line i + size i + cond (line (i + 1)) 1 0 = offset-next size line i in
-    let rises : offset size line (i + 1) ≤ offset size line count = offset-rises size line (i + 1) count (omega arith) in
-    let small : offset size line count < 2 ^ 64 = fits in
-    (omega arith, omega arith)
-
 -- one more number of a list that has a function's values
 pub values-push : (f : ℕ → ℕ) (xs : List ℕ) (y i : ℕ) → length xs ≡ i → y ≡ f i → ((k : ℕ) → k < i → get_or xs k 0 ≡ f k) →
     (k : ℕ) → k < i + 1 → get_or (xs ++ y ∷ []) k 0 ≡ f k

@@ -82,6 +82,28 @@ module _ (size : ℕ → ℕ) (line : ℕ → Bool) where
       let before : offset size line s + extent size line s n ≤ offset size line count = extent-before s n count (ltb-false count (s + n) (sym inside)) in
       omega arith
 
+  -- the sum up to a number that is passed does not fit, so the total does not
+  pub past-total : (s count : ℕ) → s ≤ count → (offset size line s < 2 ^ 64 → ⊥) → offset size line count < 2 ^ 64 → ⊥
+  past-total s count le past fits =
+      past (let rises : offset size line s ≤ offset size line count = offset-rises s count le in
+      let small : offset size line count < 2 ^ 64 = fits in
+      omega arith)
+
+  -- where the next number begins, and that this is not past where a later one does
+  pub next-begin : (end i begin got drew : ℕ) → i < end → begin ≡ offset size line i → got ≡ size i → drew ≡ drawn (i + 1) →
+      (begin + got + drew ≡ offset size line (i + 1)) × (begin + got + drew ≤ offset size line end)
+  next-begin end i begin got drew below at taken passed =
+      let next : offset size line (i + 1) ≡ offset size line i + size i + drawn (i + 1) = offset-next i in
+      let rises : offset size line (i + 1) ≤ offset size line end = offset-rises (i + 1) end (omega arith) in
+      (omega arith, omega arith)
+
+  -- how long a range is, by where it begins, where the next number begins and the line there
+  pub part-of : (s n begin next drew : ℕ) → 1 ≤ n → begin ≡ offset size line s → next ≡ offset size line (s + n) → drew ≡ drawn (s + n) →
+      next ≡ begin + extent size line s n + drew
+  part-of s n begin next drew one at end passed =
+      let after : offset size line (s + n) ≡ offset size line s + extent size line s n + drawn (s + n) = offset-after s n one in
+      omega arith
+
 -- where none is found, there is none
 pub none-of : {T : Type 0} (found : Option T) (P : Type 0) (x : T) → found ≡ None → (P → ⊥) → SomeIff found P x
 none-of found P x e never = subst (λ r. SomeIff r P x) (sym e) never

@@ -1,10 +1,11 @@
 //! The sizes of records whose cells are texts. Source: `dimension/iterable.rs`.
 
-ghost use Rattle.std.specs.Prelude.{◌≡◌, ◌<◌, ◌^◌, [], List, length, sum};
+ghost use Rattle.std.specs.Prelude.{◌≡◌, ◌-◌, ◌<◌, ◌^◌, [], List, length, sum};
 ghost use Rattle.papergrid_values.specs.declared.direction.Direction.TheVariants.{Columns, Rows};
 ghost use Rattle.papergrid_walk.specs.Looks.{spanned_look};
 ghost use Rattle.papergrid_walk.specs.Measures.{line_measure};
 ghost use Rattle.papergrid_axis.specs.Answers.{Answers, IsSized, IsTotal};
+ghost use Rattle.papergrid_axis.specs.Problem.{all_lines};
 ghost use Rattle.papergrid_walk.specs.Cells.{problem_of};
 ghost use Rattle.papergrid_layout.specs.Answers.{UnlessMemory};
 
@@ -123,10 +124,7 @@ impl IterGridDimension {
             × Answers IsTotal (problem_of (spanned_look config.now) (line_measure R.Iter.Cell.text)
             (R.columns records) cells Columns) result) }
     {
-        match IterGridDimension::width(alloc, records, config) {
-            Ok(widths) => Ok(sum_of(&widths) + config.count_vertical(widths.len())),
-            Err(error) => Err(error),
-        }
+        total_along(alloc, records, config, Direction::Columns)
     }
 
     /// The height of the records' table: the sum of the heights and of the horizontal lines.
@@ -149,10 +147,7 @@ impl IterGridDimension {
             × Answers IsTotal (problem_of (spanned_look config.now) (line_measure R.Iter.Cell.text)
             (R.columns records) cells Rows) result) }
     {
-        match IterGridDimension::height(alloc, records, config) {
-            Ok(heights) => Ok(sum_of(&heights) + config.count_horizontal(heights.len())),
-            Err(error) => Err(error),
-        }
+        total_along(alloc, records, config, Direction::Rows)
     }
 
     /// The widths and the heights.
@@ -166,6 +161,37 @@ impl IterGridDimension {
             heights,
         } = self;
         (widths.into_vec(), heights.into_vec())
+    }
+}
+
+/// The total of the records along a direction: the sum of the sizes and of the lines.
+fn total_along<R: Records + Drop>(
+    alloc: Global,
+    records: R,
+    config: &SpannedConfig,
+    direction: Direction,
+) -> Result<usize, LayoutError>
+where
+    <<R as Records>::Iter as IntoRecords>::Cell: AsStr + Drop,
+    requires { R.is_lawful records }
+    ensures { UnlessMemory result ((cells : List (List R.Iter.Cell)) × R.tells records cells
+        × Answers IsTotal (problem_of (spanned_look config.now) (line_measure R.Iter.Cell.text)
+        (R.columns records) cells direction) result) }
+{
+    match solve_along::<Vec<usize>, ByLines, R, SpannedConfig>(alloc, records, config, direction) {
+        Ok(sizes) => Ok(sum_of(&sizes) + count_lines(config, direction, sizes.len())),
+        Err(error) => Err(error),
+    }
+}
+
+/// How many lines there are along a direction, of so many columns (rows).
+fn count_lines(config: &SpannedConfig, direction: Direction, count: usize) -> usize
+    requires { count < 2 ^ 64 - 1 }
+    ensures { result ≡ all_lines ((spanned_look config.now).draws direction count) count }
+{
+    match direction {
+        Direction::Columns => config.count_vertical(count),
+        Direction::Rows => config.count_horizontal(count),
     }
 }
 
