@@ -1,6 +1,6 @@
 use Rattle.std.proofs.Common.{◌∙◌, ◌+◌, ap, arith, length, sym}
 use Rattle.std.specs.Prelude.{sum}
-use Rattle.papergrid_axis.specs.Problem.{all_lines}
+use Rattle.papergrid_values.specs.Lines.{all_lines}
 use Rattle.papergrid_walk.specs.Cells.{problem_of}
 use Rattle.papergrid_walk.specs.Looks.{line_along, spanned_look}
 use Rattle.papergrid_walk.specs.Measures.{line_measure}
