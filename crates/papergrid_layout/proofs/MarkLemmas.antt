@@ -1,10 +1,10 @@
 -- Where columns (rows) begin and end, as it is kept for all of them.
-use Rattle.std.proofs.Common.{◌≡◌, ℕ, ◌+◌, ◌<◌, ◌≤◌, ◌^◌, Bool, cond, ap, ◌∙◌, arith, List, [], ◌∷◌, ◌++◌, length, get_or, below_more}
+use Rattle.std.proofs.Common.{◌≡◌, ℕ, ◌+◌, ◌<◌, ◌≤◌, Bool, cond, ap, ◌∙◌, arith, List, [], ◌∷◌, ◌++◌, length, get_or, below_more}
 use Rattle.std.proofs.lemmas.List.{get_or_append_left, get_or_push}
-use Rattle.papergrid_layout.specs.Places.{extent, offset, total}
+use Rattle.papergrid_layout.specs.Places.{extent, offset}
 use Rattle.papergrid_layout.specs.ForProofs.Placing.{AreMarks}
 use Rattle.papergrid_layout.specs.declared.marks.Marks.{Marks}
-use Rattle.papergrid_layout.proofs.PlaceSums.{offset-after, offset-next, offset-rises}
+use Rattle.papergrid_layout.proofs.PlaceSums.{offset-after, offset-next}
 
 module _ (size : ℕ → ℕ) (line : ℕ → Bool) where
   -- a range ends where its last number does

@@ -2,4 +2,5 @@
 pub mod Checking
 pub mod Earlier
 pub mod Placing
+pub mod Points
 pub mod Rulers

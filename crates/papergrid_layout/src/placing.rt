@@ -157,6 +157,7 @@ pub fn places<D: Dimension>(
         Ok(_) => {}
         Err(PlaceError::OutOfTable) => return Err(LayoutError::OutOfTable(first)),
         Err(PlaceError::TooLarge) => return Err(LayoutError::TooLarge),
+        // No position stands above or left of the first one.
         Err(PlaceError::Hidden) => unreachable!(),
     }
     let mut placing = Placing::new(alloc, dim, cfg, shape)?;

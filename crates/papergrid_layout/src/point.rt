@@ -2,10 +2,9 @@
 
 ghost use Rattle.std.specs.Prelude.{◌≡◌, ◌<◌, ◌≤◌, ◌↔◌, ℕ, IsTrue, MatchOption};
 ghost use Rattle.papergrid_values.specs.declared.position.Position.{Position};
-ghost use Rattle.papergrid_values.specs.declared.direction.Direction.TheVariants.{Columns, Rows};
-ghost use Rattle.papergrid_maps.specs.Spans.{IsInRectangle};
 ghost use Rattle.papergrid_walk.specs.Looks.{spanned_look};
 ghost use Rattle.papergrid_layout.specs.Places.{IsFirstOver, StandsOver};
+ghost use Rattle.papergrid_layout.specs.ForProofs.Points.{LiesInEach};
 
 use crate::dimension::Dimension;
 use crate::placed::place;
@@ -33,9 +32,8 @@ impl<'a, D: Dimension> Point<'a, D> {
         requires columns { (column : ℕ) → column < self.now.shape.1 → D.has_column self.now.dim.now column }
         requires rows { (row : ℕ) → row < self.now.shape.0 → D.has_row self.now.dim.now row }
         requires before { (pos.row ≤ self.now.within.row) × (pos.col ≤ self.now.within.col) }
-        requires reach { let look = spanned_look self.now.cfg.now in (q : Position) →
-            StandsOver look (D.width_of self.now.dim.now) (D.height_of self.now.dim.now) self.now.shape self.now.column self.now.line q →
-            IsInRectangle (look.span Columns) (look.span Rows) q self.now.within }
+        requires reach { LiesInEach (spanned_look self.now.cfg.now) (D.width_of self.now.dim.now) (D.height_of self.now.dim.now)
+            self.now.shape self.now.column self.now.line self.now.within }
         ensures { IsTrue result ↔ StandsOver (spanned_look self.now.cfg.now) (D.width_of self.now.dim.now) (D.height_of self.now.dim.now)
             self.now.shape self.now.column self.now.line pos }
     {
@@ -56,9 +54,8 @@ impl<'a, D: Dimension> Point<'a, D> {
         requires columns { (column : ℕ) → column < self.now.shape.1 → D.has_column self.now.dim.now column }
         requires rows { (row : ℕ) → row < self.now.shape.0 → D.has_row self.now.dim.now row }
         requires before { row ≤ self.now.within.row }
-        requires reach { let look = spanned_look self.now.cfg.now in (q : Position) →
-            StandsOver look (D.width_of self.now.dim.now) (D.height_of self.now.dim.now) self.now.shape self.now.column self.now.line q →
-            IsInRectangle (look.span Columns) (look.span Rows) q self.now.within }
+        requires reach { LiesInEach (spanned_look self.now.cfg.now) (D.width_of self.now.dim.now) (D.height_of self.now.dim.now)
+            self.now.shape self.now.column self.now.line self.now.within }
         ensures { let IsUnder = StandsOver (spanned_look self.now.cfg.now) (D.width_of self.now.dim.now) (D.height_of self.now.dim.now)
             self.now.shape self.now.column self.now.line in
             MatchOption result ((q : Position) → q.row ≡ row → IsUnder q → ⊥)
@@ -77,9 +74,8 @@ impl<'a, D: Dimension> Point<'a, D> {
     fn first(&self) -> Option<Position>
         requires columns { (column : ℕ) → column < self.now.shape.1 → D.has_column self.now.dim.now column }
         requires rows { (row : ℕ) → row < self.now.shape.0 → D.has_row self.now.dim.now row }
-        requires reach { let look = spanned_look self.now.cfg.now in (q : Position) →
-            StandsOver look (D.width_of self.now.dim.now) (D.height_of self.now.dim.now) self.now.shape self.now.column self.now.line q →
-            IsInRectangle (look.span Columns) (look.span Rows) q self.now.within }
+        requires reach { LiesInEach (spanned_look self.now.cfg.now) (D.width_of self.now.dim.now) (D.height_of self.now.dim.now)
+            self.now.shape self.now.column self.now.line self.now.within }
         ensures { IsFirstOver (spanned_look self.now.cfg.now) (D.width_of self.now.dim.now) (D.height_of self.now.dim.now)
             self.now.shape self.now.column self.now.line result }
     {
