@@ -23,6 +23,8 @@ pub fn sweep_of<S: Settings>(alloc: Global, settings: &S) -> Result<Sweep, Alloc
 
 /// The position with its spans, where it is visible. Each position stands behind the one that was asked
 /// for before it. Where there are no spans this takes no time and no memory.
+// Each walk asks it for each of its cells.
+#[inline(always)]
 pub fn visible_anchor(
     walk: &mut Sweep,
     alloc: Global,
