@@ -111,12 +111,16 @@ fn failed(checked: Checked) -> Checked
 
 /// What was kept, and a cell that is listed so often, with its need and its inner lines.
 fn with_cell(checked: Checked, times: usize, need: u128, inner: usize) -> Checked
+    requires holds { checked.holds ≡ true }
     requires found { checked.found + times < 2 ^ 59 }
     requires needs { checked.needs ≤ 2 ^ 66 * checked.found }
     requires inner { checked.inner ≤ 2 ^ 64 * checked.found }
     requires need { need ≤ 2 ^ 66 }
     ensures { result ≡ record { holds = true; found = checked.found + times; needs = checked.needs + need * times; inner = checked.inner + inner * times } }
 {
+    if times == 0 {
+        return checked;
+    }
     Checked {
         holds: true,
         found: checked.found + times,

@@ -2,7 +2,7 @@
 
 ghost use Rattle.std.specs.Prelude.{◌≡◌, ◌+◌, ◌^◌, ◌<◌, ◌≤◌, ◌⊎◌, ◌∷◌, [], ⊤, List, length};
 ghost use Rattle.papergrid_axis.specs.ForProofs.Checks.{AreBounded, IsClaim};
-ghost use Rattle.papergrid_walk.specs.Cells.{asked_by, demands_of, problem_of, side};
+ghost use Rattle.papergrid_walk.specs.Cells.{asked_by, demands_of, problem_of};
 ghost use Rattle.papergrid_layout.specs.Witnesses.{IsChecked};
 ghost use Rattle.papergrid_layout.specs.ForProofs.Checking.{AreShown, ChecksBy, ChecksMore, IsShownClaim, check_more, check_none};
 ghost use Rattle.std.proofs.Common.{◌∙◌, ap, refl};
@@ -17,21 +17,17 @@ use papergrid_walk::{Measure, Settings, Visitor, walk};
 use std::alloc::AllocError;
 use std::marker::PhantomData;
 
-/// What the cell at a position needs along a direction, by its measure.
+/// What the cell at a position needs along a direction, by its width (height).
 fn need_along<S: Settings>(
     settings: &S,
     direction: Direction,
     pos: Position,
-    measure: (usize, usize),
+    size: usize,
 ) -> u128
     ensures sum { let look = S.look settings.now in
-        result ≡ side direction measure + look.before direction pos + look.after direction pos }
+        result ≡ size + look.before direction pos + look.after direction pos }
     ensures small { result ≤ 2 ^ 66 }
 {
-    let size = match direction {
-        Direction::Columns => measure.0,
-        Direction::Rows => measure.1,
-    };
     let before = settings.padding_before(direction, pos);
     let after = settings.padding_after(direction, pos);
     wide_need(size, before, after)
@@ -72,7 +68,8 @@ fn check_cell<M: Measure<C>, C, S: Settings>(
         direction: claim.direction,
         count: claim.sizes.len(),
     };
-    let need = need_along(settings, claim.direction, pos, M::measure(cell));
+    let size = M::measure_along(claim.direction, cell);
+    let need = need_along(settings, claim.direction, pos, size);
     let visited = visit(checked, claim, &axis, pos, need);
     if is_unchanged(checked, visited) {
         return checked;

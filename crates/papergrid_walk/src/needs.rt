@@ -3,7 +3,7 @@
 ghost use Rattle.std.specs.Prelude.{◌≡◌, ℕ, ◌+◌, ◌-◌, ◌<◌, ◌≤◌, ◌^◌, ◌∷◌, [], ⊤, if◌then◌else◌, IfOk, IfSome, List, None, OnOk, Some, length};
 ghost use Rattle.papergrid_values.specs.declared.direction.Direction.TheVariants.{Columns, Rows};
 ghost use Rattle.papergrid_axis.specs.ForProofs.Seen.{Adds, IsSeen};
-ghost use Rattle.papergrid_walk.specs.Cells.{asked, asked_by, count_along, demands_of};
+ghost use Rattle.papergrid_walk.specs.Cells.{asked, asked_by, count_along, demands_of, side};
 ghost use Rattle.papergrid_walk.specs.ForProofs.Limits.{limit_along};
 ghost use Rattle.papergrid_walk.specs.Looks.{Look};
 ghost use Rattle.papergrid_walk.specs.ForProofs.Paddings.{AreCommon, paddings_at};
@@ -36,17 +36,19 @@ fn limit_of(direction: Direction, columns: usize) -> usize
     }
 }
 
-/// Keeps what a visible cell asks for along a direction, by its spans, its measure and its paddings.
+/// Keeps what a visible cell asks for along a direction, by its spans, its width (height) and its
+/// paddings.
 #[inline(always)]
 fn keep_along(
     seen: &mut Seen,
     direction: Direction,
     anchor: Anchor,
-    measure: (usize, usize),
+    size: usize,
     paddings: Paddings,
 ) -> Result<(), AllocError>
     requires { (1 ≤ anchor.cols) × (1 ≤ anchor.rows) }
-    ensures { (look : Look) → anchor ≡ anchor_in look anchor.position → paddings ≡ paddings_at look anchor.position →
+    ensures { (look : Look) (measure : ℕ × ℕ) →
+        anchor ≡ anchor_in look anchor.position → paddings ≡ paddings_at look anchor.position → size ≡ side direction measure →
         OnOk result (Adds seen.old seen.new (asked direction look (λ _. measure) (anchor.position, measure) ∷ [])) }
 {
     let Paddings {
@@ -55,26 +57,11 @@ fn keep_along(
         top,
         bottom,
     } = paddings;
-    match direction {
-        Direction::Columns => keep(
-            seen,
-            direction,
-            anchor.position,
-            anchor.cols,
-            measure.0,
-            left,
-            right,
-        ),
-        Direction::Rows => keep(
-            seen,
-            direction,
-            anchor.position,
-            anchor.rows,
-            measure.1,
-            top,
-            bottom,
-        ),
-    }
+    let (span, before, after) = match direction {
+        Direction::Columns => (anchor.cols, left, right),
+        Direction::Rows => (anchor.rows, top, bottom),
+    };
+    keep(seen, direction, anchor.position, span, size, before, after)
 }
 
 /// What a walk reads of settings: which cells are visible, their spans and their paddings.
@@ -150,7 +137,7 @@ impl<'a, M: Measure<C>, C, S: Settings> Visitor<C> for Needs<'a, M, S> {
                 &mut self.seen,
                 self.direction,
                 anchor,
-                M::measure(cell),
+                M::measure_along(self.direction, cell),
                 paddings,
             ),
             None => Ok(()),
@@ -199,19 +186,19 @@ impl<'a, M: Measure<C>, C, S: Settings> Visitor<C> for BothNeeds<'a, M, S> {
         let Some((anchor, paddings)) = self.view.read(position)? else {
             return Ok(());
         };
-        let measure = M::measure(cell);
+        let (width, height) = M::measure(cell);
         keep_along(
             &mut self.both.columns,
             Direction::Columns,
             anchor,
-            measure,
+            width,
             paddings,
         )?;
         keep_along(
             &mut self.both.rows,
             Direction::Rows,
             anchor,
-            measure,
+            height,
             paddings,
         )
     }

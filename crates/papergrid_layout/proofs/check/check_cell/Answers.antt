@@ -1,5 +1,4 @@
-use Rattle.std.proofs.Common.{◌∙◌, ◌+◌, sym}
-use Rattle.papergrid_walk.specs.Cells.{side}
+use Rattle.std.proofs.Common.{◌∙◌, ◌+◌, ap, sym}
 use Rattle.papergrid_layout.proofs.CheckSteps.{check_hidden, check_same, check_shown}
 use Rattle.papergrid_layout.proofs.check.check_cell.Goals as goal
 
@@ -7,7 +6,7 @@ pub returns-then-is_unchanged-clause-checks : goal.returns-then-is_unchanged-cla
 returns-then-is_unchanged-clause-checks g c =
     let claim = c.args.claim.now in
     let look = g.S.Settings.look c.args.settings.now in
-    let need = c.need_along-need.ensures.sum ∙ (λ k. side claim.direction (c.measure.ensures k) + look.before claim.direction c.args.pos + look.after claim.direction c.args.pos) in
+    let need = c.need_along-need.ensures.sum ∙ ap (λ size. size + look.before claim.direction c.args.pos + look.after claim.direction c.args.pos) c.measure_along-size.ensures in
     check_same look claim g.M.Measure.measured c.args.checked c.visit-visited.result c.args.pos c.args.cell.now c.need_along-need.result
     (c.is_unchanged.ensures c.if-is_unchanged.true) need c.visit-visited.ensures.checks
 
@@ -15,7 +14,7 @@ pub returns-then-is_shown-clause-checks : goal.returns-then-is_shown-clause-chec
 returns-then-is_shown-clause-checks g c =
     let claim = c.args.claim.now in
     let look = g.S.Settings.look c.args.settings.now in
-    let need = c.need_along-need.ensures.sum ∙ (λ k. side claim.direction (c.measure.ensures k) + look.before claim.direction c.args.pos + look.after claim.direction c.args.pos) in
+    let need = c.need_along-need.ensures.sum ∙ ap (λ size. size + look.before claim.direction c.args.pos + look.after claim.direction c.args.pos) c.measure_along-size.ensures in
     check_shown look claim g.M.Measure.measured c.args.checked c.visit-visited.result c.args.pos c.args.cell.now c.need_along-need.result
     (sym c.is_shown.ensures ∙ c.if-is_shown.true) need c.visit-visited.ensures.checks
 
