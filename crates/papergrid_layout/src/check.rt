@@ -18,12 +18,7 @@ use std::alloc::AllocError;
 use std::marker::PhantomData;
 
 /// What the cell at a position needs along a direction, by its width (height).
-fn need_along<S: Settings>(
-    settings: &S,
-    direction: Direction,
-    pos: Position,
-    size: usize,
-) -> u128
+fn need_along<S: Settings>(settings: &S, direction: Direction, pos: Position, size: usize) -> u128
     ensures sum { let look = S.look settings.now in
         result ≡ size + look.before direction pos + look.after direction pos }
     ensures small { result ≤ 2 ^ 66 }
