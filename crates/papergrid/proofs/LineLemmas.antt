@@ -2,7 +2,8 @@
 use Rattle.std.proofs.Common.{◌≡◌, ◌+◌, ◌∷◌, [], ℕ, List, Option, Some, None, Result, Ok, Err, false, map, length, nat_eq, refl, ◌∙◌, arith}
 use Rattle.std.specs.Prelude.{option_and_then}
 use Rattle.std.specs.List.{slice_split}
-use Rattle.std.specs.Str.{chars, is_utf8}
+use Rattle.std.specs.Str.{IsUtf8, chars, is_utf8}
+use Rattle.std.proofs.lemmas.Str.{is_utf8-from_IsUtf8}
 use Rattle.std.proofs.lemmas.Bool.Decides.{nat_tests}
 use Rattle.papergrid.specs.Grammar.{Said, Nothing, said, text_says, without_cr, without_empty_last, script_lines}
 use Rattle.papergrid.specs.Scripts.{Table, empty_table, with_line, or_bad, table_after, table_of}
@@ -31,6 +32,16 @@ table_of-pieces input = without_last 1 empty_table (slice_split (λ b. nat_eq b 
 next_line : (R : Result Table ℕ) (left more : List (List ℕ)) (n : ℕ) (line : List ℕ) (read : Option Said) (old : Table) → left ≡ line ∷ more → read ≡ said (without_cr line)
     → R ≡ table_after n old (map without_cr left) → R ≡ or_bad n (option_and_then (with_line old) read) (λ next. table_after (n + 1) next (map without_cr more))
 next_line R left more n line read old cut is so_far = so_far ∙ rw (cut, is) refl
+
+-- a line that is text says what the text does
+pub text_said : (bs : List ℕ) → IsUtf8 bs → text_says bs ≡ said bs
+unfolding said
+text_said bs text = rw (is_utf8-from_IsUtf8 bs text) refl
+
+pub good_line : (R : Result Table ℕ) (left more : List (List ℕ)) (n : ℕ) (line : List ℕ) (read : Option Said) (old new : Table) → left ≡ line ∷ more → read ≡ said (without_cr line)
+    → option_and_then (with_line old) read ≡ Some new
+    → R ≡ table_after n old (map without_cr left) → R ≡ table_after (n + 1) new (map without_cr more)
+good_line R left more n line read old new cut is good so_far = next_line R left more n line read old cut is so_far ∙ rw good refl
 
 pub bad_line : (R : Result Table ℕ) (left more : List (List ℕ)) (n : ℕ) (line : List ℕ) (read : Option Said) (old : Table) → left ≡ line ∷ more → read ≡ said (without_cr line)
     → option_and_then (with_line old) read ≡ None

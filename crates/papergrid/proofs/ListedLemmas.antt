@@ -127,16 +127,14 @@ module _ {T : Type 0} (calls : List (BorderCall T)) where
   made_vertical : (c count : ℕ) → vertical_line_at (borders_made calls) c count ≡ vertical_listed c count
   made_vertical c count =
       let made = borders_made calls in
-      let edges_are = entries-tabulated position_cmp position_total (places_from older).vertical_edge (flat_map named_places older) in
       line-entries made.global (at_ends c count (has_left made.frame) (has_right made.frame) (has_vertical made.frame)) (ends_at_column c count) made.horizontal_lines made.vertical_lines (λ p. p.col) made.vertical_edges made.corners c
-      ∙ (λ i. vertical_by (places_from older).global (places_from older).frame (rows_are i) (columns_are i) (edges_are i) (corners_are i) c count)
+      ∙ (λ i. vertical_by (places_from older).global (places_from older).frame (rows_are i) (columns_are i) (entries-tabulated position_cmp position_total (places_from older).vertical_edge (flat_map named_places older) i) (corners_are i) c count)
 
   made_horizontal : (r count : ℕ) → horizontal_line_at (borders_made calls) r count ≡ horizontal_listed r count
   made_horizontal r count =
       let made = borders_made calls in
-      let edges_are = entries-tabulated position_cmp position_total (places_from older).horizontal_edge (flat_map named_places older) in
       line-entries made.global (at_ends r count (has_top made.frame) (has_bottom made.frame) (has_horizontal made.frame)) (ends_at_row r count) made.vertical_lines made.horizontal_lines (λ p. p.row) made.horizontal_edges made.corners r
-      ∙ (λ i. horizontal_by (places_from older).global (places_from older).frame (columns_are i) (rows_are i) (edges_are i) (corners_are i) r count)
+      ∙ (λ i. horizontal_by (places_from older).global (places_from older).frame (columns_are i) (rows_are i) (entries-tabulated position_cmp position_total (places_from older).horizontal_edge (flat_map named_places older) i) (corners_are i) r count)
 
 -- ---- spans, by lists
 

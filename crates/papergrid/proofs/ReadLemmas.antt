@@ -201,21 +201,15 @@ border_read rest setting text h =
     let c = map_some (λ c. SetBorders (frame_with (Some c))) (character_of rest) setting h in
     subst (IsSetting (codes "border " ++ rest)) c.2 (Border rest c.0 (character_read rest c.0 text c.1))
 
-vline_read : (rest : List ℕ) (setting : Setting) → IsUtf8 rest → option_map (λ at. InsertVerticalLine at.0 (vertical_main at.1)) (placed_character rest) ≡ Some setting → IsSetting (codes "vline " ++ rest) setting
-vline_read rest setting text h =
-    let at = map_some (λ (at : ℕ × ℕ). InsertVerticalLine at.0 (vertical_main at.1)) (placed_character rest) setting h in
+-- a line of either direction, by the word that begins it
+lined_read : (word : List ℕ) (set : ℕ → ℕ → Setting) → ((digits x : List ℕ) (place c : ℕ) → IsNumber digits place → IsCharacter x c → IsSetting (word ++ (digits ++ 32 ∷ x)) (set place c))
+    → (rest : List ℕ) (setting : Setting) → IsUtf8 rest → option_map (λ at. set at.0 at.1) (placed_character rest) ≡ Some setting → IsSetting (word ++ rest) setting
+lined_read word set spells rest setting text h =
+    let at = map_some (λ (at : ℕ × ℕ). set at.0 at.1) (placed_character rest) setting h in
     let is = placed_read rest at.0 text at.1 in
-    subst (IsSetting (codes "vline " ++ rest)) at.2
-    (subst (λ (r : List ℕ). IsSetting (codes "vline " ++ r) (InsertVerticalLine at.0.0 (vertical_main at.0.1))) (sym is.spelled)
-    (Vline is.digits is.x at.0.0 at.0.1 is.is_number is.is_character))
-
-hline_read : (rest : List ℕ) (setting : Setting) → IsUtf8 rest → option_map (λ at. InsertHorizontalLine at.0 (horizontal_main at.1)) (placed_character rest) ≡ Some setting → IsSetting (codes "hline " ++ rest) setting
-hline_read rest setting text h =
-    let at = map_some (λ (at : ℕ × ℕ). InsertHorizontalLine at.0 (horizontal_main at.1)) (placed_character rest) setting h in
-    let is = placed_read rest at.0 text at.1 in
-    subst (IsSetting (codes "hline " ++ rest)) at.2
-    (subst (λ (r : List ℕ). IsSetting (codes "hline " ++ r) (InsertHorizontalLine at.0.0 (horizontal_main at.0.1))) (sym is.spelled)
-    (Hline is.digits is.x at.0.0 at.0.1 is.is_number is.is_character))
+    subst (IsSetting (word ++ rest)) at.2
+    (subst (λ (r : List ℕ). IsSetting (word ++ r) (set at.0.0 at.0.1)) (sym is.spelled)
+    (spells is.digits is.x at.0.0 at.0.1 is.is_number is.is_character))
 
 novline_read : (rest : List ℕ) (setting : Setting) → option_map (λ col. RemoveVerticalLine col 0) (number_of rest) ≡ Some setting → IsSetting (codes "novline " ++ rest) setting
 novline_read rest setting h =
@@ -240,9 +234,9 @@ line_setting_read : (keyword rest : List ℕ) (setting : Setting) → IsUtf8 res
 line_setting_read keyword rest setting text h = elim (chosen (bytes_eq keyword (codes "border")) (option_map (λ c. SetBorders (frame_with (Some c))) (character_of rest)) _ (Some setting) h) [
   | inl border ↦ worded keyword (codes "border") rest setting border.0 (border_read rest setting text border.1)
   | inr past_border ↦ elim (chosen (bytes_eq keyword (codes "vline")) (option_map (λ at. InsertVerticalLine at.0 (vertical_main at.1)) (placed_character rest)) _ (Some setting) past_border.1) [
-    | inl vline ↦ worded keyword (codes "vline") rest setting vline.0 (vline_read rest setting text vline.1)
+    | inl vline ↦ worded keyword (codes "vline") rest setting vline.0 (lined_read (codes "vline ") (λ col c. InsertVerticalLine col (vertical_main c)) Vline rest setting text vline.1)
     | inr past_vline ↦ elim (chosen (bytes_eq keyword (codes "hline")) (option_map (λ at. InsertHorizontalLine at.0 (horizontal_main at.1)) (placed_character rest)) _ (Some setting) past_vline.1) [
-      | inl hline ↦ worded keyword (codes "hline") rest setting hline.0 (hline_read rest setting text hline.1)
+      | inl hline ↦ worded keyword (codes "hline") rest setting hline.0 (lined_read (codes "hline ") (λ row c. InsertHorizontalLine row (horizontal_main c)) Hline rest setting text hline.1)
       | inr past_hline ↦ elim (chosen (bytes_eq keyword (codes "novline")) (option_map (λ col. RemoveVerticalLine col 0) (number_of rest)) _ (Some setting) past_hline.1) [
         | inl novline ↦ worded keyword (codes "novline") rest setting novline.0 (novline_read rest setting novline.1)
         | inr past_novline ↦ elim (chosen (bytes_eq keyword (codes "nohline")) (option_map (λ row. RemoveHorizontalLine row 0) (number_of rest)) None (Some setting) past_novline.1) [

@@ -1,7 +1,7 @@
 //! The lines of a script, one at a time.
 
 ghost use Rattle.std.specs.Prelude.{◌≢◌, IfOk, codes, option_map};
-ghost use Rattle.papergrid.specs.Grammar.{Cell, Set, keyword_says, said, setting_of, text_says};
+ghost use Rattle.papergrid.specs.Grammar.{Cell, Set, keyword_says, setting_of, text_says};
 ghost use Rattle.papergrid.specs.ForProofs.Seen.{Takes, table_seen};
 ghost use Rattle.papergrid.specs.Texts.{unescaped};
 ghost use Rattle.papergrid.specs.ForProofs.Escapes.{IsFirstEscape};
@@ -14,23 +14,10 @@ use crate::unescape::unescaped;
 use papergrid_config::Setting;
 use std::alloc::{AllocError, Global};
 
-/// Takes what one more line says into the script; false, and the script as it was, where the line is a bad one.
-/// The first backslash of the line stands at `escape`, or there is none before its end.
-pub fn take_line<'a>(
-    alloc: Global,
-    script: &mut Script<'a>,
-    line: &'a str,
-    escape: usize,
-) -> Result<bool, AllocError>
-    requires { IsFirstEscape line.now escape }
-    ensures { IfOk result (λ fits. Takes (table_seen script.old) (said line.now) fits (table_seen script.new)) }
-{
-    take_text(alloc, script, line, escape)
-}
-
-/// What `take_line` does, where it is known that the line is text.
+/// Takes what one more line, which is text, says into the script; false, and the script as it was, where the line
+/// is a bad one. The first backslash of the line stands at `escape`, or there is none before its end.
 #[tactic(auto, unfolding(crate::specs::Grammar::text_says))]
-fn take_text<'a>(
+pub fn take_line<'a>(
     alloc: Global,
     script: &mut Script<'a>,
     line: &'a str,

@@ -1,5 +1,5 @@
 -- What the walks over the chunks of a slice give.
-use Rattle.std.proofs.Common.{◌≡◌, ℕ, zero, suc, ◌+◌, ◌-◌, ◌/◌, ◌<◌, ◌≤◌, ◌^◌, List, [], ◌∷◌, ◌++◌, length, map, take, drop, refl, ap, sym, ◌∙◌, arith, Bor, length-append, inl, inr}
+use Rattle.std.proofs.Common.{◌≡◌, ℕ, zero, suc, ◌+◌, ◌-◌, ◌/◌, ◌<◌, ◌≤◌, ◌^◌, List, [], ◌∷◌, ◌++◌, length, map, take, drop, refl, ap, sym, ◌∙◌, arith, Bor, length-append, Option, inl, inr, subst}
 use Rattle.std.proofs.Math.Nat.{div-le_self, div-eq_of_lt, div-eq-sub-div}
 use Rattle.std.specs.Prelude.{min}
 use Rattle.std.specs.Iterator.{Yields, Drains, at_most}
@@ -138,18 +138,17 @@ module _ {X : Type 0} where
     cells_of made rows cells each =
         map_from_zip (Gives row_into (iter_steps {A = X})) (map (λ cell. cell.now)) (λ x. x.now) (λ row xs gave. lent_drains gave.iterator xs gave.walked ∙ made row gave.iterator gave.made) rows cells each
 
+    -- what the cells are, by what a whole walk over the rows gives
+    cells_cut : {S : Type 0} {steps : S → Option (Bor (List X)) → S → Type 0} (IsCut : S → Type 0) (cut : S → List (List X)) → ((s : S) (rows : List (Bor (List X))) → IsCut s → Drains steps s rows → map (λ x. x.now) rows ≡ cut s) →
+        ((row : Bor (List X)) (it : Iter X) → row_into row it → iter_rest it ≡ row.now) →
+        (s : S) (cells : List (List (Bor X))) → IsCut s → GivesRows (λ w it. it ≡ w) steps row_into (iter_steps {A = X}) s cells → map (map (λ cell. cell.now)) cells ≡ cut s
+    cells_cut IsCut cut drains made s cells is gave =
+        cells_of made gave.rows cells gave.each ∙ drains gave.walk.iterator gave.rows (subst IsCut (sym gave.walk.made) is) gave.walk.walked ∙ ap cut gave.walk.made
+
     pub chunk_cells : ((row : Bor (List X)) (it : Iter X) → row_into row it → iter_rest it ≡ row.now) →
         (s : Chunks X) (cells : List (List (Bor X))) → 0 < chunks_size s → GivesRows (λ w it. it ≡ w) (chunks_steps {A = X}) row_into (iter_steps {A = X}) s cells → map (map (λ cell. cell.now)) cells ≡ cut_rows (chunks_size s) (chunks_rest s)
-    chunk_cells made s cells pos gave =
-        let is = gave.walk.made in
-        cells_of made gave.rows cells gave.each
-        ∙ chunks_drains gave.walk.iterator gave.rows (let n = ap (λ u. chunks_size u) is in omega arith) gave.walk.walked
-        ∙ ap (λ u. cut_rows (chunks_size u) (chunks_rest u)) is
+    chunk_cells = cells_cut (λ s. 0 < chunks_size s) (λ s. cut_rows (chunks_size s) (chunks_rest s)) chunks_drains
 
     pub whole_chunk_cells : ((row : Bor (List X)) (it : Iter X) → row_into row it → iter_rest it ≡ row.now) →
         (s : ChunksExact X) (cells : List (List (Bor X))) → 0 < chunks_exact_size s → GivesRows (λ w it. it ≡ w) (chunks_exact_steps {A = X}) row_into (iter_steps {A = X}) s cells → map (map (λ cell. cell.now)) cells ≡ cut_whole_rows (chunks_exact_size s) (chunks_exact_rest s)
-    whole_chunk_cells made s cells pos gave =
-        let is = gave.walk.made in
-        cells_of made gave.rows cells gave.each
-        ∙ whole_drains gave.walk.iterator gave.rows (let n = ap (λ u. chunks_exact_size u) is in omega arith) gave.walk.walked
-        ∙ ap (λ u. cut_whole_rows (chunks_exact_size u) (chunks_exact_rest u)) is
+    whole_chunk_cells = cells_cut (λ s. 0 < chunks_exact_size s) (λ s. cut_whole_rows (chunks_exact_size s) (chunks_exact_rest s)) whole_drains
