@@ -3,8 +3,9 @@
 ghost use Rattle.std.specs.Prelude.{◌≡◌, ℕ, ◌+◌, ◌-◌, ◌<◌, ◌≤◌, ◌^◌, ◌∷◌, [], ⊤, if◌then◌else◌, IfOk, IfSome, List, None, OnOk, Some, length};
 ghost use Rattle.papergrid_values.specs.declared.direction.Direction.TheVariants.{Columns, Rows};
 ghost use Rattle.papergrid_axis.specs.ForProofs.Seen.{Adds, IsSeen};
-ghost use Rattle.papergrid_walk.specs.Cells.{asked, asked_by, count_along, demands_of, side};
+ghost use Rattle.papergrid_walk.specs.Cells.{asked_by, count_along, demands_of};
 ghost use Rattle.papergrid_walk.specs.ForProofs.Limits.{limit_along};
+ghost use Rattle.papergrid_axis.specs.Ranges.{demand_of};
 ghost use Rattle.papergrid_walk.specs.Looks.{Look};
 ghost use Rattle.papergrid_walk.specs.ForProofs.Paddings.{AreCommon, paddings_at};
 ghost use Rattle.papergrid_walk.specs.ForProofs.Pairs.{AreBothSeen};
@@ -47,9 +48,9 @@ fn keep_along(
     paddings: Paddings,
 ) -> Result<(), AllocError>
     requires { (1 ≤ anchor.cols) × (1 ≤ anchor.rows) }
-    ensures { (look : Look) (measure : ℕ × ℕ) →
-        anchor ≡ anchor_in look anchor.position → paddings ≡ paddings_at look anchor.position → size ≡ side direction measure →
-        OnOk result (Adds seen.old seen.new (asked direction look (λ _. measure) (anchor.position, measure) ∷ [])) }
+    ensures { (look : Look) → anchor ≡ anchor_in look anchor.position → paddings ≡ paddings_at look anchor.position →
+        let need = size + look.before direction anchor.position + look.after direction anchor.position in
+        OnOk result (Adds seen.old seen.new (demand_of direction anchor.position (look.span direction anchor.position) need ∷ [])) }
 {
     let Paddings {
         left,
