@@ -1,0 +1,127 @@
+//! The sizes of a table of texts, its totals and the places of its cells.
+
+ghost use Rattle.std.specs.Prelude.{◌≡◌, ◌+◌, ◌<◌, ◌≤◌, All, IfOk, List, ℕ, length, sum};
+ghost use Rattle.papergrid_axis.specs.Fits.{Fits};
+ghost use Rattle.papergrid_values.specs.declared.direction.Direction.TheVariants.{Columns};
+ghost use Rattle.papergrid_walk.specs.Cells.{problem_of, side, visible_cells};
+ghost use Rattle.papergrid_walk.specs.Looks.{spanned_look};
+ghost use Rattle.papergrid_walk.specs.Measures.{line_measure};
+
+use papergrid::config::Position;
+use papergrid::config::spanned::SpannedConfig;
+use papergrid::dimension::iterable::IterGridDimension;
+use papergrid::dimension::{
+    Dimension, Estimate, LayoutError, Place, PlaceError, cell_at, place, places,
+};
+use papergrid::records::{IntoRecords, IterRecords, Records};
+use papergrid_layout::laws::total_covers_cells;
+use std::alloc::Global;
+use std::convert::AsStr;
+
+/// The widths and the heights of rows of texts, of three columns.
+pub fn sizes(
+    alloc: Global,
+    rows: &[Vec<&str>],
+    config: &SpannedConfig,
+) -> Result<(Vec<usize>, Vec<usize>), LayoutError> {
+    let mut dimension = IterGridDimension::new(alloc);
+    dimension.estimate(IterRecords::new(rows, 3, None), config)?;
+    Ok(dimension.get_values())
+}
+
+/// The width of the first of three columns.
+pub fn first_width(
+    alloc: Global,
+    rows: &[Vec<&str>],
+    config: &SpannedConfig,
+) -> Result<usize, LayoutError> {
+    let mut dimension = IterGridDimension::new(alloc);
+    dimension.estimate(IterRecords::new(rows, 3, None), config)?;
+    Ok(dimension.get_width(0))
+}
+
+/// The widths, one for each column.
+pub fn widths(
+    alloc: Global,
+    rows: &[Vec<&str>],
+    columns: usize,
+    config: &SpannedConfig,
+) -> Result<Vec<usize>, LayoutError>
+    ensures { IfOk result (λ widths. length widths.items ≡ columns) }
+{
+    IterGridDimension::width(alloc, IterRecords::new(rows, columns, None), config)
+}
+
+/// The width of the records' table. There are widths in it that have room for each visible cell.
+pub fn fitting_width<R: Records + Drop>(
+    alloc: Global,
+    records: R,
+    config: &SpannedConfig,
+) -> Result<usize, LayoutError>
+where
+    <<R as Records>::Iter as IntoRecords>::Cell: AsStr + Drop,
+    requires { R.is_lawful records }
+    ensures { IfOk result (λ total. (cells : List (List R.Iter.Cell)) × R.tells records cells
+        × (widths : List ℕ) × (sum widths ≤ total)
+        × Fits (problem_of (spanned_look config.now) (line_measure R.Iter.Cell.text) (R.columns records) cells Columns) widths) }
+{
+    IterGridDimension::width_total(alloc, records, config)
+}
+
+/// The place of the first cell of a table that has this shape (rows, columns) and these sizes.
+pub fn first_place(
+    dimension: &IterGridDimension,
+    config: &SpannedConfig,
+    shape: (usize, usize),
+) -> Result<Place, PlaceError>
+    requires columns { (column : ℕ) → column < shape.1 → ⟦<IterGridDimension as Dimension>⟧.has_column dimension.now column }
+    requires rows { (row : ℕ) → row < shape.0 → ⟦<IterGridDimension as Dimension>⟧.has_row dimension.now row }
+{
+    place(dimension, config, shape, Position::new(0, 0))
+}
+
+/// The width of the records' table. No visible cell, with its paddings, needs more.
+pub fn covering_width<R: Records + Drop>(
+    alloc: Global,
+    records: R,
+    config: &SpannedConfig,
+) -> Result<usize, LayoutError>
+where
+    <<R as Records>::Iter as IntoRecords>::Cell: AsStr + Drop,
+    requires { R.is_lawful records }
+    ensures { let look = spanned_look config.now in
+        let measure = line_measure R.Iter.Cell.text in
+        IfOk result (λ total. (cells : List (List R.Iter.Cell)) × R.tells records cells
+        × All (λ cell. side Columns (measure cell.1) + look.before Columns cell.0 + look.after Columns cell.0 ≤ total) (visible_cells look cells)) }
+{
+    total_covers_cells::<<<R as Records>::Iter as IntoRecords>::Cell>();
+    let total = IterGridDimension::width_total(alloc, records, config)?;
+    Ok(total)
+}
+
+/// Where each visible cell of a table of this shape (rows, columns) stands.
+pub fn all_places(
+    alloc: Global,
+    dimension: &IterGridDimension,
+    config: &SpannedConfig,
+    shape: (usize, usize),
+) -> Result<Vec<(Position, Place)>, LayoutError>
+    requires columns { (column : ℕ) → column < shape.1 → ⟦<IterGridDimension as Dimension>⟧.has_column dimension.now column }
+    requires rows { (row : ℕ) → row < shape.0 → ⟦<IterGridDimension as Dimension>⟧.has_row dimension.now row }
+{
+    places(alloc, dimension, config, shape)
+}
+
+/// The cell that was clicked, at a column of the terminal in a line.
+pub fn clicked(
+    dimension: &IterGridDimension,
+    config: &SpannedConfig,
+    shape: (usize, usize),
+    column: usize,
+    line: usize,
+) -> Option<Position>
+    requires columns { (column : ℕ) → column < shape.1 → ⟦<IterGridDimension as Dimension>⟧.has_column dimension.now column }
+    requires rows { (row : ℕ) → row < shape.0 → ⟦<IterGridDimension as Dimension>⟧.has_row dimension.now row }
+{
+    cell_at(dimension, config, shape, column, line)
+}
