@@ -1,0 +1,4 @@
+//! The least total of any table along one direction, where spans may cross.
+#![tactic(auto)]
+
+pub mod laws;
