@@ -1,0 +1,2 @@
+-- What no law reaches: only contracts of functions below them and proofs speak of it.
+pub mod Laid
