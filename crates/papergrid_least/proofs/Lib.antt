@@ -1,3 +1,4 @@
+pub mod BackLemmas
 pub mod BoundLemmas
 pub mod EarliestLemmas
 pub mod EdgeLemmas

@@ -1,5 +1,5 @@
 -- Edges as they are laid, in order: by what each number needs alone, and by the cells of longer ranges.
-use Rattle.std.specs.Prelude.{ℕ, ◌+◌, ◌<◌, ◌≤◌, List, length, slice_index, All}
+use Rattle.std.specs.Prelude.{ℕ, ◌+◌, ◌<◌, ◌≤◌, List, length, slice_index, slice_index_or, All}
 use Rattle.papergrid_axis.specs.declared.demand.Demand.{Demand}
 use Rattle.papergrid_axis.specs.Ranges.{end_of}
 
@@ -15,3 +15,8 @@ AreApart cells edge = All (λ d. edge d.start + d.need ≤ edge (end_of d)) cell
 pub record AreLaid (base : List ℕ) (cells : List Demand) (edge : ℕ → ℕ) : Type 0 where
   pub steps : AreSteps base 0 (length base) edge
   pub apart : AreApart cells edge
+
+-- no cell starts after one before it in the list
+abbrev pub AreLaterFirst : List Demand → Type 0
+AreLaterFirst cells =
+    (i j : ℕ) (d : Demand) → i ≤ j → j < length cells → (slice_index_or cells j d).start ≤ (slice_index_or cells i d).start
