@@ -5,7 +5,7 @@ use Rattle.std.proofs.lemmas.Bool.{cases_eq, cases_lt}
 use Rattle.std.proofs.lemmas.List.{get_or_default, get_or-set_same, get_or-set_other, length-set}
 use Rattle.papergrid_axis.specs.declared.demand.Demand.{Demand}
 use Rattle.papergrid_axis.specs.Ranges.{IsInTable, end_of}
-use Rattle.papergrid_least.specs.ForProofs.Laid.{AreApart, AreLaid, AreLaterFirst, AreSteps}
+use Rattle.papergrid_least.specs.ForProofs.Laid.{AreLaid, AreLaterFirst, AreSteps}
 use Rattle.papergrid_least.proofs.LaidLemmas.{no_cell}
 
 -- edges that are laid back from number a stay above any others; k numbers back from a

@@ -6,3 +6,5 @@ pub mod LaidLemmas
 pub mod LatestLemmas
 pub mod LeastLemmas
 pub mod LongestLemmas
+pub mod PermutedLemmas
+pub mod ShareLemmas

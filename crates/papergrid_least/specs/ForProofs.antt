@@ -1,2 +1,3 @@
 -- What no law reaches: only contracts of functions below them and proofs speak of it.
 pub mod Laid
+pub mod Limits

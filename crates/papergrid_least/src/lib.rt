@@ -1,5 +1,9 @@
 //! The least total of any table along one direction, where spans may cross.
 #![tactic(auto)]
 
+mod cells;
 pub mod edges;
 pub mod laws;
+mod limits;
+pub mod lower;
+pub mod shares;

@@ -20,3 +20,7 @@ pub record AreLaid (base : List ℕ) (cells : List Demand) (edge : ℕ → ℕ) 
 abbrev pub AreLaterFirst : List Demand → Type 0
 AreLaterFirst cells =
     (i j : ℕ) (d : Demand) → i ≤ j → j < length cells → (slice_index_or cells j d).start ≤ (slice_index_or cells i d).start
+
+-- the cell with what it asks in place of its need
+abbrev pub carrying : (Demand → ℕ) → Demand → Demand
+carrying asks d = record d { need = asks d }

@@ -1,5 +1,4 @@
-use Rattle.std.proofs.Common.{rules, ℕ, ◌+◌, ◌≤◌, length, get_or, arith}
-use Rattle.papergrid_axis.specs.Ranges.{end_of}
+use Rattle.std.proofs.Common.{rules, ℕ, ◌≤◌, length, arith}
 use Rattle.papergrid_least.specs.ForProofs.Laid.{AreLaid}
 use Rattle.papergrid_least.proofs.LaidLemmas.{LaidTo-none, LaidTo-cell, AreLaid-whole, below-whole, no_cell, past-cell}
 use Rattle.papergrid_least.proofs.edges.lay_earliest.Goals as goal
