@@ -1,3 +1,4 @@
+pub mod AnswerLemmas
 pub mod BackLemmas
 pub mod BoundLemmas
 pub mod EarliestLemmas
@@ -7,4 +8,5 @@ pub mod LatestLemmas
 pub mod LeastLemmas
 pub mod LongestLemmas
 pub mod PermutedLemmas
+pub mod SeenLemmas
 pub mod ShareLemmas

@@ -4,6 +4,7 @@
 mod cells;
 pub mod edges;
 pub mod laws;
+pub mod least;
 mod limits;
 pub mod lower;
 pub mod shares;
