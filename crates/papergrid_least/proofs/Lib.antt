@@ -3,6 +3,7 @@ pub mod BackLemmas
 pub mod BoundLemmas
 pub mod EarliestLemmas
 pub mod EdgeLemmas
+pub mod FollowedLemmas
 pub mod LaidLemmas
 pub mod LatestLemmas
 pub mod LeastLemmas

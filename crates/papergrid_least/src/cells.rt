@@ -12,7 +12,7 @@ use papergrid_axis::growers::lines_within;
 use std::alloc::{AllocError, Global};
 
 /// The cell with what it asks in place of its need.
-fn asking(lines: &[bool], demand: Demand) -> Demand
+pub fn asking(lines: &[bool], demand: Demand) -> Demand
     requires { IsInTable (length lines.now) demand }
     ensures { result ≡ carrying (asked (line_at lines.now)) demand }
 {

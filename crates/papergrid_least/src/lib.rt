@@ -6,5 +6,6 @@ pub mod edges;
 pub mod laws;
 pub mod least;
 mod limits;
+mod longest;
 pub mod lower;
 pub mod shares;
