@@ -51,13 +51,13 @@ module _ (asks : Demand → ℕ) (edge : ℕ → ℕ) (cells : List Demand) (j :
 
 -- one step back, of `steps + 1`
 module _ (edge : ℕ → ℕ) (single : ℕ → Demand) (longer : ℕ → Option Demand) (steps i : ℕ) where
-  followed-even : edge i - edge (i - 1) ≡ 0 → followed edge single longer (suc steps) i ≡ followed edge single longer steps (i - 1)
+  pub followed-even : edge i - edge (i - 1) ≡ 0 → followed edge single longer (suc steps) i ≡ followed edge single longer steps (i - 1)
   followed-even even = rw (eq-eqb (edge i - edge (i - 1)) 0 even) refl
 
-  followed-single : edge i - edge (i - 1) ≢ 0 → (single (i - 1)).need ≡ edge i - edge (i - 1) → followed edge single longer (suc steps) i ≡ single (i - 1) ∷ followed edge single longer steps (i - 1)
+  pub followed-single : edge i - edge (i - 1) ≢ 0 → (single (i - 1)).need ≡ edge i - edge (i - 1) → followed edge single longer (suc steps) i ≡ single (i - 1) ∷ followed edge single longer steps (i - 1)
   followed-single past need = rw (ne_eqb (edge i - edge (i - 1)) 0 past, eq-eqb (single (i - 1)).need (edge i - edge (i - 1)) need) refl
 
-  followed-longer : edge i - edge (i - 1) ≢ 0 → (single (i - 1)).need ≢ edge i - edge (i - 1) → followed edge single longer (suc steps) i ≡ with_earlier (longer i) (followed edge single longer steps)
+  pub followed-longer : edge i - edge (i - 1) ≢ 0 → (single (i - 1)).need ≢ edge i - edge (i - 1) → followed edge single longer (suc steps) i ≡ with_earlier (longer i) (followed edge single longer steps)
   followed-longer past need = rw (ne_eqb (edge i - edge (i - 1)) 0 past, ne_eqb (single (i - 1)).need (edge i - edge (i - 1)) need) refl
 
 -- what was met, and what is still to be met from number i on, are all of it

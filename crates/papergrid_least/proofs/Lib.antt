@@ -9,5 +9,6 @@ pub mod LatestLemmas
 pub mod LeastLemmas
 pub mod LongestLemmas
 pub mod PermutedLemmas
+pub mod PusherLemmas
 pub mod SeenLemmas
 pub mod ShareLemmas

@@ -22,7 +22,7 @@ use Rattle.papergrid_least.proofs.EarliestLemmas.{pushed-above, pushed-below, ea
 some_none : (d : Demand) → Some d ≡ None → ⊥
 some_none d e = cc
 
-find-nothing : (test : Demand → Bool) (ds : List Demand) → find test ds ≡ None → AllByRecursion (λ d. test d ≡ false) ds
+pub find-nothing : (test : Demand → Bool) (ds : List Demand) → find test ds ≡ None → AllByRecursion (λ d. test d ≡ false) ds
 find-nothing test [] e = tt
 find-nothing test (d ∷ ds) e = elim (cases_Bool (test d)) [
   | inl t ↦ absurd (let e' : Some d ≡ None = rw t at e in some_none d e')

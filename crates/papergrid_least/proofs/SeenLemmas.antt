@@ -20,7 +20,7 @@ use Rattle.papergrid_least.proofs.EarliestLemmas.{AreEdges-earliest, earliest-be
 use Rattle.papergrid_least.proofs.LatestLemmas.{All-unmapped, AreEdges-latest, latest-above, latest-last}
 
 -- a cell that covers one number alone has no line inside of it
-inner-alone : (line : ℕ → Bool) (d : Demand) → d.span ≡ 1 → inner_lines line d ≡ 0
+pub inner-alone : (line : ℕ → Bool) (d : Demand) → d.span ≡ 1 → inner_lines line d ≡ 0
 inner-alone line d one = ap (λ k. count_by line (range_with_len (d.start + 1) k)) (let e : d.span - 1 ≡ 0 = omega arith in e)
 
 module _ (line drawn : ℕ → Bool) (n limit : ℕ) (demands : List Demand) (agree : (i : ℕ) → i ≤ n → drawn i ≡ line i) (table : All (IsInTable n) demands)
