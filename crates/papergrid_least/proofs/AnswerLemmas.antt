@@ -95,6 +95,12 @@ module _ (line : ℕ → Bool) (n : ℕ) (seen : Seen) (demands : List Demand) (
         ap (λ k. get_or limits.earliest.items k 0) many
         ∙ earliest-is line drawn n is_seen.limit demands agree table is_seen.below base base_is many limits.earliest.items earliest-kept n (omega arith)
 
+    pub earliest-made : (i : ℕ) → i ≤ n → get_or limits.earliest.items i 0 ≡ earliest (asked line) demands i
+    earliest-made = earliest-is line drawn n is_seen.limit demands agree table is_seen.below base base_is many limits.earliest.items earliest-kept
+
+    pub many-made : length limits.earliest.items ≡ n + 1
+    many-made = are.earliest.one_more ∙ ap (λ k. k + 1) many
+
     latest_at : (i : ℕ) → i ≤ n → get_or limits.latest.items i 0 ≡ latest (asked line) n demands i
     latest_at =
         latest-is line drawn n is_seen.limit demands agree table is_seen.below base base_is many limits.latest.items (get_or limits.earliest.items (length base) 0) total_is

@@ -1,5 +1,5 @@
 -- Going back along the earliest edges.
-use Rattle.std.proofs.Common.{◌≡◌, ◌≢◌, ℕ, suc, ◌+◌, ◌-◌, ◌<◌, ◌++◌, ◌∙◌, map, [], Bool, true, false, ◌&&◌, ◌==◌, inl, inr, List, ◌∷◌, length, get_or, set, drop, refl, sym, ap, arith, eqb, eq-eqb, ne_eqb, Option, Some, None}
+use Rattle.std.proofs.Common.{◌≡◌, ◌≢◌, ℕ, suc, ◌+◌, ◌-◌, ◌<◌, ◌++◌, ◌∙◌, map, [], true, false, ◌==◌, inl, inr, List, ◌∷◌, length, get_or, set, drop, refl, sym, ap, arith, eq-eqb, ne_eqb, Option, Some, None}
 use Rattle.std.specs.Prelude.{find}
 use Rattle.std.proofs.lemmas.Bool.{cases_eq}
 use Rattle.std.proofs.lemmas.List.{append_assoc, append-nil, drop_more, get_or-set_same, get_or-set_other}

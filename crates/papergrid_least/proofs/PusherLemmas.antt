@@ -1,12 +1,11 @@
 -- What is met going back by what is kept are the cells of the longest way.
 use Rattle.std.proofs.Common.{◌≡◌, ◌≢◌, ℕ, zero, suc, ◌+◌, ◌-◌, ◌<◌, ◌≤◌, ◌∙◌, Bool, true, false, ◌&&◌, ◌==◌, not, inl, inr, List, [], ◌∷◌, length, get_or, refl, sym, ap, arith, eqb, eq-eqb, eqb-true, ne_eqb, Option, Some, None}
 use Rattle.std.specs.Prelude.{All, Contains, filter, find, nat_lt}
-use Rattle.std.specs.List.{AllByRecursion}
 use Rattle.std.proofs.lemmas.Bool.{and_from, and_parts, cases_Bool, cases_eq, true≢false}
-use Rattle.std.proofs.lemmas.List.Elements.{All-contains, All-contains_itself, All-filter, All-from_recursion, All-head, All-tail, Contains-get_or, recursion_from_All}
+use Rattle.std.proofs.lemmas.List.Elements.{All-contains_itself, All-filter, All-from_recursion, All-head, All-tail, Contains-get_or, recursion_from_All}
 use Rattle.papergrid_axis.specs.declared.demand.Demand.{Demand}
-use Rattle.papergrid_axis.specs.Chosen.{exact_single, or_else}
-use Rattle.papergrid_axis.specs.ForProofs.Seen.{first_greatest, is_single, no_demand, others}
+use Rattle.papergrid_axis.specs.Chosen.{or_else}
+use Rattle.papergrid_axis.specs.ForProofs.Seen.{first_greatest, is_single, others}
 use Rattle.papergrid_axis.specs.Ranges.{IsInTable, end_of, inner_lines}
 use Rattle.papergrid_axis.specs.Sizes.{base_size, base_sizes}
 use Rattle.papergrid_axis.proofs.Counting.{find-all, find-none}

@@ -1,11 +1,13 @@
 -- What an answer of least sizes says of the cells' demands.
-use Rattle.std.specs.Prelude.{◌≡◌, ℕ, ◌^◌, ◌<◌, ◌≤◌, List, EachIndex, slice_index, Result, Ok, Err, None, Some, ⊤}
+use Rattle.std.specs.Prelude.{◌≡◌, ℕ, ◌^◌, ◌<◌, ◌≤◌, List, EachIndex, slice_index, map, Result, Ok, Err, None, Some, ⊤}
+use Rattle.papergrid_values.specs.declared.position.Position.{Position}
 use Rattle.papergrid_axis.specs.declared.error.LayoutError.{LayoutError}
 use Rattle.papergrid_axis.specs.declared.error.LayoutError.TheVariants.{OutOfTable, TooLarge, Memory}
 use Rattle.papergrid_axis.specs.Problem.{Problem, total_of}
-use Rattle.papergrid_axis.specs.Ranges.{first_out}
-use Rattle.papergrid_axis.specs.Fits.{Fits, IsLeast, IsTooLarge, top_need}
+use Rattle.papergrid_axis.specs.Ranges.{first_out, place_of}
+use Rattle.papergrid_axis.specs.Fits.{Fits, IsCertificate, IsLeast, IsTooLarge, top_need}
 use Rattle.papergrid_least.specs.Least.{least_of}
+use Rattle.papergrid_least.specs.Longest.{longest}
 
 module _ (problem : Problem) where
   -- these are the least sizes, and what holds of them
@@ -15,6 +17,11 @@ module _ (problem : Problem) where
     pub total : total_of problem sizes < 2 ^ 64
     pub least : IsLeast problem sizes
     pub bound : EachIndex sizes (λ i. slice_index sizes i ≤ top_need problem.demands i)
+
+  -- the places of the cells of the longest way, which certify the least sizes
+  pub record AreLongest (places : List Position) : Type 0 where
+    pub exact : places ≡ map place_of (longest problem)
+    pub certificate : IsCertificate problem (least_of problem) (longest problem)
 
   -- no cell reaches out, and every list that fits is too large
   pub record NoneFits : Type 0 where

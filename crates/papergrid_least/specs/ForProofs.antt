@@ -2,3 +2,4 @@
 pub mod Followed
 pub mod Laid
 pub mod Limits
+pub mod Settled

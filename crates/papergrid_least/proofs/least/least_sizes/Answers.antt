@@ -1,41 +1,8 @@
-use Rattle.std.proofs.Common.{◌≡◌, ◌∙◌, rules, arith, ap, get_or, length}
-use Rattle.std.specs.Vec.{with_items}
-use Rattle.std.proofs.lemmas.List.{with_items_is}
-use Rattle.papergrid_axis.specs.ForProofs.Settled.{line_at}
-use Rattle.papergrid_axis.specs.ForProofs.Seen.{no_demand}
-use Rattle.papergrid_axis.specs.Problem.{given}
-use Rattle.papergrid_axis.proofs.OutLemmas.{table_demands}
-use Rattle.papergrid_axis.proofs.SeenLemmas.{table-seen}
-use Rattle.papergrid_least.specs.Answers.{HasNoLeast}
-use Rattle.papergrid_least.proofs.AnswerLemmas.{AreLeastSizes-made, HasNoLeast-refused}
+use Rattle.std.proofs.lemmas.Result.{err_from_is_err_and}
 use Rattle.papergrid_least.proofs.least.least_sizes.Goals as goal
 
-pub returns-in-Some : goal.returns-in-Some
-returns-in-Some g c = λ demands seen. c.in-Some.ensures.refused (g.A.Axis.line c.args.axis.now) demands seen
-
-pub make_least-requires-clause-table : goal.make_least-requires-clause-table
-make_least-requires-clause-table g c =
-    let table = table_demands c.args.count c.args.seen.now c.requires.0 c.requires.1 c.in_default.ensures.inside in
-    let many : length c.deref_mut-2.result.now ≡ c.args.count = omega (arith, c.in_ok-sizes.ensures.len, c.deref_mut.ensures.len, c.write_base.ensures.length, c.deref_mut-2.ensures.len) in
-    rw (many, c.deref-3.ensures.value) (table-seen c.args.count c.args.seen.now c.requires.0 c.requires.1 c.in_default.ensures.small table)
-
-pub returns-in_err-make_least : goal.returns-in_err-make_least
-returns-in_err-make_least g c = λ demands seen.
-    let refused : HasNoLeast (given (g.A.Axis.line c.args.axis.now) c.args.count demands) c.in_err-make_least.field-0.0 =
-    HasNoLeast-refused (g.A.Axis.line c.args.axis.now) c.args.count c.args.seen.now demands seen c.in_default.ensures.inside c.in_default.ensures.small
-    (line_at c.deref-2.result.now) (λ i l. ap (λ lines. line_at lines i) c.deref-2.ensures.value ∙ c.in_ok-lines.ensures.drawn i l)
-    c.deref_mut-2.result.now (omega (arith, c.in_ok-sizes.ensures.len, c.deref_mut.ensures.len, c.write_base.ensures.length, c.deref_mut-2.ensures.len))
-    (rw (c.deref_mut-2.ensures.value ∙ with_items_is c.in_ok-sizes.sizes c.write_base.new.sizes (omega arith)) (λ k l. c.write_base.ensures.base k l ∙ ap (λ ds. (get_or ds k no_demand).need) c.deref.ensures.value))
-    c.in_err-make_least.field-0.0 (rw c.deref-3.ensures.value at c.in_err-make_least.ensures.refused) in
-    search rules
+pub returns-in_err-settled : goal.returns-in_err-settled
+returns-in_err-settled g c = λ demands seen. let p = err_from_is_err_and c.from_residual.result c.from_residual.ensures.1 in rw (p.1, p.2) (c.in_err-settled.ensures.settled demands seen)
 
 pub returns : goal.returns
-returns g c = λ demands seen.
-    let limits = rw c.deref-3.ensures.value at c.in_ok-make_least.ensures.limits in
-    let sizes = rw c.deref-3.ensures.value at c.in_ok-make_least.ensures.sizes in
-    AreLeastSizes-made (g.A.Axis.line c.args.axis.now) c.args.count c.args.seen.now demands seen c.in_default.ensures.inside c.in_default.ensures.small
-    (line_at c.deref-2.result.now) (λ i l. ap (λ lines. line_at lines i) c.deref-2.ensures.value ∙ c.in_ok-lines.ensures.drawn i l)
-    c.deref_mut-2.result.now (omega (arith, c.in_ok-sizes.ensures.len, c.deref_mut.ensures.len, c.write_base.ensures.length, c.deref_mut-2.ensures.len))
-    (rw (c.deref_mut-2.ensures.value ∙ with_items_is c.in_ok-sizes.sizes c.write_base.new.sizes (omega arith)) (λ k l. c.write_base.ensures.base k l ∙ ap (λ ds. (get_or ds k no_demand).need) c.deref.ensures.value))
-    c.in_ok-make_least.field-0 limits _
-    (with_items_is (with_items c.in_ok-sizes.sizes c.write_base.new.sizes) c.make_least.new.sizes (omega arith) ∙ sizes)
+returns g c = λ demands seen. (c.in_ok-settled.ensures.settled demands seen).sizes
