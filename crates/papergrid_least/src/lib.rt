@@ -1,11 +1,17 @@
-//! The least total of any table along one direction, where spans may cross.
+//! The least sizes along one direction of a table, whatever spans cross, from what its visible cells
+//! ask for; and the cells that certify them.
 #![tactic(auto)]
 
 mod cells;
-pub mod edges;
+mod edges;
 pub mod laws;
 pub mod least;
 mod limits;
 mod longest;
-pub mod lower;
-pub mod shares;
+mod lower;
+mod shares;
+
+pub use least::{CertifiedLeast, certified_least, least_sizes};
+
+#[cfg(test)]
+mod tests;
