@@ -17,7 +17,7 @@ module _ (drawn line : ℕ → Bool) (n : ℕ) (agree : (i : ℕ) → i ≤ n �
   pub lines-drawn : all_lines drawn n ≡ all_lines line n
   lines-drawn = count_by-agree drawn line 0 (n + 1) (λ i l l'. agree i (omega arith))
 
-  inner-drawn : (d : Demand) → IsInTable n d → inner_lines drawn d ≡ inner_lines line d
+  pub inner-drawn : (d : Demand) → IsInTable n d → inner_lines drawn d ≡ inner_lines line d
   inner-drawn d inside =
       count_by-agree drawn line (d.start + 1) (d.span - 1) (λ i l l'. agree i (omega (arith, inside.ends_within, inside.covers_one)))
 
@@ -27,7 +27,7 @@ module _ (drawn line : ℕ → Bool) (n : ℕ) (agree : (i : ℕ) → i ≤ n �
   grown-drawn : (sizes : List ℕ) (d : Demand) → IsInTable n d → grown drawn sizes d ≡ grown line sizes d
   grown-drawn sizes d inside = ap (λ amount. with_shares amount d 0 sizes) (lack-drawn sizes d inside)
 
-  taken-drawn : (sizes : List ℕ) (cells : List Demand) → AllByRecursion (IsInTable n) cells → fold (grown drawn) sizes cells ≡ fold (grown line) sizes cells
+  pub taken-drawn : (sizes : List ℕ) (cells : List Demand) → AllByRecursion (IsInTable n) cells → fold (grown drawn) sizes cells ≡ fold (grown line) sizes cells
   taken-drawn sizes [] table = refl
   taken-drawn sizes (d ∷ cells) table =
       taken-drawn (grown drawn sizes d) cells table.1 ∙ ap (λ sizes. fold (grown line) sizes cells) (grown-drawn sizes d table.0)

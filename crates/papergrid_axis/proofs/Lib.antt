@@ -3,7 +3,7 @@ pub mod Certified
 pub mod CheckLemmas
 pub mod ClaimLemmas
 pub mod Counting
-mod DrawnLemmas
+pub mod DrawnLemmas
 pub mod Duality
 pub mod FitBound
 pub mod Greatest

@@ -44,7 +44,7 @@ none_out n (d ∷ ds) e spans =
     (none_out n ds r.1 (All-tail (λ d. 1 ≤ d.span) d ds spans))
 
 -- one large need makes every list with room for all too large
-large_any : (line : ℕ → Bool) (n : ℕ) (sizes : List ℕ) (ds : List Demand) → list_any is_large ds ≡ true → All (IsInTable n) ds → All (HasRoom line sizes) ds →
+pub large_any : (line : ℕ → Bool) (n : ℕ) (sizes : List ℕ) (ds : List Demand) → list_any is_large ds ≡ true → All (IsInTable n) ds → All (HasRoom line sizes) ds →
     18446744073709551616 ≤ sum sizes + all_lines line n
 large_any line n sizes [] e table room = absurd (false≢true e)
 large_any line n sizes (d ∷ ds) e table room = elim (cases_Bool (is_large d)) [

@@ -41,14 +41,14 @@ fn sum_of_range(sizes: &[usize], demand: Demand) -> usize
 }
 
 /// How many of the lines are drawn.
-fn count_drawn(lines: &[bool]) -> usize
+pub fn count_drawn(lines: &[bool]) -> usize
     ensures { result ≡ count_by (λ drawn. drawn) lines.now }
 {
     lines.iter().filter(|drawn| **drawn).count()
 }
 
 /// The lines strictly inside of the range of a cell.
-fn lines_within(lines: &[bool], demand: Demand) -> usize
+pub fn lines_within(lines: &[bool], demand: Demand) -> usize
     requires { IsInTable (length lines.now) demand }
     ensures { result ≡ inner_lines (line_at lines.now) demand }
 {

@@ -9,7 +9,7 @@ mod chosen;
 pub mod claim;
 pub mod demand;
 pub mod error;
-mod growers;
+pub mod growers;
 mod last_cells;
 pub mod laws;
 pub mod seen;

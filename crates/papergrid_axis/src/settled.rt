@@ -29,7 +29,7 @@ fn fill_lines<A: Axis>(lines: &mut [bool], axis: &A)
 }
 
 /// Whether there is a line before each of `count` columns (rows), and after the last.
-fn lines_of<A: Axis>(alloc: Global, axis: &A, count: usize) -> Result<Vec<bool>, AllocError>
+pub fn lines_of<A: Axis>(alloc: Global, axis: &A, count: usize) -> Result<Vec<bool>, AllocError>
     ensures length { IfOk result (λ lines. length lines.items ≡ count + 1) }
     ensures drawn { IfOk result (λ lines. (i : ℕ) → i ≤ count → line_at lines.items i ≡ A.line axis.now i) }
 {
@@ -40,7 +40,7 @@ fn lines_of<A: Axis>(alloc: Global, axis: &A, count: usize) -> Result<Vec<bool>,
 }
 
 /// Writes for each number what the cell needs that is kept there.
-fn write_base(sizes: &mut [usize], singles: &[Demand])
+pub fn write_base(sizes: &mut [usize], singles: &[Demand])
     ensures length { length sizes.new ≡ length sizes.old }
     ensures base { EachIndex sizes.new (λ k. slice_index sizes.new k ≡ (slice_index_or singles.now k no_demand).need) }
 {
@@ -61,7 +61,7 @@ fn longer(alloc: Global, demands: &[Demand]) -> Result<Vec<Demand>, AllocError>
 }
 
 /// The cells of longer ranges, the smaller spans first, and those of one span as they come.
-fn taken(alloc: Global, count: usize, demands: &[Demand]) -> Result<Vec<Demand>, AllocError>
+pub fn taken(alloc: Global, count: usize, demands: &[Demand]) -> Result<Vec<Demand>, AllocError>
     requires { All (IsInTable count) demands.now }
     ensures { IfOk result (λ cells. cells.items ≡ taken count demands.now) }
 {

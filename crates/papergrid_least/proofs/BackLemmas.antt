@@ -1,0 +1,219 @@
+-- Edges that are laid from the end back.
+use Rattle.std.proofs.Common.{◌≡◌, ◌≢◌, ℕ, zero, suc, ◌+◌, ◌-◌, ◌<◌, ◌≤◌, ◌∙◌, min, inl, inr, List, length, get_or, set, ap, arith}
+use Rattle.std.specs.Prelude.{All}
+use Rattle.std.proofs.lemmas.Bool.{cases_eq, cases_lt}
+use Rattle.std.proofs.lemmas.List.{get_or_default, get_or-set_same, get_or-set_other, length-set}
+use Rattle.papergrid_axis.specs.declared.demand.Demand.{Demand}
+use Rattle.papergrid_axis.specs.Ranges.{IsInTable, end_of}
+use Rattle.papergrid_least.specs.ForProofs.Laid.{AreLaid, AreLaterFirst, AreSteps}
+use Rattle.papergrid_least.proofs.LaidLemmas.{no_cell}
+
+-- edges that are laid back from number a stay above any others; k numbers back from a
+above-by : (base : List ℕ) (edge f : ℕ → ℕ) (a b : ℕ) → AreSteps base b a edge → edge a ≤ f a →
+    ((i : ℕ) → b ≤ i → i < a → f (i + 1) ≡ f i + get_or base i 0) → (k : ℕ) → b + k ≤ a → edge (a - k) ≤ f (a - k)
+above-by base edge f a b steps start laid zero le = let e : a - 0 ≡ a = omega arith in rw e start
+above-by base edge f a b steps start laid (suc k) le =
+    let ih : edge (a - k) ≤ f (a - k) = above-by base edge f a b steps start laid k (omega arith) in
+    let next : edge (a - suc k) + get_or base (a - suc k) 0 ≤ edge ((a - suc k) + 1) = steps (a - suc k) (omega arith) (omega arith) in
+    let here : f ((a - suc k) + 1) ≡ f (a - suc k) + get_or base (a - suc k) 0 = laid (a - suc k) (omega arith) (omega arith) in
+    let e : (a - suc k) + 1 ≡ a - k = omega arith in
+    let p : edge ((a - suc k) + 1) ≡ edge (a - k) = ap edge e in
+    let q : f ((a - suc k) + 1) ≡ f (a - k) = ap f e in
+    omega arith
+
+pub above-more : (base : List ℕ) (edge f : ℕ → ℕ) (a b : ℕ) → AreSteps base b a edge → edge a ≤ f a →
+    ((i : ℕ) → b ≤ i → i < a → f (i + 1) ≡ f i + get_or base i 0) → (i : ℕ) → b ≤ i → i ≤ a → edge i ≤ f i
+above-more base edge f a b steps start laid i from le =
+    let e : a - (a - i) ≡ i = omega arith in
+    let p : edge (a - (a - i)) ≤ f (a - (a - i)) = above-by base edge f a b steps start laid (a - i) (omega arith) in
+    let q : edge (a - (a - i)) ≡ edge i = ap edge e in
+    let r : f (a - (a - i)) ≡ f i = ap f e in
+    omega arith
+
+-- edges laid back to number a from the last, which is at `total`, by the first k cells, all of which start there or after; the
+-- later ones start there or before
+pub record LaidFrom (base : List ℕ) (cells : List Demand) (k a total : ℕ) (edges : List ℕ) : Type 0 where
+  pub one_more : length edges ≡ length base + 1
+  pub within : a ≤ length base
+  pub last : get_or edges (length base) 0 ≡ total
+  pub steps : AreSteps base a (length base) (λ i. get_or edges i 0)
+  pub apart : (j : ℕ) (d : Demand) → j < k → (a ≤ (get_or cells j d).start) × (get_or edges (get_or cells j d).start 0 + (get_or cells j d).need ≤ get_or edges (end_of (get_or cells j d)) 0)
+  pub earlier : (j : ℕ) (d : Demand) → k ≤ j → j < length cells → (get_or cells j d).start ≤ a
+  pub above : (edge : ℕ → ℕ) → AreLaid base cells edge → edge (length base) ≤ total → (i : ℕ) → a ≤ i → i ≤ length base → edge i ≤ get_or edges i 0
+
+pub LaidFrom-none : (base : List ℕ) (cells : List Demand) (edges : List ℕ) → All (IsInTable (length base)) cells → length edges ≡ length base + 1 →
+    LaidFrom base cells 0 (length base) (get_or edges (length base) 0) edges
+LaidFrom-none base cells edges table one_more = record {
+  one_more = one_more;
+  within = omega arith;
+  last = omega arith;
+  steps = λ i from l. absurd (omega arith);
+  apart = λ j d l. absurd (omega arith);
+  earlier = λ j d from l. let le : end_of (get_or cells j d) ≤ length base = (table j d l).ends_within in omega arith;
+  above = λ edge are le i from l. let e : i ≡ length base = omega arith in rw e le;
+}
+
+-- one step of the loop: edges laid back to the start of the next cell, as `mid`
+module _ (base : List ℕ) (cells : List Demand) (table : All (IsInTable (length base)) cells) (sorted : AreLaterFirst cells) (k a total : ℕ) (edges mid : List ℕ) (listed : k < length cells)
+    (laid_from : LaidFrom base cells k a total edges) (same : length mid ≡ length edges) (after : (i : ℕ) → a ≤ i → get_or mid i 0 ≡ get_or edges i 0)
+    (laid : (i : ℕ) → (get_or cells k no_cell).start ≤ i → i < a → get_or mid (i + 1) 0 ≡ get_or mid i 0 + get_or base i 0) where
+  within : end_of (get_or cells k no_cell) ≤ length base
+  within = (table k no_cell listed).ends_within
+
+  one : 1 ≤ (get_or cells k no_cell).span
+  one = (table k no_cell listed).covers_one
+
+  ordered : (get_or cells k no_cell).start ≤ a
+  ordered = laid_from.earlier k no_cell (omega arith) listed
+
+  mid-above : (edge : ℕ → ℕ) → AreLaid base cells edge → edge (length base) ≤ total → (i : ℕ) → (get_or cells k no_cell).start ≤ i → i ≤ length base → edge i ≤ get_or mid i 0
+  mid-above edge are le i from l = elim (cases_lt i a) [
+    | inr late ↦
+        let p : get_or mid i 0 ≡ get_or edges i 0 = after i late in
+        let q : edge i ≤ get_or edges i 0 = laid_from.above edge are le i late l in
+        omega arith
+    | inl early ↦
+        let small : a ≤ length base = laid_from.within in
+        let p : get_or mid a 0 ≡ get_or edges a 0 = after a (omega arith) in
+        let q : edge a ≤ get_or edges a 0 = laid_from.above edge are le a (omega arith) small in
+        above-more base edge (λ i. get_or mid i 0) a (get_or cells k no_cell).start (λ i from' l'. are.steps i (omega arith) (omega arith)) (omega arith) laid i from (omega arith)
+  ]
+
+  -- there is room for what the next cell needs
+  pub room-cell : (edge : ℕ → ℕ) → AreLaid base cells edge → edge (length base) ≤ total → (get_or cells k no_cell).need ≤ get_or mid (end_of (get_or cells k no_cell)) 0
+  room-cell edge are le =
+      let p : edge (end_of (get_or cells k no_cell)) ≤ get_or mid (end_of (get_or cells k no_cell)) 0 = mid-above edge are le (end_of (get_or cells k no_cell)) (omega arith) within in
+      let q : edge (get_or cells k no_cell).start + (get_or cells k no_cell).need ≤ edge (end_of (get_or cells k no_cell)) = are.apart k no_cell listed in
+      omega arith
+
+  module _ (top : ℕ) (fits : (get_or cells k no_cell).need ≤ get_or mid (end_of (get_or cells k no_cell)) 0)
+      (pulled : top ≡ min (get_or mid (get_or cells k no_cell).start 0) (get_or mid (end_of (get_or cells k no_cell)) 0 - (get_or cells k no_cell).need)) where
+    abbrev moved : List ℕ
+    moved = set mid (get_or cells k no_cell).start top
+
+    there : get_or moved (get_or cells k no_cell).start 0 ≡ min (get_or mid (get_or cells k no_cell).start 0) (get_or mid (end_of (get_or cells k no_cell)) 0 - (get_or cells k no_cell).need)
+    there =
+        let one_more : length edges ≡ length base + 1 = laid_from.one_more in
+        let le : end_of (get_or cells k no_cell) ≤ length base = within in
+        get_or-set_same mid (get_or cells k no_cell).start top 0 (omega arith) ∙ pulled
+
+    elsewhere : (i : ℕ) → i ≢ (get_or cells k no_cell).start → get_or moved i 0 ≡ get_or mid i 0
+    elsewhere i ne = get_or-set_other mid (get_or cells k no_cell).start i top 0 ne
+
+    not_more : (i : ℕ) → get_or moved i 0 ≤ get_or mid i 0
+    not_more i = elim (cases_eq i (get_or cells k no_cell).start) [
+      | inl e ↦ rw e (let t : get_or moved (get_or cells k no_cell).start 0 ≡ min (get_or mid (get_or cells k no_cell).start 0) (get_or mid (end_of (get_or cells k no_cell)) 0 - (get_or cells k no_cell).need) = there in omega arith)
+      | inr ne ↦ let e : get_or moved i 0 ≡ get_or mid i 0 = elsewhere i ne in omega arith
+    ]
+
+    steps-moved : AreSteps base (get_or cells k no_cell).start (length base) (λ i. get_or moved i 0)
+    steps-moved i from l =
+        let x : get_or moved i 0 ≤ get_or mid i 0 = not_more i in
+        let y : get_or moved (i + 1) 0 ≡ get_or mid (i + 1) 0 = elsewhere (i + 1) (omega arith) in
+        elim (cases_lt i a) [
+          | inl early ↦ let s : get_or mid (i + 1) 0 ≡ get_or mid i 0 + get_or base i 0 = laid i from early in omega arith
+          | inr late ↦
+              let s : get_or edges i 0 + get_or base i 0 ≤ get_or edges (i + 1) 0 = laid_from.steps i late l in
+              let p : get_or mid i 0 ≡ get_or edges i 0 = after i late in
+              let q : get_or mid (i + 1) 0 ≡ get_or edges (i + 1) 0 = after (i + 1) (omega arith) in
+              omega arith
+        ]
+
+    abbrev Apart : Demand → Type 0
+    Apart d = ((get_or cells k no_cell).start ≤ d.start) × (get_or moved d.start 0 + d.need ≤ get_or moved (end_of d) 0)
+
+    apart-kept : (d : Demand) → 1 ≤ d.span → (a ≤ d.start) × (get_or edges d.start 0 + d.need ≤ get_or edges (end_of d) 0) → Apart d
+    apart-kept d long known =
+        let starts : a ≤ d.start = known.0 in
+        let apart : get_or edges d.start 0 + d.need ≤ get_or edges (end_of d) 0 = known.1 in
+        let le : (get_or cells k no_cell).start ≤ a = ordered in
+        let p : get_or mid d.start 0 ≡ get_or edges d.start 0 = after d.start starts in
+        let q : get_or mid (end_of d) 0 ≡ get_or edges (end_of d) 0 = after (end_of d) (omega arith) in
+        let x : get_or moved d.start 0 ≤ get_or mid d.start 0 = not_more d.start in
+        let y : get_or moved (end_of d) 0 ≡ get_or mid (end_of d) 0 = elsewhere (end_of d) (omega arith) in
+        (omega arith, omega arith)
+
+    apart-here : Apart (get_or cells k no_cell)
+    apart-here =
+        let t : get_or moved (get_or cells k no_cell).start 0 ≡ min (get_or mid (get_or cells k no_cell).start 0) (get_or mid (end_of (get_or cells k no_cell)) 0 - (get_or cells k no_cell).need) = there in
+        let long : 1 ≤ (get_or cells k no_cell).span = one in
+        let y : get_or moved (end_of (get_or cells k no_cell)) 0 ≡ get_or mid (end_of (get_or cells k no_cell)) 0 = elsewhere (end_of (get_or cells k no_cell)) (omega arith) in
+        (omega arith, omega arith)
+
+    apart-moved : (j : ℕ) (d : Demand) → j < k + 1 → Apart (get_or cells j d)
+    apart-moved j d l = elim (cases_lt j k) [
+      | inl early ↦ apart-kept (get_or cells j d) ((table j d (omega arith)).covers_one) (laid_from.apart j d early)
+      | inr late ↦
+          let e : j ≡ k = omega arith in
+          let e' : get_or cells j d ≡ get_or cells k no_cell = ap (λ j. get_or cells j d) e ∙ get_or_default cells k d no_cell listed in
+          rw e' apart-here
+    ]
+
+    above-moved : (edge : ℕ → ℕ) → AreLaid base cells edge → edge (length base) ≤ total → (i : ℕ) → (get_or cells k no_cell).start ≤ i → i ≤ length base → edge i ≤ get_or moved i 0
+    above-moved edge are le i from l =
+        let p : edge i ≤ get_or mid i 0 = mid-above edge are le i from l in
+        elim (cases_eq i (get_or cells k no_cell).start) [
+          | inl e ↦
+              let t : get_or moved (get_or cells k no_cell).start 0 ≡ min (get_or mid (get_or cells k no_cell).start 0) (get_or mid (end_of (get_or cells k no_cell)) 0 - (get_or cells k no_cell).need) = there in
+              let s : edge (get_or cells k no_cell).start ≤ get_or mid (get_or cells k no_cell).start 0 = mid-above edge are le (get_or cells k no_cell).start (omega arith) (omega arith) in
+              let q : edge (end_of (get_or cells k no_cell)) ≤ get_or mid (end_of (get_or cells k no_cell)) 0 = mid-above edge are le (end_of (get_or cells k no_cell)) (omega arith) within in
+              let r : edge (get_or cells k no_cell).start + (get_or cells k no_cell).need ≤ edge (end_of (get_or cells k no_cell)) = are.apart k no_cell listed in
+              rw e (omega arith)
+          | inr ne ↦ let e : get_or moved i 0 ≡ get_or mid i 0 = elsewhere i ne in omega arith
+        ]
+
+    pub LaidFrom-cell : LaidFrom base cells (k + 1) (get_or cells k no_cell).start total moved
+    LaidFrom-cell = record {
+      one_more = length-set mid (get_or cells k no_cell).start top ∙ same ∙ laid_from.one_more;
+      within = let le : end_of (get_or cells k no_cell) ≤ length base = within in omega arith;
+      last =
+          let le : end_of (get_or cells k no_cell) ≤ length base = within in
+          let long : 1 ≤ (get_or cells k no_cell).span = one in
+          elsewhere (length base) (omega arith) ∙ after (length base) laid_from.within ∙ laid_from.last;
+      steps = steps-moved;
+      apart = apart-moved;
+      earlier = λ j d from l. let s : (get_or cells j d).start ≤ (get_or cells k d).start = sorted k j d (omega arith) l in
+          let e : (get_or cells k d).start ≡ (get_or cells k no_cell).start = ap (λ (d : Demand). d.start) (get_or_default cells k d no_cell listed) in
+          omega arith;
+      above = above-moved;
+    }
+
+-- after the last cell: edges laid back to the first, as `whole`
+module _ (base : List ℕ) (cells : List Demand) (k a total : ℕ) (edges whole : List ℕ) (all : length cells ≤ k) (laid_from : LaidFrom base cells k a total edges)
+    (after : (i : ℕ) → a ≤ i → get_or whole i 0 ≡ get_or edges i 0) (laid : (i : ℕ) → 0 ≤ i → i < a → get_or whole (i + 1) 0 ≡ get_or whole i 0 + get_or base i 0) where
+  pub AreLaid-back : All (IsInTable (length base)) cells → AreLaid base cells (λ i. get_or whole i 0)
+  AreLaid-back table = record {
+    steps = λ i from l. elim (cases_lt i a) [
+      | inr late ↦
+          let p : get_or whole i 0 ≡ get_or edges i 0 = after i late in
+          let q : get_or whole (i + 1) 0 ≡ get_or edges (i + 1) 0 = after (i + 1) (omega arith) in
+          let r : get_or edges i 0 + get_or base i 0 ≤ get_or edges (i + 1) 0 = laid_from.steps i late l in
+          omega arith
+      | inl early ↦ let p : get_or whole (i + 1) 0 ≡ get_or whole i 0 + get_or base i 0 = laid i from early in omega arith
+    ];
+    apart = λ j d l. apart_at (get_or cells j d) (laid_from.apart j d (omega arith));
+  }
+    where
+      apart_at : (d : Demand) → (a ≤ d.start) × (get_or edges d.start 0 + d.need ≤ get_or edges (end_of d) 0) → get_or whole d.start 0 + d.need ≤ get_or whole (end_of d) 0
+      apart_at d known =
+          let starts : a ≤ d.start = known.0 in
+          let apart : get_or edges d.start 0 + d.need ≤ get_or edges (end_of d) 0 = known.1 in
+          let p : get_or whole d.start 0 ≡ get_or edges d.start 0 = after d.start starts in
+          let q : get_or whole (end_of d) 0 ≡ get_or edges (end_of d) 0 = after (end_of d) (omega arith) in
+          omega arith
+
+  pub last-back : get_or whole (length base) 0 ≡ total
+  last-back = after (length base) laid_from.within ∙ laid_from.last
+
+  pub above-back : (edge : ℕ → ℕ) → AreLaid base cells edge → edge (length base) ≤ total → (i : ℕ) → i ≤ length base → edge i ≤ get_or whole i 0
+  above-back edge are le i l = elim (cases_lt i a) [
+    | inr late ↦
+        let p : get_or whole i 0 ≡ get_or edges i 0 = after i late in
+        let q : edge i ≤ get_or edges i 0 = laid_from.above edge are le i late l in
+        omega arith
+    | inl early ↦
+        let p : get_or whole a 0 ≡ get_or edges a 0 = after a (omega arith) in
+        let q : edge a ≤ get_or edges a 0 = laid_from.above edge are le a (omega arith) laid_from.within in
+        let small : a ≤ length base = laid_from.within in
+        above-more base edge (λ i. get_or whole i 0) a 0 (λ i from' l'. are.steps i from' (omega arith)) (omega arith) laid i (omega arith) (omega arith)
+  ]

@@ -1,0 +1,113 @@
+-- Going back along the earliest edges.
+use Rattle.std.proofs.Common.{◌≡◌, ◌≢◌, ℕ, suc, ◌+◌, ◌-◌, ◌<◌, ◌++◌, ◌∙◌, map, [], true, false, ◌==◌, inl, inr, List, ◌∷◌, length, get_or, set, drop, refl, sym, ap, arith, eq-eqb, ne_eqb, Option, Some, None}
+use Rattle.std.specs.Prelude.{find}
+use Rattle.std.proofs.lemmas.Bool.{cases_eq}
+use Rattle.std.proofs.lemmas.List.{append_assoc, append-nil, drop_more, get_or-set_same, get_or-set_other}
+use Rattle.papergrid_axis.specs.declared.demand.Demand.{Demand}
+use Rattle.papergrid_axis.specs.Ranges.{end_of, place_of}
+use Rattle.papergrid_values.specs.declared.position.Position.{Position}
+use Rattle.papergrid_least.specs.ForProofs.Followed.{followed, pushes_by}
+use Rattle.papergrid_least.specs.Longest.{with_earlier}
+use Rattle.papergrid_least.proofs.LaidLemmas.{no_cell}
+
+-- a cell that stands before others, and pushes its edge or not
+module _ (asks : Demand → ℕ) (edge : ℕ → ℕ) (d : Demand) (later : List Demand) where
+  find-pushes : (i : ℕ) → end_of d ≡ i → (edge d.start + asks d == edge (end_of d)) ≡ true → find (pushes_by asks edge i) (d ∷ later) ≡ Some d
+  find-pushes i ends pushes =
+      let e : (edge d.start + asks d == edge i) ≡ true = ap (λ k. edge d.start + asks d == edge k) (sym ends) ∙ pushes in
+      rw (eq-eqb (end_of d) i ends, e) refl
+
+  find-passes : (i : ℕ) → end_of d ≡ i → (edge d.start + asks d == edge (end_of d)) ≡ false → find (pushes_by asks edge i) (d ∷ later) ≡ find (pushes_by asks edge i) later
+  find-passes i ends pushes =
+      let e : (edge d.start + asks d == edge i) ≡ false = ap (λ k. edge d.start + asks d == edge k) (sym ends) ∙ pushes in
+      rw (eq-eqb (end_of d) i ends, e) refl
+
+  find-elsewhere : (i : ℕ) → end_of d ≢ i → find (pushes_by asks edge i) (d ∷ later) ≡ find (pushes_by asks edge i) later
+  find-elsewhere i ne = rw (ne_eqb (end_of d) i ne) refl
+
+module _ (asks : Demand → ℕ) (edge : ℕ → ℕ) (cells : List Demand) (j : ℕ) (listed : j < length cells) (pushers : List (Option Demand))
+    (first : (i : ℕ) → i < length pushers → get_or pushers i None ≡ find (pushes_by asks edge i) (drop (j + 1) cells)) where
+  split : (i : ℕ) → find (pushes_by asks edge i) (drop j cells) ≡ find (pushes_by asks edge i) (get_or cells j no_cell ∷ drop (j + 1) cells)
+  split i = ap (find (pushes_by asks edge i)) (drop_more cells j no_cell listed)
+
+  pub first-kept : (edge (get_or cells j no_cell).start + asks (get_or cells j no_cell) == edge (end_of (get_or cells j no_cell))) ≡ false →
+      (i : ℕ) → i < length pushers → get_or pushers i None ≡ find (pushes_by asks edge i) (drop j cells)
+  first-kept passes i l = elim (cases_eq (end_of (get_or cells j no_cell)) i) [
+    | inl e ↦ first i l ∙ sym (split i ∙ find-passes asks edge (get_or cells j no_cell) (drop (j + 1) cells) i e passes)
+    | inr ne ↦ first i l ∙ sym (split i ∙ find-elsewhere asks edge (get_or cells j no_cell) (drop (j + 1) cells) i ne)
+  ]
+
+  pub first-written : (edge (get_or cells j no_cell).start + asks (get_or cells j no_cell) == edge (end_of (get_or cells j no_cell))) ≡ true →
+      (i : ℕ) → i < length pushers → get_or (set pushers (end_of (get_or cells j no_cell)) (Some (get_or cells j no_cell))) i None ≡ find (pushes_by asks edge i) (drop j cells)
+  first-written pushes i l = elim (cases_eq (end_of (get_or cells j no_cell)) i) [
+    | inl e ↦
+        ap (λ k. get_or (set pushers k (Some (get_or cells j no_cell))) i None) e
+        ∙ get_or-set_same pushers i (Some (get_or cells j no_cell)) None l
+        ∙ sym (split i ∙ find-pushes asks edge (get_or cells j no_cell) (drop (j + 1) cells) i e pushes)
+    | inr ne ↦
+        get_or-set_other pushers (end_of (get_or cells j no_cell)) i (Some (get_or cells j no_cell)) None (λ e. ne (sym e))
+        ∙ first i l ∙ sym (split i ∙ find-elsewhere asks edge (get_or cells j no_cell) (drop (j + 1) cells) i ne)
+  ]
+
+-- one step back, of `steps + 1`
+module _ (edge : ℕ → ℕ) (single : ℕ → Demand) (longer : ℕ → Option Demand) (steps i : ℕ) where
+  pub followed-even : edge i - edge (i - 1) ≡ 0 → followed edge single longer (suc steps) i ≡ followed edge single longer steps (i - 1)
+  followed-even even = rw (eq-eqb (edge i - edge (i - 1)) 0 even) refl
+
+  pub followed-single : edge i - edge (i - 1) ≢ 0 → (single (i - 1)).need ≡ edge i - edge (i - 1) → followed edge single longer (suc steps) i ≡ single (i - 1) ∷ followed edge single longer steps (i - 1)
+  followed-single past need = rw (ne_eqb (edge i - edge (i - 1)) 0 past, eq-eqb (single (i - 1)).need (edge i - edge (i - 1)) need) refl
+
+  pub followed-longer : edge i - edge (i - 1) ≢ 0 → (single (i - 1)).need ≢ edge i - edge (i - 1) → followed edge single longer (suc steps) i ≡ with_earlier (longer i) (followed edge single longer steps)
+  followed-longer past need = rw (ne_eqb (edge i - edge (i - 1)) 0 past, ne_eqb (single (i - 1)).need (edge i - edge (i - 1)) need) refl
+
+-- what was met, and what is still to be met from number i on, are all of it
+module _ (edge : ℕ → ℕ) (single : ℕ → Demand) (longer : ℕ → Option Demand) (size counter i before : ℕ) (places whole : List Position) (left : counter < size) (before_is : before ≡ i - 1)
+    (met : places ++ map place_of (followed edge single longer (size - counter) i) ≡ whole) where
+  steps_are : size - counter ≡ suc (size - (counter + 1))
+  steps_are = omega arith
+
+  met_now : places ++ map place_of (followed edge single longer (suc (size - (counter + 1))) i) ≡ whole
+  met_now = ap (λ s. places ++ map place_of (followed edge single longer s i)) (sym steps_are) ∙ met
+
+  pub met-even : edge i - edge before ≡ 0 → places ++ map place_of (followed edge single longer (size - (counter + 1)) before) ≡ whole
+  met-even even =
+      ap (λ b. places ++ map place_of (followed edge single longer (size - (counter + 1)) b)) before_is
+      ∙ ap (λ ds. places ++ map place_of ds) (sym (followed-even edge single longer (size - (counter + 1)) i (ap (λ b. edge i - edge b) (sym before_is) ∙ even)))
+      ∙ met_now
+
+  one_more : (d : Demand) (rest : List Demand) → followed edge single longer (suc (size - (counter + 1))) i ≡ d ∷ rest → (place : Position) → place ≡ place_of d → (places ++ place ∷ []) ++ map place_of rest ≡ whole
+  one_more d rest e place here =
+      append_assoc places (place ∷ []) (map place_of rest)
+      ∙ ap (λ p. places ++ p ∷ map place_of rest) here
+      ∙ ap (λ ds. places ++ map place_of ds) (sym e)
+      ∙ met_now
+
+  pub met-single : edge i - edge before ≢ 0 → (single before).need ≡ edge i - edge before → (place : Position) → place ≡ place_of (single before) →
+      (places ++ place ∷ []) ++ map place_of (followed edge single longer (size - (counter + 1)) before) ≡ whole
+  met-single past need place here =
+      let past' : edge i - edge (i - 1) ≢ 0 = λ e. past (ap (λ b. edge i - edge b) before_is ∙ e) in
+      let need' : (single (i - 1)).need ≡ edge i - edge (i - 1) = ap (λ b. (single b).need) (sym before_is) ∙ need ∙ ap (λ b. edge i - edge b) before_is in
+      ap (λ b. (places ++ place ∷ []) ++ map place_of (followed edge single longer (size - (counter + 1)) b)) before_is
+      ∙ one_more (single (i - 1)) (followed edge single longer (size - (counter + 1)) (i - 1)) (followed-single edge single longer (size - (counter + 1)) i past' need') place
+      (here ∙ ap (λ b. place_of (single b)) before_is)
+
+  longer_now : edge i - edge before ≢ 0 → (single before).need ≢ edge i - edge before → followed edge single longer (suc (size - (counter + 1))) i ≡ with_earlier (longer i) (followed edge single longer (size - (counter + 1)))
+  longer_now past need =
+      followed-longer edge single longer (size - (counter + 1)) i (λ e. past (ap (λ b. edge i - edge b) before_is ∙ e))
+      (λ e. need (ap (λ b. (single b).need) before_is ∙ e ∙ ap (λ b. edge i - edge b) (sym before_is)))
+
+  pub met-longer : edge i - edge before ≢ 0 → (single before).need ≢ edge i - edge before → (d : Demand) → longer i ≡ Some d → (place : Position) → place ≡ place_of d →
+      (places ++ place ∷ []) ++ map place_of (followed edge single longer (size - (counter + 1)) d.start) ≡ whole
+  met-longer past need d found place here =
+      one_more d (followed edge single longer (size - (counter + 1)) d.start)
+      (longer_now past need ∙ ap (λ f. with_earlier f (followed edge single longer (size - (counter + 1)))) found) place here
+
+  pub met-none : edge i - edge before ≢ 0 → (single before).need ≢ edge i - edge before → longer i ≡ None → places ≡ whole
+  met-none past need none =
+      sym (append-nil places)
+      ∙ ap (λ ds. places ++ map place_of ds) (sym (longer_now past need ∙ ap (λ f. with_earlier f (followed edge single longer (size - (counter + 1)))) none))
+      ∙ met_now
+
+pub none-from : (found : Option Demand) → ((d : Demand) → found ≡ Some d → ⊥) → found ≡ None
+none-from None nothing = refl
+none-from (Some d) nothing = absurd (nothing d refl)

@@ -1,0 +1,125 @@
+-- The sizes of the least total.
+use Rattle.std.proofs.Common.{◌≡◌, ℕ, suc, ◌+◌, ◌-◌, ◌<◌, ◌≤◌, min, Bool, List, get_or, take, sum, sym, ap, arith}
+use Rattle.std.specs.Prelude.{All, ◌↔◌}
+use Rattle.std.proofs.lemmas.List.FromFn.{fill_by_all}
+use Rattle.papergrid_axis.specs.declared.demand.Demand.{Demand}
+use Rattle.papergrid_axis.specs.Ranges.{IsInTable, IsKeptApart}
+use Rattle.papergrid_values.specs.Lines.{all_lines}
+use Rattle.papergrid_axis.specs.Problem.{Problem, given, total_of}
+use Rattle.papergrid_axis.specs.Fits.{Fits, IsLeast, IsCertificate, IsTooLarge, top_need}
+use Rattle.papergrid_axis.specs.Sizes.{sizes_of}
+use Rattle.papergrid_axis.proofs.Theorems.{Fits-sizes_of, bound-sizes_of, IsLeast-sizes_of}
+use Rattle.papergrid_least.proofs.BoundLemmas.{bound-least_sizes}
+use Rattle.papergrid_axis.proofs.Upto.{upto, sum-take}
+use Rattle.papergrid_least.specs.Edges.{asked, edges_of, AreEdges, sizes_between}
+use Rattle.papergrid_least.specs.Earliest.{earliest, least_total}
+use Rattle.papergrid_least.specs.Least.{latest, least_sizes, least_of}
+use Rattle.papergrid_least.proofs.EdgeLemmas.{AreEdges-edges_of, AreEdges-min, Fits-sizes_between, sum-sizes_between, take_whole}
+use Rattle.papergrid_least.proofs.EarliestLemmas.{AreEdges-earliest, earliest-total, IsLeast-earliest}
+use Rattle.papergrid_least.specs.Longest.{longest}
+use Rattle.papergrid_least.proofs.LongestLemmas.{IsCertificate-longest}
+use Rattle.papergrid_least.proofs.LatestLemmas.{AreEdges-latest, latest-above, latest-last}
+
+module _ (line : ℕ → Bool) (n : ℕ) (demands : List Demand) (sizes : List ℕ) (table : All (IsInTable n) demands) where
+  -- the edges of the sizes, moved to the latest where they are past it
+  abbrev lower : ℕ → ℕ
+  lower i = min (edges_of sizes i) (latest (asked line) n demands i)
+
+  AreEdges-lower : Fits (given line n demands) sizes → AreEdges (asked line) n demands lower
+  AreEdges-lower fits =
+      AreEdges-min (asked line) n demands (edges_of sizes) (latest (asked line) n demands) (AreEdges-edges_of line n demands sizes fits) (AreEdges-latest (asked line) n demands table)
+
+  pub IsLeast-least_sizes : Fits (given line n demands) sizes → IsLeast (given line n demands) (least_sizes (given line n demands) sizes)
+  IsLeast-least_sizes fits =
+      let are : AreEdges (asked line) n demands lower = AreEdges-lower fits in
+      record {
+        fits = Fits-sizes_between line n demands lower table are;
+        least = λ other fits'.
+            let a : earliest (asked line) demands n ≤ sum other = earliest-total line n demands other table fits' in
+            let b : sum (sizes_between n lower) + lower 0 ≡ lower n = sum-sizes_between n lower are.rise in
+            let c : latest (asked line) n demands n ≡ earliest (asked line) demands n = latest-last (asked line) n demands in
+            let d : lower n ≤ latest (asked line) n demands n = omega arith in
+            omega arith;
+      }
+
+  -- their total is the least, so the longest way certifies them
+  pub IsCertificate-least_sizes : Fits (given line n demands) sizes → IsCertificate (given line n demands) (least_sizes (given line n demands) sizes) (longest (given line n demands))
+  IsCertificate-least_sizes fits =
+      let are : AreEdges (asked line) n demands lower = AreEdges-lower fits in
+      let a : sum (sizes_between n lower) + lower 0 ≡ lower n = sum-sizes_between n lower are.rise in
+      let b : latest (asked line) n demands n ≡ earliest (asked line) demands n = latest-last (asked line) n demands in
+      let c : earliest (asked line) demands n ≤ sum (sizes_between n lower) = earliest-total line n demands (sizes_between n lower) table (Fits-sizes_between line n demands lower table are) in
+      let d : lower n ≤ latest (asked line) n demands n = omega arith in
+      IsCertificate-longest line n demands (sizes_between n lower) table (omega arith)
+
+  pub same-least_sizes : IsLeast (given line n demands) sizes → least_sizes (given line n demands) sizes ≡ sizes
+  same-least_sizes is_least = sym (fill_by_all (λ i. lower (i + 1) - lower i) sizes n 0 is_least.fits.one_each size_at)
+    where
+      total : edges_of sizes n ≤ earliest (asked line) demands n
+      total =
+          let are : AreEdges (asked line) n demands (earliest (asked line) demands) = AreEdges-earliest (asked line) demands n table in
+          let a : sum sizes ≤ sum (sizes_between n (earliest (asked line) demands)) = is_least.least (sizes_between n (earliest (asked line) demands)) (IsLeast-earliest line n demands table).fits in
+          let b : sum (sizes_between n (earliest (asked line) demands)) + earliest (asked line) demands 0 ≡ earliest (asked line) demands n = sum-sizes_between n (earliest (asked line) demands) are.rise in
+          let c : sum (take n sizes) ≡ sum sizes = ap sum (take_whole n sizes is_least.fits.one_each) in
+          omega arith
+
+      lower-is : (i : ℕ) → i ≤ n → lower i ≡ edges_of sizes i
+      lower-is i l =
+          let a : edges_of sizes i ≤ latest (asked line) n demands i = latest-above (asked line) n demands table (edges_of sizes) (AreEdges-edges_of line n demands sizes is_least.fits) total i l in
+          omega arith
+
+      size_at : (k : ℕ) → k < n → get_or sizes k 0 ≡ lower (k + 1) - lower k
+      size_at k l =
+          let a : sum (take (suc k) sizes) ≡ upto (λ i. get_or sizes i 0) k + get_or sizes k 0 = sum-take (suc k) sizes in
+          let b : sum (take k sizes) ≡ upto (λ i. get_or sizes i 0) k = sum-take k sizes in
+          let c : lower (k + 1) ≡ edges_of sizes (k + 1) = lower-is (k + 1) (omega arith) in
+          let c' : edges_of sizes (k + 1) ≡ edges_of sizes (suc k) = ap (edges_of sizes) (let s : k + 1 ≡ suc k = omega arith in s) in
+          let d : lower k ≡ edges_of sizes k = lower-is k (omega arith) in
+          omega arith
+
+module _ (problem : Problem) (table : All (IsInTable problem.count) problem.demands) where
+  pub IsLeast-least_of : IsLeast problem (least_of problem)
+  IsLeast-least_of = IsLeast-least_sizes problem.line problem.count problem.demands (sizes_of problem) table (Fits-sizes_of problem table)
+
+  pub bound-least_of : (i : ℕ) → i < problem.count → get_or (least_of problem) i 0 ≤ top_need problem.demands i
+  bound-least_of i l = bound-least_sizes problem.line problem.count problem.demands (sizes_of problem) table i l (bound-sizes_of problem table i l)
+
+  pub IsCertificate-least_of : IsCertificate problem (least_of problem) (longest problem)
+  IsCertificate-least_of = IsCertificate-least_sizes problem.line problem.count problem.demands (sizes_of problem) table (Fits-sizes_of problem table)
+
+  pub least_of-shares : IsLeast problem (sizes_of problem) → least_of problem ≡ sizes_of problem
+  least_of-shares is_least = same-least_sizes problem.line problem.count problem.demands (sizes_of problem) table is_least
+
+  pub same-least_of : IsKeptApart problem.demands → least_of problem ≡ sizes_of problem
+  same-least_of apart = least_of-shares (IsLeast-sizes_of problem table apart)
+
+  pub total-least_of : sum (least_of problem) ≡ least_total problem
+  total-least_of =
+      let are : AreEdges (asked problem.line) problem.count problem.demands (earliest (asked problem.line) problem.demands) = AreEdges-earliest (asked problem.line) problem.demands problem.count table in
+      let least : IsLeast problem (sizes_between problem.count (earliest (asked problem.line) problem.demands)) = IsLeast-earliest problem.line problem.count problem.demands table in
+      let a : sum (least_of problem) ≤ sum (sizes_between problem.count (earliest (asked problem.line) problem.demands)) = IsLeast-least_of.least (sizes_between problem.count (earliest (asked problem.line) problem.demands)) least.fits in
+      let b : sum (sizes_between problem.count (earliest (asked problem.line) problem.demands)) + earliest (asked problem.line) problem.demands 0 ≡ earliest (asked problem.line) problem.demands problem.count =
+      sum-sizes_between problem.count (earliest (asked problem.line) problem.demands) are.rise in
+      let c : earliest (asked problem.line) problem.demands problem.count ≤ sum (least_of problem) = earliest-total problem.line problem.count problem.demands (least_of problem) table IsLeast-least_of.fits in
+      omega arith
+
+  pub refused-least_of : IsTooLarge problem (least_of problem) ↔ ((other : List ℕ) → Fits problem other → IsTooLarge problem other)
+  refused-least_of = ((λ large other fits. too_large other large (IsLeast-least_of.least other fits)), (λ each. each (least_of problem) IsLeast-least_of.fits))
+    where
+      too_large : (other : List ℕ) → IsTooLarge problem (least_of problem) → sum (least_of problem) ≤ sum other → IsTooLarge problem other
+      too_large other large le =
+          let large' : 18446744073709551616 ≤ sum (least_of problem) + all_lines problem.line problem.count = large in
+          let all : 18446744073709551616 ≤ sum other + all_lines problem.line problem.count = omega arith in
+          all
+
+  pub decides-least_total : ((sizes : List ℕ) × Fits problem sizes × (total_of problem sizes < 18446744073709551616)) ↔ (least_total problem + all_lines problem.line problem.count < 18446744073709551616)
+  decides-least_total = ((λ some. small some.0 some.2 (earliest-total problem.line problem.count problem.demands some.0 table some.1)), (λ l. (least_of problem, IsLeast-least_of.fits, least_small l)))
+    where
+      small : (sizes : List ℕ) → total_of problem sizes < 18446744073709551616 → least_total problem ≤ sum sizes → least_total problem + all_lines problem.line problem.count < 18446744073709551616
+      small sizes l le = let l' : sum sizes + all_lines problem.line problem.count < 18446744073709551616 = l in omega arith
+
+      least_small : least_total problem + all_lines problem.line problem.count < 18446744073709551616 → total_of problem (least_of problem) < 18446744073709551616
+      least_small l =
+          let e : sum (least_of problem) ≡ least_total problem = total-least_of in
+          let all : sum (least_of problem) + all_lines problem.line problem.count < 18446744073709551616 = omega arith in
+          all

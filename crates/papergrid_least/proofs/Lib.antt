@@ -1,0 +1,15 @@
+pub mod AnswerLemmas
+pub mod BackLemmas
+pub mod BoundLemmas
+pub mod EarliestLemmas
+pub mod EdgeLemmas
+pub mod FollowedLemmas
+pub mod LaidLemmas
+pub mod LatestLemmas
+pub mod LeastLemmas
+pub mod LongestLemmas
+pub mod PermutedLemmas
+pub mod PusherLemmas
+pub mod SeenLemmas
+pub mod ShareLemmas
+pub mod WayLemmas

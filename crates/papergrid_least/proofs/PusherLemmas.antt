@@ -1,0 +1,242 @@
+-- What is met going back by what is kept are the cells of the longest way.
+use Rattle.std.proofs.Common.{◌≡◌, ◌≢◌, ℕ, zero, suc, ◌+◌, ◌-◌, ◌<◌, ◌≤◌, ◌∙◌, Bool, true, false, ◌&&◌, ◌==◌, not, inl, inr, List, [], ◌∷◌, length, get_or, refl, sym, ap, arith, eqb, eq-eqb, eqb-true, ne_eqb, Option, Some, None}
+use Rattle.std.specs.Prelude.{All, Contains, filter, find, nat_lt}
+use Rattle.std.proofs.lemmas.Bool.{and_from, and_parts, cases_Bool, cases_eq, true≢false}
+use Rattle.std.proofs.lemmas.List.Elements.{All-contains_itself, All-filter, All-from_recursion, All-head, All-tail, Contains-get_or, recursion_from_All}
+use Rattle.papergrid_axis.specs.declared.demand.Demand.{Demand}
+use Rattle.papergrid_axis.specs.Chosen.{or_else}
+use Rattle.papergrid_axis.specs.ForProofs.Seen.{first_greatest, is_single, others}
+use Rattle.papergrid_axis.specs.Ranges.{IsInTable, end_of, inner_lines}
+use Rattle.papergrid_axis.specs.Sizes.{base_size, base_sizes}
+use Rattle.papergrid_axis.proofs.Counting.{find-all, find-none}
+use Rattle.papergrid_axis.proofs.DrawnLemmas.{inner-drawn}
+use Rattle.papergrid_axis.proofs.Greatest.{get_or-base_sizes, length-base_sizes, need-below_greatest}
+use Rattle.papergrid_axis.proofs.SeenLemmas.{exact_single-first, need-first_greatest}
+use Rattle.papergrid_least.specs.Edges.{asked}
+use Rattle.papergrid_least.specs.Earliest.{earliest}
+use Rattle.papergrid_least.specs.Longest.{pusher, pushers, pushes, with_earlier}
+use Rattle.papergrid_least.specs.ForProofs.Followed.{followed, pushes_by}
+use Rattle.papergrid_least.specs.ForProofs.Laid.{AreLaid}
+use Rattle.papergrid_least.proofs.EarliestLemmas.{AreEdges-earliest, earliest-rises}
+use Rattle.papergrid_least.proofs.FollowedLemmas.{followed-even, followed-longer, followed-single}
+use Rattle.papergrid_least.proofs.LongestLemmas.{find-nothing}
+use Rattle.papergrid_least.proofs.SeenLemmas.{AreLaid-from_edges, inner-alone, longer_asking}
+
+-- two tests that agree find the same
+find-agree : (p q : Demand → Bool) (ds : List Demand) → All (λ d. p d ≡ q d) ds → find p ds ≡ find q ds
+find-agree p q [] same = refl
+find-agree p q (d ∷ ds) same =
+    let here : p d ≡ q d = All-head (λ d. p d ≡ q d) d ds same in
+    let rest : find p ds ≡ find q ds = find-agree p q ds (All-tail (λ d. p d ≡ q d) d ds same) in
+    elim (cases_Bool (q d)) [
+      | inl t ↦ rw (here ∙ t, t) refl
+      | inr f ↦ rw (here ∙ f, f) rest
+    ]
+
+-- where each cell that passes also passes a second test, it is found among those that pass the second
+find-kept : (p q : Demand → Bool) (ds : List Demand) → All (λ d. p d ≡ true → q d ≡ true) ds → find p ds ≡ find p (filter q ds)
+find-kept p q [] kept = refl
+find-kept p q (d ∷ ds) kept =
+    let here : p d ≡ true → q d ≡ true = All-head (λ d. p d ≡ true → q d ≡ true) d ds kept in
+    let rest : find p ds ≡ find p (filter q ds) = find-kept p q ds (All-tail (λ d. p d ≡ true → q d ≡ true) d ds kept) in
+    elim (cases_Bool (p d)) [
+      | inl t ↦ rw (here t, t) refl
+      | inr f ↦ elim (cases_Bool (q d)) [
+        | inl t' ↦ rw (t', f) rest
+        | inr f' ↦ rw (f', f) rest
+      ]
+    ]
+
+with_earlier-agree : (found : Option Demand) (f g : ℕ → List Demand) → ((d : Demand) → found ≡ Some d → f d.start ≡ g d.start) → with_earlier found f ≡ with_earlier found g
+with_earlier-agree None f g same = refl
+with_earlier-agree (Some d) f g same = ap (λ ds. d ∷ ds) (same d refl)
+
+module _ (line drawn : ℕ → Bool) (n limit : ℕ) (demands : List Demand) (agree : (i : ℕ) → i ≤ n → drawn i ≡ line i) (table : All (IsInTable n) demands)
+    (below : All (λ d. is_single limit d ≡ true → d.start < n) demands) (from_limit : n ≤ limit) where
+  abbrev top : ℕ → ℕ
+  top = earliest (asked line) demands
+
+  base : List ℕ
+  base = base_sizes n demands
+
+  -- what the cells need that cover number j alone fits between its edges
+  base-fits : (j : ℕ) → j < n → top j + base_size demands j ≤ top (suc j)
+  base-fits j l =
+      let laid : AreLaid (base_sizes n demands) (longer_asking line drawn n limit demands agree table below (base_sizes n demands) refl (length-base_sizes n demands)) top =
+      AreLaid-from_edges line drawn n limit demands agree table below (base_sizes n demands) refl (length-base_sizes n demands) top (AreEdges-earliest (asked line) demands n table) in
+      let many : length (base_sizes n demands) ≡ n = length-base_sizes n demands in
+      let s : top j + get_or (base_sizes n demands) j 0 ≤ top (j + 1) = laid.steps j (omega arith) (omega arith) in
+      let e : get_or (base_sizes n demands) j 0 ≡ base_size demands j = get_or-base_sizes n demands j l in
+      let e' : top (j + 1) ≡ top (suc j) = ap top (let q : j + 1 ≡ suc j = omega arith in q) in
+      omega arith
+
+  -- a cell that covers j alone and pushes the next edge needs what lies between the two
+  alone : (j : ℕ) (d : Demand) → d.span ≡ 1 → pushes (asked line) demands (suc j) d ≡ true → (d.start ≡ j) × (top j + d.need ≡ top (suc j))
+  alone j d one pushed =
+      let parts : (eqb (end_of d) (suc j) ≡ true) × (eqb (top d.start + asked line d) (top (suc j)) ≡ true) = and_parts (eqb (end_of d) (suc j)) (eqb (top d.start + asked line d) (top (suc j))) pushed in
+      let ends : end_of d ≡ suc j = eqb-true _ _ parts.0 in
+      let here : d.start ≡ j = omega arith in
+      let sum : top d.start + asked line d ≡ top (suc j) = eqb-true _ _ parts.1 in
+      let inner : inner_lines line d ≡ 0 = inner-alone line d one in
+      let e : top d.start ≡ top j = ap top here in
+      (here, omega arith)
+
+  no_single : (j : ℕ) → j < n → top j + base_size demands j ≢ top (suc j) → find (λ d. d.span == 1 && pushes (asked line) demands (suc j) d) demands ≡ None
+  no_single j l ne =
+      find-none (λ d. d.span == 1 && pushes (asked line) demands (suc j) d) demands
+      (recursion_from_All (λ d. (d.span == 1 && pushes (asked line) demands (suc j) d) ≡ false) demands (λ k d l'. at (get_or demands k d) (Contains-get_or demands k d l')))
+    where
+      at : (d : Demand) → Contains demands d → (d.span == 1 && pushes (asked line) demands (suc j) d) ≡ false
+      at d listed = elim (cases_Bool (d.span == 1 && pushes (asked line) demands (suc j) d)) [
+        | inr f ↦ f
+        | inl t ↦
+            let parts : (eqb d.span 1 ≡ true) × (pushes (asked line) demands (suc j) d ≡ true) = and_parts (eqb d.span 1) (pushes (asked line) demands (suc j) d) t in
+            let one : d.span ≡ 1 = eqb-true d.span 1 parts.0 in
+            let known : (d.start ≡ j) × (top j + d.need ≡ top (suc j)) = alone j d one parts.1 in
+            let need : d.need ≤ base_size demands j = need-below_greatest (λ c. c.span == 1 && c.start == j) demands d listed (and_from _ _ parts.0 (eq-eqb d.start j known.0)) in
+            let fits : top j + base_size demands j ≤ top (suc j) = base-fits j l in
+            let sum : top j + d.need ≡ top (suc j) = known.1 in
+            absurd (ne (omega arith))
+      ]
+
+  single : (j : ℕ) → j < n → top j < top (suc j) → top j + base_size demands j ≡ top (suc j) → find (λ d. d.span == 1 && pushes (asked line) demands (suc j) d) demands ≡ Some (first_greatest j demands)
+  single j l past e =
+      let base_is : get_or (base_sizes n demands) j 0 ≡ base_size demands j = get_or-base_sizes n demands j l in
+      find-agree (λ d. d.span == 1 && pushes (asked line) demands (suc j) d) (λ d. d.span == 1 && d.start == j && d.need == get_or (base_sizes n demands) j 0) demands
+      (λ k d l'. at (get_or demands k d) (table k d l'))
+      ∙ exact_single-first j demands (base_sizes n demands) base_is (let some : get_or (base_sizes n demands) j 0 ≢ 0 = omega arith in some)
+    where
+      at : (d : Demand) → IsInTable n d → (d.span == 1 && pushes (asked line) demands (suc j) d) ≡ (d.span == 1 && d.start == j && d.need == get_or (base_sizes n demands) j 0)
+      at d cell = elim (cases_eq d.span 1) [
+        | inr ne ↦ rw (ne_eqb d.span 1 ne) refl
+        | inl one ↦ elim (cases_eq d.start j) [
+          | inr ne ↦
+              let ends : end_of d ≢ suc j = omega arith in
+              rw (eq-eqb d.span 1 one, ne_eqb (end_of d) (suc j) ends, ne_eqb d.start j ne) refl
+          | inl here ↦
+              let ends : end_of d ≡ suc j = omega arith in
+              let inner : inner_lines line d ≡ 0 = inner-alone line d one in
+              let base_is : get_or (base_sizes n demands) j 0 ≡ base_size demands j = get_or-base_sizes n demands j l in
+              let same : top d.start ≡ top j = ap top here in
+              elim (cases_eq d.need (get_or (base_sizes n demands) j 0)) [
+                | inl most ↦
+                    let sum : top d.start + asked line d ≡ top (suc j) = omega arith in
+                    rw (eq-eqb d.span 1 one, eq-eqb (end_of d) (suc j) ends, eq-eqb d.start j here, eq-eqb d.need (get_or (base_sizes n demands) j 0) most, eq-eqb (top d.start + asked line d) (top (suc j)) sum) refl
+                | inr ne ↦
+                    let sum : top d.start + asked line d ≢ top (suc j) = omega arith in
+                    rw (eq-eqb d.span 1 one, eq-eqb (end_of d) (suc j) ends, eq-eqb d.start j here, ne_eqb d.need (get_or (base_sizes n demands) j 0) ne, ne_eqb (top d.start + asked line d) (top (suc j)) sum) refl
+              ]
+        ]
+      ]
+
+  -- where no such cell pushes, the first that does is among the others
+  module _ (edge : ℕ → ℕ) (edges_are : (i : ℕ) → i ≤ n → edge i ≡ top i) where
+    same_test : (i : ℕ) → i ≤ n → (d : Demand) → IsInTable n d → pushes (asked line) demands i d ≡ pushes_by (asked drawn) edge i d
+    same_test i l d cell = elim (cases_eq (end_of d) i) [
+      | inr ne ↦ rw (ne_eqb (end_of d) i ne) refl
+      | inl ends ↦
+          let within : end_of d ≤ n = cell.ends_within in
+          let inner : inner_lines drawn d ≡ inner_lines line d = inner-drawn drawn line n agree d cell in
+          let a : edge d.start ≡ top d.start = edges_are d.start (omega arith) in
+          let b : edge i ≡ top i = edges_are i l in
+          let sum : top d.start + asked line d ≡ edge d.start + asked drawn d = omega arith in
+          rw (eq-eqb (end_of d) i ends, sum, b) refl
+    ]
+
+    among_others : (j : ℕ) → j < n → find (λ d. d.span == 1 && pushes (asked line) demands (suc j) d) demands ≡ None →
+        find (pushes (asked line) demands (suc j)) demands ≡ find (pushes_by (asked drawn) edge (suc j)) (others limit demands)
+    among_others j l none =
+        find-kept (pushes (asked line) demands (suc j)) (λ d. not (is_single limit d)) demands (λ k d l'. longer (get_or demands k d) (nothing k d l'))
+        ∙ find-agree (pushes (asked line) demands (suc j)) (pushes_by (asked drawn) edge (suc j)) (others limit demands)
+        (All-filter (λ d. not (is_single limit d)) (λ d. pushes (asked line) demands (suc j) d ≡ pushes_by (asked drawn) edge (suc j) d) demands (λ k d l'. same_test (suc j) l (get_or demands k d) (table k d l')))
+      where
+        nothing : All (λ d. (d.span == 1 && pushes (asked line) demands (suc j) d) ≡ false) demands
+        nothing = All-from_recursion (λ d. (d.span == 1 && pushes (asked line) demands (suc j) d) ≡ false) demands (find-nothing (λ d. d.span == 1 && pushes (asked line) demands (suc j) d) demands none)
+
+        longer : (d : Demand) → (d.span == 1 && pushes (asked line) demands (suc j) d) ≡ false → pushes (asked line) demands (suc j) d ≡ true → not (is_single limit d) ≡ true
+        longer d f t = elim (cases_Bool (is_single limit d)) [
+          | inr f' ↦ ap not f'
+          | inl t' ↦
+              let parts : (eqb d.span 1 ≡ true) × (nat_lt d.start limit ≡ true) = and_parts (eqb d.span 1) (nat_lt d.start limit) t' in
+              absurd (true≢false (sym (and_from _ _ parts.0 t) ∙ f))
+        ]
+
+    module _ (singles : ℕ → Demand) (singles_are : (i : ℕ) → i < limit → singles i ≡ first_greatest i demands)
+        (longer : ℕ → Option Demand) (longer_are : (i : ℕ) → i ≤ n → longer i ≡ find (pushes_by (asked drawn) edge i) (others limit demands)) where
+      pushers-even : (steps j : ℕ) → top (suc j) ≡ top j → pushers (asked line) demands (suc steps) (suc j) ≡ pushers (asked line) demands steps j
+      pushers-even steps j same =
+          let e : suc j - 1 ≡ j = omega arith in
+          rw (e, eq-eqb (top (suc j)) (top j) same) refl
+
+      pushers-past : (steps j : ℕ) → top (suc j) ≢ top j → pushers (asked line) demands (suc steps) (suc j) ≡ with_earlier (pusher (asked line) demands (suc j)) (pushers (asked line) demands steps)
+      pushers-past steps j ne =
+          let e : suc j - 1 ≡ j = omega arith in
+          rw (e, ne_eqb (top (suc j)) (top j) ne) refl
+
+      -- the kept cell of number j alone starts there
+      start_of : (j : ℕ) → j < n → top j < top (suc j) → top j + base_size demands j ≡ top (suc j) → (first_greatest j demands).start ≡ j
+      start_of j l past e =
+          let found : ((eqb (first_greatest j demands).span 1 && pushes (asked line) demands (suc j) (first_greatest j demands)) ≡ true) × Contains demands (first_greatest j demands) =
+          find-all (Contains demands) (λ d. d.span == 1 && pushes (asked line) demands (suc j) d) demands (first_greatest j demands) (recursion_from_All (Contains demands) demands (All-contains_itself demands)) (single j l past e) in
+          let parts : (eqb (first_greatest j demands).span 1 ≡ true) × (pushes (asked line) demands (suc j) (first_greatest j demands) ≡ true) =
+          and_parts (eqb (first_greatest j demands).span 1) (pushes (asked line) demands (suc j) (first_greatest j demands)) found.0 in
+          (alone j (first_greatest j demands) (eqb-true _ 1 parts.0) parts.1).0
+
+      pub followed-is : (steps i : ℕ) → i ≤ n → followed edge singles longer steps i ≡ pushers (asked line) demands steps i
+      followed-is zero i l = refl
+      followed-is (suc steps) zero l =
+          followed-even edge singles longer steps 0 (omega arith) ∙ followed-is steps 0 (omega arith)
+      followed-is (suc steps) (suc j) l =
+          let e : suc j - 1 ≡ j = omega arith in
+          let a : edge (suc j) ≡ top (suc j) = edges_are (suc j) l in
+          let b : edge j ≡ top j = edges_are j (omega arith) in
+          let b' : edge (suc j - 1) ≡ edge j = ap edge e in
+          let rises : top j ≤ top (suc j) = earliest-rises (asked line) demands j in
+          elim (cases_eq (top (suc j)) (top j)) [
+            | inl same ↦
+                followed-even edge singles longer steps (suc j) (omega arith)
+                ∙ ap (followed edge singles longer steps) e
+                ∙ followed-is steps j (omega arith)
+                ∙ sym (pushers-even steps j same)
+            | inr ne ↦
+                past steps j l ne (followed-is steps j (omega arith)) (λ d found. followed-is steps d.start (start_within j d l found))
+                ∙ sym (pushers-past steps j ne)
+          ]
+        where
+          start_within : (j : ℕ) (d : Demand) → suc j ≤ n → find (pushes_by (asked drawn) edge (suc j)) (others limit demands) ≡ Some d → d.start ≤ n
+          start_within j d l found =
+              let at : (pushes_by (asked drawn) edge (suc j) d ≡ true) × Contains (others limit demands) d =
+              find-all (Contains (others limit demands)) (pushes_by (asked drawn) edge (suc j)) (others limit demands) d (recursion_from_All (Contains (others limit demands)) (others limit demands) (All-contains_itself (others limit demands))) found in
+              let parts : (eqb (end_of d) (suc j) ≡ true) × (eqb (edge d.start + asked drawn d) (edge (suc j)) ≡ true) = and_parts (eqb (end_of d) (suc j)) (eqb (edge d.start + asked drawn d) (edge (suc j))) at.0 in
+              let ends : end_of d ≡ suc j = eqb-true _ _ parts.0 in
+              omega arith
+
+          past : (steps j : ℕ) → suc j ≤ n → top (suc j) ≢ top j → followed edge singles longer steps j ≡ pushers (asked line) demands steps j →
+              ((d : Demand) → find (pushes_by (asked drawn) edge (suc j)) (others limit demands) ≡ Some d → followed edge singles longer steps d.start ≡ pushers (asked line) demands steps d.start) →
+              followed edge singles longer (suc steps) (suc j) ≡ with_earlier (pusher (asked line) demands (suc j)) (pushers (asked line) demands steps)
+          past steps j l ne before starts =
+              let e : suc j - 1 ≡ j = omega arith in
+              let a : edge (suc j) ≡ top (suc j) = edges_are (suc j) l in
+              let b : edge j ≡ top j = edges_are j (omega arith) in
+              let b' : edge (suc j - 1) ≡ edge j = ap edge e in
+              let rises : top j ≤ top (suc j) = earliest-rises (asked line) demands j in
+              let fits : top j + base_size demands j ≤ top (suc j) = base-fits j l in
+              let kept : singles j ≡ first_greatest j demands = singles_are j (omega arith) in
+              let kept' : singles (suc j - 1) ≡ singles j = ap singles e in
+              let need : (singles (suc j - 1)).need ≡ base_size demands j = ap (λ (d : Demand). d.need) (kept' ∙ kept) ∙ need-first_greatest j demands in
+              elim (cases_eq (top j + base_size demands j) (top (suc j))) [
+                | inl most ↦
+                    let start : (first_greatest j demands).start ≡ j = start_of j l (omega arith) most in
+                    followed-single edge singles longer steps (suc j) (omega arith) (omega arith)
+                    ∙ ap (λ d. d ∷ followed edge singles longer steps (suc j - 1)) (kept' ∙ kept)
+                    ∙ ap (λ k. first_greatest j demands ∷ followed edge singles longer steps k) e
+                    ∙ ap (λ ds. first_greatest j demands ∷ ds) before
+                    ∙ ap (λ k. first_greatest j demands ∷ pushers (asked line) demands steps k) (sym start)
+                    ∙ ap (λ one. with_earlier (or_else one (find (pushes (asked line) demands (suc j)) demands)) (pushers (asked line) demands steps)) (sym (single j l (omega arith) most))
+                | inr less ↦
+                    followed-longer edge singles longer steps (suc j) (omega arith) (omega arith)
+                    ∙ ap (λ found. with_earlier found (followed edge singles longer steps)) (longer_are (suc j) l)
+                    ∙ with_earlier-agree (find (pushes_by (asked drawn) edge (suc j)) (others limit demands)) (followed edge singles longer steps) (pushers (asked line) demands steps) starts
+                    ∙ ap (λ found. with_earlier found (pushers (asked line) demands steps)) (sym (among_others j l (no_single j l less)))
+                    ∙ ap (λ one. with_earlier (or_else one (find (pushes (asked line) demands (suc j)) demands)) (pushers (asked line) demands steps)) (sym (no_single j l less))
+              ]

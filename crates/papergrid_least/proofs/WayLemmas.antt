@@ -1,0 +1,100 @@
+-- The longest way, from what was settled.
+use Rattle.std.proofs.Common.{◌≡◌, ℕ, suc, Bool, ◌+◌, ◌-◌, ◌<◌, ◌≤◌, ◌∙◌, false, inl, inr, List, length, get_or, map, sym, ap, subst, arith, Option, Some, None}
+use Rattle.std.specs.Prelude.{All, Contains, find, not}
+use Rattle.std.proofs.lemmas.Bool.{cases_lt}
+use Rattle.std.proofs.lemmas.List.{get_or_past}
+use Rattle.std.proofs.lemmas.List.Elements.{All-contains, All-contains_itself, All-filter, recursion_from_All}
+use Rattle.papergrid_axis.specs.declared.demand.Demand.{Demand}
+use Rattle.papergrid_axis.specs.declared.seen.Seen.{Seen}
+use Rattle.papergrid_axis.specs.ForProofs.Seen.{IsSeen, is_single, others}
+use Rattle.papergrid_axis.specs.ForProofs.Settled.{line_at}
+use Rattle.papergrid_axis.specs.Problem.{Problem}
+use Rattle.papergrid_axis.specs.Ranges.{IsInTable, end_of, inner_lines, place_of}
+use Rattle.papergrid_axis.proofs.Counting.{find-all}
+use Rattle.papergrid_axis.proofs.DrawnLemmas.{inner-drawn}
+use Rattle.papergrid_axis.proofs.SeenLemmas.{table-seen}
+use Rattle.papergrid_least.specs.declared.least.Settled.{Settled}
+use Rattle.papergrid_least.specs.Earliest.{earliest}
+use Rattle.papergrid_least.specs.Edges.{AreEdges, asked}
+use Rattle.papergrid_least.specs.Longest.{longest}
+use Rattle.papergrid_least.specs.ForProofs.Followed.{followed, kept_longer, kept_single, pushes_by}
+use Rattle.papergrid_least.specs.ForProofs.Settled.{AreSettled}
+use Rattle.papergrid_least.proofs.EarliestLemmas.{AreEdges-earliest, earliest-rises}
+use Rattle.papergrid_least.proofs.PermutedLemmas.{table-wider}
+use Rattle.papergrid_least.proofs.PusherLemmas.{followed-is}
+
+none_some : (d : Demand) → None ≡ Some d → ⊥
+none_some d e = cc
+
+module _ (problem : Problem) (seen : Seen) (is : IsSeen problem.count seen problem.demands) (small : seen.is_large ≡ false) (settled : Settled) (are : AreSettled problem settled) where
+  -- the lines as they were read, and the earliest edges
+  abbrev drawn : ℕ → Bool
+  drawn = line_at settled.lines.items
+
+  abbrev edge : ℕ → ℕ
+  edge i = get_or settled.limits.earliest.items i 0
+
+  exact : seen.others.items ≡ others is.limit problem.demands
+  exact = is.held.exact small
+
+  pub table-longer : All (IsInTable problem.count) seen.others.items
+  table-longer = table-seen problem.count seen problem.demands is small are.table
+
+  pub table-lines : All (IsInTable (length settled.lines.items)) seen.others.items
+  table-lines = table-wider problem.count (length settled.lines.items) seen.others.items (let e : length settled.lines.items ≡ problem.count + 1 = are.lined in omega arith) table-longer
+
+  pub ends-edges : All (λ d. end_of d < length settled.limits.earliest.items) seen.others.items
+  ends-edges k d l =
+      let le : end_of (get_or seen.others.items k d) ≤ problem.count = (table-longer k d l).ends_within in
+      let many : length settled.limits.earliest.items ≡ problem.count + 1 = are.many in
+      omega arith
+
+  pub apart-edges : All (λ d. edge d.start + asked drawn d ≤ edge (end_of d)) seen.others.items
+  apart-edges =
+      subst (All (λ d. edge d.start + asked drawn d ≤ edge (end_of d))) (sym exact)
+      (All-filter (λ d. not (is_single is.limit d)) (λ d. edge d.start + asked drawn d ≤ edge (end_of d)) problem.demands (λ k d l. at (get_or problem.demands k d) (are.table k d l) (top.apart k d l)))
+    where
+      top : AreEdges (asked problem.line) problem.count problem.demands (earliest (asked problem.line) problem.demands)
+      top = AreEdges-earliest (asked problem.line) problem.demands problem.count are.table
+
+      at : (d : Demand) → IsInTable problem.count d → earliest (asked problem.line) problem.demands d.start + asked problem.line d ≤ earliest (asked problem.line) problem.demands (end_of d) →
+          edge d.start + asked drawn d ≤ edge (end_of d)
+      at d cell apart =
+          let within : end_of d ≤ problem.count = cell.ends_within in
+          let inner : inner_lines drawn d ≡ inner_lines problem.line d = inner-drawn drawn problem.line problem.count are.drawn d cell in
+          let a : edge d.start ≡ earliest (asked problem.line) problem.demands d.start = are.earliest d.start (omega arith) in
+          let b : edge (end_of d) ≡ earliest (asked problem.line) problem.demands (end_of d) = are.earliest (end_of d) within in
+          omega arith
+
+  pub rise-edges : (i : ℕ) → i + 1 < length settled.limits.earliest.items → edge i ≤ edge (i + 1)
+  rise-edges i l =
+      let many : length settled.limits.earliest.items ≡ problem.count + 1 = are.many in
+      let a : edge i ≡ earliest (asked problem.line) problem.demands i = are.earliest i (omega arith) in
+      let b : edge (i + 1) ≡ earliest (asked problem.line) problem.demands (i + 1) = are.earliest (i + 1) (omega arith) in
+      let c : earliest (asked problem.line) problem.demands i ≤ earliest (asked problem.line) problem.demands (suc i) = earliest-rises (asked problem.line) problem.demands i in
+      let e : earliest (asked problem.line) problem.demands (i + 1) ≡ earliest (asked problem.line) problem.demands (suc i) = ap (earliest (asked problem.line) problem.demands) (let s : i + 1 ≡ suc i = omega arith in s) in
+      omega arith
+
+  module _ (pushers : List (Option Demand)) (same : length pushers ≡ length settled.limits.earliest.items)
+      (first : (i : ℕ) → i < length pushers → get_or pushers i None ≡ find (pushes_by (asked drawn) edge i) seen.others.items) where
+    pub starts-edges : (i : ℕ) (d : Demand) → get_or pushers i None ≡ Some d → d.start < length settled.limits.earliest.items
+    starts-edges i d found = elim (cases_lt i (length pushers)) [
+      | inl l ↦ within (find-all (Contains seen.others.items) (pushes_by (asked drawn) edge i) seen.others.items d (recursion_from_All (Contains seen.others.items) seen.others.items (All-contains_itself seen.others.items)) (sym (first i l) ∙ found)).1
+      | inr past ↦ absurd (none_some d (sym (get_or_past pushers i None past) ∙ found))
+    ]
+      where
+        within : Contains seen.others.items d → d.start < length settled.limits.earliest.items
+        within listed =
+            let cell : IsInTable problem.count d = All-contains (IsInTable problem.count) seen.others.items d table-longer listed in
+            let le : end_of d ≤ problem.count = cell.ends_within in
+            let many : length settled.limits.earliest.items ≡ problem.count + 1 = are.many in
+            omega arith
+
+    pub longest-met : map place_of (followed edge (kept_single seen.singles.items) (kept_longer pushers) (length settled.limits.earliest.items - 1) (length settled.limits.earliest.items - 1)) ≡ map place_of (longest problem)
+    longest-met =
+        let many : length settled.limits.earliest.items ≡ problem.count + 1 = are.many in
+        let last : length settled.limits.earliest.items - 1 ≡ problem.count = omega arith in
+        ap (λ k. map place_of (followed edge (kept_single seen.singles.items) (kept_longer pushers) k k)) last
+        ∙ ap (map place_of)
+        (followed-is problem.line drawn problem.count is.limit problem.demands are.drawn are.table is.below is.from_limit edge are.earliest (kept_single seen.singles.items) (is.held.singles small)
+        (kept_longer pushers) (λ i l. first i (omega arith) ∙ ap (find (pushes_by (asked drawn) edge i)) exact) problem.count problem.count (omega arith))

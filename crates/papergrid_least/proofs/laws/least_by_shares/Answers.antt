@@ -1,0 +1,20 @@
+use Rattle.papergrid_least.proofs.LeastLemmas.{IsLeast-least_of, total-least_of, bound-least_of, IsCertificate-least_of, least_of-shares, same-least_of}
+use Rattle.papergrid_least.proofs.laws.least_by_shares.Goals as goal
+
+pub returns-clause-least : goal.returns-clause-least
+returns-clause-least c = λ problem table. IsLeast-least_of problem table
+
+pub returns-clause-total : goal.returns-clause-total
+returns-clause-total c = λ problem table. total-least_of problem table
+
+pub returns-clause-bound : goal.returns-clause-bound
+returns-clause-bound c = λ problem table i l. bound-least_of problem table i l
+
+pub returns-clause-certified : goal.returns-clause-certified
+returns-clause-certified c = λ problem table. IsCertificate-least_of problem table
+
+pub returns-clause-same : goal.returns-clause-same
+returns-clause-same c = λ problem table least. least_of-shares problem table least
+
+pub returns-clause-kept_apart : goal.returns-clause-kept_apart
+returns-clause-kept_apart c = λ problem table apart. same-least_of problem table apart

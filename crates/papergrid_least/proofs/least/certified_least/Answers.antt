@@ -1,0 +1,18 @@
+use Rattle.std.proofs.lemmas.Result.{err_from_is_err_and}
+use Rattle.papergrid_axis.specs.Problem.{given}
+use Rattle.papergrid_least.proofs.LeastLemmas.{IsCertificate-least_of}
+use Rattle.papergrid_least.proofs.least.certified_least.Goals as goal
+
+pub returns-in_err-settled : goal.returns-in_err-settled
+returns-in_err-settled g c = λ demands seen. let p = err_from_is_err_and c.from_residual.result c.from_residual.ensures.1 in rw (p.1, p.2) (c.in_err-settled.ensures.settled demands seen)
+
+pub longest_places-requires-clause-settled : goal.longest_places-requires-clause-settled
+longest_places-requires-clause-settled g c = (given (g.A.Axis.line c.args.axis.now) c.args.count c.requires.0, c.requires.1, c.in_ok-settled.ensures.settled c.requires.0 c.requires.1)
+
+pub returns : goal.returns
+returns g c = λ demands seen.
+    let settled = c.in_ok-settled.ensures.settled demands seen in
+    let problem = given (g.A.Axis.line c.args.axis.now) c.args.count demands in (
+      settled.sizes,
+      record { exact = c.in_ok-places.ensures problem seen settled; certificate = IsCertificate-least_of problem settled.table },
+    )

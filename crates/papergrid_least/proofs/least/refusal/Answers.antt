@@ -1,0 +1,14 @@
+use Rattle.std.proofs.Common.{◌∙◌, ap, sym}
+use Rattle.papergrid_axis.specs.Ranges.{first_out}
+use Rattle.papergrid_axis.proofs.OutLemmas.{out_seen}
+use Rattle.papergrid_least.proofs.AnswerLemmas.{NoneFits-large}
+use Rattle.papergrid_least.proofs.least.refusal.Goals as goal
+
+pub returns-in-Some-clause-refused : goal.returns-in-Some-clause-refused
+returns-in-Some-clause-refused c = λ line demands seen.
+    out_seen c.args.count c.args.seen.now demands seen ∙ ap (first_out c.args.count) (sym c.deref.ensures.value) ∙ sym c.find_out.ensures ∙ c.in-Some.is
+
+pub returns-then-seen-clause-refused : goal.returns-then-seen-clause-refused
+returns-then-seen-clause-refused c = λ line demands seen.
+    NoneFits-large c.args.count c.args.seen.now demands seen line
+    (ap (first_out c.args.count) (sym c.deref.ensures.value) ∙ sym c.find_out.ensures ∙ c.in_default.is) c.if-seen.true

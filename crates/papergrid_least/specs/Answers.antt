@@ -1,0 +1,40 @@
+-- What an answer of least sizes says of the cells' demands.
+use Rattle.std.specs.Prelude.{◌≡◌, ℕ, ◌^◌, ◌<◌, ◌≤◌, List, EachIndex, slice_index, map, Result, Ok, Err, None, Some, ⊤}
+use Rattle.papergrid_values.specs.declared.position.Position.{Position}
+use Rattle.papergrid_axis.specs.declared.error.LayoutError.{LayoutError}
+use Rattle.papergrid_axis.specs.declared.error.LayoutError.TheVariants.{OutOfTable, TooLarge, Memory}
+use Rattle.papergrid_axis.specs.Problem.{Problem, total_of}
+use Rattle.papergrid_axis.specs.Ranges.{first_out, place_of}
+use Rattle.papergrid_axis.specs.Fits.{Fits, IsCertificate, IsLeast, IsTooLarge, top_need}
+use Rattle.papergrid_least.specs.Least.{least_of}
+use Rattle.papergrid_least.specs.Longest.{longest}
+
+module _ (problem : Problem) where
+  -- these are the least sizes, and what holds of them
+  pub record AreLeastSizes (sizes : List ℕ) : Type 0 where
+    pub none_out : first_out problem.count problem.demands ≡ None
+    pub exact : sizes ≡ least_of problem
+    pub total : total_of problem sizes < 2 ^ 64
+    pub least : IsLeast problem sizes
+    pub bound : EachIndex sizes (λ i. slice_index sizes i ≤ top_need problem.demands i)
+
+  -- the places of the cells of the longest way, which certify the least sizes
+  pub record AreLongest (places : List Position) : Type 0 where
+    pub exact : places ≡ map place_of (longest problem)
+    pub certificate : IsCertificate problem (least_of problem) (longest problem)
+
+  -- no cell reaches out, and every list that fits is too large
+  pub record NoneFits : Type 0 where
+    pub none_out : first_out problem.count problem.demands ≡ None
+    pub none_fits : (other : List ℕ) → Fits problem other → IsTooLarge problem other
+
+  -- out of the table by the first cell that reaches out, else too large; memory may be refused in place of any answer
+  abbrev pub HasNoLeast : LayoutError → Type 0
+  HasNoLeast (OutOfTable place) = first_out problem.count problem.demands ≡ Some place
+  HasNoLeast TooLarge = NoneFits
+  HasNoLeast (Memory e) = ⊤
+
+-- what is asked for of a problem, or why there is none
+abbrev pub LeastAnswers : {A : Type 0} → (Problem → A → Type 0) → Problem → Result A LayoutError → Type 0
+LeastAnswers holds problem (Ok answer) = holds problem answer
+LeastAnswers holds problem (Err e) = HasNoLeast problem e

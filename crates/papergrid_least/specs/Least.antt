@@ -1,0 +1,29 @@
+-- The latest edges, and the sizes of the least total.
+use Rattle.std.specs.Prelude.{ℕ, ◌-◌, min, List, map}
+use Rattle.papergrid_axis.specs.declared.demand.Demand.{Demand}
+use Rattle.papergrid_axis.specs.Problem.{Problem}
+use Rattle.papergrid_axis.specs.Sizes.{sizes_of}
+use Rattle.papergrid_axis.specs.Ranges.{end_of}
+use Rattle.papergrid_least.specs.Edges.{asked, edges_of, sizes_between}
+use Rattle.papergrid_least.specs.Earliest.{earliest}
+
+-- the cell with its range counted from the far end
+abbrev pub mirrored : ℕ → Demand → Demand
+mirrored n d = record d { start = n - end_of d }
+
+-- the earliest edges, counted from the far end
+abbrev pub earliest_back : (Demand → ℕ) → ℕ → List Demand → ℕ → ℕ
+earliest_back asks n demands i = earliest (λ d. asks (mirrored n d)) (map (mirrored n) demands) i
+
+-- the latest edge at i, where the last is at the least total
+abbrev pub latest : (Demand → ℕ) → ℕ → List Demand → ℕ → ℕ
+latest asks n demands i = earliest asks demands n - earliest_back asks n demands (n - i)
+
+-- these sizes with each edge that is past the latest moved there
+abbrev pub least_sizes : Problem → List ℕ → List ℕ
+least_sizes problem sizes =
+    sizes_between problem.count (λ i. min (edges_of sizes i) (latest (asked problem.line) problem.count problem.demands i))
+
+-- the sizes by shares, made least
+abbrev pub least_of : Problem → List ℕ
+least_of problem = least_sizes problem (sizes_of problem)

@@ -1,0 +1,34 @@
+-- Cells one after another that ask for the least total.
+use Rattle.std.specs.Prelude.{ℕ, zero, suc, ◌+◌, ◌-◌, Bool, ◌&&◌, ◌==◌, if◌then◌else◌, List, [], ◌∷◌, find, Option, Some, None}
+use Rattle.papergrid_axis.specs.declared.demand.Demand.{Demand}
+use Rattle.papergrid_axis.specs.Problem.{Problem}
+use Rattle.papergrid_axis.specs.Ranges.{end_of}
+use Rattle.papergrid_axis.specs.Chosen.{or_else}
+use Rattle.papergrid_least.specs.Edges.{asked}
+use Rattle.papergrid_least.specs.Earliest.{earliest}
+
+-- whether the cell pushes the earliest edge at i to where it is
+abbrev pub pushes : (Demand → ℕ) → List Demand → ℕ → Demand → Bool
+pushes asks demands i d = end_of d == i && (earliest asks demands d.start + asks d == earliest asks demands i)
+
+-- the first cell that covers one number alone and does so, or else the first cell that does
+abbrev pub pusher : (Demand → ℕ) → List Demand → ℕ → Option Demand
+pusher asks demands i =
+    or_else (find (λ d. d.span == 1 && pushes asks demands i d) demands) (find (pushes asks demands i) demands)
+
+-- the cell, and then those before its range
+abbrev pub with_earlier : Option Demand → (ℕ → List Demand) → List Demand
+with_earlier None earlier = []
+with_earlier (Some d) earlier = d ∷ earlier d.start
+
+-- going back from the edge at i: over what no cell pushed to the one before, and from a cell that did to where its range
+-- starts
+abbrev pub pushers : (Demand → ℕ) → List Demand → ℕ → ℕ → List Demand
+pushers asks demands zero i = []
+pushers asks demands (suc steps) i =
+    if earliest asks demands i == earliest asks demands (i - 1) then pushers asks demands steps (i - 1)
+    else with_earlier (pusher asks demands i) (pushers asks demands steps)
+
+-- the cells whose needs, less their inner lines, are the least total
+abbrev pub longest : Problem → List Demand
+longest problem = pushers (asked problem.line) problem.demands problem.count problem.count

@@ -1,0 +1,108 @@
+//! Laws of the definitions, each the contract of a function that does nothing.
+
+ghost use Rattle.std.specs.Prelude.{All, List, length, min, slice_index, sum, ℕ, ◌+◌, ◌<◌, ◌^◌, ◌↔◌, ◌≡◌, ◌≤◌};
+ghost use Rattle.papergrid_axis.specs.declared.demand.Demand.{Demand};
+ghost use Rattle.papergrid_axis.specs.Fits.{Fits, IsCertificate, IsLeast, IsTooLarge, top_need};
+ghost use Rattle.papergrid_axis.specs.Problem.{Problem, total_of};
+ghost use Rattle.papergrid_axis.specs.Ranges.{IsInTable, IsKeptApart};
+ghost use Rattle.papergrid_axis.specs.Sizes.{sizes_of};
+ghost use Rattle.papergrid_values.specs.Lines.{all_lines};
+ghost use Rattle.papergrid_least.specs.Earliest.{earliest, least_total};
+ghost use Rattle.papergrid_least.specs.Edges.{AreEdges, asked, edges_of, sizes_between};
+ghost use Rattle.papergrid_least.specs.Least.{latest, least_of, least_sizes};
+ghost use Rattle.papergrid_least.specs.Longest.{longest};
+ghost use Rattle.papergrid_least.specs.Worked.{CrossingWorked};
+
+/// Sizes fit exactly where their sums are edges.
+pub fn fits_by_edges()
+    ensures fits { (problem : Problem) (sizes : List ℕ) →
+        All (IsInTable problem.count) problem.demands → length sizes ≡ problem.count →
+        Fits problem sizes ↔ AreEdges (asked problem.line) problem.count problem.demands (edges_of sizes) }
+    ensures between { (problem : Problem) (edge : ℕ → ℕ) →
+        All (IsInTable problem.count) problem.demands →
+        AreEdges (asked problem.line) problem.count problem.demands edge →
+        Fits problem (sizes_between problem.count edge) }
+{}
+
+/// Of two choices of edges, the lower at each place is one too.
+pub fn lower_edges()
+    ensures { (asks : Demand → ℕ) (n : ℕ) (demands : List Demand) (a b : ℕ → ℕ) →
+        AreEdges asks n demands a → AreEdges asks n demands b →
+        AreEdges asks n demands (λ i. min (a i) (b i)) }
+{}
+
+/// The earliest edges are edges, and no edges are below them; so they end at the least total.
+pub fn earliest_edges()
+    ensures edges { (asks : Demand → ℕ) (n : ℕ) (demands : List Demand) →
+        All (IsInTable n) demands → AreEdges asks n demands (earliest asks demands) }
+    ensures below { (asks : Demand → ℕ) (n : ℕ) (demands : List Demand) (edge : ℕ → ℕ) →
+        All (IsInTable n) demands → AreEdges asks n demands edge →
+        (i : ℕ) → i ≤ n → earliest asks demands i ≤ edge i }
+    ensures total { (problem : Problem) (sizes : List ℕ) →
+        All (IsInTable problem.count) problem.demands → Fits problem sizes →
+        least_total problem ≤ sum sizes }
+    ensures least { (problem : Problem) → All (IsInTable problem.count) problem.demands →
+        IsLeast problem (sizes_between problem.count (earliest (asked problem.line) problem.demands)) }
+{}
+
+/// The latest edges are edges from 0 to the least total, and no edges that end there are past them.
+pub fn latest_edges()
+    ensures edges { (asks : Demand → ℕ) (n : ℕ) (demands : List Demand) →
+        All (IsInTable n) demands → AreEdges asks n demands (latest asks n demands) }
+    ensures first { (asks : Demand → ℕ) (n : ℕ) (demands : List Demand) →
+        All (IsInTable n) demands → latest asks n demands 0 ≡ 0 }
+    ensures last { (asks : Demand → ℕ) (n : ℕ) (demands : List Demand) →
+        latest asks n demands n ≡ earliest asks demands n }
+    ensures above { (asks : Demand → ℕ) (n : ℕ) (demands : List Demand) (edge : ℕ → ℕ) →
+        All (IsInTable n) demands → AreEdges asks n demands edge →
+        edge n ≤ earliest asks demands n →
+        (i : ℕ) → i ≤ n → edge i ≤ latest asks n demands i }
+{}
+
+/// From any sizes that fit, least ones, which are the same where those are least.
+pub fn least_from_any()
+    ensures least { (problem : Problem) (sizes : List ℕ) →
+        All (IsInTable problem.count) problem.demands → Fits problem sizes →
+        IsLeast problem (least_sizes problem sizes) }
+    ensures certified { (problem : Problem) (sizes : List ℕ) →
+        All (IsInTable problem.count) problem.demands → Fits problem sizes →
+        IsCertificate problem (least_sizes problem sizes) (longest problem) }
+    ensures bound { (problem : Problem) (sizes : List ℕ) →
+        All (IsInTable problem.count) problem.demands → (i : ℕ) → i < problem.count →
+        slice_index sizes i ≤ top_need problem.demands i →
+        slice_index (least_sizes problem sizes) i ≤ top_need problem.demands i }
+    ensures same { (problem : Problem) (sizes : List ℕ) →
+        All (IsInTable problem.count) problem.demands → IsLeast problem sizes →
+        least_sizes problem sizes ≡ sizes }
+{}
+
+/// The sizes by shares, made least, are those by shares wherever these are least.
+pub fn least_by_shares()
+    ensures least { (problem : Problem) → All (IsInTable problem.count) problem.demands →
+        IsLeast problem (least_of problem) }
+    ensures total { (problem : Problem) → All (IsInTable problem.count) problem.demands →
+        sum (least_of problem) ≡ least_total problem }
+    ensures bound { (problem : Problem) → All (IsInTable problem.count) problem.demands →
+        (i : ℕ) → i < problem.count → slice_index (least_of problem) i ≤ top_need problem.demands i }
+    ensures certified { (problem : Problem) → All (IsInTable problem.count) problem.demands →
+        IsCertificate problem (least_of problem) (longest problem) }
+    ensures same { (problem : Problem) → All (IsInTable problem.count) problem.demands →
+        IsLeast problem (sizes_of problem) → least_of problem ≡ sizes_of problem }
+    ensures kept_apart { (problem : Problem) → All (IsInTable problem.count) problem.demands →
+        IsKeptApart problem.demands → least_of problem ≡ sizes_of problem }
+{}
+
+/// Some sizes fit that have a total in `usize` exactly where the least total and all lines are in it.
+pub fn least_total_decides()
+    ensures decides { (problem : Problem) → All (IsInTable problem.count) problem.demands →
+        ((sizes : List ℕ) × Fits problem sizes × (total_of problem sizes < 2 ^ 64)) ↔
+        (least_total problem + all_lines problem.line problem.count < 2 ^ 64) }
+    ensures too_large { (problem : Problem) → All (IsInTable problem.count) problem.demands →
+        IsTooLarge problem (least_of problem) ↔
+        ((other : List ℕ) → Fits problem other → IsTooLarge problem other) }
+{}
+
+/// What two crossing cells come to, by the definitions alone.
+pub fn crossing_worked()
+    ensures { CrossingWorked }
+{}

@@ -1,0 +1,17 @@
+//! The least sizes along one direction of a table, whatever spans cross, from what its visible cells
+//! ask for; and the cells that certify them.
+#![tactic(auto)]
+
+mod cells;
+mod edges;
+pub mod laws;
+pub mod least;
+mod limits;
+mod longest;
+mod lower;
+mod shares;
+
+pub use least::{CertifiedLeast, certified_least, least_sizes};
+
+#[cfg(test)]
+mod tests;

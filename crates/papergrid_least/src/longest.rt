@@ -1,0 +1,90 @@
+//! The cells that certify the least total.
+
+ghost use Rattle.std.specs.Prelude.{All, EachIndex, IfOk, None, Some, find, length, map, slice_index, slice_index_or, ℕ, ◌+◌, ◌-◌, ◌<◌, ◌==◌, ◌≡◌, ◌≤◌};
+ghost use Rattle.papergrid_axis.specs.ForProofs.Settled.{line_at};
+ghost use Rattle.papergrid_axis.specs.Ranges.{IsInTable, end_of, place_of};
+ghost use Rattle.papergrid_axis.specs.declared.demand.Demand.{Demand};
+ghost use Rattle.papergrid_least.specs.Edges.{asked};
+ghost use Rattle.papergrid_least.specs.ForProofs.Followed.{followed, kept_longer, kept_single, pushes_by};
+
+use crate::cells::asking;
+use papergrid_axis::Demand;
+use papergrid_axis::seen::single_at;
+use papergrid_values::Position;
+use std::alloc::{AllocError, Global};
+
+/// Whether a cell pushes the edge where its range ends to where it is.
+fn pushes(earliest: &[usize], lines: &[bool], cell: Demand) -> bool
+    requires table { IsInTable (length lines.now) cell }
+    requires ends { end_of cell < length earliest.now }
+    requires apart { slice_index earliest.now cell.start + asked (line_at lines.now) cell
+        ≤ slice_index earliest.now (end_of cell) }
+    ensures { result ≡ (slice_index earliest.now cell.start + asked (line_at lines.now) cell
+        == slice_index earliest.now (end_of cell)) }
+{
+    earliest[cell.start] + asking(lines, cell).need == earliest[cell.start + cell.span]
+}
+
+/// Writes for each edge the first cell that pushes it to where it is.
+pub fn mark_pushers(
+    pushers: &mut [Option<Demand>],
+    earliest: &[usize],
+    lines: &[bool],
+    cells: &[Demand],
+)
+    requires none { All (λ cell. cell ≡ None) pushers.old }
+    requires edges { length earliest.now ≡ length pushers.old }
+    requires table { All (IsInTable (length lines.now)) cells.now }
+    requires ends { All (λ d. end_of d < length pushers.old) cells.now }
+    requires apart { All (λ d. slice_index earliest.now d.start + asked (line_at lines.now) d
+        ≤ slice_index earliest.now (end_of d)) cells.now }
+    ensures length { length pushers.new ≡ length pushers.old }
+    ensures first { EachIndex pushers.new (λ i. slice_index_or pushers.new i None ≡
+        find (pushes_by (asked (line_at lines.now)) (slice_index earliest.now) i) cells.now) }
+{
+    // The last cells first, so that the first that pushes an edge is the one that stays.
+    for passed in 0..cells.len() {
+        let cell = cells[cells.len() - 1 - passed];
+        if pushes(earliest, lines, cell) {
+            pushers[cell.start + cell.span] = Some(cell);
+        }
+    }
+}
+
+/// The places of the cells that are met going back from the last edge.
+pub fn follow(
+    alloc: Global,
+    earliest: &[usize],
+    singles: &[Demand],
+    pushers: &[Option<Demand>],
+) -> Result<Vec<Position>, AllocError>
+    requires edges { length earliest.now ≡ length pushers.now }
+    requires one { 1 ≤ length earliest.now }
+    requires rise { (i : ℕ) → i + 1 < length earliest.now →
+        slice_index earliest.now i ≤ slice_index earliest.now (i + 1) }
+    requires starts { (i : ℕ) (d : Demand) → slice_index_or pushers.now i None ≡ Some d →
+        d.start < length earliest.now }
+    ensures { let count = length earliest.now - 1 in
+        IfOk result (λ places. places.items ≡ map place_of
+        (followed (slice_index earliest.now) (kept_single singles.now) (kept_longer pushers.now) count count)) }
+{
+    let mut places = Vec::new(alloc);
+    let mut number = earliest.len() - 1;
+    for _ in 1..earliest.len() {
+        let before = number.saturating_sub(1);
+        let step = earliest[number] - earliest[before];
+        if step == 0 {
+            number = before;
+        } else if single_at(singles, before).need == step {
+            places.push(single_at(singles, before).place())?;
+            number = before;
+        } else {
+            let Some(cell) = pushers[number] else {
+                return Ok(places);
+            };
+            places.push(cell.place())?;
+            number = cell.start;
+        }
+    }
+    Ok(places)
+}
