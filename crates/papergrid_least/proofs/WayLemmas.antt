@@ -13,7 +13,7 @@ use Rattle.papergrid_axis.specs.Ranges.{IsInTable, end_of, inner_lines, place_of
 use Rattle.papergrid_axis.proofs.Counting.{find-all}
 use Rattle.papergrid_axis.proofs.DrawnLemmas.{inner-drawn}
 use Rattle.papergrid_axis.proofs.SeenLemmas.{table-seen}
-use Rattle.papergrid_least.specs.declared.least.Settled.{Settled}
+use Rattle.papergrid_least.specs.declared.settled.Settled.{Settled}
 use Rattle.papergrid_least.specs.Earliest.{earliest}
 use Rattle.papergrid_least.specs.Edges.{AreEdges, asked}
 use Rattle.papergrid_least.specs.Longest.{longest}

@@ -1,111 +1,20 @@
-//! The least sizes of the columns (rows) of a table, from what was seen of its cells.
+//! The least sizes of the columns (rows) of a table, alone or with the cells that certify them.
 
-ghost use Rattle.std.specs.Prelude.{All, IfErr, IfNone, IfOk, IfSome, List, None, Bool, false, fold, length, map, min, slice_index, ℕ, ◌+◌, ◌^◌, ◌≡◌, ◌≤◌};
+ghost use Rattle.std.specs.Prelude.{IfOk, List, None, false, map, ◌≡◌};
 ghost use Rattle.papergrid_axis.specs.ForProofs.Seen.{IsSeen};
-ghost use Rattle.papergrid_axis.specs.ForProofs.Settled.{line_at};
 ghost use Rattle.papergrid_axis.specs.Problem.{Problem, given};
-ghost use Rattle.papergrid_axis.specs.Ranges.{IsInTable, first_out, place_of};
-ghost use Rattle.papergrid_axis.specs.Sizes.{grown, taken};
+ghost use Rattle.papergrid_axis.specs.Ranges.{place_of};
 ghost use Rattle.papergrid_axis.specs.declared.demand.Demand.{Demand};
-ghost use Rattle.papergrid_values.specs.Lines.{all_lines};
-ghost use Rattle.papergrid_least.specs.Answers.{AreLeastSizes, AreLongest, HasNoLeast, LeastAnswers};
-ghost use Rattle.papergrid_least.specs.Edges.{asked, edges_of, sizes_between};
-ghost use Rattle.papergrid_least.specs.ForProofs.Laid.{AreLaid, carrying};
-ghost use Rattle.papergrid_least.specs.ForProofs.Limits.{AreLimits, Refuses};
+ghost use Rattle.papergrid_least.specs.Answers.{AreLeastSizes, AreLongest, LeastAnswers};
 ghost use Rattle.papergrid_least.specs.ForProofs.Settled.{AreSettled};
 ghost use Rattle.papergrid_least.specs.Longest.{longest};
 
-use crate::limits::{Limits, limits_of};
 use crate::longest::{follow, mark_pushers};
-use crate::lower::lower_edges;
-use crate::shares::grow_all;
+use crate::settled::{Settled, settle};
 use papergrid_axis::axis::Axis;
-use papergrid_axis::settled::{find_out, lines_of, taken, write_base};
-use papergrid_axis::{Demand, LayoutError, Seen};
+use papergrid_axis::{LayoutError, Seen};
 use papergrid_values::Position;
 use std::alloc::{AllocError, Global};
-
-/// Why the seen cells have no sizes, where one of them reaches out or has a large need.
-fn refusal(count: usize, seen: &Seen) -> Option<LayoutError>
-    requires { (demands : List Demand) × IsSeen count seen.now demands }
-    ensures refused { IfSome result (λ error.
-        (line : ℕ → Bool) (demands : List Demand) → IsSeen count seen.now demands →
-        HasNoLeast (given line count demands) error) }
-    ensures inside { IfNone result (first_out count seen.now.others.items ≡ None) }
-    ensures small { IfNone result (seen.now.is_large ≡ false) }
-{
-    if let Some(position) = find_out(count, &seen.others) {
-        return Some(LayoutError::OutOfTable(position));
-    }
-    if seen.is_large {
-        return Some(LayoutError::TooLarge);
-    }
-    None
-}
-
-/// Makes of what each number needs alone the sizes by shares, and of these the least ones; gives the
-/// edges between which theirs lie.
-fn make_least(
-    alloc: Global,
-    lines: &[bool],
-    sizes: &mut [usize],
-    cells: &[Demand],
-) -> Result<Limits, LayoutError>
-    requires lines { length lines.now ≡ length sizes.old + 1 }
-    requires table { All (IsInTable (length sizes.old)) cells.now }
-    ensures limits { let line = line_at lines.now in
-        IfOk result (AreLimits line sizes.old (map (carrying (asked line)) cells.now)) }
-    ensures sizes { let line = line_at lines.now in
-        let count = length sizes.old in
-        let shares = fold (grown line) sizes.old (taken count cells.now) in
-        IfOk result (λ limits. sizes.new ≡
-        sizes_between count (λ i. min (edges_of shares i) (slice_index limits.latest.items i))) }
-    ensures refused { let line = line_at lines.now in
-        IfErr result (Refuses ((edge : ℕ → ℕ) →
-        AreLaid sizes.old (map (carrying (asked line)) cells.now) edge →
-        2 ^ 64 ≤ edge (length sizes.old) + all_lines line (length sizes.old))) }
-{
-    let limits = limits_of(alloc, lines, sizes, cells)?;
-    let longer = taken(alloc, sizes.len(), cells)?;
-    grow_all(sizes, lines, &longer);
-    lower_edges(sizes, &limits.latest);
-    Ok(limits)
-}
-
-/// The lines of a table along a direction, the least sizes, and the edges between which theirs lie.
-#[derive(Drop)]
-pub struct Settled {
-    pub lines: Vec<bool>,
-    pub sizes: Vec<usize>,
-    pub limits: Limits,
-}
-
-/// What the seen cells of a table of `count` columns (rows) come to, with the lines of the axis.
-fn settle<A: Axis>(
-    alloc: Global,
-    count: usize,
-    seen: &Seen,
-    axis: &A,
-) -> Result<Settled, LayoutError>
-    requires { (demands : List Demand) × IsSeen count seen.now demands }
-    ensures small { IfOk result (λ settled. seen.now.is_large ≡ false) }
-    ensures settled { (demands : List Demand) → IsSeen count seen.now demands →
-        LeastAnswers AreSettled (given (A.line axis.now) count demands) result }
-{
-    // A count that no memory holds is refused before it is counted up to.
-    let mut sizes = vec![in alloc; 0; count]?;
-    let lines = lines_of(alloc, axis, count)?;
-    if let Some(error) = refusal(count, seen) {
-        return Err(error);
-    }
-    write_base(&mut sizes, &seen.singles);
-    let limits = make_least(alloc, &lines, &mut sizes, &seen.others)?;
-    Ok(Settled {
-        lines,
-        sizes,
-        limits,
-    })
-}
 
 /// The least sizes that the seen cells of a table of `count` columns (rows) ask for, with the lines of
 /// the axis.

@@ -9,6 +9,7 @@ pub mod least;
 mod limits;
 mod longest;
 mod lower;
+mod settled;
 mod shares;
 
 pub use least::{CertifiedLeast, certified_least, least_sizes};

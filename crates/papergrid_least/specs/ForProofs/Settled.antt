@@ -3,7 +3,7 @@ use Rattle.std.specs.Prelude.{◌≡◌, ℕ, ◌+◌, ◌≤◌, length, slice_
 use Rattle.papergrid_axis.specs.ForProofs.Settled.{line_at}
 use Rattle.papergrid_axis.specs.Problem.{Problem}
 use Rattle.papergrid_axis.specs.Ranges.{IsInTable}
-use Rattle.papergrid_least.specs.declared.least.Settled.{Settled}
+use Rattle.papergrid_least.specs.declared.settled.Settled.{Settled}
 use Rattle.papergrid_least.specs.Answers.{AreLeastSizes}
 use Rattle.papergrid_least.specs.Earliest.{earliest}
 use Rattle.papergrid_least.specs.Edges.{asked}

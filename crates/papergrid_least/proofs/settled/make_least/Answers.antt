@@ -4,7 +4,7 @@ use Rattle.papergrid_axis.specs.ForProofs.Settled.{line_at}
 use Rattle.papergrid_axis.specs.Problem.{given}
 use Rattle.papergrid_axis.specs.Ranges.{IsInTable}
 use Rattle.papergrid_axis.proofs.Theorems.{table-taken}
-use Rattle.papergrid_least.proofs.least.make_least.Goals as goal
+use Rattle.papergrid_least.proofs.settled.make_least.Goals as goal
 
 pub grow_all-requires-clause-table : goal.grow_all-requires-clause-table
 grow_all-requires-clause-table c =

@@ -8,7 +8,7 @@ use Rattle.papergrid_axis.proofs.OutLemmas.{table_demands}
 use Rattle.papergrid_axis.proofs.SeenLemmas.{table-seen}
 use Rattle.papergrid_least.specs.Answers.{HasNoLeast}
 use Rattle.papergrid_least.proofs.AnswerLemmas.{AreLeastSizes-made, HasNoLeast-refused, earliest-made, many-made}
-use Rattle.papergrid_least.proofs.least.settle.Goals as goal
+use Rattle.papergrid_least.proofs.settled.settle.Goals as goal
 
 pub returns-in-Some-clause-settled : goal.returns-in-Some-clause-settled
 returns-in-Some-clause-settled g c = λ demands seen. c.in-Some.ensures.refused (g.A.Axis.line c.args.axis.now) demands seen

@@ -2,7 +2,7 @@ use Rattle.std.proofs.Common.{◌∙◌, ap, sym}
 use Rattle.papergrid_axis.specs.Ranges.{first_out}
 use Rattle.papergrid_axis.proofs.OutLemmas.{out_seen}
 use Rattle.papergrid_least.proofs.AnswerLemmas.{NoneFits-large}
-use Rattle.papergrid_least.proofs.least.refusal.Goals as goal
+use Rattle.papergrid_least.proofs.settled.refusal.Goals as goal
 
 pub returns-in-Some-clause-refused : goal.returns-in-Some-clause-refused
 returns-in-Some-clause-refused c = λ line demands seen.
