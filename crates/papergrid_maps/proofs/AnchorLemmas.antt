@@ -1,32 +1,36 @@
--- The anchors at places in order are in order, and are those of the spans that are held there.
-use Rattle.std.specs.Prelude.{◌⊎◌, ◌↔◌}
+-- The anchors of the entries of an index, and what those of two indices come to.
+use Rattle.std.proofs.Common.{arith, ap, sym, subst, refl, ◌∙◌, ◌≡◌, ◌++◌, ℕ, zero, suc, ◌≤◌, List, [], ◌∷◌, Option, Some, None, map, slice_get, inl, inr}
+use Rattle.std.specs.Prelude.{Bool, ◌⊎◌, ◌↔◌, All, IsPermutation, IsSome, unwrap_or}
 use Rattle.std.specs.BTreeMap as tree
 use Rattle.std.specs.BTreeMap.{BTreeMap}
-use Rattle.std.specs.FinMap.{FinMap}
+use Rattle.std.specs.Cmp.{on_equiv}
+use Rattle.std.specs.FinMap.{FinMap, get}
+use Rattle.std.specs.List.{AllByRecursion, Contains, dedup}
+use Rattle.std.specs.List.Sorted.{IsSortedByKey, IsStrictlySortedBy}
 use Rattle.std.specs.Map.{keys_of}
-use Rattle.std.proofs.lemmas.List.{get_or-map, length-map}
-use Rattle.std.proofs.lemmas.Map.Views.{btree_map_contains_key_iff}
-use Rattle.papergrid_values.specs.declared.direction.Direction.{Direction}
-use Rattle.papergrid_values.specs.declared.direction.Direction.TheVariants.{Columns}
-use Rattle.papergrid_tables.proofs.KeyLemmas.{exact_positions, position_total}
-use Rattle.papergrid_maps.specs.ForProofs.SpanIndex.{AreFromTwo, anchor_at, held_along, key_of}
-use Rattle.papergrid_maps.proofs.IndexKeys.{held_at, key_key}
-use Rattle.std.proofs.Common.{arith, ap, sym, subst, refl, ◌∙◌, ◌≡◌, ℕ, zero, suc, ◌≤◌, ◌<◌, List, [], ◌∷◌, Option, Some, None, map, slice_get, inl, inr}
-use Rattle.std.proofs.lemmas.Bool.{cases_lt}
-use Rattle.std.proofs.lemmas.Option.{same_Some, none-some, slice_get-map, slice_get-get_or}
-use Rattle.std.proofs.lemmas.Option.{slice_get_within}
-use Rattle.std.specs.Prelude.{unwrap_or, IsSome}
-use Rattle.std.specs.FinMap.{get as value_at}
-use Rattle.std.specs.List.{AllByRecursion, Contains}
-use Rattle.std.specs.List.Sorted.{IsStrictlySortedBy}
-use Rattle.std.specs.Option.{option_map}
 use Rattle.std.specs.declared.cmp.Ordering.TheVariants.{Less}
-use Rattle.papergrid_values.specs.declared.position.Position.{Position}
-use Rattle.papergrid_tables.specs.Keys.{position_cmp}
-use Rattle.papergrid_maps.specs.declared.anchors.Anchor.{Anchor}
-use Rattle.papergrid_maps.specs.Anchors.{AreAnchors, HasAnchor, IsSorted}
-use Rattle.papergrid_maps.specs.Spans.{span_at}
+use Rattle.std.proofs.lemmas.Bool.{cases_lt, false≢true}
+use Rattle.std.proofs.lemmas.Cmp.{on_total}
+use Rattle.std.proofs.lemmas.List.{get_or-map, length-map}
+use Rattle.std.proofs.lemmas.List.Elements.{All-append, All-contains, All-map, All-weaker, Contains-append_cases, Contains-append_left, Contains-append_right}
+use Rattle.std.proofs.lemmas.List.Filters.{All-dedup}
+use Rattle.std.proofs.lemmas.List.Kept.{Any-dedup, Contains-from_dedup, IsStrictlySortedBy-dedup}
+use Rattle.std.proofs.lemmas.List.Sorted.{All-permutation, Contains-permutation, IsPermutation-sym}
+use Rattle.std.proofs.lemmas.Map.Views.{All-found, btree_map_get_iff}
+use Rattle.std.proofs.lemmas.Option.{none-some, same_Some, slice_get-get_or, slice_get_within}
 use Rattle.papergrid_values.specs.Positions.{IsBefore}
+use Rattle.papergrid_values.specs.declared.direction.Direction.{Direction}
+use Rattle.papergrid_values.specs.declared.direction.Direction.TheVariants.{Columns, Rows}
+use Rattle.papergrid_values.specs.declared.position.Position.{Position}
+use Rattle.papergrid_tables.specs.Keys.{position_cmp, position_eq}
+use Rattle.papergrid_tables.proofs.KeyLemmas.{exact_position_eq, exact_positions, position_equiv, position_ties, position_total}
+use Rattle.papergrid_maps.specs.Anchors.{AreAnchors, HasAnchor, IsSorted}
+use Rattle.papergrid_maps.specs.Spans.{HasSpan, span_at}
+use Rattle.papergrid_maps.specs.ForProofs.SpanIndex.{AreAt, AreFromTwo, DirectedSpans, IsRising, anchor_along, anchor_at, entry_anchor, held_along, key_of}
+use Rattle.papergrid_maps.specs.declared.anchors.Anchor.{Anchor}
+use Rattle.papergrid_maps.proofs.IndexKeys.{held_at, key_key}
+
+-- ---- order
 
 less-before : (p q : Position) → position_cmp p q ≡ Less → IsBefore p q
 less-before p q h = elim (cases_lt p.row q.row) [
@@ -34,84 +38,88 @@ less-before p q h = elim (cases_lt p.row q.row) [
   | inr level ↦ inr (grind (arith, h, level), grind (arith, h, level))
 ]
 
-at-place : (P : Position → Type 0) (ps : List Position) (k : ℕ) (p : Position) → AllByRecursion P ps → slice_get ps k ≡ Some p → P p
-at-place P [] k p all is = absurd (none-some p is)
-at-place P (x ∷ ps) zero p all is = subst P (same_Some x p is) all.0
-at-place P (x ∷ ps) (suc k) p all is = at-place P ps k p all.1 is
+at-place : {X : Type 0} (P : X → Type 0) (xs : List X) (k : ℕ) (x : X) → AllByRecursion P xs → slice_get xs k ≡ Some x → P x
+at-place P [] k x all is = absurd (none-some x is)
+at-place P (y ∷ xs) zero x all is = subst P (same_Some y x is) all.0
+at-place P (y ∷ xs) (suc k) x all is = at-place P xs k x all.1 is
 
-places-before : (ps : List Position) (j k : ℕ) (p q : Position) → IsStrictlySortedBy position_cmp ps → j < k → slice_get ps j ≡ Some p → slice_get ps k ≡ Some q → IsBefore p q
+-- what rises is in order
+pub sorted-from_rising : (anchors : List Anchor) → IsRising anchors → IsSorted anchors
 unfolding IsStrictlySortedBy
-places-before [] j k p q sorted h e f = absurd (none-some p e)
-places-before (x ∷ ps) j zero p q sorted h e f = absurd (omega (arith, h))
-places-before (x ∷ ps) zero (suc k) p q sorted h e f =
-    less-before p q (subst (λ r. position_cmp r q ≡ Less) (same_Some x p e) (at-place (λ y. position_cmp x y ≡ Less) ps k q sorted.0 f))
-places-before (x ∷ ps) (suc j) (suc k) p q sorted h e f = places-before ps j k p q sorted.1 (omega (arith, h)) e f
+sorted-from_rising [] rising j k a b h e f = absurd (none-some a e)
+sorted-from_rising (x ∷ xs) rising j zero a b h e f = absurd (omega (arith, h))
+sorted-from_rising (x ∷ xs) rising zero (suc k) a b h e f =
+    less-before a.position b.position (subst (λ y. position_cmp y.position b.position ≡ Less) (same_Some x a e)
+    (at-place (λ y. position_cmp x.position y.position ≡ Less) xs k b rising.0 f))
+sorted-from_rising (x ∷ xs) rising (suc j) (suc k) a b h e f = sorted-from_rising xs rising.1 j k a b (omega (arith, h)) e f
 
--- the place of an anchor
-record IsAtPlace (f : Position → Anchor) (ps : List Position) (k : ℕ) (a : Anchor) : Type 0 where
-  pub place : Position
-  pub is_place : slice_get ps k ≡ Some place
-  pub is : a ≡ f place
+abbrev pub same_place : Anchor → Anchor → Bool
+same_place a b = position_eq a.position b.position
 
-from-map : (f : Position → Anchor) (o : Option Position) (a : Anchor) → option_map f o ≡ Some a → (p : Position) × (o ≡ Some p) × (a ≡ f p)
-from-map f None a h = absurd (none-some a h)
-from-map f (Some p) a h = (p, refl, sym (same_Some (f p) a h))
+-- sorted by position, and each position once
+pub rising-dedup : (anchors : List Anchor) → IsSortedByKey (λ a. a.position) position_cmp anchors → IsRising (dedup same_place anchors)
+rising-dedup anchors sorted =
+    IsStrictlySortedBy-dedup (on_total (λ (a : Anchor). a.position) position_total) (λ a b. position_ties a.position b.position) anchors sorted
 
-of-place : (f : Position → Anchor) (ps : List Position) (k : ℕ) (a : Anchor) → slice_get (map f ps) k ≡ Some a → IsAtPlace f ps k a
-of-place f ps k a h =
-    let found = from-map f (slice_get ps k) a (sym (slice_get-map f ps k) ∙ h) in
-    record { place = found.0; is_place = found.1; is = found.2 }
+-- those of column spans stand in order as they come
+pub rising-entries : (others : FinMap position_cmp ℕ) (es : List (Position × ℕ)) → IsStrictlySortedBy position_cmp (keys_of es) → IsRising (map (entry_anchor Columns others) es)
+unfolding IsStrictlySortedBy
+rising-entries others [] sorted = tt
+rising-entries others (e ∷ es) sorted = (after es sorted.0, rising-entries others es sorted.1)
+  where
+    after : (es : List (Position × ℕ)) → AllByRecursion (λ q. position_cmp e.0 q ≡ Less) (keys_of es) →
+        AllByRecursion (λ a. position_cmp e.0 a.position ≡ Less) (map (entry_anchor Columns others) es)
+    after [] all = tt
+    after (d ∷ ds) all = (all.0, after ds all.1)
 
-module _ (columns rows : Position → Option ℕ) where
-  pub anchors-sorted : (ps : List Position) → IsStrictlySortedBy position_cmp ps → IsSorted (map (anchor_at columns rows) ps)
-  anchors-sorted ps sorted j k a b h e f =
-      let one = of-place (anchor_at columns rows) ps j a e in
-      let two = of-place (anchor_at columns rows) ps k b f in
-      subst (λ x. IsBefore x.position b.position) (sym one.is)
-      (subst (λ y. IsBefore one.place y.position) (sym two.is)
-      (places-before ps j k one.place two.place sorted h one.is_place two.is_place))
+-- ---- the anchors at the positions that are held
 
-  has-anchor : (ps : List Position) (p : Position) → Contains ps p → HasAnchor (map (anchor_at columns rows) ps) p
-  has-anchor ps p found = record {
-    index = found.0;
-    anchor = anchor_at columns rows p;
-    is_anchor =
-        slice_get-map (anchor_at columns rows) ps found.0
-        ∙ ap (option_map (anchor_at columns rows)) (slice_get-get_or ps found.0 p found.1 ∙ ap (λ q. Some q) found.2);
-    is_there = refl;
+module _ (at : Position → Anchor) where
+  pub at-append : (H K : Position → Type 0) (xs ys : List Anchor) → AreAt at H xs → AreAt at K ys → AreAt at (λ p. H p ⊎ K p) (xs ++ ys)
+  at-append H K xs ys one two = record {
+    made = All-append (λ a. a ≡ at a.position) xs ys one.made two.made;
+    has = λ p. (
+      (λ found. elim (Contains-append_cases xs ys (at p) found) [
+        | inl first ↦ inl ((one.has p).0 first)
+        | inr second ↦ inr ((two.has p).0 second)
+      ]),
+      (λ held. elim held [
+        | inl first ↦ Contains-append_left xs ys (at p) ((one.has p).1 first)
+        | inr second ↦ Contains-append_right xs ys (at p) ((two.has p).1 second)
+      ]),
+    );
   }
 
--- the image of an element
-image : (f : Position → Position) (ps : List Position) (p : Position) → Contains ps p → Contains (map f ps) (f p)
-image f ps p found =
-    let lt = found.1 in
-    let long = length-map ps f in
-    (found.0, omega arith, get_or-map f ps found.0 p (f p) lt ∙ ap f found.2)
+  pub at-permutation : (H : Position → Type 0) (xs ys : List Anchor) → IsPermutation xs ys → AreAt at H xs → AreAt at H ys
+  at-permutation H xs ys moved are = record {
+    made = All-permutation (λ a. a ≡ at a.position) xs ys moved are.made;
+    has = λ p. (
+      (λ found. (are.has p).0 (Contains-permutation ys xs (at p) (IsPermutation-sym xs ys moved) found)),
+      (λ held. Contains-permutation xs ys (at p) moved ((are.has p).1 held)),
+    );
+  }
 
-twice : (d : Direction) (ps : List Position) → map (key_of d) (map (key_of d) ps) ≡ ps
-twice d [] = refl
-twice d (p ∷ ps) = λ i. key_key d p i ∷ twice d ps i
+  pub at-dedup : (H : Position → Type 0) (xs : List Anchor) → ((p : Position) → (at p).position ≡ p) → AreAt at H xs → AreAt at H (dedup same_place xs)
+  at-dedup H xs there are =
+      let made : All (λ a. a ≡ at a.position) (dedup same_place xs) = All-dedup same_place (λ a. a ≡ at a.position) xs are.made in
+      record {
+        made = made;
+        has = λ p. (
+          (λ found. (are.has p).0 (Contains-from_dedup same_place xs (at p) found)),
+          (λ held.
+              let kept = Any-dedup (on_equiv (λ (a : Anchor). a.position) position_equiv) xs (at p) ((are.has p).1 held) in
+              let at_p : p ≡ kept.1.position = sym (there p) ∙ exact_position_eq (at p).position kept.1.position kept.4 in
+              let found : Contains (dedup same_place xs) kept.1 = (kept.0, kept.2, kept.3) in
+              let is : kept.1 ≡ at p = All-contains (λ a. a ≡ at a.position) (dedup same_place xs) kept.1 made found ∙ ap at (sym at_p) in
+              subst (Contains (dedup same_place xs)) is found),
+        );
+      }
 
--- the positions of an index hold a span, and no others
-pub positions_held : (d : Direction) (m : BTreeMap Position ℕ) (p : Position) →
-    Contains (map (key_of d) (keys_of m.entries)) p ↔ IsSome (value_at (held_along d m.entries) p)
-positions_held d m p =
-    let known = btree_map_contains_key_iff position_total exact_positions m (key_of d p) in (
-      (λ found. subst (λ o. IsSome o) (sym (held_at d m.entries p))
-          (known.1 (subst (λ ps. Contains ps (key_of d p)) (twice d (keys_of m.entries)) (image (key_of d) _ p found)))),
-      (λ held. subst (Contains (map (key_of d) (keys_of m.entries))) (key_key d p)
-          (image (key_of d) (keys_of m.entries) (key_of d p) (known.0 (subst (λ o. IsSome o) (held_at d m.entries p) held)))),
-    )
-
-map_same : (ps : List Position) → map (key_of Columns) ps ≡ ps
-map_same [] = refl
-map_same (p ∷ ps) = ap (λ qs. p ∷ qs) (map_same ps)
-
--- those of column spans stand by row and then by column
-pub positions_sorted : (d : Direction) (m : BTreeMap Position ℕ) → tree.IsOrdered position_cmp m → d ≡ Columns →
-    IsStrictlySortedBy position_cmp (map (key_of d) (keys_of m.entries))
-positions_sorted d m ordered is = subst (λ e. IsStrictlySortedBy position_cmp (map (key_of e) (keys_of m.entries))) (sym is)
-    (subst (IsStrictlySortedBy position_cmp) (sym (map_same (keys_of m.entries))) ordered)
+  pub at-wider : (H K : Position → Type 0) (xs : List Anchor) → ((p : Position) → H p ↔ K p) → AreAt at H xs → AreAt at K xs
+  at-wider H K xs same are = record {
+    made = are.made;
+    has = λ p. ((λ found. (same p).0 ((are.has p).0 found)), (λ held. (are.has p).1 ((same p).1 held)));
+  }
 
 held-above-one : (o : Option ℕ) → 2 ≤ unwrap_or o 1 → IsSome o
 held-above-one None h = absurd (omega (arith, h))
@@ -119,35 +127,125 @@ held-above-one (Some n) h = refl
 
 -- a span is 1 or more
 pub span_from_one : (spans : FinMap position_cmp ℕ) → AreFromTwo spans → (p : Position) → 1 ≤ span_at spans p
-span_from_one spans big p = by_held (value_at spans p) (λ n is. big p n is)
+span_from_one spans big p = by_held (get spans p) (λ n is. big p n is)
   where
     by_held : (o : Option ℕ) → ((n : ℕ) → o ≡ Some n → 2 ≤ n) → 1 ≤ unwrap_or o 1
     by_held None h = omega arith
     by_held (Some n) h = let two = h n refl in omega arith
 
-contains-got : (ps : List Position) (k : ℕ) (p : Position) → slice_get ps k ≡ Some p → Contains ps p
-contains-got ps k p is =
-    let within = slice_get_within ps k p is in
-    (k, within, same_Some _ p (sym (slice_get-get_or ps k p within) ∙ is))
+contains-got : {X : Type 0} (xs : List X) (k : ℕ) (x : X) → slice_get xs k ≡ Some x → Contains xs x
+contains-got xs k x is =
+    let within = slice_get_within xs k x is in
+    (k, within, same_Some _ x (sym (slice_get-get_or xs k x within) ∙ is))
 
--- the anchors at all places where a span is held
-module _ (columns rows : FinMap position_cmp ℕ) (ps : List Position)
-    (all : (p : Position) → Contains ps p ↔ (IsSome (value_at columns p) ⊎ IsSome (value_at rows p))) where
-  abbrev made : List Anchor
-  made = map (anchor_at (value_at columns) (value_at rows)) ps
+-- the anchors at all positions where a span is held
+module _ (columns rows : FinMap position_cmp ℕ) (anchors : List Anchor)
+    (are : AreAt (anchor_at (get columns) (get rows)) (λ p. IsSome (get columns p) ⊎ IsSome (get rows p)) anchors) where
+  made-at : (k : ℕ) (a : Anchor) → slice_get anchors k ≡ Some a → a ≡ anchor_at (get columns) (get rows) a.position
+  made-at k a h = All-contains (λ b. b ≡ anchor_at (get columns) (get rows) b.position) anchors a are.made (contains-got anchors k a h)
 
-  pub anchors-of : AreAnchors (span_at columns) (span_at rows) made
+  has-anchor : (p : Position) → IsSome (get columns p) ⊎ IsSome (get rows p) → HasAnchor anchors p
+  has-anchor p held =
+      let found = (are.has p).1 held in
+      record {
+        index = found.0;
+        anchor = anchor_at (get columns) (get rows) p;
+        is_anchor = slice_get-get_or anchors found.0 (anchor_at (get columns) (get rows) p) found.1 ∙ ap (λ a. Some a) found.2;
+        is_there = refl;
+      }
+
+  pub anchors-of : AreAnchors (span_at columns) (span_at rows) anchors
   anchors-of = record {
-    has_rows = λ k a h. let one = of-place (anchor_at (value_at columns) (value_at rows)) ps k a h in
-        subst (λ x. x.rows ≡ span_at rows x.position) (sym one.is) refl;
-    has_cols = λ k a h. let one = of-place (anchor_at (value_at columns) (value_at rows)) ps k a h in
-        subst (λ x. x.cols ≡ span_at columns x.position) (sym one.is) refl;
-    wide = λ p h. has-anchor (value_at columns) (value_at rows) ps p ((all p).1 (inl (held-above-one (value_at columns p) h)));
-    tall = λ p h. has-anchor (value_at columns) (value_at rows) ps p ((all p).1 (inr (held-above-one (value_at rows p) h)));
+    has_rows = λ k a h. ap (λ (b : Anchor). b.rows) (made-at k a h);
+    has_cols = λ k a h. ap (λ (b : Anchor). b.cols) (made-at k a h);
+    wide = λ p h. has-anchor p (inl (held-above-one (get columns p) h));
+    tall = λ p h. has-anchor p (inr (held-above-one (get rows p) h));
   }
 
-  pub anchors-held : (p : Position) → HasAnchor made p → IsSome (value_at columns p) ⊎ IsSome (value_at rows p)
+  pub anchors-held : (p : Position) → HasAnchor anchors p → IsSome (get columns p) ⊎ IsSome (get rows p)
   anchors-held p has =
-      let one = of-place (anchor_at (value_at columns) (value_at rows)) ps has.index has.anchor has.is_anchor in
-      let at : one.place ≡ p = sym (ap (λ (a : Anchor). a.position) one.is) ∙ has.is_there in
-      (all p).0 (subst (Contains ps) at (contains-got ps has.index one.place one.is_place))
+      let is : has.anchor ≡ anchor_at (get columns) (get rows) p =
+      made-at has.index has.anchor has.is_anchor ∙ ap (anchor_at (get columns) (get rows)) has.is_there in
+      (are.has p).0 (subst (Contains anchors) is (contains-got anchors has.index has.anchor has.is_anchor))
+
+-- ---- the entries of an index
+
+-- the image of an element
+image : {X Y : Type 0} (f : X → Y) (xs : List X) (x : X) → Contains xs x → Contains (map f xs) (f x)
+image f xs x found =
+    let lt = found.1 in
+    let long = length-map xs f in
+    (found.0, omega arith, get_or-map f xs found.0 x (f x) lt ∙ ap f found.2)
+
+along-position : (d : Direction) (own others : Position → Option ℕ) (p : Position) → (anchor_along d own others p).position ≡ p
+along-position Columns own others p = refl
+along-position Rows own others p = refl
+
+module _ (d : Direction) (m : BTreeMap Position ℕ) (ordered : tree.IsOrdered position_cmp m) (others : FinMap position_cmp ℕ) where
+  abbrev own : FinMap position_cmp ℕ
+  own = held_along d m.entries
+
+  abbrev at : Position → Anchor
+  at = anchor_along d (get own) (get others)
+
+  -- what is held at the position of an entry
+  held_there : (e : Position × ℕ) → tree.get position_cmp m e.0 ≡ Some e.1 → get own (key_of d e.0) ≡ Some e.1
+  held_there e is = held_at d m.entries (key_of d e.0) ∙ ap (tree.get position_cmp m) (key_key d e.0) ∙ is
+
+  entry-is : (e : Position × ℕ) → tree.get position_cmp m e.0 ≡ Some e.1 → entry_anchor d others e ≡ at (key_of d e.0)
+  entry-is e is = by_held d (get own) (held_there e is)
+    where
+      by_held : (c : Direction) (f : Position → Option ℕ) → f (key_of c e.0) ≡ Some e.1 → entry_anchor c others e ≡ anchor_along c f (get others) (key_of c e.0)
+      by_held Columns f h = λ i. record { position = e.0; rows = span_at others e.0; cols = unwrap_or (sym h i) 1 }
+      by_held Rows f h = λ i. record { position = key_of Rows e.0; rows = unwrap_or (sym h i) 1; cols = span_at others (key_of Rows e.0) }
+
+  pub entries-at : AreAt at (λ p. IsSome (get own p)) (map (entry_anchor d others) m.entries)
+  entries-at = record {
+    made = All-map (λ a. a ≡ at a.position) (entry_anchor d others) m.entries
+        (All-weaker (λ e. tree.get position_cmp m e.0 ≡ Some e.1) (λ e. entry_anchor d others e ≡ at (key_of d e.0)) entry-is m.entries (All-found position_total m ordered));
+    has = λ p. ((λ found. subst (λ q. IsSome (get own q)) (along-position d (get own) (get others) p) (All-contains (λ a. IsSome (get own a.position)) _ (at p) all_held found)), holds p);
+  }
+    where
+      all_held : All (λ a. IsSome (get own a.position)) (map (entry_anchor d others) m.entries)
+      all_held = All-map (λ a. IsSome (get own a.position)) (entry_anchor d others) m.entries
+          (All-weaker (λ e. tree.get position_cmp m e.0 ≡ Some e.1) (λ e. IsSome (get own (key_of d e.0)))
+          (λ e is. subst (λ o. IsSome o) (sym (held_there e is)) refl) m.entries (All-found position_total m ordered))
+
+      found_at : (o : Option ℕ) → IsSome o → (n : ℕ) × (o ≡ Some n)
+      found_at None held = absurd (false≢true held)
+      found_at (Some n) held = (n, refl)
+
+      holds : (p : Position) → IsSome (get own p) → Contains (map (entry_anchor d others) m.entries) (at p)
+      holds p held =
+          let key = key_of d p in
+          let one = found_at (get own p) held in
+          let is : tree.get position_cmp m key ≡ Some one.0 = sym (held_at d m.entries p) ∙ one.1 in
+          let entry : Contains m.entries (key, one.0) = (btree_map_get_iff position_total exact_positions m ordered key one.0).0 is in
+          subst (Contains (map (entry_anchor d others) m.entries)) (entry-is (key, one.0) is ∙ ap at (key_key d p)) (image (entry_anchor d others) m.entries (key, one.0) entry)
+
+-- ---- the anchors of both directions
+
+module _ (columns rows : DirectedSpans) (by_columns : columns.direction ≡ Columns) where
+  abbrev IsHeld : Position → Type 0
+  IsHeld p = IsSome (get columns.spans p) ⊎ IsSome (get rows.spans p)
+
+  column_anchors : (xs : List Anchor) → AreAt (anchor_along columns.direction (get columns.spans) (get rows.spans)) (λ p. IsSome (get columns.spans p)) xs →
+      AreAt (anchor_at (get columns.spans) (get rows.spans)) (λ p. IsSome (get columns.spans p)) xs
+  column_anchors xs are = subst (λ d. AreAt (anchor_along d (get columns.spans) (get rows.spans)) (λ p. IsSome (get columns.spans p)) xs) by_columns are
+
+  -- where no row span is held
+  pub alone-at : (xs : List Anchor) → AreAt (anchor_along columns.direction (get columns.spans) (get rows.spans)) (λ p. IsSome (get columns.spans p)) xs →
+      (HasSpan rows.spans → ⊥) → AreAt (anchor_at (get columns.spans) (get rows.spans)) IsHeld xs
+  alone-at xs are none =
+      at-wider (anchor_at (get columns.spans) (get rows.spans)) (λ p. IsSome (get columns.spans p)) IsHeld xs
+      (λ p. (inl, λ held. elim held [ inl wide ↦ wide | inr tall ↦ absurd (none (p, tall)) ])) (column_anchors xs are)
+
+  pub joined-at : (xs ys sorted : List Anchor) → rows.direction ≡ Rows →
+      AreAt (anchor_along columns.direction (get columns.spans) (get rows.spans)) (λ p. IsSome (get columns.spans p)) xs →
+      AreAt (anchor_along rows.direction (get rows.spans) (get columns.spans)) (λ p. IsSome (get rows.spans p)) ys →
+      IsPermutation (xs ++ ys) sorted → AreAt (anchor_at (get columns.spans) (get rows.spans)) IsHeld (dedup same_place sorted)
+  joined-at xs ys sorted by_rows first second moved =
+      let at = anchor_at (get columns.spans) (get rows.spans) in
+      let row_anchors : AreAt at (λ p. IsSome (get rows.spans p)) ys =
+      subst (λ d. AreAt (anchor_along d (get rows.spans) (get columns.spans)) (λ p. IsSome (get rows.spans p)) ys) by_rows second in
+      at-dedup at IsHeld sorted (λ p. refl) (at-permutation at IsHeld (xs ++ ys) sorted moved (at-append at _ _ xs ys (column_anchors xs first) row_anchors))

@@ -4,6 +4,7 @@ pub mod Applied
 pub mod BothHeld
 pub mod CoverLemmas
 pub mod IndexCopies
+pub mod IndexEnds
 pub mod IndexKeys
 pub mod IndexRanges
 pub mod IndexReached

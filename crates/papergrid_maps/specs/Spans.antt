@@ -2,6 +2,7 @@
 use Rattle.std.specs.Prelude.{◌≡◌, ℕ, ◌+◌, ◌<◌, ◌≤◌, ◌≢◌, ◌&&◌, not, nat_lt, nat_le, Bool, true, false, if◌then◌else◌, List, [], ◌∷◌, ◌++◌, reverse, Option, Some, None, IsSome, unwrap_or}
 use Rattle.std.specs.List.{list_any}
 use Rattle.std.specs.FinMap.{FinMap, get, keys}
+use Rattle.papergrid_values.specs.Positions.{along}
 use Rattle.papergrid_values.specs.declared.direction.Direction.{Direction}
 use Rattle.papergrid_values.specs.declared.direction.Direction.TheVariants.{Columns, Rows}
 use Rattle.papergrid_values.specs.declared.position.Position.{Position}
@@ -52,6 +53,10 @@ Appends old new further = (calls : List SpanCall) → IsTold calls old → IsTol
 -- a span of the direction is held
 abbrev pub HasSpan : FinMap position_cmp ℕ → Type 0
 HasSpan spans = (p : Position) × IsSome (get spans p)
+
+-- each span of the direction that is held ends within so many columns (rows)
+abbrev pub EndWithin : Direction → FinMap position_cmp ℕ → ℕ → Type 0
+EndWithin direction spans count = (p : Position) (n : ℕ) → get spans p ≡ Some n → along direction p + n ≤ count
 
 -- the span of a position, 1 where none is held
 abbrev pub span_at : FinMap position_cmp ℕ → Position → ℕ

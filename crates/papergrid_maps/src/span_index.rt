@@ -1,22 +1,21 @@
 //! The spans of one direction, found by the line that they run in.
 
-ghost use Rattle.std.specs.Prelude.{◌≡◌, ◌∷◌, ◌-◌, ◌↔◌, AllPairs, IfOk, IsSome, IsTrue, None, OnErr, OnOk, nat_eq, nat_lt};
+ghost use Rattle.std.specs.Prelude.{◌≡◌, ◌∷◌, ◌+◌, ◌-◌, ◌↔◌, AllPairs, IfOk, IsSome, IsTrue, None, OnErr, OnOk, nat_eq, nat_le, nat_lt};
 ghost use Rattle.std.specs.BTreeMap.Range.{entries_between};
 ghost use Rattle.std.specs.FinMap as map;
 ghost use Rattle.std.specs.FinMap.{get as value_at};
 ghost use Rattle.std.specs.Prelude.{map as list_map};
 ghost use Rattle.std.specs.HashMap.{get as map_get};
-ghost use Rattle.std.specs.List.{Contains, list_any};
-ghost use Rattle.std.specs.Map.{keys_of};
-ghost use Rattle.std.specs.List.Sorted.{IsStrictlySortedBy};
+ghost use Rattle.std.specs.List.{list_all, list_any};
 ghost use Rattle.papergrid_values.specs.declared.direction.Direction.TheVariants.{Columns};
 ghost use Rattle.papergrid_values.specs.declared.position.Position.{Position};
 ghost use Rattle.papergrid_values.specs.Positions.{AreRising};
 ghost use Rattle.papergrid_tables.specs.Equal.{places_eq};
 ghost use Rattle.papergrid_tables.specs.Keys.{position_cmp, position_eq};
-ghost use Rattle.papergrid_maps.specs.Spans.{HasSpan};
-ghost use Rattle.papergrid_maps.specs.ForProofs.SpanIndex.{CoversOne, IsReached, covers_held, extent_of, key_of};
+ghost use Rattle.papergrid_maps.specs.Spans.{EndWithin, HasSpan};
+ghost use Rattle.papergrid_maps.specs.ForProofs.SpanIndex.{AreAt, CoversOne, IsReached, IsRising, anchor_along, covers_held, entry_anchor, extent_of, key_of};
 
+use crate::anchors::Anchor;
 use crate::covering::covers_one;
 use papergrid_values::{Direction, Position};
 use std::alloc::{AllocError, Global};
@@ -127,12 +126,26 @@ impl SpanIndex {
         entries_cover(&self.spans, self.direction, others, rising, places)
     }
 
-    /// The positions that hold a span, by line and then by place, or out of memory.
-    pub(crate) fn positions(&self, alloc: Global) -> Result<Vec<Position>, AllocError>
-        ensures held { IfOk result (λ places. (p : Position) → Contains places.items p ↔ IsSome (value_at self.now.spans p)) }
-        ensures sorted { IfOk result (λ places. self.now.direction ≡ Columns → IsStrictlySortedBy position_cmp places.items) }
+    /// Whether each span ends within so many columns (rows).
+    pub(crate) fn ends_within(&self, count: usize) -> bool
+        ensures { IsTrue result ↔ EndWithin self.now.direction self.now.spans count }
     {
-        positions_of(alloc, self.direction, &self.spans)
+        entries_end_within(&self.spans, count)
+    }
+
+    /// The anchors of the positions that hold a span, where `others` has the spans of the other
+    /// direction, by line and then by place, or out of memory.
+    pub(crate) fn anchors(
+        &self,
+        alloc: Global,
+        others: &SpanIndex,
+    ) -> Result<Vec<Anchor>, AllocError>
+        ensures spans { IfOk result (λ anchors. AreAt
+            (anchor_along self.now.direction (value_at self.now.spans) (value_at others.now.spans))
+            (λ p. IsSome (value_at self.now.spans p)) anchors.items) }
+        ensures sorted { IfOk result (λ anchors. self.now.direction ≡ Columns → IsRising anchors.items) }
+    {
+        anchors_along(alloc, self.direction, &self.spans, others)
     }
 
     /// The spans by position, or out of memory.
@@ -199,18 +212,39 @@ fn key_of(direction: Direction, pos: Position) -> Position
     }
 }
 
-// The positions of the keys.
-fn positions_of(
+// Whether each span ends within so many places of its line. What begins past them ends past them.
+fn entries_end_within(spans: &BTreeMap<Position, usize>, count: usize) -> bool
+    ensures { result ≡ list_all (λ e. nat_le (e.0.col + e.1) count) spans.now.entries }
+{
+    spans.iter().all(|(start, span)| start.col <= count && *span <= count - start.col)
+}
+
+// The anchors of the entries.
+fn anchors_along(
     alloc: Global,
     direction: Direction,
     spans: &BTreeMap<Position, usize>,
-) -> Result<Vec<Position>, AllocError>
-    ensures { IfOk result (λ places. places.items ≡ list_map (key_of direction) (keys_of spans.now.entries)) }
+    others: &SpanIndex,
+) -> Result<Vec<Anchor>, AllocError>
+    ensures { IfOk result (λ anchors. anchors.items ≡ list_map (entry_anchor direction others.now.spans) spans.now.entries) }
 {
     spans
-        .keys()
-        .map(|key| key_of(direction, *key))
+        .iter()
+        .map(|(key, span)| anchor_of(direction, *key, *span, others))
         .collect(alloc)
+}
+
+// The anchor of an entry.
+fn anchor_of(direction: Direction, key: Position, span: usize, others: &SpanIndex) -> Anchor
+    ensures { result ≡ entry_anchor direction others.now.spans (key, span) }
+{
+    let position = key_of(direction, key);
+    let extent = extent_of(direction, span, others.get(position).unwrap_or(1));
+    Anchor {
+        position,
+        rows: extent.rows,
+        cols: extent.columns,
+    }
 }
 
 // Whether a span of the key's line begins before the key and reaches it. What the range has stands

@@ -12,7 +12,7 @@ ghost use Rattle.papergrid_values.specs.declared.direction.Direction.TheVariants
 ghost use Rattle.papergrid_values.specs.declared.position.Position.{Position};
 ghost use Rattle.papergrid_tables.specs.Keys.{position_cmp, position_eq};
 ghost use Rattle.papergrid_maps.specs.Anchors.{AreAnchors, HasAnchor, IsSorted};
-ghost use Rattle.papergrid_maps.specs.Spans.{IsTold, Appends, HasSpan, IsVisible, IsCoveredByColumn, IsCoveredByRow, IsCoveredByBoth, SetSpan, RemoveSpans, column_span, row_span, is_visible};
+ghost use Rattle.papergrid_maps.specs.Spans.{IsTold, Appends, EndWithin, HasSpan, IsVisible, IsCoveredByColumn, IsCoveredByRow, IsCoveredByBoth, SetSpan, RemoveSpans, column_span, row_span, is_visible, span_at, spans_along};
 ghost use Rattle.papergrid_maps.specs.ForProofs.SpanIndex.{AreFromTwo, HoldsBoth, span_set};
 
 use crate::anchors::{Anchor, anchors_of};
@@ -159,6 +159,18 @@ impl SpanTable {
         ensures from_one { (p : Position) → (1 ≤ column_span self.now p) × (1 ≤ row_span self.now p) }
     {
         anchors_of(self.alloc, &self.columns, &self.rows)
+    }
+
+    /// Whether each span of the direction that is held ends within so many columns (rows), wherever its
+    /// position stands in the other direction. It takes no memory.
+    pub fn end_within(&self, direction: Direction, count: usize) -> bool
+        ensures ends { IsTrue result ↔ EndWithin direction (spans_along direction self.now) count }
+        ensures from_one { (p : Position) → 1 ≤ span_at (spans_along direction self.now) p }
+    {
+        match direction {
+            Direction::Columns => self.columns.ends_within(count),
+            Direction::Rows => self.rows.ends_within(count),
+        }
     }
 
     /// Whether the position stands right of an anchor, in its row and its rectangle.

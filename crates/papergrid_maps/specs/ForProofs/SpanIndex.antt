@@ -1,9 +1,10 @@
 -- Spans of one direction by the line that they run in, and the anchors with both spans.
-use Rattle.std.specs.Prelude.{◌≡◌, ◌≤◌, ◌<◌, ◌+◌, ◌-◌, ◌&&◌, IsSome, IsTrue, not, nat_lt, List, map, ℕ, Bool, true, false, Option, Some, None, if◌then◌else◌, nat_le, unwrap_or, refl}
+use Rattle.std.specs.Prelude.{◌≡◌, ◌↔◌, ◌≤◌, ◌<◌, ◌+◌, ◌-◌, ◌&&◌, All, IsSome, IsTrue, not, nat_lt, List, map, ℕ, Bool, true, false, Option, Some, None, if◌then◌else◌, nat_le, unwrap_or, refl}
 use Rattle.std.specs.BTreeMap.{BTreeMap, get as tree_get}
 use Rattle.std.specs.Coded.{Coded, code_by, coded×, coded_bool, coded_ℕ}
 use Rattle.std.specs.FinMap.{FinMap, code, from_entries, get}
-use Rattle.std.specs.List.{list_any}
+use Rattle.std.specs.List.{Contains, list_any}
+use Rattle.std.specs.List.Sorted.{IsStrictlySortedBy}
 use Rattle.papergrid_values.specs.Positions.{along}
 use Rattle.papergrid_values.specs.declared.direction.Direction.{Direction}
 use Rattle.papergrid_values.specs.declared.direction.Direction.TheVariants.{Columns, Rows}
@@ -81,10 +82,31 @@ span_set q n p old = if nat_le 1 n && position_eq q p then from_two n else old
 abbrev pub anchor_at : (Position → Option ℕ) → (Position → Option ℕ) → Position → Anchor
 anchor_at columns rows p = record { position = p; rows = unwrap_or (rows p) 1; cols = unwrap_or (columns p) 1 }
 
+-- the same, by the spans of a direction and those of the other one
+abbrev pub anchor_along : Direction → (Position → Option ℕ) → (Position → Option ℕ) → Position → Anchor
+anchor_along Columns own others = anchor_at own others
+anchor_along Rows own others = anchor_at others own
+
+-- each of these anchors is the one at its position, and they are at the positions that are held
+pub record AreAt (at : Position → Anchor) (IsHeld : Position → Type 0) (anchors : List Anchor) : Type 0 where
+  pub made : All (λ a. a ≡ at a.position) anchors
+  pub has : (p : Position) → Contains anchors (at p) ↔ IsHeld p
+
+-- by row and then by column, no two at one position
+abbrev pub IsRising : List Anchor → Type 0
+IsRising = IsStrictlySortedBy (λ a b. position_cmp a.position b.position)
+
 -- the rectangle by a span of the direction and a span of the other one
 abbrev pub extent_of : Direction → ℕ → ℕ → Extent
 extent_of Columns span other = record { columns = span; rows = other }
 extent_of Rows span other = record { columns = other; rows = span }
+
+-- the anchor of an entry by key, by its span and the span of the other direction
+abbrev pub entry_anchor : Direction → FinMap position_cmp ℕ → Position × ℕ → Anchor
+entry_anchor direction others e =
+    let p = key_of direction e.0 in
+    let extent = extent_of direction e.1 (span_at others p) in
+    record { position = p; rows = extent.rows; cols = extent.columns }
 
 -- the rectangle, where both spans are held
 abbrev pub extent_held : Direction → Option ℕ → Option ℕ → Option Extent

@@ -1,16 +1,38 @@
-use Rattle.std.proofs.lemmas.Result.{IfOk-weaker}
-use Rattle.std.specs.FinMap.{get as value_at}
-use Rattle.papergrid_maps.proofs.AnchorLemmas.{anchors-held, anchors-of, anchors-sorted}
+use Rattle.std.proofs.Common.{◌∙◌, rules, sym}
+use Rattle.std.proofs.lemmas.Bool.{true≢false}
+use Rattle.std.proofs.lemmas.Fn.{dedup_same}
+use Rattle.std.proofs.lemmas.List.Sorted.{answers_always}
+use Rattle.papergrid_maps.proofs.AnchorLemmas.{alone-at, anchors-held, anchors-of, joined-at, rising-dedup, same_place, sorted-from_rising}
 use Rattle.papergrid_maps.proofs.anchors.anchors_of.Goals as goal
 
+pub returns-then-not-holds_any-clause-sorted : goal.returns-then-not-holds_any-clause-sorted
+returns-then-not-holds_any-clause-sorted c = sorted-from_rising _ (c.in_ok-anchors.ensures.sorted c.requires.columns)
+
+pub returns-then-not-holds_any-clause-spans : goal.returns-then-not-holds_any-clause-spans
+returns-then-not-holds_any-clause-spans c = anchors-of c.args.columns.now.spans c.args.rows.now.spans _
+    (alone-at c.args.columns.now c.args.rows.now c.requires.columns _ c.in_ok-anchors.ensures.spans
+    (λ held. true≢false (sym (c.holds_any.ensures.1 held) ∙ c.if-not-holds_any.true)))
+
+pub returns-then-not-holds_any-clause-held : goal.returns-then-not-holds_any-clause-held
+returns-then-not-holds_any-clause-held c = anchors-held c.args.columns.now.spans c.args.rows.now.spans _
+    (alone-at c.args.columns.now c.args.rows.now c.requires.columns _ c.in_ok-anchors.ensures.spans
+    (λ held. true≢false (sym (c.holds_any.ensures.1 held) ∙ c.if-not-holds_any.true)))
+
 pub returns-clause-sorted : goal.returns-clause-sorted
-returns-clause-sorted c = IfOk-weaker c.anchors_at.result _ _ (λ anchors is.
-    rw is (rw c.as_slice.ensures.value (anchors-sorted (value_at c.args.columns.now.spans) (value_at c.args.rows.now.spans) _ c.in_ok-places.ensures.sorted))) c.anchors_at.ensures
+returns-clause-sorted c =
+    let kept = dedup_same _ same_place _ (λ x y b f' x' y' k. search rules) _ _ c.dedup_by_key.ensures.filtered in
+    rw kept (sorted-from_rising _ (rising-dedup _ (c.in_ok-sort_by_key.ensures.sorted (λ a. a.position) (answers_always _ _ _ (λ f a r g h. search rules)))))
 
 pub returns-clause-spans : goal.returns-clause-spans
-returns-clause-spans c = IfOk-weaker c.anchors_at.result _ _ (λ anchors is.
-    rw is (rw c.as_slice.ensures.value (anchors-of c.args.columns.now.spans c.args.rows.now.spans _ c.in_ok-places.ensures.all))) c.anchors_at.ensures
+returns-clause-spans c =
+    let kept = dedup_same _ same_place _ (λ x y b f' x' y' k. search rules) _ _ c.dedup_by_key.ensures.filtered in
+    let moved = rw c.in_ok-append.ensures.items at c.sort_by_key.ensures.permutation in
+    rw kept (anchors-of c.args.columns.now.spans c.args.rows.now.spans _
+    (joined-at c.args.columns.now c.args.rows.now c.requires.columns _ _ _ c.requires.rows c.in_ok-anchors.ensures.spans c.in_ok-others.ensures.spans moved))
 
 pub returns-clause-held : goal.returns-clause-held
-returns-clause-held c = IfOk-weaker c.anchors_at.result _ _ (λ anchors is.
-    rw is (rw c.as_slice.ensures.value (anchors-held c.args.columns.now.spans c.args.rows.now.spans _ c.in_ok-places.ensures.all))) c.anchors_at.ensures
+returns-clause-held c =
+    let kept = dedup_same _ same_place _ (λ x y b f' x' y' k. search rules) _ _ c.dedup_by_key.ensures.filtered in
+    let moved = rw c.in_ok-append.ensures.items at c.sort_by_key.ensures.permutation in
+    rw kept (anchors-held c.args.columns.now.spans c.args.rows.now.spans _
+    (joined-at c.args.columns.now c.args.rows.now c.requires.columns _ _ _ c.requires.rows c.in_ok-anchors.ensures.spans c.in_ok-others.ensures.spans moved))
