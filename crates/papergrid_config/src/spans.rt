@@ -7,7 +7,7 @@ ghost use Rattle.papergrid_values.specs.Positions.{AreRising};
 ghost use Rattle.papergrid_values.specs.declared.position.Position.{Position};
 ghost use Rattle.papergrid_tables.specs.Keys.{position_eq};
 ghost use Rattle.papergrid_maps.specs.Anchors.{AreAnchors, HasAnchor, IsSorted};
-ghost use Rattle.papergrid_maps.specs.Spans.{HasSpan, IsCoveredByBoth, IsCoveredByColumn, IsCoveredByRow, IsVisible, column_span, is_visible, row_span};
+ghost use Rattle.papergrid_maps.specs.Spans.{EndWithin, HasSpan, IsCoveredByBoth, IsCoveredByColumn, IsCoveredByRow, IsVisible, column_span, is_visible, row_span, span_at, spans_along};
 ghost use Rattle.papergrid_config.specs.Told.{Appends};
 ghost use Rattle.papergrid_config.specs.declared.setting.Setting.{Setting};
 
@@ -83,6 +83,15 @@ impl SpannedConfig {
         ensures from_one { (p : Position) → (1 ≤ column_span self.now.spans p) × (1 ≤ row_span self.now.spans p) }
     {
         self.spans.anchors()
+    }
+
+    /// Whether each span of the direction that is held ends within so many columns (rows), wherever its
+    /// position stands in the other direction. It takes no memory.
+    pub fn spans_end_within(&self, direction: Direction, count: usize) -> bool
+        ensures ends { IsTrue result ↔ EndWithin direction (spans_along direction self.now.spans) count }
+        ensures from_one { (p : Position) → 1 ≤ span_at (spans_along direction self.now.spans) p }
+    {
+        self.spans.end_within(direction, count)
     }
 
     /// Whether a column span is held.
