@@ -1,5 +1,5 @@
 -- What a checker goes by: its sums over the listed cells, and the certificate that they make.
-use Rattle.std.proofs.Common.{◌≡◌, ℕ, zero, suc, ◌+◌, ◌-◌, ◌*◌, ◌<◌, ◌≤◌, Bool, true, false, cond, inl, inr, List, [], ◌∷◌, ◌++◌, length, count_by, refl, sym, ap, ◌∙◌, arith}
+use Rattle.std.proofs.Common.{◌≡◌, ℕ, zero, suc, ◌+◌, ◌-◌, ◌*◌, ◌<◌, ◌≤◌, Bool, true, false, cond, inl, inr, List, [], ◌∷◌, ◌++◌, length, count_by, drop, drop-cons, get_or, refl, subst, sum, sym, take, ap, ◌∙◌, arith}
 use Rattle.std.specs.Prelude.{All}
 use Rattle.std.specs.List.{AllByRecursion, range_with_len}
 use Rattle.std.proofs.lemmas.Bool.{cases_Bool, true≢false, false≢true}
@@ -11,7 +11,7 @@ use Rattle.papergrid_axis.specs.declared.checked.Checked.{Checked}
 use Rattle.papergrid_axis.specs.declared.demand.Demand.{Demand}
 use Rattle.papergrid_values.specs.declared.direction.Direction.{Direction}
 use Rattle.papergrid_axis.specs.ForProofs.Checks.{CanHold, Checks, all_listed, times_listed}
-use Rattle.papergrid_axis.specs.Fits.{HasRoom}
+use Rattle.papergrid_axis.specs.Fits.{HasRoom, range_sum}
 use Rattle.papergrid_axis.specs.Ranges.{demand_of, end_of, inner_lines, place_of}
 use Rattle.papergrid_axis.proofs.LoopLemmas.{range_with_len-append}
 
@@ -137,3 +137,26 @@ count_by-le line a (suc m) =
 -- a range has no more inner lines than numbers
 pub inner_lines-span : (line : ℕ → Bool) (d : Demand) → inner_lines line d ≤ d.span
 inner_lines-span line d = let le : inner_lines line d ≤ d.span - 1 = count_by-le line (d.start + 1) (d.span - 1) in omega arith
+
+-- ---- a cell whose range begins where there is room enough
+
+-- the first size of a range is a part of its sum
+pub first_of_range : (sizes : List ℕ) (d : Demand) → 1 ≤ d.span → d.start < length sizes → get_or sizes d.start 0 ≤ range_sum sizes d
+first_of_range sizes d one l = go d.span one
+  where
+    go : (n : ℕ) → 1 ≤ n → get_or sizes d.start 0 ≤ sum (take n (drop d.start sizes))
+    go zero one = absurd (omega arith)
+    go (suc n) one =
+        let first : sum (take (suc n) (drop d.start sizes)) ≡ get_or sizes d.start 0 + sum (take n (drop (suc d.start) sizes)) =
+        ap (λ xs. sum (take (suc n) xs)) (drop-cons sizes d.start 0 l) ∙ sum_by-cons (λ x. x) (get_or sizes d.start 0) (take n (drop (suc d.start) sizes)) in
+        omega (arith, first)
+
+-- what is listed no time changes nothing
+pub none_listed : (checked : Checked) (need inner times : ℕ) → checked.holds ≡ true → times ≡ 0 →
+    record { holds = true; found = checked.found + times; needs = checked.needs + need * times; inner = checked.inner + inner * times } ≡ checked
+none_listed checked need inner times so none =
+    let found : checked.found + 0 ≡ checked.found = omega arith in
+    let needs : checked.needs + need * 0 ≡ checked.needs = omega arith in
+    let inners : checked.inner + inner * 0 ≡ checked.inner = omega arith in
+    subst (λ t. record { holds = true; found = checked.found + t; needs = checked.needs + need * t; inner = checked.inner + inner * t } ≡ checked) (sym none)
+    (λ i. record { holds = sym so i; found = found i; needs = needs i; inner = inners i })

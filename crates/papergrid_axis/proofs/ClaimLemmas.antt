@@ -2,7 +2,8 @@
 use Rattle.std.proofs.Common.{◌≡◌, ◌==◌, ◌&&◌, ℕ, zero, suc, ◌+◌, ◌-◌, ◌<◌, ◌≤◌, Bool, true, false, cond, ◌⊎◌, inl, inr, List, [], ◌∷◌, length, get_or, count_by, refl, sym, ap, ◌∙◌, arith, subst}
 use Rattle.std.specs.Prelude.{AllPairs, nat_lt}
 use Rattle.std.specs.List.Sorted.{IsNonDecreasingBy, IsPartitionPoint}
-use Rattle.std.proofs.lemmas.Bool.{and_parts, cases_Bool, cases_eq, eqb-true, ltb-true, ltb-false}
+use Rattle.std.proofs.lemmas.Bool.{and_parts, cases_Bool, cases_eq, eqb-true, le-ltb, lt-ltb, ltb-true, ltb-false}
+use Rattle.std.proofs.lemmas.List.{get_or_default}
 use Rattle.std.proofs.lemmas.List.Sums.{sum_by-cons}
 use Rattle.papergrid_values.specs.declared.position.Position.{Position}
 use Rattle.papergrid_values.specs.declared.direction.Direction.{Direction}
@@ -80,6 +81,26 @@ never_falls direction places rising i j d le l = elim (cases_eq i j) [
   | inl e ↦ subst (λ k. along direction (get_or places i d) ≤ along direction (get_or places k d)) e (omega arith)
   | inr ne ↦ let lt : along direction (get_or places i d) < along direction (get_or places j d) = rising i j d (omega arith) l in omega arith
 ]
+
+-- the place at an index has that very number, so all before it have lesser ones
+pub point-guess : (direction : Direction) (places : List Position) (start : ℕ) (e : Position) → AllPairs (AreRising direction) places → start < length places → along direction (get_or places start e) ≡ start →
+    IsPartitionPoint (λ p. nat_lt (along direction p) start ≡ true) (λ p. nat_lt (along direction p) start ≡ false) places start
+point-guess direction places start e rising l is = (
+  (λ k d low lt.
+      let below : along direction (get_or places k d) < along direction (get_or places start d) = rising k start d lt l in
+      let there : along direction (get_or places start d) ≡ start = ap (along direction) (get_or_default places start d e l) ∙ is in
+      lt-ltb _ _ (omega (arith, below, there))),
+  (λ k d le lk.
+      let there : along direction (get_or places start d) ≡ start = ap (along direction) (get_or_default places start d e l) ∙ is in
+      elim (cases_eq k start) [
+        | inl same ↦
+            let at : along direction (get_or places k d) ≡ start = ap (λ j. along direction (get_or places j d)) same ∙ there in
+            le-ltb _ _ (omega (arith, at))
+        | inr ne ↦
+            let above : along direction (get_or places start d) < along direction (get_or places k d) = rising start k d (omega arith) lk in
+            le-ltb _ _ (omega (arith, above, there))
+      ]),
+)
 
 module _ (direction : Direction) (places : List Position) (place : Position) (at : ℕ) (rising : AllPairs (AreRising direction) places)
     (point : IsPartitionPoint (λ p. nat_lt (along direction p) (along direction place) ≡ true) (λ p. nat_lt (along direction p) (along direction place) ≡ false) places at) where

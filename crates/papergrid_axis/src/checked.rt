@@ -1,6 +1,6 @@
 //! Checking sizes and a list of places cell by cell, in no memory.
 
-ghost use Rattle.std.specs.Prelude.{ℕ, Bool, ◌==◌, ◌&&◌, ◌*◌, ◌-◌, true, false, ◌≡◌, ◌+◌, ◌<◌, ◌≤◌, ◌^◌, ◌↔◌, ◌∷◌, ◌++◌, [], IfNone, IfSome, IsTrue, List, length, sum};
+ghost use Rattle.std.specs.Prelude.{ℕ, Bool, ◌==◌, ◌&&◌, ◌*◌, ◌-◌, true, false, ◌≡◌, ◌+◌, ◌<◌, ◌≤◌, ◌^◌, ◌↔◌, ◌∷◌, ◌++◌, [], IfNone, IfSome, IsTrue, List, length, slice_index, sum};
 ghost use Rattle.papergrid_values.specs.declared.position.Position.{Position};
 ghost use Rattle.papergrid_axis.specs.Problem.{given};
 ghost use Rattle.papergrid_axis.specs.declared.demand.Demand.{Demand};
@@ -129,8 +129,18 @@ fn with_cell(checked: Checked, times: usize, need: u128, inner: usize) -> Checke
     }
 }
 
+/// Whether a range that begins at a number has room for the need whatever its span is, since the size
+/// of that number has.
+fn has_room_alone(claim: &Claim<'_>, start: usize, need: u128) -> bool
+    ensures { IsTrue result → (claim.now.ends_within ≡ true) × (start < length claim.now.sizes.now)
+        × (need ≤ slice_index claim.now.sizes.now start) }
+{
+    claim.ends_within && start < claim.sizes.len() && need <= claim.sizes[start] as u128
+}
+
 /// What is kept of the cells met and of one more, the visible cell at a position with its need.
-/// Nothing changes by a cell that has room and is not listed, nor after one that fails.
+/// Nothing changes by a cell that has room and is not listed, nor after one that fails. Where the first
+/// size of its range is room enough, its span is not looked up.
 pub fn visit<A: Axis>(
     checked: Checked,
     claim: &Claim<'_>,
@@ -146,12 +156,15 @@ pub fn visit<A: Axis>(
         (demands : List Demand) → checks checked demands →
         checks result (demands ++ demand_of claim.now.direction place (A.span_of axis.now place) need ∷ []) }
 {
+    let start = claim.direction.number_of(place);
+    let times = count_listed(claim, place);
+    if checked.holds && times == 0 && has_room_alone(claim, start, need) {
+        return checked;
+    }
     let span = axis.span(place);
     if !checked.holds {
         return failed(checked);
     }
-    let start = claim.direction.number_of(place);
-    let times = count_listed(claim, place);
     match room(axis, claim.sizes, start, span, need) {
         Some(inner) => {
             if times <= claim.places.len() - checked.found {

@@ -1,6 +1,7 @@
 //! What a checker is given.
 
-ghost use Rattle.std.specs.Prelude.{◌≡◌, ◌↔◌, AllPairs, IsTrue, nat_lt, true};
+ghost use Rattle.std.specs.Prelude.{◌≡◌, ◌↔◌, AllPairs, IsTrue, false, nat_lt, true};
+ghost use Rattle.std.specs.List.Sorted.{IsPartitionPoint};
 ghost use Rattle.papergrid_axis.specs.ForProofs.Checks.{AreApartAt, AreInOrder, IsClaim};
 ghost use Rattle.papergrid_values.specs.Positions.{AreRising, along, count_of};
 
@@ -17,6 +18,9 @@ pub struct Claim<'a> {
     /// Whether each of the ranges at the places is known to end before a later one begins: then a
     /// place is looked for by halves, and no two ranges have a number in common.
     pub is_ordered: bool,
+    /// Whether each range that begins within the sizes is known to end within them: then a cell for
+    /// whose need the first size of its range is enough has room, whatever its span.
+    pub ends_within: bool,
 }
 
 /// Whether the range at a place ends at or before that at another begins.
@@ -49,17 +53,28 @@ fn count_all(places: &[Position], place: Position) -> usize
     places.iter().filter(|listed| place == **listed).count()
 }
 
+/// The index of the first place whose number is not below `start`, where the numbers rise. It is looked
+/// for at `start` itself before, where it is if all numbers up to that one have places.
+fn index_rising(direction: Direction, places: &[Position], start: usize) -> usize
+    requires { AllPairs (AreRising direction) places.now }
+    ensures { IsPartitionPoint (λ p. nat_lt (along direction p) start ≡ true) (λ p. nat_lt (along direction p) start ≡ false) places.now result }
+{
+    if start < places.len() && direction.number_of(places[start]) == start {
+        return start;
+    }
+    places.partition_point(
+        |listed: &Position| -> bool
+            ensures { result ≡ nat_lt (along direction listed.now) start }
+        { direction.number_of(*listed) < start },
+    )
+}
+
 /// How often a position is listed, where the numbers of the places rise.
 fn count_rising(direction: Direction, places: &[Position], place: Position) -> usize
     requires { AllPairs (AreRising direction) places.now }
     ensures { result ≡ count_of place places.now }
 {
-    let start = direction.number_of(place);
-    let at = places.partition_point(
-        |listed: &Position| -> bool
-            ensures { result ≡ nat_lt (along direction listed.now) start }
-        { direction.number_of(*listed) < start },
-    );
+    let at = index_rising(direction, places, direction.number_of(place));
     let Some(listed) = places.get(at) else {
         return 0;
     };

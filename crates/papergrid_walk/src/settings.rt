@@ -46,6 +46,11 @@ pub trait Settings {
         ensures value { result ≡ (look self.now).span direction pos }
         ensures positive { 1 ≤ result };
 
+    /// Whether it is known of each position before column (row) `count` that its span ends there or
+    /// before.
+    fn spans_end_within(&self, direction: Direction, count: usize) -> bool
+        ensures { IsTrue result → EndWithin ((look self.now).span direction) direction count };
+
     /// The padding left of the text of the cell at a position (above it).
     fn padding_before(&self, direction: Direction, pos: Position) -> usize
         ensures { result ≡ (look self.now).before direction pos };
@@ -127,6 +132,11 @@ impl Settings for SpannedConfig {
         }
     }
 
+    // Each span that is held is looked at once.
+    fn spans_end_within(&self, direction: Direction, count: usize) -> bool {
+        self.spans_end_within(direction, count)
+    }
+
     fn padding_before(&self, direction: Direction, pos: Position) -> usize {
         before(direction, self.get_padding(pos))
     }
@@ -175,6 +185,11 @@ impl Settings for CompactConfig {
     fn span(&self, _direction: Direction, _pos: Position) -> usize {
         let _config = self;
         1
+    }
+
+    fn spans_end_within(&self, _direction: Direction, _count: usize) -> bool {
+        let _config = self;
+        true
     }
 
     fn padding_before(&self, direction: Direction, _pos: Position) -> usize {

@@ -1,5 +1,5 @@
 -- What a checker keeps of the visible cells that it met, given sizes and a list of places.
-use Rattle.std.specs.Prelude.{◌≡◌, ℕ, ◌+◌, sum, ◌*◌, ◌^◌, ◌≤◌, Bool, true, false, List, length, sum_by, ◌≢◌, All, AllPairs}
+use Rattle.std.specs.Prelude.{◌≡◌, ℕ, ◌+◌, sum, ◌*◌, ◌^◌, ◌<◌, ◌≤◌, Bool, true, false, List, length, sum_by, ◌≢◌, All, AllPairs}
 use Rattle.papergrid_values.specs.declared.position.Position.{Position}
 use Rattle.papergrid_axis.specs.declared.checked.Checked.{Checked}
 use Rattle.papergrid_axis.specs.declared.claim.Claim.{Claim}
@@ -29,9 +29,15 @@ AreApartAt direction span_of p q = AreDisjoint (demand_of direction p (span_of p
 abbrev pub AreInOrder : Direction → (Position → ℕ) → Position → Position → Type 0
 AreInOrder direction span_of p q = AreRising direction p q × (along direction p + span_of p ≤ along direction q)
 
--- a claim that is said to be in order is so
-abbrev pub IsClaim : (Position → ℕ) → Claim → Type 0
-IsClaim span_of claim = claim.is_ordered ≡ true → AllPairs (AreInOrder claim.direction span_of) claim.places.now
+-- each range that begins below the number has a number itself, and ends there or before
+abbrev pub StayWithin : Direction → (Position → ℕ) → ℕ → Type 0
+StayWithin direction span_of count =
+    (p : Position) → along direction p < count → (1 ≤ span_of p) × (along direction p + span_of p ≤ count)
+
+-- what a claim says of its ranges is so
+pub record IsClaim (span_of : Position → ℕ) (claim : Claim) : Type 0 where
+  pub ordered : claim.is_ordered ≡ true → AllPairs (AreInOrder claim.direction span_of) claim.places.now
+  pub within : claim.ends_within ≡ true → StayWithin claim.direction span_of (length claim.sizes.now)
 
 -- no two cells stand at one place
 abbrev pub AreDistinct : List Demand → Type 0

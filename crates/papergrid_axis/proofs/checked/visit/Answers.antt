@@ -1,12 +1,34 @@
-use Rattle.std.proofs.Common.{◌≡◌, ℕ, ◌+◌, ◌*◌, ◌<◌, ◌≤◌, ◌∷◌, ◌++◌, [], ◌∙◌, ap₂, sym, refl, subst, subst₂, arith, length, true}
+use Rattle.std.proofs.Common.{◌≡◌, ℕ, ◌+◌, ◌*◌, ◌<◌, ◌≤◌, ◌∷◌, ◌++◌, [], ◌∙◌, ap₂, sym, refl, subst, subst₂, arith, length, slice_index, true}
 use Rattle.std.proofs.lemmas.Bool.{not-false, not-true, true≢false}
 use Rattle.papergrid_axis.specs.ForProofs.Checks.{Checks, range_of, times_listed}
-use Rattle.papergrid_axis.specs.Fits.{HasRoom}
+use Rattle.papergrid_axis.specs.Fits.{HasRoom, range_sum}
 use Rattle.papergrid_values.specs.Positions.{along}
 use Rattle.papergrid_axis.specs.Ranges.{demand_of, inner_lines}
 use Rattle.papergrid_axis.proofs.ClaimLemmas.{rising-from_order}
-use Rattle.papergrid_axis.proofs.CheckLemmas.{Checks-more, Checks-fails, none_room, too_many, inner_lines-span}
+use Rattle.papergrid_axis.proofs.CheckLemmas.{Checks-more, Checks-fails, first_of_range, none_listed, none_room, too_many, inner_lines-span}
 use Rattle.papergrid_axis.proofs.checked.visit.Goals as goal
+
+-- room enough in the first size of the range, and not listed
+pub returns-then-has_room_alone-clause-checks : goal.returns-then-has_room_alone-clause-checks
+returns-then-has_room_alone-clause-checks g c = λ demands before.
+    let line : ℕ → _ = g.A.Axis.line c.args.axis.now in
+    let claim = c.args.claim.now in
+    let span_of = g.A.Axis.span_of c.args.axis.now in
+    let d = demand_of claim.direction c.args.place (span_of c.args.place) c.args.need in
+    let alone = c.if-has_room_alone.ensures refl in
+    let at : c.number_of-start.result ≡ along claim.direction c.args.place = c.number_of-start.ensures in
+    let below : along claim.direction c.args.place < length claim.sizes.now = omega (arith, at, alone.1) in
+    let stays = c.requires.ordered.within alone.0 c.args.place below in
+    let enough : c.args.need ≤ slice_index claim.sizes.now (along claim.direction c.args.place) = subst (λ s. c.args.need ≤ slice_index claim.sizes.now s) at alone.2 in
+    let first : slice_index claim.sizes.now (along claim.direction c.args.place) ≤ range_sum claim.sizes.now d = first_of_range claim.sizes.now d stays.0 below in
+    let has : HasRoom line claim.sizes.now d = omega (arith, enough, first) in
+    let none : times_listed claim.places.now d ≡ 0 = sym c.count_listed-times.ensures ∙ c.if-times-eq0.true in
+    let few : c.args.checked.found + times_listed claim.places.now d ≤ length claim.places.now = omega (arith, none, c.requires.bounded.few) in
+    let inside : along claim.direction c.args.place + span_of c.args.place ≤ length claim.sizes.now = stays.1 in
+    let small : inner_lines line d ≤ 18446744073709551616 = omega (arith, inner_lines-span line d, inside) in
+    subst (λ r. Checks line claim.sizes.now claim.places.now claim.direction span_of r (demands ++ d ∷ []))
+    (none_listed c.args.checked c.args.need (inner_lines line d) (times_listed claim.places.now d) c.if-checked.true none)
+    (Checks-more line claim.sizes.now claim.places.now claim.direction span_of c.args.checked demands d before refl stays.0 c.if-checked.true inside has few c.requires.need small)
 
 pub returns-then-times-claim-clause-checks : goal.returns-then-times-claim-clause-checks
 returns-then-times-claim-clause-checks g c = λ demands before.
@@ -46,4 +68,4 @@ returns-then-not-checked-clause-checks g c = λ demands before.
     rw c.failed.ensures (Checks-fails _ _ _ _ _ c.args.checked demands _ before refl one (λ so. absurd (true≢false (sym so ∙ not-true c.args.checked.holds c.if-not-checked.true))))
 
 pub count_listed-times-requires : goal.count_listed-times-requires
-count_listed-times-requires g c = λ t. rising-from_order c.args.claim.now.direction (g.A.Axis.span_of c.args.axis.now) c.args.claim.now.places.now (c.requires.ordered t)
+count_listed-times-requires g c = λ t. rising-from_order c.args.claim.now.direction (g.A.Axis.span_of c.args.axis.now) c.args.claim.now.places.now (c.requires.ordered.ordered t)
