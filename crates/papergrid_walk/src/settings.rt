@@ -2,6 +2,7 @@
 
 ghost use Rattle.std.specs.Prelude.{◌≡◌, ◌≤◌, ◌↔◌, All, AllPairs, IfOk, IsTrue};
 ghost use Rattle.papergrid_values.specs.Positions.{AreRising};
+ghost use Rattle.papergrid_axis.specs.ForProofs.Checks.{StayWithin};
 ghost use Rattle.papergrid_maps.specs.Anchors.{IsSorted};
 ghost use Rattle.papergrid_walk.specs.Looks.{Look, compact_look, size_after, size_before, spanned_look};
 ghost use Rattle.papergrid_walk.specs.ForProofs.Paddings.{AreCommon, paddings_at};
@@ -47,9 +48,9 @@ pub trait Settings {
         ensures positive { 1 ≤ result };
 
     /// Whether it is known of each position before column (row) `count` that its span ends there or
-    /// before.
+    /// before. It takes no memory.
     fn spans_end_within(&self, direction: Direction, count: usize) -> bool
-        ensures { IsTrue result → EndWithin ((look self.now).span direction) direction count };
+        ensures { IsTrue result → StayWithin direction ((look self.now).span direction) count };
 
     /// The padding left of the text of the cell at a position (above it).
     fn padding_before(&self, direction: Direction, pos: Position) -> usize
