@@ -3,6 +3,8 @@
 ghost use Rattle.std.specs.Prelude.{◌↔◌, IsTrue};
 ghost use Rattle.papergrid_layout.specs.Places.{Covers};
 
+use thiserror::Error;
+
 /// Where a cell stands: its first column of the terminal and its first line, counted from the left
 /// edge and the top of the table, and over how many of them it goes, the lines between its columns
 /// and rows among them.
@@ -27,13 +29,16 @@ impl Place {
 }
 
 /// Why a position has no place.
-#[derive(Clone, Copy, Debug, PartialEq, Eq)]
+#[derive(Clone, Copy, Debug, PartialEq, Eq, Error)]
 pub enum PlaceError {
     /// The position is hidden by the span of another one.
+    #[error("the cell is hidden by the span of another one")]
     Hidden,
     /// It is visible, and its range ends past the last column or the last row.
+    #[error("the cell reaches out of the table")]
     OutOfTable,
     /// It is visible and in the table, and along a direction the sizes with all lines come to more
     /// than the greatest `usize`.
+    #[error("the table is too large for 64 bits")]
     TooLarge,
 }

@@ -19,6 +19,7 @@ use std::alloc::{AllocError, Global};
 use std::collections::HashMap;
 use std::hash::Hash;
 use std::marker::Model;
+use thiserror::Error;
 
 /// A call that changes an `EntityMap`.
 #[derive(Clone, Debug, Drop)]
@@ -30,7 +31,8 @@ pub enum MapCall<T> {
 }
 
 /// How many calls of a list were done before one was refused for memory.
-#[derive(Clone, Copy, Debug, PartialEq, Eq)]
+#[derive(Clone, Copy, Debug, PartialEq, Eq, Error)]
+#[error("out of memory after {done} of the calls")]
 pub struct Stopped {
     pub done: usize,
 }
