@@ -1,10 +1,10 @@
 -- What the loops over the table of last cells keep.
-use Rattle.std.proofs.Common.{◌≡◌, ℕ, ◌+◌, ◌<◌, ◌≤◌, ◌≢◌, Bool, true, false, cond, ◌⊎◌, inl, inr, List, length, get_or, set, refl, sym, ap, ◌∙◌, arith, Option, Some, None, [], ◌∷◌, ◌++◌, ◌==◌, drop, sum, ltb, lt-ltb, le-ltb, append_assoc, ap₂, zero, suc}
+use Rattle.std.proofs.Common.{◌≡◌, ℕ, ◌+◌, ◌<◌, ◌≤◌, Bool, true, false, cond, ◌⊎◌, inl, inr, List, length, get_or, refl, sym, ap, ◌∙◌, arith, Option, Some, None, [], ◌∷◌, ◌++◌, ◌==◌, drop, sum, ltb, lt-ltb, le-ltb, append_assoc, ap₂, zero, suc}
 use Rattle.std.specs.Prelude.{find, filter_map}
 use Rattle.std.specs.List.{AllByRecursion, range_with_len, cons_option}
 use Rattle.std.proofs.lemmas.List.Elements.{filter_map-append}
 use Rattle.std.proofs.lemmas.Bool.{cases_Bool, cases_eq, cases_lt, true≢false}
-use Rattle.std.proofs.lemmas.List.{get_or-set_same, get_or-set_other, get_or_past, drop_more}
+use Rattle.std.proofs.lemmas.List.{get_or_past, drop_more}
 use Rattle.papergrid_axis.specs.declared.demand.Demand.{Demand}
 use Rattle.papergrid_axis.specs.Ranges.{end_of, holds, IsInTable, LiesIn}
 use Rattle.papergrid_axis.specs.Sizes.{grown, lack}
