@@ -25,17 +25,28 @@ const CROSSING_PAST_THE_GREATEST: Table = Table {
     ..CROSSING_LARGE
 };
 
-/// What a table comes to: its sizes and totals, and the cells that certify them.
+/// What a table comes to: its sizes and totals, and the rows and columns of the cells
+/// that certify them.
+#[derive(Clone, Copy)]
 struct Least {
     widths: &'static [usize],
     heights: &'static [usize],
     total: (usize, usize),
-    across: &'static [Position],
-    down: &'static [Position],
+    across: &'static [(usize, usize)],
+    down: &'static [(usize, usize)],
 }
 
-const fn at(row: usize, col: usize) -> Position {
-    Position { row, col }
+/// Whether these are the positions at these rows and columns.
+fn stand_at(places: &[Position], wanted: &[(usize, usize)]) -> bool {
+    if places.len() != wanted.len() {
+        return false;
+    }
+    for i in 0..places.len() {
+        if (places[i].row, places[i].col) != wanted[i] {
+            return false;
+        }
+    }
+    true
 }
 
 fn estimated(alloc: Global, table: Table, config: &SpannedConfig) -> Result<Sizes, LayoutError> {
@@ -49,7 +60,7 @@ fn gives(
     alloc: Global,
     table: Table,
     config: &SpannedConfig,
-    least: &Least,
+    least: Least,
 ) -> Result<bool, LayoutError> {
     let alone = (
         LeastGridDimension::width(alloc, plain(alloc, table)?, config)?,
@@ -74,22 +85,22 @@ fn certifies(
     alloc: Global,
     table: Table,
     config: &SpannedConfig,
-    least: &Least,
+    least: Least,
 ) -> Result<bool, LayoutError> {
     let across = width_certificate(alloc, plain(alloc, table)?, config)?;
     let down = height_certificate(alloc, plain(alloc, table)?, config)?;
     let widths_hold = check_width_witness(plain(alloc, table)?, config, least.widths, &across);
     let heights_hold = check_height_witness(plain(alloc, table)?, config, least.heights, &down);
     Ok(
-        across.as_slice() == least.across
-            && down.as_slice() == least.down
+        stand_at(&across, least.across)
+            && stand_at(&down, least.down)
             && widths_hold
             && heights_hold,
     )
 }
 
 /// Whether a table has these sizes and certificates.
-fn has_least(alloc: Global, table: Table, least: &Least) -> bool {
+fn has_least(alloc: Global, table: Table, least: Least) -> bool {
     let mut config = SpannedConfig::new(alloc);
     let is_set = set_all(&mut config, table).is_ok();
     let is_given = gives(alloc, table, &config, least);
@@ -107,91 +118,98 @@ fn refuses(alloc: Global, table: Table, reason: Option<LayoutError>) -> bool {
     is_set && found == reason
 }
 
+const CROSSING_LEAST: Least = Least {
+    widths: &[0, 10, 0],
+    heights: &[1, 1],
+    total: (10, 2),
+    across: &[(0, 0)],
+    down: &[(0, 0), (1, 0)],
+};
+
 #[test]
 fn crossing_column_spans(rt: HostRuntime) {
-    let least = Least {
-        widths: &[0, 10, 0],
-        heights: &[1, 1],
-        total: (10, 2),
-        across: &[at(0, 0)],
-        down: &[at(0, 0), at(1, 0)],
-    };
-    assert!(rt; has_least(rt.alloc(), CROSSING, &least));
+    assert!(rt; has_least(rt.alloc(), CROSSING, CROSSING_LEAST));
 }
+
+const CROSSING_ROWS_LEAST: Least = Least {
+    widths: &[0, 0],
+    heights: &[1, 9, 1],
+    total: (0, 11),
+    across: &[],
+    down: &[(0, 1), (1, 1)],
+};
 
 #[test]
 fn crossing_row_spans(rt: HostRuntime) {
-    let least = Least {
-        widths: &[0, 0],
-        heights: &[1, 9, 1],
-        total: (0, 11),
-        across: &[],
-        down: &[at(0, 1), at(1, 1)],
-    };
-    assert!(rt; has_least(rt.alloc(), CROSSING_ROWS, &least));
+    assert!(rt; has_least(rt.alloc(), CROSSING_ROWS, CROSSING_ROWS_LEAST));
 }
+
+const PICTURE_LEAST: Least = Least {
+    widths: &[17, 12, 16, 1],
+    heights: &[1, 1],
+    total: (51, 5),
+    across: &[(0, 0), (0, 1), (0, 2), (0, 3)],
+    down: &[(0, 0)],
+};
 
 #[test]
 fn readme_picture(rt: HostRuntime) {
-    let least = Least {
-        widths: &[17, 12, 16, 1],
-        heights: &[1, 1],
-        total: (51, 5),
-        across: &[at(0, 0), at(0, 1), at(0, 2), at(0, 3)],
-        down: &[at(0, 0)],
-    };
-    assert!(rt; has_least(rt.alloc(), PICTURE, &least));
+    assert!(rt; has_least(rt.alloc(), PICTURE, PICTURE_LEAST));
 }
+
+const EVEN_LEAST: Least = Least {
+    widths: &[3, 3, 3],
+    heights: &[3, 3, 1],
+    total: (13, 11),
+    across: &[(0, 0), (0, 1), (0, 2)],
+    down: &[(0, 0), (2, 0)],
+};
 
 #[test]
 fn even_shares_over_inner_line(rt: HostRuntime) {
-    let least = Least {
-        widths: &[3, 3, 3],
-        heights: &[3, 3, 1],
-        total: (13, 11),
-        across: &[at(0, 0), at(0, 1), at(0, 2)],
-        down: &[at(0, 0), at(2, 0)],
-    };
-    assert!(rt; has_least(rt.alloc(), EVEN, &least));
+    assert!(rt; has_least(rt.alloc(), EVEN, EVEN_LEAST));
 }
+
+const NESTED_LEAST: Least = Least {
+    widths: &[2, 4, 4],
+    heights: &[1, 1, 1],
+    total: (10, 3),
+    across: &[(1, 0)],
+    down: &[(0, 0), (1, 0), (2, 0)],
+};
 
 #[test]
 fn nested_column_spans(rt: HostRuntime) {
-    let least = Least {
-        widths: &[2, 4, 4],
-        heights: &[1, 1, 1],
-        total: (10, 3),
-        across: &[at(1, 0)],
-        down: &[at(0, 0), at(1, 0), at(2, 0)],
-    };
-    assert!(rt; has_least(rt.alloc(), NESTED_COLUMNS, &least));
+    assert!(rt; has_least(rt.alloc(), NESTED_COLUMNS, NESTED_LEAST));
 }
+
+const INNER_ROWS_LEAST: Least = Least {
+    widths: &[0, 0, 0, 0],
+    heights: &[3, 2, 2, 1],
+    total: (0, 8),
+    across: &[],
+    down: &[(0, 2), (2, 3)],
+};
 
 #[test]
 fn row_spans_within_row_span(rt: HostRuntime) {
-    let least = Least {
-        widths: &[0, 0, 0, 0],
-        heights: &[3, 2, 2, 1],
-        total: (0, 8),
-        across: &[],
-        down: &[at(0, 2), at(2, 3)],
-    };
-    assert!(rt; has_least(rt.alloc(), INNER_ROWS, &least));
+    assert!(rt; has_least(rt.alloc(), INNER_ROWS, INNER_ROWS_LEAST));
 }
+
+const CROSSING_LARGE_LEAST: Least = Least {
+    widths: &[0, MAX, 0],
+    heights: &[1, 1],
+    total: (MAX, 2),
+    across: &[(0, 0)],
+    down: &[(0, 0), (1, 0)],
+};
 
 #[test]
 fn shares_too_large_and_least_not(rt: HostRuntime) {
     let alloc = rt.alloc();
     let large = Some(LayoutError::TooLarge);
-    let least = Least {
-        widths: &[0, MAX, 0],
-        heights: &[1, 1],
-        total: (MAX, 2),
-        across: &[at(0, 0)],
-        down: &[at(0, 0), at(1, 0)],
-    };
     assert!(rt; is_refused(alloc, CROSSING_LARGE, large, large, None));
-    assert!(rt; has_least(alloc, CROSSING_LARGE, &least));
+    assert!(rt; has_least(alloc, CROSSING_LARGE, CROSSING_LARGE_LEAST));
 }
 
 #[test]
