@@ -26,11 +26,16 @@ module _ (problem : Problem) where
     pub too_large : IsTooLarge problem (sizes_of problem)
     pub none_holds : IsKeptApart problem.demands → (other : List ℕ) → Fits problem other → IsTooLarge problem other
 
-  -- out of the table by the first cell that reaches out, else too large; memory may be refused in place of any answer
+  -- out of the table by the first cell that reaches out, else too large, of which this is known; memory may be refused in place
+  -- of any answer
+  abbrev pub IsRefusedWhere : Type 0 → LayoutError → Type 0
+  IsRefusedWhere too_large (OutOfTable place) = first_out problem.count problem.demands ≡ Some place
+  IsRefusedWhere too_large TooLarge = too_large
+  IsRefusedWhere too_large (Memory e) = ⊤
+
+  -- the same, where the sizes are too large
   abbrev pub IsRefused : LayoutError → Type 0
-  IsRefused (OutOfTable place) = first_out problem.count problem.demands ≡ Some place
-  IsRefused TooLarge = NoneHolds
-  IsRefused (Memory e) = ⊤
+  IsRefused e = IsRefusedWhere NoneHolds e
 
   -- the places of the chosen cells, which certify the sizes
   pub record AreChosen (places : List Position) : Type 0 where
@@ -46,21 +51,29 @@ module _ (problem : Problem) where
     pub total : total_of problem (sizes_of problem) < 2 ^ 64
     pub not_kept_apart : SomeCross problem.demands
 
-  -- the sum of the sizes and of all lines
-  pub record IsTotal (total : ℕ) : Type 0 where
+  -- the sum of sizes of which this holds, and of all lines
+  pub record IsTotalBy (holds : List ℕ → Type 0) (total : ℕ) : Type 0 where
     pub sizes : List ℕ
-    pub are_sizes : AreSizes sizes
+    pub are_sizes : holds sizes
     pub adds_up : total ≡ total_of problem sizes
+
+  -- the sum of the sizes and of all lines
+  abbrev pub IsTotal : ℕ → Type 0
+  IsTotal total = IsTotalBy AreSizes total
 
 -- the places of the chosen cells, none where ranges are not kept apart
 abbrev pub IsWitness : {Z : Type 0} → Problem → Option (Vec Position Z) → Type 0
 IsWitness problem None = NoneChosen problem
 IsWitness problem (Some places) = AreChosen problem places.items
 
--- what is asked for of a problem, or why there is none
+-- what is asked for of a problem, or why there is none: where it is refused as too large, this is known of it
+abbrev pub AnswersWhere : {A : Type 0} → (Problem → Type 0) → (Problem → A → Type 0) → Problem → Result A LayoutError → Type 0
+AnswersWhere too_large holds problem (Ok answer) = holds problem answer
+AnswersWhere too_large holds problem (Err e) = IsRefusedWhere problem (too_large problem) e
+
+-- the same, where the sizes are too large
 abbrev pub Answers : {A : Type 0} → (Problem → A → Type 0) → Problem → Result A LayoutError → Type 0
-Answers holds problem (Ok answer) = holds problem answer
-Answers holds problem (Err e) = IsRefused problem e
+Answers holds problem result = AnswersWhere NoneHolds holds problem result
 
 -- the sizes, or why there are none
 abbrev pub IsSized : {Z : Type 0} → Problem → Result (Vec ℕ Z) LayoutError → Type 0

@@ -1,7 +1,7 @@
 //! The answer for a direction of a configuration, once all cells are seen.
 
 ghost use Rattle.std.specs.Prelude.{List};
-ghost use Rattle.papergrid_axis.specs.Answers.{Answers};
+ghost use Rattle.papergrid_axis.specs.Answers.{AnswersWhere};
 ghost use Rattle.papergrid_axis.specs.Problem.{Problem, given};
 ghost use Rattle.papergrid_axis.specs.declared.demand.Demand.{Demand};
 ghost use Rattle.papergrid_axis.specs.ForProofs.Seen.{IsSeen};
@@ -19,12 +19,15 @@ pub trait Solution {
     // What holds of it, by what it was found for.
     ghost solves: { Problem → Self → Type 0 };
 
+    // What holds of a problem for which it is refused as too large.
+    ghost too_large: { Problem → Type 0 };
+
     /// What the seen cells of a table of `count` columns (rows) come to, with the lines of the axis.
     ///
     /// # Errors
     ///
     /// `OutOfTable` with the position of the first cell that reaches out, else `TooLarge` where the
-    /// sizes with all lines come to more than the greatest `usize`.
+    /// sizes that are looked for come, with all lines, to more than the greatest `usize`.
     fn solve<A: Axis>(
         alloc: Global,
         count: usize,
@@ -33,14 +36,16 @@ pub trait Solution {
     ) -> Result<Self, LayoutError>
         requires { (demands : List Demand) × IsSeen count seen.now demands }
         ensures { (demands : List Demand) → IsSeen count seen.now demands →
-            Answers solves (given (A.line axis.now) count demands) result };
+            AnswersWhere too_large solves (given (A.line axis.now) count demands) result };
 }
 
 /// The sizes of the columns (rows).
 impl Solution for Vec<usize> {
-    ghost use Rattle.papergrid_axis.specs.Answers.{AreSizes};
+    ghost use Rattle.papergrid_axis.specs.Answers.{AreSizes, NoneHolds};
 
     ghost solves = { λ problem sizes. AreSizes problem sizes.items };
+
+    ghost too_large = { NoneHolds };
 
     fn solve<A: Axis>(
         alloc: Global,
@@ -62,9 +67,11 @@ pub struct CertifiedSizes {
 }
 
 impl Solution for CertifiedSizes {
-    ghost use Rattle.papergrid_axis.specs.Answers.{AreSizes, IsWitness};
+    ghost use Rattle.papergrid_axis.specs.Answers.{AreSizes, IsWitness, NoneHolds};
 
     ghost solves = { λ problem found. AreSizes problem found.sizes.items × IsWitness problem found.witness };
+
+    ghost too_large = { NoneHolds };
 
     fn solve<A: Axis>(
         alloc: Global,

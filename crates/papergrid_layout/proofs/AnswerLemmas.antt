@@ -6,11 +6,12 @@ use Rattle.papergrid_values.specs.declared.direction.Direction.{Direction}
 use Rattle.papergrid_values.specs.declared.direction.Direction.TheVariants.{Columns, Rows}
 use Rattle.papergrid_axis.specs.declared.error.LayoutError.{LayoutError}
 use Rattle.papergrid_axis.specs.declared.error.LayoutError.TheVariants.{OutOfTable, TooLarge, Memory}
-use Rattle.papergrid_axis.specs.Answers.{IsRefused}
+use Rattle.papergrid_axis.specs.Answers.{IsRefusedWhere}
+use Rattle.papergrid_axis.specs.Problem.{Problem}
 use Rattle.papergrid_axis.specs.Ranges.{first_out}
 use Rattle.papergrid_walk.specs.Cells.{problem_of}
 use Rattle.papergrid_walk.specs.Looks.{Look}
-use Rattle.papergrid_layout.specs.Answers.{IsBothRefused, UnlessMemory, UnlessWant, first_out_of_table}
+use Rattle.papergrid_layout.specs.Answers.{IsBothRefusedWhere, UnlessMemory, UnlessWant, first_out_of_table}
 
 -- what holds anyway holds unless memory was refused
 pub unless_want : (e : LayoutError) (P : Type 0) → P → UnlessWant e P
@@ -25,11 +26,12 @@ unless (Err e) P p = unless_want e P p
 some_is_not_none : {A : Type 0} (x : A) (r : Option A) → r ≡ Some x → r ≡ None → ⊥
 some_is_not_none x r e n = false≢true (ap is_some (sym n ∙ e))
 
-module _ {C : Type 0} (look : Look) (measure : C → ℕ × ℕ) (columns : ℕ) (cells : List (List C)) where
+module _ {C : Type 0} (look : Look) (measure : C → ℕ × ℕ) (columns : ℕ) (cells : List (List C)) (too_large : Problem → Type 0) where
   -- where no cell reaches out along either direction, one direction's refusal is that of both
   pub refused_along : (direction : Direction) → first_out_of_table look measure columns cells ≡ None →
       first_out (problem_of look measure columns cells direction).count (problem_of look measure columns cells direction).demands ≡ None →
-      (e : LayoutError) → IsRefused (problem_of look measure columns cells direction) e → IsBothRefused look measure columns cells e
+      (e : LayoutError) → IsRefusedWhere (problem_of look measure columns cells direction) (too_large (problem_of look measure columns cells direction)) e →
+      IsBothRefusedWhere look measure columns cells too_large e
   refused_along direction none inside (OutOfTable p) out =
       absurd (some_is_not_none p (first_out (problem_of look measure columns cells direction).count (problem_of look measure columns cells direction).demands) out inside)
   refused_along Columns none inside TooLarge large = (none, inl large)

@@ -1,6 +1,7 @@
 pub mod AnswerLemmas
 pub mod CheckSteps
 pub mod LawLemmas
+pub mod LeastLaws
 pub mod PairLemmas
 pub mod PlaceLemmas
 pub mod PlaceLaws

@@ -1,11 +1,11 @@
 -- Sums of sizes with their lines.
-use Rattle.std.proofs.Common.{◌≡◌, ℕ, ◌+◌, ◌≤◌, List, [], ◌∷◌, arith, nat_lt, map}
-use Rattle.std.specs.Prelude.{All, None, sum, ◌<◌, ◌^◌}
+use Rattle.std.proofs.Common.{◌≡◌, ℕ, ◌+◌, ◌≤◌, List, [], ◌∷◌, ap, arith, length, nat_lt, map}
+use Rattle.std.specs.Prelude.{All, Bool, None, sum}
 use Rattle.std.proofs.lemmas.Bool.{ltb-false}
 use Rattle.std.proofs.lemmas.List.Elements.{All-cons, All-head, All-nil, All-tail}
 use Rattle.papergrid_values.specs.declared.position.Position.{Position}
 use Rattle.papergrid_values.specs.declared.direction.Direction.{Direction}
-use Rattle.papergrid_axis.specs.Answers.{AreSizes, IsTotal}
+use Rattle.papergrid_axis.specs.Answers.{IsTotal}
 use Rattle.papergrid_axis.specs.Fits.{HasRoom}
 use Rattle.papergrid_axis.specs.Problem.{Problem, total_of}
 use Rattle.papergrid_values.specs.Lines.{all_lines}
@@ -15,12 +15,10 @@ use Rattle.papergrid_axis.proofs.OutLemmas.{if_none}
 use Rattle.papergrid_walk.specs.Cells.{asked, problem_of, side, visible_cells}
 use Rattle.papergrid_walk.specs.Looks.{Look}
 
--- the sizes with their lines fit
-pub total_fits : (problem : Problem) (sizes : List ℕ) (total lines : ℕ) → AreSizes problem sizes → total ≡ sum sizes →
-    lines ≡ all_lines problem.line problem.count → total + lines < 2 ^ 64
-total_fits problem sizes total lines are t l =
-    let fits = are.total in
-    omega (arith, t, l, fits)
+-- the sum of the sizes and of all lines, by how many sizes there are
+pub by_length : (draws : ℕ → ℕ → Bool) (sizes : List ℕ) (count : ℕ) → length sizes ≡ count →
+    sum sizes + all_lines (draws (length sizes)) (length sizes) ≡ sum sizes + all_lines (draws count) count
+by_length draws sizes count many = ap (λ k. sum sizes + all_lines (draws k) k) many
 
 -- no visible cell needs more than the total with its lines
 module _ {C : Type 0} (look : Look) (measure : C → ℕ × ℕ) (columns : ℕ) (cells : List (List C)) (direction : Direction) where

@@ -6,6 +6,7 @@ use Rattle.papergrid_axis.specs.declared.error.LayoutError.{LayoutError}
 use Rattle.papergrid_axis.specs.declared.error.LayoutError.TheVariants.{OutOfTable, TooLarge, Memory}
 use Rattle.papergrid_axis.specs.Answers.{AreSizes, NoneHolds}
 use Rattle.papergrid_axis.specs.Problem.{Problem}
+use Rattle.papergrid_least.specs.Answers.{AreLeastSizes, NoneFits}
 use Rattle.papergrid_walk.specs.Cells.{problem_of, visible_cells}
 use Rattle.papergrid_walk.specs.Looks.{Look}
 
@@ -38,19 +39,31 @@ module _ {C : Type 0} (look : Look) (measure : C → ℕ × ℕ) (columns : ℕ)
   abbrev pub AreBothSizes : List ℕ → List ℕ → Type 0
   AreBothSizes wide high = HoldAlong AreSizes wide high
 
-  -- out of the table by the first cell that reaches out, else too large along one direction; memory may be refused in place
-  -- of any answer
+  -- exactly the least widths and heights, and what holds of them
+  abbrev pub AreBothLeast : List ℕ → List ℕ → Type 0
+  AreBothLeast wide high = HoldAlong AreLeastSizes wide high
+
+  -- out of the table by the first cell that reaches out, else too large along one direction, of which this is known; memory may
+  -- be refused in place of any answer
+  abbrev pub IsBothRefusedWhere : (Problem → Type 0) → LayoutError → Type 0
+  IsBothRefusedWhere too_large (OutOfTable p) = first_out_of_table ≡ Some p
+  IsBothRefusedWhere too_large TooLarge = (first_out_of_table ≡ None)
+      × (too_large (problem_of look measure columns cells Columns) ⊎ too_large (problem_of look measure columns cells Rows))
+  IsBothRefusedWhere too_large (Memory e) = ⊤
+
+  -- the same, where the sizes along that direction are too large
   abbrev pub IsBothRefused : LayoutError → Type 0
-  IsBothRefused (OutOfTable p) = first_out_of_table ≡ Some p
-  IsBothRefused TooLarge = (first_out_of_table ≡ None)
-      × (NoneHolds (problem_of look measure columns cells Columns) ⊎ NoneHolds (problem_of look measure columns cells Rows))
-  IsBothRefused (Memory e) = ⊤
+  IsBothRefused e = IsBothRefusedWhere NoneHolds e
+
+  -- the same, where all sizes that fit are too large along that direction
+  abbrev pub HaveNoLeast : LayoutError → Type 0
+  HaveNoLeast e = IsBothRefusedWhere NoneFits e
 
   -- what is found along both directions, or why there is none
-  abbrev pub AnswersBoth : {A : Type 0} → (Problem → A → Type 0) → Result (A × A) LayoutError → Type 0
-  AnswersBoth holds (Ok found) = HoldAlong holds found.0 found.1
-  AnswersBoth holds (Err e) = IsBothRefused e
+  abbrev pub AnswersBothWhere : {A : Type 0} → (Problem → Type 0) → (Problem → A → Type 0) → Result (A × A) LayoutError → Type 0
+  AnswersBothWhere too_large holds (Ok found) = HoldAlong holds found.0 found.1
+  AnswersBothWhere too_large holds (Err e) = IsBothRefusedWhere too_large e
 
   -- the widths and the heights, or why there are none
   abbrev pub AreBothSized : {Z : Type 0} → Result (Vec ℕ Z × Vec ℕ Z) LayoutError → Type 0
-  AreBothSized {Z} result = AnswersBoth (λ problem (sizes : Vec ℕ Z). AreSizes problem sizes.items) result
+  AreBothSized {Z} result = AnswersBothWhere NoneHolds (λ problem (sizes : Vec ℕ Z). AreSizes problem sizes.items) result

@@ -1,7 +1,7 @@
 //! What is found along one direction.
 
 ghost use Rattle.std.specs.Prelude.{◌≡◌, List};
-ghost use Rattle.papergrid_axis.specs.Answers.{Answers};
+ghost use Rattle.papergrid_axis.specs.Answers.{AnswersWhere};
 ghost use Rattle.papergrid_walk.specs.Cells.{count_along, problem_of};
 ghost use Rattle.papergrid_layout.specs.Answers.{UnlessMemory};
 
@@ -47,8 +47,8 @@ pub fn count_of(direction: Direction, columns: usize, rows: usize) -> usize
 ///
 /// # Errors
 ///
-/// `OutOfTable` with the first visible cell that reaches out, else `TooLarge` where the sizes with
-/// all lines come to more than the greatest `usize`; `Memory` in place of any answer.
+/// `OutOfTable` with the first visible cell that reaches out, else `TooLarge` where the sizes that are
+/// looked for come, with all lines, to more than the greatest `usize`; `Memory` in place of any answer.
 pub fn solve_along<T: Solution, M, R: Records + Drop, S: Settings>(
     alloc: Global,
     records: R,
@@ -60,7 +60,7 @@ where
     <<R as Records>::Iter as IntoRecords>::Cell: Drop,
     requires { R.is_lawful records }
     ensures { UnlessMemory result ((cells : List (List R.Iter.Cell)) × R.tells records cells
-        × Answers T.solves (problem_of (S.look settings.now) M.measured (R.columns records) cells direction) result) }
+        × AnswersWhere T.too_large T.solves (problem_of (S.look settings.now) M.measured (R.columns records) cells direction) result) }
 {
     let columns = records.count_columns();
     let (seen, rows) = gather::<M, R, S>(alloc, records, settings, direction)?;

@@ -3,7 +3,7 @@
 ghost use Rattle.std.specs.Prelude.{◌≡◌, List, length};
 ghost use Rattle.papergrid_axis.specs.Ranges.{first_out};
 ghost use Rattle.papergrid_walk.specs.ForProofs.Pairs.{AreBothSeen};
-ghost use Rattle.papergrid_layout.specs.Answers.{AnswersBoth, UnlessMemory};
+ghost use Rattle.papergrid_layout.specs.Answers.{AnswersBothWhere, UnlessMemory};
 ghost use Rattle.papergrid_layout.specs.ForProofs.Earlier.{earlier, earlier_of};
 
 use crate::along::Along;
@@ -53,7 +53,7 @@ fn conclude<T: Solution + Drop, M: Measure<C>, C, S: Settings>(
 ) -> Result<(T, T), LayoutError>
     requires { (cells : List (List C)) × (rows ≡ length cells) × AreBothSeen (S.look settings.now) M.measured columns cells both.now }
     ensures { (cells : List (List C)) → rows ≡ length cells → AreBothSeen (S.look settings.now) M.measured columns cells both.now →
-        AnswersBoth (S.look settings.now) M.measured columns cells T.solves result }
+        AnswersBothWhere (S.look settings.now) M.measured columns cells T.too_large T.solves result }
 {
     if let Some(pos) = find_out_of_both(columns, rows, both) {
         return Err(LayoutError::OutOfTable(pos));
@@ -82,8 +82,8 @@ fn conclude<T: Solution + Drop, M: Measure<C>, C, S: Settings>(
 /// # Errors
 ///
 /// `OutOfTable` with the first visible cell that reaches out along columns or rows, else `TooLarge`
-/// where the sizes along one of them come, with all lines, to more than the greatest `usize`;
-/// `Memory` in place of any answer.
+/// where the sizes that are looked for along one of them come, with all lines, to more than the greatest
+/// `usize`; `Memory` in place of any answer.
 pub fn solve_both<T: Solution + Drop, M, R: Records + Drop, S: Settings>(
     alloc: Global,
     records: R,
@@ -94,7 +94,7 @@ where
     <<R as Records>::Iter as IntoRecords>::Cell: Drop,
     requires { R.is_lawful records }
     ensures { UnlessMemory result ((cells : List (List R.Iter.Cell)) × R.tells records cells
-        × AnswersBoth (S.look settings.now) M.measured (R.columns records) cells T.solves result) }
+        × AnswersBothWhere (S.look settings.now) M.measured (R.columns records) cells T.too_large T.solves result) }
 {
     let columns = records.count_columns();
     let (both, rows) = gather_both::<M, R, S>(alloc, records, settings)?;

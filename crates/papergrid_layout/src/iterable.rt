@@ -1,11 +1,10 @@
 //! The sizes of records whose cells are texts. Source: `dimension/iterable.rs`.
 
-ghost use Rattle.std.specs.Prelude.{◌≡◌, ◌-◌, ◌<◌, ◌^◌, [], List, length, sum};
+ghost use Rattle.std.specs.Prelude.{◌≡◌, [], List};
 ghost use Rattle.papergrid_values.specs.declared.direction.Direction.TheVariants.{Columns, Rows};
 ghost use Rattle.papergrid_walk.specs.Looks.{spanned_look};
 ghost use Rattle.papergrid_walk.specs.Measures.{line_measure};
 ghost use Rattle.papergrid_axis.specs.Answers.{Answers, IsSized, IsTotal};
-ghost use Rattle.papergrid_values.specs.Lines.{all_lines};
 ghost use Rattle.papergrid_walk.specs.Cells.{problem_of};
 ghost use Rattle.papergrid_layout.specs.Answers.{UnlessMemory};
 
@@ -16,6 +15,7 @@ pub use crate::certificates::{
 };
 use crate::dimension::{Dimension, Estimate};
 use crate::size_list::SizeList;
+use crate::sums::with_lines;
 use papergrid_axis::LayoutError;
 use papergrid_config::SpannedConfig;
 use papergrid_text::{IntoRecords, Records};
@@ -179,28 +179,9 @@ where
         (R.columns records) cells direction) result) }
 {
     match solve_along::<Vec<usize>, ByLines, R, SpannedConfig>(alloc, records, config, direction) {
-        Ok(sizes) => Ok(sum_of(&sizes) + count_lines(config, direction, sizes.len())),
+        Ok(sizes) => Ok(with_lines(config, direction, &sizes)),
         Err(error) => Err(error),
     }
-}
-
-/// How many lines there are along a direction, of so many columns (rows).
-fn count_lines(config: &SpannedConfig, direction: Direction, count: usize) -> usize
-    requires { count < 2 ^ 64 - 1 }
-    ensures { result ≡ all_lines ((spanned_look config.now).draws direction count) count }
-{
-    match direction {
-        Direction::Columns => config.count_vertical(count),
-        Direction::Rows => config.count_horizontal(count),
-    }
-}
-
-/// The sum of the sizes.
-fn sum_of(sizes: &[usize]) -> usize
-    requires { sum sizes.now < 2 ^ 64 }
-    ensures { result ≡ sum sizes.now }
-{
-    sizes.iter().sum()
 }
 
 impl Dimension for IterGridDimension {

@@ -7,8 +7,11 @@ ghost use Rattle.papergrid_values.specs.Positions.{IsBefore};
 ghost use Rattle.papergrid_text.specs.Measured.{Measured};
 ghost use Rattle.papergrid_values.specs.declared.direction.Direction.{Direction};
 ghost use Rattle.papergrid_values.specs.declared.direction.Direction.TheVariants.{Columns, Rows};
-ghost use Rattle.papergrid_axis.specs.Answers.{IsTotal};
-ghost use Rattle.papergrid_axis.specs.Ranges.{first_out};
+ghost use Rattle.papergrid_axis.specs.Answers.{AreSizes, IsAccepted, IsTotal};
+ghost use Rattle.papergrid_axis.specs.Fits.{IsLeast};
+ghost use Rattle.papergrid_axis.specs.Problem.{Problem};
+ghost use Rattle.papergrid_axis.specs.Ranges.{IsKeptApart, first_out};
+ghost use Rattle.papergrid_least.specs.Answers.{AreLeastSizes, AreLongest};
 ghost use Rattle.papergrid_config.specs.Told.{IsTold};
 ghost use Rattle.papergrid_config.specs.declared.setting.Setting.{Setting};
 ghost use Rattle.papergrid_config.specs.declared.spanned.SpannedConfig.{SpannedConfig};
@@ -21,10 +24,12 @@ ghost use Rattle.papergrid_layout.specs.Places.{AreApart, HasRoomAtPlace, HaveNo
 ghost use Rattle.papergrid_layout.specs.declared.placement.PlaceError.TheVariants.{TooLarge};
 ghost use Rattle.papergrid_layout.specs.declared.compact.CompactGridDimension.{CompactGridDimension};
 ghost use Rattle.papergrid_layout.specs.declared.iterable.IterGridDimension.{IterGridDimension};
+ghost use Rattle.papergrid_layout.specs.declared.least.LeastGridDimension.{LeastGridDimension};
 ghost use Rattle.papergrid_layout.specs.declared.peekable.PeekableGridDimension.{PeekableGridDimension};
 
 use crate::compact::CompactGridDimension;
 use crate::iterable::IterGridDimension;
+use crate::least::LeastGridDimension;
 use crate::peekable::PeekableGridDimension;
 use papergrid_text::{Cell, Text};
 use std::convert::AsStr;
@@ -86,9 +91,28 @@ pub fn total_covers_cells<C>()
         (visible_cells look rows) }
 {}
 
+/// Where each span is at least 1, as those of a configuration are, the least sizes along a direction are
+/// those by shares wherever these are least, and so where ranges are kept apart. What certifies least sizes is
+/// a certificate that the checkers accept.
+pub fn least_as_by_shares<C>()
+    ensures same { (look : Look) (measure : C → ℕ × ℕ) (columns : ℕ) (rows : List (List C)) (direction : Direction) →
+        ((p : Position) → 1 ≤ look.span direction p) → (sizes least : List ℕ) →
+        AreSizes (problem_of look measure columns rows direction) sizes →
+        AreLeastSizes (problem_of look measure columns rows direction) least →
+        IsLeast (problem_of look measure columns rows direction) sizes → least ≡ sizes }
+    ensures kept_apart { (look : Look) (measure : C → ℕ × ℕ) (columns : ℕ) (rows : List (List C)) (direction : Direction) →
+        ((p : Position) → 1 ≤ look.span direction p) → (sizes least : List ℕ) →
+        AreSizes (problem_of look measure columns rows direction) sizes →
+        AreLeastSizes (problem_of look measure columns rows direction) least →
+        IsKeptApart (demands_of direction look measure rows) → least ≡ sizes }
+    ensures accepted { (problem : Problem) (sizes : List ℕ) (places : List Position) →
+        AreLeastSizes problem sizes → AreLongest problem places → IsAccepted problem sizes places }
+{}
+
 /// A clone of a dimension equals it.
 pub fn equal_clones()
     ensures iterable { (x y : IterGridDimension) → ⟦<IterGridDimension as Clone>⟧.is_clone x y → y ≡ x }
+    ensures least { (x y : LeastGridDimension) → ⟦<LeastGridDimension as Clone>⟧.is_clone x y → y ≡ x }
     ensures peekable { (x y : PeekableGridDimension) → ⟦<PeekableGridDimension as Clone>⟧.is_clone x y → y ≡ x }
     ensures compact { (x y : CompactGridDimension) → ⟦<CompactGridDimension as Clone>⟧.is_clone x y → y ≡ x }
 {}

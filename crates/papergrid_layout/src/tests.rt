@@ -2,6 +2,7 @@
 
 mod callers;
 mod certificates;
+mod least;
 mod places;
 mod points;
 mod refused;

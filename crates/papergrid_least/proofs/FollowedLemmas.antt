@@ -1,13 +1,14 @@
 -- Going back along the earliest edges.
-use Rattle.std.proofs.Common.{◌≡◌, ◌≢◌, ℕ, suc, ◌+◌, ◌-◌, ◌<◌, ◌++◌, ◌∙◌, map, [], true, false, ◌==◌, inl, inr, List, ◌∷◌, length, get_or, set, drop, refl, sym, ap, arith, eq-eqb, ne_eqb, Option, Some, None}
+use Rattle.std.proofs.Common.{◌≡◌, ◌≢◌, ℕ, zero, suc, ◌+◌, ◌-◌, ◌<◌, ◌≤◌, ◌++◌, ◌∙◌, map, [], true, false, ◌==◌, inl, inr, List, ◌∷◌, length, get_or, set, drop, refl, sym, ap, arith, eq-eqb, ne_eqb, Option, Some, None}
 use Rattle.std.specs.Prelude.{find}
 use Rattle.std.proofs.lemmas.Bool.{cases_eq}
 use Rattle.std.proofs.lemmas.List.{append_assoc, append-nil, drop_more, get_or-set_same, get_or-set_other}
 use Rattle.papergrid_axis.specs.declared.demand.Demand.{Demand}
 use Rattle.papergrid_axis.specs.Ranges.{end_of, place_of}
 use Rattle.papergrid_values.specs.declared.position.Position.{Position}
-use Rattle.papergrid_least.specs.ForProofs.Followed.{followed, pushes_by}
-use Rattle.papergrid_least.specs.Longest.{with_earlier}
+use Rattle.papergrid_least.specs.ForProofs.Followed.{followed, needing, pushes_by}
+use Rattle.papergrid_least.specs.Longest.{earlier_cell, with_earlier}
+use Rattle.papergrid_least.proofs.EarlierLemmas.{earlier-either, some_none}
 use Rattle.papergrid_least.proofs.LaidLemmas.{no_cell}
 
 -- a cell that stands before others, and pushes its edge or not
@@ -54,11 +55,9 @@ module _ (edge : ℕ → ℕ) (single : ℕ → Demand) (longer : ℕ → Option
   pub followed-even : edge i - edge (i - 1) ≡ 0 → followed edge single longer (suc steps) i ≡ followed edge single longer steps (i - 1)
   followed-even even = rw (eq-eqb (edge i - edge (i - 1)) 0 even) refl
 
-  pub followed-single : edge i - edge (i - 1) ≢ 0 → (single (i - 1)).need ≡ edge i - edge (i - 1) → followed edge single longer (suc steps) i ≡ single (i - 1) ∷ followed edge single longer steps (i - 1)
-  followed-single past need = rw (ne_eqb (edge i - edge (i - 1)) 0 past, eq-eqb (single (i - 1)).need (edge i - edge (i - 1)) need) refl
-
-  pub followed-longer : edge i - edge (i - 1) ≢ 0 → (single (i - 1)).need ≢ edge i - edge (i - 1) → followed edge single longer (suc steps) i ≡ with_earlier (longer i) (followed edge single longer steps)
-  followed-longer past need = rw (ne_eqb (edge i - edge (i - 1)) 0 past, ne_eqb (single (i - 1)).need (edge i - edge (i - 1)) need) refl
+  pub followed-past : edge i - edge (i - 1) ≢ 0 →
+      followed edge single longer (suc steps) i ≡ with_earlier (earlier_cell (needing (edge i - edge (i - 1)) (single (i - 1))) (longer i)) (followed edge single longer steps)
+  followed-past past = rw (ne_eqb (edge i - edge (i - 1)) 0 past) refl
 
 -- what was met, and what is still to be met from number i on, are all of it
 module _ (edge : ℕ → ℕ) (single : ℕ → Demand) (longer : ℕ → Option Demand) (size counter i before : ℕ) (places whole : List Position) (left : counter < size) (before_is : before ≡ i - 1)
@@ -82,32 +81,52 @@ module _ (edge : ℕ → ℕ) (single : ℕ → Demand) (longer : ℕ → Option
       ∙ ap (λ ds. places ++ map place_of ds) (sym e)
       ∙ met_now
 
-  pub met-single : edge i - edge before ≢ 0 → (single before).need ≡ edge i - edge before → (place : Position) → place ≡ place_of (single before) →
-      (places ++ place ∷ []) ++ map place_of (followed edge single longer (size - (counter + 1)) before) ≡ whole
-  met-single past need place here =
-      let past' : edge i - edge (i - 1) ≢ 0 = λ e. past (ap (λ b. edge i - edge b) before_is ∙ e) in
-      let need' : (single (i - 1)).need ≡ edge i - edge (i - 1) = ap (λ b. (single b).need) (sym before_is) ∙ need ∙ ap (λ b. edge i - edge b) before_is in
-      ap (λ b. (places ++ place ∷ []) ++ map place_of (followed edge single longer (size - (counter + 1)) b)) before_is
-      ∙ one_more (single (i - 1)) (followed edge single longer (size - (counter + 1)) (i - 1)) (followed-single edge single longer (size - (counter + 1)) i past' need') place
-      (here ∙ ap (λ b. place_of (single b)) before_is)
+  past_now : edge i - edge before ≢ 0 →
+      followed edge single longer (suc (size - (counter + 1))) i ≡ with_earlier (earlier_cell (needing (edge i - edge before) (single before)) (longer i)) (followed edge single longer (size - (counter + 1)))
+  past_now past =
+      followed-past edge single longer (size - (counter + 1)) i (λ e. past (ap (λ b. edge i - edge b) before_is ∙ e))
+      ∙ ap (λ b. with_earlier (earlier_cell (needing (edge i - edge b) (single b)) (longer i)) (followed edge single longer (size - (counter + 1)))) (sym before_is)
 
-  longer_now : edge i - edge before ≢ 0 → (single before).need ≢ edge i - edge before → followed edge single longer (suc (size - (counter + 1))) i ≡ with_earlier (longer i) (followed edge single longer (size - (counter + 1)))
-  longer_now past need =
-      followed-longer edge single longer (size - (counter + 1)) i (λ e. past (ap (λ b. edge i - edge b) before_is ∙ e))
-      (λ e. need (ap (λ b. (single b).need) before_is ∙ e ∙ ap (λ b. edge i - edge b) (sym before_is)))
-
-  pub met-longer : edge i - edge before ≢ 0 → (single before).need ≢ edge i - edge before → (d : Demand) → longer i ≡ Some d → (place : Position) → place ≡ place_of d →
+  pub met-cell : edge i - edge before ≢ 0 → (d : Demand) → earlier_cell (needing (edge i - edge before) (single before)) (longer i) ≡ Some d → (place : Position) → place ≡ place_of d →
       (places ++ place ∷ []) ++ map place_of (followed edge single longer (size - (counter + 1)) d.start) ≡ whole
-  met-longer past need d found place here =
+  met-cell past d found place here =
       one_more d (followed edge single longer (size - (counter + 1)) d.start)
-      (longer_now past need ∙ ap (λ f. with_earlier f (followed edge single longer (size - (counter + 1)))) found) place here
+      (past_now past ∙ ap (λ f. with_earlier f (followed edge single longer (size - (counter + 1)))) found) place here
 
-  pub met-none : edge i - edge before ≢ 0 → (single before).need ≢ edge i - edge before → longer i ≡ None → places ≡ whole
-  met-none past need none =
+  pub met-none : edge i - edge before ≢ 0 → earlier_cell (needing (edge i - edge before) (single before)) (longer i) ≡ None → places ≡ whole
+  met-none past none =
       sym (append-nil places)
-      ∙ ap (λ ds. places ++ map place_of ds) (sym (longer_now past need ∙ ap (λ f. with_earlier f (followed edge single longer (size - (counter + 1)))) none))
+      ∙ ap (λ ds. places ++ map place_of ds) (sym (past_now past ∙ ap (λ f. with_earlier f (followed edge single longer (size - (counter + 1)))) none))
       ∙ met_now
 
 pub none-from : (found : Option Demand) → ((d : Demand) → found ≡ Some d → ⊥) → found ≡ None
 none-from None nothing = refl
 none-from (Some d) nothing = absurd (nothing d refl)
+
+needing-is : (step : ℕ) (d e : Demand) → needing step d ≡ Some e → d ≡ e
+needing-is step d e found = elim (cases_eq d.need step) [
+  | inl same ↦ let here : Some d ≡ Some e = rw (eq-eqb d.need step same) at found in cc
+  | inr ne ↦ let here : None ≡ Some e = rw (ne_eqb d.need step ne) at found in absurd (some_none e (sym here))
+]
+
+-- an edge past the one before is not the first
+one_before : (edge : ℕ → ℕ) (i before : ℕ) → before ≡ i - 1 → edge i - edge before ≢ 0 → before + 1 ≡ i
+one_before edge zero before e past =
+    let here : before ≡ 0 = omega arith in
+    let even : edge 0 - edge 0 ≡ 0 = omega arith in
+    absurd (past (ap (λ b. edge 0 - edge b) here ∙ even))
+one_before edge (suc i) before e past = omega arith
+
+-- the range of the cell that is met starts at a number
+pub starts-within : (edge : ℕ → ℕ) (single : ℕ → Demand) (longer : ℕ → Option Demand) (size i before : ℕ) → before ≡ i - 1 → i < size → edge i - edge before ≢ 0 →
+    ((k : ℕ) → k + 1 < size → (single k).start ≤ k) → ((k : ℕ) (d : Demand) → longer k ≡ Some d → d.start < size) →
+    (d : Demand) → earlier_cell (needing (edge i - edge before) (single before)) (longer i) ≡ Some d → d.start < size
+starts-within edge single longer size i before before_is within past alone starts d found =
+    elim (earlier-either (needing (edge i - edge before) (single before)) (longer i) d found) [
+      | inl one ↦
+          let next : before + 1 ≡ i = one_before edge i before before_is past in
+          let same : (single before).start ≡ d.start = ap (λ (c : Demand). c.start) (needing-is (edge i - edge before) (single before) d one) in
+          let start : (single before).start ≤ before = alone before (omega arith) in
+          omega arith
+      | inr long ↦ starts i d long
+    ]

@@ -1,6 +1,7 @@
 pub mod AnswerLemmas
 pub mod BackLemmas
 pub mod BoundLemmas
+pub mod EarlierLemmas
 pub mod EarliestLemmas
 pub mod EdgeLemmas
 pub mod FollowedLemmas

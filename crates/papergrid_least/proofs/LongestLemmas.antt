@@ -1,27 +1,26 @@
 -- The cells that push the earliest edges are a certificate of the least total.
-use Rattle.std.proofs.Common.{◌≡◌, ℕ, zero, suc, ◌+◌, ◌-◌, ◌<◌, ◌≤◌, ◌≢◌, max, Bool, true, false, ◌&&◌, ◌==◌, inl, inr, List, [], ◌∷◌, length, get_or, sum, sum_by, refl, sym, ◌∙◌, arith, Option, Some, None, eqb, eqb-true, eq-eqb, ne_eqb}
-use Rattle.std.specs.Prelude.{All, Contains, find}
+use Rattle.std.proofs.Common.{◌≡◌, ℕ, zero, suc, ◌+◌, ◌-◌, ◌<◌, ◌≤◌, ◌≢◌, max, Bool, true, false, ◌&&◌, ◌==◌, inl, inr, List, [], ◌∷◌, length, get_or, sum, sum_by, refl, sym, ◌∙◌, arith, Option, Some, None, eqb, eqb-true, eq-eqb, lt-ltb, ne_eqb}
+use Rattle.std.specs.Prelude.{All, AllPairs, Contains, find, nat_lt, reverse}
 use Rattle.std.specs.List.{AllByRecursion}
 use Rattle.std.proofs.lemmas.Bool.{cases_Bool, cases_eq, and_parts, and_from, true≢false}
 use Rattle.std.proofs.lemmas.List.Elements.{All-from_recursion, recursion_from_All, All-contains, All-contains_itself}
+use Rattle.std.proofs.lemmas.List.{get_or-reverse, length-reverse}
+use Rattle.std.proofs.lemmas.List.Sorted.{All-permutation, IsPermutation-reverse, sum_by-IsPermutation}
 use Rattle.std.proofs.lemmas.List.Sums.{sum_by-cons}
 use Rattle.papergrid_axis.specs.declared.demand.Demand.{Demand}
 use Rattle.papergrid_axis.specs.Problem.{given}
 use Rattle.papergrid_axis.specs.Ranges.{end_of, inner_lines, AreDisjoint, IsInTable}
 use Rattle.papergrid_axis.specs.Fits.{IsCertificate}
-use Rattle.papergrid_axis.specs.Chosen.{or_else}
 use Rattle.papergrid_axis.proofs.RangeLemmas.{Apart, AllPairs-from_Apart}
 use Rattle.papergrid_axis.proofs.Counting.{find-all}
 use Rattle.papergrid_axis.proofs.FitBound.{ByRecursion-weaker}
 use Rattle.papergrid_least.specs.Edges.{asked}
 use Rattle.papergrid_least.specs.Earliest.{pushed_to, earliest_to, earliest}
-use Rattle.papergrid_least.specs.Longest.{pushes, pusher, with_earlier, pushers, longest}
+use Rattle.papergrid_least.specs.Longest.{pushes, pusher, single_pusher, longer_pusher, with_earlier, pushers, longest}
+use Rattle.papergrid_least.proofs.EarlierLemmas.{earlier-either, earlier-none, some_none}
 use Rattle.papergrid_least.proofs.EarliestLemmas.{pushed-above, pushed-below, earliest_to-at, earliest_to-is, earliest-rises, earliest-monotone}
 
 -- where `find` finds nothing, nothing passes
-some_none : (d : Demand) → Some d ≡ None → ⊥
-some_none d e = cc
-
 pub find-nothing : (test : Demand → Bool) (ds : List Demand) → find test ds ≡ None → AllByRecursion (λ d. test d ≡ false) ds
 find-nothing test [] e = tt
 find-nothing test (d ∷ ds) e = elim (cases_Bool (test d)) [
@@ -39,10 +38,10 @@ record Reaches (asks : Demand → ℕ) (ds : List Demand) (i : ℕ) (cells : Lis
 
 module _ (asks : Demand → ℕ) (ds : List Demand) (n : ℕ) (table : All (IsInTable n) ds) where
   -- a cell that pushed the edge past the one before
-  record Pushes (i : ℕ) (d : Demand) : Type 0 where
-    listed : Contains ds d
-    ends : end_of d ≡ suc i
-    pushes : earliest asks ds d.start + asks d ≡ earliest asks ds (suc i)
+  pub record Pushes (i : ℕ) (d : Demand) : Type 0 where
+    pub listed : Contains ds d
+    pub ends : end_of d ≡ suc i
+    pub pushes : earliest asks ds d.start + asks d ≡ earliest asks ds (suc i)
 
   Pushes-from : (i : ℕ) (d : Demand) → Contains ds d → pushes asks ds (suc i) d ≡ true → Pushes i d
   Pushes-from i d listed e =
@@ -50,39 +49,47 @@ module _ (asks : Demand → ℕ) (ds : List Demand) (n : ℕ) (table : All (IsIn
       and_parts (eqb (end_of d) (suc i)) (eqb (earliest asks ds d.start + asks d) (earliest asks ds (suc i))) e in
       record { listed = listed; ends = eqb-true _ _ parts.0; pushes = eqb-true _ _ parts.1 }
 
-  pusher-pushes : (i : ℕ) (d : Demand) → pusher asks ds (suc i) ≡ Some d → Pushes i d
-  pusher-pushes i d e = from (find (λ d. d.span == 1 && pushes asks ds (suc i) d) ds) refl e
-    where
-      itself : AllByRecursion (Contains ds) ds
-      itself = recursion_from_All (Contains ds) ds (All-contains_itself ds)
+  found-pushes : (kind : Demand → Bool) (i : ℕ) (d : Demand) → find (λ d. kind d && pushes asks ds (suc i) d) ds ≡ Some d → Pushes i d
+  found-pushes kind i d e =
+      let found : ((kind d && pushes asks ds (suc i) d) ≡ true) × Contains ds d =
+      find-all (Contains ds) (λ d. kind d && pushes asks ds (suc i) d) ds d (recursion_from_All (Contains ds) ds (All-contains_itself ds)) e in
+      let parts : (kind d ≡ true) × (pushes asks ds (suc i) d ≡ true) = and_parts (kind d) (pushes asks ds (suc i) d) found.0 in
+      Pushes-from i d found.1 parts.1
 
-      from : (one : Option Demand) → find (λ d. d.span == 1 && pushes asks ds (suc i) d) ds ≡ one → or_else one (find (pushes asks ds (suc i)) ds) ≡ Some d → Pushes i d
-      from None none e' =
-          let found : (pushes asks ds (suc i) d ≡ true) × Contains ds d = find-all (Contains ds) (pushes asks ds (suc i)) ds d itself e' in
-          Pushes-from i d found.1 found.0
-      from (Some c) some e' =
-          let same : c ≡ d = cc in
-          let found : ((d.span == 1 && pushes asks ds (suc i) d) ≡ true) × Contains ds d = find-all (Contains ds) (λ d. d.span == 1 && pushes asks ds (suc i) d) ds d itself (some ∙ e') in
-          let parts : (eqb d.span 1 ≡ true) × (pushes asks ds (suc i) d ≡ true) = and_parts (eqb d.span 1) (pushes asks ds (suc i) d) found.0 in
-          Pushes-from i d found.1 parts.1
+  pub pusher-pushes : (i : ℕ) (d : Demand) → pusher asks ds (suc i) ≡ Some d → Pushes i d
+  pusher-pushes i d e = elim (earlier-either (single_pusher asks ds (suc i)) (longer_pusher asks ds (suc i)) d e) [
+    | inl one ↦ found-pushes (λ d. d.span == 1) i d one
+    | inr long ↦ found-pushes (λ d. nat_lt 1 d.span) i d long
+  ]
+
+  -- where none of either kind pushes the edge, no cell does
+  none-pushes : (i : ℕ) → pusher asks ds (suc i) ≡ None → All (λ d. pushes asks ds (suc i) d ≡ false) ds
+  none-pushes i e =
+      let none : (single_pusher asks ds (suc i) ≡ None) × (longer_pusher asks ds (suc i) ≡ None) = earlier-none (single_pusher asks ds (suc i)) (longer_pusher asks ds (suc i)) e in
+      λ k d l. at (get_or ds k d) (table k d l)
+      (All-from_recursion (λ d. (d.span == 1 && pushes asks ds (suc i) d) ≡ false) ds (find-nothing (λ d. d.span == 1 && pushes asks ds (suc i) d) ds none.0) k d l)
+      (All-from_recursion (λ d. (nat_lt 1 d.span && pushes asks ds (suc i) d) ≡ false) ds (find-nothing (λ d. nat_lt 1 d.span && pushes asks ds (suc i) d) ds none.1) k d l)
+    where
+      at : (d : Demand) → IsInTable n d → (d.span == 1 && pushes asks ds (suc i) d) ≡ false → (nat_lt 1 d.span && pushes asks ds (suc i) d) ≡ false → pushes asks ds (suc i) d ≡ false
+      at d cell one long = elim (cases_eq d.span 1) [
+        | inl e' ↦ rw (eq-eqb d.span 1 e') at one
+        | inr ne ↦
+            let some : 1 ≤ d.span = cell.covers_one in
+            let many : 1 < d.span = omega arith in
+            rw (lt-ltb 1 d.span many) at long
+      ]
 
   -- an edge past the one before was pushed by some cell
   pusher-none : (i : ℕ) → earliest asks ds i < earliest asks ds (suc i) → pusher asks ds (suc i) ≡ None → ⊥
   pusher-none i past e =
       let m : ℕ = earliest asks ds (suc i) - 1 in
       let at : earliest asks ds (suc i) ≡ max (earliest asks ds i) (pushed_to asks ds (earliest_to asks ds i) (suc i)) = earliest_to-at asks ds i in
-      let none : All (λ d. (end_of d == suc i && (earliest asks ds d.start + asks d == earliest asks ds (suc i))) ≡ false) ds =
-      All-from_recursion (λ d. (end_of d == suc i && (earliest asks ds d.start + asks d == earliest asks ds (suc i))) ≡ false) ds
-      (find-nothing (λ d. end_of d == suc i && (earliest asks ds d.start + asks d == earliest asks ds (suc i))) ds (second (find (λ d. d.span == 1 && pushes asks ds (suc i) d) ds) e)) in
+      let none : All (λ d. pushes asks ds (suc i) d ≡ false) ds = none-pushes i e in
       let top : pushed_to asks ds (earliest_to asks ds i) (suc i) ≤ earliest asks ds (suc i) = omega arith in
       let below : pushed_to asks ds (earliest_to asks ds i) (suc i) ≤ earliest asks ds (suc i) - 1 =
       pushed-below asks ds (earliest_to asks ds i) (suc i) (earliest asks ds (suc i) - 1) (λ k d l ends. push_at top k d l ends (table k d l) (none k d l)) in
       omega arith
     where
-      second : (one : Option Demand) → or_else one (find (pushes asks ds (suc i)) ds) ≡ None → find (pushes asks ds (suc i)) ds ≡ None
-      second None e' = e'
-      second (Some c) e' = absurd (some_none c e')
-
       push_at : pushed_to asks ds (earliest_to asks ds i) (suc i) ≤ earliest asks ds (suc i) → (k : ℕ) (d : Demand) (l : k < length ds) → end_of (get_or ds k d) ≡ suc i → IsInTable n (get_or ds k d) →
           (end_of (get_or ds k d) == suc i && (earliest asks ds (get_or ds k d).start + asks (get_or ds k d) == earliest asks ds (suc i))) ≡ false →
           earliest_to asks ds i (get_or ds k d).start + asks (get_or ds k d) ≤ earliest asks ds (suc i) - 1
@@ -163,15 +170,31 @@ needs-add_up line (d ∷ ds) asking =
     let one : 1 ≤ asked line d = asking.0 in
     omega arith
 
+disjoint-reversed : (cells : List Demand) → AllPairs AreDisjoint cells → AllPairs AreDisjoint (reverse cells)
+disjoint-reversed cells apart i j d l l' =
+    let many : length (reverse cells) ≡ length cells = length-reverse cells in
+    rw (get_or-reverse cells i d (omega arith), get_or-reverse cells j d (omega arith)) (swapped (get_or cells (length cells - 1 - j) d) (get_or cells (length cells - 1 - i) d) (apart (length cells - 1 - j) (length cells - 1 - i) d (omega arith) (omega arith)))
+  where
+    swapped : (a b : Demand) → AreDisjoint a b → AreDisjoint b a
+    swapped a b apart' = elim apart' [
+      | inl before ↦ inr before
+      | inr after ↦ inl after
+    ]
+
 pub IsCertificate-longest : (line : ℕ → Bool) (n : ℕ) (demands : List Demand) (sizes : List ℕ) → All (IsInTable n) demands → sum sizes ≡ earliest (asked line) demands n →
     IsCertificate (given line n demands) sizes (longest (given line n demands))
 IsCertificate-longest line n demands sizes table total =
-    let reaches : Reaches (asked line) demands n (longest (given line n demands)) = Reaches-pushers (asked line) demands n table n n (omega arith) in
-    let a : sum_by (λ d. d.need) (longest (given line n demands)) ≡ sum_by (asked line) (longest (given line n demands)) + sum_by (inner_lines line) (longest (given line n demands)) =
-    needs-add_up line (longest (given line n demands)) reaches.asking in
-    let b : sum_by (asked line) (longest (given line n demands)) ≡ earliest (asked line) demands n = reaches.adds_up in
+    let moved = IsPermutation-reverse (pushers (asked line) demands n n) in
+    let reaches : Reaches (asked line) demands n (pushers (asked line) demands n n) = Reaches-pushers (asked line) demands n table n n (omega arith) in
+    let a : sum_by (λ d. d.need) (pushers (asked line) demands n n) ≡ sum_by (asked line) (pushers (asked line) demands n n) + sum_by (inner_lines line) (pushers (asked line) demands n n) =
+    needs-add_up line (pushers (asked line) demands n n) reaches.asking in
+    let b : sum_by (asked line) (pushers (asked line) demands n n) ≡ earliest (asked line) demands n = reaches.adds_up in
+    let c : sum_by (λ d. d.need) (longest (given line n demands)) ≡ sum_by (λ d. d.need) (pushers (asked line) demands n n) =
+    sum_by-IsPermutation (λ d. d.need) (pushers (asked line) demands n n) (longest (given line n demands)) moved in
+    let e : sum_by (inner_lines line) (longest (given line n demands)) ≡ sum_by (inner_lines line) (pushers (asked line) demands n n) =
+    sum_by-IsPermutation (inner_lines line) (pushers (asked line) demands n n) (longest (given line n demands)) moved in
     record {
-      visible = All-from_recursion (Contains demands) (longest (given line n demands)) reaches.visible;
-      apart = AllPairs-from_Apart (longest (given line n demands)) reaches.apart;
+      visible = All-permutation (Contains demands) (pushers (asked line) demands n n) (longest (given line n demands)) moved (All-from_recursion (Contains demands) (pushers (asked line) demands n n) reaches.visible);
+      apart = disjoint-reversed (pushers (asked line) demands n n) (AllPairs-from_Apart (pushers (asked line) demands n n) reaches.apart);
       adds_up = omega arith;
     }

@@ -1,25 +1,25 @@
 -- What is met going back by what is kept are the cells of the longest way.
-use Rattle.std.proofs.Common.{◌≡◌, ◌≢◌, ℕ, zero, suc, ◌+◌, ◌-◌, ◌<◌, ◌≤◌, ◌∙◌, Bool, true, false, ◌&&◌, ◌==◌, not, inl, inr, List, [], ◌∷◌, length, get_or, refl, sym, ap, arith, eqb, eq-eqb, eqb-true, ne_eqb, Option, Some, None}
+use Rattle.std.proofs.Common.{◌≡◌, ◌≢◌, ℕ, zero, suc, ◌+◌, ◌-◌, ◌<◌, ◌≤◌, ◌∙◌, Bool, true, false, ◌&&◌, ◌==◌, not, inl, inr, List, [], ◌∷◌, length, get_or, refl, sym, ap, ap₂, arith, eqb, eq-eqb, eqb-true, lt-ltb, ltb-true, ne_eqb, Option, Some, None}
 use Rattle.std.specs.Prelude.{All, Contains, filter, find, nat_lt}
 use Rattle.std.proofs.lemmas.Bool.{and_from, and_parts, cases_Bool, cases_eq, true≢false}
-use Rattle.std.proofs.lemmas.List.Elements.{All-contains_itself, All-filter, All-from_recursion, All-head, All-tail, Contains-get_or, recursion_from_All}
+use Rattle.std.proofs.lemmas.List.Elements.{All-from_recursion, All-head, All-tail, Contains-get_or, recursion_from_All}
 use Rattle.papergrid_axis.specs.declared.demand.Demand.{Demand}
-use Rattle.papergrid_axis.specs.Chosen.{or_else}
 use Rattle.papergrid_axis.specs.ForProofs.Seen.{first_greatest, is_single, others}
 use Rattle.papergrid_axis.specs.Ranges.{IsInTable, end_of, inner_lines}
 use Rattle.papergrid_axis.specs.Sizes.{base_size, base_sizes}
-use Rattle.papergrid_axis.proofs.Counting.{find-all, find-none}
+use Rattle.papergrid_axis.proofs.Counting.{find-none}
 use Rattle.papergrid_axis.proofs.DrawnLemmas.{inner-drawn}
 use Rattle.papergrid_axis.proofs.Greatest.{get_or-base_sizes, length-base_sizes, need-below_greatest}
+use Rattle.papergrid_axis.proofs.Orders.{filter-all}
 use Rattle.papergrid_axis.proofs.SeenLemmas.{exact_single-first, need-first_greatest}
 use Rattle.papergrid_least.specs.Edges.{asked}
 use Rattle.papergrid_least.specs.Earliest.{earliest}
-use Rattle.papergrid_least.specs.Longest.{pusher, pushers, pushes, with_earlier}
-use Rattle.papergrid_least.specs.ForProofs.Followed.{followed, pushes_by}
+use Rattle.papergrid_least.specs.Longest.{earlier_cell, longer_pusher, pusher, pushers, pushes, single_pusher, with_earlier}
+use Rattle.papergrid_least.specs.ForProofs.Followed.{followed, needing, pushes_by}
 use Rattle.papergrid_least.specs.ForProofs.Laid.{AreLaid}
 use Rattle.papergrid_least.proofs.EarliestLemmas.{AreEdges-earliest, earliest-rises}
-use Rattle.papergrid_least.proofs.FollowedLemmas.{followed-even, followed-longer, followed-single}
-use Rattle.papergrid_least.proofs.LongestLemmas.{find-nothing}
+use Rattle.papergrid_least.proofs.FollowedLemmas.{followed-even, followed-past}
+use Rattle.papergrid_least.proofs.LongestLemmas.{pusher-pushes}
 use Rattle.papergrid_least.proofs.SeenLemmas.{AreLaid-from_edges, inner-alone, longer_asking}
 
 -- two tests that agree find the same
@@ -81,7 +81,7 @@ module _ (line drawn : ℕ → Bool) (n limit : ℕ) (demands : List Demand) (ag
       let e : top d.start ≡ top j = ap top here in
       (here, omega arith)
 
-  no_single : (j : ℕ) → j < n → top j + base_size demands j ≢ top (suc j) → find (λ d. d.span == 1 && pushes (asked line) demands (suc j) d) demands ≡ None
+  no_single : (j : ℕ) → j < n → top j + base_size demands j ≢ top (suc j) → single_pusher (asked line) demands (suc j) ≡ None
   no_single j l ne =
       find-none (λ d. d.span == 1 && pushes (asked line) demands (suc j) d) demands
       (recursion_from_All (λ d. (d.span == 1 && pushes (asked line) demands (suc j) d) ≡ false) demands (λ k d l'. at (get_or demands k d) (Contains-get_or demands k d l')))
@@ -99,7 +99,7 @@ module _ (line drawn : ℕ → Bool) (n limit : ℕ) (demands : List Demand) (ag
             absurd (ne (omega arith))
       ]
 
-  single : (j : ℕ) → j < n → top j < top (suc j) → top j + base_size demands j ≡ top (suc j) → find (λ d. d.span == 1 && pushes (asked line) demands (suc j) d) demands ≡ Some (first_greatest j demands)
+  single : (j : ℕ) → j < n → top j < top (suc j) → top j + base_size demands j ≡ top (suc j) → single_pusher (asked line) demands (suc j) ≡ Some (first_greatest j demands)
   single j l past e =
       let base_is : get_or (base_sizes n demands) j 0 ≡ base_size demands j = get_or-base_sizes n demands j l in
       find-agree (λ d. d.span == 1 && pushes (asked line) demands (suc j) d) (λ d. d.span == 1 && d.start == j && d.need == get_or (base_sizes n demands) j 0) demands
@@ -143,23 +143,35 @@ module _ (line drawn : ℕ → Bool) (n limit : ℕ) (demands : List Demand) (ag
           rw (eq-eqb (end_of d) i ends, sum, b) refl
     ]
 
-    among_others : (j : ℕ) → j < n → find (λ d. d.span == 1 && pushes (asked line) demands (suc j) d) demands ≡ None →
-        find (pushes (asked line) demands (suc j)) demands ≡ find (pushes_by (asked drawn) edge (suc j)) (others limit demands)
-    among_others j l none =
-        find-kept (pushes (asked line) demands (suc j)) (λ d. not (is_single limit d)) demands (λ k d l'. longer (get_or demands k d) (nothing k d l'))
-        ∙ find-agree (pushes (asked line) demands (suc j)) (pushes_by (asked drawn) edge (suc j)) (others limit demands)
-        (All-filter (λ d. not (is_single limit d)) (λ d. pushes (asked line) demands (suc j) d ≡ pushes_by (asked drawn) edge (suc j) d) demands (λ k d l'. same_test (suc j) l (get_or demands k d) (table k d l')))
+    among_others : (i : ℕ) → i ≤ n → longer_pusher (asked line) demands i ≡ find (pushes_by (asked drawn) edge i) (others limit demands)
+    among_others i l =
+        find-kept (λ d. nat_lt 1 d.span && pushes (asked line) demands i d) (λ d. not (is_single limit d)) demands (λ k d l'. kept (get_or demands k d))
+        ∙ find-agree (λ d. nat_lt 1 d.span && pushes (asked line) demands i d) (pushes_by (asked drawn) edge i) (others limit demands)
+        (λ k d l'. listed (get_or (others limit demands) k d) (All-from_recursion (λ d. (not (is_single limit d) ≡ true) × IsInTable n d) (others limit demands)
+        (filter-all (IsInTable n) (λ d. not (is_single limit d)) demands (recursion_from_All (IsInTable n) demands table)) k d l'))
       where
-        nothing : All (λ d. (d.span == 1 && pushes (asked line) demands (suc j) d) ≡ false) demands
-        nothing = All-from_recursion (λ d. (d.span == 1 && pushes (asked line) demands (suc j) d) ≡ false) demands (find-nothing (λ d. d.span == 1 && pushes (asked line) demands (suc j) d) demands none)
+        kept : (d : Demand) → (nat_lt 1 d.span && pushes (asked line) demands i d) ≡ true → not (is_single limit d) ≡ true
+        kept d t =
+            let long : 1 < d.span = ltb-true 1 d.span (and_parts (nat_lt 1 d.span) (pushes (asked line) demands i d) t).0 in
+            let ne : d.span ≢ 1 = omega arith in
+            rw (ne_eqb d.span 1 ne) refl
 
-        longer : (d : Demand) → (d.span == 1 && pushes (asked line) demands (suc j) d) ≡ false → pushes (asked line) demands (suc j) d ≡ true → not (is_single limit d) ≡ true
-        longer d f t = elim (cases_Bool (is_single limit d)) [
-          | inr f' ↦ ap not f'
-          | inl t' ↦
-              let parts : (eqb d.span 1 ≡ true) × (nat_lt d.start limit ≡ true) = and_parts (eqb d.span 1) (nat_lt d.start limit) t' in
-              absurd (true≢false (sym (and_from _ _ parts.0 t) ∙ f))
+        at : (d : Demand) → IsInTable n d → not (is_single limit d) ≡ true → (nat_lt 1 d.span && pushes (asked line) demands i d) ≡ pushes_by (asked drawn) edge i d
+        at d cell passes = elim (cases_eq d.span 1) [
+          | inl one ↦
+              let some : 1 ≤ d.span = cell.covers_one in
+              let ends : end_of d ≤ n = cell.ends_within in
+              let within : d.start < limit = omega arith in
+              let single : is_single limit d ≡ true = and_from (eqb d.span 1) (nat_lt d.start limit) (eq-eqb d.span 1 one) (lt-ltb d.start limit within) in
+              absurd (true≢false (sym passes ∙ ap not single))
+          | inr ne ↦
+              let some : 1 ≤ d.span = cell.covers_one in
+              let long : 1 < d.span = omega arith in
+              rw (lt-ltb 1 d.span long) (same_test i l d cell)
         ]
+
+        listed : (d : Demand) → (not (is_single limit d) ≡ true) × IsInTable n d → (nat_lt 1 d.span && pushes (asked line) demands i d) ≡ pushes_by (asked drawn) edge i d
+        listed d known = at d known.1 known.0
 
     module _ (singles : ℕ → Demand) (singles_are : (i : ℕ) → i < limit → singles i ≡ first_greatest i demands)
         (longer : ℕ → Option Demand) (longer_are : (i : ℕ) → i ≤ n → longer i ≡ find (pushes_by (asked drawn) edge i) (others limit demands)) where
@@ -173,14 +185,29 @@ module _ (line drawn : ℕ → Bool) (n limit : ℕ) (demands : List Demand) (ag
           let e : suc j - 1 ≡ j = omega arith in
           rw (e, ne_eqb (top (suc j)) (top j) ne) refl
 
-      -- the kept cell of number j alone starts there
-      start_of : (j : ℕ) → j < n → top j < top (suc j) → top j + base_size demands j ≡ top (suc j) → (first_greatest j demands).start ≡ j
-      start_of j l past e =
-          let found : ((eqb (first_greatest j demands).span 1 && pushes (asked line) demands (suc j) (first_greatest j demands)) ≡ true) × Contains demands (first_greatest j demands) =
-          find-all (Contains demands) (λ d. d.span == 1 && pushes (asked line) demands (suc j) d) demands (first_greatest j demands) (recursion_from_All (Contains demands) demands (All-contains_itself demands)) (single j l past e) in
-          let parts : (eqb (first_greatest j demands).span 1 ≡ true) × (pushes (asked line) demands (suc j) (first_greatest j demands) ≡ true) =
-          and_parts (eqb (first_greatest j demands).span 1) (pushes (asked line) demands (suc j) (first_greatest j demands)) found.0 in
-          (alone j (first_greatest j demands) (eqb-true _ 1 parts.0) parts.1).0
+      -- of each kind what is kept is the first that pushes the edge
+      single-kept : (j : ℕ) → j < n → top j < top (suc j) → needing (edge (suc j) - edge (suc j - 1)) (singles (suc j - 1)) ≡ single_pusher (asked line) demands (suc j)
+      single-kept j l past =
+          let e : suc j - 1 ≡ j = omega arith in
+          let a : edge (suc j) ≡ top (suc j) = edges_are (suc j) l in
+          let b : edge j ≡ top j = edges_are j (omega arith) in
+          let b' : edge (suc j - 1) ≡ edge j = ap edge e in
+          let fits : top j + base_size demands j ≤ top (suc j) = base-fits j l in
+          let kept : singles (suc j - 1) ≡ first_greatest j demands = ap singles e ∙ singles_are j (omega arith) in
+          let need : (singles (suc j - 1)).need ≡ base_size demands j = ap (λ (d : Demand). d.need) kept ∙ need-first_greatest j demands in
+          elim (cases_eq (top j + base_size demands j) (top (suc j))) [
+            | inl most ↦
+                let step : (singles (suc j - 1)).need ≡ edge (suc j) - edge (suc j - 1) = omega arith in
+                let found : needing (edge (suc j) - edge (suc j - 1)) (singles (suc j - 1)) ≡ Some (singles (suc j - 1)) = rw (eq-eqb (singles (suc j - 1)).need (edge (suc j) - edge (suc j - 1)) step) refl in
+                found ∙ ap Some kept ∙ sym (single j l past most)
+            | inr less ↦
+                let step : (singles (suc j - 1)).need ≢ edge (suc j) - edge (suc j - 1) = omega arith in
+                let found : needing (edge (suc j) - edge (suc j - 1)) (singles (suc j - 1)) ≡ None = rw (ne_eqb (singles (suc j - 1)).need (edge (suc j) - edge (suc j - 1)) step) refl in
+                found ∙ sym (no_single j l less)
+          ]
+
+      pusher-kept : (j : ℕ) → j < n → top j < top (suc j) → earlier_cell (needing (edge (suc j) - edge (suc j - 1)) (singles (suc j - 1))) (longer (suc j)) ≡ pusher (asked line) demands (suc j)
+      pusher-kept j l past = ap₂ earlier_cell (single-kept j l past) (longer_are (suc j) l ∙ sym (among_others (suc j) l))
 
       pub followed-is : (steps i : ℕ) → i ≤ n → followed edge singles longer steps i ≡ pushers (asked line) demands steps i
       followed-is zero i l = refl
@@ -199,44 +226,14 @@ module _ (line drawn : ℕ → Bool) (n limit : ℕ) (demands : List Demand) (ag
                 ∙ followed-is steps j (omega arith)
                 ∙ sym (pushers-even steps j same)
             | inr ne ↦
-                past steps j l ne (followed-is steps j (omega arith)) (λ d found. followed-is steps d.start (start_within j d l found))
+                followed-past edge singles longer steps (suc j) (omega arith)
+                ∙ ap (λ found. with_earlier found (followed edge singles longer steps)) (pusher-kept j l (omega arith))
+                ∙ with_earlier-agree (pusher (asked line) demands (suc j)) (followed edge singles longer steps) (pushers (asked line) demands steps)
+                (λ d found. followed-is steps d.start (start_within j d l found))
                 ∙ sym (pushers-past steps j ne)
           ]
         where
-          start_within : (j : ℕ) (d : Demand) → suc j ≤ n → find (pushes_by (asked drawn) edge (suc j)) (others limit demands) ≡ Some d → d.start ≤ n
+          start_within : (j : ℕ) (d : Demand) → suc j ≤ n → pusher (asked line) demands (suc j) ≡ Some d → d.start ≤ n
           start_within j d l found =
-              let at : (pushes_by (asked drawn) edge (suc j) d ≡ true) × Contains (others limit demands) d =
-              find-all (Contains (others limit demands)) (pushes_by (asked drawn) edge (suc j)) (others limit demands) d (recursion_from_All (Contains (others limit demands)) (others limit demands) (All-contains_itself (others limit demands))) found in
-              let parts : (eqb (end_of d) (suc j) ≡ true) × (eqb (edge d.start + asked drawn d) (edge (suc j)) ≡ true) = and_parts (eqb (end_of d) (suc j)) (eqb (edge d.start + asked drawn d) (edge (suc j))) at.0 in
-              let ends : end_of d ≡ suc j = eqb-true _ _ parts.0 in
+              let ends : end_of d ≡ suc j = (pusher-pushes (asked line) demands n table j d found).ends in
               omega arith
-
-          past : (steps j : ℕ) → suc j ≤ n → top (suc j) ≢ top j → followed edge singles longer steps j ≡ pushers (asked line) demands steps j →
-              ((d : Demand) → find (pushes_by (asked drawn) edge (suc j)) (others limit demands) ≡ Some d → followed edge singles longer steps d.start ≡ pushers (asked line) demands steps d.start) →
-              followed edge singles longer (suc steps) (suc j) ≡ with_earlier (pusher (asked line) demands (suc j)) (pushers (asked line) demands steps)
-          past steps j l ne before starts =
-              let e : suc j - 1 ≡ j = omega arith in
-              let a : edge (suc j) ≡ top (suc j) = edges_are (suc j) l in
-              let b : edge j ≡ top j = edges_are j (omega arith) in
-              let b' : edge (suc j - 1) ≡ edge j = ap edge e in
-              let rises : top j ≤ top (suc j) = earliest-rises (asked line) demands j in
-              let fits : top j + base_size demands j ≤ top (suc j) = base-fits j l in
-              let kept : singles j ≡ first_greatest j demands = singles_are j (omega arith) in
-              let kept' : singles (suc j - 1) ≡ singles j = ap singles e in
-              let need : (singles (suc j - 1)).need ≡ base_size demands j = ap (λ (d : Demand). d.need) (kept' ∙ kept) ∙ need-first_greatest j demands in
-              elim (cases_eq (top j + base_size demands j) (top (suc j))) [
-                | inl most ↦
-                    let start : (first_greatest j demands).start ≡ j = start_of j l (omega arith) most in
-                    followed-single edge singles longer steps (suc j) (omega arith) (omega arith)
-                    ∙ ap (λ d. d ∷ followed edge singles longer steps (suc j - 1)) (kept' ∙ kept)
-                    ∙ ap (λ k. first_greatest j demands ∷ followed edge singles longer steps k) e
-                    ∙ ap (λ ds. first_greatest j demands ∷ ds) before
-                    ∙ ap (λ k. first_greatest j demands ∷ pushers (asked line) demands steps k) (sym start)
-                    ∙ ap (λ one. with_earlier (or_else one (find (pushes (asked line) demands (suc j)) demands)) (pushers (asked line) demands steps)) (sym (single j l (omega arith) most))
-                | inr less ↦
-                    followed-longer edge singles longer steps (suc j) (omega arith) (omega arith)
-                    ∙ ap (λ found. with_earlier found (followed edge singles longer steps)) (longer_are (suc j) l)
-                    ∙ with_earlier-agree (find (pushes_by (asked drawn) edge (suc j)) (others limit demands)) (followed edge singles longer steps) (pushers (asked line) demands steps) starts
-                    ∙ ap (λ found. with_earlier found (pushers (asked line) demands steps)) (sym (among_others j l (no_single j l less)))
-                    ∙ ap (λ one. with_earlier (or_else one (find (pushes (asked line) demands (suc j)) demands)) (pushers (asked line) demands steps)) (sym (no_single j l less))
-              ]

@@ -1,27 +1,54 @@
 -- The longest way, from what was settled.
-use Rattle.std.proofs.Common.{◌≡◌, ℕ, suc, Bool, ◌+◌, ◌-◌, ◌<◌, ◌≤◌, ◌∙◌, false, inl, inr, List, length, get_or, map, sym, ap, subst, arith, Option, Some, None}
-use Rattle.std.specs.Prelude.{All, Contains, find, not}
-use Rattle.std.proofs.lemmas.Bool.{cases_lt}
-use Rattle.std.proofs.lemmas.List.{get_or_past}
+use Rattle.std.proofs.Common.{◌≡◌, ℕ, suc, Bool, ◌&&◌, ◌==◌, ◌+◌, ◌-◌, ◌<◌, ◌≤◌, ◌∙◌, true, false, inl, inr, List, [], ◌∷◌, ◌++◌, length, get_or, map, refl, sym, ap, subst, arith, eq-eqb, ne_eqb, Option, Some, None}
+use Rattle.std.specs.Prelude.{All, Contains, find, not, reverse, unwrap_or}
+use Rattle.std.proofs.lemmas.Bool.{and_parts, cases_eq, cases_lt}
+use Rattle.std.proofs.lemmas.List.{get_or_past, map-append, reverse-append}
 use Rattle.std.proofs.lemmas.List.Elements.{All-contains, All-contains_itself, All-filter, recursion_from_All}
 use Rattle.papergrid_axis.specs.declared.demand.Demand.{Demand}
 use Rattle.papergrid_axis.specs.declared.seen.Seen.{Seen}
-use Rattle.papergrid_axis.specs.ForProofs.Seen.{IsSeen, is_single, others}
+use Rattle.papergrid_axis.specs.ForProofs.Seen.{IsSeen, first_greatest, is_single, no_demand, others}
 use Rattle.papergrid_axis.specs.ForProofs.Settled.{line_at}
 use Rattle.papergrid_axis.specs.Problem.{Problem}
 use Rattle.papergrid_axis.specs.Ranges.{IsInTable, end_of, inner_lines, place_of}
+use Rattle.papergrid_axis.specs.Sizes.{base_size}
 use Rattle.papergrid_axis.proofs.Counting.{find-all}
 use Rattle.papergrid_axis.proofs.DrawnLemmas.{inner-drawn}
+use Rattle.papergrid_axis.proofs.Greatest.{holds_alone}
 use Rattle.papergrid_axis.proofs.SeenLemmas.{table-seen}
 use Rattle.papergrid_least.specs.declared.settled.Settled.{Settled}
 use Rattle.papergrid_least.specs.Earliest.{earliest}
 use Rattle.papergrid_least.specs.Edges.{AreEdges, asked}
-use Rattle.papergrid_least.specs.Longest.{longest}
+use Rattle.papergrid_least.specs.Longest.{longest, pushers as way}
 use Rattle.papergrid_least.specs.ForProofs.Followed.{followed, kept_longer, kept_single, pushes_by}
 use Rattle.papergrid_least.specs.ForProofs.Settled.{AreSettled}
 use Rattle.papergrid_least.proofs.EarliestLemmas.{AreEdges-earliest, earliest-rises}
 use Rattle.papergrid_least.proofs.PermutedLemmas.{table-wider}
 use Rattle.papergrid_least.proofs.PusherLemmas.{followed-is}
+
+-- the first cell of greatest need that covers i alone starts there, and a cell that needs nothing not later
+starts-first_greatest : (i : ℕ) (ds : List Demand) → (first_greatest i ds).start ≤ i
+unfolding first_greatest
+starts-first_greatest i ds = elim (cases_eq (base_size ds i) 0) [
+  | inl none ↦ rw (eq-eqb (base_size ds i) 0 none) (omega arith)
+  | inr some ↦ rw (ne_eqb (base_size ds i) 0 some) (within (find (λ d. d.span == 1 && d.start == i && d.need == base_size ds i) ds) refl)
+]
+  where
+    within : (found : Option Demand) → find (λ d. d.span == 1 && d.start == i && d.need == base_size ds i) ds ≡ found → (unwrap_or found no_demand).start ≤ i
+    within None e = omega arith
+    within (Some d) e =
+        let passes : ((d.span == 1 && d.start == i && d.need == base_size ds i) ≡ true) × Contains ds d =
+        find-all (Contains ds) (λ d. d.span == 1 && d.start == i && d.need == base_size ds i) ds d (recursion_from_All (Contains ds) ds (All-contains_itself ds)) e in
+        let front : ((d.span == 1 && d.start == i) ≡ true) × ((d.need == base_size ds i) ≡ true) = and_parts (d.span == 1 && d.start == i) (d.need == base_size ds i) passes.0 in
+        let here : d.start ≡ i = (holds_alone d i front.0).1 in
+        omega arith
+
+reverse-places : (ds : List Demand) → reverse (map place_of ds) ≡ map place_of (reverse ds)
+reverse-places [] = refl
+reverse-places (d ∷ ds) =
+    reverse-append (place_of d ∷ []) (map place_of ds)
+    ∙ ap (λ ps. ps ++ place_of d ∷ []) (reverse-places ds)
+    ∙ sym (map-append place_of (reverse ds) (d ∷ []))
+    ∙ ap (map place_of) (sym (reverse-append (d ∷ []) ds))
 
 none_some : (d : Demand) → None ≡ Some d → ⊥
 none_some d e = cc
@@ -75,6 +102,14 @@ module _ (problem : Problem) (seen : Seen) (is : IsSeen problem.count seen probl
       let e : earliest (asked problem.line) problem.demands (i + 1) ≡ earliest (asked problem.line) problem.demands (suc i) = ap (earliest (asked problem.line) problem.demands) (let s : i + 1 ≡ suc i = omega arith in s) in
       omega arith
 
+  pub alone-edges : (i : ℕ) → i + 1 < length settled.limits.earliest.items → (kept_single seen.singles.items i).start ≤ i
+  alone-edges i l =
+      let many : length settled.limits.earliest.items ≡ problem.count + 1 = are.many in
+      let from : problem.count ≤ is.limit = is.from_limit in
+      let kept : (kept_single seen.singles.items i).start ≡ (first_greatest i problem.demands).start = ap (λ (d : Demand). d.start) (is.held.singles small i (omega arith)) in
+      let starts : (first_greatest i problem.demands).start ≤ i = starts-first_greatest i problem.demands in
+      omega arith
+
   module _ (pushers : List (Option Demand)) (same : length pushers ≡ length settled.limits.earliest.items)
       (first : (i : ℕ) → i < length pushers → get_or pushers i None ≡ find (pushes_by (asked drawn) edge i) seen.others.items) where
     pub starts-edges : (i : ℕ) (d : Demand) → get_or pushers i None ≡ Some d → d.start < length settled.limits.earliest.items
@@ -90,11 +125,12 @@ module _ (problem : Problem) (seen : Seen) (is : IsSeen problem.count seen probl
             let many : length settled.limits.earliest.items ≡ problem.count + 1 = are.many in
             omega arith
 
-    pub longest-met : map place_of (followed edge (kept_single seen.singles.items) (kept_longer pushers) (length settled.limits.earliest.items - 1) (length settled.limits.earliest.items - 1)) ≡ map place_of (longest problem)
+    pub longest-met : reverse (map place_of (followed edge (kept_single seen.singles.items) (kept_longer pushers) (length settled.limits.earliest.items - 1) (length settled.limits.earliest.items - 1))) ≡ map place_of (longest problem)
     longest-met =
         let many : length settled.limits.earliest.items ≡ problem.count + 1 = are.many in
         let last : length settled.limits.earliest.items - 1 ≡ problem.count = omega arith in
-        ap (λ k. map place_of (followed edge (kept_single seen.singles.items) (kept_longer pushers) k k)) last
-        ∙ ap (map place_of)
+        ap (λ k. reverse (map place_of (followed edge (kept_single seen.singles.items) (kept_longer pushers) k k))) last
+        ∙ ap (λ ds. reverse (map place_of ds))
         (followed-is problem.line drawn problem.count is.limit problem.demands are.drawn are.table is.below is.from_limit edge are.earliest (kept_single seen.singles.items) (is.held.singles small)
         (kept_longer pushers) (λ i l. first i (omega arith) ∙ ap (find (pushes_by (asked drawn) edge i)) exact) problem.count problem.count (omega arith))
+        ∙ reverse-places (way (asked problem.line) problem.demands problem.count problem.count)

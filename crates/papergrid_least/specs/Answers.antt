@@ -1,8 +1,8 @@
 -- What an answer of least sizes says of the cells' demands.
-use Rattle.std.specs.Prelude.{◌≡◌, ℕ, ◌^◌, ◌<◌, ◌≤◌, List, EachIndex, slice_index, map, Result, Ok, Err, None, Some, ⊤}
+use Rattle.std.specs.Prelude.{◌≡◌, ℕ, ◌^◌, ◌<◌, ◌≤◌, List, EachIndex, slice_index, map, Result, None, Vec}
 use Rattle.papergrid_values.specs.declared.position.Position.{Position}
 use Rattle.papergrid_axis.specs.declared.error.LayoutError.{LayoutError}
-use Rattle.papergrid_axis.specs.declared.error.LayoutError.TheVariants.{OutOfTable, TooLarge, Memory}
+use Rattle.papergrid_axis.specs.Answers.{AnswersWhere, IsRefusedWhere, IsTotalBy}
 use Rattle.papergrid_axis.specs.Problem.{Problem, total_of}
 use Rattle.papergrid_axis.specs.Ranges.{first_out, place_of}
 use Rattle.papergrid_axis.specs.Fits.{Fits, IsCertificate, IsLeast, IsTooLarge, top_need}
@@ -20,6 +20,8 @@ module _ (problem : Problem) where
 
   -- the places of the cells of the longest way, which certify the least sizes
   pub record AreLongest (places : List Position) : Type 0 where
+    pub none_out : first_out problem.count problem.demands ≡ None
+    pub total : total_of problem (least_of problem) < 2 ^ 64
     pub exact : places ≡ map place_of (longest problem)
     pub certificate : IsCertificate problem (least_of problem) (longest problem)
 
@@ -28,13 +30,23 @@ module _ (problem : Problem) where
     pub none_out : first_out problem.count problem.demands ≡ None
     pub none_fits : (other : List ℕ) → Fits problem other → IsTooLarge problem other
 
-  -- out of the table by the first cell that reaches out, else too large; memory may be refused in place of any answer
+  -- out of the table by the first cell that reaches out, else too large, as every list that fits is; memory may be refused in
+  -- place of any answer
   abbrev pub HasNoLeast : LayoutError → Type 0
-  HasNoLeast (OutOfTable place) = first_out problem.count problem.demands ≡ Some place
-  HasNoLeast TooLarge = NoneFits
-  HasNoLeast (Memory e) = ⊤
+  HasNoLeast e = IsRefusedWhere problem NoneFits e
 
--- what is asked for of a problem, or why there is none
+  -- the sum of the least sizes and of all lines
+  abbrev pub IsLeastTotal : ℕ → Type 0
+  IsLeastTotal total = IsTotalBy problem AreLeastSizes total
+
+-- what is asked for of a problem, or why there is none: where it is refused as too large, every list that fits is
 abbrev pub LeastAnswers : {A : Type 0} → (Problem → A → Type 0) → Problem → Result A LayoutError → Type 0
-LeastAnswers holds problem (Ok answer) = holds problem answer
-LeastAnswers holds problem (Err e) = HasNoLeast problem e
+LeastAnswers holds problem result = AnswersWhere NoneFits holds problem result
+
+-- the least sizes, or why there are none
+abbrev pub IsLeastSized : {Z : Type 0} → Problem → Result (Vec ℕ Z) LayoutError → Type 0
+IsLeastSized {Z} problem result = LeastAnswers (λ p (sizes : Vec ℕ Z). AreLeastSizes p sizes.items) problem result
+
+-- the places of the cells that certify them, or why there are no least sizes
+abbrev pub IsLeastCertified : {Z : Type 0} → Problem → Result (Vec Position Z) LayoutError → Type 0
+IsLeastCertified {Z} problem result = LeastAnswers (λ p (places : Vec Position Z). AreLongest p places.items) problem result

@@ -12,7 +12,7 @@ mod lower;
 mod settled;
 mod shares;
 
-pub use least::{CertifiedLeast, certified_least, least_sizes};
+pub use least::{CertifiedLeast, LeastSizes};
 
 #[cfg(test)]
 mod tests;

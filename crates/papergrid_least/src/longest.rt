@@ -5,7 +5,8 @@ ghost use Rattle.papergrid_axis.specs.ForProofs.Settled.{line_at};
 ghost use Rattle.papergrid_axis.specs.Ranges.{IsInTable, end_of, place_of};
 ghost use Rattle.papergrid_axis.specs.declared.demand.Demand.{Demand};
 ghost use Rattle.papergrid_least.specs.Edges.{asked};
-ghost use Rattle.papergrid_least.specs.ForProofs.Followed.{followed, kept_longer, kept_single, pushes_by};
+ghost use Rattle.papergrid_least.specs.ForProofs.Followed.{followed, kept_longer, kept_single, needing, pushes_by};
+ghost use Rattle.papergrid_least.specs.Longest.{earlier_cell};
 
 use crate::cells::asking;
 use papergrid_axis::Demand;
@@ -51,6 +52,35 @@ pub fn mark_pushers(
     }
 }
 
+/// The cell that is kept for a number alone, where it needs so much.
+fn needing(singles: &[Demand], number: usize, step: usize) -> Option<Demand>
+    ensures { result ≡ needing step (kept_single singles.now number) }
+{
+    let single = single_at(singles, number);
+    if single.need == step {
+        Some(single)
+    } else {
+        None
+    }
+}
+
+/// Of two cells the earlier by row and then by column, at one position the first.
+fn earlier_cell(cell: Option<Demand>, other: Option<Demand>) -> Option<Demand>
+    ensures { result ≡ earlier_cell cell other }
+{
+    match (cell, other) {
+        (Some(cell), Some(other)) => {
+            if other.place() < cell.place() {
+                Some(other)
+            } else {
+                Some(cell)
+            }
+        }
+        (Some(cell), None) => Some(cell),
+        (None, other) => other,
+    }
+}
+
 /// The places of the cells that are met going back from the last edge.
 pub fn follow(
     alloc: Global,
@@ -62,6 +92,7 @@ pub fn follow(
     requires one { 1 ≤ length earliest.now }
     requires rise { (i : ℕ) → i + 1 < length earliest.now →
         slice_index earliest.now i ≤ slice_index earliest.now (i + 1) }
+    requires alone { (i : ℕ) → i + 1 < length earliest.now → (kept_single singles.now i).start ≤ i }
     requires starts { (i : ℕ) (d : Demand) → slice_index_or pushers.now i None ≡ Some d →
         d.start < length earliest.now }
     ensures { let count = length earliest.now - 1 in
@@ -75,11 +106,9 @@ pub fn follow(
         let step = earliest[number] - earliest[before];
         if step == 0 {
             number = before;
-        } else if single_at(singles, before).need == step {
-            places.push(single_at(singles, before).place())?;
-            number = before;
         } else {
-            let Some(cell) = pushers[number] else {
+            let single = needing(singles, before, step);
+            let Some(cell) = earlier_cell(single, pushers[number]) else {
                 return Ok(places);
             };
             places.push(cell.place())?;

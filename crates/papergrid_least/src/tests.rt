@@ -4,7 +4,7 @@ ghost use Rattle.std.specs.Prelude.{IfOk, List};
 ghost use Rattle.papergrid_axis.specs.ForProofs.Seen.{IsSeen};
 ghost use Rattle.papergrid_axis.specs.declared.demand.Demand.{Demand};
 
-use crate::{certified_least, least_sizes};
+use crate::{CertifiedLeast, LeastSizes};
 use papergrid_axis::axis::Axis;
 use papergrid_axis::seen::keep;
 use papergrid_axis::{LayoutError, Seen, Solution};
@@ -73,10 +73,10 @@ fn finds(
 ) -> Result<bool, LayoutError> {
     let count = expected.len();
     let seen = seen(alloc, count, cells)?;
-    let alone = least_sizes(alloc, count, &seen, &axis)?;
-    let found = certified_least(alloc, count, &seen, &axis)?;
+    let alone = LeastSizes::solve(alloc, count, &seen, &axis)?;
+    let found = CertifiedLeast::solve(alloc, count, &seen, &axis)?;
     Ok(
-        alone.as_slice() == expected
+        alone.sizes.as_slice() == expected
             && found.sizes.as_slice() == expected
             && found.places.as_slice() == places,
     )
@@ -91,8 +91,8 @@ fn refuses(
     reason: LayoutError,
 ) -> Result<bool, LayoutError> {
     let seen = seen(alloc, count, cells)?;
-    let alone = least_sizes(alloc, count, &seen, &axis).err();
-    let found = certified_least(alloc, count, &seen, &axis).err();
+    let alone = LeastSizes::solve(alloc, count, &seen, &axis).err();
+    let found = CertifiedLeast::solve(alloc, count, &seen, &axis).err();
     Ok(alone == Some(reason) && found == Some(reason))
 }
 
@@ -122,11 +122,51 @@ fn as_by_shares_where_spans_are_nested(rt: HostRuntime) {
 }
 
 #[test]
-fn inner_line_counts_and_places_go_back(rt: HostRuntime) {
+fn inner_line_counts(rt: HostRuntime) {
     let cells = [(0, 0, 1, 4, 0), (1, 0, 1, 4, 0), (1, 1, 2, 3, 2)];
     let axis = OneLine { line: 2 };
     assert_eq!(rt;
-        finds(rt.alloc(), axis, &cells, &[4, 2, 2], &[at(1, 1), at(0, 0)]),
+        finds(rt.alloc(), axis, &cells, &[4, 2, 2], &[at(0, 0), at(1, 1)]),
+        Ok(true)
+    );
+}
+
+#[test]
+fn longer_cell_before_a_single_one(rt: HostRuntime) {
+    let cells = [
+        (0, 0, 2, 10, 0),
+        (1, 0, 1, 1, 0),
+        (1, 1, 2, 10, 0),
+        (2, 2, 1, 1, 0),
+    ];
+    assert_eq!(rt;
+        finds(
+            rt.alloc(),
+            NO_LINE,
+            &cells,
+            &[1, 9, 1],
+            &[at(1, 0), at(1, 1)]
+        ),
+        Ok(true)
+    );
+}
+
+#[test]
+fn single_cell_before_a_longer_one(rt: HostRuntime) {
+    let cells = [
+        (0, 0, 2, 10, 0),
+        (0, 2, 1, 1, 0),
+        (1, 0, 1, 1, 0),
+        (1, 1, 2, 10, 0),
+    ];
+    assert_eq!(rt;
+        finds(
+            rt.alloc(),
+            NO_LINE,
+            &cells,
+            &[1, 9, 1],
+            &[at(0, 0), at(0, 2)]
+        ),
         Ok(true)
     );
 }

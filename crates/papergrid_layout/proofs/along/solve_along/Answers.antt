@@ -1,5 +1,5 @@
 use Rattle.std.proofs.Common.{◌∙◌, subst, sym}
-use Rattle.papergrid_axis.specs.Answers.{Answers}
+use Rattle.papergrid_axis.specs.Answers.{AnswersWhere}
 use Rattle.papergrid_axis.specs.ForProofs.Seen.{IsSeen}
 use Rattle.papergrid_walk.specs.Cells.{count_along, demands_of, problem_with}
 use Rattle.papergrid_layout.proofs.AnswerLemmas.{unless}
@@ -14,4 +14,4 @@ returns g c =
     let same = c.count_of-count.ensures ∙ (λ k. count_along c.args.direction (c.count_columns-columns.ensures k) (found.3 k)) in
     let solved = c.solve.ensures demands (subst (λ n. IsSeen n c.in_ok-seen.seen demands) (sym same) found.2) in
     unless c.solve.result _
-    (found.0, found.1, subst (λ n. Answers g.T.Solution.solves (problem_with look measured c.args.direction n found.0) c.solve.result) same solved)
+    (found.0, found.1, subst (λ n. AnswersWhere g.T.Solution.too_large g.T.Solution.solves (problem_with look measured c.args.direction n found.0) c.solve.result) same solved)

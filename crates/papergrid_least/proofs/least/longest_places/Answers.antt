@@ -1,10 +1,10 @@
-use Rattle.std.proofs.Common.{◌≡◌, ℕ, ◌<◌, ◌∙◌, length, get_or, arith, None}
-use Rattle.std.specs.Prelude.{find}
+use Rattle.std.proofs.Common.{◌≡◌, ℕ, ◌<◌, ◌∙◌, length, get_or, ap, arith, None}
+use Rattle.std.specs.Prelude.{find, reverse}
 use Rattle.papergrid_axis.specs.ForProofs.Settled.{line_at}
 use Rattle.papergrid_least.specs.Edges.{asked}
 use Rattle.papergrid_least.specs.ForProofs.Followed.{pushes_by}
 use Rattle.std.proofs.lemmas.List.{with_items_is}
-use Rattle.papergrid_least.proofs.WayLemmas.{apart-edges, ends-edges, longest-met, rise-edges, starts-edges, table-lines}
+use Rattle.papergrid_least.proofs.WayLemmas.{alone-edges, apart-edges, ends-edges, longest-met, rise-edges, starts-edges, table-lines}
 use Rattle.papergrid_least.proofs.least.longest_places.Goals as goal
 
 pub mark_pushers-requires-clause-table : goal.mark_pushers-requires-clause-table
@@ -23,6 +23,10 @@ mark_pushers-requires-clause-apart c =
 pub follow-requires-clause-rise : goal.follow-requires-clause-rise
 follow-requires-clause-rise c = rw c.deref-4.ensures.value (rise-edges c.requires.settled.0 c.args.seen.now c.requires.settled.1 c.requires.small c.args.settled.now c.requires.settled.2)
 
+pub follow-requires-clause-alone : goal.follow-requires-clause-alone
+follow-requires-clause-alone c =
+    rw (c.deref-4.ensures.value, c.deref-5.ensures.value) (alone-edges c.requires.settled.0 c.args.seen.now c.requires.settled.1 c.requires.small c.args.settled.now c.requires.settled.2)
+
 pub follow-requires-clause-starts : goal.follow-requires-clause-starts
 follow-requires-clause-starts c =
     let many : length c.mark_pushers.new.pushers ≡ length c.args.settled.now.limits.earliest.items = omega (arith, c.mark_pushers.ensures.length, c.deref_mut.ensures.len, c.in_ok-pushers.ensures.len, c.len.ensures) in
@@ -38,4 +42,5 @@ returns c = λ problem is are.
     rw (c.deref.ensures.value, c.deref-2.ensures.value, c.deref-3.ensures.value) at c.mark_pushers.ensures.first in
     let pushers_are : c.deref-6.result.now ≡ c.mark_pushers.new.pushers = c.deref-6.ensures.value ∙ with_items_is c.in_ok-pushers.pushers c.mark_pushers.new.pushers (omega arith) in
     let met = rw (c.deref-4.ensures.value, c.deref-5.ensures.value, pushers_are) at c.in_ok-places.ensures in
-    met ∙ longest-met problem c.args.seen.now is c.requires.small c.args.settled.now are c.mark_pushers.new.pushers many first
+    c.reverse.ensures.items ∙ ap reverse met
+    ∙ longest-met problem c.args.seen.now is c.requires.small c.args.settled.now are c.mark_pushers.new.pushers many first

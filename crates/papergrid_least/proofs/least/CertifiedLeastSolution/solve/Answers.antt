@@ -1,7 +1,8 @@
+use Rattle.std.proofs.Common.{◌<◌, subst}
 use Rattle.std.proofs.lemmas.Result.{err_from_is_err_and}
-use Rattle.papergrid_axis.specs.Problem.{given}
+use Rattle.papergrid_axis.specs.Problem.{given, total_of}
 use Rattle.papergrid_least.proofs.LeastLemmas.{IsCertificate-least_of}
-use Rattle.papergrid_least.proofs.least.certified_least.Goals as goal
+use Rattle.papergrid_least.proofs.least.CertifiedLeastSolution.solve.Goals as goal
 
 pub returns-in_err-settled : goal.returns-in_err-settled
 returns-in_err-settled g c = λ demands seen. let p = err_from_is_err_and c.from_residual.result c.from_residual.ensures.1 in rw (p.1, p.2) (c.in_err-settled.ensures.settled demands seen)
@@ -14,5 +15,10 @@ returns g c = λ demands seen.
     let settled = c.in_ok-settled.ensures.settled demands seen in
     let problem = given (g.A.Axis.line c.args.axis.now) c.args.count demands in (
       settled.sizes,
-      record { exact = c.in_ok-places.ensures problem seen settled; certificate = IsCertificate-least_of problem settled.table },
+      record {
+        none_out = settled.sizes.none_out;
+        total = subst (λ xs. total_of problem xs < 18446744073709551616) settled.sizes.exact settled.sizes.total;
+        exact = c.in_ok-places.ensures problem seen settled;
+        certificate = IsCertificate-least_of problem settled.table;
+      },
     )

@@ -1,0 +1,316 @@
+//! The least sizes of records whose cells are texts, whatever spans cross, and the cells that certify them.
+
+ghost use Rattle.std.specs.Prelude.{◌≡◌, [], List};
+ghost use Rattle.papergrid_values.specs.declared.direction.Direction.TheVariants.{Columns, Rows};
+ghost use Rattle.papergrid_walk.specs.Looks.{spanned_look};
+ghost use Rattle.papergrid_walk.specs.Measures.{line_measure};
+ghost use Rattle.papergrid_least.specs.Answers.{IsLeastCertified, IsLeastSized, IsLeastTotal, LeastAnswers};
+ghost use Rattle.papergrid_walk.specs.Cells.{problem_of};
+ghost use Rattle.papergrid_layout.specs.Answers.{UnlessMemory};
+
+use crate::along::solve_along;
+use crate::both::solve_both;
+use crate::dimension::{Dimension, Estimate};
+use crate::size_list::SizeList;
+use crate::sums::with_lines;
+use papergrid_axis::LayoutError;
+use papergrid_config::SpannedConfig;
+use papergrid_least::{CertifiedLeast, LeastSizes};
+use papergrid_text::{IntoRecords, Records};
+use papergrid_values::{Direction, Position};
+use papergrid_walk::measure::ByLines;
+use std::alloc::Global;
+use std::convert::AsStr;
+
+/// Widths of columns and heights of rows whose totals are least, whatever spans cross. A cell is as wide
+/// as the widest of its lines between newlines, and as high as there are lines. The sizes are those of
+/// `IterGridDimension` wherever the totals of these are least.
+#[derive(Clone, Debug, PartialEq, Drop)]
+pub struct LeastGridDimension {
+    alloc: Global,
+    widths: SizeList,
+    heights: SizeList,
+}
+
+impl LeastGridDimension {
+    /// No sizes. It takes no memory.
+    pub fn new(alloc: Global) -> LeastGridDimension
+        ensures widths { result.widths ≡ [] }
+        ensures heights { result.heights ≡ [] }
+    {
+        LeastGridDimension {
+            alloc,
+            widths: SizeList::new(alloc),
+            heights: SizeList::new(alloc),
+        }
+    }
+
+    /// The widths of the columns of the records, in columns of a terminal: no widths with room for each
+    /// visible cell have a smaller sum.
+    ///
+    /// Condition: the records are lawful: they tell one finite list of rows, as each vector of
+    /// rows does.
+    ///
+    /// # Errors
+    ///
+    /// `OutOfTable` with the first visible cell that reaches out along columns, else `TooLarge` where
+    /// no widths with room for each visible cell come, with the vertical lines, to at most the greatest
+    /// `usize`; `Memory` in place of any answer.
+    pub fn width<R: Records + Drop>(
+        alloc: Global,
+        records: R,
+        config: &SpannedConfig,
+    ) -> Result<Vec<usize>, LayoutError>
+    where
+        <<R as Records>::Iter as IntoRecords>::Cell: AsStr + Drop,
+        requires { R.is_lawful records }
+        ensures { UnlessMemory result ((cells : List (List R.Iter.Cell)) × R.tells records cells
+            × IsLeastSized (problem_of (spanned_look config.now) (line_measure R.Iter.Cell.text)
+            (R.columns records) cells Columns) result) }
+    {
+        sizes_along(alloc, records, config, Direction::Columns)
+    }
+
+    /// The heights of the rows of the records, in lines: no heights with room for each visible cell have
+    /// a smaller sum.
+    ///
+    /// Condition: the records are lawful: they tell one finite list of rows, as each vector of
+    /// rows does.
+    ///
+    /// # Errors
+    ///
+    /// As those of `width`, along rows and with the horizontal lines.
+    pub fn height<R: Records + Drop>(
+        alloc: Global,
+        records: R,
+        config: &SpannedConfig,
+    ) -> Result<Vec<usize>, LayoutError>
+    where
+        <<R as Records>::Iter as IntoRecords>::Cell: AsStr + Drop,
+        requires { R.is_lawful records }
+        ensures { UnlessMemory result ((cells : List (List R.Iter.Cell)) × R.tells records cells
+            × IsLeastSized (problem_of (spanned_look config.now) (line_measure R.Iter.Cell.text)
+            (R.columns records) cells Rows) result) }
+    {
+        sizes_along(alloc, records, config, Direction::Rows)
+    }
+
+    /// The width of the records' table: the sum of the widths and of the vertical lines.
+    ///
+    /// Condition: the records are lawful: they tell one finite list of rows, as each vector of
+    /// rows does.
+    ///
+    /// # Errors
+    ///
+    /// As those of `width`.
+    pub fn width_total<R: Records + Drop>(
+        alloc: Global,
+        records: R,
+        config: &SpannedConfig,
+    ) -> Result<usize, LayoutError>
+    where
+        <<R as Records>::Iter as IntoRecords>::Cell: AsStr + Drop,
+        requires { R.is_lawful records }
+        ensures { UnlessMemory result ((cells : List (List R.Iter.Cell)) × R.tells records cells
+            × LeastAnswers IsLeastTotal (problem_of (spanned_look config.now) (line_measure R.Iter.Cell.text)
+            (R.columns records) cells Columns) result) }
+    {
+        total_along(alloc, records, config, Direction::Columns)
+    }
+
+    /// The height of the records' table: the sum of the heights and of the horizontal lines.
+    ///
+    /// Condition: the records are lawful: they tell one finite list of rows, as each vector of
+    /// rows does.
+    ///
+    /// # Errors
+    ///
+    /// As those of `height`.
+    pub fn height_total<R: Records + Drop>(
+        alloc: Global,
+        records: R,
+        config: &SpannedConfig,
+    ) -> Result<usize, LayoutError>
+    where
+        <<R as Records>::Iter as IntoRecords>::Cell: AsStr + Drop,
+        requires { R.is_lawful records }
+        ensures { UnlessMemory result ((cells : List (List R.Iter.Cell)) × R.tells records cells
+            × LeastAnswers IsLeastTotal (problem_of (spanned_look config.now) (line_measure R.Iter.Cell.text)
+            (R.columns records) cells Rows) result) }
+    {
+        total_along(alloc, records, config, Direction::Rows)
+    }
+
+    /// The widths and the heights.
+    pub fn get_values(self) -> (Vec<usize>, Vec<usize>)
+        ensures widths { result.0.items ≡ self.widths }
+        ensures heights { result.1.items ≡ self.heights }
+    {
+        let LeastGridDimension {
+            alloc: _,
+            widths,
+            heights,
+        } = self;
+        (widths.into_vec(), heights.into_vec())
+    }
+}
+
+/// The least sizes of the records along a direction.
+fn sizes_along<R: Records + Drop>(
+    alloc: Global,
+    records: R,
+    config: &SpannedConfig,
+    direction: Direction,
+) -> Result<Vec<usize>, LayoutError>
+where
+    <<R as Records>::Iter as IntoRecords>::Cell: AsStr + Drop,
+    requires { R.is_lawful records }
+    ensures { UnlessMemory result ((cells : List (List R.Iter.Cell)) × R.tells records cells
+        × IsLeastSized (problem_of (spanned_look config.now) (line_measure R.Iter.Cell.text)
+        (R.columns records) cells direction) result) }
+{
+    match solve_along::<LeastSizes, ByLines, R, SpannedConfig>(alloc, records, config, direction) {
+        Ok(found) => Ok(found.sizes),
+        Err(refused) => Err(refused),
+    }
+}
+
+/// The total of the records along a direction: the sum of the sizes and of the lines.
+fn total_along<R: Records + Drop>(
+    alloc: Global,
+    records: R,
+    config: &SpannedConfig,
+    direction: Direction,
+) -> Result<usize, LayoutError>
+where
+    <<R as Records>::Iter as IntoRecords>::Cell: AsStr + Drop,
+    requires { R.is_lawful records }
+    ensures { UnlessMemory result ((cells : List (List R.Iter.Cell)) × R.tells records cells
+        × LeastAnswers IsLeastTotal (problem_of (spanned_look config.now) (line_measure R.Iter.Cell.text)
+        (R.columns records) cells direction) result) }
+{
+    match sizes_along(alloc, records, config, direction) {
+        Ok(sizes) => Ok(with_lines(config, direction, &sizes)),
+        Err(error) => Err(error),
+    }
+}
+
+/// The positions of the cells that certify that the least sizes of the records along a direction are that.
+fn certificate<R: Records + Drop>(
+    alloc: Global,
+    records: R,
+    config: &SpannedConfig,
+    direction: Direction,
+) -> Result<Vec<Position>, LayoutError>
+where
+    <<R as Records>::Iter as IntoRecords>::Cell: AsStr + Drop,
+    requires { R.is_lawful records }
+    ensures { UnlessMemory result ((cells : List (List R.Iter.Cell)) × R.tells records cells
+        × IsLeastCertified (problem_of (spanned_look config.now) (line_measure R.Iter.Cell.text)
+        (R.columns records) cells direction) result) }
+{
+    match solve_along::<CertifiedLeast, ByLines, R, SpannedConfig>(
+        alloc, records, config, direction,
+    ) {
+        Ok(found) => Ok(found.places),
+        Err(refused) => Err(refused),
+    }
+}
+
+/// The positions of the cells that certify that the widths of the records' columns are least, by the
+/// starts of their ranges: visible cells of disjoint ranges, whose needs less the lines inside of
+/// them add up to the widths. There always are such cells.
+///
+/// Condition: the records are lawful: they tell one finite list of rows, as each vector of
+/// rows does.
+///
+/// # Errors
+///
+/// As those of `LeastGridDimension::width`.
+pub fn width_certificate<R: Records + Drop>(
+    alloc: Global,
+    records: R,
+    config: &SpannedConfig,
+) -> Result<Vec<Position>, LayoutError>
+where
+    <<R as Records>::Iter as IntoRecords>::Cell: AsStr + Drop,
+    requires { R.is_lawful records }
+    ensures { UnlessMemory result ((cells : List (List R.Iter.Cell)) × R.tells records cells
+        × IsLeastCertified (problem_of (spanned_look config.now) (line_measure R.Iter.Cell.text)
+        (R.columns records) cells Columns) result) }
+{
+    certificate(alloc, records, config, Direction::Columns)
+}
+
+/// The positions of the cells that certify that the heights of the records' rows are least, as
+/// `width_certificate` for columns.
+///
+/// Condition: the records are lawful: they tell one finite list of rows, as each vector of
+/// rows does.
+///
+/// # Errors
+///
+/// As those of `LeastGridDimension::height`.
+pub fn height_certificate<R: Records + Drop>(
+    alloc: Global,
+    records: R,
+    config: &SpannedConfig,
+) -> Result<Vec<Position>, LayoutError>
+where
+    <<R as Records>::Iter as IntoRecords>::Cell: AsStr + Drop,
+    requires { R.is_lawful records }
+    ensures { UnlessMemory result ((cells : List (List R.Iter.Cell)) × R.tells records cells
+        × IsLeastCertified (problem_of (spanned_look config.now) (line_measure R.Iter.Cell.text)
+        (R.columns records) cells Rows) result) }
+{
+    certificate(alloc, records, config, Direction::Rows)
+}
+
+impl Dimension for LeastGridDimension {
+    ghost use Rattle.std.specs.Prelude.{◌<◌, length, slice_index};
+
+    ghost has_column = { λ d column. column < length d.widths };
+
+    ghost has_row = { λ d row. row < length d.heights };
+
+    ghost width_of = { λ d column. slice_index d.widths column };
+
+    ghost height_of = { λ d row. slice_index d.heights row };
+
+    fn get_width(&self, column: usize) -> usize {
+        self.widths.get(column)
+    }
+
+    fn get_height(&self, row: usize) -> usize {
+        self.heights.get(row)
+    }
+}
+
+impl<R: Records + Drop> Estimate<R, SpannedConfig> for LeastGridDimension
+where
+    <<R as Records>::Iter as IntoRecords>::Cell: AsStr + Drop,
+{
+    ghost use Rattle.std.specs.Prelude.{List};
+    ghost use Rattle.papergrid_walk.specs.Looks.{spanned_look};
+    ghost use Rattle.papergrid_walk.specs.Measures.{line_measure};
+    ghost use Rattle.papergrid_layout.specs.Answers.{AreBothLeast, HaveNoLeast, UnlessWant};
+
+    ghost accepts = { R.is_lawful };
+
+    ghost is_estimate = { λ d records config. (cells : List (List R.Iter.Cell)) × R.tells records cells
+        × AreBothLeast (spanned_look config) (line_measure R.Iter.Cell.text) (R.columns records) cells d.widths d.heights };
+
+    ghost is_refused = { λ d records config error. UnlessWant error ((cells : List (List R.Iter.Cell)) × R.tells records cells
+        × HaveNoLeast (spanned_look config) (line_measure R.Iter.Cell.text) (R.columns records) cells error) };
+
+    fn estimate(&mut self, records: R, config: &SpannedConfig) -> Result<(), LayoutError> {
+        match solve_both::<LeastSizes, ByLines, R, SpannedConfig>(self.alloc, records, config) {
+            Ok((across, down)) => {
+                self.widths = SizeList::of(across.sizes);
+                self.heights = SizeList::of(down.sizes);
+                Ok(())
+            }
+            Err(refused) => Err(refused),
+        }
+    }
+}
