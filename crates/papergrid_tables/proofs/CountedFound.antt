@@ -13,11 +13,12 @@ use Rattle.papergrid_values.specs.Positions.{along}
 use Rattle.papergrid_values.specs.declared.direction.Direction.{Direction}
 use Rattle.papergrid_values.specs.declared.position.Position.{Position}
 use Rattle.papergrid_tables.specs.BorderScan.{has_end}
-use Rattle.papergrid_tables.specs.ForProofs.CountedLines.{AreEndsCounted}
+use Rattle.papergrid_tables.specs.ForProofs.CountedLines.{AreEndsCounted, is_held, reaches}
 use Rattle.papergrid_tables.specs.ForProofs.Counts.{AreCounts, count_of}
 use Rattle.papergrid_tables.specs.Keys.{position_cmp}
-use Rattle.papergrid_tables.specs.Places.{HasEnd}
+use Rattle.papergrid_tables.specs.Places.{EndsThere, HasEnd, StandsOn}
 use Rattle.papergrid_tables.specs.declared.counted_lines.Lines.{Lines}
+use Rattle.papergrid_tables.specs.declared.line_counts.LineCounts.{LineCounts}
 use Rattle.papergrid_tables.proofs.AnyLemmas.{any_from_found, some_key}
 use Rattle.papergrid_tables.proofs.BorderFound.{either, ends_scan, key_scan, some_value}
 use Rattle.papergrid_tables.proofs.KeyLemmas.{exact_position_eq, get_at_position, position_equiv}
@@ -74,13 +75,14 @@ places_counted direction n places counts b counted is =
           ∙ any_from_found position_equiv (λ e. test e.0) places.entries exact_position_eq h.0 held.0 (sym (get_at_position places.entries h.0) ∙ held.1) (eq-eqb _ _ h.1)),
     )
 
--- a line, an edge or a corner
-pub any_held : {L T R S U V W : Type 0} (direction : Direction) (n : ℕ) (lines : HashMap ℕ L W) (edges : HashMap Position T R) (edge_counts : HashMap ℕ ℕ S) (corners : HashMap Position T U) (corner_counts : HashMap ℕ ℕ V) (b : Bool)
-    → AreCounts direction edge_counts (keys edges) → AreCounts direction corner_counts (keys corners)
-    → b ≡ (is_some (get_in eqb lines n) || (nat_lt 0 (count_of edge_counts n) || nat_lt 0 (count_of corner_counts n)))
-    → IsTrue b ↔ (IsSome (get (from_entries {R = nat_cmp} lines.entries) n)
-    ⊎ (((p : Position) × (along direction p ≡ n) × IsSome (get (from_entries {R = position_cmp} edges.entries) p))
-    ⊎ ((p : Position) × (along direction p ≡ n) × IsSome (get (from_entries {R = position_cmp} corners.entries) p))))
-any_held direction n lines edges edge_counts corners corner_counts b edges_counted corners_counted is =
-    rw is (either _ _ (key_scan lines.entries n _ refl)
-    (either _ _ (places_counted direction n edges edge_counts _ edges_counted refl) (places_counted direction n corners corner_counts _ corners_counted refl)))
+-- an end of a line across, a line, an edge or a corner
+pub set_counted : {A L T R U W : Type 0} (direction : Direction) (n count : ℕ) (first end : A → Option T) (across : Lines A) (lines : HashMap ℕ L W) (edges : HashMap Position T R) (edge_counts : LineCounts) (corners : HashMap Position T U) (corner_counts : LineCounts) (b : Bool)
+    → AreEndsCounted (λ line. is_some (first line)) (λ line. is_some (end line)) across → AreCounts direction edge_counts.counts (keys edges) → AreCounts direction corner_counts.counts (keys corners)
+    → b ≡ (reaches n count across || is_held lines edge_counts corner_counts n)
+    → IsTrue b ↔ (EndsThere (λ k. get (from_entries {R = nat_cmp} across.values.entries) k) first end n count
+    ⊎ (IsSome (get (from_entries {R = nat_cmp} lines.entries) n)
+    ⊎ (StandsOn direction n (λ p. get (from_entries {R = position_cmp} edges.entries) p)
+    ⊎ StandsOn direction n (λ p. get (from_entries {R = position_cmp} corners.entries) p))))
+set_counted direction n count first end across lines edges edge_counts corners corner_counts b ends edges_counted corners_counted is =
+    rw is (either _ _ (ends_counted first end n count across _ ends refl) (either _ _ (key_scan lines.entries n _ refl)
+    (either _ _ (places_counted direction n edges edge_counts.counts _ edges_counted refl) (places_counted direction n corners corner_counts.counts _ corners_counted refl))))

@@ -18,6 +18,7 @@ use Rattle.papergrid_tables.specs.Places.{HasHorizontal, HasVertical, HasEnd}
 use Rattle.papergrid_tables.proofs.AnyLemmas.{any_place}
 use Rattle.papergrid_tables.proofs.BorderFound.{either, has_end_is, some_value}
 use Rattle.papergrid_tables.proofs.KeyLemmas.{exact_position_eq, position_ties, position_equiv}
+use Rattle.papergrid_tables.proofs.ResultLemmas.{same_answer}
 
 -- some key that is held passes
 module _ {K X : Type 0} {R : K → K → Ordering} (exact : (x y : K) → eq_by_cmp R x y ≡ true → x ≡ y) (ties : (x : K) → eq_by_cmp R x x ≡ true) (m : FinMap R X) (test : K → Bool) where
@@ -77,3 +78,10 @@ module _ {T : Type 0} (held : HeldBorders T) where
       either _ _ (itself _) (either _ _ (itself _) (either _ _
       (end_test (λ (line : VerticalLine T). HasEnd r count line.top line.bottom) (ends_at_row r count) held.vertical_lines (λ line. has_end_is r count line.top line.bottom) refl)
       (either _ _ (itself _) (either _ _ (place_test (λ p. p.row) r held.horizontal_edges) (place_test (λ p. p.row) r held.corners)))))
+
+  -- a test of a line is the test of it
+  pub vertical_test : (c count : ℕ) (b : Bool) → (IsTrue b ↔ HasVertical (places_of held) c count) → b ≡ vertical_line_at held c count
+  vertical_test c count b is = same_answer b _ is (vertical_tested c count)
+
+  pub horizontal_test : (r count : ℕ) (b : Bool) → (IsTrue b ↔ HasHorizontal (places_of held) r count) → b ≡ horizontal_line_at held r count
+  horizontal_test r count b is = same_answer b _ is (horizontal_tested r count)

@@ -101,26 +101,14 @@ number_named : (k q : ℕ) → eqb k q ≡ true → list_any (eq_by_cmp nat_cmp 
 number_named k q h = or_left _ _ (unsigned_tied q k ∙ eq-eqb q k (sym (eqb-true k q h)))
 
 row_named : {T : Type 0} (q : ℕ) (call : BorderCall T) → writes (at_horizontal_line q call) ≡ true → list_any (eq_by_cmp nat_cmp q) (named_rows call) ≡ true
-row_named q (InsertBorder p b) h = absurd (false≢true h)
-row_named q (RemoveBorder p) h = absurd (false≢true h)
 row_named q (InsertHorizontalLine k line) h = number_named k q (writes_where (eqb k q) line h)
 row_named q (RemoveHorizontalLine k) h = absurd (never_removes _ (eqb k q) h)
-row_named q (InsertVerticalLine k line) h = absurd (false≢true h)
-row_named q (RemoveVerticalLine k) h = absurd (false≢true h)
-row_named q (SetBorders f) h = absurd (false≢true h)
-row_named q (SetGlobal v) h = absurd (false≢true h)
-row_named q Clear h = absurd (false≢true h)
+row_named q call h = absurd (false≢true h)
 
 column_named : {T : Type 0} (q : ℕ) (call : BorderCall T) → writes (at_vertical_line q call) ≡ true → list_any (eq_by_cmp nat_cmp q) (named_columns call) ≡ true
-column_named q (InsertBorder p b) h = absurd (false≢true h)
-column_named q (RemoveBorder p) h = absurd (false≢true h)
-column_named q (InsertHorizontalLine k line) h = absurd (false≢true h)
-column_named q (RemoveHorizontalLine k) h = absurd (false≢true h)
 column_named q (InsertVerticalLine k line) h = number_named k q (writes_where (eqb k q) line h)
 column_named q (RemoveVerticalLine k) h = absurd (never_removes _ (eqb k q) h)
-column_named q (SetBorders f) h = absurd (false≢true h)
-column_named q (SetGlobal v) h = absurd (false≢true h)
-column_named q Clear h = absurd (false≢true h)
+column_named q call h = absurd (false≢true h)
 
 -- a part at a place: it is written there alone
 set_at : {T : Type 0} (p q : Position) (part : Option T) → is_some (at_place p q part) ≡ true → eq_by_cmp position_cmp q p ≡ true
@@ -156,37 +144,19 @@ module _ {T : Type 0} (q : Position) where
   horizontal_edge_named : (call : BorderCall T) → writes (at_horizontal_edge q call) ≡ true → list_any (eq_by_cmp position_cmp q) (named_places call) ≡ true
   horizontal_edge_named (InsertBorder p b) h = either_set (at_place p q b.top) (at_place (below p) q b.bottom) _ (writes_set _ h) (at_cell p q b.top) (at_below p q b.bottom)
   horizontal_edge_named (RemoveBorder p) h = absurd (never_removes _ (position_eq p q || position_eq (below p) q) h)
-  horizontal_edge_named (InsertHorizontalLine k line) h = absurd (false≢true h)
-  horizontal_edge_named (RemoveHorizontalLine k) h = absurd (false≢true h)
-  horizontal_edge_named (InsertVerticalLine k line) h = absurd (false≢true h)
-  horizontal_edge_named (RemoveVerticalLine k) h = absurd (false≢true h)
-  horizontal_edge_named (SetBorders f) h = absurd (false≢true h)
-  horizontal_edge_named (SetGlobal v) h = absurd (false≢true h)
-  horizontal_edge_named Clear h = absurd (false≢true h)
+  horizontal_edge_named call h = absurd (false≢true h)
 
   vertical_edge_named : (call : BorderCall T) → writes (at_vertical_edge q call) ≡ true → list_any (eq_by_cmp position_cmp q) (named_places call) ≡ true
   vertical_edge_named (InsertBorder p b) h = either_set (at_place p q b.left) (at_place (right_of p) q b.right) _ (writes_set _ h) (at_cell p q b.left) (at_right p q b.right)
   vertical_edge_named (RemoveBorder p) h = absurd (never_removes _ (position_eq p q || position_eq (right_of p) q) h)
-  vertical_edge_named (InsertHorizontalLine k line) h = absurd (false≢true h)
-  vertical_edge_named (RemoveHorizontalLine k) h = absurd (false≢true h)
-  vertical_edge_named (InsertVerticalLine k line) h = absurd (false≢true h)
-  vertical_edge_named (RemoveVerticalLine k) h = absurd (false≢true h)
-  vertical_edge_named (SetBorders f) h = absurd (false≢true h)
-  vertical_edge_named (SetGlobal v) h = absurd (false≢true h)
-  vertical_edge_named Clear h = absurd (false≢true h)
+  vertical_edge_named call h = absurd (false≢true h)
 
   corner_named : (call : BorderCall T) → writes (at_corner q call) ≡ true → list_any (eq_by_cmp position_cmp q) (named_places call) ≡ true
   corner_named (InsertBorder p b) h = either_set (at_place p q b.left_top_corner) _ _ (writes_set _ h) (at_cell p q b.left_top_corner)
       (λ h. either_set (at_place (right_of p) q b.right_top_corner) _ _ h (at_right p q b.right_top_corner)
       (λ h. either_set (at_place (below p) q b.left_bottom_corner) (at_place (below (right_of p)) q b.right_bottom_corner) _ h (at_below p q b.left_bottom_corner) (at_opposite p q b.right_bottom_corner)))
   corner_named (RemoveBorder p) h = absurd (never_removes _ ((position_eq p q || position_eq (right_of p) q) || (position_eq (below p) q || position_eq (below (right_of p)) q)) h)
-  corner_named (InsertHorizontalLine k line) h = absurd (false≢true h)
-  corner_named (RemoveHorizontalLine k) h = absurd (false≢true h)
-  corner_named (InsertVerticalLine k line) h = absurd (false≢true h)
-  corner_named (RemoveVerticalLine k) h = absurd (false≢true h)
-  corner_named (SetBorders f) h = absurd (false≢true h)
-  corner_named (SetGlobal v) h = absurd (false≢true h)
-  corner_named Clear h = absurd (false≢true h)
+  corner_named call h = absurd (false≢true h)
 
 -- ---- the table
 

@@ -29,21 +29,14 @@ module _ {T : Type 0} (R : Option T → Option T → Type 0) (appears : (x : T) 
   part_set (Some x) (Some y) h = refl
 
   -- lines, part by part
+  line_copy : {L : Type 0} (made : Option T → Option T → Option T → Option T → L) → ((x y : T) → R (Some x) (Some y) → y ≡ x) → (m c f l m' c' f' l' : Option T) → R m m' → R c c' → R f f' → R l l' → made m' c' f' l' ≡ made m c f l
+  line_copy made same m c f l m' c' f' l' main crossing first last = λ i. made (part_copy same m m' main i) (part_copy same c c' crossing i) (part_copy same f f' first i) (part_copy same l l' last i)
+
   pub horizontal_line_copy : ((x y : T) → R (Some x) (Some y) → y ≡ x) → (old copy : HorizontalLine T) → R old.main copy.main → R old.intersection copy.intersection → R old.left copy.left → R old.right copy.right → copy ≡ old
-  horizontal_line_copy same old copy main crossing first last = λ i. record {
-    main = part_copy same old.main copy.main main i;
-    intersection = part_copy same old.intersection copy.intersection crossing i;
-    left = part_copy same old.left copy.left first i;
-    right = part_copy same old.right copy.right last i;
-  }
+  horizontal_line_copy same old copy = line_copy (λ m c f l. record { main = m; intersection = c; left = f; right = l }) same old.main old.intersection old.left old.right _ _ _ _
 
   pub vertical_line_copy : ((x y : T) → R (Some x) (Some y) → y ≡ x) → (old copy : VerticalLine T) → R old.main copy.main → R old.intersection copy.intersection → R old.top copy.top → R old.bottom copy.bottom → copy ≡ old
-  vertical_line_copy same old copy main crossing first last = λ i. record {
-    main = part_copy same old.main copy.main main i;
-    intersection = part_copy same old.intersection copy.intersection crossing i;
-    top = part_copy same old.top copy.top first i;
-    bottom = part_copy same old.bottom copy.bottom last i;
-  }
+  vertical_line_copy same old copy = line_copy (λ m c f l. record { main = m; intersection = c; top = f; bottom = l }) same old.main old.intersection old.top old.bottom _ _ _ _
 
 module _ {K X : Type 0} (C : K → K → Type 0) (D : X → X → Type 0) where
   pub keys_copied : ((x y : K) → C x y → y ≡ x) → (es fs : List (K × X)) → AllZip (λ p q. C p.0 q.0 × D p.1 q.1) es fs → keys_of fs ≡ keys_of es

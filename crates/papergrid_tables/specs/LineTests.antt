@@ -1,13 +1,16 @@
 -- Whether a border table has a line, as a test of what it holds.
 use Rattle.std.specs.Prelude.{ℕ, ◌==◌, ◌||◌, Bool, false, Option, Some, None, is_some}
 use Rattle.std.specs.List.{list_any}
-use Rattle.std.specs.FinMap.{get, keys, contains_key}
-use Rattle.papergrid_values.specs.Borders.{has_left, has_right, has_top, has_bottom, has_horizontal, has_vertical}
+use Rattle.std.specs.FinMap.{FinMap, get, keys, contains_key}
+use Rattle.papergrid_values.specs.Positions.{along}
+use Rattle.papergrid_values.specs.declared.direction.Direction.{Direction}
+use Rattle.papergrid_values.specs.declared.direction.Direction.TheVariants.{Columns, Rows}
 use Rattle.papergrid_values.specs.declared.horizontal_line.HorizontalLine.{HorizontalLine}
 use Rattle.papergrid_values.specs.declared.vertical_line.VerticalLine.{VerticalLine}
 use Rattle.papergrid_tables.specs.BorderHeld.{HeldBorders}
 use Rattle.papergrid_tables.specs.BorderScan.{has_end}
-use Rattle.papergrid_tables.specs.Places.{at_ends}
+use Rattle.papergrid_tables.specs.Keys.{position_cmp}
+use Rattle.papergrid_tables.specs.Places.{in_frame_horizontal, in_frame_vertical}
 
 module _ {T : Type 0} where
   -- a horizontal line has an end at column c of count, and a vertical line one at row r of count
@@ -19,19 +22,20 @@ module _ {T : Type 0} where
   ends_at_row r count None = false
   ends_at_row r count (Some line) = has_end r count line.top line.bottom
 
+  -- something is held at a position on the line n of a direction
+  abbrev pub stands_on : Direction → ℕ → FinMap position_cmp T → Bool
+  stands_on direction n held = list_any (λ p. along direction p == n) (keys held)
+
   -- the global value, the frame, an end of a line across, a line, an edge or a corner
   abbrev pub vertical_line_at : HeldBorders T → ℕ → ℕ → Bool
   vertical_line_at held c count =
-      is_some held.global
-      || (at_ends c count (has_left held.frame) (has_right held.frame) (has_vertical held.frame)
+      is_some held.global || (in_frame_vertical held.frame c count
       || (list_any (λ r. ends_at_column c count (get held.horizontal_lines r)) (keys held.horizontal_lines)
-      || (contains_key held.vertical_lines c
-      || (list_any (λ p. p.col == c) (keys held.vertical_edges) || list_any (λ p. p.col == c) (keys held.corners)))))
+      || (contains_key held.vertical_lines c || (stands_on Columns c held.vertical_edges || stands_on Columns c held.corners))))
 
+  -- the same of a horizontal line
   abbrev pub horizontal_line_at : HeldBorders T → ℕ → ℕ → Bool
   horizontal_line_at held r count =
-      is_some held.global
-      || (at_ends r count (has_top held.frame) (has_bottom held.frame) (has_horizontal held.frame)
+      is_some held.global || (in_frame_horizontal held.frame r count
       || (list_any (λ c. ends_at_row r count (get held.vertical_lines c)) (keys held.vertical_lines)
-      || (contains_key held.horizontal_lines r
-      || (list_any (λ p. p.row == r) (keys held.horizontal_edges) || list_any (λ p. p.row == r) (keys held.corners)))))
+      || (contains_key held.horizontal_lines r || (stands_on Rows r held.horizontal_edges || stands_on Rows r held.corners))))

@@ -3,6 +3,9 @@ use Rattle.std.specs.Prelude.{◌≡◌, ℕ, ◌==◌, ◌&&◌, ◌||◌, nat_
 use Rattle.std.specs.Option.{option_or}
 use Rattle.papergrid_values.specs.Borders.{frame_parts, has_left, has_right, has_top, has_bottom, has_horizontal, has_vertical}
 use Rattle.papergrid_values.specs.Parts.{none_set}
+use Rattle.papergrid_values.specs.Positions.{along}
+use Rattle.papergrid_values.specs.declared.direction.Direction.{Direction}
+use Rattle.papergrid_values.specs.declared.direction.Direction.TheVariants.{Columns, Rows}
 use Rattle.papergrid_values.specs.declared.position.Position.{Position}
 use Rattle.papergrid_values.specs.declared.border.Border.{Border}
 use Rattle.papergrid_values.specs.declared.borders.Borders.{Borders}
@@ -145,30 +148,42 @@ module _ {T : Type 0} where
   abbrev pub HasEnd : ℕ → ℕ → Option T → Option T → Type 0
   HasEnd place count first end = ((place ≡ 0) × IsSome first) ⊎ ((place ≡ count) × IsSome end)
 
+  -- one of the lines does
+  abbrev pub EndsThere : {L : Type 0} → (ℕ → Option L) → (L → Option T) → (L → Option T) → ℕ → ℕ → Type 0
+  EndsThere {L = L} lines first end place count =
+      (n : ℕ) × (line : L) × (lines n ≡ Some line) × HasEnd place count (first line) (end line)
+
+  -- something is at a position on the line n of a direction
+  abbrev pub StandsOn : Direction → ℕ → (Position → Option T) → Type 0
+  StandsOn direction n held = (p : Position) × (along direction p ≡ n) × IsSome (held p)
+
   -- the vertical line c of count has an end of a horizontal line, a line, an edge or a corner
   abbrev pub IsVerticalSet : Places T → ℕ → ℕ → Type 0
   IsVerticalSet places c count =
-      ((r : ℕ) × (line : HorizontalLine T) × (places.horizontal_line r ≡ Some line) × HasEnd c count line.left line.right)
+      EndsThere places.horizontal_line (λ line. line.left) (λ line. line.right) c count
       ⊎ IsSome (places.vertical_line c)
-      ⊎ ((p : Position) × (p.col ≡ c) × IsSome (places.vertical_edge p))
-      ⊎ ((p : Position) × (p.col ≡ c) × IsSome (places.corner p))
+      ⊎ StandsOn Columns c places.vertical_edge ⊎ StandsOn Columns c places.corner
 
+  -- the horizontal line r of count has an end of a vertical line, a line, an edge or a corner
   abbrev pub IsHorizontalSet : Places T → ℕ → ℕ → Type 0
   IsHorizontalSet places r count =
-      ((c : ℕ) × (line : VerticalLine T) × (places.vertical_line c ≡ Some line) × HasEnd r count line.top line.bottom)
+      EndsThere places.vertical_line (λ line. line.top) (λ line. line.bottom) r count
       ⊎ IsSome (places.horizontal_line r)
-      ⊎ ((p : Position) × (p.row ≡ r) × IsSome (places.horizontal_edge p))
-      ⊎ ((p : Position) × (p.row ≡ r) × IsSome (places.corner p))
+      ⊎ StandsOn Rows r places.horizontal_edge ⊎ StandsOn Rows r places.corner
 
-  -- the global value, the frame, or one of the above
+  -- the frame has a part for the vertical line c of count, or for the horizontal line r of count
+  abbrev pub in_frame_vertical : Borders T → ℕ → ℕ → Bool
+  in_frame_vertical frame c count = at_ends c count (has_left frame) (has_right frame) (has_vertical frame)
+
+  abbrev pub in_frame_horizontal : Borders T → ℕ → ℕ → Bool
+  in_frame_horizontal frame r count = at_ends r count (has_top frame) (has_bottom frame) (has_horizontal frame)
+
+  -- there is a vertical line c of count: the global value, the frame, or one of the above
   abbrev pub HasVertical : Places T → ℕ → ℕ → Type 0
   HasVertical places c count =
-      IsSome places.global
-      ⊎ (at_ends c count (has_left places.frame) (has_right places.frame) (has_vertical places.frame) ≡ true)
-      ⊎ IsVerticalSet places c count
+      IsSome places.global ⊎ (in_frame_vertical places.frame c count ≡ true) ⊎ IsVerticalSet places c count
 
+  -- there is a horizontal line r of count, likewise
   abbrev pub HasHorizontal : Places T → ℕ → ℕ → Type 0
   HasHorizontal places r count =
-      IsSome places.global
-      ⊎ (at_ends r count (has_top places.frame) (has_bottom places.frame) (has_horizontal places.frame) ≡ true)
-      ⊎ IsHorizontalSet places r count
+      IsSome places.global ⊎ (in_frame_horizontal places.frame r count ≡ true) ⊎ IsHorizontalSet places r count

@@ -3,17 +3,17 @@
 ghost use Rattle.std.specs.Prelude.{◌≡◌, ◌+◌, ◌<◌, ◌^◌, ◌||◌, OnOk, None, if◌then◌else◌, is_some, nat_eq, nat_lt, option_copied, option_and_then};
 ghost use Rattle.std.specs.Option.{option_or};
 ghost use Rattle.std.specs.HashMap.{get as map_get};
-ghost use Rattle.papergrid_values.specs.Borders.{has_bottom, has_horizontal, has_left, has_right, has_top, has_vertical};
 ghost use Rattle.papergrid_values.specs.declared.direction.Direction.TheVariants.{Columns, Rows};
 ghost use Rattle.papergrid_values.specs.declared.position.Position.{Position};
 ghost use Rattle.papergrid_tables.specs.BorderCalls.{below, right_of, horizontal_part, vertical_part, corner_part};
 ghost use Rattle.papergrid_tables.specs.ForProofs.CountedPlaces.{AreCornersCounted, AreEdgesCounted, HasCornerRoom, HasEdgeRoom};
-ghost use Rattle.papergrid_tables.specs.ForProofs.Counts.{count_of};
+ghost use Rattle.papergrid_tables.specs.ForProofs.CountedLines.{is_held, reaches};
 ghost use Rattle.papergrid_tables.specs.Keys.{position_eq};
 ghost use Rattle.papergrid_tables.specs.Places as places;
 
+use crate::counted_lines::Lines;
 use crate::counted_places::{Corners, Edges};
-use crate::hashed::is_held;
+use crate::hashed;
 use crate::line_counts::LineCounts;
 use papergrid_values::{Border, Borders, Direction, HorizontalLine, Position, VerticalLine};
 use std::alloc::AllocError;
@@ -36,28 +36,20 @@ pub(crate) fn horizontal_main<T>(
     lines.get(&row)?.main.as_ref()
 }
 
-/// The part of the horizontal line at a position's row, where the position's column crosses it.
-pub(crate) fn of_horizontal_line<T>(
-    lines: &HashMap<usize, HorizontalLine<T>>,
-    pos: Position,
-    cols: usize,
-) -> Option<&T>
-    ensures { option_copied result ≡ option_and_then (places.of_horizontal_line pos.col cols) (map_get nat_eq lines.now pos.row) }
+/// The part of a row's line where a column crosses it, in a table of so many columns.
+pub(crate) fn row_part<T>(line: Option<&HorizontalLine<T>>, col: usize, cols: usize) -> Option<&T>
+    ensures { option_copied result ≡ option_and_then (places.of_horizontal_line col cols) (option_copied line.entry) }
 {
-    let line = lines.get(&pos.row)?;
-    crossed(pos.col, cols, &line.left, &line.right, &line.intersection)
+    let line = line?;
+    crossed(col, cols, &line.left, &line.right, &line.intersection)
 }
 
-/// The part of the vertical line at a position's column, where the position's row crosses it.
-pub(crate) fn of_vertical_line<T>(
-    lines: &HashMap<usize, VerticalLine<T>>,
-    pos: Position,
-    rows: usize,
-) -> Option<&T>
-    ensures { option_copied result ≡ option_and_then (places.of_vertical_line pos.row rows) (map_get nat_eq lines.now pos.col) }
+/// The part of a column's line where a row crosses it, in a table of so many rows.
+pub(crate) fn column_part<T>(line: Option<&VerticalLine<T>>, row: usize, rows: usize) -> Option<&T>
+    ensures { option_copied result ≡ option_and_then (places.of_vertical_line row rows) (option_copied line.entry) }
 {
-    let line = lines.get(&pos.col)?;
-    crossed(pos.row, rows, &line.top, &line.bottom, &line.intersection)
+    let line = line?;
+    crossed(row, rows, &line.top, &line.bottom, &line.intersection)
 }
 
 // The first part that is set, of those that count at a place of a line.
@@ -135,7 +127,7 @@ pub(crate) fn of_frame<T>(frame: &Borders<T>, pos: Position, shape: (usize, usiz
 
 /// Whether the frame has a part for the vertical line at a column.
 pub(crate) fn in_frame_vertical<T>(frame: &Borders<T>, col: usize, count: usize) -> bool
-    ensures { result ≡ places.at_ends col count (has_left frame.now) (has_right frame.now) (has_vertical frame.now) }
+    ensures { result ≡ places.in_frame_vertical frame.now col count }
 {
     if 0 < col && col < count {
         return frame.has_vertical();
@@ -145,7 +137,7 @@ pub(crate) fn in_frame_vertical<T>(frame: &Borders<T>, col: usize, count: usize)
 
 /// Whether the frame has a part for the horizontal line at a row.
 pub(crate) fn in_frame_horizontal<T>(frame: &Borders<T>, row: usize, count: usize) -> bool
-    ensures { result ≡ places.at_ends row count (has_top frame.now) (has_bottom frame.now) (has_horizontal frame.now) }
+    ensures { result ≡ places.in_frame_horizontal frame.now row count }
 {
     if 0 < row && row < count {
         return frame.has_horizontal();
@@ -153,33 +145,52 @@ pub(crate) fn in_frame_horizontal<T>(frame: &Borders<T>, row: usize, count: usiz
     (row == 0 && frame.has_top()) || (row == count && frame.has_bottom())
 }
 
-/// Whether a line is held there, or an edge or a corner counted. Most tables hold none at all.
-pub(crate) fn is_held_on<L>(
-    line: usize,
-    lines: &HashMap<usize, L>,
-    edges: &LineCounts,
-    corners: &LineCounts,
+/// Whether one of the first lines, which are those across, ends at a place of so many with that end
+/// set, or there one of the second lines is held, or one of the counts, which are those of the edges
+/// and of the corners, is above 0.
+pub(crate) fn is_set_at<A, L>(
+    place: (usize, usize),
+    lines: (&Lines<A>, &Lines<L>),
+    counts: (&LineCounts, &LineCounts),
 ) -> bool
-    ensures { result ≡ (is_some (map_get nat_eq lines.now line) || (nat_lt 0 (count_of edges.now.counts line) || nat_lt 0 (count_of corners.now.counts line))) }
+    ensures { result ≡ (reaches place.0 place.1 lines.entry.0.now || is_held lines.entry.1.now.values counts.entry.0.now counts.entry.1.now place.0) }
 {
-    if lines.is_empty() && edges.is_bare() && corners.is_bare() {
+    lines.0.reach(place.0, place.1) || is_held_at(place.0, &lines.1.values, counts)
+}
+
+// Most tables hold none at all.
+fn is_held_at<L>(line: usize, lines: &HashMap<usize, L>, counts: (&LineCounts, &LineCounts)) -> bool
+    ensures { result ≡ is_held lines.now counts.entry.0.now counts.entry.1.now line }
+{
+    if lines.is_empty() && counts.0.is_bare() && counts.1.is_bare() {
         return false;
     }
-    is_found_on(line, lines, edges, corners)
+    is_found_at(line, lines, counts)
 }
 
 // The same by look-ups. They stand apart, so that a question about a table that holds none keeps no
 // registers for them.
 #[inline(never)]
-fn is_found_on<L>(
+fn is_found_at<L>(
     line: usize,
     lines: &HashMap<usize, L>,
-    edges: &LineCounts,
-    corners: &LineCounts,
+    counts: (&LineCounts, &LineCounts),
 ) -> bool
-    ensures { result ≡ (is_some (map_get nat_eq lines.now line) || (nat_lt 0 (count_of edges.now.counts line) || nat_lt 0 (count_of corners.now.counts line))) }
+    ensures { result ≡ is_held lines.now counts.entry.0.now counts.entry.1.now line }
 {
-    is_held(lines, line) || edges.holds(line) || corners.holds(line)
+    hashed::is_held(lines, line) || counts.0.holds(line) || counts.1.holds(line)
+}
+
+/// The positions below a position, to the right of it, and below that one. Condition: the next row
+/// and column exist in `usize`.
+pub(crate) fn neighbours(pos: Position) -> (Position, Position, Position)
+    requires row { pos.row + 1 < 2 ^ 64 }
+    requires col { pos.col + 1 < 2 ^ 64 }
+    ensures { result ≡ (below pos, right_of pos, below (right_of pos)) }
+{
+    let below = Position::new(pos.row + 1, pos.col);
+    let right_of = Position::new(pos.row, pos.col + 1);
+    (below, right_of, Position::new(pos.row + 1, pos.col + 1))
 }
 
 /// Makes room for the parts of a border.
@@ -226,9 +237,7 @@ pub(crate) fn put_border<T: Drop>(
     ensures counted_vertical { AreEdgesCounted Columns vertical.new }
     ensures counted_corners { AreCornersCounted corners.new }
 {
-    let below = Position::new(pos.row + 1, pos.col);
-    let right_of = Position::new(pos.row, pos.col + 1);
-    let opposite = Position::new(pos.row + 1, pos.col + 1);
+    let (below, right_of, opposite) = neighbours(pos);
     horizontal.put(Direction::Rows, below, border.bottom);
     horizontal.put(Direction::Rows, pos, border.top);
     vertical.put(Direction::Columns, right_of, border.right);
@@ -260,9 +269,7 @@ pub(crate) fn take_border<T: Drop>(
     ensures counted_vertical { AreEdgesCounted Columns vertical.new }
     ensures counted_corners { AreCornersCounted corners.new }
 {
-    let below = Position::new(pos.row + 1, pos.col);
-    let right_of = Position::new(pos.row, pos.col + 1);
-    let opposite = Position::new(pos.row + 1, pos.col + 1);
+    let (below, right_of, opposite) = neighbours(pos);
     horizontal.take(Direction::Rows, pos);
     horizontal.take(Direction::Rows, below);
     vertical.take(Direction::Columns, pos);

@@ -2,10 +2,12 @@
 
 ghost use Rattle.std.specs.Prelude.{◌≡◌, ◌∷◌, [], ◌+◌, ◌<◌, ◌^◌, ◌↔◌, ◌++◌, List, ℕ, OnOk, OnErr, IfOk, IsTrue, nat_eq, option_copied};
 ghost use Rattle.std.specs.HashMap.{get as map_get};
+ghost use Rattle.std.specs.Option.{option_or};
 ghost use Rattle.std.specs.FinMap.{get as value_at};
 ghost use Rattle.papergrid_values.specs.Borders.{border_map};
 ghost use Rattle.papergrid_tables.specs.BorderCalls.{BorderCall, Clear, InsertBorder, RemoveBorder, InsertHorizontalLine, RemoveHorizontalLine, InsertVerticalLine, RemoveVerticalLine, SetBorders, SetGlobal};
 ghost use Rattle.papergrid_tables.specs.BorderHeld.{IsTold, Appends, places_of};
+ghost use Rattle.papergrid_tables.specs.Keys.{position_eq};
 ghost use Rattle.papergrid_tables.specs.LineTests.{horizontal_line_at, vertical_line_at};
 ghost use Rattle.papergrid_tables.specs.Places.{IsBare, HasHorizontal, HasVertical, IsHorizontalSet, IsVerticalSet, found_border, found_horizontal, found_intersection, found_vertical};
 
@@ -94,24 +96,33 @@ impl<T> BorderTable<T> {
     pub fn get_vertical(&self, pos: Position, count: usize) -> Option<&T>
         ensures { option_copied result ≡ found_vertical (places_of self.now) pos count }
     {
-        self.vertical_edges
-            .values
-            .get(&pos)
-            .or(parts::vertical_main(&self.vertical_lines.values, pos.col))
-            .or(parts::frame_vertical(&self.frame, pos.col, count))
-            .or(self.global.as_ref())
+        let line = parts::vertical_main(&self.vertical_lines.values, pos.col);
+        let frame = parts::frame_vertical(&self.frame, pos.col, count);
+        self.first_set(&self.vertical_edges, pos, line, frame)
     }
 
     /// The horizontal line at a row and a column, where there are so many rows, likewise.
     pub fn get_horizontal(&self, pos: Position, count: usize) -> Option<&T>
         ensures { option_copied result ≡ found_horizontal (places_of self.now) pos count }
     {
-        self.horizontal_edges
-            .values
-            .get(&pos)
-            .or(parts::horizontal_main(&self.horizontal_lines.values, pos.row))
-            .or(parts::frame_horizontal(&self.frame, pos.row, count))
-            .or(self.global.as_ref())
+        let line = parts::horizontal_main(&self.horizontal_lines.values, pos.row);
+        let frame = parts::frame_horizontal(&self.frame, pos.row, count);
+        self.first_set(&self.horizontal_edges, pos, line, frame)
+    }
+
+    // The first that is set: the edge at a position, the main part of its line, the frame's part for
+    // it, or the value for all lines.
+    fn first_set<'a>(
+        &'a self,
+        edges: &'a Edges<T>,
+        pos: Position,
+        line: Option<&'a T>,
+        frame: Option<&'a T>,
+    ) -> Option<&'a T>
+        ensures { option_copied result ≡ option_or (map_get position_eq edges.now.values pos) (option_or (option_copied line.entry) (option_or (option_copied frame.entry) self.now.global)) }
+    {
+        let edge = edges.values.get(&pos);
+        edge.or(line).or(frame).or(self.global.as_ref())
     }
 
     /// What stands where two lines cross, in a table of so many rows and columns: the corner, the
@@ -123,8 +134,8 @@ impl<T> BorderTable<T> {
         self.corners
             .values
             .get(&pos)
-            .or(parts::of_horizontal_line(&self.horizontal_lines.values, pos, shape.1))
-            .or(parts::of_vertical_line(&self.vertical_lines.values, pos, shape.0))
+            .or(parts::row_part(self.horizontal_lines.values.get(&pos.row), pos.col, shape.1))
+            .or(parts::column_part(self.vertical_lines.values.get(&pos.col), pos.row, shape.0))
             .or(parts::of_frame(&self.frame, pos, shape))
             .or(self.global.as_ref())
     }
@@ -137,9 +148,7 @@ impl<T> BorderTable<T> {
         ensures { border_map (λ part. part.now) result ≡ found_border (places_of self.now) pos shape.0 shape.1 }
     {
         let (rows, cols) = shape;
-        let below = Position::new(pos.row + 1, pos.col);
-        let right = Position::new(pos.row, pos.col + 1);
-        let opposite = Position::new(pos.row + 1, pos.col + 1);
+        let (below, right, opposite) = parts::neighbours(pos);
         Border {
             top: self.get_horizontal(pos, rows),
             bottom: self.get_horizontal(below, rows),
@@ -186,19 +195,8 @@ impl<T> BorderTable<T> {
         ensures line { IsTrue result ↔ HasVertical (places_of self.now) col count }
         ensures test { result ≡ vertical_line_at self.now col count }
     {
-        self.is_vertical_line(col, count)
-    }
-
-    fn is_vertical_line(&self, col: usize, count: usize) -> bool
-        ensures { IsTrue result ↔ HasVertical (places_of self.now) col count }
-    {
-        if self.global.is_some() {
-            return true;
-        }
-        if parts::in_frame_vertical(&self.frame, col, count) {
-            return true;
-        }
-        self.is_vertical_set(col, count)
+        let is_drawn = self.global.is_some() || parts::in_frame_vertical(&self.frame, col, count);
+        is_drawn || self.is_vertical_set(col, count)
     }
 
     /// Whether there is a horizontal line at a row, where there are so many rows: a value for all
@@ -207,19 +205,8 @@ impl<T> BorderTable<T> {
         ensures line { IsTrue result ↔ HasHorizontal (places_of self.now) row count }
         ensures test { result ≡ horizontal_line_at self.now row count }
     {
-        self.is_horizontal_line(row, count)
-    }
-
-    fn is_horizontal_line(&self, row: usize, count: usize) -> bool
-        ensures { IsTrue result ↔ HasHorizontal (places_of self.now) row count }
-    {
-        if self.global.is_some() {
-            return true;
-        }
-        if parts::in_frame_horizontal(&self.frame, row, count) {
-            return true;
-        }
-        self.is_horizontal_set(row, count)
+        let is_drawn = self.global.is_some() || parts::in_frame_horizontal(&self.frame, row, count);
+        is_drawn || self.is_horizontal_set(row, count)
     }
 
     /// Whether a vertical line, an edge or a corner is held at a column, where there are so many
@@ -227,15 +214,9 @@ impl<T> BorderTable<T> {
     pub fn is_vertical_set(&self, col: usize, count: usize) -> bool
         ensures { IsTrue result ↔ IsVerticalSet (places_of self.now) col count }
     {
-        if self.horizontal_lines.reach(col, count) {
-            return true;
-        }
-        parts::is_held_on(
-            col,
-            &self.vertical_lines.values,
-            &self.vertical_edges.on_lines,
-            &self.corners.in_columns,
-        )
+        let lines = (&self.horizontal_lines, &self.vertical_lines);
+        let counts = (&self.vertical_edges.on_lines, &self.corners.in_columns);
+        parts::is_set_at((col, count), lines, counts)
     }
 
     /// Whether a horizontal line, an edge or a corner is held at a row, where there are so many
@@ -243,15 +224,9 @@ impl<T> BorderTable<T> {
     pub fn is_horizontal_set(&self, row: usize, count: usize) -> bool
         ensures { IsTrue result ↔ IsHorizontalSet (places_of self.now) row count }
     {
-        if self.vertical_lines.reach(row, count) {
-            return true;
-        }
-        parts::is_held_on(
-            row,
-            &self.horizontal_lines.values,
-            &self.horizontal_edges.on_lines,
-            &self.corners.in_rows,
-        )
+        let lines = (&self.vertical_lines, &self.horizontal_lines);
+        let counts = (&self.horizontal_edges.on_lines, &self.corners.in_rows);
+        parts::is_set_at((row, count), lines, counts)
     }
 }
 
@@ -356,7 +331,7 @@ impl<T: Clone> BorderTable<T> {
         requires equal_clones { (x y : T) → T.is_clone x y → y ≡ x }
         ensures { IfOk result (λ all. (n : ℕ) → map_get nat_eq all n ≡ value_at self.now.horizontal_lines n) }
     {
-        self.horizontal_lines.values.clone()
+        self.horizontal_lines.all()
     }
 
     /// All vertical lines that are held, or out of memory. Condition: a clone of a value equals
@@ -365,7 +340,7 @@ impl<T: Clone> BorderTable<T> {
         requires equal_clones { (x y : T) → T.is_clone x y → y ≡ x }
         ensures { IfOk result (λ all. (n : ℕ) → map_get nat_eq all n ≡ value_at self.now.vertical_lines n) }
     {
-        self.vertical_lines.values.clone()
+        self.vertical_lines.all()
     }
 }
 

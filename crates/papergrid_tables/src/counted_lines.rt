@@ -1,8 +1,8 @@
 //! Lines by number, with how many of them have each end set.
 
-ghost use Rattle.std.specs.Prelude.{◌≡◌, ◌+◌, ◌<◌, ◌≤◌, ◌^◌, ◌==◌, ◌&&◌, ◌||◌, [], Bool, Some, None, OnOk, OnErr, if◌then◌else◌, is_some, nat_eq, nat_lt, option_copied};
-ghost use Rattle.std.specs.HashMap.{IsUnchanged, Updates};
-ghost use Rattle.papergrid_tables.specs.ForProofs.CountedLines.{AreEndsCounted, is_end_set};
+ghost use Rattle.std.specs.Prelude.{◌≡◌, ◌+◌, ◌<◌, ◌≤◌, ◌^◌, ◌==◌, ◌&&◌, ◌||◌, [], ℕ, Bool, Some, None, OnOk, OnErr, IfOk, if◌then◌else◌, is_some, nat_eq, nat_lt, option_copied};
+ghost use Rattle.std.specs.HashMap.{IsUnchanged, Updates, get as map_get};
+ghost use Rattle.papergrid_tables.specs.ForProofs.CountedLines.{AreEndsCounted, is_end_set, reaches};
 
 use papergrid_values::{HorizontalLine, VerticalLine};
 use std::alloc::{AllocError, Global};
@@ -89,7 +89,7 @@ impl<L> Lines<L> {
     /// Whether a line that ends at a place has that end set: the first ends stand at 0, the last
     /// ones at the count.
     pub(crate) fn reach(&self, place: usize, count: usize) -> bool
-        ensures { result ≡ ((place == 0 && nat_lt 0 self.now.first_ends) || (place == count && nat_lt 0 self.now.last_ends)) }
+        ensures { result ≡ reaches place count self.now }
     {
         (place == 0 && self.first_ends > 0) || (place == count && self.last_ends > 0)
     }
@@ -105,6 +105,16 @@ impl<L> Lines<L> {
     {
         self.first_ends = replaced(self.first_ends, old.first, new.first);
         self.last_ends = replaced(self.last_ends, old.last, new.last);
+    }
+}
+
+impl<L: Clone> Lines<L> {
+    /// All lines, or out of memory. Condition: a clone of a line equals it.
+    pub(crate) fn all(&self) -> Result<HashMap<usize, L>, AllocError>
+        requires { (x y : L) → L.is_clone x y → y ≡ x }
+        ensures { IfOk result (λ all. (n : ℕ) → map_get nat_eq all n ≡ map_get nat_eq self.now.values n) }
+    {
+        self.values.clone()
     }
 }
 

@@ -1,6 +1,6 @@
 //! Worked examples, each call run once, and refused memory.
 
-ghost use Rattle.std.specs.Prelude.{◌≡◌};
+ghost use Rattle.std.specs.Prelude.{◌≡◌, ◌+◌, ◌<◌, ◌^◌};
 
 use crate::{BorderTable, OffsetTable, laws};
 use papergrid_values::{Border, Borders, HorizontalLine, Offset, Position, VerticalLine};
@@ -11,6 +11,13 @@ fn at(row: usize, col: usize) -> Position
     ensures { result ≡ record { row = row; col = col } }
 {
     Position::new(row, col)
+}
+
+/// A table with one line, at the row 1.
+fn lined(alloc: Global, line: HorizontalLine<char>) -> Result<BorderTable<char>, AllocError> {
+    let mut table = BorderTable::new(alloc);
+    table.insert_horizontal_line(1, line)?;
+    Ok(table)
 }
 
 #[test]
@@ -28,9 +35,8 @@ fn removed_border_over_line(rt: HostRuntime) -> Result<(), Fail> {
 
 #[test]
 fn overwritten_line(rt: HostRuntime) -> Result<(), Fail> {
-    let mut table = BorderTable::new(rt.alloc());
     let line = HorizontalLine::new(Some('-'), None, Some('+'), None);
-    table.insert_horizontal_line(1, line)?;
+    let mut table = lined(rt.alloc(), line)?;
     assert!(rt; table.has_vertical(0, 3) && !table.has_vertical(3, 3));
     let line = HorizontalLine::new(None, None, None, None);
     table.insert_horizontal_line(1, line)?;
@@ -56,9 +62,8 @@ fn border_twice_then_removed(rt: HostRuntime) -> Result<(), Fail> {
 
 #[test]
 fn intersection_without_line(rt: HostRuntime) -> Result<(), Fail> {
-    let mut table = BorderTable::new(rt.alloc());
     let line = HorizontalLine::new(Some('-'), Some('x'), None, None);
-    table.insert_horizontal_line(1, line)?;
+    let table = lined(rt.alloc(), line)?;
     assert_eq!(rt; table.get_intersection(at(1, 1), (2, 2)), Some(&'x'));
     assert!(rt; !table.has_vertical(1, 2));
     assert_eq!(rt; table.get_intersection(at(1, 0), (2, 2)), None);
@@ -80,14 +85,22 @@ fn neighbours(alloc: Global) -> Result<BorderTable<char>, AllocError> {
 fn neighbouring_borders(rt: HostRuntime) -> Result<(), Fail> {
     let table = neighbours(rt.alloc())?;
     assert_eq!(rt;
-        table.get_border(at(0, 0), (10, 10)).copied(),
+        round(&table, at(0, 0), (10, 10)),
         Border::full('x', 'y', 'x', 'w', 'x', 'w', 'y', 'q')
     );
     assert_eq!(rt;
-        table.get_border(at(1, 0), (10, 10)).copied(),
+        round(&table, at(1, 0), (10, 10)),
         Border::full('y', 'y', 'y', 'q', 'y', 'q', 'y', 'q')
     );
     Ok(())
+}
+
+/// What is found round a cell.
+fn round(table: &BorderTable<char>, pos: Position, shape: (usize, usize)) -> Border<char>
+    requires row { pos.row + 1 < 2 ^ 64 }
+    requires col { pos.col + 1 < 2 ^ 64 }
+{
+    table.get_border(pos, shape).copied()
 }
 
 fn sets_first_lines(table: &BorderTable<char>, count: usize, lines: usize) -> bool {
@@ -107,38 +120,28 @@ fn table_borders_and_flags(rt: HostRuntime) -> Result<(), Fail> {
     table.insert_border(at(0, 0), Border::filled('x'))?;
     for _ in 0..2 {
         for shape in [(10, 10), (0, 0)] {
-            assert_eq!(rt;
-                table.get_border(at(0, 0), shape).copied(),
-                Border::filled('x')
-            );
+            assert_eq!(rt; round(&table, at(0, 0), shape), Border::filled('x'));
         }
         for count in [10, 0] {
             assert!(rt; sets_first_lines(&table, count, 2));
         }
         table.set_global('l');
     }
-    assert_eq!(rt;
-        table.get_border(at(2, 0), (10, 10)).copied(),
-        Border::filled('l')
-    );
+    assert_eq!(rt; round(&table, at(2, 0), (10, 10)), Border::filled('l'));
     let table = neighbours(rt.alloc())?;
     assert_eq!(rt;
-        table.get_border(at(0, 1), (10, 10)).copied(),
+        round(&table, at(0, 1), (10, 10)),
         Border::full('w', 'q', 'w', 'w', 'w', 'w', 'q', 'q')
     );
-    assert_eq!(rt;
-        table.get_border(at(1, 1), (10, 10)).copied(),
-        Border::filled('q')
-    );
+    assert_eq!(rt; round(&table, at(1, 1), (10, 10)), Border::filled('q'));
     assert!(rt; sets_first_lines(&table, 10, 3));
     Ok(())
 }
 
 #[test]
 fn line_flags(rt: HostRuntime) -> Result<(), Fail> {
-    let mut table = BorderTable::new(rt.alloc());
     let line = HorizontalLine::new(Some('-'), None, Some('+'), None);
-    table.insert_horizontal_line(1, line)?;
+    let mut table = lined(rt.alloc(), line)?;
     assert!(rt; table.has_vertical(0, 3) && table.has_horizontal(1, 2));
     table.remove_horizontal_line(1, 2);
     assert!(rt; !table.has_vertical(0, 3) && !table.has_horizontal(1, 2));
@@ -180,10 +183,7 @@ fn refused_borders(rt: HostRuntime) {
             return;
         };
         match table.insert_border(at(i, i), Border::filled('n')) {
-            Ok(()) => assert_eq!(rt;
-                table.get_border(at(i, i), (9, 9)).copied(),
-                Border::filled('n')
-            ),
+            Ok(()) => assert_eq!(rt; round(&table, at(i, i), (9, 9)), Border::filled('n')),
             Err(_) => assert!(rt; table == before),
         }
     }

@@ -17,21 +17,20 @@ borders_code {T} c =
     (λ p. record { top = p.0; top_left = p.1.0; top_right = p.1.1.0; top_intersection = p.1.1.1.0; bottom = p.1.1.1.1.0; bottom_left = p.1.1.1.1.1.0; bottom_right = p.1.1.1.1.1.1.0; bottom_intersection = p.1.1.1.1.1.1.1.0; horizontal = p.1.1.1.1.1.1.1.1.0; vertical = p.1.1.1.1.1.1.1.1.1.0; intersection = p.1.1.1.1.1.1.1.1.1.1.0; left = p.1.1.1.1.1.1.1.1.1.1.1.0; left_intersection = p.1.1.1.1.1.1.1.1.1.1.1.1.0; right = p.1.1.1.1.1.1.1.1.1.1.1.1.1.0; right_intersection = p.1.1.1.1.1.1.1.1.1.1.1.1.1.1 })
     (λ _. refl)
 
+-- four parts of a line
+abbrev LineParts : Type 0 → Type 0
+LineParts T = Option T × (Option T × (Option T × Option T))
+
+abbrev line_parts_code : {T : Type 0} → Coded T → Coded (LineParts T)
+line_parts_code c = coded× (coded_option c) (coded× (coded_option c) (coded× (coded_option c) (coded_option c)))
+
 abbrev pub horizontal_line_code : {T : Type 0} → Coded T → Coded (HorizontalLine T)
-horizontal_line_code {T} c =
-    code_by (Option T × (Option T × (Option T × Option T)))
-    (coded× (coded_option c) (coded× (coded_option c) (coded× (coded_option c) (coded_option c))))
-    (λ r. (r.main, (r.intersection, (r.left, r.right))))
-    (λ p. record { main = p.0; intersection = p.1.0; left = p.1.1.0; right = p.1.1.1 })
-    (λ _. refl)
+horizontal_line_code {T} c = code_by (LineParts T) (line_parts_code c) (λ r. (r.main, (r.intersection, (r.left, r.right))))
+    (λ p. record { main = p.0; intersection = p.1.0; left = p.1.1.0; right = p.1.1.1 }) (λ _. refl)
 
 abbrev pub vertical_line_code : {T : Type 0} → Coded T → Coded (VerticalLine T)
-vertical_line_code {T} c =
-    code_by (Option T × (Option T × (Option T × Option T)))
-    (coded× (coded_option c) (coded× (coded_option c) (coded× (coded_option c) (coded_option c))))
-    (λ r. (r.main, (r.intersection, (r.top, r.bottom))))
-    (λ p. record { main = p.0; intersection = p.1.0; top = p.1.1.0; bottom = p.1.1.1 })
-    (λ _. refl)
+vertical_line_code {T} c = code_by (LineParts T) (line_parts_code c) (λ r. (r.main, (r.intersection, (r.top, r.bottom))))
+    (λ p. record { main = p.0; intersection = p.1.0; top = p.1.1.0; bottom = p.1.1.1 }) (λ _. refl)
 
 abbrev pub held_borders_code : {T : Type 0} → Coded T → Coded (HeldBorders T)
 held_borders_code {T} c =

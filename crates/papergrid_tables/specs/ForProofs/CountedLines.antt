@@ -1,7 +1,9 @@
 -- The counts of the lines that have an end set.
-use Rattle.std.specs.Prelude.{◌≡◌, Bool, false, Option, Some, None, count_by, nat_eq}
-use Rattle.std.specs.HashMap.{IsUnique, values}
+use Rattle.std.specs.Prelude.{◌≡◌, ◌==◌, ◌&&◌, ◌||◌, ℕ, Bool, false, Option, Some, None, count_by, is_some, nat_eq, nat_lt}
+use Rattle.std.specs.HashMap.{HashMap, IsUnique, get, values}
+use Rattle.papergrid_tables.specs.ForProofs.Counts.{count_of}
 use Rattle.papergrid_tables.specs.declared.counted_lines.Lines.{Lines}
+use Rattle.papergrid_tables.specs.declared.line_counts.LineCounts.{LineCounts}
 
 module _ {L : Type 0} where
   -- whether there is a line, with that end set
@@ -14,3 +16,12 @@ module _ {L : Type 0} where
     pub first : lines.first_ends ≡ count_by has_first (values lines.values)
     pub last : lines.last_ends ≡ count_by has_last (values lines.values)
     pub unique : IsUnique nat_eq lines.values
+
+  -- one of them ends at the place of so many with that end set, by the counts
+  abbrev pub reaches : ℕ → ℕ → Lines L → Bool
+  reaches place count lines = (place == 0 && nat_lt 0 lines.first_ends) || (place == count && nat_lt 0 lines.last_ends)
+
+-- a line is held there, or one of two counts is above 0
+abbrev pub is_held : {L S : Type 0} → HashMap ℕ L S → LineCounts → LineCounts → ℕ → Bool
+is_held lines edges corners line =
+    is_some (get nat_eq lines line) || (nat_lt 0 (count_of edges.counts line) || nat_lt 0 (count_of corners.counts line))

@@ -1,6 +1,6 @@
-use Rattle.papergrid_tables.proofs.LineTested.{horizontal_tested}
-use Rattle.papergrid_tables.proofs.ResultLemmas.{same_answer}
+use Rattle.std.proofs.Common.{rules}
+use Rattle.papergrid_tables.proofs.LineTested.{horizontal_test}
 use Rattle.papergrid_tables.proofs.border_table.BorderTable.has_horizontal.Goals as goal
 
-pub returns-clause-test : goal.returns-clause-test
-returns-clause-test g c = same_answer _ _ c.is_horizontal_line.ensures (horizontal_tested c.args.self.now c.args.row c.args.count)
+pub returns-else-is_drawn-clause-test : goal.returns-else-is_drawn-clause-test
+returns-else-is_drawn-clause-test g c = horizontal_test c.args.self.now c.args.row c.args.count _ (search rules)
