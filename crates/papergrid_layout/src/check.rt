@@ -199,6 +199,7 @@ where
         sizes,
         places: &places[..0],
         is_ordered: false,
+        ends_within: false,
     };
     let _ = check_rows::<M, R, S>(records, settings, &claim);
     false
@@ -240,6 +241,7 @@ where
         sizes,
         places,
         is_ordered,
+        ends_within: settings.spans_end_within(direction, sizes.len()),
     };
     check_claim::<M, R, S>(records, settings, &claim)
 }
