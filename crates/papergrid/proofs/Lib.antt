@@ -11,5 +11,6 @@ mod RangeLemmas
 mod MarkLemmas
 mod ReadLemmas
 mod ScriptLineLemmas
+mod SeenLemmas
 mod SpellLemmas
 mod TellsLemmas

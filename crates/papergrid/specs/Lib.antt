@@ -3,6 +3,7 @@ pub mod Grammar
 pub mod Layouts
 pub mod Looks
 pub mod Outputs
+pub mod Reasons
 pub mod Rows
 pub mod Runs
 pub mod ScriptLines

@@ -4,6 +4,7 @@
 
 mod cut;
 mod estimate;
+mod explained;
 pub mod laws;
 mod number;
 mod output;
@@ -17,6 +18,7 @@ mod tests;
 mod transfer;
 mod unescape;
 
+pub use explained::{Reason, explain};
 pub use running::{RunEnd, RunFault, run};
 pub use table_layout::layout;
 pub use transfer::{Failed, ReadSource, Sink, Source, WriteSink};

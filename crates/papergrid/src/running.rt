@@ -18,6 +18,7 @@ use bumpalo::Bump;
 use papergrid_layout::LayoutError;
 use papergrid_text::IterRecords;
 use std::alloc::{AllocError, Global};
+use thiserror::Error;
 
 /// How a run ended that read its whole input and wrote its whole output.
 #[derive(Clone, Copy, Debug, PartialEq, Eq)]
@@ -32,13 +33,16 @@ pub enum RunEnd {
 }
 
 /// What kept a run from its end. No failed read or write was tried again.
-#[derive(Clone, Copy, Debug, PartialEq, Eq)]
+#[derive(Clone, Copy, Debug, PartialEq, Eq, Error)]
 pub enum RunFault {
     /// A growth was refused. Nothing was written.
+    #[error("out of memory")]
     Memory,
     /// The reader failed. Nothing was written.
+    #[error("the input can't be read")]
     Read,
     /// The writer failed, or took no byte of a piece that isn't empty. A beginning of the output was written.
+    #[error("the output can't be written")]
     Write,
 }
 

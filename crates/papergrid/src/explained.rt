@@ -1,0 +1,83 @@
+//! Why a script has no sizes.
+
+ghost use Rattle.std.specs.Prelude.{◌≡◌, All, IfOk, Some, true};
+ghost use Rattle.papergrid_maps.specs.Spans.{column_span, row_span};
+ghost use Rattle.papergrid_config.specs.Applied.{is_in_range};
+ghost use Rattle.papergrid.specs.Estimates.{estimate_of};
+ghost use Rattle.papergrid.specs.Reasons.{estimate_reason, reason_of};
+ghost use Rattle.papergrid.specs.ForProofs.Seen.{table_seen};
+
+use crate::estimate::estimate;
+use crate::script::{Script, ScriptError, read_script};
+use crate::table_layout::configuration;
+use bumpalo::Bump;
+use papergrid_config::SpannedConfig;
+use papergrid_layout::LayoutError;
+use papergrid_text::IterRecords;
+use papergrid_values::Position;
+use std::alloc::{AllocError, Global};
+
+/// Why a script has no sizes.
+#[derive(Clone, Copy, Debug, PartialEq, Eq)]
+pub enum Reason {
+    /// The number of its first bad line, counted from 1.
+    BadLine(usize),
+    /// The first visible cell that reaches out of the table, by row and then by column, how many rows and
+    /// columns it spans, and how many rows and columns the table has.
+    OutOfTable(Position, (usize, usize), (usize, usize)),
+    /// A total with the lines of the table is more than the greatest `usize`.
+    TooLarge,
+}
+
+/// Why the script that the input spells has no sizes; none where it has. `run` writes the same in its words.
+///
+/// # Errors
+///
+/// Out of memory.
+#[tactic(auto, unfolding(crate::specs::Reasons::reason_of))]
+pub fn explain(alloc: Global, input: &[u8]) -> Result<Option<Reason>, AllocError>
+    ensures { IfOk result (λ reason. reason ≡ reason_of input.now) }
+{
+    let texts = Bump::new(alloc);
+    match read_script(alloc, &texts, input) {
+        Err(ScriptError::Memory) => Err(AllocError),
+        Err(ScriptError::Bad(number)) => Ok(Some(Reason::BadLine(number))),
+        Ok(script) => table_reason(alloc, script),
+    }
+}
+
+/// Why the table that a script tells has no sizes.
+fn table_reason(alloc: Global, script: Script<'_>) -> Result<Option<Reason>, AllocError>
+    requires in_range { All (λ setting. is_in_range setting ≡ true) script.settings.items }
+    ensures { let table = table_seen script.entry in
+        IfOk result (λ reason. reason ≡ estimate_reason table (estimate_of table)) }
+{
+    let Script {
+        columns,
+        settings,
+        rows,
+        texts: _,
+    } = script;
+    let config = configuration(alloc, settings)?;
+    let rows = rows.as_slice();
+    let records = IterRecords::new(rows, columns, Some(rows.len()));
+    match estimate(alloc, records, &config) {
+        Ok(_) => Ok(None),
+        Err(LayoutError::OutOfTable(position)) => {
+            let spans = spans_at(&config, position);
+            Ok(Some(Reason::OutOfTable(position, spans, (rows.len(), columns))))
+        }
+        Err(LayoutError::TooLarge) => Ok(Some(Reason::TooLarge)),
+        Err(LayoutError::Memory(error)) => Err(error),
+    }
+}
+
+/// How many rows and columns a position spans.
+fn spans_at(config: &SpannedConfig, position: Position) -> (usize, usize)
+    ensures rows { result.0 ≡ row_span config.now.spans position }
+    ensures columns { result.1 ≡ column_span config.now.spans position }
+{
+    let rows = config.get_row_span(position).unwrap_or(1);
+    let columns = config.get_column_span(position).unwrap_or(1);
+    (rows, columns)
+}
