@@ -19,21 +19,23 @@ fn other_texts_are_measured_too(rt: HostRuntime) {
     }
 }
 
-// The last one has an accent that is a character of its own.
-#[test]
-fn letters_take_a_column_each(rt: HostRuntime) {
-    assert_eq!(rt; width("naïve café"), 10);
-    assert_eq!(rt; width("Ελλάδα и Россия"), 15);
-    assert_eq!(rt; width("É cafe\u{301}"), 6);
-}
+// Letters take a column each, and the third text has an accent that is a character of its own. In the
+// others runs of ASCII stand among other characters, and a digit may be part of an emoji.
+const SENTENCES: [(&str, usize); 7] = [
+    ("naïve café", 10),
+    ("Ελλάδα и Россия", 15),
+    ("É cafe\u{301}", 6),
+    ("It’s “one” of them — isn’t it…", 30),
+    ("It’s the time for 12️⃣ good men", 30),
+    ("now is the time for é❤️ good men", 32),
+    ("It’s — x…", 9),
+];
 
-// Runs of ASCII stand among other characters, and the second digit is part of an emoji.
 #[test]
-fn runs_of_ascii_add_up(rt: HostRuntime) {
-    assert_eq!(rt; width("It’s “one” of them — isn’t it…"), 30);
-    assert_eq!(rt; width("It’s the time for 12️⃣ good men"), 30);
-    assert_eq!(rt; width("now is the time for é❤️ good men"), 32);
-    assert_eq!(rt; width("It’s — x…"), 9);
+fn letters_and_runs_of_ascii_add_up(rt: HostRuntime) {
+    for (text, columns) in SENTENCES {
+        assert_eq!(rt; width(text), columns);
+    }
 }
 
 #[test]
