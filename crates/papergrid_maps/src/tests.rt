@@ -5,7 +5,7 @@ mod compact;
 
 ghost use Rattle.std.specs.Prelude.{◌≡◌, ◌<◌};
 
-use crate::{Anchor, EntityMap, MapCall, SpanTable, Stopped, laws};
+use crate::{EntityMap, MapCall, SpanTable, Stopped, laws};
 use papergrid_values::Direction::{self, Columns, Rows};
 use papergrid_values::{Entity, Position};
 use std::alloc::{AllocError, Global};
@@ -257,51 +257,6 @@ fn held_spans(rt: HostRuntime) -> Result<(), Fail> {
     assert_eq!(rt; spans.get_row(at(1, 2)), Some(4));
     assert_eq!(rt; spans.columns()?.get(&at(1, 2)), Some(&3));
     assert_eq!(rt; spans.rows()?.len(), 1);
-    Ok(())
-}
-
-// A span of two at column 3 ends at 5; one without end ends nowhere, and none ends at once.
-#[test]
-fn ends_of_spans(rt: HostRuntime) -> Result<(), Fail> {
-    let set = [
-        (Columns, at(9, 3), 2),
-        (Columns, at(0, 0), 4),
-        (Rows, at(7, 0), usize::MAX),
-    ];
-    let mut spans = spans_of(rt.alloc(), &set)?;
-    assert!(rt; spans.end_within(Columns, 5) && !spans.end_within(Columns, 4));
-    assert!(rt; !spans.end_within(Columns, 2) && !spans.end_within(Rows, usize::MAX));
-    spans.remove_rows();
-    assert!(rt; spans.end_within(Rows, 0));
-    Ok(())
-}
-
-// An anchor of both spans once, behind one of an earlier row that stands further right.
-#[test]
-fn anchors_by_row(rt: HostRuntime) -> Result<(), Fail> {
-    let set = [
-        (Rows, at(1, 0), 2),
-        (Rows, at(0, 1), 4),
-        (Columns, at(1, 0), 3),
-    ];
-    let anchors = spans_of(rt.alloc(), &set)?.anchors()?;
-    assert_eq!(rt; anchors.len(), 2);
-    assert!(rt;
-        anchors[0]
-            == Anchor {
-                position: at(0, 1),
-                rows: 4,
-                cols: 1
-            }
-    );
-    assert!(rt;
-        anchors[1]
-            == Anchor {
-                position: at(1, 0),
-                rows: 2,
-                cols: 3
-            }
-    );
     Ok(())
 }
 
