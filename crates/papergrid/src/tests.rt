@@ -1,6 +1,8 @@
 //! Worked scripts, and readers and writers that fail.
 
+mod cuts;
 mod ends;
+mod extremes;
 mod layouts;
 mod rows;
 
