@@ -1,35 +1,116 @@
-//! Reads a script on standard input, and writes the sizes of its table on standard output.
+//! Reads a script from a file or on standard input, and writes the sizes of its table on standard output.
 #![tactic(auto)]
 
+mod arguments;
+mod forms;
+mod help;
+mod kept;
+mod message;
+
+use arguments::{Request, Unknown, asked_for};
+use help::help_text;
+use kept::Kept;
+use message::message_of;
 use papergrid::{ReadSource, RunEnd, RunFault, WriteSink, run};
-use std::io::Write;
+use std::fs::File;
+use std::io::{ErrorKind, Read, Write};
 use std::process::ExitCode;
+use std::{env, io};
 
 /// Ends with status 0 where the sizes were written, 1 where the table has none, 2 where the script has a
-/// bad line, and 3 at a fault, which is named on standard error.
+/// bad line or an argument is not taken, and 3 at a fault. What went wrong is told on standard error.
 fn main(rt: HostRuntime) -> ExitCode {
-    let mut reader = ReadSource::new(rt.stdin());
-    let mut stdout = rt.stdout();
-    let mut writer = WriteSink::new(&mut stdout);
-    let end = run(rt.alloc(), &mut reader, &mut writer);
-    let flushed = stdout.flush();
-    match end {
-        Ok(_) if flushed.is_err() => fault(&rt, RunFault::Write),
-        Ok(RunEnd::Done) => ExitCode::from(0),
-        Ok(RunEnd::Refused) => ExitCode::from(1),
-        Ok(RunEnd::BadScript) => ExitCode::from(2),
-        Err(reason) => fault(&rt, reason),
+    let mut words = match env::args(&rt) {
+        Ok(words) => words,
+        Err(error) => return unread_words(&rt, &error),
+    };
+    // The first word is the program's name.
+    let _ = words.next();
+    match asked_for(words) {
+        Ok(Request::OfInput) => sizes(&rt, rt.stdin()),
+        Ok(Request::OfFile(path)) => match File::open(&rt, path.as_str()) {
+            Ok(file) => sizes(&rt, file),
+            Err(error) => unopened(&rt, path.as_str(), &error),
+        },
+        Ok(Request::Help) => match help_text(rt.alloc()) {
+            Ok(text) => told(&rt, text.as_str()),
+            Err(_) => fault(&rt, RunFault::Memory),
+        },
+        Ok(Request::Version) => told(&rt, "papergrid_sizes 0.18.0\n"),
+        Err(Unknown(word)) => unknown(&rt, word.as_str()),
     }
 }
 
-/// Names the fault on standard error.
+/// Writes the sizes of the script that is read.
+fn sizes<R: Read + Drop>(rt: &HostRuntime, reader: R) -> ExitCode {
+    let alloc = rt.alloc();
+    let mut source = Kept::new(ReadSource::new(reader), Vec::new(alloc));
+    let mut stdout = rt.stdout();
+    let mut writer = WriteSink::new(&mut stdout);
+    let end = run(alloc, &mut source, &mut writer);
+    let flushed = stdout.flush();
+    match end {
+        Ok(_) if flushed.is_err() => fault(rt, RunFault::Write),
+        Ok(RunEnd::Done) => ExitCode::from(0),
+        Ok(RunEnd::Refused) => without_sizes(rt, source.into_bytes(), 1),
+        Ok(RunEnd::BadScript) => without_sizes(rt, source.into_bytes(), 2),
+        Err(reason) => fault(rt, reason),
+    }
+}
+
+/// Writes a text on standard output.
+fn told(rt: &HostRuntime, text: &str) -> ExitCode {
+    let mut stdout = rt.stdout();
+    if stdout.write_all(text.as_bytes()).is_err() || stdout.flush().is_err() {
+        return fault(rt, RunFault::Write);
+    }
+    ExitCode::from(0)
+}
+
+// Where even a line on standard error cannot be written, the status still tells.
+
+/// Says why the script that was read has no sizes, as far as there is memory for it.
+fn without_sizes(rt: &HostRuntime, input: Option<Vec<u8>>, status: u8) -> ExitCode {
+    if let Some(bytes) = input {
+        if let Ok(Some(text)) = message_of(rt.alloc(), &bytes) {
+            let _ = eprintln!(rt; "{text}");
+        }
+    }
+    ExitCode::from(status)
+}
+
+/// Names the fault.
 fn fault(rt: &impl Eprint, reason: RunFault) -> ExitCode {
     let word = match reason {
         RunFault::Memory => "memory",
         RunFault::Read => "read",
         RunFault::Write => "write",
     };
-    // Where even this cannot be written, the status still tells.
     let _ = eprintln!(rt; "fault: {word}");
     ExitCode::from(3)
+}
+
+/// Names the file that can't be opened.
+fn unopened(rt: &impl Eprint, path: &str, error: &io::Error) -> ExitCode {
+    let _ = eprintln!(rt; "fault: read: {path}: {error}");
+    ExitCode::from(3)
+}
+
+/// Names the argument that isn't taken.
+fn unknown(rt: &impl Eprint, word: &str) -> ExitCode {
+    let _ = eprintln!(rt;
+        "unknown argument {word:?}; papergrid_sizes takes one FILE, --help or --version"
+    );
+    ExitCode::from(2)
+}
+
+/// Says why the arguments can't be read: one is no text, or memory was refused.
+fn unread_words(rt: &impl Eprint, error: &io::Error) -> ExitCode {
+    if error.kind() == ErrorKind::InvalidData {
+        let _ = eprintln!(rt;
+            "an argument is not UTF-8; papergrid_sizes takes one FILE, --help or --version"
+        );
+        return ExitCode::from(2);
+    }
+    fault(rt, RunFault::Memory)
 }

@@ -1,0 +1,91 @@
+//! The forms that a line of a script may have.
+
+use std::alloc::{AllocError, Global};
+use strsim::levenshtein;
+
+/// A form of lines, and what a line of it does.
+#[derive(Clone, Copy, Debug, PartialEq, Eq)]
+pub struct Form {
+    /// The word that its lines begin with.
+    pub keyword: &'static str,
+    pub spelled: &'static str,
+    pub does: &'static str,
+}
+
+/// All forms but the empty line.
+pub const FORMS: [Form; 11] = [
+    Form {
+        keyword: "columns",
+        spelled: "columns N",
+        does: "tells the number of columns",
+    },
+    Form {
+        keyword: "pad",
+        spelled: "pad ENTITY LEFT RIGHT TOP BOTTOM",
+        does: "pads cells, where ENTITY is * (each cell), cN (a column), rN (a row) or R,C (one cell)",
+    },
+    Form {
+        keyword: "border",
+        spelled: "border X",
+        does: "draws lines of the character X round the table and between its cells",
+    },
+    Form {
+        keyword: "colspan",
+        spelled: "colspan R,C N",
+        does: "spans columns, N from the cell at row R, column C",
+    },
+    Form {
+        keyword: "rowspan",
+        spelled: "rowspan R,C N",
+        does: "spans rows, N from the cell at row R, column C",
+    },
+    Form {
+        keyword: "vline",
+        spelled: "vline N X",
+        does: "draws a line of the character X before column N",
+    },
+    Form {
+        keyword: "hline",
+        spelled: "hline N X",
+        does: "draws a line of the character X before row N",
+    },
+    Form {
+        keyword: "novline",
+        spelled: "novline N",
+        does: "drops the line before column N",
+    },
+    Form {
+        keyword: "nohline",
+        spelled: "nohline N",
+        does: "drops the line before row N",
+    },
+    Form {
+        keyword: "row",
+        spelled: "row",
+        does: "begins a row",
+    },
+    Form {
+        keyword: "cell",
+        spelled: "cell TEXT",
+        does: "adds a cell, where \\n, \\t and \\\\ are a line feed, a tab and a backslash",
+    },
+];
+
+/// The form of the keyword.
+pub fn form_of(keyword: &str) -> Option<Form> {
+    FORMS.iter().copied().find(|form| form.keyword == keyword)
+}
+
+/// The form whose keyword is most like the word, if two letters at most differ and not all of them.
+pub fn form_like(alloc: Global, word: &str) -> Result<Option<Form>, AllocError> {
+    let mut nearest = None;
+    let mut least = word.len().min(3);
+    for form in FORMS {
+        let distance = levenshtein(alloc, word, form.keyword)?;
+        if distance < least {
+            least = distance;
+            nearest = Some(form);
+        }
+    }
+    Ok(nearest)
+}
