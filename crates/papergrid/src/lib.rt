@@ -69,6 +69,13 @@ pub mod dimension {
         };
     }
 
+    /// The least sizes of records whose cells are texts, and the cells that certify them.
+    pub mod least {
+        pub use papergrid_layout::least::{
+            LeastGridDimension, height_certificate, width_certificate,
+        };
+    }
+
     /// The sizes of records whose cells know their lines and widths.
     pub mod peekable {
         pub use papergrid_layout::PeekableGridDimension;
