@@ -234,6 +234,7 @@ fn check(
         sizes,
         places,
         is_ordered: are_in_order(direction, &axis, places),
+        ends_within: false,
     };
     let mut checked = Checked::new();
     for (row, col, _, measure, padding) in cells {
