@@ -4,18 +4,16 @@
 mod arguments;
 mod forms;
 mod help;
-mod kept;
 mod message;
 
 use arguments::{Request, Unknown, asked_for};
 use help::help_text;
-use kept::Kept;
 use message::message_of;
 use papergrid::{ReadSource, RunEnd, RunFault, WriteSink, run};
 use std::fs::File;
 use std::io::{ErrorKind, Read, Write};
 use std::process::ExitCode;
-use std::{env, io};
+use std::{env, fs, io};
 
 /// Ends with status 0 where the sizes were written, 1 where the table has none, 2 where the script has a
 /// bad line or an argument is not taken, and 3 at a fault. What went wrong is told on standard error.
@@ -27,11 +25,8 @@ fn main(rt: HostRuntime) -> ExitCode {
     // The first word is the program's name.
     let _ = words.next();
     match asked_for(words) {
-        Ok(Request::OfInput) => sizes(&rt, rt.stdin()),
-        Ok(Request::OfFile(path)) => match File::open(&rt, path.as_str()) {
-            Ok(file) => sizes(&rt, file),
-            Err(error) => unopened(&rt, path.as_str(), &error),
-        },
+        Ok(Request::OfInput) => status(&rt, sizes(&rt, rt.stdin())),
+        Ok(Request::OfFile(path)) => sizes_of_file(&rt, path.as_str()),
         Ok(Request::Help) => match help_text(rt.alloc()) {
             Ok(text) => told(&rt, text.as_str()),
             Err(_) => fault(&rt, RunFault::Memory),
@@ -41,20 +36,39 @@ fn main(rt: HostRuntime) -> ExitCode {
     }
 }
 
-/// Writes the sizes of the script that is read.
-fn sizes<R: Read + Drop>(rt: &HostRuntime, reader: R) -> ExitCode {
-    let alloc = rt.alloc();
-    let mut source = Kept::new(ReadSource::new(reader), Vec::new(alloc));
+/// Writes the sizes of the script that is read, and tells how that ended.
+fn sizes<R: Read + Drop>(rt: &HostRuntime, reader: R) -> Result<RunEnd, RunFault> {
+    let mut source = ReadSource::new(reader);
     let mut stdout = rt.stdout();
     let mut writer = WriteSink::new(&mut stdout);
-    let end = run(alloc, &mut source, &mut writer);
-    let flushed = stdout.flush();
+    let end = run(rt.alloc(), &mut source, &mut writer)?;
+    match stdout.flush() {
+        Ok(()) => Ok(end),
+        Err(_) => Err(RunFault::Write),
+    }
+}
+
+/// The status of a run that ended so. A fault is named.
+fn status(rt: &HostRuntime, end: Result<RunEnd, RunFault>) -> ExitCode {
     match end {
-        Ok(_) if flushed.is_err() => fault(rt, RunFault::Write),
         Ok(RunEnd::Done) => ExitCode::from(0),
-        Ok(RunEnd::Refused) => without_sizes(rt, source.into_bytes(), 1),
-        Ok(RunEnd::BadScript) => without_sizes(rt, source.into_bytes(), 2),
+        Ok(RunEnd::Refused) => ExitCode::from(1),
+        Ok(RunEnd::BadScript) => ExitCode::from(2),
         Err(reason) => fault(rt, reason),
+    }
+}
+
+/// Writes the sizes of the script in a file, or says what keeps it from having any.
+fn sizes_of_file(rt: &HostRuntime, path: &str) -> ExitCode {
+    match File::open(rt, path) {
+        Ok(file) => {
+            let end = sizes(rt, file);
+            if end == Ok(RunEnd::Refused) || end == Ok(RunEnd::BadScript) {
+                say_why(rt, path);
+            }
+            status(rt, end)
+        }
+        Err(error) => unopened(rt, path, &error),
     }
 }
 
@@ -69,14 +83,14 @@ fn told(rt: &HostRuntime, text: &str) -> ExitCode {
 
 // Where even a line on standard error cannot be written, the status still tells.
 
-/// Says why the script that was read has no sizes, as far as there is memory for it.
-fn without_sizes(rt: &HostRuntime, input: Option<Vec<u8>>, status: u8) -> ExitCode {
-    if let Some(bytes) = input {
-        if let Ok(Some(text)) = message_of(rt.alloc(), &bytes) {
-            let _ = eprintln!(rt; "{text}");
-        }
+/// Says why the script in a file has no sizes, as far as it can be read once more.
+fn say_why(rt: &HostRuntime, path: &str) {
+    let Ok(input) = fs::read(rt, path) else {
+        return;
+    };
+    if let Ok(Some(text)) = message_of(rt.alloc(), &input) {
+        let _ = eprintln!(rt; "{text}");
     }
-    ExitCode::from(status)
 }
 
 /// Names the fault.
