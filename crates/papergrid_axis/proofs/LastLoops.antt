@@ -10,7 +10,7 @@ use Rattle.papergrid_axis.specs.Ranges.{end_of, holds, IsInTable, LiesIn}
 use Rattle.papergrid_axis.specs.Sizes.{grown, lack}
 use Rattle.papergrid_axis.specs.Chosen.{growing, or_else, exact_single, single_at, outermost, chosen}
 use Rattle.papergrid_axis.proofs.RangeLemmas.{covered}
-use Rattle.papergrid_axis.proofs.LoopLemmas.{sum-grown, range_with_len-append}
+use Rattle.papergrid_axis.proofs.LoopLemmas.{range_with_len-append}
 use Rattle.papergrid_axis.specs.ForProofs.LastCells.{AreExact, IsLaminar, last_holding, slot_of, chosen_slot}
 use Rattle.papergrid_axis.specs.ForProofs.Seen.{no_demand}
 use Rattle.papergrid_axis.proofs.Upto.{holds_cases}
@@ -73,22 +73,20 @@ module _ (n : ℕ) (ds : List Demand) (last : List (Option Demand)) (table : All
       last-from_precedes ds d (IsLaminar-before ds d es laminar) i o h (sym (is.holds_last i (in_table d i t h)) ∙ e)
 
 -- the cells that grow, one step on
-module _ (line : ℕ → Bool) (sizes : List ℕ) (taken cells all : List Demand) (i : ℕ) (e : Demand) (l : i < length taken) (t : IsInTable (length sizes) (get_or taken i e))
+module _ (line : ℕ → Bool) (sizes : List ℕ) (taken cells all : List Demand) (i : ℕ) (e : Demand) (l : i < length taken)
     (so_far : cells ++ growing line sizes (drop i taken) ≡ all) where
   step : growing line sizes (drop i taken) ≡ growing line sizes (get_or taken i e ∷ drop (i + 1) taken)
   step = ap (growing line sizes) (drop_more taken i e l)
 
-  pub cells-more_yes : sum sizes < sum (grown line sizes (get_or taken i e)) → (cells ++ get_or taken i e ∷ []) ++ growing line (grown line sizes (get_or taken i e)) (drop (i + 1) taken) ≡ all
+  pub cells-more_yes : 0 < lack line sizes (get_or taken i e) → (cells ++ get_or taken i e ∷ []) ++ growing line (grown line sizes (get_or taken i e)) (drop (i + 1) taken) ≡ all
   cells-more_yes grows =
-      let s : sum (grown line sizes (get_or taken i e)) ≡ sum sizes + lack line sizes (get_or taken i e) = sum-grown line sizes (get_or taken i e) t in
-      let y : ltb 0 (lack line sizes (get_or taken i e)) ≡ true = lt-ltb 0 (lack line sizes (get_or taken i e)) (omega arith) in
+      let y : ltb 0 (lack line sizes (get_or taken i e)) ≡ true = lt-ltb 0 (lack line sizes (get_or taken i e)) grows in
       let step' : growing line sizes (drop i taken) ≡ get_or taken i e ∷ growing line (grown line sizes (get_or taken i e)) (drop (i + 1) taken) = rw y at step in
       append_assoc cells (get_or taken i e ∷ []) (growing line (grown line sizes (get_or taken i e)) (drop (i + 1) taken)) ∙ ap (λ xs. cells ++ xs) (sym step') ∙ so_far
 
-  pub cells-more_no : sum (grown line sizes (get_or taken i e)) ≤ sum sizes → cells ++ growing line (grown line sizes (get_or taken i e)) (drop (i + 1) taken) ≡ all
+  pub cells-more_no : (0 < lack line sizes (get_or taken i e) → ⊥) → cells ++ growing line (grown line sizes (get_or taken i e)) (drop (i + 1) taken) ≡ all
   cells-more_no stays =
-      let s : sum (grown line sizes (get_or taken i e)) ≡ sum sizes + lack line sizes (get_or taken i e) = sum-grown line sizes (get_or taken i e) t in
-      let n : ltb 0 (lack line sizes (get_or taken i e)) ≡ false = le-ltb 0 (lack line sizes (get_or taken i e)) (omega arith) in
+      let n : ltb 0 (lack line sizes (get_or taken i e)) ≡ false = le-ltb 0 (lack line sizes (get_or taken i e)) (omega (arith, stays)) in
       let step' : growing line sizes (drop i taken) ≡ growing line (grown line sizes (get_or taken i e)) (drop (i + 1) taken) = rw n at step in
       ap (λ xs. cells ++ xs) (sym step') ∙ so_far
 

@@ -19,6 +19,7 @@ pub mod PairLemmas
 pub mod RangeLemmas
 pub mod SeenLemmas
 mod SettleLemmas
+pub mod ShareLemmas
 pub mod Steps
 pub mod Theorems
 pub mod Upto

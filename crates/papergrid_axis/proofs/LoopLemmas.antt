@@ -53,32 +53,6 @@ inner_lines-slice lines d table =
     ap (λ k. count_by (λ x. x) (take k (drop (d.start + 1) lines))) (let e : d.start + d.span - (d.start + 1) ≡ d.span - 1 = omega arith in e)
     ∙ drawn_from lines (d.start + 1) (d.span - 1) (omega arith)
 
--- a step adds what the cell lacks to the total
-pub sum-grown : (line : ℕ → Bool) (sizes : List ℕ) (d : Demand) → IsInTable (length sizes) d → sum (grown line sizes d) ≡ sum sizes + lack line sizes d
-sum-grown line sizes d table =
-    let n : ℕ = length sizes in
-    let f : ℕ → ℕ = share (lack line sizes d) d in
-    let a : sum (grown line sizes d) ≡ upto (λ i. get_or (grown line sizes d) i 0) (length (grown line sizes d)) = sum-upto (grown line sizes d) in
-    let same : upto (λ i. get_or (grown line sizes d) i 0) (length (grown line sizes d)) ≡ upto (λ i. get_or (grown line sizes d) i 0) (length sizes) =
-    ap (upto (λ i. get_or (grown line sizes d) i 0)) (length-grown line sizes d) in
-    let b : upto (λ i. get_or (grown line sizes d) i 0) (length sizes) ≡ upto (λ i. get_or sizes i 0 + share (lack line sizes d) d i) (length sizes) =
-    upto-ext (λ i. get_or (grown line sizes d) i 0) (λ i. get_or sizes i 0 + share (lack line sizes d) d i) (length sizes) (get_or-grown line sizes d) in
-    let c : upto (λ i. get_or sizes i 0 + share (lack line sizes d) d i) (length sizes) ≡ upto (λ i. get_or sizes i 0) (length sizes) + upto (share (lack line sizes d) d) (length sizes) =
-    upto-add (λ i. get_or sizes i 0) (share (lack line sizes d) d) (length sizes) in
-    let m : upto (share (lack line sizes d) d) (length sizes) ≡ upto (masked (share (lack line sizes d) d) d) (length sizes) =
-    upto-ext (share (lack line sizes d) d) (masked (share (lack line sizes d) d) d) (length sizes) (λ i l. elim (holds_cases d i) [
-      | inl h ↦ sym (masked_in (share (lack line sizes d) d) d i h.1 h.2)
-      | inr h ↦ share-out (lack line sizes d) d i table.covers_one h.1 ∙ sym (masked_out (share (lack line sizes d) d) d i h.1)
-    ]) in
-    let w : upto (masked (share (lack line sizes d) d) d) (length sizes) ≡ within (share (lack line sizes d) d) d =
-    masked_sum (share (lack line sizes d) d) d (length sizes) table.ends_within in
-    let x : within (share (lack line sizes d) d) d ≡ lack line sizes d = shares_sum (lack line sizes d) d table.covers_one in
-    let y : sum sizes ≡ upto (λ i. get_or sizes i 0) (length sizes) = sum-upto sizes in
-    omega arith
-
-pub sum-grown_le : (line : ℕ → Bool) (sizes : List ℕ) (d : Demand) → IsInTable (length sizes) d → sum sizes ≤ sum (grown line sizes d)
-sum-grown_le line sizes d table = let e : sum (grown line sizes d) ≡ sum sizes + lack line sizes d = sum-grown line sizes d table in omega arith
-
 -- no share is more than the whole
 pub share-le : (amount : ℕ) (d : Demand) (i : ℕ) → 1 ≤ d.span → share amount d i ≤ amount
 share-le amount d i one = elim (holds_cases d i) [
@@ -114,31 +88,6 @@ SharesAdded-all amount d old new next_share one same h =
   where
     at : (k : ℕ) → k < length old → get_or (with_shares amount d 0 old) k 0 ≡ get_or old k 0 + share amount d k
     at k l = get_or-with_shares amount d 0 old k l ∙ ap (λ j. get_or old k 0 + share amount d j) (let e : 0 + k ≡ k = omega arith in e)
-
--- the cells taken so far
-pub sum-taken_le : (line : ℕ → Bool) (sizes : List ℕ) (taken : List Demand) → AllByRecursion (IsInTable (length sizes)) taken → sum sizes ≤ sum (fold (grown line) sizes taken)
-sum-taken_le line sizes [] table = omega arith
-sum-taken_le line sizes (d ∷ rest) table =
-    let same : length (grown line sizes d) ≡ length sizes = length-grown line sizes d in
-    let table' : AllByRecursion (IsInTable (length (grown line sizes d))) rest = rw same table.1 in
-    let a : sum sizes ≤ sum (grown line sizes d) = sum-grown_le line sizes d table.0 in
-    let b : sum (grown line sizes d) ≤ sum (fold (grown line) (grown line sizes d) rest) = sum-taken_le line (grown line sizes d) rest table' in
-    omega arith
-
--- the total so far is at most the last
-pub sum-taken_part : (line : ℕ → Bool) (sizes : List ℕ) (taken : List Demand) (i : ℕ) → All (IsInTable (length sizes)) taken →
-    sum (fold (grown line) sizes (take i taken)) ≤ sum (fold (grown line) sizes taken)
-sum-taken_part line sizes taken i table =
-    let front : List ℕ = fold (grown line) sizes (take i taken) in
-    let same : length (fold (grown line) sizes (take i taken)) ≡ length sizes = length-taken line sizes (take i taken) in
-    let rest : AllByRecursion (IsInTable (length sizes)) (drop i taken) = recursion_from_All (IsInTable (length sizes)) (drop i taken) (All-drop (IsInTable (length sizes)) i taken table) in
-    let rest' : AllByRecursion (IsInTable (length (fold (grown line) sizes (take i taken)))) (drop i taken) = rw same rest in
-    let a : sum (fold (grown line) sizes (take i taken)) ≤ sum (fold (grown line) (fold (grown line) sizes (take i taken)) (drop i taken)) =
-    sum-taken_le line (fold (grown line) sizes (take i taken)) (drop i taken) rest' in
-    let e : fold (grown line) (fold (grown line) sizes (take i taken)) (drop i taken) ≡ fold (grown line) sizes taken =
-    sym (fold-append (grown line) sizes (take i taken) (drop i taken)) ∙ ap (fold (grown line) sizes) (take-append-drop i taken) in
-    let e' : sum (fold (grown line) (fold (grown line) sizes (take i taken)) (drop i taken)) ≡ sum (fold (grown line) sizes taken) = ap sum e in
-    omega arith
 
 -- all lines of a list of lines
 pub all_lines-drawn : (lines : List Bool) (n : ℕ) → length lines ≡ n + 1 → count_by (λ x. x) lines ≡ all_lines (line_at lines) n

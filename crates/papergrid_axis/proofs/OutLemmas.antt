@@ -5,11 +5,14 @@ use Rattle.std.specs.List.{list_any}
 use Rattle.std.proofs.lemmas.List.{drop_more}
 use Rattle.std.proofs.lemmas.Bool.{false≢true, cases_Bool, ltb-false, leb-true}
 use Rattle.std.proofs.lemmas.List.Elements.{All-nil, All-cons, All-head, All-tail}
-use Rattle.papergrid_axis.specs.Problem.{given}
+use Rattle.papergrid_axis.specs.Problem.{Problem, given}
 use Rattle.papergrid_values.specs.Lines.{all_lines}
 use Rattle.papergrid_axis.specs.declared.demand.Demand.{Demand}
 use Rattle.papergrid_axis.specs.declared.seen.Seen.{Seen}
-use Rattle.papergrid_axis.specs.Answers.{NoneHolds}
+use Rattle.papergrid_axis.specs.declared.error.LayoutError.{LayoutError}
+use Rattle.papergrid_axis.specs.declared.error.LayoutError.TheVariants.{OutOfTable, TooLarge, Memory}
+use Rattle.papergrid_axis.specs.Answers.{IsRefusedWhere, NoneHolds}
+use Rattle.papergrid_axis.specs.ForProofs.Settled.{IsLargeInside}
 use Rattle.papergrid_axis.specs.Ranges.{IsInTable, end_of, first_out, place_of}
 use Rattle.papergrid_axis.specs.Fits.{HasRoom}
 use Rattle.papergrid_axis.specs.ForProofs.Seen.{IsSeen, is_large, others, without_need}
@@ -54,6 +57,12 @@ large_any line n sizes (d ∷ ds) e table room = elim (cases_Bool (is_large d)) 
   | inr f ↦ large_any line n sizes ds (ap (λ b. b || list_any is_large ds) (sym f) ∙ e) (All-tail (IsInTable n) d ds table) (All-tail (HasRoom line sizes) d ds room)
 ]
 
+-- a refusal of which less is known
+pub IsRefusedWhere-weaker : (problem : Problem) {P Q : Type 0} → (P → Q) → (e : LayoutError) → IsRefusedWhere problem P e → IsRefusedWhere problem Q e
+IsRefusedWhere-weaker problem f (OutOfTable place) r = r
+IsRefusedWhere-weaker problem f TooLarge r = f r
+IsRefusedWhere-weaker problem f (Memory e) r = tt
+
 module _ (n : ℕ) (seen : Seen) (demands : List Demand) (is : IsSeen n seen demands) where
   pub out_seen : first_out n demands ≡ first_out n seen.others.items
   out_seen = sym (first_out-others n is.limit demands is.below) ∙ same_out n (others is.limit demands) seen.others.items (sym is.held.ranges)
@@ -61,13 +70,13 @@ module _ (n : ℕ) (seen : Seen) (demands : List Demand) (is : IsSeen n seen dem
   pub table_demands : first_out n seen.others.items ≡ None → All (IsInTable n) demands
   table_demands none = none_out n demands (out_seen ∙ none) is.held.spans
 
-  pub NoneHolds-large : (line : ℕ → Bool) → first_out n seen.others.items ≡ None → seen.is_large ≡ true → NoneHolds (given line n demands)
-  NoneHolds-large line none large =
-      let table = table_demands none in
-      let any = sym is.held.large ∙ large in
+  pub NoneHolds-large : (line : ℕ → Bool) → IsLargeInside n seen → NoneHolds (given line n demands)
+  NoneHolds-large line large =
+      let table = table_demands large.inside in
+      let any = sym is.held.large ∙ large.is_large in
       let problem = given line n demands in
       record {
-        none_out = out_seen ∙ none;
+        none_out = out_seen ∙ large.inside;
         too_large = large_any line n (sizes_of problem) demands any table (Fits-sizes_of (given line n demands) table).room;
         none_holds = λ apart other fits. large_any line n other demands any table fits.room;
       }

@@ -54,7 +54,7 @@ module _ (problem : Problem) (seen : Seen) (is : IsSeen problem.count seen probl
   small-settled = elim (cases_Bool seen.is_large) [
     | inl large ↦
         let inside = sym (out_seen problem.count seen problem.demands is) ∙ first_out-none problem.count problem.demands (recursion_from_All (IsInTable problem.count) problem.demands table) in
-        let past = (NoneHolds-large problem.count seen problem.demands is problem.line inside large).too_large in
+        let past = (NoneHolds-large problem.count seen problem.demands is problem.line record { inside = inside; is_large = large }).too_large in
         absurd (omega (arith, past, total))
     | inr small ↦ small
   ]

@@ -1,23 +1,25 @@
 //! The cells of longer ranges: each is given what it lacks, and those that grow are kept.
 
-ghost use Rattle.std.specs.Prelude.{All, IfNone, IfOk, IfSome, IsTrue, count_by, fold, length, sum, ◌+◌, ◌<◌, ◌^◌, ◌↔◌, ◌≡◌, ◌≤◌};
+ghost use Rattle.std.specs.Prelude.{All, IfNone, IfOk, IfSome, IsTrue, OnOk, count_by, fold, length, min, slice_index, sum, ℕ, ◌+◌, ◌-◌, ◌<◌, ◌^◌, ◌↔◌, ◌≡◌, ◌≤◌};
 ghost use Rattle.std.specs.Option.{SomeIff};
 ghost use Rattle.papergrid_axis.specs.ForProofs.Settled.{line_at};
 ghost use Rattle.papergrid_values.specs.Lines.{all_lines};
-ghost use Rattle.papergrid_axis.specs.Ranges.{IsInTable, inner_lines};
-ghost use Rattle.papergrid_axis.specs.Fits.{range_sum};
-ghost use Rattle.papergrid_axis.specs.Sizes.{grown, with_shares};
+ghost use Rattle.papergrid_axis.specs.Ranges.{IsInTable, end_of, inner_lines};
+ghost use Rattle.papergrid_axis.specs.Sizes.{grown, lack, with_shares};
 ghost use Rattle.papergrid_axis.specs.Chosen.{growing};
 
 use crate::demand::Demand;
 use std::alloc::{AllocError, Global};
 
-/// The total of the sizes.
+/// The total of the sizes, or the greatest `usize` where that is less.
 fn sum_of(sizes: &[usize]) -> usize
-    requires { sum sizes.now < 2 ^ 64 }
-    ensures { result ≡ sum sizes.now }
+    ensures { result ≡ min (sum sizes.now) (2 ^ 64 - 1) }
 {
-    sizes.iter().sum()
+    let mut total = 0usize;
+    for size in sizes {
+        total = total.saturating_add(*size);
+    }
+    total
 }
 
 /// The total of the sizes, if it fits.
@@ -29,15 +31,6 @@ fn checked_sum(sizes: &[usize]) -> Option<usize>
         total = total.checked_add(*size)?;
     }
     Some(total)
-}
-
-/// The sum of the sizes in the range of a cell.
-fn sum_of_range(sizes: &[usize], demand: Demand) -> usize
-    requires table { IsInTable (length sizes.now) demand }
-    requires total { sum sizes.now < 2 ^ 64 }
-    ensures { result ≡ range_sum sizes.now demand }
-{
-    sum_of(&sizes[demand.start..demand.start + demand.span])
 }
 
 /// How many of the lines are drawn.
@@ -55,11 +48,22 @@ pub fn lines_within(lines: &[bool], demand: Demand) -> usize
     count_drawn(&lines[demand.start + 1..demand.start + demand.span])
 }
 
+/// How much the sizes in the range of a cell, with the lines inside of it, fall short of its need.
+fn lack_of(sizes: &[usize], lines: &[bool], demand: Demand) -> usize
+    requires table { IsInTable (length sizes.now) demand }
+    requires lines { length sizes.now ≤ length lines.now }
+    ensures { result ≡ lack (line_at lines.now) sizes.now demand }
+{
+    let room = sum_of(&sizes[demand.start..demand.start + demand.span]);
+    let inner = lines_within(lines, demand);
+    demand.need.saturating_sub(room).saturating_sub(inner)
+}
+
 /// Adds to each size in the range of a cell its share of the amount, and to the first what is left
 /// over.
 fn add_shares(sizes: &mut [usize], demand: Demand, amount: usize)
     requires table { IsInTable (length sizes.old) demand }
-    requires total { sum sizes.old + amount < 2 ^ 64 }
+    requires room { (i : ℕ) → demand.start ≤ i → i < end_of demand → slice_index sizes.old i + amount < 2 ^ 64 }
     ensures { sizes.new ≡ with_shares amount demand 0 sizes.old }
 {
     let each = amount / demand.span;
@@ -70,27 +74,46 @@ fn add_shares(sizes: &mut [usize], demand: Demand, amount: usize)
     }
 }
 
-/// Takes a cell: its range grows by what the cell lacks. The answer is the new total, if it fits.
-fn grow(sizes: &mut [usize], total: usize, lines: &[bool], demand: Demand) -> Option<usize>
+/// Takes a cell: its range grows by what the cell lacks. Whether it grew. No size overflows, since none is
+/// above a need.
+fn grow(sizes: &mut [usize], lines: &[bool], demand: Demand) -> bool
     requires table { IsInTable (length sizes.old) demand }
     requires lines { length sizes.old ≤ length lines.now }
-    requires total { total ≡ sum sizes.old }
-    ensures grown { let line = line_at lines.now in
-        IfSome result (λ after. sizes.new ≡ grown line sizes.old demand) }
-    ensures total { IfSome result (λ after. after ≡ sum sizes.new) }
-    ensures too_large { IfNone result (2 ^ 64 ≤ sum (grown (line_at lines.now) sizes.old demand)) }
+    ensures grown { sizes.new ≡ grown (line_at lines.now) sizes.old demand }
+    ensures grew { IsTrue result ↔ 0 < lack (line_at lines.now) sizes.old demand }
 {
-    let room = sum_of_range(sizes, demand);
-    let inner = lines_within(lines, demand);
-    let lack = demand.need.saturating_sub(room).saturating_sub(inner);
-    let after = total.checked_add(lack)?;
+    let lack = lack_of(sizes, lines, demand);
+    if lack == 0 {
+        return false;
+    }
     add_shares(sizes, demand, lack);
-    Some(after)
+    true
+}
+
+/// Takes the cells in their order, and gives those that grow. The total may be past `usize`.
+pub fn grow_all(
+    alloc: Global,
+    sizes: &mut [usize],
+    lines: &[bool],
+    cells: &[Demand],
+) -> Result<Vec<Demand>, AllocError>
+    requires cells { All (IsInTable (length sizes.old)) cells.now }
+    requires lines { length lines.now ≡ length sizes.old + 1 }
+    ensures growers { IfOk result (λ growers. growers.items ≡ growing (line_at lines.now) sizes.old cells.now) }
+    ensures sizes { OnOk result (sizes.new ≡ fold (grown (line_at lines.now)) sizes.old cells.now) }
+{
+    let mut growers = Vec::new(alloc);
+    for demand in cells {
+        if grow(sizes, lines, *demand) {
+            growers.push(*demand)?;
+        }
+    }
+    Ok(growers)
 }
 
 /// Takes the cells in their order, from the base sizes on, and gives those that grow; none where the
 /// total with all lines does not fit.
-pub fn grow_all(
+pub fn grow_to_total(
     alloc: Global,
     sizes: &mut [usize],
     lines: &[bool],
@@ -111,21 +134,11 @@ pub fn grow_all(
         IfOk result (λ found. IfNone found (
         2 ^ 64 ≤ sum (fold (grown line) sizes.old cells.now) + all_lines line (length sizes.old))) }
 {
+    let growers = grow_all(alloc, sizes, lines, cells)?;
     let Some(total) = checked_sum(sizes) else {
         return Ok(None);
     };
-    let mut growers = Vec::new(alloc);
-    let mut so_far = total;
-    for demand in cells {
-        let Some(after) = grow(sizes, so_far, lines, *demand) else {
-            return Ok(None);
-        };
-        if so_far < after {
-            growers.push(*demand)?;
-        }
-        so_far = after;
-    }
-    if so_far.checked_add(count_drawn(lines)).is_none() {
+    if total.checked_add(count_drawn(lines)).is_none() {
         return Ok(None);
     }
     Ok(Some(growers))

@@ -7,13 +7,13 @@ ghost use Rattle.papergrid_axis.specs.ForProofs.Seen.{IsSeen, no_demand};
 ghost use Rattle.papergrid_axis.specs.KeptApart.{longer};
 ghost use Rattle.papergrid_axis.specs.Sizes.{taken};
 ghost use Rattle.papergrid_axis.specs.declared.demand.Demand.{Demand};
-ghost use Rattle.papergrid_axis.specs.Answers.{IsRefused};
-ghost use Rattle.papergrid_axis.specs.ForProofs.Settled.{IsSettled, line_at};
+ghost use Rattle.papergrid_axis.specs.Answers.{IsRefusedWhere};
+ghost use Rattle.papergrid_axis.specs.ForProofs.Settled.{IsLargeInside, IsSettled, line_at};
 
 use crate::axis::Axis;
 use crate::demand::Demand;
 use crate::error::LayoutError;
-use crate::growers::grow_all;
+use crate::growers::grow_to_total;
 use crate::seen::{Seen, single_at};
 use papergrid_values::Position;
 use std::alloc::{AllocError, Global};
@@ -93,11 +93,11 @@ pub fn find_out(count: usize, demands: &[Demand]) -> Option<Position>
 }
 
 /// Why the seen cells have no sizes, where one of them reaches out or has a large need.
-fn refusal(count: usize, seen: &Seen) -> Option<LayoutError>
+pub fn refusal(count: usize, seen: &Seen) -> Option<LayoutError>
     requires { (demands : List Demand) × IsSeen count seen.now demands }
     ensures refused { IfSome result (λ error.
         (line : ℕ → Bool) (demands : List Demand) → IsSeen count seen.now demands →
-        IsRefused (given line count demands) error) }
+        IsRefusedWhere (given line count demands) (IsLargeInside count seen.now) error) }
     ensures inside { IfNone result (first_out count seen.now.others.items ≡ None) }
     ensures small { IfNone result (seen.now.is_large ≡ false) }
 {
@@ -143,7 +143,7 @@ pub fn settle<A: Axis>(
     }
     write_base(&mut sizes, &seen.singles);
     let cells = taken(alloc, count, &seen.others)?;
-    match grow_all(alloc, &mut sizes, &lines, &cells)? {
+    match grow_to_total(alloc, &mut sizes, &lines, &cells)? {
         None => Err(LayoutError::TooLarge),
         Some(growers) => Ok(Settled {
             sizes,

@@ -9,6 +9,7 @@ use Rattle.papergrid_axis.specs.declared.error.LayoutError.TheVariants.{OutOfTab
 use Rattle.papergrid_axis.specs.declared.seen.Seen.{Seen}
 use Rattle.papergrid_axis.specs.Fits.{Fits, IsLeast, IsTooLarge, top_need}
 use Rattle.papergrid_axis.specs.ForProofs.Seen.{IsSeen, no_demand}
+use Rattle.papergrid_axis.specs.ForProofs.Settled.{IsLargeInside}
 use Rattle.papergrid_axis.specs.Problem.{given, total_of}
 use Rattle.papergrid_axis.specs.Ranges.{IsInTable, first_out}
 use Rattle.papergrid_axis.specs.Sizes.{base_sizes, grown, sizes_of, taken}
@@ -26,13 +27,12 @@ use Rattle.papergrid_least.proofs.EdgeLemmas.{AreEdges-edges_of, take_whole}
 use Rattle.papergrid_least.proofs.LeastLemmas.{IsLeast-least_of, bound-least_of, total-least_of}
 use Rattle.papergrid_least.proofs.SeenLemmas.{AreLaid-from_edges, earliest-is, latest-is, longer_asking}
 
-pub NoneFits-large : (n : ℕ) (seen : Seen) (demands : List Demand) → IsSeen n seen demands → (line : ℕ → Bool) → first_out n seen.others.items ≡ None → seen.is_large ≡ true →
-    NoneFits (given line n demands)
-NoneFits-large n seen demands is line none large =
-    let table : All (IsInTable n) demands = table_demands n seen demands is none in
+pub NoneFits-large : (n : ℕ) (seen : Seen) (demands : List Demand) → IsSeen n seen demands → (line : ℕ → Bool) → IsLargeInside n seen → NoneFits (given line n demands)
+NoneFits-large n seen demands is line large =
+    let table : All (IsInTable n) demands = table_demands n seen demands is large.inside in
     record {
-      none_out = out_seen n seen demands is ∙ none;
-      none_fits = λ other fits. large_any line n other demands (sym is.held.large ∙ large) table fits.room;
+      none_out = out_seen n seen demands is ∙ large.inside;
+      none_fits = λ other fits. large_any line n other demands (sym is.held.large ∙ large.is_large) table fits.room;
     }
 
 -- where the edges agree, so do the sizes between them

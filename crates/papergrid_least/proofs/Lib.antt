@@ -12,5 +12,4 @@ pub mod LongestLemmas
 pub mod PermutedLemmas
 pub mod PusherLemmas
 pub mod SeenLemmas
-pub mod ShareLemmas
 pub mod WayLemmas

@@ -10,7 +10,6 @@ mod limits;
 mod longest;
 mod lower;
 mod settled;
-mod shares;
 
 pub use least::{CertifiedLeast, LeastSizes};
 

@@ -1,14 +1,14 @@
 //! The least sizes and the edges between which theirs lie, from what was seen of the cells.
 
-ghost use Rattle.std.specs.Prelude.{All, IfErr, IfNone, IfOk, IfSome, List, None, Bool, false, fold, length, map, min, slice_index, ℕ, ◌+◌, ◌^◌, ◌≡◌, ◌≤◌};
+ghost use Rattle.std.specs.Prelude.{All, IfErr, IfOk, List, false, fold, length, map, min, slice_index, ℕ, ◌+◌, ◌^◌, ◌≡◌, ◌≤◌};
 ghost use Rattle.papergrid_axis.specs.ForProofs.Seen.{IsSeen};
 ghost use Rattle.papergrid_axis.specs.ForProofs.Settled.{line_at};
 ghost use Rattle.papergrid_axis.specs.Problem.{given};
-ghost use Rattle.papergrid_axis.specs.Ranges.{IsInTable, first_out};
+ghost use Rattle.papergrid_axis.specs.Ranges.{IsInTable};
 ghost use Rattle.papergrid_axis.specs.Sizes.{grown, taken};
 ghost use Rattle.papergrid_axis.specs.declared.demand.Demand.{Demand};
 ghost use Rattle.papergrid_values.specs.Lines.{all_lines};
-ghost use Rattle.papergrid_least.specs.Answers.{HasNoLeast, LeastAnswers};
+ghost use Rattle.papergrid_least.specs.Answers.{LeastAnswers};
 ghost use Rattle.papergrid_least.specs.Edges.{asked, edges_of, sizes_between};
 ghost use Rattle.papergrid_least.specs.ForProofs.Laid.{AreLaid, carrying};
 ghost use Rattle.papergrid_least.specs.ForProofs.Limits.{AreLimits, Refuses};
@@ -16,29 +16,11 @@ ghost use Rattle.papergrid_least.specs.ForProofs.Settled.{AreSettled};
 
 use crate::limits::{Limits, limits_of};
 use crate::lower::lower_edges;
-use crate::shares::grow_all;
 use papergrid_axis::axis::Axis;
-use papergrid_axis::settled::{find_out, lines_of, taken, write_base};
+use papergrid_axis::growers::grow_all;
+use papergrid_axis::settled::{lines_of, refusal, taken, write_base};
 use papergrid_axis::{Demand, LayoutError, Seen};
 use std::alloc::Global;
-
-/// Why the seen cells have no sizes, where one of them reaches out or has a large need.
-fn refusal(count: usize, seen: &Seen) -> Option<LayoutError>
-    requires { (demands : List Demand) × IsSeen count seen.now demands }
-    ensures refused { IfSome result (λ error.
-        (line : ℕ → Bool) (demands : List Demand) → IsSeen count seen.now demands →
-        HasNoLeast (given line count demands) error) }
-    ensures inside { IfNone result (first_out count seen.now.others.items ≡ None) }
-    ensures small { IfNone result (seen.now.is_large ≡ false) }
-{
-    if let Some(position) = find_out(count, &seen.others) {
-        return Some(LayoutError::OutOfTable(position));
-    }
-    if seen.is_large {
-        return Some(LayoutError::TooLarge);
-    }
-    None
-}
 
 /// Makes of what each number needs alone the sizes by shares, and of these the least ones; gives the
 /// edges between which theirs lie.
@@ -64,7 +46,7 @@ fn make_least(
 {
     let limits = limits_of(alloc, lines, sizes, cells)?;
     let longer = taken(alloc, sizes.len(), cells)?;
-    grow_all(sizes, lines, &longer);
+    let _ = grow_all(alloc, sizes, lines, &longer)?;
     lower_edges(sizes, &limits.latest);
     Ok(limits)
 }

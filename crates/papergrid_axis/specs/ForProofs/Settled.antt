@@ -1,16 +1,22 @@
 -- What is known once the cells of longer ranges were taken.
-use Rattle.std.specs.Prelude.{◌≡◌, ℕ, ◌^◌, ◌<◌, Bool, false, List, slice_index_or, All, Result, Ok, Err}
+use Rattle.std.specs.Prelude.{◌≡◌, ℕ, ◌^◌, ◌<◌, Bool, false, true, None, List, slice_index_or, All, Result, Ok, Err}
 use Rattle.papergrid_axis.specs.declared.error.LayoutError.{LayoutError}
 use Rattle.papergrid_axis.specs.declared.settled.Settled.{Settled}
 use Rattle.papergrid_axis.specs.Problem.{Problem, total_of}
 use Rattle.papergrid_axis.specs.Answers.{IsRefused}
 use Rattle.papergrid_axis.specs.Chosen.{growers_of}
-use Rattle.papergrid_axis.specs.Ranges.{IsInTable}
+use Rattle.papergrid_axis.specs.Ranges.{IsInTable, first_out}
+use Rattle.papergrid_axis.specs.declared.seen.Seen.{Seen}
 use Rattle.papergrid_axis.specs.Sizes.{sizes_of, taken}
 
 -- whether a line is drawn, by a list that says so of each number; none past its end
 abbrev pub line_at : List Bool → ℕ → Bool
 line_at lines i = slice_index_or lines i false
+
+-- no cell reaches out of so many numbers, and one has a large need
+pub record IsLargeInside (count : ℕ) (seen : Seen) : Type 0 where
+  pub inside : first_out count seen.others.items ≡ None
+  pub is_large : seen.is_large ≡ true
 
 module _ (problem : Problem) where
   -- the sizes, the cells as they were taken and those that grew

@@ -1,5 +1,4 @@
-use Rattle.std.proofs.Common.{◌≡◌, subst, ℕ, arith}
-use Rattle.std.proofs.lemmas.List.Sums.{get_or-le-sum_by}
+use Rattle.std.proofs.Common.{◌≡◌, subst, arith}
 use Rattle.papergrid_axis.specs.Ranges.{end_of}
 use Rattle.papergrid_axis.proofs.LoopLemmas.{SharesAdded, SharesAdded-all, share-le}
 use Rattle.papergrid_axis.proofs.growers.add_shares.Goals as goal
@@ -10,7 +9,7 @@ overflow_add-sizes c =
     let r = c.loop-i.invariant.rest c.loop-i.i (omega arith) in
     let n = c.loop-i.invariant.next (omega arith) in
     let s = share-le c.args.amount c.args.demand c.loop-i.i one in
-    let m = get_or-le-sum_by (λ (x : ℕ). x) c.args.sizes.now c.loop-i.i 0 (omega arith) in
+    let m = c.requires.room c.loop-i.i (omega arith) (omega arith) in
     omega arith
 
 pub returns : goal.returns

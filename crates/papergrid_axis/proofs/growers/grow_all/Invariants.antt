@@ -1,4 +1,4 @@
-use Rattle.std.proofs.Common.{◌≡◌, ◌++◌, sum, fold, take, drop}
+use Rattle.std.proofs.Common.{◌≡◌, ◌++◌, fold, take, drop}
 use Rattle.papergrid_axis.specs.ForProofs.Settled.{line_at}
 use Rattle.papergrid_axis.specs.Sizes.{grown}
 use Rattle.papergrid_axis.specs.Chosen.{growing}
@@ -6,6 +6,5 @@ use Rattle.papergrid_axis.proofs.growers.grow_all.Given as goal
 
 abbrev pub invariant-loop-demand : goal.invariant-loop-demand
 invariant-loop-demand l =
-    (l.so_far ≡ sum l.sizes)
-    × (l.sizes ≡ fold (grown (line_at l.lines)) l.fn.sizes (take l.demand-index l.cells))
+    (l.sizes ≡ fold (grown (line_at l.lines)) l.fn.sizes (take l.demand-index l.cells))
     × (l.growers.items ++ growing (line_at l.lines) l.sizes (drop l.demand-index l.cells) ≡ growing (line_at l.lines) l.fn.sizes l.cells)

@@ -1,6 +1,6 @@
 use Rattle.std.proofs.Common.{◌∙◌, ap, sym}
 use Rattle.papergrid_axis.specs.Ranges.{first_out}
-use Rattle.papergrid_axis.proofs.OutLemmas.{out_seen, NoneHolds-large}
+use Rattle.papergrid_axis.proofs.OutLemmas.{out_seen}
 use Rattle.papergrid_axis.proofs.settled.refusal.Goals as goal
 
 pub returns-in-Some-clause-refused : goal.returns-in-Some-clause-refused
@@ -8,6 +8,7 @@ returns-in-Some-clause-refused c = λ line demands seen.
     out_seen c.args.count c.args.seen.now demands seen ∙ ap (first_out c.args.count) (sym c.deref.ensures.value) ∙ sym c.find_out.ensures ∙ c.in-Some.is
 
 pub returns-then-seen-clause-refused : goal.returns-then-seen-clause-refused
-returns-then-seen-clause-refused c = λ line demands seen.
-    NoneHolds-large c.args.count c.args.seen.now demands seen line
-    (ap (first_out c.args.count) (sym c.deref.ensures.value) ∙ sym c.find_out.ensures ∙ c.in_default.is) c.if-seen.true
+returns-then-seen-clause-refused c = λ line demands seen. record {
+  inside = ap (first_out c.args.count) (sym c.deref.ensures.value) ∙ sym c.find_out.ensures ∙ c.in_default.is;
+  is_large = c.if-seen.true;
+}

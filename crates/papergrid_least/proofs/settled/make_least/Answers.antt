@@ -6,7 +6,7 @@ use Rattle.papergrid_axis.specs.Ranges.{IsInTable}
 use Rattle.papergrid_axis.proofs.Theorems.{table-taken}
 use Rattle.papergrid_least.proofs.settled.make_least.Goals as goal
 
-pub grow_all-requires-clause-table : goal.grow_all-requires-clause-table
-grow_all-requires-clause-table c =
+pub grow_all-requires-clause-cells : goal.grow_all-requires-clause-cells
+grow_all-requires-clause-cells c =
     subst (All (IsInTable (length c.args.sizes.now))) (sym (c.deref.ensures.value ∙ c.in_ok-longer.ensures))
     (table-taken (given (line_at c.args.lines.now) (length c.args.sizes.now) c.args.cells.now) c.requires.table)

@@ -4,14 +4,16 @@ use Rattle.std.proofs.lemmas.List.{with_items_is}
 use Rattle.papergrid_axis.specs.ForProofs.Settled.{line_at}
 use Rattle.papergrid_axis.specs.ForProofs.Seen.{no_demand}
 use Rattle.papergrid_axis.specs.Problem.{given}
-use Rattle.papergrid_axis.proofs.OutLemmas.{table_demands}
+use Rattle.papergrid_axis.proofs.OutLemmas.{IsRefusedWhere-weaker, table_demands}
 use Rattle.papergrid_axis.proofs.SeenLemmas.{table-seen}
 use Rattle.papergrid_least.specs.Answers.{HasNoLeast}
-use Rattle.papergrid_least.proofs.AnswerLemmas.{AreLeastSizes-made, HasNoLeast-refused, earliest-made, many-made}
+use Rattle.papergrid_least.proofs.AnswerLemmas.{AreLeastSizes-made, HasNoLeast-refused, NoneFits-large, earliest-made, many-made}
 use Rattle.papergrid_least.proofs.settled.settle.Goals as goal
 
 pub returns-in-Some-clause-settled : goal.returns-in-Some-clause-settled
-returns-in-Some-clause-settled g c = λ demands seen. c.in-Some.ensures.refused (g.A.Axis.line c.args.axis.now) demands seen
+returns-in-Some-clause-settled g c = λ demands seen.
+    let line = g.A.Axis.line c.args.axis.now in
+    IsRefusedWhere-weaker (given line c.args.count demands) (NoneFits-large c.args.count c.args.seen.now demands seen line) c.in-Some.error (c.in-Some.ensures.refused line demands seen)
 
 pub make_least-requires-clause-table : goal.make_least-requires-clause-table
 make_least-requires-clause-table g c =
