@@ -1,5 +1,5 @@
 -- What the loops over the table of last cells keep.
-use Rattle.std.proofs.Common.{◌≡◌, ℕ, ◌+◌, ◌<◌, ◌≤◌, Bool, true, false, cond, ◌⊎◌, inl, inr, List, length, get_or, refl, sym, ap, ◌∙◌, arith, Option, Some, None, [], ◌∷◌, ◌++◌, ◌==◌, drop, sum, ltb, lt-ltb, le-ltb, append_assoc, ap₂, zero, suc}
+use Rattle.std.proofs.Common.{◌≡◌, ℕ, ◌+◌, ◌<◌, ◌≤◌, Bool, true, false, cond, ◌⊎◌, inl, inr, List, length, get_or, refl, sym, ap, ◌∙◌, arith, Option, Some, None, [], ◌∷◌, ◌++◌, ◌==◌, drop, ltb, lt-ltb, le-ltb, append_assoc, ap₂, zero, suc}
 use Rattle.std.specs.Prelude.{find, filter_map}
 use Rattle.std.specs.List.{AllByRecursion, range_with_len, cons_option}
 use Rattle.std.proofs.lemmas.List.Elements.{filter_map-append}

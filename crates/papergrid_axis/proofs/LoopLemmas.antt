@@ -1,22 +1,18 @@
 -- What the loops over sizes and lines keep.
-use Rattle.std.proofs.Common.{◌≡◌, ℕ, zero, suc, ◌+◌, ◌-◌, ◌<◌, ◌≤◌, Bool, false, cond, inl, inr, List, [], ◌∷◌, length, get_or, take, drop, sum, count_by, fold, refl, sym, ap, ◌∙◌, arith, ◌++◌, take-append-drop, ap₂}
-use Rattle.std.specs.Prelude.{All}
-use Rattle.std.specs.List.{range_with_len, AllByRecursion}
-use Rattle.std.proofs.lemmas.List.Elements.{recursion_from_All, All-drop}
+use Rattle.std.proofs.Common.{◌≡◌, ℕ, zero, suc, ◌+◌, ◌-◌, ◌<◌, ◌≤◌, Bool, false, cond, inl, inr, List, ◌∷◌, length, get_or, take, drop, sum, count_by, refl, sym, ap, ◌∙◌, arith, ◌++◌, ap₂}
+use Rattle.std.specs.List.{range_with_len}
 use Rattle.std.proofs.lemmas.Bool.{cases_lt}
 use Rattle.std.proofs.lemmas.List.{drop_more, take_all}
-use Rattle.std.proofs.lemmas.List.Sums.{sum_by-cons, sum_by-take-le, sum_by-take-drop, fold-append, sum_by-append}
+use Rattle.std.proofs.lemmas.List.Sums.{sum_by-cons, sum_by-take-le, sum_by-take-drop, sum_by-append}
 use Rattle.std.proofs.lemmas.Grind.{same_number_lists}
 use Rattle.papergrid_axis.specs.declared.demand.Demand.{Demand}
 use Rattle.papergrid_axis.specs.ForProofs.Settled.{line_at}
 use Rattle.papergrid_values.specs.Lines.{all_lines}
 use Rattle.papergrid_axis.specs.Ranges.{end_of, inner_lines, IsInTable}
 use Rattle.papergrid_axis.specs.Fits.{range_sum, HasRoom}
-use Rattle.papergrid_axis.specs.Sizes.{share, with_shares, lack, grown}
-use Rattle.papergrid_axis.proofs.Upto.{upto, upto-point, upto-ext, upto-add, sum-upto, within, holds_cases}
-use Rattle.papergrid_axis.proofs.RangeLemmas.{masked, masked_in, masked_out, masked_sum}
-use Rattle.papergrid_axis.proofs.FitBound.{length-grown, length-taken}
-use Rattle.papergrid_axis.proofs.Steps.{share-out, shares_sum, length-with_shares, get_or-with_shares, get_or-grown}
+use Rattle.papergrid_axis.specs.Sizes.{share, with_shares}
+use Rattle.papergrid_axis.proofs.Upto.{upto-point, within, holds_cases}
+use Rattle.papergrid_axis.proofs.Steps.{share-out, shares_sum, length-with_shares, get_or-with_shares}
 
 -- the sum of a range is at most the whole
 pub range_sum-le : (sizes : List ℕ) (d : Demand) → range_sum sizes d ≤ sum sizes

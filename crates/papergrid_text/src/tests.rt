@@ -2,7 +2,6 @@
 
 mod callers;
 mod consumer;
-mod flat;
 mod peeks;
 
 use crate::StrWithWidth;
@@ -22,7 +21,6 @@ use crate::tests::callers::{
     of_chunks, of_exact_chunks, of_held, of_lent, of_lent_records, of_nested, of_row_iter,
     of_slice, of_texts, of_vectors,
 };
-use crate::tests::flat::{Flat, of_flat};
 use crate::tests::peeks::of_strings;
 use crate::text::Text;
 use crate::vec_records::VecRecords;
@@ -408,10 +406,6 @@ fn rows_cut_from_one_list(rt: HostRuntime) -> Result<(), Fail> {
         of_exact_chunks(alloc, texts.as_slice(), 2)?.as_slice(),
         [3usize, 3].as_slice()
     );
-    let flat = Flat { texts, columns: 2 };
-    assert_eq!(rt; of_flat(alloc, &flat)?.as_slice(), expected.as_slice());
-    assert_eq!(rt; Records::count_columns(&&flat), 2);
-    assert_eq!(rt; Records::hint_count_rows(&&flat), None);
     Ok(())
 }
 
