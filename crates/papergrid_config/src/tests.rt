@@ -9,8 +9,8 @@ ghost use Rattle.std.specs.Prelude.{◌≡◌};
 
 use crate::{CompactConfig, Setting, SpannedConfig, Stopped};
 use papergrid_values::{
-    ANSIBuf, ANSIStr, AlignmentHorizontal, AlignmentVertical, Border, Borders, Entity, Formatting,
-    HorizontalLine, Indent, Offset, Position, Sides, VerticalLine,
+    ANSIBuf, ANSIStr, AlignmentHorizontal, AlignmentVertical, Border, Borders, Direction, Entity,
+    Formatting, HorizontalLine, Indent, Offset, Position, Sides, VerticalLine,
 };
 use std::alloc::{AllocError, Global};
 use std::test::Fail;
@@ -87,6 +87,12 @@ fn rectangle_of_both_spans(rt: HostRuntime) -> Result<(), Fail> {
     Ok(())
 }
 
+// Whether all spans end within so many columns and so many rows.
+fn ends(config: &SpannedConfig, columns: usize, rows: usize) -> bool {
+    config.spans_end_within(Direction::Columns, columns)
+        && config.spans_end_within(Direction::Rows, rows)
+}
+
 #[test]
 fn spans(rt: HostRuntime) -> Result<(), Fail> {
     let mut config = square(rt.alloc())?;
@@ -95,7 +101,9 @@ fn spans(rt: HostRuntime) -> Result<(), Fail> {
     assert!(rt; config.is_cell_covered_by_both_spans(at(1, 1)));
     assert_eq!(rt; config.get_column_span(at(0, 0)), Some(2));
     assert_eq!(rt; config.get_row_span(at(0, 1)), None);
+    assert!(rt; ends(&config, 2, 2) && !ends(&config, 1, 2) && !ends(&config, 2, 1));
     config.remove_column_spans();
+    assert!(rt; ends(&config, 0, 2));
     assert!(rt; !config.has_column_spans() && config.has_row_spans());
     config.remove_row_spans();
     assert!(rt; !config.has_row_spans());

@@ -260,6 +260,20 @@ fn held_spans(rt: HostRuntime) -> Result<(), Fail> {
     Ok(())
 }
 
+// A span of three from column 2 ends within 5, one of four from row 7 within 11, and one without end
+// within no count. Spans along rows have no end along columns.
+#[test]
+fn ends_of_spans(rt: HostRuntime) -> Result<(), Fail> {
+    let mut spans = spans_of(rt.alloc(), &[(Columns, at(9, 2), 3), (Rows, at(7, 9), 4)])?;
+    assert!(rt; spans.end_within(Columns, 5) && !spans.end_within(Columns, 4));
+    assert!(rt; spans.end_within(Rows, 11) && !spans.end_within(Rows, 10));
+    spans.set_column(at(0, 1), usize::MAX)?;
+    assert!(rt; !spans.end_within(Columns, usize::MAX));
+    spans.remove_columns();
+    assert!(rt; spans.end_within(Columns, 0) && !spans.end_within(Rows, 0));
+    Ok(())
+}
+
 #[test]
 fn equal_spans(rt: HostRuntime) -> Result<(), Fail> {
     let mut spans = spans_of(rt.alloc(), &[(Columns, at(0, 0), 2)])?;
