@@ -1,0 +1,61 @@
+//! Colours, and what is made of them.
+
+use super::{clones, color, keeps, says, with_clone};
+use papergrid_values::{ANSIBuf, Border, Borders, HorizontalLine, Sides, VerticalLine};
+use std::test::Fail;
+
+#[test]
+fn new(rt: HostRuntime) -> Result<(), Fail> {
+    says(ANSIBuf::new(rt.alloc(), "<red>", "</>"))
+}
+
+#[test]
+fn copy_of(rt: HostRuntime) -> Result<(), Fail> {
+    let (color, before) = with_clone(color(rt.alloc())?)?;
+    let copy = ANSIBuf::copy_of(rt.alloc(), color.as_ref());
+    keeps(&rt, color, before, copy)
+}
+
+#[test]
+fn clone(rt: HostRuntime) -> Result<(), Fail> {
+    clones(&rt, color(rt.alloc())?)
+}
+
+#[test]
+fn cloned(rt: HostRuntime) -> Result<(), Fail> {
+    let (color, before) = with_clone(color(rt.alloc())?)?;
+    let copy = Border::filled(&color).cloned();
+    keeps(&rt, color, before, copy)
+}
+
+#[test]
+fn clone_of_sides(rt: HostRuntime) -> Result<(), Fail> {
+    let (left, top) = (Some(color(rt.alloc())?), Some(color(rt.alloc())?));
+    clones(&rt, Sides::new(left, None, top, None))
+}
+
+#[test]
+fn clone_of_border(rt: HostRuntime) -> Result<(), Fail> {
+    let color = color(rt.alloc())?;
+    clones(&rt, Border::filled(&color).cloned()?)
+}
+
+#[test]
+fn clone_of_borders(rt: HostRuntime) -> Result<(), Fail> {
+    let mut frame = Borders::empty();
+    frame.top = Some(color(rt.alloc())?);
+    frame.right_intersection = Some(color(rt.alloc())?);
+    clones(&rt, frame)
+}
+
+#[test]
+fn clone_of_horizontal_line(rt: HostRuntime) -> Result<(), Fail> {
+    let (main, right) = (Some(color(rt.alloc())?), Some(color(rt.alloc())?));
+    clones(&rt, HorizontalLine::new(main, None, None, right))
+}
+
+#[test]
+fn clone_of_vertical_line(rt: HostRuntime) -> Result<(), Fail> {
+    let (main, bottom) = (Some(color(rt.alloc())?), Some(color(rt.alloc())?));
+    clones(&rt, VerticalLine::new(main, None, None, bottom))
+}

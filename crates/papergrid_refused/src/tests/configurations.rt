@@ -1,0 +1,147 @@
+//! Configurations, and lists of settings.
+
+use super::settings::{apply, each, held, padding, ten, told, twins, two_of_each};
+use super::{clones, keeps, says, with_clone};
+use papergrid_config::{CompactConfig, Setting, SpannedConfig, Stopped};
+use papergrid_values::{ANSIStr, Borders, Entity, Sides};
+use std::alloc::{AllocError, Global};
+use std::process::Abort;
+use std::test::Fail;
+
+#[test]
+fn apply_one(rt: HostRuntime) -> Result<(), Fail> {
+    let (mut config, before) = twins(rt.alloc())?;
+    let answer = apply(
+        &mut config,
+        Setting::SetPadding(Entity::Column(2), padding(2)),
+    );
+    keeps(&rt, config, before, answer)
+}
+
+/// What a test ends with where memory was refused to the next of the settings that are given.
+fn stops(
+    rt: &impl Abort,
+    alloc: Global,
+    config: SpannedConfig,
+    given: Vec<Setting>,
+) -> Result<(), Fail> {
+    match told(alloc, given) {
+        Ok(like) => keeps(rt, config, like, Err::<(), AllocError>(AllocError)),
+        Err(error) => {
+            drop(config);
+            Err(Fail::from(error))
+        }
+    }
+}
+
+/// Applies settings one by one, up to one that is refused: how many were done.
+fn done_of(config: &mut SpannedConfig, settings: Vec<Setting>) -> usize {
+    let mut done: usize = 0;
+    for setting in settings {
+        match apply(config, setting) {
+            Ok(()) => done = done.wrapping_add(1),
+            Err(AllocError) => return done,
+        }
+    }
+    done
+}
+
+#[test]
+fn apply_each(rt: HostRuntime) -> Result<(), Fail> {
+    let (settings, mut again) = (each(rt.alloc())?, each(rt.alloc())?);
+    let mut config = SpannedConfig::new(rt.alloc());
+    let done = done_of(&mut config, settings);
+    if done == again.len() {
+        drop(config);
+        return Ok(());
+    }
+    again.truncate(done);
+    stops(&rt, rt.alloc(), config, again)
+}
+
+/// Applies settings that are in range at once, up to one that is refused: how many were done.
+fn done_at_once(config: &mut SpannedConfig, settings: Vec<Setting>) -> usize {
+    let all = settings.len();
+    if !settings.iter().all(|setting| setting.is_in_range()) {
+        return all;
+    }
+    match config.apply_all(settings) {
+        Ok(()) => all,
+        Err(Stopped { done }) => done,
+    }
+}
+
+#[test]
+fn apply_all(rt: HostRuntime) -> Result<(), Fail> {
+    let (settings, mut again) = (ten(rt.alloc())?, ten(rt.alloc())?);
+    let mut config = SpannedConfig::new(rt.alloc());
+    let done = done_at_once(&mut config, settings);
+    if done == again.len() {
+        drop(config);
+        return Ok(());
+    }
+    again.truncate(done);
+    stops(&rt, rt.alloc(), config, again)
+}
+
+#[test]
+fn from_compact(rt: HostRuntime) -> Result<(), Fail> {
+    let color = ANSIStr::new("<red>", "</>");
+    let compact = CompactConfig::new()
+        .set_borders_color(Borders::filled(color))
+        .set_margin_color(Sides::filled(color))
+        .set_padding_color(Sides::filled(color));
+    says(SpannedConfig::from_compact(rt.alloc(), &compact))
+}
+
+#[test]
+fn clone(rt: HostRuntime) -> Result<(), Fail> {
+    let settings = held(rt.alloc())?;
+    clones(&rt, told(rt.alloc(), settings)?)
+}
+
+#[test]
+fn clone_of_settings(rt: HostRuntime) -> Result<(), Fail> {
+    let settings = each(rt.alloc())?;
+    says(settings.clone())
+}
+
+/// A configuration that holds two lines and two spans of each direction, and its clone.
+fn with_two(alloc: Global) -> Result<(SpannedConfig, SpannedConfig), AllocError> {
+    with_clone(told(alloc, two_of_each(alloc)?)?)
+}
+
+#[test]
+fn get_horizontal_lines(rt: HostRuntime) -> Result<(), Fail> {
+    let (config, before) = with_two(rt.alloc())?;
+    let lines = config.get_horizontal_lines();
+    keeps(&rt, config, before, lines)
+}
+
+#[test]
+fn get_vertical_lines(rt: HostRuntime) -> Result<(), Fail> {
+    let (config, before) = with_two(rt.alloc())?;
+    let lines = config.get_vertical_lines();
+    keeps(&rt, config, before, lines)
+}
+
+#[test]
+fn get_column_spans(rt: HostRuntime) -> Result<(), Fail> {
+    let (config, before) = with_two(rt.alloc())?;
+    let spans = config.get_column_spans();
+    keeps(&rt, config, before, spans)
+}
+
+#[test]
+fn get_row_spans(rt: HostRuntime) -> Result<(), Fail> {
+    let (config, before) = with_two(rt.alloc())?;
+    let spans = config.get_row_spans();
+    keeps(&rt, config, before, spans)
+}
+
+#[test]
+fn anchors(rt: HostRuntime) -> Result<(), Fail> {
+    let (config, before) = with_two(rt.alloc())?;
+    let anchors = config.anchors();
+    keeps(&rt, config, before, anchors)
+}

@@ -1,0 +1,118 @@
+//! Tables of borders, of offsets and of spans, that hold two of each.
+
+use super::{at, clones, keeps, with_clone};
+use papergrid_maps::{BorderTable, OffsetTable, SpanTable};
+use papergrid_values::{Border, HorizontalLine, Offset, VerticalLine};
+use std::alloc::{AllocError, Global};
+use std::test::Fail;
+
+fn borders(alloc: Global) -> Result<BorderTable<char>, AllocError> {
+    let mut table = BorderTable::new(alloc);
+    for i in [0, 4] {
+        table.insert_horizontal_line(i, HorizontalLine::filled('h'))?;
+        table.insert_vertical_line(i, VerticalLine::filled('v'))?;
+        table.insert_border(at(i, i), Border::filled('x'))?;
+    }
+    Ok(table)
+}
+
+#[test]
+fn clone_of_borders(rt: HostRuntime) -> Result<(), Fail> {
+    clones(&rt, borders(rt.alloc())?)
+}
+
+#[test]
+fn get_horizontal_lines(rt: HostRuntime) -> Result<(), Fail> {
+    let (table, before) = with_clone(borders(rt.alloc())?)?;
+    let lines = table.get_horizontal_lines();
+    keeps(&rt, table, before, lines)
+}
+
+#[test]
+fn get_vertical_lines(rt: HostRuntime) -> Result<(), Fail> {
+    let (table, before) = with_clone(borders(rt.alloc())?)?;
+    let lines = table.get_vertical_lines();
+    keeps(&rt, table, before, lines)
+}
+
+fn offsets(alloc: Global) -> Result<OffsetTable<char>, AllocError> {
+    let mut table = OffsetTable::new(alloc);
+    table.set(at(0, 0), Offset::Start(1), 's')?;
+    table.set(at(0, 1), Offset::End(1), 'e')?;
+    Ok(table)
+}
+
+#[test]
+fn clone_of_offsets(rt: HostRuntime) -> Result<(), Fail> {
+    clones(&rt, offsets(rt.alloc())?)
+}
+
+fn spans(alloc: Global) -> Result<SpanTable, AllocError> {
+    let mut table = SpanTable::new(alloc);
+    for i in [0, 4] {
+        table.set_column(at(i, i), 2)?;
+        table.set_row(at(i, i), 3)?;
+    }
+    Ok(table)
+}
+
+#[test]
+fn clone_of_spans(rt: HostRuntime) -> Result<(), Fail> {
+    clones(&rt, spans(rt.alloc())?)
+}
+
+#[test]
+fn columns(rt: HostRuntime) -> Result<(), Fail> {
+    let (table, before) = with_clone(spans(rt.alloc())?)?;
+    let all = table.columns();
+    keeps(&rt, table, before, all)
+}
+
+#[test]
+fn rows(rt: HostRuntime) -> Result<(), Fail> {
+    let (table, before) = with_clone(spans(rt.alloc())?)?;
+    let all = table.rows();
+    keeps(&rt, table, before, all)
+}
+
+#[test]
+fn anchors(rt: HostRuntime) -> Result<(), Fail> {
+    let (table, before) = with_clone(spans(rt.alloc())?)?;
+    let all = table.anchors();
+    keeps(&rt, table, before, all)
+}
+
+/// A first border needs room for its parts and for each count of them.
+#[test]
+fn first_border(rt: HostRuntime) -> Result<(), Fail> {
+    let (mut table, before) = with_clone(BorderTable::new(rt.alloc()))?;
+    let answer = table.insert_border(at(0, 0), Border::filled('x'));
+    keeps(&rt, table, before, answer)
+}
+
+/// A second offset of a position.
+#[test]
+fn second_offset(rt: HostRuntime) -> Result<(), Fail> {
+    let (mut table, before) = with_clone(offsets(rt.alloc())?)?;
+    let answer = table.set(at(0, 0), Offset::End(2), 'n');
+    keeps(&rt, table, before, answer)
+}
+
+/// A row span beside a column span grows two maps.
+#[test]
+fn row_span_beside_column_span(rt: HostRuntime) -> Result<(), Fail> {
+    let mut table = SpanTable::new(rt.alloc());
+    table.set_column(at(0, 0), 2)?;
+    let (mut table, before) = with_clone(table)?;
+    let answer = table.set_row(at(0, 0), 2);
+    keeps(&rt, table, before, answer)
+}
+
+#[test]
+fn column_span_beside_row_span(rt: HostRuntime) -> Result<(), Fail> {
+    let mut table = SpanTable::new(rt.alloc());
+    table.set_row(at(0, 0), 2)?;
+    let (mut table, before) = with_clone(table)?;
+    let answer = table.set_column(at(0, 0), 2);
+    keeps(&rt, table, before, answer)
+}

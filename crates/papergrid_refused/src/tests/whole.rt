@@ -1,0 +1,57 @@
+//! What the facade has of its own: the layout by a list of settings, and the run of a script.
+
+use super::says;
+use super::sizes::{in_table, rows, settings};
+use papergrid::records::vec_records::VecRecords;
+use papergrid::{ReadSource, RunEnd, RunFault, WriteSink, layout};
+use std::alloc::{AllocError, Global};
+use std::process::Abort;
+use std::test::Fail;
+
+#[test]
+fn layout_of_picture(rt: HostRuntime) -> Result<(), Fail> {
+    let records = VecRecords::new(rows(rt.alloc())?);
+    let settings = settings(rt.alloc())?;
+    assert!(rt; settings.iter().all(|setting| setting.is_in_range()));
+    let answer = layout(rt.alloc(), settings, records);
+    says(in_table(&rt, answer))
+}
+
+/// Runs a script: the whole output is written, or nothing where memory was refused. The writer has room for the
+/// output, and asks for no more.
+fn run_to(rt: &impl Abort, alloc: Global, script: &[u8], output: &str) -> Result<(), Fail> {
+    let mut written: Vec<u8> = Vec::with_capacity(alloc, 1000)?;
+    let mut reader = ReadSource::new(script);
+    let mut writer = WriteSink::new(&mut written);
+    match papergrid::run(alloc, &mut reader, &mut writer) {
+        Err(RunFault::Memory) => {
+            assert!(rt; written.is_empty());
+            says(Err::<(), AllocError>(AllocError))
+        }
+        end => {
+            assert_eq!(rt; end, Ok(RunEnd::Done));
+            assert_eq!(rt; written.as_slice(), output.as_bytes());
+            Ok(())
+        }
+    }
+}
+
+#[test]
+fn run_of_picture(rt: HostRuntime) -> Result<(), Fail> {
+    run_to(
+        &rt,
+        rt.alloc(),
+        b"columns 4\nborder +\ncolspan 1,1 3\nrowspan 0,0 2\npad 0,0 4 4 1 1\nrow\ncell Papergrid\ncell is a library\ncell for print tables\ncell !\nrow\ncell\ncell Just like this\ncell\ncell\n",
+        "widths 17 12 16 1\nheights 1 1\ntotal 51 5\nwitness widths 0,0 0,1 0,2 0,3\nwitness heights 0,1 1,1\n",
+    )
+}
+
+#[test]
+fn run_of_nested_column_spans(rt: HostRuntime) -> Result<(), Fail> {
+    run_to(
+        &rt,
+        rt.alloc(),
+        b"columns 3\ncolspan 1,0 3\ncolspan 2,1 2\nrow\ncell a\ncell a\ncell a\nrow\ncell 0123456789\nrow\ncell a\ncell 01234567\n",
+        "widths 2 4 4\nheights 1 1 1\ntotal 10 3\nwitness widths 1,0\nwitness heights 0,0 1,0 2,0\n",
+    )
+}
