@@ -1,31 +1,28 @@
 -- What an estimate is, by the answers of a dimension, and what follows from it.
 use Rattle.std.proofs.Common.{◌≡◌, ◌⊎◌, ◌∙◌, ℕ, ◌+◌, ◌<◌, ◌≤◌, ◌^◌, Bool, true, false, List, [], ◌∷◌, ◌||◌, length, map, refl, ap, sym, subst, arith, inl, inr, nat_lt, nat_le}
-use Rattle.std.specs.Prelude.{Option, Some, None, Result, Ok, Err, find, if◌then◌else◌}
+use Rattle.std.specs.Prelude.{Option, Some, None, Result, Ok, Err, Vec, find, if◌then◌else◌}
+use Rattle.std.specs.declared.alloc.Global.{Global}
 use Rattle.std.proofs.lemmas.Bool.Decides.{nat_tests}
-use Rattle.std.proofs.lemmas.List.{length-map, map-id}
+use Rattle.std.proofs.lemmas.List.{length-map}
 use Rattle.papergrid_values.specs.declared.position.Position.{Position}
-use Rattle.papergrid_axis.specs.declared.demand.Demand.{Demand}
-use Rattle.papergrid_values.specs.declared.direction.Direction.{Direction}
 use Rattle.papergrid_values.specs.declared.direction.Direction.TheVariants.{Columns, Rows}
 use Rattle.papergrid_axis.specs.declared.error.LayoutError.{LayoutError}
 use Rattle.papergrid_axis.specs.declared.error.LayoutError.TheVariants as layout_errors
-use Rattle.papergrid_axis.specs.Chosen.{chosen_of}
-use Rattle.papergrid_axis.specs.KeptApart.{is_kept_apart}
-use Rattle.papergrid_axis.specs.Answers.{NoneHolds}
-use Rattle.papergrid_axis.specs.Problem.{given}
-use Rattle.papergrid_axis.specs.Ranges.{place_of}
-use Rattle.papergrid_axis.specs.Sizes.{sizes_of}
+use Rattle.papergrid_axis.specs.Problem.{Problem, total_of}
+use Rattle.papergrid_axis.specs.Ranges.{first_out, place_of}
 use Rattle.papergrid_walk.specs.Cells.{asked, demands_of, problem_of, visible_cells}
 use Rattle.papergrid_walk.specs.Looks.{Look}
-use Rattle.papergrid_layout.specs.Answers.{AreBothSizes, IsBothRefused, UnlessWant, first_out_of_table, reaches_out}
-use Rattle.papergrid_layout.specs.Laws.{sizes_told, witness_told}
-use Rattle.papergrid_layout.specs.Witnesses.{AreCertified}
+use Rattle.papergrid_layout.specs.Answers.{IsBothRefusedWhere, UnlessWant, first_out_of_table, reaches_out}
+use Rattle.papergrid_layout.specs.Witnesses.{AreCertifiedWhere}
 use Rattle.papergrid_layout.specs.declared.certified.Certified.{Certified}
-use Rattle.papergrid_layout.proofs.Told.{demands_told, witness_is_told}
+use Rattle.papergrid_layout.proofs.Told.{demands_told, problem_told, witness_is}
 use Rattle.papergrid_layout.proofs.PairLemmas.{none_reaches_out}
 use Rattle.papergrid.specs.declared.estimate.Sizes.{Sizes}
-use Rattle.papergrid.specs.Estimates.{Estimate, OutOfTable, TooLarge, Sized, unless_large, unless_out, total_along, totalled, estimate_by}
-use Rattle.papergrid.specs.ForProofs.Seen.{GivesEstimate, places_seen}
+use Rattle.papergrid.specs.declared.estimate.Sizing.{Sizing}
+use Rattle.papergrid.specs.declared.estimate.Sizing.TheVariants.{ByShares, Least}
+use Rattle.papergrid.specs.Estimates.{Estimate, OutOfTable, TooLarge, Sized, unless_large, unless_out, sizes_by, witness_by, total_along, totalled, estimate_by}
+use Rattle.papergrid.specs.Totals.{AreSizesBy, HasNone}
+use Rattle.papergrid.specs.ForProofs.Seen.{GivesEstimate, IsFoundWitness, places_seen}
 
 -- ---- tests and options
 
@@ -47,6 +44,28 @@ sized w h m n a b narrow low =
     let high : nat_le (2 ^ 64) n ≡ false = grind (arith, nat_tests) in
     rw (wide, high) refl
 
+-- ---- along a direction
+
+-- what holds of chosen sizes, however they are chosen
+record AreFound (sizing : Sizing) (problem : Problem) (sizes : List ℕ) : Type 0 where
+  none_out : first_out problem.count problem.demands ≡ None
+  exact : sizes ≡ sizes_by sizing problem
+  one_each : length sizes ≡ problem.count
+  total : total_of problem sizes < 2 ^ 64
+
+are_found : (sizing : Sizing) (problem : Problem) (sizes : List ℕ) → AreSizesBy sizing problem sizes → AreFound sizing problem sizes
+are_found ByShares problem sizes are = record { none_out = are.none_out; exact = are.exact; one_each = are.fits.one_each; total = are.total }
+are_found Least problem sizes are = record { none_out = are.none_out; exact = are.exact; one_each = are.least.fits.one_each; total = are.total }
+
+none_large : (sizing : Sizing) (problem : Problem) → HasNone sizing problem → 2 ^ 64 ≤ total_of problem (sizes_by sizing problem)
+none_large ByShares problem none = none.too_large
+none_large Least problem none = none.too_large
+
+found_witness : (sizing : Sizing) (problem : Problem) (found : Option (Vec Position Global)) → IsFoundWitness sizing problem found → places_seen found ≡ witness_by sizing problem
+found_witness ByShares problem found is = witness_is problem found is
+found_witness Least problem None is = absurd is
+found_witness Least problem (Some places) longest = ap Some longest.exact
+
 module _ {C : Type 0} (look : Look) (measure : C → ℕ × ℕ) (columns : ℕ) (cells : List (List C)) where
   -- ---- the first cell out of the table
 
@@ -58,74 +77,56 @@ module _ {C : Type 0} (look : Look) (measure : C → ℕ × ℕ) (columns : ℕ)
   first_by_demands : first_out_of_table look measure columns cells ≡ find (reaches_out look measure columns cells) (map place_of (demands_of Columns look measure cells))
   first_by_demands = ap (find (reaches_out look measure columns cells)) (places_among (visible_cells look cells))
 
-  -- ---- the answers
+  module _ (sizing : Sizing) where
+    -- ---- the answers
 
-  abbrev pub wide_sizes : List ℕ
-  wide_sizes = sizes_told Columns look measure columns cells
+    abbrev pub across : Problem
+    across = problem_of look measure columns cells Columns
 
-  abbrev pub high_sizes : List ℕ
-  high_sizes = sizes_told Rows look measure (length cells) cells
+    abbrev pub down : Problem
+    down = problem_of look measure columns cells Rows
 
-  abbrev pub wide_witness : Option (List Position)
-  wide_witness = witness_told Columns look measure columns cells
+    pub estimate_out : (place : Position) → first_out_of_table look measure columns cells ≡ Some place → estimate_by sizing look measure columns cells ≡ OutOfTable place
+    unfolding estimate_by
+    estimate_out place first = ap (λ o. unless_out o (totalled sizing across down)) first
 
-  abbrev pub high_witness : Option (List Position)
-  high_witness = witness_told Rows look measure (length cells) cells
+    estimate_inside : first_out_of_table look measure columns cells ≡ None → estimate_by sizing look measure columns cells ≡ totalled sizing across down
+    unfolding estimate_by
+    estimate_inside none = ap (λ o. unless_out o (totalled sizing across down)) none
 
-  abbrev pub if_inside : Estimate
-  if_inside = totalled look columns (length cells) wide_sizes high_sizes wide_witness high_witness
+    pub estimate_large : first_out_of_table look measure columns cells ≡ None → (2 ^ 64 ≤ total_of across (sizes_by sizing across)) ⊎ (2 ^ 64 ≤ total_of down (sizes_by sizing down))
+        → estimate_by sizing look measure columns cells ≡ TooLarge
+    estimate_large none past =
+        estimate_inside none
+        ∙ large (sizes_by sizing across) (sizes_by sizing down) (total_of across (sizes_by sizing across)) (total_of down (sizes_by sizing down)) (witness_by sizing across) (witness_by sizing down) past
 
-  pub estimate_out : (place : Position) → first_out_of_table look measure columns cells ≡ Some place → estimate_by look measure columns cells ≡ OutOfTable place
-  unfolding estimate_by
-  estimate_out place first = ap (λ o. unless_out o if_inside) first
+    pub estimate_none : first_out_of_table look measure columns cells ≡ None → HasNone sizing across ⊎ HasNone sizing down → estimate_by sizing look measure columns cells ≡ TooLarge
+    estimate_none none too_large = estimate_large none (elim too_large [ inl wide ↦ inl (none_large sizing across wide) | inr high ↦ inr (none_large sizing down high) ])
 
-  estimate_inside : first_out_of_table look measure columns cells ≡ None → estimate_by look measure columns cells ≡ if_inside
-  unfolding estimate_by
-  estimate_inside none = ap (λ o. unless_out o if_inside) none
+    module _ (certified : Certified) (are : AreCertifiedWhere look measure columns cells (AreSizesBy sizing) (IsFoundWitness sizing) certified) where
+      wide : AreFound sizing across certified.widths.items
+      wide = are_found sizing across certified.widths.items are.sizes.widths
 
-  pub estimate_large : first_out_of_table look measure columns cells ≡ None → NoneHolds (problem_of look measure columns cells Columns) ⊎ NoneHolds (problem_of look measure columns cells Rows)
-      → estimate_by look measure columns cells ≡ TooLarge
-  estimate_large none too_large =
-      estimate_inside none
-      ∙ large wide_sizes high_sizes (total_along Columns look columns wide_sizes) (total_along Rows look (length cells) high_sizes) wide_witness high_witness (elim too_large [
-        | inl wide ↦ inl wide.too_large
-        | inr high ↦ inr high.too_large
-      ])
+      high : AreFound sizing down certified.heights.items
+      high = are_found sizing down certified.heights.items are.sizes.heights
 
-  module _ (wide high : List ℕ) (are : AreBothSizes look measure columns cells wide high) where
-    pub width_fits : total_along Columns look (length wide) wide < 2 ^ 64
-    width_fits =
-        subst (λ n. total_along Columns look n wide < 2 ^ 64) (sym are.widths.fits.one_each) are.widths.total
+      pub width_fits : total_along Columns look (length certified.widths.items) certified.widths.items < 2 ^ 64
+      width_fits = subst (λ n. total_along Columns look n certified.widths.items < 2 ^ 64) (sym wide.one_each) wide.total
 
-    pub height_fits : total_along Rows look (length high) high < 2 ^ 64
-    height_fits =
-        subst (λ n. total_along Rows look n high < 2 ^ 64) (sym are.heights.fits.one_each) are.heights.total
+      pub height_fits : total_along Rows look (length certified.heights.items) certified.heights.items < 2 ^ 64
+      height_fits = subst (λ n. total_along Rows look n certified.heights.items < 2 ^ 64) (sym high.one_each) high.total
 
-    pub estimate_sized : estimate_by look measure columns cells ≡ Sized wide high (total_along Columns look (length wide) wide) (total_along Rows look (length high) high) wide_witness high_witness
-    estimate_sized =
-        estimate_inside ((none_reaches_out look measure columns cells).1 (are.widths.none_out, are.heights.none_out))
-        ∙ (λ i. unless_large (sym are.widths.exact i) (sym are.heights.exact i)
-        (total_along Columns look (sym are.widths.fits.one_each i) (sym are.widths.exact i)) (total_along Rows look (sym are.heights.fits.one_each i) (sym are.heights.exact i)) wide_witness high_witness)
-        ∙ sized wide high (total_along Columns look (length wide) wide) (total_along Rows look (length high) high) wide_witness high_witness width_fits height_fits
-
-  -- sizes with their witnesses are what is estimated
-  pub estimate_certified : (certified : Certified) → AreCertified look measure columns cells certified → estimate_by look measure columns cells
-      ≡ Sized certified.widths.items certified.heights.items (total_along Columns look (length certified.widths.items) certified.widths.items)
-      (total_along Rows look (length certified.heights.items) certified.heights.items) (places_seen certified.width_witness) (places_seen certified.height_witness)
-  estimate_certified certified are =
-      let wide = witness_is_told look (λ x. x) measure cells cells themselves Columns columns certified.width_witness are.witnesses.widths in
-      let high = witness_is_told look (λ x. x) measure cells cells themselves Rows columns certified.height_witness are.witnesses.heights in
-      estimate_sized certified.widths.items certified.heights.items are.sizes
-      ∙ (λ i. Sized certified.widths.items certified.heights.items (total_along Columns look (length certified.widths.items) certified.widths.items)
-      (total_along Rows look (length certified.heights.items) certified.heights.items) (sym wide i) (sym high i))
-    where
-      themselves : map (map (λ x. x)) cells ≡ cells
-      themselves = (λ i. map (λ row. map-id row i) cells) ∙ map-id cells
-
--- a witness by what the cells ask for
-abbrev witness_by : Direction → Look → ℕ → List Demand → Option (List Position)
-witness_by direction look n demands =
-    if is_kept_apart demands then Some (map place_of (chosen_of (given (look.draws direction n) n demands))) else None
+      -- sizes with what certifies them are what is estimated
+      pub estimate_certified : estimate_by sizing look measure columns cells
+          ≡ Sized certified.widths.items certified.heights.items (total_along Columns look (length certified.widths.items) certified.widths.items)
+          (total_along Rows look (length certified.heights.items) certified.heights.items) (places_seen certified.width_witness) (places_seen certified.height_witness)
+      estimate_certified =
+          estimate_inside ((none_reaches_out look measure columns cells).1 (wide.none_out, high.none_out))
+          ∙ (λ i. unless_large (sym wide.exact i) (sym high.exact i)
+          (total_along Columns look (sym wide.one_each i) (sym wide.exact i)) (total_along Rows look (sym high.one_each i) (sym high.exact i))
+          (sym (found_witness sizing across certified.width_witness are.witnesses.widths) i) (sym (found_witness sizing down certified.height_witness are.witnesses.heights) i))
+          ∙ sized certified.widths.items certified.heights.items (total_along Columns look (length certified.widths.items) certified.widths.items)
+          (total_along Rows look (length certified.heights.items) certified.heights.items) (places_seen certified.width_witness) (places_seen certified.height_witness) width_fits height_fits
 
 -- cells that are seen through a view
 module _ {A B : Type 0} (look : Look) (v : A → B) (f : B → ℕ × ℕ) (columns : ℕ) (cells : List (List A)) (rows : List (List B)) (same : map (map v) cells ≡ rows) where
@@ -139,24 +140,22 @@ module _ {A B : Type 0} (look : Look) (v : A → B) (f : B → ℕ × ℕ) (colu
       ∙ (λ i. find (λ p. nat_lt columns (p.col + look.span Columns p) || nat_lt (as_many i) (p.row + look.span Rows p)) (map place_of (wide i)))
       ∙ sym (first_by_demands look f columns rows)
 
-  pub estimate_told : estimate_by look (λ x. f (v x)) columns cells ≡ estimate_by look f columns rows
+  pub estimate_told : (sizing : Sizing) → estimate_by sizing look (λ x. f (v x)) columns cells ≡ estimate_by sizing look f columns rows
   unfolding estimate_by
-  estimate_told =
-      let wide = demands_told look v f cells rows same Columns in
-      let high = demands_told look v f cells rows same Rows in
-      λ i. unless_out (first_told i)
-      (totalled look columns (as_many i) (sizes_of (given (look.draws Columns columns) columns (wide i))) (sizes_of (given (look.draws Rows (as_many i)) (as_many i) (high i)))
-      (witness_by Columns look columns (wide i)) (witness_by Rows look (as_many i) (high i)))
+  estimate_told sizing =
+      let wide = problem_told look v f cells rows same Columns columns in
+      let high = problem_told look v f cells rows same Rows columns in
+      λ i. unless_out (first_told i) (totalled sizing (wide i) (high i))
 
 -- ---- results
 
--- why a dimension has no sizes of the cells told is why these have no estimate
-pub refused : {C : Type 0} (Tells : List (List C) → Type 0) (look : Look) (measure : C → ℕ × ℕ) (columns : ℕ) (e : LayoutError)
-    → UnlessWant e ((cells : List (List C)) × Tells cells × IsBothRefused look measure columns cells e)
-    → GivesEstimate (Err e) (λ answer. (cells : List (List C)) × Tells cells × (answer ≡ estimate_by look measure columns cells))
-refused Tells look measure columns (layout_errors.OutOfTable place) is = (is.0, is.1, sym (estimate_out look measure columns is.0 place is.2))
-refused Tells look measure columns layout_errors.TooLarge is = (is.0, is.1, sym (estimate_large look measure columns is.0 is.2.0 is.2.1))
-refused Tells look measure columns (layout_errors.Memory e) is = tt
+-- why there are no certified sizes of the cells told is why these have no estimate
+pub refused : {C : Type 0} (Tells : List (List C) → Type 0) (sizing : Sizing) (look : Look) (measure : C → ℕ × ℕ) (columns : ℕ) (e : LayoutError)
+    → UnlessWant e ((cells : List (List C)) × Tells cells × IsBothRefusedWhere look measure columns cells (HasNone sizing) e)
+    → GivesEstimate (Err e) (λ answer. (cells : List (List C)) × Tells cells × (answer ≡ estimate_by sizing look measure columns cells))
+refused Tells sizing look measure columns (layout_errors.OutOfTable place) is = (is.0, is.1, sym (estimate_out look measure columns is.0 sizing place is.2))
+refused Tells sizing look measure columns layout_errors.TooLarge is = (is.0, is.1, sym (estimate_none look measure columns is.0 sizing is.2.0 is.2.1))
+refused Tells sizing look measure columns (layout_errors.Memory e) is = tt
 
 -- an estimate that is so is also what follows from it
 pub gives_also : (result : Result Sizes LayoutError) (IsSo IsAlso : Estimate → Type 0) → ((e : Estimate) → IsSo e → IsAlso e) → GivesEstimate result IsSo → GivesEstimate result IsAlso

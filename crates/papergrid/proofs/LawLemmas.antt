@@ -3,12 +3,11 @@ use Rattle.std.proofs.Common.{◌≡◌, ◌⊎◌, ◌∙◌, ℕ, ◌<◌, ◌
 use Rattle.std.specs.Prelude.{◌↔◌, All, Option, Some, None, sum, if◌then◌else◌}
 use Rattle.std.proofs.lemmas.Bool.{cases_Bool}
 use Rattle.std.proofs.lemmas.Bool.Decides.{nat_tests}
-use Rattle.std.proofs.lemmas.List.Elements.{All-nil, All-cons}
+use Rattle.std.proofs.lemmas.List.Elements.{All-map}
 use Rattle.papergrid_values.specs.declared.position.Position.{Position}
 use Rattle.papergrid_axis.specs.declared.demand.Demand.{Demand}
 use Rattle.papergrid_values.specs.declared.direction.Direction.{Direction}
 use Rattle.papergrid_values.specs.declared.direction.Direction.TheVariants.{Columns, Rows}
-use Rattle.papergrid_axis.specs.Answers.{AreChosen, AreSizes, NoneChosen, NoneHolds}
 use Rattle.papergrid_axis.specs.Chosen.{chosen_of}
 use Rattle.papergrid_axis.specs.KeptApart.{is_kept_apart}
 use Rattle.papergrid_axis.specs.Problem.{Problem, total_of}
@@ -16,57 +15,55 @@ use Rattle.papergrid_axis.specs.Ranges.{IsInTable, first_out, place_of}
 use Rattle.papergrid_axis.specs.Sizes.{sizes_of}
 use Rattle.papergrid_axis.proofs.KeptApartLemmas.{Decides-is_kept_apart, SomeCross-from_test}
 use Rattle.papergrid_axis.proofs.OutLemmas as out_lemmas
-use Rattle.papergrid_axis.proofs.Theorems.{AreSizes-sizes_of, IsCertificate-chosen_of, NoneHolds-sizes_of}
+use Rattle.papergrid_axis.proofs.Theorems.{AreSizes-sizes_of, Fits-sizes_of, IsCertificate-chosen_of, NoneHolds-sizes_of}
+use Rattle.papergrid_least.specs.Least.{least_of}
+use Rattle.papergrid_least.proofs.LeastLemmas.{AreLeastSizes-least_of, AreLongest-longest, IsLeast-least_of, NoneFits-least_of}
 use Rattle.papergrid_values.specs.Lines.{all_lines}
-use Rattle.papergrid_walk.specs.Cells.{asked, count_along, demands_of, problem_with, visible_cells}
+use Rattle.papergrid_walk.specs.Cells.{asked, visible_cells}
 use Rattle.papergrid_walk.specs.Looks.{Look}
 use Rattle.papergrid_layout.specs.Answers.{first_out_of_table}
+use Rattle.papergrid_layout.specs.Witnesses.{witness_of}
 use Rattle.papergrid_layout.proofs.PairLemmas.{none_reaches_out}
-use Rattle.papergrid_layout.specs.Laws.{sizes_told, witness_told}
-use Rattle.papergrid.specs.Estimates.{Estimate, OutOfTable, TooLarge, Sized, unless_large, unless_out, text_measure, total_along, estimate_by, estimate_of}
+use Rattle.papergrid.specs.declared.estimate.Sizing.{Sizing}
+use Rattle.papergrid.specs.declared.estimate.Sizing.TheVariants.{ByShares, Least}
+use Rattle.papergrid.specs.Estimates.{Estimate, OutOfTable, TooLarge, Sized, unless_large, unless_out, text_measure, sizes_by, witness_by, estimate_by, estimate_of}
 use Rattle.papergrid.specs.Looks.{look_of}
 use Rattle.papergrid.specs.Scripts.{Table}
-use Rattle.papergrid.specs.Totals.{AreSized, IsTooLarge, IsWitnessOf, problem_of_table}
-use Rattle.papergrid.proofs.EstimateLemmas.{estimate_out}
+use Rattle.papergrid.specs.Totals.{AreSized, AreSizesBy, HasNone, IsTooLarge, IsWitnessOf, problem_of_table}
+use Rattle.papergrid.proofs.EstimateLemmas.{estimate_large, estimate_out}
 use Rattle.papergrid.proofs.LookLemmas.{look_covers, look_draws}
 
 -- ---- along a direction
 
-module _ {C : Type 0} (look : Look) (measure : C → ℕ × ℕ) (cover : (direction : Direction) (p : Position) → 1 ≤ look.span direction p) (direction : Direction) where
-  covers_among : (xs : List (Position × C)) → All (λ (d : Demand). 1 ≤ d.span) (map (asked direction look measure) xs)
-  covers_among [] = All-nil (λ d. 1 ≤ d.span)
-  covers_among (x ∷ xs) = All-cons (λ d. 1 ≤ d.span) (asked direction look measure x) (map (asked direction look measure) xs) (cover direction x.0) (covers_among xs)
+module _ (problem : Problem) (table : All (IsInTable problem.count) problem.demands) (inside : first_out problem.count problem.demands ≡ None) where
+  sizes_are : (sizing : Sizing) → total_of problem (sizes_by sizing problem) < 2 ^ 64 → AreSizesBy sizing problem (sizes_by sizing problem)
+  sizes_are ByShares small = AreSizes-sizes_of problem table (sizes_of problem) refl small
+  sizes_are Least small = AreLeastSizes-least_of problem table inside small
 
-  module _ (n : ℕ) (rows : List (List C)) (inside : first_out n (demands_of direction look measure rows) ≡ None) where
-    abbrev problem : Problem
-    problem = problem_with look measure direction n rows
+  has_none : (sizing : Sizing) → 2 ^ 64 ≤ total_of problem (sizes_by sizing problem) → HasNone sizing problem
+  has_none ByShares past = NoneHolds-sizes_of problem table (λ small. absurd (omega arith))
+  has_none Least past = NoneFits-least_of problem table inside past
 
-    in_table : All (IsInTable n) problem.demands
-    in_table = out_lemmas.none_out n problem.demands inside (covers_among (visible_cells look rows))
+  shares_witness : total_of problem (sizes_of problem) < 2 ^ 64 → IsWitnessOf ByShares problem (witness_of problem)
+  shares_witness small = by_test (is_kept_apart problem.demands) refl
+    where
+      by_test : (test : Bool) → is_kept_apart problem.demands ≡ test → IsWitnessOf ByShares problem (if test then Some (map place_of (chosen_of problem)) else None)
+      by_test true t =
+          let apart = (Decides-is_kept_apart problem.demands).0 t in
+          record { none_out = inside; total = small; kept_apart = apart; exact = refl; certificate = IsCertificate-chosen_of problem table apart }
+      by_test false f = record { none_out = inside; total = small; not_kept_apart = SomeCross-from_test problem.demands f }
 
-    pub sizes_are : total_of problem (sizes_of problem) < 2 ^ 64 → AreSizes problem (sizes_of problem)
-    sizes_are small = AreSizes-sizes_of problem in_table (sizes_of problem) refl small
+  is_witness : (sizing : Sizing) → total_of problem (sizes_by sizing problem) < 2 ^ 64 → IsWitnessOf sizing problem (witness_by sizing problem)
+  is_witness ByShares small = shares_witness small
+  is_witness Least small = AreLongest-longest problem table inside small
 
-    pub are_chosen : total_of problem (sizes_of problem) < 2 ^ 64 → is_kept_apart problem.demands ≡ true → AreChosen problem (map place_of (chosen_of problem))
-    are_chosen small test =
-        let apart = (Decides-is_kept_apart problem.demands).0 test in
-        record {
-          none_out = inside;
-          total = small;
-          kept_apart = apart;
-          exact = refl;
-          certificate = IsCertificate-chosen_of problem in_table apart;
-        }
-
-    pub none_chosen : total_of problem (sizes_of problem) < 2 ^ 64 → is_kept_apart problem.demands ≡ false → NoneChosen problem
-    none_chosen small test = record {
-      none_out = inside;
-      total = small;
-      not_kept_apart = SomeCross-from_test problem.demands test;
-    }
-
-    pub none_hold : 2 ^ 64 ≤ total_of problem (sizes_of problem) → NoneHolds problem
-    none_hold past = NoneHolds-sizes_of problem in_table (λ small. absurd (omega arith))
+  -- where the least sizes are too large, so are those by shares
+  least_past : 2 ^ 64 ≤ total_of problem (least_of problem) → 2 ^ 64 ≤ total_of problem (sizes_of problem)
+  least_past past =
+      let past' : 18446744073709551616 ≤ sum (least_of problem) + all_lines problem.line problem.count = past in
+      let le : sum (least_of problem) ≤ sum (sizes_of problem) = (IsLeast-least_of problem table).least (sizes_of problem) (Fits-sizes_of problem table) in
+      let all : 18446744073709551616 ≤ sum (sizes_of problem) + all_lines problem.line problem.count = omega arith in
+      all
 
 -- ---- the three answers
 
@@ -96,96 +93,97 @@ module _ (table : Table) where
   abbrev first : Option Position
   first = first_out_of_table look text_measure table.columns table.rows
 
-  abbrev widths : List ℕ
-  widths = sizes_told Columns look text_measure table.columns table.rows
+  in_table : (direction : Direction) → first_out (problem_of_table table direction).count (problem_of_table table direction).demands ≡ None
+      → All (IsInTable (problem_of_table table direction).count) (problem_of_table table direction).demands
+  in_table direction inside =
+      out_lemmas.none_out (problem_of_table table direction).count (problem_of_table table direction).demands inside
+      (All-map (λ (d : Demand). 1 ≤ d.span) (asked direction look text_measure) (visible_cells look table.rows) (λ k x l. look_covers table.settings direction _))
 
-  abbrev heights : List ℕ
-  heights = sizes_told Rows look text_measure (length table.rows) table.rows
+  module _ (sizing : Sizing) where
+    abbrev sizes : Direction → List ℕ
+    sizes direction = sizes_by sizing (problem_of_table table direction)
 
-  abbrev total_width : ℕ
-  total_width = total_along Columns look table.columns widths
+    abbrev total : Direction → ℕ
+    total direction = total_of (problem_of_table table direction) (sizes direction)
 
-  abbrev total_height : ℕ
-  total_height = total_along Rows look (length table.rows) heights
+    abbrev witness : Direction → Option (List Position)
+    witness direction = witness_by sizing (problem_of_table table direction)
 
-  abbrev witness : Direction → Option (List Position)
-  witness direction = witness_told direction look text_measure (count_along direction table.columns (length table.rows)) table.rows
+    cases : (e : Estimate) → estimate_of sizing table ≡ e
+        → ((place : Position) × (first ≡ Some place) × (e ≡ OutOfTable place))
+        ⊎ (((first ≡ None) × (e ≡ TooLarge) × ((2 ^ 64 ≤ total Columns) ⊎ (2 ^ 64 ≤ total Rows)))
+        ⊎ ((first ≡ None) × (e ≡ Sized (sizes Columns) (sizes Rows) (total Columns) (total Rows) (witness Columns) (witness Rows)) × (total Columns < 2 ^ 64) × (total Rows < 2 ^ 64)))
+    unfolding estimate_by
+    cases e is = estimate_cases first (sizes Columns) (sizes Rows) (total Columns) (total Rows) (witness Columns) (witness Rows) e is
 
-  cases : (e : Estimate) → estimate_of table ≡ e
-      → ((place : Position) × (first ≡ Some place) × (e ≡ OutOfTable place))
-      ⊎ (((first ≡ None) × (e ≡ TooLarge) × ((2 ^ 64 ≤ total_width) ⊎ (2 ^ 64 ≤ total_height)))
-      ⊎ ((first ≡ None) × (e ≡ Sized widths heights total_width total_height (witness Columns) (witness Rows)) × (total_width < 2 ^ 64) × (total_height < 2 ^ 64)))
-  unfolding estimate_by
-  cases e is = estimate_cases first widths heights total_width total_height (witness Columns) (witness Rows) e is
+    are_sized : first ≡ None → total Columns < 2 ^ 64 → total Rows < 2 ^ 64 → AreSized sizing table (sizes Columns) (sizes Rows) (total Columns) (total Rows) (witness Columns) (witness Rows)
+    are_sized none narrow low =
+        let inside = (none_reaches_out look text_measure table.columns table.rows).0 none in
+        record {
+          sizes = record {
+            widths = sizes_are (problem_of_table table Columns) (in_table Columns inside.0) inside.0 sizing narrow;
+            heights = sizes_are (problem_of_table table Rows) (in_table Rows inside.1) inside.1 sizing low;
+          };
+          is_width = ap (λ draws. sum (sizes Columns) + all_lines (draws table.columns) table.columns) (look_draws table.settings Columns);
+          is_height = ap (λ draws. sum (sizes Rows) + all_lines (draws (length table.rows)) (length table.rows)) (look_draws table.settings Rows);
+          width_fits = narrow;
+          height_fits = low;
+          certifies_widths = is_witness (problem_of_table table Columns) (in_table Columns inside.0) inside.0 sizing narrow;
+          certifies_heights = is_witness (problem_of_table table Rows) (in_table Rows inside.1) inside.1 sizing low;
+        }
 
-  is_witness : (direction : Direction) → first_out (problem_of_table table direction).count (problem_of_table table direction).demands ≡ None
-      → total_of (problem_of_table table direction) (sizes_of (problem_of_table table direction)) < 2 ^ 64 → IsWitnessOf (problem_of_table table direction) (witness direction)
-  is_witness direction inside small = elim (cases_Bool (is_kept_apart (problem_of_table table direction).demands)) [
-    | inl t ↦ subst if_apart (sym t) (are_chosen look text_measure (look_covers table.settings) direction (problem_of_table table direction).count table.rows inside small t)
-    | inr f ↦ subst if_apart (sym f) (none_chosen look text_measure (look_covers table.settings) direction (problem_of_table table direction).count table.rows inside small f)
-  ]
-    where
-      if_apart : Bool → Type 0
-      if_apart apart = IsWitnessOf (problem_of_table table direction) (if apart then Some (map place_of (chosen_of (problem_of_table table direction))) else None)
+    are_large : first ≡ None → (2 ^ 64 ≤ total Columns) ⊎ (2 ^ 64 ≤ total Rows) → IsTooLarge sizing table
+    are_large none past =
+        let inside = (none_reaches_out look text_measure table.columns table.rows).0 none in
+        record {
+          inside = none;
+          too_large = elim past [
+            | inl wide ↦ inl (has_none (problem_of_table table Columns) (in_table Columns inside.0) inside.0 sizing wide)
+            | inr high ↦ inr (has_none (problem_of_table table Rows) (in_table Rows inside.1) inside.1 sizing high)
+          ];
+        }
 
-  are_sized : first ≡ None → total_width < 2 ^ 64 → total_height < 2 ^ 64 → AreSized table widths heights total_width total_height (witness Columns) (witness Rows)
-  are_sized none narrow low =
-      let inside = (none_reaches_out look text_measure table.columns table.rows).0 none in
-      record {
-        sizes = record {
-          widths = sizes_are look text_measure (look_covers table.settings) Columns table.columns table.rows inside.0 narrow;
-          heights = sizes_are look text_measure (look_covers table.settings) Rows (length table.rows) table.rows inside.1 low;
-        };
-        is_width = ap (λ draws. sum widths + all_lines (draws table.columns) table.columns) (look_draws table.settings Columns);
-        is_height = ap (λ draws. sum heights + all_lines (draws (length table.rows)) (length table.rows)) (look_draws table.settings Rows);
-        width_fits = narrow;
-        height_fits = low;
-        certifies_widths = is_witness Columns inside.0 narrow;
-        certifies_heights = is_witness Rows inside.1 low;
-      }
+    pub out_named : (place : Position) → (estimate_of sizing table ≡ OutOfTable place) ↔ (first ≡ Some place)
+    out_named place = (
+      λ is. elim (cases (OutOfTable place) is) [
+        | inl out ↦ let same : out.0 ≡ place = cc out.2 in out.1 ∙ ap (λ p. Some p) same
+        | inr other ↦ elim other [ inl large ↦ cc large.1 | inr sized ↦ cc sized.1 ]
+      ],
+      estimate_out look text_measure table.columns table.rows sizing place,
+    )
 
-  are_large : first ≡ None → (2 ^ 64 ≤ total_width) ⊎ (2 ^ 64 ≤ total_height) → IsTooLarge table
-  are_large none past =
-      let inside = (none_reaches_out look text_measure table.columns table.rows).0 none in
-      record {
-        inside = none;
-        too_large = elim past [
-          | inl wide ↦ inl (none_hold look text_measure (look_covers table.settings) Columns table.columns table.rows inside.0 wide)
-          | inr high ↦ inr (none_hold look text_measure (look_covers table.settings) Rows (length table.rows) table.rows inside.1 high)
-        ];
-      }
-
-  pub out_named : (place : Position) → (estimate_of table ≡ OutOfTable place) ↔ (first ≡ Some place)
-  out_named place = (
-    λ is. elim (cases (OutOfTable place) is) [
-      | inl out ↦ let same : out.0 ≡ place = cc out.2 in out.1 ∙ ap (λ p. Some p) same
-      | inr other ↦ elim other [ inl large ↦ cc large.1 | inr sized ↦ cc sized.1 ]
-    ],
-    estimate_out look text_measure table.columns table.rows place,
-  )
-
-  pub too_large : estimate_of table ≡ TooLarge → IsTooLarge table
-  too_large is = elim (cases TooLarge is) [
-    | inl out ↦ cc out.2
-    | inr other ↦ elim other [
-      | inl large ↦ are_large large.0 large.2
-      | inr sized ↦ cc sized.1
+    named_large : estimate_of sizing table ≡ TooLarge → (first ≡ None) × ((2 ^ 64 ≤ total Columns) ⊎ (2 ^ 64 ≤ total Rows))
+    named_large is = elim (cases TooLarge is) [
+      | inl out ↦ cc out.2
+      | inr other ↦ elim other [ inl large ↦ (large.0, large.2) | inr sized ↦ cc sized.1 ]
     ]
-  ]
 
-  pub all_sized : (ws hs : List ℕ) (m n : ℕ) (a b : Option (List Position)) → estimate_of table ≡ Sized ws hs m n a b → AreSized table ws hs m n a b
-  all_sized ws hs m n a b is = elim (cases (Sized ws hs m n a b) is) [
-    | inl out ↦ cc out.2
-    | inr other ↦ elim other [
-      | inl large ↦ cc large.1
-      | inr sized ↦
-          let w : widths ≡ ws = cc sized.1 in
-          let t : heights ≡ hs = cc sized.1 in
-          let wide : total_width ≡ m = cc sized.1 in
-          let high : total_height ≡ n = cc sized.1 in
-          let across : witness Columns ≡ a = cc sized.1 in
-          let down : witness Rows ≡ b = cc sized.1 in
-          subst (λ (s : (List ℕ × List ℕ) × (ℕ × ℕ) × (Option (List Position) × Option (List Position))). AreSized table s.0.0 s.0.1 s.1.0 s.1.1 s.2.0 s.2.1)
-          (λ i. ((w i, t i), (wide i, high i), (across i, down i))) (are_sized sized.0 sized.2 sized.3)
+    pub too_large : estimate_of sizing table ≡ TooLarge → IsTooLarge sizing table
+    too_large is = let named = named_large is in are_large named.0 named.1
+
+    pub all_sized : (ws hs : List ℕ) (m n : ℕ) (a b : Option (List Position)) → estimate_of sizing table ≡ Sized ws hs m n a b → AreSized sizing table ws hs m n a b
+    all_sized ws hs m n a b is = elim (cases (Sized ws hs m n a b) is) [
+      | inl out ↦ cc out.2
+      | inr other ↦ elim other [
+        | inl large ↦ cc large.1
+        | inr sized ↦
+            let w : sizes Columns ≡ ws = cc sized.1 in
+            let t : sizes Rows ≡ hs = cc sized.1 in
+            let wide : total Columns ≡ m = cc sized.1 in
+            let high : total Rows ≡ n = cc sized.1 in
+            let across : witness Columns ≡ a = cc sized.1 in
+            let down : witness Rows ≡ b = cc sized.1 in
+            subst (λ (s : (List ℕ × List ℕ) × (ℕ × ℕ) × (Option (List Position) × Option (List Position))). AreSized sizing table s.0.0 s.0.1 s.1.0 s.1.1 s.2.0 s.2.1)
+            (λ i. ((w i, t i), (wide i, high i), (across i, down i))) (are_sized sized.0 sized.2 sized.3)
+      ]
     ]
-  ]
+
+  -- where the least sizes are refused as too large, so are those by shares
+  pub least_too_large : estimate_of Least table ≡ TooLarge → estimate_of ByShares table ≡ TooLarge
+  least_too_large is =
+      let named = named_large Least is in
+      let inside = (none_reaches_out look text_measure table.columns table.rows).0 named.0 in
+      estimate_large look text_measure table.columns table.rows ByShares named.0 (elim named.1 [
+        | inl wide ↦ inl (least_past (problem_of_table table Columns) (in_table Columns inside.0) inside.0 wide)
+        | inr high ↦ inr (least_past (problem_of_table table Rows) (in_table Rows inside.1) inside.1 high)
+      ])

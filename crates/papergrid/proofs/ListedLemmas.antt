@@ -27,11 +27,12 @@ use Rattle.papergrid_config.specs.Decided as decided
 use Rattle.papergrid_config.specs.Parts.{character_calls, span_calls}
 use Rattle.papergrid_config.specs.declared.setting.Setting.{Setting}
 use Rattle.papergrid_walk.specs.Looks.{Look, line_along, size_after, size_before, span_along}
+use Rattle.papergrid.specs.declared.estimate.Sizing.{Sizing}
 use Rattle.papergrid.specs.declared.running.RunEnd.{RunEnd}
 use Rattle.papergrid.specs.Estimates.{Estimate, estimate_by, estimate_of, text_measure}
 use Rattle.papergrid.specs.Looks.{look_of}
-use Rattle.papergrid.specs.Outputs.{estimate_end, estimate_text, script_end, script_text, output_of, end_of}
-use Rattle.papergrid.specs.Rows.{Gives}
+use Rattle.papergrid.specs.Outputs.{estimate_end, estimate_text, script_end, script_text, output_by, end_by}
+use Rattle.papergrid.specs.Rows.{GivesBy}
 use Rattle.papergrid.specs.Scripts.{Table, table_of}
 
 no_entries : {A : Type 0} (es : List A) → length es ≡ 0 → es ≡ []
@@ -218,29 +219,30 @@ look_listed settings =
 
 -- ---- what is written
 
-abbrev pub listed_estimate : Table → Estimate
-listed_estimate table = estimate_by (listed_look table.settings) text_measure table.columns table.rows
+abbrev pub listed_estimate : Sizing → Table → Estimate
+listed_estimate sizing table = estimate_by sizing (listed_look table.settings) text_measure table.columns table.rows
 
-estimate_listed : (table : Table) → estimate_of table ≡ listed_estimate table
-estimate_listed table = ap (λ look. estimate_by look text_measure table.columns table.rows) (look_listed table.settings)
+estimate_listed : (sizing : Sizing) (table : Table) → estimate_of sizing table ≡ listed_estimate sizing table
+estimate_listed sizing table = ap (λ look. estimate_by sizing look text_measure table.columns table.rows) (look_listed table.settings)
 
-abbrev pub listed_text : Result Table ℕ → List ℕ
-listed_text (Err number) = script_text (Err number)
-listed_text (Ok table) = estimate_text (listed_estimate table)
+abbrev pub listed_text : Sizing → Result Table ℕ → List ℕ
+listed_text sizing (Err number) = script_text sizing (Err number)
+listed_text sizing (Ok table) = estimate_text (listed_estimate sizing table)
 
-abbrev pub listed_end : Result Table ℕ → RunEnd
-listed_end (Err number) = script_end (Err number)
-listed_end (Ok table) = estimate_end (listed_estimate table)
+abbrev pub listed_end : Sizing → Result Table ℕ → RunEnd
+listed_end sizing (Err number) = script_end sizing (Err number)
+listed_end sizing (Ok table) = estimate_end (listed_estimate sizing table)
 
-same_text : (told : Result Table ℕ) → script_text told ≡ listed_text told
-same_text (Err number) = refl
-same_text (Ok table) = ap estimate_text (estimate_listed table)
+same_text : (sizing : Sizing) (told : Result Table ℕ) → script_text sizing told ≡ listed_text sizing told
+same_text sizing (Err number) = refl
+same_text sizing (Ok table) = ap estimate_text (estimate_listed sizing table)
 
-same_end : (told : Result Table ℕ) → script_end told ≡ listed_end told
-same_end (Err number) = refl
-same_end (Ok table) = ap estimate_end (estimate_listed table)
+same_end : (sizing : Sizing) (told : Result Table ℕ) → script_end sizing told ≡ listed_end sizing told
+same_end sizing (Err number) = refl
+same_end sizing (Ok table) = ap estimate_end (estimate_listed sizing table)
 
 -- a worked script gives what is computed of it
-pub worked : (script output : List ℕ) (end : RunEnd) → listed_text (table_of script) ≡ output → listed_end (table_of script) ≡ end → Gives script output end
-unfolding output_of end_of
-worked script output end text ends = record { written = same_text (table_of script) ∙ text; ended = same_end (table_of script) ∙ ends }
+pub worked : (sizing : Sizing) (script output : List ℕ) (end : RunEnd) → listed_text sizing (table_of script) ≡ output → listed_end sizing (table_of script) ≡ end → GivesBy sizing script output end
+unfolding output_by end_by
+worked sizing script output end text ends =
+    record { written = same_text sizing (table_of script) ∙ text; ended = same_end sizing (table_of script) ∙ ends }

@@ -1,11 +1,12 @@
 -- What a walk reads of a configuration that is told by settings is what the settings decide.
 use Rattle.std.proofs.Common.{◌≡◌, ◌≤◌, ℕ, Bool, true, false, List, arith, nat_le, refl, subst}
-use Rattle.std.specs.Prelude.{Result, flat_map, unwrap_or}
+use Rattle.std.specs.Prelude.{IfErr, IfOk, Result, Ok, Err, flat_map, unwrap_or}
 use Rattle.std.proofs.lemmas.Bool.Decides.{nat_tests}
 use Rattle.papergrid_values.specs.declared.position.Position.{Position}
 use Rattle.papergrid_values.specs.declared.direction.Direction.{Direction}
 use Rattle.papergrid_values.specs.declared.direction.Direction.TheVariants.{Columns, Rows}
 use Rattle.papergrid_axis.specs.declared.error.LayoutError.{LayoutError}
+use Rattle.papergrid_axis.specs.declared.error.LayoutError.TheVariants.{OutOfTable, TooLarge, Memory}
 use Rattle.papergrid_maps.specs.MapHeld.{held_value}
 use Rattle.papergrid_maps.specs.Spans as spans
 use Rattle.papergrid_maps.specs.Spans.{from_two, is_visible}
@@ -19,9 +20,7 @@ use Rattle.papergrid_config.specs.Told.{IsTold}
 use Rattle.papergrid_config.specs.declared.setting.Setting.{Setting}
 use Rattle.papergrid_config.specs.declared.spanned.SpannedConfig.{SpannedConfig}
 use Rattle.papergrid_walk.specs.Looks.{Look, line_along, size_after, size_before, span_along, spanned_look}
-use Rattle.papergrid_layout.specs.Answers.{UnlessMemory}
-use Rattle.papergrid_layout.specs.declared.iterable.IterGridDimension.{IterGridDimension}
-use Rattle.papergrid.specs.Layouts.{IsLaidOut}
+use Rattle.papergrid_layout.specs.Answers.{UnlessMemory, UnlessWant}
 use Rattle.papergrid.specs.Looks.{look_of}
 
 pub look_told : (settings : List Setting) (config : SpannedConfig) → IsTold settings config → spanned_look config ≡ look_of settings
@@ -62,7 +61,12 @@ look_draws settings direction = refl
 
 -- ---- answers, by what is read
 
-pub answer_read : {C : Type 0} (Tells : List (List C) → Type 0) (measure : C → ℕ × ℕ) (columns : ℕ) (look other : Look) (same : look ≡ other) (result : Result IterGridDimension LayoutError)
-    → UnlessMemory result ((cells : List (List C)) × Tells cells × IsLaidOut look measure columns cells result)
-    → UnlessMemory result ((cells : List (List C)) × Tells cells × IsLaidOut other measure columns cells result)
-answer_read {C = C} Tells measure columns look other same result is = subst (λ l. UnlessMemory result ((cells : List (List C)) × Tells cells × IsLaidOut l measure columns cells result)) same is
+-- what holds of a result by one look holds of it by the same look
+pub answer_read : {A C : Type 0} (Tells : List (List C) → Type 0) (holds : Look → List (List C) → Result A LayoutError → Type 0) (look other : Look) (same : look ≡ other) (result : Result A LayoutError)
+    → IfOk result (λ x. (cells : List (List C)) × Tells cells × holds look cells (Ok x))
+    → IfErr result (λ e. UnlessWant e ((cells : List (List C)) × Tells cells × holds look cells (Err e)))
+    → UnlessMemory result ((cells : List (List C)) × Tells cells × holds other cells result)
+answer_read {C = C} Tells holds look other same (Ok x) ok err = subst (λ l. (cells : List (List C)) × Tells cells × holds l cells (Ok x)) same ok
+answer_read {C = C} Tells holds look other same (Err (OutOfTable place)) ok err = subst (λ l. (cells : List (List C)) × Tells cells × holds l cells (Err (OutOfTable place))) same err
+answer_read {C = C} Tells holds look other same (Err TooLarge) ok err = subst (λ l. (cells : List (List C)) × Tells cells × holds l cells (Err TooLarge)) same err
+answer_read Tells holds look other same (Err (Memory e)) ok err = tt

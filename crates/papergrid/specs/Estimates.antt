@@ -1,14 +1,22 @@
 -- The estimate of a table: the sizes along both directions, the totals, which count the lines, and the cells that certify
 -- that the sizes are least; or why there are none.
-use Rattle.std.specs.Prelude.{ℕ, ◌+◌, ◌^◌, ◌||◌, List, length, sum, Option, Some, None, nat_le, if◌then◌else◌}
+use Rattle.std.specs.Prelude.{ℕ, ◌+◌, ◌^◌, ◌||◌, List, map, sum, Option, Some, None, nat_le, if◌then◌else◌}
 use Rattle.papergrid_values.specs.declared.position.Position.{Position}
 use Rattle.papergrid_values.specs.declared.direction.Direction.{Direction}
 use Rattle.papergrid_values.specs.declared.direction.Direction.TheVariants.{Columns, Rows}
 use Rattle.papergrid_values.specs.Lines.{all_lines}
+use Rattle.papergrid_axis.specs.Problem.{Problem, total_of}
+use Rattle.papergrid_axis.specs.Ranges.{place_of}
+use Rattle.papergrid_axis.specs.Sizes.{sizes_of}
+use Rattle.papergrid_least.specs.Least.{least_of}
+use Rattle.papergrid_least.specs.Longest.{longest}
+use Rattle.papergrid_walk.specs.Cells.{problem_of}
 use Rattle.papergrid_walk.specs.Looks.{Look}
 use Rattle.papergrid_walk.specs.Measures.{line_measure}
 use Rattle.papergrid_layout.specs.Answers.{first_out_of_table}
-use Rattle.papergrid_layout.specs.Laws.{sizes_told, witness_told}
+use Rattle.papergrid_layout.specs.Witnesses.{witness_of}
+use Rattle.papergrid.specs.declared.estimate.Sizing.{Sizing}
+use Rattle.papergrid.specs.declared.estimate.Sizing.TheVariants.{ByShares, Least}
 use Rattle.papergrid.specs.Looks.{look_of}
 use Rattle.papergrid.specs.Scripts.{Table}
 
@@ -32,22 +40,33 @@ unless_out None sized = sized
 abbrev pub total_along : Direction → Look → ℕ → List ℕ → ℕ
 total_along direction look count sizes = sum sizes + all_lines (look.draws direction count) count
 
--- with totals
-abbrev pub totalled : Look → ℕ → ℕ → List ℕ → List ℕ → Option (List Position) → Option (List Position) → Estimate
-totalled look columns rows widths heights width_witness height_witness =
-    unless_large widths heights (total_along Columns look columns widths) (total_along Rows look rows heights) width_witness height_witness
+-- the sizes that are chosen along a direction
+abbrev pub sizes_by : Sizing → Problem → List ℕ
+sizes_by ByShares problem = sizes_of problem
+sizes_by Least problem = least_of problem
+
+-- the places of the cells that certify them
+abbrev pub witness_by : Sizing → Problem → Option (List Position)
+witness_by ByShares problem = witness_of problem
+witness_by Least problem = Some (map place_of (longest problem))
+
+-- the sizes along both directions, with totals and witnesses
+abbrev pub totalled : Sizing → Problem → Problem → Estimate
+totalled sizing across down =
+    unless_large (sizes_by sizing across) (sizes_by sizing down)
+    (total_of across (sizes_by sizing across)) (total_of down (sizes_by sizing down))
+    (witness_by sizing across) (witness_by sizing down)
 
 -- of rows of cells that are measured so, by what is read of settings
-unfoldable pub estimate_by : {C : Type 0} → Look → (C → ℕ × ℕ) → ℕ → List (List C) → Estimate
-estimate_by look measure columns rows =
+unfoldable pub estimate_by : {C : Type 0} → Sizing → Look → (C → ℕ × ℕ) → ℕ → List (List C) → Estimate
+estimate_by sizing look measure columns rows =
     unless_out (first_out_of_table look measure columns rows)
-    (totalled look columns (length rows) (sizes_told Columns look measure columns rows) (sizes_told Rows look measure (length rows) rows)
-    (witness_told Columns look measure columns rows) (witness_told Rows look measure (length rows) rows))
+    (totalled sizing (problem_of look measure columns rows Columns) (problem_of look measure columns rows Rows))
 
 -- a cell of a script is its text
 abbrev pub text_measure : List ℕ → ℕ × ℕ
 text_measure = line_measure (λ text. text)
 
 -- of the table that a script tells
-abbrev pub estimate_of : Table → Estimate
-estimate_of table = estimate_by (look_of table.settings) text_measure table.columns table.rows
+abbrev pub estimate_of : Sizing → Table → Estimate
+estimate_of sizing table = estimate_by sizing (look_of table.settings) text_measure table.columns table.rows

@@ -1,6 +1,8 @@
 -- What the program writes for an input, and how it ends.
 use Rattle.std.specs.Prelude.{ℕ, List, [], ◌∷◌, ◌++◌, Option, Some, None, Result, Ok, Err, codes, decimal, flat_map}
 use Rattle.papergrid_values.specs.declared.position.Position.{Position}
+use Rattle.papergrid.specs.declared.estimate.Sizing.{Sizing}
+use Rattle.papergrid.specs.declared.estimate.Sizing.TheVariants.{ByShares, Least}
 use Rattle.papergrid.specs.declared.running.RunEnd.{RunEnd}
 use Rattle.papergrid.specs.declared.running.RunEnd.TheVariants.{Done, Refused, BadScript}
 use Rattle.papergrid.specs.Grammar.{space, comma}
@@ -32,23 +34,37 @@ estimate_text (Sized widths heights total_width total_height width_witness heigh
     ++ number_line (codes "total") (total_width ∷ total_height ∷ [])
     ++ witness_line (codes "witness widths") width_witness ++ witness_line (codes "witness heights") height_witness
 
-abbrev pub script_text : Result Table ℕ → List ℕ
-script_text (Err number) = codes "bad script at line " ++ decimal number ++ newline ∷ []
-script_text (Ok table) = estimate_text (estimate_of table)
+abbrev pub script_text : Sizing → Result Table ℕ → List ℕ
+script_text sizing (Err number) = codes "bad script at line " ++ decimal number ++ newline ∷ []
+script_text sizing (Ok table) = estimate_text (estimate_of sizing table)
 
 abbrev pub estimate_end : Estimate → RunEnd
 estimate_end (OutOfTable place) = Refused
 estimate_end TooLarge = Refused
 estimate_end (Sized widths heights total_width total_height width_witness height_witness) = Done
 
-abbrev pub script_end : Result Table ℕ → RunEnd
-script_end (Err number) = BadScript
-script_end (Ok table) = estimate_end (estimate_of table)
+abbrev pub script_end : Sizing → Result Table ℕ → RunEnd
+script_end sizing (Err number) = BadScript
+script_end sizing (Ok table) = estimate_end (estimate_of sizing table)
 
--- the bytes that are written for an input
-unfoldable pub output_of : List ℕ → List ℕ
-output_of input = script_text (table_of input)
+-- the bytes that are written for an input, where sizes are chosen so
+unfoldable pub output_by : Sizing → List ℕ → List ℕ
+output_by sizing input = script_text sizing (table_of input)
 
 -- how its run ends
-unfoldable pub end_of : List ℕ → RunEnd
-end_of input = script_end (table_of input)
+unfoldable pub end_by : Sizing → List ℕ → RunEnd
+end_by sizing input = script_end sizing (table_of input)
+
+-- by shares
+abbrev pub output_of : List ℕ → List ℕ
+output_of input = output_by ByShares input
+
+abbrev pub end_of : List ℕ → RunEnd
+end_of input = end_by ByShares input
+
+-- of the least sizes
+abbrev pub least_output_of : List ℕ → List ℕ
+least_output_of input = output_by Least input
+
+abbrev pub least_end_of : List ℕ → RunEnd
+least_end_of input = end_by Least input

@@ -2,6 +2,7 @@
 use Rattle.std.specs.Prelude.{ℕ, List, length, Option, Some, None, Result, Ok, Err}
 use Rattle.papergrid_maps.specs.Spans.{column_span, row_span}
 use Rattle.papergrid_config.specs.Made.{spans_of}
+use Rattle.papergrid.specs.declared.estimate.Sizing.TheVariants.{ByShares}
 use Rattle.papergrid.specs.declared.explained.Reason.{Reason}
 use Rattle.papergrid.specs.declared.explained.Reason.TheVariants as reason
 use Rattle.papergrid.specs.Estimates.{Estimate, OutOfTable, TooLarge, Sized, estimate_of}
@@ -16,7 +17,7 @@ estimate_reason table (Sized widths heights total_width total_height width_witne
 
 abbrev pub script_reason : Result Table ℕ → Option Reason
 script_reason (Err number) = Some (reason.BadLine number)
-script_reason (Ok table) = estimate_reason table (estimate_of table)
+script_reason (Ok table) = estimate_reason table (estimate_of ByShares table)
 
 -- the number of the first bad line, else why the table is refused; none where it has sizes
 unfoldable pub reason_of : List ℕ → Option Reason

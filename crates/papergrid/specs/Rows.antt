@@ -1,13 +1,21 @@
 -- Worked scripts: what is written for each, and how its run ends.
 use Rattle.std.specs.Prelude.{◌≡◌, codes, List, ℕ}
+use Rattle.papergrid.specs.declared.estimate.Sizing.{Sizing}
+use Rattle.papergrid.specs.declared.estimate.Sizing.TheVariants.{ByShares, Least}
 use Rattle.papergrid.specs.declared.running.RunEnd.{RunEnd}
 use Rattle.papergrid.specs.declared.running.RunEnd.TheVariants.{Done, Refused, BadScript}
-use Rattle.papergrid.specs.Outputs.{output_of, end_of}
+use Rattle.papergrid.specs.Outputs.{output_by, end_by}
 
 -- the output of a script, and its end
-pub record Gives (script output : List ℕ) (end : RunEnd) : Type 0 where
-  pub written : output_of script ≡ output
-  pub ended : end_of script ≡ end
+pub record GivesBy (sizing : Sizing) (script output : List ℕ) (end : RunEnd) : Type 0 where
+  pub written : output_by sizing script ≡ output
+  pub ended : end_by sizing script ≡ end
+
+abbrev pub Gives : List ℕ → List ℕ → RunEnd → Type 0
+Gives script output end = GivesBy ByShares script output end
+
+abbrev pub GivesLeast : List ℕ → List ℕ → RunEnd → Type 0
+GivesLeast script output end = GivesBy Least script output end
 
 pub record WorkedRows : Type 0 where
   pub first_run : Gives (codes "columns 2\npad * 1 1 0 0\npad 0,1 0 3 1 0\nrow\ncell ab\ncell c\\nde\nrow\ncell\ncell xyz\n") (codes "widths 4 5\nheights 3 1\ntotal 9 4\nwitness widths 0,0 0,1\nwitness heights 0,1 1,0\n") Done
@@ -29,3 +37,5 @@ pub record WorkedRows : Type 0 where
   pub all_lines : Gives (codes "columns 2\nborder |\nrow\ncell ab\ncell c\n") (codes "widths 2 1\nheights 1\ntotal 6 3\nwitness widths 0,0 0,1\nwitness heights 0,0\n") Done
   pub cell_before_row : Gives (codes "cell a\n") (codes "bad script at line 1\n") BadScript
   pub bad_escape : Gives (codes "columns 2\n\nrow\ncell a\\x\n") (codes "bad script at line 4\n") BadScript
+  pub least_nested_column_spans : GivesLeast (codes "columns 3\ncolspan 1,0 3\ncolspan 2,1 2\nrow\ncell a\ncell a\ncell a\nrow\ncell 0123456789\nrow\ncell a\ncell 01234567\n") (codes "widths 2 4 4\nheights 1 1 1\ntotal 10 3\nwitness widths 1,0\nwitness heights 0,0 1,0 2,0\n") Done
+  pub least_crossing_column_spans : GivesLeast (codes "columns 3\ncolspan 0,0 2\ncolspan 1,1 2\nrow\ncell 0123456789\nrow\ncell\ncell 0123456789\n") (codes "widths 0 10 0\nheights 1 1\ntotal 10 2\nwitness widths 0,0\nwitness heights 0,0 1,0\n") Done

@@ -2,22 +2,38 @@
 -- what was written, each before and after.
 use Rattle.std.specs.Prelude.{◌≡◌, ℕ, List, Option, take}
 use Rattle.std.specs.Io.KnownBytes.{Appends, Consumes, IsAtEnd}
+use Rattle.papergrid.specs.declared.estimate.Sizing.{Sizing}
+use Rattle.papergrid.specs.declared.estimate.Sizing.TheVariants.{ByShares, Least}
 use Rattle.papergrid.specs.declared.running.RunEnd.{RunEnd}
-use Rattle.papergrid.specs.Outputs.{end_of, output_of}
+use Rattle.papergrid.specs.Outputs.{end_by, output_by}
 
 module _ (unread_old unread_new written_old written_new : Option (List ℕ)) where
   -- some input was read to its end, its output was written and nothing else, and the run ended as it says
-  pub record IsWholeRun (end : RunEnd) : Type 0 where
+  pub record IsWholeRunBy (sizing : Sizing) (end : RunEnd) : Type 0 where
     pub input : List ℕ
     pub read : Consumes unread_old unread_new input
     pub at_end : IsAtEnd unread_new
-    pub written : Appends written_old written_new (output_of input)
-    pub ended : end ≡ end_of input
+    pub written : Appends written_old written_new (output_by sizing input)
+    pub ended : end ≡ end_by sizing input
 
   -- some input was read to its end, and a beginning of its output was written and nothing else
-  pub record IsBrokenRun : Type 0 where
+  pub record IsBrokenRunBy (sizing : Sizing) : Type 0 where
     pub input : List ℕ
     pub read : Consumes unread_old unread_new input
     pub at_end : IsAtEnd unread_new
     pub count : ℕ
-    pub written : Appends written_old written_new (take count (output_of input))
+    pub written : Appends written_old written_new (take count (output_by sizing input))
+
+  -- by shares
+  abbrev pub IsWholeRun : RunEnd → Type 0
+  IsWholeRun end = IsWholeRunBy ByShares end
+
+  abbrev pub IsBrokenRun : Type 0
+  IsBrokenRun = IsBrokenRunBy ByShares
+
+  -- of the least sizes
+  abbrev pub IsWholeLeastRun : RunEnd → Type 0
+  IsWholeLeastRun end = IsWholeRunBy Least end
+
+  abbrev pub IsBrokenLeastRun : Type 0
+  IsBrokenLeastRun = IsBrokenRunBy Least

@@ -1,8 +1,9 @@
 -- What the answers for a table are, apart from how they are found.
 use Rattle.std.specs.Prelude.{◌≡◌, ◌⊎◌, ℕ, ◌+◌, ◌^◌, ◌<◌, List, Option, Some, None, length, sum}
 use Rattle.papergrid_values.specs.declared.position.Position.{Position}
-use Rattle.papergrid_axis.specs.Answers.{AreChosen, NoneChosen, NoneHolds}
+use Rattle.papergrid_axis.specs.Answers.{AreChosen, AreSizes, NoneChosen, NoneHolds}
 use Rattle.papergrid_axis.specs.Problem.{Problem}
+use Rattle.papergrid_least.specs.Answers.{AreLeastSizes, AreLongest, NoneFits}
 use Rattle.papergrid_values.specs.declared.direction.Direction.{Direction}
 use Rattle.papergrid_values.specs.declared.direction.Direction.TheVariants.{Columns, Rows}
 use Rattle.papergrid_values.specs.Lines.{all_lines}
@@ -10,7 +11,9 @@ use Rattle.papergrid_config.specs.Made.{characters_of}
 use Rattle.papergrid_config.specs.declared.setting.Setting.{Setting}
 use Rattle.papergrid_walk.specs.Cells.{problem_of}
 use Rattle.papergrid_walk.specs.Looks.{line_along}
-use Rattle.papergrid_layout.specs.Answers.{AreBothSizes, first_out_of_table}
+use Rattle.papergrid_layout.specs.Answers.{HoldAlong, first_out_of_table}
+use Rattle.papergrid.specs.declared.estimate.Sizing.{Sizing}
+use Rattle.papergrid.specs.declared.estimate.Sizing.TheVariants.{ByShares, Least}
 use Rattle.papergrid.specs.Estimates.{text_measure}
 use Rattle.papergrid.specs.Looks.{look_of}
 use Rattle.papergrid.specs.Scripts.{Table}
@@ -23,23 +26,35 @@ lines_along direction settings count = all_lines (line_along (characters_of sett
 abbrev pub problem_of_table : Table → Direction → Problem
 problem_of_table table = problem_of (look_of table.settings) text_measure table.columns table.rows
 
--- no visible cell reaches out, and the sizes along one direction with its lines do not fit 64 bits
-pub record IsTooLarge (table : Table) : Type 0 where
-  pub inside : first_out_of_table (look_of table.settings) text_measure table.columns table.rows ≡ None
-  pub too_large : NoneHolds (problem_of_table table Columns) ⊎ NoneHolds (problem_of_table table Rows)
+-- by shares the sizes are too large along a direction; of least sizes, so is every list that fits
+abbrev pub HasNone : Sizing → Problem → Type 0
+HasNone ByShares = NoneHolds
+HasNone Least = NoneFits
 
--- none where two longer ranges are neither nested nor disjoint, and only there; else the places of the chosen cells, which certify that
--- the sizes are least
-abbrev pub IsWitnessOf : Problem → Option (List Position) → Type 0
-IsWitnessOf problem None = NoneChosen problem
-IsWitnessOf problem (Some places) = AreChosen problem places
+-- no visible cell reaches out, and the sizes along one direction with its lines do not fit 64 bits
+pub record IsTooLarge (sizing : Sizing) (table : Table) : Type 0 where
+  pub inside : first_out_of_table (look_of table.settings) text_measure table.columns table.rows ≡ None
+  pub too_large : HasNone sizing (problem_of_table table Columns) ⊎ HasNone sizing (problem_of_table table Rows)
+
+-- exactly the sizes by shares, or the least sizes, and what holds of them
+abbrev pub AreSizesBy : Sizing → Problem → List ℕ → Type 0
+AreSizesBy ByShares = AreSizes
+AreSizesBy Least = AreLeastSizes
+
+-- the places of the cells that certify that the sizes are least. By shares there are none where two longer ranges are neither
+-- nested nor disjoint, and only there; least sizes always have them
+abbrev pub IsWitnessOf : Sizing → Problem → Option (List Position) → Type 0
+IsWitnessOf ByShares problem None = NoneChosen problem
+IsWitnessOf ByShares problem (Some places) = AreChosen problem places
+IsWitnessOf Least problem None = ⊥
+IsWitnessOf Least problem (Some places) = AreLongest problem places
 
 -- exactly the sizes, with what holds of them, their totals with the lines, which fit 64 bits, and what certifies them
-pub record AreSized (table : Table) (widths heights : List ℕ) (total_width total_height : ℕ) (width_witness height_witness : Option (List Position)) : Type 0 where
-  pub sizes : AreBothSizes (look_of table.settings) text_measure table.columns table.rows widths heights
+pub record AreSized (sizing : Sizing) (table : Table) (widths heights : List ℕ) (total_width total_height : ℕ) (width_witness height_witness : Option (List Position)) : Type 0 where
+  pub sizes : HoldAlong (look_of table.settings) text_measure table.columns table.rows (AreSizesBy sizing) widths heights
   pub is_width : total_width ≡ sum widths + lines_along Columns table.settings table.columns
   pub is_height : total_height ≡ sum heights + lines_along Rows table.settings (length table.rows)
   pub width_fits : total_width < 2 ^ 64
   pub height_fits : total_height < 2 ^ 64
-  pub certifies_widths : IsWitnessOf (problem_of_table table Columns) width_witness
-  pub certifies_heights : IsWitnessOf (problem_of_table table Rows) height_witness
+  pub certifies_widths : IsWitnessOf sizing (problem_of_table table Columns) width_witness
+  pub certifies_heights : IsWitnessOf sizing (problem_of_table table Rows) height_witness

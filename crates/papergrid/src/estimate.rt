@@ -4,20 +4,31 @@ ghost use Rattle.std.specs.Prelude.{◌≡◌, ◌+◌, ◌<◌, ◌^◌, List, 
 ghost use Rattle.papergrid_values.specs.declared.direction.Direction.TheVariants.{Columns, Rows};
 ghost use Rattle.papergrid_walk.specs.Looks.{spanned_look};
 ghost use Rattle.papergrid_walk.specs.Measures.{line_measure};
+ghost use Rattle.papergrid_layout.specs.Answers.{UnlessMemory};
 ghost use Rattle.papergrid.specs.Estimates.{estimate_by, total_along};
-ghost use Rattle.papergrid.specs.ForProofs.Seen.{GivesEstimate};
+ghost use Rattle.papergrid.specs.ForProofs.Seen.{GivesEstimate, IsCertifiedBy};
 
 use papergrid_config::SpannedConfig;
 use papergrid_layout::LayoutError;
-use papergrid_layout::certified::{Certified, certified_sizes};
+use papergrid_layout::certified::{Certified, certified_least, certified_sizes};
 use papergrid_text::{IntoRecords, Records};
 use papergrid_values::Position;
 use std::alloc::Global;
 use std::convert::AsStr;
 
+/// How the sizes of a table are chosen.
+#[derive(Clone, Copy, Debug, PartialEq, Eq)]
+pub enum Sizing {
+    /// A cell over several columns or rows shares among them what it lacks, the smaller spans first.
+    /// Totals are least where spans are nested or disjoint.
+    ByShares,
+    /// Totals are least whatever spans cross; the sizes are those by shares wherever these are least.
+    Least,
+}
+
 /// The width of each column, in columns of a terminal, the height of each row, in lines, the totals of
 /// both with the lines of the table, and for each direction the positions of the cells that certify that
-/// its sizes are least, none where two longer ranges are neither nested nor disjoint.
+/// its sizes are least; none where sizes are by shares and two longer ranges are neither nested nor disjoint.
 #[derive(Debug, Drop)]
 pub struct Sizes {
     pub widths: Vec<usize>,
@@ -36,6 +47,7 @@ pub struct Sizes {
 /// greatest `usize`; `Memory` in place of any answer.
 pub fn estimate<R: Records + Drop>(
     alloc: Global,
+    sizing: Sizing,
     records: R,
     config: &SpannedConfig,
 ) -> Result<Sizes, LayoutError>
@@ -43,11 +55,30 @@ where
     <<R as Records>::Iter as IntoRecords>::Cell: AsStr + Drop,
     requires { R.is_lawful records }
     ensures { GivesEstimate result (λ answer. (cells : List (List R.Iter.Cell)) × R.tells records cells
-        × (answer ≡ estimate_by (spanned_look config.now) (line_measure R.Iter.Cell.text) (R.columns records) cells)) }
+        × (answer ≡ estimate_by sizing (spanned_look config.now) (line_measure R.Iter.Cell.text) (R.columns records) cells)) }
 {
-    match certified_sizes(alloc, records, config) {
+    match certified_by(alloc, sizing, records, config) {
         Ok(certified) => Ok(with_totals(certified, config)),
         Err(error) => Err(error),
+    }
+}
+
+/// The sizes that are chosen so, with the cells that certify them.
+fn certified_by<R: Records + Drop>(
+    alloc: Global,
+    sizing: Sizing,
+    records: R,
+    config: &SpannedConfig,
+) -> Result<Certified, LayoutError>
+where
+    <<R as Records>::Iter as IntoRecords>::Cell: AsStr + Drop,
+    requires { R.is_lawful records }
+    ensures { UnlessMemory result ((cells : List (List R.Iter.Cell)) × R.tells records cells
+        × IsCertifiedBy sizing (spanned_look config.now) (line_measure R.Iter.Cell.text) (R.columns records) cells result) }
+{
+    match sizing {
+        Sizing::ByShares => certified_sizes(alloc, records, config),
+        Sizing::Least => certified_least(alloc, records, config),
     }
 }
 

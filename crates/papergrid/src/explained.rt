@@ -3,11 +3,12 @@
 ghost use Rattle.std.specs.Prelude.{◌≡◌, All, IfOk, Some, true};
 ghost use Rattle.papergrid_maps.specs.Spans.{column_span, row_span};
 ghost use Rattle.papergrid_config.specs.Applied.{is_in_range};
+ghost use Rattle.papergrid.specs.declared.estimate.Sizing.TheVariants.{ByShares};
 ghost use Rattle.papergrid.specs.Estimates.{estimate_of};
 ghost use Rattle.papergrid.specs.Reasons.{estimate_reason, reason_of};
 ghost use Rattle.papergrid.specs.ForProofs.Seen.{table_seen};
 
-use crate::estimate::estimate;
+use crate::estimate::{Sizing, estimate};
 use crate::script::{Script, ScriptError, read_script};
 use crate::table_layout::configuration;
 use bumpalo::Bump;
@@ -29,7 +30,8 @@ pub enum Reason {
     TooLarge,
 }
 
-/// Why the script that the input spells has no sizes; none where it has. `run` writes the same in its words.
+/// Why the script that the input spells has no sizes; none where it has. `run` writes the same in its words, and so
+/// does `run_least` wherever there are no least sizes.
 ///
 /// # Errors
 ///
@@ -50,7 +52,7 @@ pub fn explain(alloc: Global, input: &[u8]) -> Result<Option<Reason>, AllocError
 fn table_reason(alloc: Global, script: Script<'_>) -> Result<Option<Reason>, AllocError>
     requires in_range { All (λ setting. is_in_range setting ≡ true) script.settings.items }
     ensures { let table = table_seen script.entry in
-        IfOk result (λ reason. reason ≡ estimate_reason table (estimate_of table)) }
+        IfOk result (λ reason. reason ≡ estimate_reason table (estimate_of ByShares table)) }
 {
     let Script {
         columns,
@@ -61,7 +63,7 @@ fn table_reason(alloc: Global, script: Script<'_>) -> Result<Option<Reason>, All
     let config = configuration(alloc, settings)?;
     let rows = rows.as_slice();
     let records = IterRecords::new(rows, columns, Some(rows.len()));
-    match estimate(alloc, records, &config) {
+    match estimate(alloc, Sizing::ByShares, records, &config) {
         Ok(_) => Ok(None),
         Err(LayoutError::OutOfTable(position)) => {
             let spans = spans_at(&config, position);

@@ -8,6 +8,8 @@ ghost use Rattle.papergrid_config.specs.declared.spanned.SpannedConfig.{SpannedC
 ghost use Rattle.papergrid_config.specs.declared.setting.Setting.{Setting};
 ghost use Rattle.papergrid_walk.specs.Looks.{spanned_look};
 ghost use Rattle.papergrid_layout.specs.Answers.{first_out_of_table};
+ghost use Rattle.papergrid.specs.declared.estimate.Sizing.{Sizing};
+ghost use Rattle.papergrid.specs.declared.estimate.Sizing.TheVariants.{ByShares, Least};
 ghost use Rattle.papergrid.specs.Estimates.{OutOfTable, Sized, TooLarge, estimate_of, text_measure};
 ghost use Rattle.papergrid.specs.Grammar.{Said, entity_of, number_of, said, script_lines};
 ghost use Rattle.papergrid.specs.Looks.{look_of};
@@ -67,12 +69,14 @@ pub fn look_by_settings()
 /// are kept apart; else its sizes are those of its visible cells, with room for each of them and no size above
 /// the greatest need over it, least where ranges are kept apart, and its totals count the lines. The witness
 /// along a direction is none exactly where two ranges are neither nested nor disjoint, else the places of cells that certify
-/// that the sizes are least.
+/// that the sizes are least. Of least sizes all this holds whatever ranges cross, and there always is a witness; so they
+/// are too large only where those by shares are.
 pub fn estimate_by_look()
-    ensures out { (table : Table) (place : Position) → (estimate_of table ≡ OutOfTable place)
+    ensures out { (sizing : Sizing) (table : Table) (place : Position) → (estimate_of sizing table ≡ OutOfTable place)
         ↔ (first_out_of_table (look_of table.settings) text_measure table.columns table.rows ≡ Some place) }
-    ensures too_large { (table : Table) → estimate_of table ≡ TooLarge → IsTooLarge table }
-    ensures sized { (table : Table) (widths heights : List ℕ) (total_width total_height : ℕ) (width_witness height_witness : Option (List Position)) →
-        estimate_of table ≡ Sized widths heights total_width total_height width_witness height_witness →
-        AreSized table widths heights total_width total_height width_witness height_witness }
+    ensures too_large { (sizing : Sizing) (table : Table) → estimate_of sizing table ≡ TooLarge → IsTooLarge sizing table }
+    ensures sized { (sizing : Sizing) (table : Table) (widths heights : List ℕ) (total_width total_height : ℕ) (width_witness height_witness : Option (List Position)) →
+        estimate_of sizing table ≡ Sized widths heights total_width total_height width_witness height_witness →
+        AreSized sizing table widths heights total_width total_height width_witness height_witness }
+    ensures least_too_large { (table : Table) → estimate_of Least table ≡ TooLarge → estimate_of ByShares table ≡ TooLarge }
 {}

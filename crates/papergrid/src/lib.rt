@@ -18,9 +18,10 @@ mod tests;
 mod transfer;
 mod unescape;
 
+pub use estimate::Sizing;
 pub use explained::{Reason, explain};
-pub use running::{RunEnd, RunFault, run};
-pub use table_layout::layout;
+pub use running::{RunEnd, RunFault, run, run_least};
+pub use table_layout::{layout, layout_least};
 pub use transfer::{Failed, ReadSource, Sink, Source, WriteSink};
 
 /// Colours as texts.

@@ -4,12 +4,12 @@ ghost use Rattle.std.specs.Prelude.{◌≡◌, ◌⊎◌, ℕ, All, take, true, 
 ghost use Rattle.std.specs.Io.KnownBytes.{Appends, Consumes, IsAtEnd};
 ghost use Rattle.papergrid_config.specs.Applied.{is_in_range};
 ghost use Rattle.papergrid.specs.Estimates.{estimate_of};
-ghost use Rattle.papergrid.specs.Outputs.{end_of, estimate_end, estimate_text, output_of};
-ghost use Rattle.papergrid.specs.Runs.{IsBrokenRun, IsWholeRun};
+ghost use Rattle.papergrid.specs.Outputs.{end_by, end_of, estimate_end, estimate_text, least_end_of, least_output_of, output_by, output_of};
+ghost use Rattle.papergrid.specs.Runs.{IsBrokenLeastRun, IsBrokenRun, IsWholeLeastRun, IsWholeRun};
 ghost use Rattle.papergrid.specs.ForProofs.Seen.{GivesEstimate, table_seen};
 ghost use Rattle.papergrid.specs.declared.running.RunFault.TheVariants.{Memory};
 
-use crate::estimate::{Sizes, estimate};
+use crate::estimate::{Sizes, Sizing, estimate};
 use crate::output::{bad_script_text, out_of_table_text, sizes_text, too_large_text};
 use crate::script::{Script, ScriptError, read_script};
 use crate::table_layout::configuration;
@@ -96,26 +96,30 @@ fn write_all<W: Sink>(writer: &mut W, bytes: &[u8]) -> Result<(), Failed>
 }
 
 /// How the run of an input ends, and what is written.
-#[tactic(auto, unfolding(crate::specs::Outputs::output_of, crate::specs::Outputs::end_of))]
-fn answer(alloc: Global, input: &[u8]) -> Result<(RunEnd, Vec<u8>), AllocError>
-    ensures end { IfOk result (λ answer. answer.0 ≡ end_of input.now) }
-    ensures text { IfOk result (λ answer. answer.1.items ≡ output_of input.now) }
+#[tactic(auto, unfolding(crate::specs::Outputs::output_by, crate::specs::Outputs::end_by))]
+fn answer(alloc: Global, sizing: Sizing, input: &[u8]) -> Result<(RunEnd, Vec<u8>), AllocError>
+    ensures end { IfOk result (λ answer. answer.0 ≡ end_by sizing input.now) }
+    ensures text { IfOk result (λ answer. answer.1.items ≡ output_by sizing input.now) }
 {
     let texts = Bump::new(alloc);
     match read_script(alloc, &texts, input) {
         Err(ScriptError::Memory) => Err(AllocError),
         Err(ScriptError::Bad(number)) => Ok((RunEnd::BadScript, bad_script_text(alloc, number)?)),
-        Ok(script) => table_answer(alloc, script),
+        Ok(script) => table_answer(alloc, sizing, script),
     }
 }
 
 /// How the run of a script ends, and what is written.
-fn table_answer(alloc: Global, script: Script<'_>) -> Result<(RunEnd, Vec<u8>), AllocError>
+fn table_answer(
+    alloc: Global,
+    sizing: Sizing,
+    script: Script<'_>,
+) -> Result<(RunEnd, Vec<u8>), AllocError>
     requires in_range { All (λ setting. is_in_range setting ≡ true) script.settings.items }
-    ensures end { IfOk result (λ answer. answer.0 ≡ estimate_end (estimate_of (table_seen script.entry))) }
-    ensures text { IfOk result (λ answer. answer.1.items ≡ estimate_text (estimate_of (table_seen script.entry))) }
+    ensures end { IfOk result (λ answer. answer.0 ≡ estimate_end (estimate_of sizing (table_seen script.entry))) }
+    ensures text { IfOk result (λ answer. answer.1.items ≡ estimate_text (estimate_of sizing (table_seen script.entry))) }
 {
-    match table_sizes(alloc, script) {
+    match table_sizes(alloc, sizing, script) {
         Err(LayoutError::Memory(error)) => Err(error),
         Err(LayoutError::OutOfTable(position)) => {
             Ok((RunEnd::Refused, out_of_table_text(alloc, position)?))
@@ -126,9 +130,9 @@ fn table_answer(alloc: Global, script: Script<'_>) -> Result<(RunEnd, Vec<u8>), 
 }
 
 /// The sizes of the table that a script tells.
-fn table_sizes(alloc: Global, script: Script<'_>) -> Result<Sizes, LayoutError>
+fn table_sizes(alloc: Global, sizing: Sizing, script: Script<'_>) -> Result<Sizes, LayoutError>
     requires in_range { All (λ setting. is_in_range setting ≡ true) script.settings.items }
-    ensures { GivesEstimate result (λ answer. answer ≡ estimate_of (table_seen script.entry)) }
+    ensures { GivesEstimate result (λ answer. answer ≡ estimate_of sizing (table_seen script.entry)) }
 {
     let Script {
         columns,
@@ -139,10 +143,10 @@ fn table_sizes(alloc: Global, script: Script<'_>) -> Result<Sizes, LayoutError>
     let config = configuration(alloc, settings)?;
     let rows = rows.as_slice();
     let records = IterRecords::new(rows, columns, Some(rows.len()));
-    estimate(alloc, records, &config)
+    estimate(alloc, sizing, records, &config)
 }
 
-/// Reads a script to its end, and writes the sizes of its table, or why it has none. Widths are in columns of a
+/// Reads a script to its end, and writes the sizes of its table by shares, or why it has none. Widths are in columns of a
 /// terminal and heights in lines; the totals count the lines of the table, and so does a refusal as too large.
 /// Nothing is written before the input was read to its end, and all of it is kept until then.
 ///
@@ -188,7 +192,52 @@ pub fn run<S: Source, W: Sink>(
         IsBrokenRun (S.remaining reader.old) (S.remaining reader.new) (W.contents writer.old) (W.contents writer.new) }
 {
     let input = read_all(alloc, reader)?;
-    let (end, output) = answer(alloc, input.as_slice())?;
+    let (end, output) = answer(alloc, Sizing::ByShares, input.as_slice())?;
+    match write_all(writer, output.as_slice()) {
+        Ok(()) => Ok(end),
+        Err(_) => Err(RunFault::Write),
+    }
+}
+
+/// The same of the least sizes, whatever spans cross: no table with room for each visible cell is narrower, or lower. It is
+/// refused as too large only where no sizes with room come, with the lines, to at most the greatest `usize`.
+///
+/// Conditions and errors: as those of `run`.
+pub fn run_least<S: Source, W: Sink>(
+    alloc: Global,
+    reader: &mut S,
+    writer: &mut W,
+) -> Result<RunEnd, RunFault>
+    // Of a reader and a writer that had not failed.
+    requires reader { S.has_failed reader.old ≡ false }
+    requires writer { W.has_failed writer.old ≡ false }
+    // The input was read to its end, and what it means was written and nothing else.
+    ensures end { OnOk result (IsAtEnd (S.remaining reader.new)) }
+    ensures written { OnOk result (IfSome (S.remaining reader.old) (λ input.
+        Appends (W.contents writer.old) (W.contents writer.new) (least_output_of input))) }
+    ensures answer { IfOk result (λ end. IfSome (S.remaining reader.old) (λ input. end ≡ least_end_of input)) }
+    // So of some input where the reader does not tell its bytes.
+    ensures some_input { IfOk result
+        (IsWholeLeastRun (S.remaining reader.old) (S.remaining reader.new) (W.contents writer.old) (W.contents writer.new)) }
+    // No read and no write failed, and each write of a piece that isn't empty took a byte.
+    ensures reader_works { OnOk result (S.has_failed reader.new ≡ false) }
+    ensures writer_works { OnOk result (W.has_failed writer.new ≡ false) }
+    ensures writer_moves { OnOk result (W.has_stalled writer.new ≡ W.has_stalled writer.old) }
+    // Which fault comes, and what was written then.
+    ensures read { IsErrOf result RunFault.Read → S.has_failed reader.new ≡ true }
+    ensures write { IsErrOf result RunFault.Write →
+        (W.has_failed writer.new ≡ true) ⊎ (W.has_stalled writer.old ≡ false → W.has_stalled writer.new ≡ true) }
+    ensures memory { IsErrOf result RunFault.Memory → S.has_failed reader.new ≡ false }
+    ensures write_alone { IsErrOf result RunFault.Write → S.has_failed reader.new ≡ false }
+    ensures read_nothing { IsErrOf result RunFault.Read → writer.new ≡ writer.old }
+    ensures memory_nothing { IsErrOf result RunFault.Memory → writer.new ≡ writer.old }
+    ensures beginning { IsErrOf result RunFault.Write → IfSome (S.remaining reader.old) (λ input.
+        (n : ℕ) × Appends (W.contents writer.old) (W.contents writer.new) (take n (least_output_of input))) }
+    ensures some_beginning { IsErrOf result RunFault.Write →
+        IsBrokenLeastRun (S.remaining reader.old) (S.remaining reader.new) (W.contents writer.old) (W.contents writer.new) }
+{
+    let input = read_all(alloc, reader)?;
+    let (end, output) = answer(alloc, Sizing::Least, input.as_slice())?;
     match write_all(writer, output.as_slice()) {
         Ok(()) => Ok(end),
         Err(_) => Err(RunFault::Write),

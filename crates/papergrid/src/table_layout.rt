@@ -1,16 +1,15 @@
 //! The layout of records by a list of settings.
 
-ghost use Rattle.std.specs.Prelude.{◌≡◌, All, IfOk, List, true};
+ghost use Rattle.std.specs.Prelude.{◌≡◌, All, IfErr, IfOk, List, true};
 ghost use Rattle.papergrid_config.specs.Applied.{is_in_range};
 ghost use Rattle.papergrid_config.specs.Told.{IsTold};
-ghost use Rattle.papergrid_walk.specs.Looks.{spanned_look};
 ghost use Rattle.papergrid_walk.specs.Measures.{line_measure};
 ghost use Rattle.papergrid_layout.specs.Answers.{UnlessMemory};
-ghost use Rattle.papergrid.specs.Layouts.{IsLaidOut};
+ghost use Rattle.papergrid.specs.Layouts.{IsLaidOut, IsLaidOutLeast};
 ghost use Rattle.papergrid.specs.Looks.{look_of};
 
 use papergrid_config::{Setting, SpannedConfig};
-use papergrid_layout::{Estimate, IterGridDimension, LayoutError};
+use papergrid_layout::{Estimate, IterGridDimension, LayoutError, LeastGridDimension};
 use papergrid_text::{IntoRecords, Records};
 use std::alloc::{AllocError, Global};
 use std::convert::AsStr;
@@ -40,22 +39,45 @@ where
         × IsLaidOut (look_of settings.items) (line_measure R.Iter.Cell.text) (R.columns records) cells result) }
 {
     let config = configuration(alloc, settings)?;
-    laid_out(alloc, records, &config)
+    laid_out(IterGridDimension::new(alloc), records, &config)
 }
 
-/// The same by a configuration. Condition: the records are lawful.
-pub fn laid_out<R: Records + Drop>(
+/// The same with the least widths and heights, whatever spans cross: no widths with room for each visible cell have
+/// a smaller sum, and no heights.
+///
+/// Conditions: as those of `layout`.
+///
+/// # Errors
+///
+/// `OutOfTable` with the first visible cell that reaches out, else `TooLarge` where no widths with room for each visible
+/// cell come, with the vertical lines, to at most the greatest `usize`, or no heights with the horizontal lines;
+/// `Memory` in place of any answer, where a setting asks for memory too.
+pub fn layout_least<R: Records + Drop>(
     alloc: Global,
+    settings: Vec<Setting>,
     records: R,
-    config: &SpannedConfig,
-) -> Result<IterGridDimension, LayoutError>
+) -> Result<LeastGridDimension, LayoutError>
 where
     <<R as Records>::Iter as IntoRecords>::Cell: AsStr + Drop,
-    requires { R.is_lawful records }
+    requires lawful { R.is_lawful records }
+    requires in_range { All (λ setting. is_in_range setting ≡ true) settings.items }
     ensures { UnlessMemory result ((cells : List (List R.Iter.Cell)) × R.tells records cells
-        × IsLaidOut (spanned_look config.now) (line_measure R.Iter.Cell.text) (R.columns records) cells result) }
+        × IsLaidOutLeast (look_of settings.items) (line_measure R.Iter.Cell.text) (R.columns records) cells result) }
 {
-    let mut dimension = IterGridDimension::new(alloc);
+    let config = configuration(alloc, settings)?;
+    laid_out(LeastGridDimension::new(alloc), records, &config)
+}
+
+/// A dimension with the sizes of the records by a configuration. Condition: it accepts the records.
+fn laid_out<D: Estimate<R, SpannedConfig> + Drop, R>(
+    mut dimension: D,
+    records: R,
+    config: &SpannedConfig,
+) -> Result<D, LayoutError>
+    requires { D.accepts records }
+    ensures ok { IfOk result (λ made. D.is_estimate made records config.now) }
+    ensures err { IfErr result (λ error. D.is_refused dimension records config.now error) }
+{
     match dimension.estimate(records, config) {
         Ok(()) => Ok(dimension),
         Err(error) => Err(error),

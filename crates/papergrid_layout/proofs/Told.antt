@@ -1,30 +1,28 @@
 -- What a caller that knows its rows reads of an answer: the cells told are seen through a view, as lent cells are.
 use Rattle.std.proofs.Common.{◌≡◌, ◌∙◌, ℕ, ◌+◌, true, List, [], ◌∷◌, ◌++◌, length, map, refl, ap, sym, inl, inr, subst, Vec}
-use Rattle.std.specs.Prelude.{None, Option, Some, if◌then◌else◌}
+use Rattle.std.specs.Prelude.{None, Option, Some}
 use Rattle.std.specs.Option.{option_map}
 use Rattle.std.proofs.lemmas.Bool.{cases_Bool}
 use Rattle.std.proofs.lemmas.List.{length-map}
 use Rattle.papergrid_values.specs.declared.position.Position.{Position}
 use Rattle.papergrid_values.specs.declared.direction.Direction.{Direction}
 use Rattle.papergrid_axis.specs.Answers.{IsWitness}
-use Rattle.papergrid_axis.specs.Chosen.{chosen_of}
 use Rattle.papergrid_axis.specs.KeptApart.{is_kept_apart}
 use Rattle.papergrid_axis.specs.Problem.{Problem, given}
-use Rattle.papergrid_axis.specs.Ranges.{place_of}
 use Rattle.papergrid_axis.proofs.KeptApartLemmas.{Decides-is_kept_apart, not_kept_apart}
 use Rattle.papergrid_walk.specs.Cells.{asked, asked_by, count_along, demands_of, placed_from, placed_row, problem_of}
 use Rattle.papergrid_walk.specs.Looks.{Look}
 use Rattle.papergrid_walk.specs.ForProofs.Visits.{asked_by-append}
-use Rattle.papergrid_layout.specs.Laws.{witness_told}
+use Rattle.papergrid_layout.specs.Witnesses.{witness_of}
 
 -- the places that a witness gives, by the test of ranges that are kept apart
-chosen-by_test : {Z : Type 0} (problem : Problem) (found : Option (Vec Position Z)) → IsWitness problem found →
-    option_map (λ places. places.items) found ≡ (if is_kept_apart problem.demands then Some (map place_of (chosen_of problem)) else None)
-chosen-by_test problem None none = elim (cases_Bool (is_kept_apart problem.demands)) [
+pub witness_is : {Z : Type 0} (problem : Problem) (found : Option (Vec Position Z)) → IsWitness problem found →
+    option_map (λ places. places.items) found ≡ witness_of problem
+witness_is problem None none = elim (cases_Bool (is_kept_apart problem.demands)) [
   | inl t ↦ absurd (not_kept_apart problem.demands none.not_kept_apart ((Decides-is_kept_apart problem.demands).0 t))
   | inr f ↦ rw f refl
 ]
-chosen-by_test problem (Some places) chosen =
+witness_is problem (Some places) chosen =
     let t : is_kept_apart problem.demands ≡ true = (Decides-is_kept_apart problem.demands).1 chosen.kept_apart in
     rw t (ap Some chosen.exact)
 
@@ -57,9 +55,3 @@ module _ {A B : Type 0} (look : Look) (v : A → B) (f : B → ℕ × ℕ) where
     pub problem_told : (direction : Direction) (columns : ℕ) → problem_of look (λ x. f (v x)) columns cells direction ≡ problem_of look f columns rows direction
     problem_told direction columns =
         λ i. given (look.draws direction (count_along direction columns (as_many i))) (count_along direction columns (as_many i)) (demands_told direction i)
-
-    -- an answer of a witness is the one that the rows have
-    pub witness_is_told : {Z : Type 0} (direction : Direction) (columns : ℕ) (found : Option (Vec Position Z)) → IsWitness (problem_of look (λ x. f (v x)) columns cells direction) found →
-        option_map (λ places. places.items) found ≡ witness_told direction look f (count_along direction columns (length rows)) rows
-    witness_is_told direction columns found witnessed =
-        chosen-by_test (problem_of look f columns rows direction) found (subst (λ problem. IsWitness problem found) (problem_told direction columns) witnessed)

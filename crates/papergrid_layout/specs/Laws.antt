@@ -1,13 +1,10 @@
 -- What the laws are about.
-use Rattle.std.specs.Prelude.{◌≡◌, ◌≢◌, ◌<◌, ◌&&◌, ℕ, Bool, if◌then◌else◌, List, [], ◌∷◌, ◌++◌, filter, length, map, None, Option, Some, slice_index_or}
+use Rattle.std.specs.Prelude.{◌≡◌, ◌≢◌, ◌<◌, ◌&&◌, ℕ, Bool, List, [], ◌∷◌, ◌++◌, filter, length, slice_index_or}
 use Rattle.std.specs.List.{flat_map}
 use Rattle.papergrid_values.specs.declared.position.Position.{Position}
 use Rattle.papergrid_text.specs.Measured.{Measured}
 use Rattle.papergrid_text.specs.Text.{greatest_width, kept_by_new, split_lines}
 use Rattle.papergrid_values.specs.declared.direction.Direction.{Direction}
-use Rattle.papergrid_axis.specs.Chosen.{chosen_of}
-use Rattle.papergrid_axis.specs.KeptApart.{is_kept_apart}
-use Rattle.papergrid_axis.specs.Ranges.{place_of}
 use Rattle.papergrid_axis.specs.Sizes.{sizes_of}
 use Rattle.papergrid_tables.specs.Keys.{position_eq}
 use Rattle.papergrid_maps.specs.Spans as spans
@@ -18,7 +15,7 @@ use Rattle.papergrid_config.specs.Made.{characters_of}
 use Rattle.papergrid_config.specs.Parts.{character_calls, padding_calls, span_calls}
 use Rattle.papergrid_config.specs.declared.setting.Setting.{Setting}
 use Rattle.papergrid_config.specs.declared.setting.Setting.TheVariants.{SetColumnSpan, SetRowSpan}
-use Rattle.papergrid_walk.specs.Cells.{demands_of, problem_with}
+use Rattle.papergrid_walk.specs.Cells.{problem_with}
 use Rattle.papergrid_walk.specs.Looks.{Look}
 
 -- a text as `Text::new` keeps it
@@ -37,12 +34,6 @@ IsCellAt rows p cell = (p.row < length rows) × HasCell (slice_index_or rows p.r
 -- the sizes along a direction, of so many columns (rows), that told rows have
 abbrev pub sizes_told : {C : Type 0} → Direction → Look → (C → ℕ × ℕ) → ℕ → List (List C) → List ℕ
 sizes_told direction look measure n rows = sizes_of (problem_with look measure direction n rows)
-
--- the places of the cells that certify these sizes, none where longer ranges are not kept apart
-abbrev pub witness_told : {C : Type 0} → Direction → Look → (C → ℕ × ℕ) → ℕ → List (List C) → Option (List Position)
-witness_told direction look measure n rows =
-    if is_kept_apart (demands_of direction look measure rows)
-    then Some (map place_of (chosen_of (problem_with look measure direction n rows))) else None
 
 -- the same spans, paddings and lines
 pub record TellTheSame (settings other : List Setting) : Type 0 where

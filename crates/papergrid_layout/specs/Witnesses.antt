@@ -1,12 +1,17 @@
 -- What witnesses and checkers say of the rows told.
-use Rattle.std.specs.Prelude.{◌↔◌, ℕ, Bool, IsTrue, List, Result, Ok, Err}
+use Rattle.std.specs.Prelude.{◌↔◌, ℕ, Bool, IsTrue, if◌then◌else◌, List, map, Option, Some, None, Result, Ok, Err, Vec}
+use Rattle.std.specs.declared.alloc.Global.{Global}
 use Rattle.papergrid_values.specs.declared.position.Position.{Position}
 use Rattle.papergrid_axis.specs.declared.error.LayoutError.{LayoutError}
-use Rattle.papergrid_axis.specs.Answers.{IsAccepted, IsWitness}
+use Rattle.papergrid_axis.specs.Answers.{AreSizes, IsAccepted, IsWitness, NoneHolds}
+use Rattle.papergrid_axis.specs.Chosen.{chosen_of}
 use Rattle.papergrid_axis.specs.Fits.{IsLeast}
+use Rattle.papergrid_axis.specs.KeptApart.{is_kept_apart}
 use Rattle.papergrid_axis.specs.Problem.{Problem}
+use Rattle.papergrid_axis.specs.Ranges.{place_of}
+use Rattle.papergrid_least.specs.Answers.{AreLeastSizes, AreLongest, NoneFits}
 use Rattle.papergrid_walk.specs.Looks.{Look}
-use Rattle.papergrid_layout.specs.Answers.{AreBothSizes, HoldAlong, IsBothRefused}
+use Rattle.papergrid_layout.specs.Answers.{HoldAlong, IsBothRefusedWhere}
 use Rattle.papergrid_layout.specs.declared.certified.Certified.{Certified}
 
 -- whether these sizes, with these places of cells that certify them, are accepted; those that are, are least
@@ -14,13 +19,30 @@ pub record IsChecked (problem : Problem) (sizes : List ℕ) (places : List Posit
   pub exact : IsTrue answer ↔ IsAccepted problem sizes places
   pub least : IsTrue answer → IsLeast problem sizes
 
-module _ {C : Type 0} (look : Look) (measure : C → ℕ × ℕ) (columns : ℕ) (cells : List (List C)) where
-  -- exactly the widths and the heights, and what witnesses say along both directions
-  pub record AreCertified (certified : Certified) : Type 0 where
-    pub sizes : AreBothSizes look measure columns cells certified.widths.items certified.heights.items
-    pub witnesses : HoldAlong look measure columns cells IsWitness certified.width_witness certified.height_witness
+-- the places of the cells that certify the sizes by shares, none where longer ranges are not kept apart
+abbrev pub witness_of : Problem → Option (List Position)
+witness_of problem = if is_kept_apart problem.demands then Some (map place_of (chosen_of problem)) else None
 
-  -- the sizes with their witnesses, or why there are none
+-- the places of the cells of the longest way; there always are some
+abbrev pub IsLongest : {Z : Type 0} → Problem → Option (Vec Position Z) → Type 0
+IsLongest problem None = ⊥
+IsLongest problem (Some places) = AreLongest problem places.items
+
+module _ {C : Type 0} (look : Look) (measure : C → ℕ × ℕ) (columns : ℕ) (cells : List (List C)) where
+  -- along both directions this holds of the sizes, and this of what certifies them
+  pub record AreCertifiedWhere (are_sizes : Problem → List ℕ → Type 0) (is_witness : Problem → Option (Vec Position Global) → Type 0) (certified : Certified) : Type 0 where
+    pub sizes : HoldAlong look measure columns cells are_sizes certified.widths.items certified.heights.items
+    pub witnesses : HoldAlong look measure columns cells is_witness certified.width_witness certified.height_witness
+
+  -- such sizes, or why there are none
+  abbrev pub IsCertifiedWhere : (Problem → Type 0) → (Problem → List ℕ → Type 0) → (Problem → Option (Vec Position Global) → Type 0) → Result Certified LayoutError → Type 0
+  IsCertifiedWhere too_large are_sizes is_witness (Ok certified) = AreCertifiedWhere are_sizes is_witness certified
+  IsCertifiedWhere too_large are_sizes is_witness (Err e) = IsBothRefusedWhere look measure columns cells too_large e
+
+  -- exactly the sizes by shares with their witnesses, or why there are none
   abbrev pub IsCertified : Result Certified LayoutError → Type 0
-  IsCertified (Ok certified) = AreCertified certified
-  IsCertified (Err e) = IsBothRefused look measure columns cells e
+  IsCertified result = IsCertifiedWhere NoneHolds AreSizes IsWitness result
+
+  -- exactly the least sizes with the cells that certify them, or why there are none
+  abbrev pub IsCertifiedLeast : Result Certified LayoutError → Type 0
+  IsCertifiedLeast result = IsCertifiedWhere NoneFits AreLeastSizes IsLongest result

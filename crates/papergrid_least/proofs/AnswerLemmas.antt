@@ -7,7 +7,7 @@ use Rattle.papergrid_axis.specs.declared.demand.Demand.{Demand}
 use Rattle.papergrid_axis.specs.declared.error.LayoutError.{LayoutError}
 use Rattle.papergrid_axis.specs.declared.error.LayoutError.TheVariants.{OutOfTable, TooLarge, Memory}
 use Rattle.papergrid_axis.specs.declared.seen.Seen.{Seen}
-use Rattle.papergrid_axis.specs.Fits.{Fits, IsLeast, IsTooLarge, top_need}
+use Rattle.papergrid_axis.specs.Fits.{Fits, IsTooLarge}
 use Rattle.papergrid_axis.specs.ForProofs.Seen.{IsSeen, no_demand}
 use Rattle.papergrid_axis.specs.ForProofs.Settled.{IsLargeInside}
 use Rattle.papergrid_axis.specs.Problem.{given, total_of}
@@ -24,16 +24,14 @@ use Rattle.papergrid_least.specs.Least.{latest, least_of}
 use Rattle.papergrid_least.specs.ForProofs.Laid.{AreLaid, carrying}
 use Rattle.papergrid_least.specs.ForProofs.Limits.{AreLimits, IsEarliest, IsLatest, Refuses}
 use Rattle.papergrid_least.proofs.EdgeLemmas.{AreEdges-edges_of, take_whole}
-use Rattle.papergrid_least.proofs.LeastLemmas.{IsLeast-least_of, bound-least_of, total-least_of}
+use Rattle.papergrid_least.proofs.LeastLemmas.{AreLeastSizes-least_of, NoneFits-by_all, total-least_of}
 use Rattle.papergrid_least.proofs.SeenLemmas.{AreLaid-from_edges, earliest-is, latest-is, longer_asking}
 
 pub NoneFits-large : (n : ℕ) (seen : Seen) (demands : List Demand) → IsSeen n seen demands → (line : ℕ → Bool) → IsLargeInside n seen → NoneFits (given line n demands)
 NoneFits-large n seen demands is line large =
     let table : All (IsInTable n) demands = table_demands n seen demands is large.inside in
-    record {
-      none_out = out_seen n seen demands is ∙ large.inside;
-      none_fits = λ other fits. large_any line n other demands (sym is.held.large ∙ large.is_large) table fits.room;
-    }
+    NoneFits-by_all (given line n demands) table (out_seen n seen demands is ∙ large.inside)
+    (λ other fits. large_any line n other demands (sym is.held.large ∙ large.is_large) table fits.room)
 
 -- where the edges agree, so do the sizes between them
 between-same : (n : ℕ) (f g : ℕ → ℕ) → ((i : ℕ) → i ≤ n → f i ≡ g i) → sizes_between n f ≡ sizes_between n g
@@ -66,7 +64,7 @@ module _ (line : ℕ → Bool) (n : ℕ) (seen : Seen) (demands : List Demand) (
   all_drawn = lines-drawn drawn line n agree
 
   past : ((edge : ℕ → ℕ) → AreLaid base kept edge → 18446744073709551616 ≤ edge (length base) + all_lines drawn (length base)) → NoneFits (given line n demands)
-  past large = record { none_out = out_seen n seen demands is_seen ∙ inside; none_fits = each }
+  past large = NoneFits-by_all (given line n demands) table (out_seen n seen demands is_seen ∙ inside) each
     where
       each : (other : List ℕ) → Fits (given line n demands) other → IsTooLarge (given line n demands) other
       each other fits =
@@ -132,23 +130,14 @@ module _ (line : ℕ → Bool) (n : ℕ) (seen : Seen) (demands : List Demand) (
         sizes ≡ sizes_between (length base) (λ i. min (edges_of (fold (grown drawn) base (taken (length base) seen.others.items)) i) (get_or limits.latest.items i 0)) →
         AreLeastSizes (given line n demands) sizes
     AreLeastSizes-made sizes e =
-        let is : sizes ≡ least_of (given line n demands) = exact sizes e in
-        record {
-          none_out = out_seen n seen demands is_seen ∙ inside;
-          exact = is;
-          total = total;
-          least = subst (IsLeast (given line n demands)) (sym is) (IsLeast-least_of (given line n demands) table);
-          bound = subst (λ xs. (i : ℕ) → i < length xs → get_or xs i 0 ≤ top_need demands i) (sym is)
-              (λ i l. let one_each : length (least_of (given line n demands)) ≡ n = (IsLeast-least_of (given line n demands) table).fits.one_each in
-              bound-least_of (given line n demands) table i (omega arith));
-        }
+        subst (AreLeastSizes (given line n demands)) (sym (exact sizes e))
+        (AreLeastSizes-least_of (given line n demands) table (out_seen n seen demands is_seen ∙ inside) total)
       where
-        total : total_of (given line n demands) sizes < 18446744073709551616
+        total : total_of (given line n demands) (least_of (given line n demands)) < 18446744073709551616
         total =
-            let a : sum sizes ≡ sum (least_of (given line n demands)) = ap sum (exact sizes e) in
             let b : sum (least_of (given line n demands)) ≡ earliest (asked line) demands n = total-least_of (given line n demands) table in
             let c : get_or limits.earliest.items (length base) 0 ≡ earliest (asked line) demands n = total_is in
             let d : get_or limits.earliest.items (length base) 0 + all_lines drawn (length base) < 18446744073709551616 = are.fits in
             let f : all_lines drawn (length base) ≡ all_lines line n = ap (all_lines drawn) many ∙ all_drawn in
-            let all : sum sizes + all_lines line n < 18446744073709551616 = omega arith in
+            let all : sum (least_of (given line n demands)) + all_lines line n < 18446744073709551616 = omega arith in
             all

@@ -1,9 +1,9 @@
 -- The sizes of the least total.
-use Rattle.std.proofs.Common.{◌≡◌, ℕ, suc, ◌+◌, ◌-◌, ◌<◌, ◌≤◌, min, Bool, List, get_or, take, sum, sym, ap, arith}
-use Rattle.std.specs.Prelude.{All, ◌↔◌}
+use Rattle.std.proofs.Common.{◌≡◌, ℕ, suc, ◌+◌, ◌-◌, ◌<◌, ◌≤◌, min, Bool, List, length, map, get_or, take, sum, refl, sym, ap, arith}
+use Rattle.std.specs.Prelude.{All, None, ◌↔◌}
 use Rattle.std.proofs.lemmas.List.FromFn.{fill_by_all}
 use Rattle.papergrid_axis.specs.declared.demand.Demand.{Demand}
-use Rattle.papergrid_axis.specs.Ranges.{IsInTable, IsKeptApart}
+use Rattle.papergrid_axis.specs.Ranges.{IsInTable, IsKeptApart, first_out, place_of}
 use Rattle.papergrid_values.specs.Lines.{all_lines}
 use Rattle.papergrid_axis.specs.Problem.{Problem, given, total_of}
 use Rattle.papergrid_axis.specs.Fits.{Fits, IsLeast, IsCertificate, IsTooLarge, top_need}
@@ -11,6 +11,7 @@ use Rattle.papergrid_axis.specs.Sizes.{sizes_of}
 use Rattle.papergrid_axis.proofs.Theorems.{Fits-sizes_of, bound-sizes_of, IsLeast-sizes_of}
 use Rattle.papergrid_least.proofs.BoundLemmas.{bound-least_sizes}
 use Rattle.papergrid_axis.proofs.Upto.{upto, sum-take}
+use Rattle.papergrid_least.specs.Answers.{AreLeastSizes, AreLongest, NoneFits}
 use Rattle.papergrid_least.specs.Edges.{asked, edges_of, AreEdges, sizes_between}
 use Rattle.papergrid_least.specs.Earliest.{earliest, least_total}
 use Rattle.papergrid_least.specs.Least.{latest, least_sizes, least_of}
@@ -123,3 +124,24 @@ module _ (problem : Problem) (table : All (IsInTable problem.count) problem.dema
           let e : sum (least_of problem) ≡ least_total problem = total-least_of in
           let all : sum (least_of problem) + all_lines problem.line problem.count < 18446744073709551616 = omega arith in
           all
+
+  -- ---- the answers, where no cell reaches out
+
+  module _ (inside : first_out problem.count problem.demands ≡ None) where
+    pub AreLeastSizes-least_of : total_of problem (least_of problem) < 18446744073709551616 → AreLeastSizes problem (least_of problem)
+    AreLeastSizes-least_of small = record {
+      none_out = inside;
+      exact = refl;
+      total = small;
+      least = IsLeast-least_of;
+      bound = λ i l. bound-least_of i (let one_each : length (least_of problem) ≡ problem.count = IsLeast-least_of.fits.one_each in omega arith);
+    }
+
+    pub AreLongest-longest : total_of problem (least_of problem) < 18446744073709551616 → AreLongest problem (map place_of (longest problem))
+    AreLongest-longest small = record { none_out = inside; total = small; exact = refl; certificate = IsCertificate-least_of }
+
+    pub NoneFits-by_all : ((other : List ℕ) → Fits problem other → IsTooLarge problem other) → NoneFits problem
+    NoneFits-by_all each = record { none_out = inside; too_large = refused-least_of.1 each; none_fits = each }
+
+    pub NoneFits-least_of : IsTooLarge problem (least_of problem) → NoneFits problem
+    NoneFits-least_of large = NoneFits-by_all (refused-least_of.0 large)

@@ -25,9 +25,10 @@ module _ (problem : Problem) where
     pub exact : places ≡ map place_of (longest problem)
     pub certificate : IsCertificate problem (least_of problem) (longest problem)
 
-  -- no cell reaches out, and every list that fits is too large
+  -- no cell reaches out, and the least sizes are too large, as every list that fits is
   pub record NoneFits : Type 0 where
     pub none_out : first_out problem.count problem.demands ≡ None
+    pub too_large : IsTooLarge problem (least_of problem)
     pub none_fits : (other : List ℕ) → Fits problem other → IsTooLarge problem other
 
   -- out of the table by the first cell that reaches out, else too large, as every list that fits is; memory may be refused in

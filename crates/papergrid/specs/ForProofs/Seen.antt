@@ -7,11 +7,19 @@ use Rattle.papergrid.specs.declared.script.Script.{Script}
 use Rattle.papergrid.specs.declared.script.ScriptError.{ScriptError}
 use Rattle.papergrid.specs.declared.script.ScriptError.TheVariants as script_errors
 use Rattle.papergrid.specs.declared.estimate.Sizes.{Sizes}
+use Rattle.papergrid.specs.declared.estimate.Sizing.{Sizing}
+use Rattle.papergrid.specs.declared.estimate.Sizing.TheVariants.{ByShares, Least}
 use Rattle.papergrid_axis.specs.declared.error.LayoutError.{LayoutError}
 use Rattle.papergrid_axis.specs.declared.error.LayoutError.TheVariants as layout_errors
 use Rattle.papergrid.specs.Grammar.{Said}
 use Rattle.papergrid.specs.Scripts.{Table, with_line}
+use Rattle.papergrid_axis.specs.Answers.{IsWitness}
+use Rattle.papergrid_axis.specs.Problem.{Problem}
+use Rattle.papergrid_walk.specs.Looks.{Look}
+use Rattle.papergrid_layout.specs.Witnesses.{IsCertifiedWhere, IsLongest}
+use Rattle.papergrid_layout.specs.declared.certified.Certified.{Certified}
 use Rattle.papergrid.specs.Estimates.{Estimate, OutOfTable, TooLarge, Sized}
+use Rattle.papergrid.specs.Totals.{AreSizesBy, HasNone}
 
 abbrev pub texts_of : Vec (Bor (List ℕ)) Global → List (List ℕ)
 texts_of cells = map (λ text. text.now) cells.items
@@ -28,6 +36,16 @@ abbrev pub GivesTable : Result Script ScriptError → Result Table ℕ → Type 
 GivesTable (Ok script) told = told ≡ Ok (table_seen script)
 GivesTable (Err (script_errors.Bad number)) told = told ≡ Err number
 GivesTable (Err script_errors.Memory) told = Unit {0}
+
+-- what is found to certify the sizes of a problem
+abbrev pub IsFoundWitness : Sizing → Problem → Option (Vec Position Global) → Type 0
+IsFoundWitness ByShares = IsWitness
+IsFoundWitness Least = IsLongest
+
+-- exactly the sizes that are chosen so, with what certifies them, or why there are none
+abbrev pub IsCertifiedBy : Sizing → {C : Type 0} → Look → (C → ℕ × ℕ) → ℕ → List (List C) → Result Certified LayoutError → Type 0
+IsCertifiedBy sizing look measure columns cells result =
+    IsCertifiedWhere look measure columns cells (HasNone sizing) (AreSizesBy sizing) (IsFoundWitness sizing) result
 
 abbrev pub places_seen : Option (Vec Position Global) → Option (List Position)
 places_seen witness = option_map (λ places. places.items) witness

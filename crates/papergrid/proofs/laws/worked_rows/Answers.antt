@@ -13,23 +13,25 @@ use Rattle.papergrid.proofs.laws.worked_rows.Goals as goal
 pub returns : goal.returns
 unfolding table_of script_lines said text_says keyword_says setting_of placed_character character_of padding_of sides_of entity_of placed_span position_of number_of unescaped chars is_utf8 encode estimate_by str_width step past_emoji digits
 returns c = record {
-  first_run = worked _ _ _ refl refl;
-  short_row = worked _ _ _ refl refl;
-  out_before_too_large = worked _ _ _ refl refl;
-  row_pin_over_column = worked _ _ _ refl refl;
-  greatest_size = worked _ _ _ refl refl;
-  greatest_size_and_one = worked _ _ _ refl refl;
-  greatest_size_and_borders = worked _ _ _ refl refl;
-  out_of_table = worked _ _ _ refl refl;
-  nested_column_spans = worked _ _ _ refl refl;
-  equal_ranges = worked _ _ _ refl refl;
-  out_of_table_by_rows = worked _ _ _ refl refl;
-  no_columns = worked _ _ _ refl refl;
-  empty_input = worked _ _ _ refl refl;
-  borders_alone = worked _ _ _ refl refl;
-  one_line = worked _ _ _ refl refl;
-  no_line = worked _ _ _ refl refl;
-  all_lines = worked _ _ _ refl refl;
-  cell_before_row = worked _ _ _ refl refl;
-  bad_escape = worked _ _ _ refl refl;
+  first_run = worked _ _ _ _ refl refl;
+  short_row = worked _ _ _ _ refl refl;
+  out_before_too_large = worked _ _ _ _ refl refl;
+  row_pin_over_column = worked _ _ _ _ refl refl;
+  greatest_size = worked _ _ _ _ refl refl;
+  greatest_size_and_one = worked _ _ _ _ refl refl;
+  greatest_size_and_borders = worked _ _ _ _ refl refl;
+  out_of_table = worked _ _ _ _ refl refl;
+  nested_column_spans = worked _ _ _ _ refl refl;
+  equal_ranges = worked _ _ _ _ refl refl;
+  out_of_table_by_rows = worked _ _ _ _ refl refl;
+  no_columns = worked _ _ _ _ refl refl;
+  empty_input = worked _ _ _ _ refl refl;
+  borders_alone = worked _ _ _ _ refl refl;
+  one_line = worked _ _ _ _ refl refl;
+  no_line = worked _ _ _ _ refl refl;
+  all_lines = worked _ _ _ _ refl refl;
+  cell_before_row = worked _ _ _ _ refl refl;
+  bad_escape = worked _ _ _ _ refl refl;
+  least_nested_column_spans = worked _ _ _ _ refl refl;
+  least_crossing_column_spans = worked _ _ _ _ refl refl;
 }

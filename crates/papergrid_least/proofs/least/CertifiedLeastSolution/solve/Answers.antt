@@ -1,7 +1,8 @@
-use Rattle.std.proofs.Common.{◌<◌, subst}
+use Rattle.std.proofs.Common.{◌<◌, subst, sym}
 use Rattle.std.proofs.lemmas.Result.{err_from_is_err_and}
 use Rattle.papergrid_axis.specs.Problem.{given, total_of}
-use Rattle.papergrid_least.proofs.LeastLemmas.{IsCertificate-least_of}
+use Rattle.papergrid_least.specs.Answers.{AreLongest}
+use Rattle.papergrid_least.proofs.LeastLemmas.{AreLongest-longest}
 use Rattle.papergrid_least.proofs.least.CertifiedLeastSolution.solve.Goals as goal
 
 pub returns-in_err-settled : goal.returns-in_err-settled
@@ -13,12 +14,8 @@ longest_places-requires-clause-settled g c = (given (g.A.Axis.line c.args.axis.n
 pub returns : goal.returns
 returns g c = λ demands seen.
     let settled = c.in_ok-settled.ensures.settled demands seen in
-    let problem = given (g.A.Axis.line c.args.axis.now) c.args.count demands in (
+    let problem = given (g.A.Axis.line c.args.axis.now) c.args.count demands in
+    let total = subst (λ xs. total_of problem xs < 18446744073709551616) settled.sizes.exact settled.sizes.total in (
       settled.sizes,
-      record {
-        none_out = settled.sizes.none_out;
-        total = subst (λ xs. total_of problem xs < 18446744073709551616) settled.sizes.exact settled.sizes.total;
-        exact = c.in_ok-places.ensures problem seen settled;
-        certificate = IsCertificate-least_of problem settled.table;
-      },
+      subst (AreLongest problem) (sym (c.in_ok-places.ensures problem seen settled)) (AreLongest-longest problem settled.table settled.sizes.none_out total),
     )

@@ -1,0 +1,7 @@
+use Rattle.papergrid.proofs.estimate.certified_by.Goals as goal
+
+pub returns-in-ByShares : goal.returns-in-ByShares
+returns-in-ByShares g c = rw c.in-ByShares.is c.certified_sizes.ensures
+
+pub returns-in-Least : goal.returns-in-Least
+returns-in-Least g c = rw c.in-Least.is c.certified_least.ensures
