@@ -1,7 +1,7 @@
 //! Worked scripts.
 
-use super::check;
-use crate::RunEnd;
+use super::{check, check_apart, check_by};
+use crate::{RunEnd, Sizing};
 use std::alloc::Global;
 use std::process::Abort;
 use std::test::Fail;
@@ -102,12 +102,12 @@ fn out_of_table(rt: HostRuntime) -> Result<(), Fail> {
 
 #[test]
 fn readme_picture(rt: HostRuntime) -> Result<(), Fail> {
-    check(
+    check_apart(
         &rt,
         rt.alloc(),
         b"columns 4\nborder +\ncolspan 1,1 3\nrowspan 0,0 2\npad 0,0 4 4 1 1\nrow\ncell Papergrid\ncell is a library\ncell for print tables\ncell !\nrow\ncell\ncell Just like this\ncell\ncell\n",
         "widths 17 12 16 1\nheights 1 1\ntotal 51 5\nwitness widths 0,0 0,1 0,2 0,3\nwitness heights 0,1 1,1\n",
-        RunEnd::Done,
+        "widths 17 12 16 1\nheights 1 1\ntotal 51 5\nwitness widths 0,0 0,1 0,2 0,3\nwitness heights 0,0\n",
     )
 }
 
@@ -179,22 +179,45 @@ fn row_spans_within_row_span(rt: HostRuntime) -> Result<(), Fail> {
 
 #[test]
 fn crossing_row_spans(rt: HostRuntime) -> Result<(), Fail> {
-    check(
+    check_apart(
         &rt,
         rt.alloc(),
         b"columns 2\nrowspan 0,0 2\nrowspan 1,1 2\npad 0,0 0 0 9 0\npad 1,1 0 0 9 0\nrow\ncell\ncell\nrow\ncell\ncell\nrow\ncell\ncell\n",
         "widths 0 0\nheights 6 7 3\ntotal 0 16\nwitness widths\nwitness heights none\n",
-        RunEnd::Done,
+        "widths 0 0\nheights 1 9 1\ntotal 0 11\nwitness widths\nwitness heights 0,1 1,1\n",
     )
 }
 
 #[test]
 fn crossing_column_spans(rt: HostRuntime) -> Result<(), Fail> {
-    check(
+    check_apart(
         &rt,
         rt.alloc(),
         b"columns 3\ncolspan 0,0 2\ncolspan 1,1 2\nrow\ncell 0123456789\nrow\ncell\ncell 0123456789\n",
         "widths 5 8 2\nheights 1 1\ntotal 15 2\nwitness widths none\nwitness heights 0,0 1,0\n",
+        "widths 0 10 0\nheights 1 1\ntotal 10 2\nwitness widths 0,0\nwitness heights 0,0 1,0\n",
+    )
+}
+
+/// Of two cells as wide as can be that cross, the shares come to more than fits, and the least sizes do not.
+#[test]
+fn shares_too_large_and_least_not(rt: HostRuntime) -> Result<(), Fail> {
+    let script =
+        b"columns 3\ncolspan 0,0 2\ncolspan 1,1 2\npad 0,0 18446744073709551615 0 0 0\npad 1,1 18446744073709551615 0 0 0\nrow\ncell\nrow\ncell\ncell\n";
+    check_by(
+        &rt,
+        rt.alloc(),
+        Sizing::ByShares,
+        script,
+        "refused: too large\n",
+        RunEnd::Refused,
+    )?;
+    check_by(
+        &rt,
+        rt.alloc(),
+        Sizing::Least,
+        script,
+        "widths 0 18446744073709551615 0\nheights 1 1\ntotal 18446744073709551615 2\nwitness widths 0,0\nwitness heights 0,0 1,0\n",
         RunEnd::Done,
     )
 }

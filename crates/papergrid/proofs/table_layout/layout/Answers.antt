@@ -1,4 +1,3 @@
-use Rattle.std.specs.Prelude.{List}
 use Rattle.papergrid_walk.specs.Looks.{spanned_look}
 use Rattle.papergrid_walk.specs.Measures.{line_measure}
 use Rattle.papergrid.specs.Layouts.{IsLaidOut}
