@@ -1,9 +1,9 @@
-//! Worked examples, each call run once, and refused memory.
+//! Worked examples, each call run once.
 //!
 //! A test hands its configuration to `drop`: the proof of one that drops the twenty parts in place
 //! is about three times as large.
 
-mod refused;
+mod removals;
 
 ghost use Rattle.std.specs.Prelude.{◌≡◌};
 
