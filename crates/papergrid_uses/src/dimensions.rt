@@ -1,8 +1,20 @@
-//! The other dimensions: cells that keep their lines, and one setting for all cells.
+//! The other dimensions: cells that keep their lines, one setting for all cells, and least totals.
+
+ghost use Rattle.std.specs.Prelude.{◌≡◌, IfOk, slice_index, string_bytes};
+ghost use Rattle.papergrid_axis.specs.Sizes.{sizes_of};
+ghost use Rattle.papergrid_layout.specs.Answers.{AnswersBothWhere, AreBothSized};
+ghost use Rattle.papergrid_least.specs.Answers.{AreLeastSizes, NoneFits};
+ghost use Rattle.papergrid_text.specs.HeldRows.{column_count, rows_held};
+ghost use Rattle.papergrid_values.specs.declared.direction.Direction.TheVariants.{Columns};
+ghost use Rattle.papergrid_walk.specs.Cells.{problem_of};
+ghost use Rattle.papergrid_walk.specs.Looks.{compact_look, spanned_look};
+ghost use Rattle.papergrid_walk.specs.Measures.{std_line_measure};
+ghost use Rattle.papergrid_uses.specs.Rows.{cells_of, kept_measure, text_measure};
 
 use papergrid::config::compact::CompactConfig;
 use papergrid::config::spanned::SpannedConfig;
 use papergrid::dimension::compact::CompactGridDimension;
+use papergrid::dimension::least::LeastGridDimension;
 use papergrid::dimension::peekable::PeekableGridDimension;
 use papergrid::dimension::{Dimension, Estimate, LayoutError};
 use papergrid::records::IterRecords;
@@ -14,7 +26,10 @@ pub fn of_measured(
     alloc: Global,
     records: &VecRecords<Text<&str>>,
     config: &SpannedConfig,
-) -> Result<(Vec<usize>, Vec<usize>), LayoutError> {
+) -> Result<(Vec<usize>, Vec<usize>), LayoutError>
+    ensures { AreBothSized (spanned_look config.now) kept_measure (column_count records.now)
+        (cells_of (rows_held records.now).items) result }
+{
     let mut dimension = PeekableGridDimension::new(alloc);
     dimension.estimate(records, config)?;
     Ok(dimension.get_values())
@@ -25,8 +40,26 @@ pub fn of_compact(
     alloc: Global,
     rows: &[Vec<String>],
     config: &CompactConfig,
-) -> Result<usize, LayoutError> {
+) -> Result<usize, LayoutError>
+    ensures { let problem = problem_of (compact_look config.now) (std_line_measure string_bytes) 3
+        (cells_of rows.now) Columns in
+        IfOk result (λ width. width ≡ slice_index (sizes_of problem) 0) }
+{
     let mut dimension = CompactGridDimension::new(alloc);
     dimension.estimate(IterRecords::new(rows, 3, None), config)?;
     Ok(dimension.get_width(0))
+}
+
+/// The least sizes of rows of texts, of three columns, where spans may cross.
+pub fn of_crossing(
+    alloc: Global,
+    rows: &[Vec<&str>],
+    config: &SpannedConfig,
+) -> Result<(Vec<usize>, Vec<usize>), LayoutError>
+    ensures { AnswersBothWhere (spanned_look config.now) text_measure 3 (cells_of rows.now)
+        NoneFits (λ problem sizes. AreLeastSizes problem sizes.items) result }
+{
+    let mut dimension = LeastGridDimension::new(alloc);
+    dimension.estimate(IterRecords::new(rows, 3, None), config)?;
+    Ok(dimension.get_values())
 }

@@ -1,11 +1,18 @@
 //! Callers of the library, each proved: the examples of the documents stand here. What each says is
-//! shown by the public contracts of the library alone.
+//! shown by what the library says in public.
 #![tactic(auto)]
 
 pub mod certificates;
+pub mod colored;
+pub mod compact;
 pub mod dimensions;
+pub mod entities;
+pub mod errors;
 pub mod own;
+pub mod picture;
+pub mod places;
 pub mod refusals;
+pub mod scripts;
 pub mod settings;
 pub mod sizes;
 #[cfg(test)]

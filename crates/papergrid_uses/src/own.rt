@@ -1,6 +1,10 @@
 //! Records of one's own type.
 
-ghost use Rattle.std.specs.Prelude.{◌<◌};
+ghost use Rattle.std.specs.Prelude.{◌<◌, string_bytes};
+ghost use Rattle.papergrid_layout.specs.Answers.{AreBothSized};
+ghost use Rattle.papergrid_text.specs.Cut.{cut_rows};
+ghost use Rattle.papergrid_walk.specs.Looks.{spanned_look};
+ghost use Rattle.papergrid_walk.specs.Measures.{line_measure};
 
 use papergrid::config::spanned::SpannedConfig;
 use papergrid::dimension::iterable::IterGridDimension;
@@ -70,7 +74,10 @@ pub fn of_flat(
     alloc: Global,
     flat: &Flat,
     config: &SpannedConfig,
-) -> Result<(Vec<usize>, Vec<usize>), LayoutError> {
+) -> Result<(Vec<usize>, Vec<usize>), LayoutError>
+    ensures { AreBothSized (spanned_look config.now) (line_measure string_bytes) flat.now.columns
+        (cut_rows flat.now.columns flat.now.texts.items) result }
+{
     let mut dimension = IterGridDimension::new(alloc);
     dimension.estimate(flat, config)?;
     Ok(dimension.get_values())

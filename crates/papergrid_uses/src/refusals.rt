@@ -1,30 +1,26 @@
-//! What refusals look like.
+//! Refusals, told apart.
+
+ghost use Rattle.std.specs.Prelude.{◌≡◌, ◌↔◌, IsTrue, Some};
+ghost use Rattle.papergrid_axis.specs.declared.error.LayoutError.TheVariants.{OutOfTable};
+ghost use Rattle.papergrid_layout.specs.declared.placement.PlaceError.TheVariants.{Hidden};
+ghost use Rattle.papergrid_values.specs.declared.position.Position.{Position};
 
 use papergrid::config::Position;
-use papergrid::dimension::{LayoutError, PlaceError};
-
-/// Why a table has no sizes, in words.
-pub fn words(refused: LayoutError) -> &'static str {
-    match refused {
-        LayoutError::OutOfTable(_) => "a cell ends past the last column or row",
-        LayoutError::TooLarge => "the table is too large to be counted",
-        LayoutError::Memory(_) => "out of memory",
-    }
-}
+use papergrid::dimension::{LayoutError, Place, PlaceError};
 
 /// The cell that ends past the last column or row, if that is why.
-pub fn out_of_table(refused: LayoutError) -> Option<Position> {
+pub fn out_of_table(refused: LayoutError) -> Option<Position>
+    ensures { (position : Position) → (result ≡ Some position) ↔ (refused ≡ OutOfTable position) }
+{
     match refused {
         LayoutError::OutOfTable(position) => Some(position),
         _ => None,
     }
 }
 
-/// Why a cell has no place, in words.
-pub fn no_place(refused: PlaceError) -> &'static str {
-    match refused {
-        PlaceError::Hidden => "another cell spans over it",
-        PlaceError::OutOfTable => "it ends past the last column or row",
-        PlaceError::TooLarge => "the table is too large to be counted",
-    }
+/// Whether there is no place since another cell spans over the position.
+pub fn is_hidden(answer: Result<Place, PlaceError>) -> bool
+    ensures { IsTrue result ↔ (answer ≡ Err Hidden) }
+{
+    answer == Err(PlaceError::Hidden)
 }

@@ -1,16 +1,20 @@
 //! Settings, one by one and as a list.
 
 ghost use Rattle.std.specs.Prelude.{◌≡◌, All, IfOk, true};
+ghost use Rattle.papergrid.specs.Layouts.{IsLaidOut};
+ghost use Rattle.papergrid.specs.Looks.{look_of};
 ghost use Rattle.papergrid_config.specs.Applied.{is_in_range};
 ghost use Rattle.papergrid_config.specs.Told.{IsTold};
 ghost use Rattle.papergrid_maps.specs.MapHeld.{held_value};
 ghost use Rattle.papergrid_values.specs.declared.position.Position.{Position};
+ghost use Rattle.papergrid_uses.specs.Rows.{cells_of, text_measure};
 
 use papergrid::config::spanned::{Setting, SpannedConfig, Stopped};
 use papergrid::config::{
     Border, Borders, Entity, HorizontalLine, Indent, Offset, Position, Sides, VerticalLine,
 };
 use papergrid::dimension::LayoutError;
+use papergrid::dimension::iterable::IterGridDimension;
 use papergrid::layout;
 use papergrid::records::IterRecords;
 use papergrid_config::laws::told_decides;
@@ -47,14 +51,16 @@ pub fn as_a_list(alloc: Global) -> Result<Vec<Setting>, AllocError>
     ]?)
 }
 
-/// The widths and the heights of rows of texts, of three columns, by the list.
+/// The sizes of rows of texts, of three columns, by a list of settings. Condition: each is in range.
 pub fn laid_out(
     alloc: Global,
+    settings: Vec<Setting>,
     rows: &[Vec<&str>],
-) -> Result<(Vec<usize>, Vec<usize>), LayoutError> {
-    let settings = as_a_list(alloc)?;
-    let dimension = layout(alloc, settings, IterRecords::new(rows, 3, None))?;
-    Ok(dimension.get_values())
+) -> Result<IterGridDimension, LayoutError>
+    requires { All (λ setting. is_in_range setting ≡ true) settings.items }
+    ensures { IsLaidOut (look_of settings.items) text_measure 3 (cells_of rows.now) result }
+{
+    layout(alloc, settings, IterRecords::new(rows, 3, None))
 }
 
 /// A configuration that a list tells. Condition: each setting is in range.

@@ -1,18 +1,19 @@
-//! The sizes of a table of texts, its totals and the places of its cells.
+//! The sizes of a table of texts, and its totals.
 
-ghost use Rattle.std.specs.Prelude.{◌≡◌, ◌+◌, ◌<◌, ◌≤◌, All, IfOk, List, ℕ, length, sum};
+ghost use Rattle.std.specs.Prelude.{◌≡◌, ◌+◌, ◌≤◌, All, IfOk, List, ℕ, length, slice_index, sum};
+ghost use Rattle.papergrid_axis.specs.Answers.{IsSized};
 ghost use Rattle.papergrid_axis.specs.Fits.{Fits};
+ghost use Rattle.papergrid_axis.specs.Sizes.{sizes_of};
+ghost use Rattle.papergrid_layout.specs.Answers.{AreBothSized};
 ghost use Rattle.papergrid_values.specs.declared.direction.Direction.TheVariants.{Columns};
 ghost use Rattle.papergrid_walk.specs.Cells.{problem_of, side, visible_cells};
 ghost use Rattle.papergrid_walk.specs.Looks.{spanned_look};
 ghost use Rattle.papergrid_walk.specs.Measures.{line_measure};
+ghost use Rattle.papergrid_uses.specs.Rows.{cells_of, text_measure, texts_problem};
 
-use papergrid::config::Position;
 use papergrid::config::spanned::SpannedConfig;
 use papergrid::dimension::iterable::IterGridDimension;
-use papergrid::dimension::{
-    Dimension, Estimate, LayoutError, Place, PlaceError, cell_at, place, places,
-};
+use papergrid::dimension::{Dimension, Estimate, LayoutError};
 use papergrid::records::{IntoRecords, IterRecords, Records};
 use papergrid_layout::laws::total_covers_cells;
 use std::alloc::Global;
@@ -23,7 +24,9 @@ pub fn sizes(
     alloc: Global,
     rows: &[Vec<&str>],
     config: &SpannedConfig,
-) -> Result<(Vec<usize>, Vec<usize>), LayoutError> {
+) -> Result<(Vec<usize>, Vec<usize>), LayoutError>
+    ensures { AreBothSized (spanned_look config.now) text_measure 3 (cells_of rows.now) result }
+{
     let mut dimension = IterGridDimension::new(alloc);
     dimension.estimate(IterRecords::new(rows, 3, None), config)?;
     Ok(dimension.get_values())
@@ -34,7 +37,9 @@ pub fn first_width(
     alloc: Global,
     rows: &[Vec<&str>],
     config: &SpannedConfig,
-) -> Result<usize, LayoutError> {
+) -> Result<usize, LayoutError>
+    ensures { IfOk result (λ width. width ≡ slice_index (sizes_of (texts_problem config.now 3 rows.now Columns)) 0) }
+{
     let mut dimension = IterGridDimension::new(alloc);
     dimension.estimate(IterRecords::new(rows, 3, None), config)?;
     Ok(dimension.get_width(0))
@@ -47,7 +52,8 @@ pub fn widths(
     columns: usize,
     config: &SpannedConfig,
 ) -> Result<Vec<usize>, LayoutError>
-    ensures { IfOk result (λ widths. length widths.items ≡ columns) }
+    ensures exact { IsSized (texts_problem config.now columns rows.now Columns) result }
+    ensures one_each { IfOk result (λ widths. length widths.items ≡ columns) }
 {
     IterGridDimension::width(alloc, IterRecords::new(rows, columns, None), config)
 }
@@ -68,18 +74,6 @@ where
     IterGridDimension::width_total(alloc, records, config)
 }
 
-/// The place of the first cell of a table that has this shape (rows, columns) and these sizes.
-pub fn first_place(
-    dimension: &IterGridDimension,
-    config: &SpannedConfig,
-    shape: (usize, usize),
-) -> Result<Place, PlaceError>
-    requires columns { (column : ℕ) → column < shape.1 → ⟦<IterGridDimension as Dimension>⟧.has_column dimension.now column }
-    requires rows { (row : ℕ) → row < shape.0 → ⟦<IterGridDimension as Dimension>⟧.has_row dimension.now row }
-{
-    place(dimension, config, shape, Position::new(0, 0))
-}
-
 /// The width of the records' table. No visible cell, with its paddings, needs more.
 pub fn covering_width<R: Records + Drop>(
     alloc: Global,
@@ -92,36 +86,10 @@ where
     ensures { let look = spanned_look config.now in
         let measure = line_measure R.Iter.Cell.text in
         IfOk result (λ total. (cells : List (List R.Iter.Cell)) × R.tells records cells
-        × All (λ cell. side Columns (measure cell.1) + look.before Columns cell.0 + look.after Columns cell.0 ≤ total) (visible_cells look cells)) }
+        × All (λ cell. side Columns (measure cell.1) + look.before Columns cell.0 + look.after Columns cell.0 ≤ total)
+        (visible_cells look cells)) }
 {
     total_covers_cells::<<<R as Records>::Iter as IntoRecords>::Cell>();
     let total = IterGridDimension::width_total(alloc, records, config)?;
     Ok(total)
-}
-
-/// Where each visible cell of a table of this shape (rows, columns) stands.
-pub fn all_places(
-    alloc: Global,
-    dimension: &IterGridDimension,
-    config: &SpannedConfig,
-    shape: (usize, usize),
-) -> Result<Vec<(Position, Place)>, LayoutError>
-    requires columns { (column : ℕ) → column < shape.1 → ⟦<IterGridDimension as Dimension>⟧.has_column dimension.now column }
-    requires rows { (row : ℕ) → row < shape.0 → ⟦<IterGridDimension as Dimension>⟧.has_row dimension.now row }
-{
-    places(alloc, dimension, config, shape)
-}
-
-/// The cell that was clicked, at a column of the terminal in a line.
-pub fn clicked(
-    dimension: &IterGridDimension,
-    config: &SpannedConfig,
-    shape: (usize, usize),
-    column: usize,
-    line: usize,
-) -> Option<Position>
-    requires columns { (column : ℕ) → column < shape.1 → ⟦<IterGridDimension as Dimension>⟧.has_column dimension.now column }
-    requires rows { (row : ℕ) → row < shape.0 → ⟦<IterGridDimension as Dimension>⟧.has_row dimension.now row }
-{
-    cell_at(dimension, config, shape, column, line)
 }

@@ -1,8 +1,13 @@
 //! The worked tables of the documents.
 
+mod messages;
+mod places;
+mod scripts;
+mod shown;
+
 use crate::certificates::{is_certified, is_right};
 use crate::own::{Flat, of_flat};
-use crate::settings::{laid_out, one_by_one};
+use crate::settings::{as_a_list, laid_out, one_by_one};
 use crate::sizes::{covering_width, sizes};
 use crate::texts::measures;
 use papergrid::config::Position;
@@ -60,8 +65,13 @@ fn has_certificate(alloc: Global, config: &SpannedConfig) -> bool {
         Position::new(0, 2),
     ];
     is_certified(alloc, &rows, config) == Ok(true)
-        && is_right(&rows, config, &[6, 6, 7], &cells)
-        && !is_right(&rows, config, &[6, 6, 7], &hidden)
+        && is_right(IterRecords::new(&rows, 3, None), config, &[6, 6, 7], &cells)
+        && !is_right(
+            IterRecords::new(&rows, 3, None),
+            config,
+            &[6, 6, 7],
+            &hidden,
+        )
 }
 
 /// Whether the table has its sizes, its total and its certificate.
@@ -81,12 +91,19 @@ fn small_table(rt: HostRuntime) {
     assert!(rt; is_as_told(rt.alloc()));
 }
 
+fn is_laid_out(alloc: Global) -> bool {
+    let (Ok(rows), Ok(settings)) = (rows(alloc), as_a_list(alloc)) else {
+        return false;
+    };
+    match laid_out(alloc, settings, &rows) {
+        Ok(dimension) => are_right(Ok(dimension.get_values())),
+        Err(_) => false,
+    }
+}
+
 #[test]
 fn by_a_list(rt: HostRuntime) {
-    let alloc = rt.alloc();
-    if let Ok(rows) = rows(alloc) {
-        assert!(rt; are_right(laid_out(alloc, &rows)));
-    }
+    assert!(rt; is_laid_out(rt.alloc()));
 }
 
 /// The texts of a table one after the other.
@@ -119,5 +136,5 @@ fn records_of_ones_own(rt: HostRuntime) {
 
 #[test]
 fn measured(rt: HostRuntime) {
-    assert_eq!(rt; measures("a 👍\nbc"), (2, 2, 4));
+    assert_eq!(rt; measures("a 👍\nbc"), (2, 4));
 }

@@ -1,11 +1,14 @@
 //! Texts, measured.
 
-use papergrid::util::string::{count_lines, get_string_width, get_text_dimension, get_text_width};
+ghost use Rattle.std.specs.Prelude.{◌≡◌, length};
+ghost use Rattle.papergrid_text.specs.Text.{greatest_width, split_lines};
 
-/// The lines and the width of a text, in columns of a terminal, at once and one by one.
-pub fn measures(text: &str) -> (usize, usize, usize) {
-    let (lines, width) = get_text_dimension(text);
-    let same = count_lines(text);
-    let _ = (get_text_width(text), get_string_width(text));
-    (lines, same, width)
+use papergrid::util::string::get_text_dimension;
+
+/// The lines of a text and its width, in columns of a terminal.
+pub fn measures(text: &str) -> (usize, usize)
+    ensures lines { result.0 ≡ length (split_lines text.now) }
+    ensures width { result.1 ≡ greatest_width (split_lines text.now) }
+{
+    get_text_dimension(text)
 }

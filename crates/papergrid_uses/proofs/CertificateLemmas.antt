@@ -1,0 +1,56 @@
+-- When widths, or heights, are certified.
+use Rattle.std.proofs.Common.{◌≡◌, ◌↔◌, ℕ, Bool, false, inl, inr, List, IsTrue, map, subst, sym}
+use Rattle.std.proofs.lemmas.Bool.{false≢true}
+use Rattle.papergrid_values.specs.declared.position.Position.{Position}
+use Rattle.papergrid_values.specs.declared.direction.Direction.{Direction}
+use Rattle.papergrid_axis.specs.Answers.{AreChosen, AreSizes, NoneChosen}
+use Rattle.papergrid_axis.specs.Chosen.{chosen_of}
+use Rattle.papergrid_axis.specs.Fits.{IsCertificate}
+use Rattle.papergrid_axis.specs.Problem.{Problem}
+use Rattle.papergrid_axis.specs.Ranges.{IsKeptApart}
+use Rattle.papergrid_walk.specs.Cells.{problem_of}
+use Rattle.papergrid_walk.specs.Looks.{Look}
+use Rattle.papergrid_layout.specs.Witnesses.{IsChecked}
+use Rattle.papergrid_uses.proofs.RowLemmas.{one_told}
+
+-- chosen cells are accepted, and are chosen where ranges are kept apart
+accepted_where : (problem : Problem) (sizes : List ℕ) (places : List Position) (answer : Bool)
+    → AreSizes problem sizes → AreChosen problem places → IsChecked problem sizes places answer → IsTrue answer ↔ IsKeptApart problem.demands
+accepted_where problem sizes places answer are chosen checked = (
+  λ _. chosen.kept_apart,
+  λ _. checked.exact.1 (record {
+    none_out = chosen.none_out;
+    fits = are.fits;
+    cells = chosen_of problem;
+    at_places = sym chosen.exact;
+    certificate = subst (λ xs. IsCertificate problem xs (chosen_of problem)) (sym are.exact) chosen.certificate;
+  }),
+)
+
+none_where : (problem : Problem) → NoneChosen problem → IsTrue false ↔ IsKeptApart problem.demands
+none_where problem none =
+    let cross = none.not_kept_apart in (
+      λ t. absurd (false≢true t),
+      λ apart. absurd (elim (apart cross.one cross.other cross.are_visible.0 cross.are_visible.1 cross.are_long.0 cross.are_long.1) [
+        | inl nested ↦ cross.not_nested nested
+        | inr disjoint ↦ cross.not_disjoint disjoint
+      ]),
+    )
+
+module _ {A B : Type 0} (look : Look) (v : A → B) (f : B → ℕ × ℕ) (columns : ℕ) (rows : List (List B)) (direction : Direction) where
+  abbrev Told : (Problem → Type 0) → Type 0
+  Told holds = (cells : List (List A)) × (map (map v) cells ≡ rows) × holds (problem_of look (λ x. f (v x)) columns cells direction)
+
+  of_rows : (holds : Problem → Type 0) → Told holds → holds (problem_of look f columns rows direction)
+  of_rows holds told = subst holds (one_told look v f columns rows told.0 told.1 direction) told.2
+
+  -- the same of what three walks over the records told
+  pub certified_told : (sizes : List ℕ) (places : List Position) (answer : Bool)
+      → Told (λ problem. AreSizes problem sizes) → Told (λ problem. AreChosen problem places) → Told (λ problem. IsChecked problem sizes places answer)
+      → IsTrue answer ↔ IsKeptApart (problem_of look f columns rows direction).demands
+  certified_told sizes places answer are chosen checked =
+      accepted_where (problem_of look f columns rows direction) sizes places answer (of_rows (λ problem. AreSizes problem sizes) are)
+      (of_rows (λ problem. AreChosen problem places) chosen) (of_rows (λ problem. IsChecked problem sizes places answer) checked)
+
+  pub none_told : Told NoneChosen → IsTrue false ↔ IsKeptApart (problem_of look f columns rows direction).demands
+  none_told none = none_where (problem_of look f columns rows direction) (of_rows NoneChosen none)

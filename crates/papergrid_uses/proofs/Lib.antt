@@ -1,0 +1,2 @@
+pub mod CertificateLemmas
+pub mod RowLemmas

@@ -1,0 +1,83 @@
+-- What a caller that holds its rows reads of an answer: the cells told are seen through a view, and are those of the rows.
+use Rattle.std.proofs.Common.{◌≡◌, ◌∙◌, ℕ, ◌+◌, ◌||◌, inl, inr, List, [], ◌∷◌, length, map, nat_lt, refl, ap, sym, subst}
+use Rattle.std.specs.Prelude.{Err, Ok, Result, find}
+use Rattle.std.proofs.lemmas.List.{length-map}
+use Rattle.papergrid_values.specs.declared.position.Position.{Position}
+use Rattle.papergrid_values.specs.declared.direction.Direction.{Direction}
+use Rattle.papergrid_values.specs.declared.direction.Direction.TheVariants.{Columns, Rows}
+use Rattle.papergrid_axis.specs.declared.error.LayoutError.{LayoutError}
+use Rattle.papergrid_axis.specs.declared.error.LayoutError.TheVariants.{OutOfTable, TooLarge, Memory}
+use Rattle.papergrid_axis.specs.Answers.{AnswersWhere, IsRefusedWhere, NoneHolds}
+use Rattle.papergrid_axis.specs.Problem.{Problem}
+use Rattle.papergrid_axis.specs.Ranges.{place_of}
+use Rattle.papergrid_walk.specs.Cells.{asked, demands_of, problem_of, visible_cells}
+use Rattle.papergrid_walk.specs.Looks.{Look}
+use Rattle.papergrid_layout.specs.Answers.{HoldAlong, IsBothRefusedWhere, UnlessMemory, UnlessWant, first_out_of_table, reaches_out}
+use Rattle.papergrid_layout.specs.declared.iterable.IterGridDimension.{IterGridDimension}
+use Rattle.papergrid_layout.proofs.Told.{demands_told, problem_told}
+use Rattle.papergrid.specs.Layouts.{IsLaidOut}
+
+module _ {C : Type 0} (look : Look) (measure : C → ℕ × ℕ) (columns : ℕ) (cells : List (List C)) where
+  places_among : (xs : List (Position × C)) → map (λ x. x.0) xs ≡ map place_of (map (asked Columns look measure) xs)
+  places_among [] = refl
+  places_among (x ∷ xs) = ap (λ ps. x.0 ∷ ps) (places_among xs)
+
+  -- the first cell out of the table, by what the cells ask for alone
+  first_by_demands : first_out_of_table look measure columns cells ≡ find (reaches_out look measure columns cells) (map place_of (demands_of Columns look measure cells))
+  first_by_demands = ap (find (reaches_out look measure columns cells)) (places_among (visible_cells look cells))
+
+module _ {A B : Type 0} (look : Look) (v : A → B) (f : B → ℕ × ℕ) (columns : ℕ) (rows : List (List B)) where
+  module _ (cells : List (List A)) (same : map (map v) cells ≡ rows) where
+    pub as_many : length cells ≡ length rows
+    as_many = sym (length-map cells (map v)) ∙ ap length same
+
+    first_told : first_out_of_table look (λ x. f (v x)) columns cells ≡ first_out_of_table look f columns rows
+    first_told =
+        let wide = demands_told look v f cells rows same Columns in
+        first_by_demands look (λ x. f (v x)) columns cells
+        ∙ (λ i. find (λ p. nat_lt columns (p.col + look.span Columns p) || nat_lt (as_many i) (p.row + look.span Rows p)) (map place_of (wide i)))
+        ∙ sym (first_by_demands look f columns rows)
+
+    pub one_told : (direction : Direction) → problem_of look (λ x. f (v x)) columns cells direction ≡ problem_of look f columns rows direction
+    one_told direction = problem_told look v f cells rows same direction columns
+
+    -- what holds along both directions of the cells told holds of the rows
+    pub both_told : {V : Type 0} (holds : Problem → V → Type 0) (across down : V) → HoldAlong look (λ x. f (v x)) columns cells holds across down → HoldAlong look f columns rows holds across down
+    both_told holds across down both = record {
+      widths = subst (λ problem. holds problem across) (one_told Columns) both.widths;
+      heights = subst (λ problem. holds problem down) (one_told Rows) both.heights;
+    }
+
+  -- a refusal along both directions
+  pub both_refused : (too_large : Problem → Type 0) (e : LayoutError)
+      → UnlessWant e ((cells : List (List A)) × (map (map v) cells ≡ rows) × IsBothRefusedWhere look (λ x. f (v x)) columns cells too_large e) → IsBothRefusedWhere look f columns rows too_large e
+  both_refused too_large (OutOfTable place) is = sym (first_told is.0 is.1) ∙ is.2
+  both_refused too_large TooLarge is = (
+    sym (first_told is.0 is.1) ∙ is.2.0,
+    elim is.2.1 [
+      | inl wide ↦ inl (subst too_large (one_told is.0 is.1 Columns) wide)
+      | inr high ↦ inr (subst too_large (one_told is.0 is.1 Rows) high)
+    ],
+  )
+  both_refused too_large (Memory e) is = tt
+
+  -- a refusal along one direction
+  pub one_refused : (too_large : Problem → Type 0) (direction : Direction) (e : LayoutError)
+      → UnlessWant e ((cells : List (List A)) × (map (map v) cells ≡ rows) × IsRefusedWhere (problem_of look (λ x. f (v x)) columns cells direction) (too_large (problem_of look (λ x. f (v x)) columns cells direction)) e)
+      → IsRefusedWhere (problem_of look f columns rows direction) (too_large (problem_of look f columns rows direction)) e
+  one_refused too_large direction (OutOfTable place) is = subst (λ problem. IsRefusedWhere problem (too_large problem) (OutOfTable place)) (one_told is.0 is.1 direction) is.2
+  one_refused too_large direction TooLarge is = subst too_large (one_told is.0 is.1 direction) is.2
+  one_refused too_large direction (Memory e) is = tt
+
+  -- an answer along one direction
+  pub answers_told : {V : Type 0} (too_large : Problem → Type 0) (holds : Problem → V → Type 0) (direction : Direction) (result : Result V LayoutError)
+      → UnlessMemory result ((cells : List (List A)) × (map (map v) cells ≡ rows) × AnswersWhere too_large holds (problem_of look (λ x. f (v x)) columns cells direction) result)
+      → AnswersWhere too_large holds (problem_of look f columns rows direction) result
+  answers_told too_large holds direction (Ok found) is = subst (λ problem. holds problem found) (one_told is.0 is.1 direction) is.2
+  answers_told too_large holds direction (Err e) is = one_refused too_large direction e is
+
+  -- an answer with a dimension
+  pub laid_told : (result : Result IterGridDimension LayoutError)
+      → UnlessMemory result ((cells : List (List A)) × (map (map v) cells ≡ rows) × IsLaidOut look (λ x. f (v x)) columns cells result) → IsLaidOut look f columns rows result
+  laid_told (Ok dimension) is = both_told is.0 is.1 _ _ _ is.2
+  laid_told (Err e) is = both_refused NoneHolds e is

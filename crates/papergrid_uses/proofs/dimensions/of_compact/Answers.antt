@@ -1,0 +1,15 @@
+use Rattle.std.proofs.Common.{◌∙◌, ap, slice_index}
+use Rattle.std.specs.Prelude.{string_bytes}
+use Rattle.papergrid_axis.specs.Sizes.{sizes_of}
+use Rattle.papergrid_values.specs.declared.direction.Direction.TheVariants.{Columns}
+use Rattle.papergrid_walk.specs.Looks.{compact_look}
+use Rattle.papergrid_walk.specs.Measures.{std_line_measure}
+use Rattle.papergrid_uses.specs.Rows.{cells_of}
+use Rattle.papergrid_uses.proofs.RowLemmas.{one_told}
+use Rattle.papergrid_uses.proofs.dimensions.of_compact.Goals as goal
+
+pub returns : goal.returns
+returns c =
+    let told = rw c.new.ensures at c.in_ok-estimate.ensures.ok in
+    let same = one_told (compact_look c.args.config.now) (λ cell. cell.now) (std_line_measure string_bytes) 3 (cells_of c.args.rows.now) told.0 told.1 Columns in
+    c.get_width.ensures ∙ ap (λ widths. slice_index widths 0) told.2.exact ∙ ap (λ problem. slice_index (sizes_of problem) 0) same

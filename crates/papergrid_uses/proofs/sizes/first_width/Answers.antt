@@ -1,0 +1,12 @@
+use Rattle.std.proofs.Common.{◌∙◌, ap, slice_index}
+use Rattle.papergrid_axis.specs.Answers.{AreSizes}
+use Rattle.papergrid_walk.specs.Looks.{spanned_look}
+use Rattle.papergrid_uses.specs.Rows.{cells_of, text_measure}
+use Rattle.papergrid_uses.proofs.RowLemmas.{both_told}
+use Rattle.papergrid_uses.proofs.sizes.first_width.Goals as goal
+
+pub returns : goal.returns
+returns c =
+    let told = rw c.new.ensures at c.in_ok-estimate.ensures.ok in
+    let both = both_told (spanned_look c.args.config.now) (λ cell. cell.now) text_measure 3 (cells_of c.args.rows.now) told.0 told.1 AreSizes _ _ told.2 in
+    c.get_width.ensures ∙ ap (λ widths. slice_index widths 0) both.widths.exact

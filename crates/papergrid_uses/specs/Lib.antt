@@ -1,0 +1,3 @@
+-- The definitions that the contracts cite.
+pub mod Rows
+pub mod Scripts

@@ -1,0 +1,103 @@
+//! What errors say, as the guide has it.
+
+use crate::errors::first_place;
+use papergrid::RunFault;
+use papergrid::config::Position;
+use papergrid::config::spanned::{Setting, Stopped};
+use papergrid::dimension::{LayoutError, PlaceError};
+use std::alloc::{AllocError, Global};
+use std::fmt::Display;
+
+/// Whether an error has these words.
+fn says<E: Display + Drop>(alloc: Global, error: E, words: &str) -> bool {
+    match format!(in alloc; "{error}") {
+        Ok(text) => text.as_str() == words,
+        Err(_) => false,
+    }
+}
+
+#[test]
+fn of_sizes(rt: HostRuntime) {
+    let alloc = rt.alloc();
+    let out = LayoutError::OutOfTable(Position::new(1, 0));
+    assert!(rt;
+        says(
+            alloc,
+            out,
+            "the cell at row 1, column 0 reaches out of the table"
+        )
+    );
+    assert!(rt;
+        says(
+            alloc,
+            LayoutError::TooLarge,
+            "the table is too large for 64 bits"
+        )
+    );
+    assert!(rt; says(alloc, LayoutError::Memory(AllocError), "out of memory"));
+}
+
+#[test]
+fn of_places(rt: HostRuntime) {
+    let alloc = rt.alloc();
+    assert!(rt;
+        says(
+            alloc,
+            PlaceError::Hidden,
+            "the cell is hidden by the span of another one"
+        )
+    );
+    assert!(rt;
+        says(
+            alloc,
+            PlaceError::OutOfTable,
+            "the cell reaches out of the table"
+        )
+    );
+    assert!(rt;
+        says(
+            alloc,
+            PlaceError::TooLarge,
+            "the table is too large for 64 bits"
+        )
+    );
+}
+
+#[test]
+fn of_lists_and_runs(rt: HostRuntime) {
+    let alloc = rt.alloc();
+    assert!(rt;
+        says(
+            alloc,
+            Stopped { done: 2 },
+            "out of memory after 2 of the calls"
+        )
+    );
+    assert!(rt; says(alloc, RunFault::Memory, "out of memory"));
+    assert!(rt; says(alloc, RunFault::Read, "the input can't be read"));
+    assert!(rt; says(alloc, RunFault::Write, "the output can't be written"));
+}
+
+/// What is said of a row of two texts where the cell at a position spans so many columns.
+fn says_of_span(alloc: Global, position: Position, span: usize, words: &str) -> bool {
+    let Ok(settings) = vec![in alloc; Setting::SetColumnSpan(position, span)] else {
+        return false;
+    };
+    let Ok(row) = vec![in alloc; "one", "two"] else {
+        return false;
+    };
+    match first_place(alloc, settings, &[row]) {
+        Ok(_) => false,
+        Err(error) => match format!(in alloc; "{error:#}") {
+            Ok(text) => text.as_str() == words,
+            Err(_) => false,
+        },
+    }
+}
+
+#[test]
+fn with_context(rt: HostRuntime) {
+    let second = Position::new(0, 1);
+    let words = "no sizes: the cell at row 0, column 1 reaches out of the table";
+    assert!(rt; says_of_span(rt.alloc(), second, 3, words));
+}

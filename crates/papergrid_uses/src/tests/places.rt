@@ -1,0 +1,88 @@
+//! Places in a table whose sizes are all alike.
+
+use crate::places::{all_places, clicked, place_of};
+use crate::refusals::{is_hidden, out_of_table};
+use crate::settings::one_by_one;
+use papergrid::config::Position;
+use papergrid::config::spanned::SpannedConfig;
+use papergrid::dimension::{Dimension, Place};
+use std::alloc::Global;
+
+/// Each column is three columns of a terminal wide, and each row one line high.
+struct Even;
+
+impl Dimension for Even {
+    ghost use Rattle.std.specs.Prelude.{⊤};
+
+    ghost has_column = { λ _ _. ⊤ };
+
+    ghost has_row = { λ _ _. ⊤ };
+
+    ghost width_of = { λ _ _. 3 };
+
+    ghost height_of = { λ _ _. 1 };
+
+    fn get_width(&self, _column: usize) -> usize {
+        3
+    }
+
+    fn get_height(&self, _row: usize) -> usize {
+        1
+    }
+}
+
+/// Columns of a terminal in lines, and the cells there: the first one spans two columns.
+const POINTS: [((usize, usize), Option<Position>); 8] = [
+    ((1, 1), Some(Position { row: 0, col: 0 })),
+    ((4, 1), Some(Position { row: 0, col: 0 })),
+    ((7, 1), Some(Position { row: 0, col: 0 })),
+    ((8, 1), None),
+    ((9, 1), Some(Position { row: 0, col: 2 })),
+    ((4, 3), None),
+    ((5, 3), Some(Position { row: 1, col: 1 })),
+    ((13, 3), None),
+];
+
+fn are_clicked(config: &SpannedConfig) -> bool {
+    let shape = (2, 3);
+    POINTS.iter().all(|(point, cell)| clicked(&Even, config, shape, point.0, point.1) == *cell)
+}
+
+/// The first cell goes over two columns and the line between them, and hides the second one.
+fn are_placed(config: &SpannedConfig) -> bool {
+    let first = Place {
+        left: 1,
+        top: 1,
+        width: 7,
+        height: 1,
+    };
+    place_of(&Even, config, (2, 3), Position::new(0, 0)) == Ok(first)
+        && is_hidden(place_of(&Even, config, (2, 3), Position::new(0, 1)))
+}
+
+/// Five cells of six are visible; in a table of one column the first one reaches out.
+fn are_all_placed(alloc: Global, config: &SpannedConfig) -> bool {
+    let all = match all_places(alloc, &Even, config, (2, 3)) {
+        Ok(list) => list.len(),
+        Err(_) => 0,
+    };
+    let refused = match all_places(alloc, &Even, config, (2, 1)) {
+        Ok(_) => None,
+        Err(error) => out_of_table(error),
+    };
+    all == 5 && refused == Some(Position::new(0, 0))
+}
+
+fn are_as_told(alloc: Global) -> bool {
+    let Ok(config) = one_by_one(alloc) else {
+        return false;
+    };
+    let are = are_clicked(&config) && are_placed(&config) && are_all_placed(alloc, &config);
+    drop(config);
+    are
+}
+
+#[test]
+fn even_columns(rt: HostRuntime) {
+    assert!(rt; are_as_told(rt.alloc()));
+}

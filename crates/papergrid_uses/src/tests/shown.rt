@@ -1,0 +1,158 @@
+//! The other callers, each by a table or a text that was worked out by hand.
+
+use crate::colored::{bold_head, paint};
+use crate::compact::tight;
+use crate::dimensions::{of_compact, of_crossing, of_measured};
+use crate::entities::marks;
+use crate::picture::second_cell;
+use papergrid::ansi::ANSIBuf;
+use papergrid::colors::Colors;
+use papergrid::config::Position;
+use papergrid::config::spanned::SpannedConfig;
+use papergrid::dimension::Place;
+use papergrid::records::vec_records::{Text, VecRecords};
+use std::alloc::{AllocError, Global};
+
+/// The texts of the README's picture.
+fn texts(alloc: Global) -> Result<Vec<Vec<&'static str>>, AllocError> {
+    Ok(vec![in alloc;
+        vec![in alloc; "Papergrid", "is a library", "for print tables", "!"]?,
+        vec![in alloc; "", "Just like this", "", ""]?,
+    ]?)
+}
+
+/// 51 columns, and in the fourth line from the 20th column on two columns of the table and the line between them.
+fn is_drawn_so(alloc: Global) -> bool {
+    let Ok(rows) = texts(alloc) else {
+        return false;
+    };
+    let place = Place {
+        left: 19,
+        top: 3,
+        width: 31,
+        height: 1,
+    };
+    match second_cell(alloc, &rows) {
+        Ok(found) => found == (51, place),
+        Err(_) => false,
+    }
+}
+
+#[test]
+fn picture(rt: HostRuntime) {
+    assert!(rt; is_drawn_so(rt.alloc()));
+}
+
+/// The head is bold, and other rows are plain.
+fn has_bold_head(alloc: Global) -> bool {
+    let Ok(colors) = bold_head(alloc) else {
+        return false;
+    };
+    let is_bold = match colors.get_color(Position::new(0, 5)) {
+        Some(color) => color.get_prefix() == "\u{1b}[1m" && color.get_suffix() == "\u{1b}[0m",
+        None => false,
+    };
+    is_bold && colors.get_color(Position::new(1, 0)).is_none()
+}
+
+fn is_painted(alloc: Global) -> bool {
+    let Ok(red) = ANSIBuf::new(alloc, "<", ">") else {
+        return false;
+    };
+    let Ok(mut out) = String::from_str(alloc, "say ") else {
+        return false;
+    };
+    paint(&mut out, &red, "hi").is_ok() && out.as_str() == "say <hi>"
+}
+
+#[test]
+fn colors(rt: HostRuntime) {
+    assert!(rt; has_bold_head(rt.alloc()));
+    assert!(rt; is_painted(rt.alloc()));
+}
+
+/// A mark in the second column, and a blank elsewhere.
+fn are_marked(alloc: Global) -> bool {
+    match marks(alloc) {
+        Ok(marks) => {
+            *marks.get(Position::new(7, 1)) == 'x' && *marks.get(Position::new(7, 0)) == ' '
+        }
+        Err(_) => false,
+    }
+}
+
+#[test]
+fn entities(rt: HostRuntime) {
+    assert!(rt; are_marked(rt.alloc()));
+}
+
+/// Texts without padding are as wide as the widest of a column.
+fn is_tight(alloc: Global) -> bool {
+    let Ok(text) = String::from_str(alloc, "four") else {
+        return false;
+    };
+    match vec![in alloc; text] {
+        Ok(row) => of_compact(alloc, &[row], &tight()) == Ok(4),
+        Err(_) => false,
+    }
+}
+
+#[test]
+fn compact(rt: HostRuntime) {
+    assert!(rt; is_tight(rt.alloc()));
+}
+
+/// Two texts of ten columns each, over the first two columns and over the last two.
+fn crossing(alloc: Global) -> Result<Vec<Vec<&'static str>>, AllocError> {
+    Ok(vec![in alloc;
+        vec![in alloc; "0123456789"]?,
+        vec![in alloc; "", "0123456789"]?,
+    ]?)
+}
+
+fn has_least_sizes(alloc: Global) -> bool {
+    let Ok(rows) = crossing(alloc) else {
+        return false;
+    };
+    let mut config = SpannedConfig::new(alloc);
+    let first = config.set_column_span(Position::new(0, 0), 2).is_ok();
+    let second = config.set_column_span(Position::new(1, 1), 2).is_ok();
+    let found = of_crossing(alloc, &rows, &config);
+    drop(config);
+    let is_least = match found {
+        Ok((widths, _heights)) => widths.as_slice() == [0, 10, 0].as_slice(),
+        Err(_) => false,
+    };
+    first && second && is_least
+}
+
+#[test]
+fn least(rt: HostRuntime) {
+    assert!(rt; has_least_sizes(rt.alloc()));
+}
+
+/// One text of two lines.
+fn measured(alloc: Global) -> Result<VecRecords<Text<&'static str>>, AllocError> {
+    let text = Text::new(alloc, "two\nlines")?;
+    Ok(VecRecords::new(vec![in alloc; vec![in alloc; text]?]?))
+}
+
+fn has_sizes_of_measured(alloc: Global) -> bool {
+    let Ok(records) = measured(alloc) else {
+        return false;
+    };
+    let config = SpannedConfig::new(alloc);
+    let found = of_measured(alloc, &records, &config);
+    drop(config);
+    match found {
+        Ok((widths, heights)) => {
+            widths.as_slice() == [5].as_slice() && heights.as_slice() == [2].as_slice()
+        }
+        Err(_) => false,
+    }
+}
+
+#[test]
+fn measured_once(rt: HostRuntime) {
+    assert!(rt; has_sizes_of_measured(rt.alloc()));
+}
