@@ -137,13 +137,13 @@ fn set_vertical_char_color(rt: HostRuntime) -> Result<(), Fail> {
 #[test]
 fn set_column_span(rt: HostRuntime) -> Result<(), Fail> {
     let (mut config, before) = twins(rt.alloc())?;
-    let answer = config.set_column_span(at(9, 9), 2);
+    let answer = config.set_column_span(at(15, 15), 2);
     keeps(&rt, config, before, answer)
 }
 
 #[test]
 fn set_row_span(rt: HostRuntime) -> Result<(), Fail> {
     let (mut config, before) = twins(rt.alloc())?;
-    let answer = config.set_row_span(at(9, 9), 3);
+    let answer = config.set_row_span(at(15, 15), 3);
     keeps(&rt, config, before, answer)
 }

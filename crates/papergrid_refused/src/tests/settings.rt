@@ -36,10 +36,15 @@ fn of_entity(alloc: Global, entity: Entity, settings: &mut Vec<Setting>) -> Resu
     Ok(())
 }
 
-/// Each line and span.
+/// Each line.
 fn of_lines(i: usize, settings: &mut Vec<Setting>) -> Result<(), AllocError> {
     settings.push(Setting::InsertHorizontalLine(i, HorizontalLine::filled('h')))?;
     settings.push(Setting::InsertVerticalLine(i, VerticalLine::filled('v')))?;
+    Ok(())
+}
+
+/// Each span.
+fn of_spans(i: usize, settings: &mut Vec<Setting>) -> Result<(), AllocError> {
     settings.push(Setting::SetColumnSpan(at(i, i), 2))?;
     settings.push(Setting::SetRowSpan(at(i, i), 3))?;
     Ok(())
@@ -86,6 +91,9 @@ pub fn held(alloc: Global) -> Result<Vec<Setting>, AllocError> {
     for i in 0..9 {
         of_lines(i, &mut settings)?;
     }
+    for i in 0..15 {
+        of_spans(i, &mut settings)?;
+    }
     for i in [0, 2, 4, 6] {
         of_borders(alloc, i, &mut settings)?;
     }
@@ -98,6 +106,7 @@ pub fn each(alloc: Global) -> Result<Vec<Setting>, AllocError> {
     of_entity(alloc, Entity::Column(2), &mut settings)?;
     of_offsets(alloc, 9, &mut settings)?;
     of_lines(9, &mut settings)?;
+    of_spans(15, &mut settings)?;
     of_borders(alloc, 9, &mut settings)?;
     of_table(alloc, 2, &mut settings)?;
     Ok(settings)
@@ -106,8 +115,10 @@ pub fn each(alloc: Global) -> Result<Vec<Setting>, AllocError> {
 /// Two lines and two spans of each direction.
 pub fn two_of_each(alloc: Global) -> Result<Vec<Setting>, AllocError> {
     let mut settings = Vec::new(alloc);
-    of_lines(0, &mut settings)?;
-    of_lines(4, &mut settings)?;
+    for i in [0, 4] {
+        of_lines(i, &mut settings)?;
+        of_spans(i, &mut settings)?;
+    }
     Ok(settings)
 }
 
