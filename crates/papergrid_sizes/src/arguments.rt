@@ -1,5 +1,6 @@
 //! What the program is asked for.
 
+use papergrid::Sizing;
 use std::env::Args;
 
 /// What the arguments ask for.
@@ -19,12 +20,23 @@ pub enum Request {
 #[derive(Debug, Drop, PartialEq, Eq)]
 pub struct Unknown(pub String);
 
-/// What the words after the program's name ask for: nothing, or one word alone.
-pub fn asked_for(mut words: Args) -> Result<Request, Unknown> {
-    match (words.next(), words.next()) {
-        (None, _) => Ok(Request::OfInput),
-        (Some(word), None) => asked_by(word),
-        (Some(_), Some(other)) => Err(Unknown(other)),
+/// What the words after the program's name ask for, and how sizes are chosen: by `--least`, and by one other word
+/// at most.
+pub fn asked_for(words: Args) -> Result<(Request, Sizing), Unknown> {
+    let mut sizing = Sizing::ByShares;
+    let mut alone = None;
+    for word in words {
+        if word.as_str() == "--least" && sizing == Sizing::ByShares {
+            sizing = Sizing::Least;
+        } else if alone.is_none() {
+            alone = Some(word);
+        } else {
+            return Err(Unknown(word));
+        }
+    }
+    match alone {
+        None => Ok((Request::OfInput, sizing)),
+        Some(word) => Ok((asked_by(word)?, sizing)),
     }
 }
 

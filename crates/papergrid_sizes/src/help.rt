@@ -5,10 +5,12 @@ use std::alloc::{AllocError, Global};
 
 const TAKEN: &str = "\
 papergrid_sizes [FILE]
+papergrid_sizes --least [FILE]
 papergrid_sizes --help | --version
 
 Reads a script that tells a table, from FILE or from standard input, and writes the width
-of each column, in columns of a terminal, and the height of each row, in lines.
+of each column, in columns of a terminal, and the height of each row, in lines. With --least
+no smaller total has room for every cell, whatever spans cross.
 
 A script has lines of these forms, and empty lines. Rows and columns are counted from 0.
 
@@ -21,7 +23,7 @@ What comes out, where the total counts the lines of the table too:
   heights ..               the height of each row
   total WIDTH HEIGHT       the size of the table
   witness widths R,C ..    cells which show that no smaller total has room for every cell,
-  witness heights R,C ..   or none
+  witness heights R,C ..   or none, but never with --least
 
 or one of these, with more on standard error where a FILE was read:
 

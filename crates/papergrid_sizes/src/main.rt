@@ -9,7 +9,7 @@ mod message;
 use arguments::{Request, Unknown, asked_for};
 use help::help_text;
 use message::message_of;
-use papergrid::{ReadSource, RunEnd, RunFault, WriteSink, run};
+use papergrid::{ReadSource, RunEnd, RunFault, Sizing, WriteSink, run, run_least};
 use std::fs::File;
 use std::io::{ErrorKind, Read, Write};
 use std::process::ExitCode;
@@ -25,23 +25,33 @@ fn main(rt: HostRuntime) -> ExitCode {
     // The first word is the program's name.
     let _ = words.next();
     match asked_for(words) {
-        Ok(Request::OfInput) => status(&rt, sizes(&rt, rt.stdin())),
-        Ok(Request::OfFile(path)) => sizes_of_file(&rt, path.as_str()),
-        Ok(Request::Help) => match help_text(rt.alloc()) {
-            Ok(text) => told(&rt, text.as_str()),
-            Err(_) => fault(&rt, RunFault::Memory),
-        },
-        Ok(Request::Version) => told(&rt, "papergrid_sizes 0.18.0\n"),
+        Ok((request, sizing)) => answered(&rt, request, sizing),
         Err(Unknown(word)) => unknown(&rt, word.as_str()),
     }
 }
 
+/// Does what is asked for.
+fn answered(rt: &HostRuntime, request: Request, sizing: Sizing) -> ExitCode {
+    match request {
+        Request::OfInput => status(rt, sizes(rt, sizing, rt.stdin())),
+        Request::OfFile(path) => sizes_of_file(rt, sizing, path.as_str()),
+        Request::Help => match help_text(rt.alloc()) {
+            Ok(text) => told(rt, text.as_str()),
+            Err(_) => fault(rt, RunFault::Memory),
+        },
+        Request::Version => told(rt, "papergrid_sizes 0.18.0\n"),
+    }
+}
+
 /// Writes the sizes of the script that is read, and tells how that ended.
-fn sizes<R: Read + Drop>(rt: &HostRuntime, reader: R) -> Result<RunEnd, RunFault> {
+fn sizes<R: Read + Drop>(rt: &HostRuntime, sizing: Sizing, reader: R) -> Result<RunEnd, RunFault> {
     let mut source = ReadSource::new(reader);
     let mut stdout = rt.stdout();
     let mut writer = WriteSink::new(&mut stdout);
-    let end = run(rt.alloc(), &mut source, &mut writer)?;
+    let end = match sizing {
+        Sizing::ByShares => run(rt.alloc(), &mut source, &mut writer)?,
+        Sizing::Least => run_least(rt.alloc(), &mut source, &mut writer)?,
+    };
     match stdout.flush() {
         Ok(()) => Ok(end),
         Err(_) => Err(RunFault::Write),
@@ -59,10 +69,10 @@ fn status(rt: &HostRuntime, end: Result<RunEnd, RunFault>) -> ExitCode {
 }
 
 /// Writes the sizes of the script in a file, or says what keeps it from having any.
-fn sizes_of_file(rt: &HostRuntime, path: &str) -> ExitCode {
+fn sizes_of_file(rt: &HostRuntime, sizing: Sizing, path: &str) -> ExitCode {
     match File::open(rt, path) {
         Ok(file) => {
-            let end = sizes(rt, file);
+            let end = sizes(rt, sizing, file);
             if end == Ok(RunEnd::Refused) || end == Ok(RunEnd::BadScript) {
                 say_why(rt, path);
             }
@@ -113,7 +123,7 @@ fn unopened(rt: &impl Eprint, path: &str, error: &io::Error) -> ExitCode {
 /// Names the argument that isn't taken.
 fn unknown(rt: &impl Eprint, word: &str) -> ExitCode {
     let _ = eprintln!(rt;
-        "unknown argument {word:?}; papergrid_sizes takes one FILE, --help or --version"
+        "unknown argument {word:?}; papergrid_sizes takes one FILE, --least, --help or --version"
     );
     ExitCode::from(2)
 }
@@ -122,7 +132,7 @@ fn unknown(rt: &impl Eprint, word: &str) -> ExitCode {
 fn unread_words(rt: &impl Eprint, error: &io::Error) -> ExitCode {
     if error.kind() == ErrorKind::InvalidData {
         let _ = eprintln!(rt;
-            "an argument is not UTF-8; papergrid_sizes takes one FILE, --help or --version"
+            "an argument is not UTF-8; papergrid_sizes takes one FILE, --least, --help or --version"
         );
         return ExitCode::from(2);
     }
