@@ -41,7 +41,7 @@ pub fn asked_for(words: Args) -> Result<(Request, Sizing), Unknown> {
 }
 
 /// What one word asks for. A file's name doesn't begin with `-`.
-fn asked_by(word: String) -> Result<Request, Unknown> {
+pub fn asked_by(word: String) -> Result<Request, Unknown> {
     match word.as_str() {
         "--help" | "-h" => Ok(Request::Help),
         "--version" | "-V" => Ok(Request::Version),

@@ -5,6 +5,8 @@ mod arguments;
 mod forms;
 mod help;
 mod message;
+#[cfg(test)]
+mod tests;
 
 use arguments::{Request, Unknown, asked_for};
 use help::help_text;
