@@ -5,7 +5,6 @@ mod certificates;
 mod least;
 mod places;
 mod points;
-mod refused;
 mod visible;
 
 ghost use Rattle.std.specs.Prelude.{◌≡◌, ℕ, IfOk, List, OnOk, length};
@@ -560,14 +559,16 @@ fn refused_estimate_keeps(rt: HostRuntime) {
     assert!(rt; keeps_sizes(alloc, HIGH_SPAN));
 }
 
-fn one_row(alloc: Global) -> Result<Vec<Vec<&'static str>>, AllocError> {
+fn one_column(alloc: Global, texts: &[&'static str]) -> Result<Vec<Vec<&'static str>>, AllocError> {
     let mut rows = Vec::new(alloc);
-    rows.push(row_of(alloc, &["a"])?)?;
+    for text in texts {
+        rows.push(row_of(alloc, &[*text])?)?;
+    }
     Ok(rows)
 }
 
 fn ignores_hint(alloc: Global, config: &SpannedConfig) -> Result<bool, LayoutError> {
-    let records = IterRecords::new(one_row(alloc)?, 1, Some(MAX));
+    let records = IterRecords::new(one_column(alloc, &["a"])?, 1, Some(MAX));
     let mut dimension = IterGridDimension::new(alloc);
     dimension.estimate(records, config)?;
     Ok(are(&dimension.get_values(), &[1], &[1]))
@@ -579,6 +580,45 @@ fn false_hint_of_rows(rt: HostRuntime) {
     let is_ignored = ignores_hint(rt.alloc(), &config);
     drop(config);
     assert_eq!(rt; is_ignored, Ok(true));
+}
+
+/// Records of one column that are said to have this number of rows and of columns.
+fn counted(
+    alloc: Global,
+    texts: &[&'static str],
+    rows: usize,
+    columns: usize,
+) -> Result<VecRecords<&'static str>, AllocError> {
+    Ok(VecRecords::with_size(one_column(alloc, texts)?, rows, columns))
+}
+
+fn ignores_row_count(alloc: Global, config: &SpannedConfig) -> Result<bool, LayoutError> {
+    let mut dimension = IterGridDimension::new(alloc);
+    dimension.estimate(counted(alloc, &["a", "b"], 0, 1)?, config)?;
+    Ok(are(&dimension.get_values(), &[1], &[1, 1]))
+}
+
+/// Whether widths of the greatest number of columns are out of memory, and heights are not.
+fn is_too_much(alloc: Global, config: &SpannedConfig) -> Result<bool, LayoutError> {
+    let widths = IterGridDimension::width(alloc, counted(alloc, &["a"], 1, MAX)?, config);
+    let heights = IterGridDimension::height(alloc, counted(alloc, &["a"], 1, MAX)?, config)?;
+    let mut dimension = IterGridDimension::new(alloc);
+    let both = dimension.estimate(counted(alloc, &["a"], 1, MAX)?, config);
+    Ok(
+        matches!(&widths, Err(LayoutError::Memory(_)))
+            && matches!(&both, Err(LayoutError::Memory(_)))
+            && heights.as_slice() == [1].as_slice(),
+    )
+}
+
+#[test]
+fn false_held_counts(rt: HostRuntime) {
+    let config = SpannedConfig::new(rt.alloc());
+    let is_ignored = ignores_row_count(rt.alloc(), &config);
+    let is_refused = is_too_much(rt.alloc(), &config);
+    drop(config);
+    assert_eq!(rt; is_ignored, Ok(true));
+    assert_eq!(rt; is_refused, Ok(true));
 }
 
 /// Whether a cell has this width, and these heights: by the lines that a plain text has of its own, as
