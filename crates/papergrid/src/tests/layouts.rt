@@ -54,16 +54,3 @@ fn has_picture_sizes(alloc: Global) -> Result<bool, LayoutError> {
 fn readme_picture(rt: HostRuntime) {
     assert_eq!(rt; has_picture_sizes(rt.alloc()), Ok(true));
 }
-
-fn is_memory(error: LayoutError) -> bool {
-    matches!(error, LayoutError::Memory(_))
-}
-
-// Whichever request for memory is refused.
-#[test]
-fn refused_layout(rt: HostRuntime) {
-    match has_picture_sizes(rt.alloc()) {
-        Ok(has_sizes) => assert!(rt; has_sizes),
-        Err(error) => assert!(rt; is_memory(error)),
-    }
-}
