@@ -1,15 +1,14 @@
-//! Worked examples, each call run once, and refused memory.
+//! Worked examples, each call run once.
 
 mod colors;
 mod compact;
 
 ghost use Rattle.std.specs.Prelude.{◌≡◌, ◌<◌};
 
-use crate::{EntityMap, MapCall, SpanTable, Stopped, laws};
+use crate::{EntityMap, MapCall, SpanTable, laws};
 use papergrid_values::Direction::{self, Columns, Rows};
 use papergrid_values::{Entity, Position};
 use std::alloc::{AllocError, Global};
-use std::process::Abort;
 use std::test::Fail;
 
 fn at(row: usize, col: usize) -> Position
@@ -89,20 +88,6 @@ fn held_values(rt: HostRuntime) -> Result<(), Fail> {
     Ok(())
 }
 
-// Each of its requests for memory may be refused: then the map is as it was.
-fn inserts_or_keeps(
-    rt: &impl Abort,
-    map: &mut EntityMap<char>,
-    copy: &EntityMap<char>,
-    entity: Entity,
-    place: Position,
-) {
-    match map.insert(entity, 'n') {
-        Ok(()) => assert_eq!(rt; *map.get(place), 'n'),
-        Err(_) => assert!(rt; *map == *copy),
-    }
-}
-
 fn grown(alloc: Global) -> Result<EntityMap<char>, AllocError> {
     let mut map = EntityMap::new(alloc, 'g');
     for i in 0..14 {
@@ -110,42 +95,6 @@ fn grown(alloc: Global) -> Result<EntityMap<char>, AllocError> {
         map.insert(Entity::Row(i), 'r')?;
     }
     Ok(map)
-}
-
-#[test]
-fn refused_insert(rt: HostRuntime) {
-    for entity in [Entity::Column(20), Entity::Row(20), Entity::Cell(20, 20)] {
-        let (Ok(mut map), Ok(copy)) = (grown(rt.alloc()), grown(rt.alloc())) else {
-            return;
-        };
-        let place = match entity {
-            Entity::Column(col) => at(5, col),
-            Entity::Row(row) => at(row, 5),
-            _ => at(20, 20),
-        };
-        inserts_or_keeps(&rt, &mut map, &copy, entity, place);
-        assert!(rt; map.insert(Entity::Global, 'z').is_ok());
-        assert!(rt; map.is_empty());
-    }
-}
-
-#[test]
-fn refused_calls(rt: HostRuntime) {
-    let mut map = EntityMap::new(rt.alloc(), 'g');
-    let Ok(calls) = vec![in rt.alloc();
-        MapCall::Insert(Entity::Row(1), 'r'),
-        MapCall::Insert(Entity::Column(1), 'c'),
-        MapCall::Insert(Entity::Cell(2, 2), 'x'),
-    ] else {
-        return;
-    };
-    let done = match map.apply_all(calls) {
-        Ok(()) => 3,
-        Err(Stopped { done }) => done,
-    };
-    assert_eq!(rt; *map.get(at(1, 0)), if done > 0 { 'r' } else { 'g' });
-    assert_eq!(rt; *map.get(at(0, 1)), if done > 1 { 'c' } else { 'g' });
-    assert_eq!(rt; *map.get(at(2, 2)), if done > 2 { 'x' } else { 'g' });
 }
 
 // Neither takes memory, so neither is refused, whatever stood before.
@@ -318,43 +267,4 @@ fn row_span_dropped(rt: HostRuntime) -> Result<(), Fail> {
     assert!(rt; spans.is_visible(at(1, 1)) && spans.is_visible(at(1, 0)));
     assert!(rt; !spans.is_visible(at(0, 1)));
     Ok(())
-}
-
-fn anchors(alloc: Global) -> Result<SpanTable, AllocError> {
-    let mut spans = SpanTable::new(alloc);
-    for i in 0..14 {
-        spans.set_column(at(i, i), 2)?;
-        spans.set_row(at(i, i), 3)?;
-    }
-    Ok(spans)
-}
-
-#[test]
-fn refused_spans(rt: HostRuntime) {
-    let (Ok(mut spans), Ok(copy)) = (anchors(rt.alloc()), anchors(rt.alloc())) else {
-        return;
-    };
-    let held = spans.set_column(at(20, 20), 2);
-    assert_eq!(rt; spans == copy, held.is_err());
-    assert!(rt; spans.set_column(at(20, 20), 1).is_ok());
-    assert!(rt; spans == copy);
-    if let Ok(all) = spans.columns() {
-        assert_eq!(rt; all.len(), 14);
-    }
-}
-
-// A span beside one of the other direction grows two maps: where the second is refused, the table is
-// as it was.
-#[test]
-fn refused_second_span(rt: HostRuntime) {
-    for (held, other) in [(Columns, Rows), (Rows, Columns)] {
-        let one = [(held, at(0, 0), 2)];
-        let (Ok(mut spans), Ok(copy)) = (spans_of(rt.alloc(), &one), spans_of(rt.alloc(), &one))
-        else {
-            return;
-        };
-        let second = set_span(&mut spans, other, at(0, 0), 2);
-        assert_eq!(rt; spans == copy, second.is_err());
-        assert_eq!(rt; spans.is_visible(at(1, 1)), second.is_err());
-    }
 }

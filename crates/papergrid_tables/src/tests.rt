@@ -1,4 +1,4 @@
-//! Worked examples, each call run once, and refused memory.
+//! Worked examples, each call run once.
 
 ghost use Rattle.std.specs.Prelude.{◌≡◌, ◌+◌, ◌<◌, ◌^◌};
 
@@ -174,50 +174,6 @@ fn frames_and_lines(rt: HostRuntime) -> Result<(), Fail> {
 }
 
 #[test]
-fn refused_borders(rt: HostRuntime) {
-    let (Ok(mut table), Ok(copy)) = (neighbours(rt.alloc()), neighbours(rt.alloc())) else {
-        return;
-    };
-    for i in 3..9 {
-        let Ok(before) = table.clone() else {
-            return;
-        };
-        match table.insert_border(at(i, i), Border::filled('n')) {
-            Ok(()) => assert_eq!(rt; round(&table, at(i, i), (9, 9)), Border::filled('n')),
-            Err(_) => assert!(rt; table == before),
-        }
-    }
-    for i in 3..9 {
-        table.remove_border(at(i, i), (9, 9));
-    }
-    assert!(rt; table == copy);
-    match table.insert_horizontal_line(3, HorizontalLine::filled('h')) {
-        Ok(()) => assert_eq!(rt; table.get_horizontal(at(3, 8), 9), Some(&'h')),
-        Err(_) => assert!(rt; table == copy),
-    }
-    table.remove_horizontal_line(3, 9);
-    match table.insert_vertical_line(3, VerticalLine::filled('v')) {
-        Ok(()) => assert_eq!(rt; table.get_vertical(at(8, 3), 9), Some(&'v')),
-        Err(_) => assert!(rt; table == copy),
-    }
-}
-
-// The first border needs room for its parts and for each count of them.
-#[test]
-fn refused_growth(rt: HostRuntime) {
-    let mut table = BorderTable::new(rt.alloc());
-    if table.insert_border(at(0, 0), Border::filled('x')).is_err() {
-        assert!(rt; table.is_empty() && sets_first_lines(&table, 10, 0));
-        if table.insert_border(at(0, 0), Border::filled('x')).is_err() {
-            return;
-        }
-    }
-    assert!(rt; sets_first_lines(&table, 10, 2));
-    table.remove_border(at(0, 0), (1, 1));
-    assert!(rt; table.is_empty() && sets_first_lines(&table, 10, 0));
-}
-
-#[test]
 fn offsets_from_both_ends(rt: HostRuntime) -> Result<(), Fail> {
     let mut table = OffsetTable::new(rt.alloc());
     assert!(rt; table.is_empty());
@@ -236,28 +192,6 @@ fn offsets_from_both_ends(rt: HostRuntime) -> Result<(), Fail> {
     table.clear();
     assert!(rt; table == OffsetTable::new(rt.alloc()));
     Ok(())
-}
-
-fn overrides(alloc: Global) -> Result<OffsetTable<char>, AllocError> {
-    let mut table = OffsetTable::new(alloc);
-    for i in 0..14 {
-        table.set(at(0, 0), Offset::Start(i), 's')?;
-        table.set(at(0, i), Offset::End(i), 'e')?;
-    }
-    Ok(table)
-}
-
-#[test]
-fn refused_overrides(rt: HostRuntime) {
-    for (place, offset) in [(at(0, 0), Offset::Start(20)), (at(5, 5), Offset::Start(20))] {
-        let (Ok(mut table), Ok(copy)) = (overrides(rt.alloc()), overrides(rt.alloc())) else {
-            return;
-        };
-        match table.set(place, offset, 'n') {
-            Ok(()) => assert_eq!(rt; table.lookup(place, 20, 0), Some(&'n')),
-            Err(_) => assert!(rt; table == copy),
-        }
-    }
 }
 
 // Each law at a type of values.

@@ -195,66 +195,13 @@ fn new_equals_exact(rt: HostRuntime) -> Result<(), Fail> {
     Ok(())
 }
 
-// Whether the text is `a\nbc\nd` with its three lines, or there was no memory for it.
-fn is_refused_or_whole(made: Result<Text<String>, AllocError>) -> bool {
-    match made {
-        Ok(text) => {
-            text.text() == "a\nbc\nd"
-                && text.width() == 2
-                && text.count_lines() == 3
-                && text.line(2) == "d"
-        }
-        Err(_) => true,
-    }
-}
-
-fn of_three_lines(alloc: Global) -> Result<Text<String>, AllocError> {
-    Text::new(alloc, String::from_str(alloc, "a\nbc\nd")?)
-}
-
-fn cloned(alloc: Global) -> Result<Text<String>, AllocError> {
-    let text = of_three_lines(alloc)?;
-    let given = Text::exact(String::from_str(alloc, "a\nbc\nd")?, 2, given_lines(alloc)?);
-    let copy = given.clone()?;
-    if copy != given {
-        return Ok(copy);
-    }
-    text.clone()
-}
-
-fn cloned_rows(alloc: Global) -> Result<bool, AllocError> {
-    let records = VecRecords::new(owned_rows(alloc)?);
-    Ok(records.clone()? == records)
-}
-
 #[test]
-fn refused_memory(rt: HostRuntime) {
-    let alloc = rt.alloc();
-    match cloned_rows(alloc) {
-        Ok(same) => {
-            assert!(rt; same);
-        }
-        Err(_) => {}
-    }
-    assert!(rt; is_refused_or_whole(of_three_lines(alloc)));
-    assert!(rt; is_refused_or_whole(cloned(alloc)));
-    match replace_tab(alloc, "a\tb\\\tcdefgh", 7) {
-        Ok(text) => {
-            assert_eq!(rt; text.as_str(), "a       b\\\tcdefgh");
-        }
-        Err(_) => {}
-    }
+fn spaces_past_the_length(rt: HostRuntime) -> Result<(), Fail> {
+    let text = replace_tab(rt.alloc(), "a\tb\\\tcdefgh", 7)?;
+    assert_eq!(rt; text.as_str(), "a       b\\\tcdefgh");
     // More spaces than any block holds are refused at once.
-    assert!(rt; replace_tab(alloc, "\t", 18446744073709551615).is_err());
-    // What takes no memory is not refused.
-    match Text::new(alloc, "one line") {
-        Ok(text) => {
-            assert_eq!(rt; text.width(), 8);
-        }
-        Err(_) => {
-            assert!(rt; false);
-        }
-    }
+    assert!(rt; replace_tab(rt.alloc(), "\t", 18446744073709551615).is_err());
+    Ok(())
 }
 
 /// What the records say of a cell: its text, how many lines it has, its width, and a line with its

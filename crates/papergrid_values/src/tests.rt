@@ -320,29 +320,6 @@ fn orders_by_fields(rt: HostRuntime) -> Result<(), Fail> {
     in_order(&rt, low, ANSIBuf::new(rt.alloc(), "b", "")?)
 }
 
-// Where memory is refused, what was lent is as it was.
-#[test]
-fn refused_memory(rt: HostRuntime) {
-    let lent = ANSIStr::new("before", "after");
-    if let Ok(copy) = ANSIBuf::copy_of(rt.alloc(), lent) {
-        assert!(rt; copy.as_ref() == lent);
-    }
-    let Ok(color) = ANSIBuf::new(rt.alloc(), "before", "after") else {
-        return;
-    };
-    assert!(rt; color.as_ref() == lent);
-    if let Ok(copy) = color.clone() {
-        assert!(rt; copy.as_ref() == lent);
-    }
-    assert!(rt; color.as_ref() == lent);
-    let border = Border::filled(&color);
-    if let Ok(copy) = border.cloned() {
-        assert!(rt; copy.top.is_some_and(|part| part == color));
-        assert!(rt; copy.right_bottom_corner.is_some_and(|part| part == color));
-    }
-    assert!(rt; border.is_same() && color.as_ref() == lent);
-}
-
 // A call whose condition is that a clone equals its original.
 fn needs_equal_clones<T: Clone>(value: &T) -> Result<T, AllocError>
     requires { (x y : T) → T.is_clone x y → y ≡ x }

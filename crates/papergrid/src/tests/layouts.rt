@@ -67,19 +67,6 @@ fn readme_picture(rt: HostRuntime) {
     assert_eq!(rt; has_picture_sizes(rt.alloc()), Ok(true));
 }
 
-fn is_memory(error: LayoutError) -> bool {
-    matches!(error, LayoutError::Memory(_))
-}
-
-// Whichever request for memory is refused.
-#[test]
-fn refused_layout(rt: HostRuntime) {
-    match has_picture_sizes(rt.alloc()) {
-        Ok(has_sizes) => assert!(rt; has_sizes),
-        Err(error) => assert!(rt; is_memory(error)),
-    }
-}
-
 /// Two column spans that cross, each of a cell with so much padding on its left.
 fn crossing_settings(alloc: Global, padding: usize) -> Result<Vec<Setting>, AllocError> {
     let none = Indent::zero();
