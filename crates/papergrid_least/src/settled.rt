@@ -15,10 +15,11 @@ ghost use Rattle.papergrid_least.specs.ForProofs.Limits.{AreLimits, Refuses};
 ghost use Rattle.papergrid_least.specs.ForProofs.Settled.{AreSettled};
 
 use crate::limits::{Limits, limits_of};
+use crate::lines::Lines;
 use crate::lower::lower_edges;
 use crate::shares::grow_all;
 use papergrid_axis::axis::Axis;
-use papergrid_axis::settled::{find_out, lines_of, taken, write_base};
+use papergrid_axis::settled::{find_out, taken, write_base};
 use papergrid_axis::{Demand, LayoutError, Seen};
 use std::alloc::Global;
 
@@ -44,7 +45,7 @@ fn refusal(count: usize, seen: &Seen) -> Option<LayoutError>
 /// edges between which theirs lie.
 fn make_least(
     alloc: Global,
-    lines: &[bool],
+    lines: &Lines,
     sizes: &mut [usize],
     cells: &[Demand],
 ) -> Result<Limits, LayoutError>
@@ -72,7 +73,7 @@ fn make_least(
 /// The lines of a table along a direction, the least sizes, and the edges between which theirs lie.
 #[derive(Drop)]
 pub struct Settled {
-    pub lines: Vec<bool>,
+    pub lines: Lines,
     pub sizes: Vec<usize>,
     pub limits: Limits,
 }
@@ -91,7 +92,7 @@ pub fn settle<A: Axis>(
 {
     // A count that no memory holds is refused before it is counted up to.
     let mut sizes = vec![in alloc; 0; count]?;
-    let lines = lines_of(alloc, axis, count)?;
+    let lines = Lines::of(alloc, axis, count)?;
     if let Some(error) = refusal(count, seen) {
         return Err(error);
     }

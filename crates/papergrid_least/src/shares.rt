@@ -5,8 +5,8 @@ ghost use Rattle.papergrid_axis.specs.ForProofs.Settled.{line_at};
 ghost use Rattle.papergrid_axis.specs.Ranges.{IsInTable, end_of};
 ghost use Rattle.papergrid_axis.specs.Sizes.{grown, lack, with_shares};
 
+use crate::lines::Lines;
 use papergrid_axis::Demand;
-use papergrid_axis::growers::lines_within;
 
 /// The total of the sizes, or the greatest `usize` where that is less.
 fn sum_of(sizes: &[usize]) -> usize
@@ -20,13 +20,13 @@ fn sum_of(sizes: &[usize]) -> usize
 }
 
 /// How much the sizes in the range of a cell, with the lines inside of it, fall short of its need.
-fn lack_of(sizes: &[usize], lines: &[bool], demand: Demand) -> usize
+fn lack_of(sizes: &[usize], lines: &Lines, demand: Demand) -> usize
     requires table { IsInTable (length sizes.now) demand }
     requires lines { length sizes.now ≤ length lines.now }
     ensures { result ≡ lack (line_at lines.now) sizes.now demand }
 {
     let room = sum_of(&sizes[demand.start..demand.start + demand.span]);
-    let inner = lines_within(lines, demand);
+    let inner = lines.within(demand);
     demand.need.saturating_sub(room).saturating_sub(inner)
 }
 
@@ -46,7 +46,7 @@ fn add_shares(sizes: &mut [usize], demand: Demand, amount: usize)
 }
 
 /// Takes a cell: its range grows by what the cell lacks.
-fn grow(sizes: &mut [usize], lines: &[bool], demand: Demand)
+fn grow(sizes: &mut [usize], lines: &Lines, demand: Demand)
     requires table { IsInTable (length sizes.old) demand }
     requires lines { length sizes.old ≤ length lines.now }
     ensures { sizes.new ≡ grown (line_at lines.now) sizes.old demand }
@@ -58,7 +58,7 @@ fn grow(sizes: &mut [usize], lines: &[bool], demand: Demand)
 }
 
 /// Takes the cells in their order.
-pub fn grow_all(sizes: &mut [usize], lines: &[bool], cells: &[Demand])
+pub fn grow_all(sizes: &mut [usize], lines: &Lines, cells: &[Demand])
     requires table { All (IsInTable (length sizes.old)) cells.now }
     requires lines { length sizes.old ≤ length lines.now }
     ensures { sizes.new ≡ fold (grown (line_at lines.now)) sizes.old cells.now }
