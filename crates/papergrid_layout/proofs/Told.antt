@@ -1,5 +1,5 @@
 -- What a caller that knows its rows reads of an answer: the cells told are seen through a view, as lent cells are.
-use Rattle.std.proofs.Common.{◌≡◌, ◌∙◌, ℕ, ◌+◌, true, List, [], ◌∷◌, ◌++◌, length, map, refl, ap, sym, inl, inr, subst, Vec}
+use Rattle.std.proofs.Common.{◌≡◌, ◌∙◌, ℕ, ◌+◌, true, List, [], ◌∷◌, ◌++◌, length, map, refl, ap, sym, inl, inr, Vec}
 use Rattle.std.specs.Prelude.{None, Option, Some}
 use Rattle.std.specs.Option.{option_map}
 use Rattle.std.proofs.lemmas.Bool.{cases_Bool}

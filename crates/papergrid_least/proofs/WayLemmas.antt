@@ -56,7 +56,7 @@ none_some d e = cc
 module _ (problem : Problem) (seen : Seen) (is : IsSeen problem.count seen problem.demands) (small : seen.is_large ≡ false) (settled : Settled) (are : AreSettled problem settled) where
   -- the lines as they were read, and the earliest edges
   abbrev drawn : ℕ → Bool
-  drawn = line_at settled.lines.items
+  drawn = line_at settled.lines
 
   abbrev edge : ℕ → ℕ
   edge i = get_or settled.limits.earliest.items i 0
@@ -67,8 +67,8 @@ module _ (problem : Problem) (seen : Seen) (is : IsSeen problem.count seen probl
   pub table-longer : All (IsInTable problem.count) seen.others.items
   table-longer = table-seen problem.count seen problem.demands is small are.table
 
-  pub table-lines : All (IsInTable (length settled.lines.items)) seen.others.items
-  table-lines = table-wider problem.count (length settled.lines.items) seen.others.items (let e : length settled.lines.items ≡ problem.count + 1 = are.lined in omega arith) table-longer
+  pub table-lines : All (IsInTable (length settled.lines)) seen.others.items
+  table-lines = table-wider problem.count (length settled.lines) seen.others.items (let e : length settled.lines ≡ problem.count + 1 = are.lined in omega arith) table-longer
 
   pub ends-edges : All (λ d. end_of d < length settled.limits.earliest.items) seen.others.items
   ends-edges k d l =

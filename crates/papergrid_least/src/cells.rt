@@ -7,23 +7,23 @@ ghost use Rattle.papergrid_axis.specs.Ranges.{IsInTable, end_of};
 ghost use Rattle.papergrid_least.specs.Edges.{asked};
 ghost use Rattle.papergrid_least.specs.ForProofs.Laid.{AreLaterFirst, carrying};
 
+use crate::lines::Lines;
 use papergrid_axis::Demand;
-use papergrid_axis::growers::lines_within;
 use std::alloc::{AllocError, Global};
 
 /// The cell with what it asks in place of its need.
-pub fn asking(lines: &[bool], demand: Demand) -> Demand
+pub fn asking(lines: &Lines, demand: Demand) -> Demand
     requires { IsInTable (length lines.now) demand }
     ensures { result ≡ carrying (asked (line_at lines.now)) demand }
 {
-    let need = demand.need.saturating_sub(lines_within(lines, demand));
+    let need = demand.need.saturating_sub(lines.within(demand));
     Demand { need, ..demand }
 }
 
 /// The cells with what they ask in place of their needs.
 pub fn all_asking(
     alloc: Global,
-    lines: &[bool],
+    lines: &Lines,
     demands: &[Demand],
 ) -> Result<Vec<Demand>, AllocError>
     requires { All (IsInTable (length lines.now)) demands.now }

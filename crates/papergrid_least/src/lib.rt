@@ -7,6 +7,7 @@ mod edges;
 pub mod laws;
 pub mod least;
 mod limits;
+mod lines;
 mod longest;
 mod lower;
 mod settled;

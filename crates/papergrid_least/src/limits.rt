@@ -11,7 +11,7 @@ ghost use Rattle.papergrid_least.specs.ForProofs.Limits.{AreLimits, IsEarliest, 
 
 use crate::cells::{all_asking, sort_by_end, sort_later_first};
 use crate::edges::{lay_earliest, lay_latest};
-use papergrid_axis::growers::count_drawn;
+use crate::lines::Lines;
 use papergrid_axis::{Demand, LayoutError};
 use std::alloc::{AllocError, Global};
 
@@ -68,7 +68,7 @@ fn latest_of(
 /// The earliest and the latest edges, where the last, with all lines, fits.
 pub fn limits_of(
     alloc: Global,
-    lines: &[bool],
+    lines: &Lines,
     base: &[usize],
     cells: &[Demand],
 ) -> Result<Limits, LayoutError>
@@ -85,7 +85,7 @@ pub fn limits_of(
     sort_by_end(&mut ordered)?;
     let earliest = earliest_of(alloc, base, &ordered)?;
     let total = earliest[base.len()];
-    if total.checked_add(count_drawn(lines)).is_none() {
+    if total.checked_add(lines.count()).is_none() {
         return Err(LayoutError::TooLarge);
     }
     sort_later_first(&mut ordered)?;

@@ -9,13 +9,14 @@ ghost use Rattle.papergrid_least.specs.ForProofs.Followed.{followed, kept_longer
 ghost use Rattle.papergrid_least.specs.Longest.{earlier_cell};
 
 use crate::cells::asking;
+use crate::lines::Lines;
 use papergrid_axis::Demand;
 use papergrid_axis::seen::single_at;
 use papergrid_values::Position;
 use std::alloc::{AllocError, Global};
 
 /// Whether a cell pushes the edge where its range ends to where it is.
-fn pushes(earliest: &[usize], lines: &[bool], cell: Demand) -> bool
+fn pushes(earliest: &[usize], lines: &Lines, cell: Demand) -> bool
     requires table { IsInTable (length lines.now) cell }
     requires ends { end_of cell < length earliest.now }
     requires apart { slice_index earliest.now cell.start + asked (line_at lines.now) cell
@@ -30,7 +31,7 @@ fn pushes(earliest: &[usize], lines: &[bool], cell: Demand) -> bool
 pub fn mark_pushers(
     pushers: &mut [Option<Demand>],
     earliest: &[usize],
-    lines: &[bool],
+    lines: &Lines,
     cells: &[Demand],
 )
     requires none { All (λ cell. cell ≡ None) pushers.old }

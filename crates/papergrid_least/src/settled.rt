@@ -15,10 +15,11 @@ ghost use Rattle.papergrid_least.specs.ForProofs.Limits.{AreLimits, Refuses};
 ghost use Rattle.papergrid_least.specs.ForProofs.Settled.{AreSettled};
 
 use crate::limits::{Limits, limits_of};
+use crate::lines::Lines;
 use crate::lower::lower_edges;
 use papergrid_axis::axis::Axis;
 use papergrid_axis::growers::grow_all;
-use papergrid_axis::settled::{lines_of, refusal, taken, write_base};
+use papergrid_axis::settled::{refusal, taken, write_base};
 use papergrid_axis::{Demand, LayoutError, Seen};
 use std::alloc::Global;
 
@@ -26,7 +27,7 @@ use std::alloc::Global;
 /// edges between which theirs lie.
 fn make_least(
     alloc: Global,
-    lines: &[bool],
+    lines: &Lines,
     sizes: &mut [usize],
     cells: &[Demand],
 ) -> Result<Limits, LayoutError>
@@ -46,7 +47,7 @@ fn make_least(
 {
     let limits = limits_of(alloc, lines, sizes, cells)?;
     let longer = taken(alloc, sizes.len(), cells)?;
-    let _ = grow_all(alloc, sizes, lines, &longer)?;
+    let _ = grow_all(alloc, sizes, lines.drawn(), &longer)?;
     lower_edges(sizes, &limits.latest);
     Ok(limits)
 }
@@ -54,7 +55,7 @@ fn make_least(
 /// The lines of a table along a direction, the least sizes, and the edges between which theirs lie.
 #[derive(Drop)]
 pub struct Settled {
-    pub lines: Vec<bool>,
+    pub lines: Lines,
     pub sizes: Vec<usize>,
     pub limits: Limits,
 }
@@ -73,7 +74,7 @@ pub fn settle<A: Axis>(
 {
     // A count that no memory holds is refused before it is counted up to.
     let mut sizes = vec![in alloc; 0; count]?;
-    let lines = lines_of(alloc, axis, count)?;
+    let lines = Lines::of(alloc, axis, count)?;
     if let Some(error) = refusal(count, seen) {
         return Err(error);
     }

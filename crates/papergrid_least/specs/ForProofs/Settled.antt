@@ -12,7 +12,7 @@ use Rattle.papergrid_least.specs.Edges.{asked}
 pub record AreSettled (problem : Problem) (settled : Settled) : Type 0 where
   pub table : All (IsInTable problem.count) problem.demands
   pub sizes : AreLeastSizes problem settled.sizes.items
-  pub lined : length settled.lines.items ≡ problem.count + 1
-  pub drawn : (i : ℕ) → i ≤ problem.count → line_at settled.lines.items i ≡ problem.line i
+  pub lined : length settled.lines ≡ problem.count + 1
+  pub drawn : (i : ℕ) → i ≤ problem.count → line_at settled.lines i ≡ problem.line i
   pub many : length settled.limits.earliest.items ≡ problem.count + 1
   pub earliest : (i : ℕ) → i ≤ problem.count → slice_index settled.limits.earliest.items i ≡ earliest (asked problem.line) problem.demands i

@@ -47,7 +47,7 @@ returns-then-is_none-clause-refused c = λ edge are.
     subst (IsPermutation (map (carrying (asked (line_at c.args.lines.now))) c.args.cells.now)) (sym c.deref.ensures.value) (subst (λ xs. IsPermutation xs c.sort_by_end.new.cells.items) c.in_ok-ordered.ensures c.in_ok-sort_by_end.ensures.permutation) in
     let below : get_or c.in_ok-earliest.earliest.items (length c.args.base.now) 0 ≤ edge (length c.args.base.now) =
     c.in_ok-earliest.ensures.earliest.below edge (AreLaid-permuted c.args.base.now (map (carrying (asked (line_at c.args.lines.now))) c.args.cells.now) c.deref.result.now moved edge are) (length c.args.base.now) (omega arith) in
-    let lines : c.count_drawn.result ≡ all_lines (line_at c.args.lines.now) (length c.args.base.now) = c.count_drawn.ensures ∙ all_lines-drawn c.args.lines.now (length c.args.base.now) c.requires.lines in
+    let lines : c.count.result ≡ all_lines (line_at c.args.lines.now) (length c.args.base.now) = c.count.ensures ∙ all_lines-drawn c.args.lines.now (length c.args.base.now) c.requires.lines in
     grind (arith, common_steps, below, lines)
 
 pub sort_later_first-requires : goal.sort_later_first-requires
@@ -85,7 +85,7 @@ returns-clause-limits c =
     subst (IsPermutation (map (carrying (asked (line_at c.args.lines.now))) c.args.cells.now)) (sym c.deref.ensures.value) (subst (λ xs. IsPermutation xs c.sort_by_end.new.cells.items) c.in_ok-ordered.ensures c.in_ok-sort_by_end.ensures.permutation) in
     let moved_again : IsPermutation (map (carrying (asked (line_at c.args.lines.now))) c.args.cells.now) c.deref-2.result.now =
     subst (IsPermutation (map (carrying (asked (line_at c.args.lines.now))) c.args.cells.now)) (sym c.deref-2.ensures.value) (IsPermutation-trans (map (carrying (asked (line_at c.args.lines.now))) c.args.cells.now) c.sort_by_end.new.cells.items c.sort_later_first.new.cells.items (subst (λ xs. IsPermutation xs c.sort_by_end.new.cells.items) c.in_ok-ordered.ensures c.in_ok-sort_by_end.ensures.permutation) c.in_ok-sort_later_first.ensures.permutation) in
-    let lines : c.count_drawn.result ≡ all_lines (line_at c.args.lines.now) (length c.args.base.now) = c.count_drawn.ensures ∙ all_lines-drawn c.args.lines.now (length c.args.base.now) c.requires.lines in
+    let lines : c.count.result ≡ all_lines (line_at c.args.lines.now) (length c.args.base.now) = c.count.ensures ∙ all_lines-drawn c.args.lines.now (length c.args.base.now) c.requires.lines in
     let many : length c.in_ok-earliest.earliest.items ≡ length c.args.base.now + 1 = c.in_ok-earliest.ensures.earliest.one_more in
     let total : c.index-total.result.now ≡ get_or c.in_ok-earliest.earliest.items (length c.args.base.now) 0 =
     c.index-total.ensures ∙ get_or_default c.in_ok-earliest.earliest.items (length c.args.base.now) c.index-total.result.now 0 (omega arith) in

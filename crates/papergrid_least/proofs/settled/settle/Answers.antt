@@ -19,26 +19,26 @@ pub make_least-requires-clause-table : goal.make_least-requires-clause-table
 make_least-requires-clause-table g c =
     let table = table_demands c.args.count c.args.seen.now c.requires.0 c.requires.1 c.in_default.ensures.inside in
     let many : length c.deref_mut-2.result.now ≡ c.args.count = omega (arith, c.in_ok-sizes.ensures.len, c.deref_mut.ensures.len, c.write_base.ensures.length, c.deref_mut-2.ensures.len) in
-    rw (many, c.deref-3.ensures.value) (table-seen c.args.count c.args.seen.now c.requires.0 c.requires.1 c.in_default.ensures.small table)
+    rw (many, c.deref-2.ensures.value) (table-seen c.args.count c.args.seen.now c.requires.0 c.requires.1 c.in_default.ensures.small table)
 
 pub returns-in_err-limits-clause-settled : goal.returns-in_err-limits-clause-settled
 returns-in_err-limits-clause-settled g c = λ demands seen.
     let refused : HasNoLeast (given (g.A.Axis.line c.args.axis.now) c.args.count demands) c.in_err-limits.field-0.0 =
     HasNoLeast-refused (g.A.Axis.line c.args.axis.now) c.args.count c.args.seen.now demands seen c.in_default.ensures.inside c.in_default.ensures.small
-    (line_at c.deref-2.result.now) (λ i l. ap (λ lines. line_at lines i) c.deref-2.ensures.value ∙ c.in_ok-lines.ensures.drawn i l)
+    (line_at c.in_ok-lines.lines) c.in_ok-lines.ensures.drawn
     c.deref_mut-2.result.now (omega (arith, c.in_ok-sizes.ensures.len, c.deref_mut.ensures.len, c.write_base.ensures.length, c.deref_mut-2.ensures.len))
     (rw (c.deref_mut-2.ensures.value ∙ with_items_is c.in_ok-sizes.sizes c.write_base.new.sizes (omega arith)) (λ k l. c.write_base.ensures.base k l ∙ ap (λ ds. (get_or ds k no_demand).need) c.deref.ensures.value))
-    c.in_err-limits.field-0.0 (rw c.deref-3.ensures.value at c.in_err-limits.ensures.refused) in
+    c.in_err-limits.field-0.0 (rw c.deref-2.ensures.value at c.in_err-limits.ensures.refused) in
     search rules
 
 pub returns-clause-settled : goal.returns-clause-settled
 returns-clause-settled g c = λ demands seen.
-    let limits = rw c.deref-3.ensures.value at c.in_ok-limits.ensures.limits in
-    let sizes = rw c.deref-3.ensures.value at c.in_ok-limits.ensures.sizes in
+    let limits = rw c.deref-2.ensures.value at c.in_ok-limits.ensures.limits in
+    let sizes = rw c.deref-2.ensures.value at c.in_ok-limits.ensures.sizes in
     record {
       table = table_demands c.args.count c.args.seen.now demands seen c.in_default.ensures.inside;
       sizes = AreLeastSizes-made (g.A.Axis.line c.args.axis.now) c.args.count c.args.seen.now demands seen c.in_default.ensures.inside c.in_default.ensures.small
-          (line_at c.deref-2.result.now) (λ i l. ap (λ lines. line_at lines i) c.deref-2.ensures.value ∙ c.in_ok-lines.ensures.drawn i l)
+          (line_at c.in_ok-lines.lines) c.in_ok-lines.ensures.drawn
           c.deref_mut-2.result.now (omega (arith, c.in_ok-sizes.ensures.len, c.deref_mut.ensures.len, c.write_base.ensures.length, c.deref_mut-2.ensures.len))
           (rw (c.deref_mut-2.ensures.value ∙ with_items_is c.in_ok-sizes.sizes c.write_base.new.sizes (omega arith)) (λ k l. c.write_base.ensures.base k l ∙ ap (λ ds. (get_or ds k no_demand).need) c.deref.ensures.value))
           c.in_ok-limits.limits limits _
@@ -46,12 +46,12 @@ returns-clause-settled g c = λ demands seen.
       lined = c.in_ok-lines.ensures.length;
       drawn = c.in_ok-lines.ensures.drawn;
       many = many-made (g.A.Axis.line c.args.axis.now) c.args.count c.args.seen.now demands seen c.in_default.ensures.inside c.in_default.ensures.small
-          (line_at c.deref-2.result.now) (λ i l. ap (λ lines. line_at lines i) c.deref-2.ensures.value ∙ c.in_ok-lines.ensures.drawn i l)
+          (line_at c.in_ok-lines.lines) c.in_ok-lines.ensures.drawn
           c.deref_mut-2.result.now (omega (arith, c.in_ok-sizes.ensures.len, c.deref_mut.ensures.len, c.write_base.ensures.length, c.deref_mut-2.ensures.len))
           (rw (c.deref_mut-2.ensures.value ∙ with_items_is c.in_ok-sizes.sizes c.write_base.new.sizes (omega arith)) (λ k l. c.write_base.ensures.base k l ∙ ap (λ ds. (get_or ds k no_demand).need) c.deref.ensures.value))
           c.in_ok-limits.limits limits;
       earliest = earliest-made (g.A.Axis.line c.args.axis.now) c.args.count c.args.seen.now demands seen c.in_default.ensures.inside c.in_default.ensures.small
-          (line_at c.deref-2.result.now) (λ i l. ap (λ lines. line_at lines i) c.deref-2.ensures.value ∙ c.in_ok-lines.ensures.drawn i l)
+          (line_at c.in_ok-lines.lines) c.in_ok-lines.ensures.drawn
           c.deref_mut-2.result.now (omega (arith, c.in_ok-sizes.ensures.len, c.deref_mut.ensures.len, c.write_base.ensures.length, c.deref_mut-2.ensures.len))
           (rw (c.deref_mut-2.ensures.value ∙ with_items_is c.in_ok-sizes.sizes c.write_base.new.sizes (omega arith)) (λ k l. c.write_base.ensures.base k l ∙ ap (λ ds. (get_or ds k no_demand).need) c.deref.ensures.value))
           c.in_ok-limits.limits limits;
