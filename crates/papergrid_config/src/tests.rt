@@ -93,6 +93,19 @@ fn ends(config: &SpannedConfig, columns: usize, rows: usize) -> bool {
         && config.spans_end_within(Direction::Rows, rows)
 }
 
+fn ends_at_two(config: &SpannedConfig) -> bool {
+    ends(config, 2, 2) && !ends(config, 1, 2) && !ends(config, 2, 1)
+}
+
+#[test]
+fn ends_of_spans(rt: HostRuntime) -> Result<(), Fail> {
+    let config = square(rt.alloc())?;
+    let at_two = ends_at_two(&config);
+    drop(config);
+    assert!(rt; at_two);
+    Ok(())
+}
+
 #[test]
 fn spans(rt: HostRuntime) -> Result<(), Fail> {
     let mut config = square(rt.alloc())?;
@@ -101,9 +114,7 @@ fn spans(rt: HostRuntime) -> Result<(), Fail> {
     assert!(rt; config.is_cell_covered_by_both_spans(at(1, 1)));
     assert_eq!(rt; config.get_column_span(at(0, 0)), Some(2));
     assert_eq!(rt; config.get_row_span(at(0, 1)), None);
-    assert!(rt; ends(&config, 2, 2) && !ends(&config, 1, 2) && !ends(&config, 2, 1));
     config.remove_column_spans();
-    assert!(rt; ends(&config, 0, 2));
     assert!(rt; !config.has_column_spans() && config.has_row_spans());
     config.remove_row_spans();
     assert!(rt; !config.has_row_spans());
