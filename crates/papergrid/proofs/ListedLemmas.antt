@@ -16,13 +16,14 @@ use Rattle.papergrid_values.specs.declared.vertical_line.VerticalLine.{VerticalL
 use Rattle.papergrid_values.specs.declared.direction.Direction.{Direction}
 use Rattle.papergrid_values.specs.declared.direction.Direction.TheVariants.{Columns, Rows}
 use Rattle.papergrid_tables.specs.BorderCalls.{BorderCall}
-use Rattle.papergrid_tables.specs.Keys.{position_cmp}
+use Rattle.papergrid_keys.specs.Keys.{position_cmp}
 use Rattle.papergrid_tables.specs.LineTests.{ends_at_column, ends_at_row, vertical_line_at, horizontal_line_at}
-use Rattle.papergrid_tables.specs.Made.{borders_made, named_columns, named_places, named_rows, tabulated, with_value}
+use Rattle.papergrid_keys.specs.Tabulated.{tabulated, with_value}
+use Rattle.papergrid_tables.specs.Made.{borders_made, named_columns, named_places, named_rows}
 use Rattle.papergrid_tables.specs.Places.{at_ends, places_from}
 use Rattle.papergrid_maps.specs.Made.{named_anchors, spans_made}
 use Rattle.papergrid_maps.specs.Spans.{SpanCall, Spans, decided_span, from_two, is_hidden_by, is_visible}
-use Rattle.papergrid_tables.proofs.KeyLemmas.{position_total}
+use Rattle.papergrid_keys.proofs.KeyLemmas.{position_total}
 use Rattle.papergrid_config.specs.Decided as decided
 use Rattle.papergrid_config.specs.Parts.{character_calls, span_calls}
 use Rattle.papergrid_config.specs.declared.setting.Setting.{Setting}

@@ -22,13 +22,13 @@ all_sides v = record { top = v; bottom = v; left = v; right = v }
 abbrev pub no_room : Indent
 no_room = record { fill = 32; size = 0 }
 
--- the last of the values set, or the default
-abbrev pub last_or : {T : Type 0} → T → List T → T
-last_or default [] = default
-last_or default (newest ∷ older) = newest
+-- the newest of the values set, newest first, or the default
+abbrev pub newest_or : {T : Type 0} → T → List T → T
+newest_or default [] = default
+newest_or default (newest ∷ older) = newest
 
 abbrev pub last_set : {T : Type 0} → T → (Setting → List T) → List Setting → T
-last_set default values settings = last_or default (reverse (flat_map values settings))
+last_set default values settings = newest_or default (reverse (flat_map values settings))
 
 -- a new configuration that was given the settings holds this: each part is told by the settings
 -- that belong to it

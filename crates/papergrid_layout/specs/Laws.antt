@@ -6,7 +6,7 @@ use Rattle.papergrid_text.specs.Measured.{Measured}
 use Rattle.papergrid_text.specs.Text.{greatest_width, kept_by_new, split_lines}
 use Rattle.papergrid_values.specs.declared.direction.Direction.{Direction}
 use Rattle.papergrid_axis.specs.Sizes.{sizes_of}
-use Rattle.papergrid_tables.specs.Keys.{position_eq}
+use Rattle.papergrid_keys.specs.Keys.{position_eq}
 use Rattle.papergrid_maps.specs.Spans as spans
 use Rattle.papergrid_values.specs.declared.direction.Direction.TheVariants.{Columns, Rows}
 use Rattle.papergrid_maps.specs.Spans.{RemoveSpans, SetSpan, SpanCall, is_same_direction}

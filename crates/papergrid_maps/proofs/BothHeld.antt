@@ -13,8 +13,8 @@ use Rattle.std.proofs.lemmas.Bool.{and_from, and_parts, false≢true, ltb-true, 
 use Rattle.papergrid_values.specs.declared.direction.Direction.{Direction}
 use Rattle.papergrid_values.specs.declared.direction.Direction.TheVariants.{Columns, Rows}
 use Rattle.papergrid_values.specs.declared.position.Position.{Position}
-use Rattle.papergrid_tables.specs.Keys.{position_cmp}
-use Rattle.papergrid_tables.proofs.KeyLemmas.{exact_position_eq, exact_positions, position_ties, position_total}
+use Rattle.papergrid_keys.specs.Keys.{position_cmp}
+use Rattle.papergrid_keys.proofs.KeyLemmas.{exact_position_eq, exact_positions, position_ties, position_total}
 use Rattle.papergrid_maps.specs.ForProofs.SpanIndex.{DirectedSpans, HoldsBoth, IsReachedByBoth, extent_held, extent_of}
 use Rattle.papergrid_maps.specs.Spans.{IsCoveredByBoth, Spans, column_span, row_span}
 use Rattle.papergrid_maps.specs.declared.span_index.Extent.{Extent}

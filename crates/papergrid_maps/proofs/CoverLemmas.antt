@@ -14,9 +14,9 @@ use Rattle.papergrid_values.specs.Positions.{AreRising, along}
 use Rattle.papergrid_values.specs.declared.direction.Direction.{Direction}
 use Rattle.papergrid_values.specs.declared.direction.Direction.TheVariants.{Columns, Rows}
 use Rattle.papergrid_values.specs.declared.position.Position.{Position}
-use Rattle.papergrid_tables.specs.Keys.{position_cmp, position_eq}
-use Rattle.papergrid_tables.proofs.AnyLemmas.{any_found, any_from_found}
-use Rattle.papergrid_tables.proofs.KeyLemmas.{exact_position_eq, position_ties, position_total}
+use Rattle.papergrid_keys.specs.Keys.{position_cmp, position_eq}
+use Rattle.papergrid_keys.proofs.AnyLemmas.{any_found, any_from_found}
+use Rattle.papergrid_keys.proofs.KeyLemmas.{exact_position_eq, position_ties, position_total}
 use Rattle.papergrid_maps.specs.Spans.{Spans, column_span, row_span, is_visible, IsInRectangle}
 use Rattle.papergrid_maps.specs.ForProofs.SpanIndex.{CoversOne, DirectedSpans, covers, covers_held, extent_of, held_along, key_of}
 use Rattle.papergrid_maps.proofs.IndexKeys.{held_at, key_key}

@@ -6,13 +6,13 @@ use Rattle.std.proofs.lemmas.Bool.{and_parts, and_from}
 use Rattle.std.specs.Prelude.{unwrap_or}
 use Rattle.std.specs.Map.{lookup}
 use Rattle.std.specs.FinMap.{from_entries}
-use Rattle.papergrid_tables.specs.Keys.{position_eq}
+use Rattle.papergrid_keys.specs.Keys.{position_eq}
 use Rattle.papergrid_maps.specs.MapHeld.{Held, HasNothing, held_value, IsTold}
 use Rattle.papergrid_maps.specs.MapCalls.{decided_value}
 use Rattle.papergrid_maps.specs.declared.entity_map.MapCall.{MapCall}
 use Rattle.papergrid_values.specs.declared.position.Position.{Position}
-use Rattle.papergrid_tables.proofs.EntryLemmas.{no_entries, none_of_nothing}
-use Rattle.papergrid_tables.proofs.KeyLemmas.{get_at_number, get_at_position, position_equiv}
+use Rattle.papergrid_keys.proofs.EntryLemmas.{no_entries, none_of_nothing}
+use Rattle.papergrid_keys.proofs.KeyLemmas.{get_at_number, get_at_position, position_equiv}
 
 module _ {T : Type 0} where
   -- the map with these entries

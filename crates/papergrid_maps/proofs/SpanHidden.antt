@@ -4,7 +4,7 @@ use Rattle.std.specs.Prelude.{unwrap_or, not, ◌≢◌, ◌↔◌}
 use Rattle.std.specs.FinMap.{FinMap, get}
 use Rattle.std.proofs.lemmas.Bool.{false≢true, cases_eq}
 use Rattle.papergrid_values.specs.declared.position.Position.{Position}
-use Rattle.papergrid_tables.specs.Keys.{position_cmp}
+use Rattle.papergrid_keys.specs.Keys.{position_cmp}
 use Rattle.papergrid_maps.specs.Spans.{Spans, column_span, row_span, IsCoveredByColumn, IsCoveredByRow, IsCoveredByBoth, IsVisible}
 use Rattle.papergrid_maps.specs.ForProofs.SpanIndex.{AreFromTwo}
 

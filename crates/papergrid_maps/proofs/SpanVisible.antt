@@ -6,10 +6,10 @@ use Rattle.std.specs.FinMap.{FinMap, get, keys, contains_key-keys}
 use Rattle.std.proofs.lemmas.Bool.{false≢true, and_parts, and_from, or_right, leb-true, le-leb, ltb-true, lt-ltb}
 use Rattle.std.proofs.lemmas.Map.Keys.{any_passes_from_place}
 use Rattle.papergrid_values.specs.declared.position.Position.{Position}
-use Rattle.papergrid_tables.specs.Keys.{position_cmp, position_eq}
+use Rattle.papergrid_keys.specs.Keys.{position_cmp, position_eq}
 use Rattle.papergrid_maps.specs.Spans.{HasSpan, Spans, column_span, row_span, is_hidden_by, is_in_rectangle, is_visible, IsVisible, IsInRectangle}
-use Rattle.papergrid_tables.proofs.AnyLemmas.{any_place}
-use Rattle.papergrid_tables.proofs.KeyLemmas.{exact_position_eq, position_ties, position_equiv}
+use Rattle.papergrid_keys.proofs.AnyLemmas.{any_place}
+use Rattle.papergrid_keys.proofs.KeyLemmas.{exact_position_eq, position_ties, position_equiv}
 
 -- the test of a rectangle
 in_rectangle : (columns rows : Position → ℕ) (anchor p : Position) → is_in_rectangle columns rows anchor p ≡ true → IsInRectangle columns rows anchor p

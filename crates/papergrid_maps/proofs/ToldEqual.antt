@@ -4,8 +4,8 @@ use Rattle.std.specs.Prelude.{nat_eq}
 use Rattle.std.specs.Cmp.{nat_cmp_total, nat_eq_equiv}
 use Rattle.std.specs.FinMap.{nat_cmp-IsAntisymmetric, same_map}
 use Rattle.std.proofs.lemmas.Bool.{and_from}
-use Rattle.papergrid_tables.proofs.KeyLemmas.{exact_positions, position_total}
-use Rattle.papergrid_tables.proofs.ToldEqual.{numbers_same, places_same}
+use Rattle.papergrid_keys.proofs.KeyLemmas.{exact_positions, position_total}
+use Rattle.papergrid_keys.proofs.EqualLemmas.{numbers_same, places_same}
 use Rattle.papergrid_maps.specs.MapEq.{held_eq}
 use Rattle.papergrid_maps.specs.MapHeld as maps
 use Rattle.papergrid_maps.specs.MapHeld.{Held}

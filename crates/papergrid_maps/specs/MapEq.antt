@@ -1,8 +1,8 @@
 -- When two maps hold the same.
 use Rattle.std.specs.Prelude.{Bool, ◌&&◌}
 use Rattle.std.specs.Cmp.{IsPartialEquivalence, and_per, on_per}
-use Rattle.papergrid_tables.specs.Equal.{numbers_eq, places_eq}
-use Rattle.papergrid_tables.specs.ForProofs.EqualLaws.{numbers_laws, places_laws}
+use Rattle.papergrid_keys.specs.Equal.{numbers_eq, places_eq}
+use Rattle.papergrid_keys.specs.ForProofs.EqualLaws.{numbers_laws, places_laws}
 use Rattle.papergrid_maps.specs.MapHeld.{Held}
 
 -- the global values are equal, and the columns, the rows and the cells have equal values

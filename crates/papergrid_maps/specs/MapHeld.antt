@@ -3,7 +3,7 @@ use Rattle.std.specs.Prelude.{◌≡◌, ◌⊎◌, ℕ, List, ◌++◌, reverse
 use Rattle.std.specs.Ordering.{nat_cmp}
 use Rattle.std.specs.FinMap.{FinMap, get, code}
 use Rattle.std.specs.Coded.{Coded, code_by, coded×, coded_ℕ}
-use Rattle.papergrid_tables.specs.Keys.{position_cmp, coded_position}
+use Rattle.papergrid_keys.specs.Keys.{position_cmp, coded_position}
 use Rattle.papergrid_maps.specs.MapCalls.{global_value, pinned_value, standing_value}
 use Rattle.papergrid_values.specs.declared.position.Position.{Position}
 use Rattle.papergrid_values.specs.declared.entity.Entity.{Entity}

@@ -7,13 +7,13 @@ ghost use Rattle.std.specs.HashMap.{IsUnique, keys, values, get as map_get};
 ghost use Rattle.std.specs.Set.{is_member};
 ghost use Rattle.papergrid_values.specs.declared.entity.Entity.{Entity};
 ghost use Rattle.papergrid_values.specs.declared.position.Position.{Position};
-ghost use Rattle.papergrid_tables.specs.Keys.{position_eq};
+ghost use Rattle.papergrid_keys.specs.Keys.{position_eq};
 ghost use Rattle.papergrid_maps.specs.Keys.{entity_eq};
 ghost use Rattle.papergrid_maps.specs.MapCalls.{decided_value, may_grow};
 ghost use Rattle.papergrid_maps.specs.MapHeld.{IsTold, Appends, HasNothing, Holds, held_for, held_value};
 ghost use Rattle.papergrid_maps.specs.declared.entity_map.MapCall.{MapCall};
 
-use papergrid_tables::hashed::{look_up, put, take};
+use papergrid_keys::hashed::{look_up, put, remove};
 use papergrid_values::{Entity, Position};
 use std::alloc::{AllocError, Global};
 use std::collections::HashMap;
@@ -202,7 +202,7 @@ impl<T: Drop> EntityMap<T> {
             }
             Entity::Column(col) => drop_column(&mut self.cells, col),
             Entity::Row(row) => drop_row(&mut self.cells, row),
-            Entity::Cell(row, col) => take(&mut self.cells, Position { row, col }),
+            Entity::Cell(row, col) => remove(&mut self.cells, Position { row, col }),
         }
     }
 }

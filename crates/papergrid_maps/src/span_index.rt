@@ -10,8 +10,8 @@ ghost use Rattle.std.specs.List.{list_all, list_any};
 ghost use Rattle.papergrid_values.specs.declared.direction.Direction.TheVariants.{Columns};
 ghost use Rattle.papergrid_values.specs.declared.position.Position.{Position};
 ghost use Rattle.papergrid_values.specs.Positions.{AreRising};
-ghost use Rattle.papergrid_tables.specs.Equal.{places_eq};
-ghost use Rattle.papergrid_tables.specs.Keys.{position_cmp, position_eq};
+ghost use Rattle.papergrid_keys.specs.Equal.{places_eq};
+ghost use Rattle.papergrid_keys.specs.Keys.{position_cmp, position_eq};
 ghost use Rattle.papergrid_maps.specs.Spans.{EndWithin, HasSpan};
 ghost use Rattle.papergrid_maps.specs.ForProofs.SpanIndex.{AreAt, CoversOne, IsReached, IsRising, anchor_along, covers_held, entry_anchor, extent_of, key_of};
 
@@ -34,7 +34,7 @@ pub(crate) struct SpanIndex {
 
 impl Model for SpanIndex {
     ghost use Rattle.std.specs.BTreeMap.{IsOrdered};
-    ghost use Rattle.papergrid_tables.specs.Keys.{position_cmp};
+    ghost use Rattle.papergrid_keys.specs.Keys.{position_cmp};
     ghost use Rattle.papergrid_maps.specs.ForProofs.SpanIndex.{DirectedSpans, directed_code, held_along};
 
     ghost Value = { DirectedSpans };

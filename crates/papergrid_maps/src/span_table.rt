@@ -10,7 +10,7 @@ ghost use Rattle.std.specs.FinMap.{get as value_at};
 ghost use Rattle.papergrid_values.specs.Positions.{AreRising};
 ghost use Rattle.papergrid_values.specs.declared.direction.Direction.TheVariants.{Columns, Rows};
 ghost use Rattle.papergrid_values.specs.declared.position.Position.{Position};
-ghost use Rattle.papergrid_tables.specs.Keys.{position_cmp, position_eq};
+ghost use Rattle.papergrid_keys.specs.Keys.{position_cmp, position_eq};
 ghost use Rattle.papergrid_maps.specs.Anchors.{AreAnchors, HasAnchor, IsSorted};
 ghost use Rattle.papergrid_maps.specs.Spans.{IsTold, Appends, EndWithin, HasSpan, IsVisible, IsCoveredByColumn, IsCoveredByRow, IsCoveredByBoth, SetSpan, RemoveSpans, column_span, row_span, is_visible, span_at, spans_along};
 ghost use Rattle.papergrid_maps.specs.ForProofs.SpanIndex.{AreFromTwo, HoldsBoth, span_set};

@@ -14,10 +14,10 @@ use Rattle.papergrid_values.specs.declared.vertical_line.VerticalLine.{VerticalL
 use Rattle.papergrid_tables.specs.BorderCalls.{BorderCall, InsertBorder, RemoveBorder, InsertHorizontalLine, RemoveHorizontalLine, InsertVerticalLine, RemoveVerticalLine, SetBorders, SetGlobal, Clear, at_frame, at_global, at_horizontal_line, at_vertical_line, at_horizontal_edge, at_vertical_edge, at_corner, below, right_of, horizontal_part, vertical_part, corner_part}
 use Rattle.papergrid_tables.specs.BorderHeld.{HeldBorders, IsTold, Appends, places_of}
 use Rattle.papergrid_tables.specs.Changes.{Change, Keeps, Removes, Writes, after, if_set, last}
-use Rattle.papergrid_tables.specs.Keys.{position_cmp, position_eq}
+use Rattle.papergrid_keys.specs.Keys.{position_cmp, position_eq}
 use Rattle.papergrid_tables.specs.Places.{Places, no_frame, places_from}
-use Rattle.papergrid_tables.proofs.KeyLemmas.{get_at_number, get_at_position}
-use Rattle.papergrid_tables.proofs.EntryLemmas.{same_places}
+use Rattle.papergrid_keys.proofs.KeyLemmas.{get_at_number, get_at_position}
+use Rattle.papergrid_keys.proofs.EntryLemmas.{same_places}
 
 module _ {A : Type 0} where
   after_if_set : (part old : Option A) → after (if_set part) old ≡ option_or part old

@@ -1,16 +1,11 @@
-pub mod AnyLemmas
 pub mod BorderEqual
 pub mod BorderFound
 pub mod BorderTold
 pub mod CountLemmas
 pub mod CountedFound
-pub mod EntryLemmas
-pub mod EqualLemmas
-pub mod KeyLemmas
 pub mod LineTested
 pub mod MadeTables
 pub mod OffsetEqual
 pub mod OverrideTold
 pub mod PartCopies
-pub mod ResultLemmas
 pub mod ToldEqual

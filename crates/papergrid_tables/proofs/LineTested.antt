@@ -12,13 +12,13 @@ use Rattle.papergrid_values.specs.declared.position.Position.{Position}
 use Rattle.papergrid_values.specs.declared.horizontal_line.HorizontalLine.{HorizontalLine}
 use Rattle.papergrid_values.specs.declared.vertical_line.VerticalLine.{VerticalLine}
 use Rattle.papergrid_tables.specs.BorderHeld.{HeldBorders, places_of}
-use Rattle.papergrid_tables.specs.Keys.{position_cmp}
+use Rattle.papergrid_keys.specs.Keys.{position_cmp}
 use Rattle.papergrid_tables.specs.LineTests.{ends_at_column, ends_at_row, horizontal_line_at, vertical_line_at}
 use Rattle.papergrid_tables.specs.Places.{HasHorizontal, HasVertical, HasEnd}
-use Rattle.papergrid_tables.proofs.AnyLemmas.{any_place}
+use Rattle.papergrid_keys.proofs.AnyLemmas.{any_place}
 use Rattle.papergrid_tables.proofs.BorderFound.{either, has_end_is, some_value}
-use Rattle.papergrid_tables.proofs.KeyLemmas.{exact_position_eq, position_ties, position_equiv}
-use Rattle.papergrid_tables.proofs.ResultLemmas.{same_answer}
+use Rattle.papergrid_keys.proofs.KeyLemmas.{exact_position_eq, position_ties, position_equiv}
+use Rattle.papergrid_keys.proofs.ResultLemmas.{same_answer}
 
 -- some key that is held passes
 module _ {K X : Type 0} {R : K → K → Ordering} (exact : (x y : K) → eq_by_cmp R x y ≡ true → x ≡ y) (ties : (x : K) → eq_by_cmp R x x ≡ true) (m : FinMap R X) (test : K → Bool) where
@@ -37,9 +37,6 @@ exact_number x y h = eqb-true x y (sym (unsigned_tied x y) ∙ h)
 
 pub number_ties : (x : ℕ) → eq_by_cmp nat_cmp x x ≡ true
 number_ties x = unsigned_tied x x ∙ eq-eqb x x refl
-
-pub exact_position : (p q : Position) → eq_by_cmp position_cmp p q ≡ true → p ≡ q
-exact_position p q h = exact_position_eq p q (position_ties p q ∙ h)
 
 pub same_position : (p : Position) → eq_by_cmp position_cmp p p ≡ true
 same_position p = sym (position_ties p p) ∙ position_equiv.refl p

@@ -12,49 +12,13 @@ use Rattle.papergrid_values.specs.declared.position.Position.{Position}
 use Rattle.papergrid_tables.specs.BorderCalls.{at_place, below, right_of, BorderCall, InsertBorder, RemoveBorder, InsertHorizontalLine, RemoveHorizontalLine, InsertVerticalLine, RemoveVerticalLine, SetBorders, SetGlobal, Clear, at_horizontal_line, at_vertical_line, at_horizontal_edge, at_vertical_edge, at_corner}
 use Rattle.papergrid_tables.specs.BorderHeld.{HeldBorders, IsTold, places_of}
 use Rattle.papergrid_tables.specs.Changes.{Change, Keeps, Removes, Writes, after, if_set, last}
-use Rattle.papergrid_tables.specs.Keys.{position_cmp, position_eq}
-use Rattle.papergrid_tables.specs.Made.{with_value, borders_made, named_columns, named_places, named_rows, tabulated}
+use Rattle.papergrid_keys.specs.Keys.{position_cmp, position_eq}
+use Rattle.papergrid_tables.specs.Made.{borders_made, named_columns, named_places, named_rows}
+use Rattle.papergrid_keys.specs.Tabulated.{tabulated}
 use Rattle.papergrid_tables.specs.Places.{places_from}
-use Rattle.papergrid_tables.proofs.KeyLemmas.{exact_positions, position_equiv, position_ties, position_total}
-use Rattle.papergrid_tables.proofs.LineTested.{exact_number, exact_position}
-
--- ---- tables of values by key
-
-module _ {K X : Type 0} {R : K → K → Ordering} (total : IsTotalOrder R) (exact : (x y : K) → eq_by_cmp R x y ≡ true → x ≡ y) (value : K → Option X) where
-  get-with_value : (m : FinMap R X) (k : K) (o : Option X) (q : K) → value k ≡ o → get (with_value m k o) q ≡ cond (eq_by_cmp R q k && is_some o) (value q) (get m q)
-  get-with_value m k None q is = elim (eq_by_cmp R q k) as (λ b. get m q ≡ cond (b && false) (value q) (get m q)) [ true ↦ refl | false ↦ refl ]
-  get-with_value m k (Some v) q is =
-      get-insert total m k v q
-      ∙ (elim (eq_by_cmp R q k) as (λ b. eq_by_cmp R q k ≡ b → cond b (Some v) (get m q) ≡ cond (b && true) (value q) (get m q)) [
-        | true ↦ λ ties. sym is ∙ ap value (sym (exact q k ties))
-        | false ↦ λ apart. refl
-      ] refl)
-
-  named_or : (b s n : Bool) (x rest : Option X) → (s ≡ false → b ≡ true → x ≡ None) → rest ≡ cond n x None → cond (b && s) x rest ≡ cond (b || n) x None
-  named_or true true n x rest none is = refl
-  named_or true false true x rest none is = is
-  named_or true false false x rest none is = is ∙ sym (none refl refl)
-  named_or false s n x rest none is = is
-
-  none_set : (o : Option X) → is_some o ≡ false → o ≡ None
-  none_set None h = refl
-  none_set (Some v) h = absurd (false≢true (sym h))
-
-  pub get-tabulated : (keys : List K) (q : K) → get (tabulated {R = R} value keys) q ≡ cond (list_any (eq_by_cmp R q) keys) (value q) None
-  get-tabulated [] q = get-empty R q
-  get-tabulated (k ∷ keys) q =
-      get-with_value (tabulated value keys) k (value k) q refl
-      ∙ named_or (eq_by_cmp R q k) (is_some (value k)) (list_any (eq_by_cmp R q) keys) (value q) _
-      (λ unset ties. ap value (exact q k ties) ∙ none_set (value k) unset) (get-tabulated keys q)
-
-  held_or_none : (b : Bool) (x : Option X) → (is_some x ≡ true → b ≡ true) → cond b x None ≡ x
-  held_or_none true x named = refl
-  held_or_none false None named = refl
-  held_or_none false (Some v) named = absurd (false≢true (named refl))
-
-  -- where each key that has a value is among them
-  pub tabulates : (keys : List K) → ((q : K) → is_some (value q) ≡ true → list_any (eq_by_cmp R q) keys ≡ true) → (q : K) → get (tabulated {R = R} value keys) q ≡ value q
-  tabulates keys named q = get-tabulated keys q ∙ held_or_none _ (value q) (named q)
+use Rattle.papergrid_keys.proofs.TabulatedLemmas.{tabulates}
+use Rattle.papergrid_keys.proofs.KeyLemmas.{exact_position, exact_positions, position_equiv, position_ties, position_total}
+use Rattle.papergrid_tables.proofs.LineTested.{exact_number}
 
 -- ---- what calls write, they name
 

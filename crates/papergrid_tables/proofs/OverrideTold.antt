@@ -14,11 +14,11 @@ use Rattle.papergrid_values.specs.declared.offset.Offset.{Offset}
 use Rattle.papergrid_values.specs.declared.offset.Offset.TheVariants.{Start, End}
 use Rattle.papergrid_values.specs.declared.position.Position.{Position}
 use Rattle.papergrid_tables.specs.Changes.{Keeps, Removes, Writes, after, last}
-use Rattle.papergrid_tables.specs.Keys.{position_cmp, position_eq}
+use Rattle.papergrid_keys.specs.Keys.{position_cmp, position_eq}
 use Rattle.papergrid_tables.specs.Overrides.{HeldOffsets, OffsetCall, SetAt, RemoveAt, RemoveAll, Appends, IsClear, IsOverridden, IsTold, at_offset, at_override, is_same_offset, override_at}
 use Rattle.papergrid_tables.specs.ForProofs.OverrideScan.{AfterSet, AreSet}
-use Rattle.papergrid_tables.proofs.KeyLemmas.{get_at_number, get_at_position, exact_position_eq, position_equiv}
-use Rattle.papergrid_tables.proofs.EntryLemmas.{none_of_nothing}
+use Rattle.papergrid_keys.proofs.KeyLemmas.{get_at_number, get_at_position, exact_position_eq, position_equiv}
+use Rattle.papergrid_keys.proofs.EntryLemmas.{none_of_nothing}
 
 same_offset : (o : Offset) → is_same_offset o o ≡ true
 same_offset (Start n) = nat_eq_equiv.refl n
@@ -203,7 +203,3 @@ module _ {T : Type 0} where
 pub either_way : {A E P Q R : Type 0} (r : Result A E) → (P → R) → (Q → R) → OnOk r P → OnErr r Q → R
 either_way (Ok x) f g p q = f p
 either_way (Err e) f g p q = g q
-
-pub on_err_map : {A E P Q : Type 0} (r : Result A E) → (P → Q) → OnErr r P → OnErr r Q
-on_err_map (Ok x) f q = q
-on_err_map (Err e) f q = f q

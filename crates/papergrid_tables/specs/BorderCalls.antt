@@ -7,7 +7,7 @@ use Rattle.papergrid_values.specs.declared.borders.Borders.{Borders}
 use Rattle.papergrid_values.specs.declared.horizontal_line.HorizontalLine.{HorizontalLine}
 use Rattle.papergrid_values.specs.declared.vertical_line.VerticalLine.{VerticalLine}
 use Rattle.papergrid_tables.specs.Changes.{Change, Keeps, Removes, Writes, if_set}
-use Rattle.papergrid_tables.specs.Keys.{position_eq}
+use Rattle.papergrid_keys.specs.Keys.{position_eq}
 
 -- the calls that change a border table; `Clear` puts a new one in its place
 pub data BorderCall (T : Type 0) : Type 0 where

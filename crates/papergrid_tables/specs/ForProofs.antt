@@ -5,5 +5,4 @@ pub mod CountedLines
 pub mod CountedPlaces
 pub mod CountedTable
 pub mod Counts
-pub mod EqualLaws
 pub mod OverrideScan

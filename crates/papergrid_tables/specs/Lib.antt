@@ -2,8 +2,6 @@ pub mod BorderCalls
 pub mod BorderHeld
 pub mod BorderScan
 pub mod Changes
-pub mod Equal
-pub mod Keys
 pub mod LineTests
 pub mod Made
 pub mod OffsetEq

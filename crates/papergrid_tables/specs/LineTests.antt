@@ -9,7 +9,7 @@ use Rattle.papergrid_values.specs.declared.horizontal_line.HorizontalLine.{Horiz
 use Rattle.papergrid_values.specs.declared.vertical_line.VerticalLine.{VerticalLine}
 use Rattle.papergrid_tables.specs.BorderHeld.{HeldBorders}
 use Rattle.papergrid_tables.specs.BorderScan.{has_end}
-use Rattle.papergrid_tables.specs.Keys.{position_cmp}
+use Rattle.papergrid_keys.specs.Keys.{position_cmp}
 use Rattle.papergrid_tables.specs.Places.{in_frame_horizontal, in_frame_vertical}
 
 module _ {T : Type 0} where

@@ -1,20 +1,10 @@
 -- The border table that calls make: what the calls leave, at each place that one of them names.
-use Rattle.std.specs.Prelude.{ℕ, List, [], ◌∷◌, flat_map, reverse, Option, Some, None}
-use Rattle.std.specs.declared.cmp.Ordering.{Ordering}
-use Rattle.std.specs.FinMap.{FinMap, empty, insert}
+use Rattle.std.specs.Prelude.{ℕ, List, [], ◌∷◌, flat_map, reverse}
 use Rattle.papergrid_values.specs.declared.position.Position.{Position}
+use Rattle.papergrid_keys.specs.Tabulated.{tabulated}
 use Rattle.papergrid_tables.specs.BorderCalls.{BorderCall, InsertBorder, InsertHorizontalLine, InsertVerticalLine, below, right_of}
 use Rattle.papergrid_tables.specs.BorderHeld.{HeldBorders}
 use Rattle.papergrid_tables.specs.Places.{places_from}
-
-abbrev pub with_value : {K X : Type 0} {R : K → K → Ordering} → FinMap R X → K → Option X → FinMap R X
-with_value m key None = m
-with_value m key (Some v) = insert m key v
-
--- the value of each of these keys that has one
-abbrev pub tabulated : {K X : Type 0} {R : K → K → Ordering} → (K → Option X) → List K → FinMap R X
-tabulated value [] = empty
-tabulated value (key ∷ keys) = with_value (tabulated value keys) key (value key)
 
 module _ {T : Type 0} where
   abbrev pub named_rows : BorderCall T → List ℕ

@@ -7,9 +7,9 @@ use Rattle.std.specs.Option.{option_eq}
 use Rattle.std.specs.Ordering.{nat_cmp}
 use Rattle.papergrid_values.specs.declared.offset.Offset.{Offset}
 use Rattle.papergrid_values.specs.declared.position.Position.{Position}
-use Rattle.papergrid_tables.specs.Equal.{numbers_eq, places_eq}
-use Rattle.papergrid_tables.specs.ForProofs.EqualLaws.{numbers_laws, places_laws}
-use Rattle.papergrid_tables.specs.Keys.{position_cmp}
+use Rattle.papergrid_keys.specs.Equal.{numbers_eq, places_eq}
+use Rattle.papergrid_keys.specs.ForProofs.EqualLaws.{numbers_laws, places_laws}
+use Rattle.papergrid_keys.specs.Keys.{position_cmp}
 use Rattle.papergrid_tables.specs.Overrides.{HeldOffsets, override_at}
 
 module _ {T : Type 0} where

@@ -7,7 +7,7 @@ use Rattle.papergrid_values.specs.declared.offset.Offset.{Offset}
 use Rattle.papergrid_values.specs.declared.offset.Offset.TheVariants.{Start, End}
 use Rattle.papergrid_values.specs.declared.position.Position.{Position}
 use Rattle.papergrid_tables.specs.Changes.{Change, Keeps, Removes, Writes, last}
-use Rattle.papergrid_tables.specs.Keys.{position_cmp, position_eq}
+use Rattle.papergrid_keys.specs.Keys.{position_cmp, position_eq}
 
 -- the calls that change overrides
 pub data OffsetCall (T : Type 0) : Type 0 where

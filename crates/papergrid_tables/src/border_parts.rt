@@ -8,12 +8,12 @@ ghost use Rattle.papergrid_values.specs.declared.position.Position.{Position};
 ghost use Rattle.papergrid_tables.specs.BorderCalls.{below, right_of, horizontal_part, vertical_part, corner_part};
 ghost use Rattle.papergrid_tables.specs.ForProofs.CountedPlaces.{AreCornersCounted, AreEdgesCounted, HasCornerRoom, HasEdgeRoom};
 ghost use Rattle.papergrid_tables.specs.ForProofs.CountedLines.{is_held, reaches};
-ghost use Rattle.papergrid_tables.specs.Keys.{position_eq};
+ghost use Rattle.papergrid_keys.specs.Keys.{position_eq};
 ghost use Rattle.papergrid_tables.specs.Places as places;
 
 use crate::counted_lines::Lines;
 use crate::counted_places::{Corners, Edges};
-use crate::hashed;
+use papergrid_keys::hashed;
 use crate::line_counts::LineCounts;
 use papergrid_values::{Border, Borders, Direction, HorizontalLine, Position, VerticalLine};
 use std::alloc::AllocError;

@@ -7,7 +7,7 @@ ghost use Rattle.std.specs.FinMap.{get as value_at};
 ghost use Rattle.papergrid_values.specs.Borders.{border_map};
 ghost use Rattle.papergrid_tables.specs.BorderCalls.{BorderCall, Clear, InsertBorder, RemoveBorder, InsertHorizontalLine, RemoveHorizontalLine, InsertVerticalLine, RemoveVerticalLine, SetBorders, SetGlobal};
 ghost use Rattle.papergrid_tables.specs.BorderHeld.{IsTold, Appends, places_of};
-ghost use Rattle.papergrid_tables.specs.Keys.{position_eq};
+ghost use Rattle.papergrid_keys.specs.Keys.{position_eq};
 ghost use Rattle.papergrid_tables.specs.LineTests.{horizontal_line_at, vertical_line_at};
 ghost use Rattle.papergrid_tables.specs.Places.{IsBare, HasHorizontal, HasVertical, IsHorizontalSet, IsVerticalSet, found_border, found_horizontal, found_intersection, found_vertical};
 

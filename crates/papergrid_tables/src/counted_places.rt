@@ -9,7 +9,7 @@ ghost use Rattle.papergrid_values.specs.declared.position.Position.{Position};
 ghost use Rattle.papergrid_tables.specs.BorderCalls.{at_place};
 ghost use Rattle.papergrid_tables.specs.ForProofs.CountedPlaces.{AreEdgesCounted, AreCornersCounted, HasEdgeRoom, HasCornerRoom};
 ghost use Rattle.papergrid_tables.specs.ForProofs.Counts.{number_on};
-ghost use Rattle.papergrid_tables.specs.Keys.{position_eq};
+ghost use Rattle.papergrid_keys.specs.Keys.{position_eq};
 
 use crate::line_counts::LineCounts;
 use papergrid_values::{Direction, Position};

@@ -5,7 +5,7 @@ ghost use Rattle.std.specs.FinMap.{FinMap};
 ghost use Rattle.papergrid_tables.specs.BorderCalls.{BorderCall};
 ghost use Rattle.papergrid_tables.specs.BorderHeld as borders;
 ghost use Rattle.papergrid_tables.specs.BorderHeld.{HeldBorders};
-ghost use Rattle.papergrid_tables.specs.Keys.{position_cmp};
+ghost use Rattle.papergrid_keys.specs.Keys.{position_cmp};
 ghost use Rattle.papergrid_tables.specs.Made.{borders_made};
 ghost use Rattle.papergrid_tables.specs.OffsetEq.{HoldTheSame};
 ghost use Rattle.papergrid_tables.specs.Overrides as overrides;

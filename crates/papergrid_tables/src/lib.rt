@@ -1,12 +1,11 @@
 //! Tables of places: values for the lines, edges and corners of a table, and for offsets of its
-//! positions; with the single steps on hashed maps that they are written in.
+//! positions.
 #![tactic(auto)]
 
 mod border_parts;
 pub mod border_table;
 mod counted_lines;
 mod counted_places;
-pub mod hashed;
 pub mod laws;
 mod line_counts;
 pub mod offset_table;

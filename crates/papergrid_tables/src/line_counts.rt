@@ -4,7 +4,7 @@ ghost use Rattle.std.specs.Prelude.{◌≡◌, ◌↔◌, ◌+◌, ◌<◌, ◌�
 ghost use Rattle.std.specs.HashMap.{spare};
 ghost use Rattle.papergrid_tables.specs.ForProofs.Counts.{count_of};
 
-use crate::hashed::{look_up, put};
+use papergrid_keys::hashed::{look_up, put};
 use std::alloc::{AllocError, Global};
 use std::collections::HashMap;
 

@@ -4,11 +4,11 @@ ghost use Rattle.std.specs.Prelude.{◌≡◌, ◌∷◌, [], ◌↔◌, Some, N
 ghost use Rattle.std.specs.HashMap.{get as map_get};
 ghost use Rattle.papergrid_values.specs.declared.offset.Offset.{Offset};
 ghost use Rattle.papergrid_values.specs.declared.position.Position.{Position};
-ghost use Rattle.papergrid_tables.specs.Keys.{position_eq};
+ghost use Rattle.papergrid_keys.specs.Keys.{position_eq};
 ghost use Rattle.papergrid_tables.specs.ForProofs.OverrideScan.{AfterSet, AreSet};
 ghost use Rattle.papergrid_tables.specs.Overrides.{Appends, IsClear, IsOverridden, IsTold, RemoveAll, RemoveAt, SetAt, at_offset, found_override, is_same_offset, override_at};
 
-use crate::hashed::{take, write};
+use papergrid_keys::hashed::{remove, write};
 use papergrid_values::{Offset, Position};
 use std::alloc::{AllocError, Global};
 use std::collections::HashMap;
@@ -42,7 +42,7 @@ impl<T> Model for Overrides<T> {
 
 impl<T> Model for OffsetTable<T> {
     ghost use Rattle.std.specs.FinMap as map;
-    ghost use Rattle.papergrid_tables.specs.Keys.{position_cmp, coded_position};
+    ghost use Rattle.papergrid_keys.specs.Keys.{position_cmp, coded_position};
     ghost use Rattle.papergrid_tables.specs.Overrides.{HeldOffsets};
     ghost use Rattle.papergrid_tables.specs.ForProofs.OverrideScan.{AreSet, offsets_code};
 
@@ -137,7 +137,7 @@ impl<T: Drop> OffsetTable<T> {
     pub fn remove(&mut self, pos: Position)
         ensures { Appends self.old self.new (RemoveAt pos ∷ []) }
     {
-        take(&mut self.overrides, pos);
+        remove(&mut self.overrides, pos);
     }
 
     /// Removes all values.

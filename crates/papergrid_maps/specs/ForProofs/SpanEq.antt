@@ -1,8 +1,8 @@
 -- When two span tables hold the same.
 use Rattle.std.specs.Prelude.{Bool, ◌&&◌, nat_eq}
 use Rattle.std.specs.Cmp.{IsPartialEquivalence, and_per, nat_eq_equiv, on_per, partial_equiv_from_equiv}
-use Rattle.papergrid_tables.specs.Equal.{places_eq}
-use Rattle.papergrid_tables.specs.ForProofs.EqualLaws.{places_laws}
+use Rattle.papergrid_keys.specs.Equal.{places_eq}
+use Rattle.papergrid_keys.specs.ForProofs.EqualLaws.{places_laws}
 use Rattle.papergrid_maps.specs.Spans.{Spans}
 
 abbrev pub spans_eq : Spans → Spans → Bool

@@ -6,7 +6,7 @@ use Rattle.std.specs.Map.{lookup}
 use Rattle.std.specs.Ordering.{nat_cmp}
 use Rattle.papergrid_values.specs.declared.offset.Offset.{Offset}
 use Rattle.papergrid_values.specs.declared.position.Position.{Position}
-use Rattle.papergrid_tables.specs.Keys.{position_eq}
+use Rattle.papergrid_keys.specs.Keys.{position_eq}
 use Rattle.papergrid_tables.specs.Overrides.{HeldOffsets, at_offset, is_same_offset}
 
 abbrev pub offsets_code : {T : Type 0} → Coded T → Coded (HeldOffsets T)

@@ -1,8 +1,8 @@
 use Rattle.std.proofs.Common.{◌∙◌, ap, cond, is_some, Some, sym}
 use Rattle.std.specs.HashMap.{get}
-use Rattle.papergrid_tables.specs.Keys.{position_eq}
-use Rattle.papergrid_tables.proofs.ResultLemmas.{on_ok_map}
-use Rattle.papergrid_tables.proofs.OverrideTold.{on_err_map, put_back, set_anew, set_in_place}
+use Rattle.papergrid_keys.specs.Keys.{position_eq}
+use Rattle.papergrid_keys.proofs.ResultLemmas.{on_ok_map, on_err_map}
+use Rattle.papergrid_tables.proofs.OverrideTold.{put_back, set_anew, set_in_place}
 use Rattle.papergrid_tables.proofs.offset_table.set_override.Goals as goal
 
 pub returns-in-Some-clause-ok : goal.returns-in-Some-clause-ok

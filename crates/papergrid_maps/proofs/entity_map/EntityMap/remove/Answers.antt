@@ -15,4 +15,4 @@ pub returns-in-Row : goal.returns-in-Row
 returns-in-Row g c = rw c.drop_row.ensures (told_from_step c.self.view_is (ap Remove c.in-Row.is) (step_remove_row _ c.in-Row.row _ _ _))
 
 pub returns-in-Cell : goal.returns-in-Cell
-returns-in-Cell g c = told_from_step c.self.view_is (ap Remove c.in-Cell.is) (step_remove_cell _ c.in-Cell.row c.in-Cell.col _ _ _ _ c.take.ensures.0)
+returns-in-Cell g c = told_from_step c.self.view_is (ap Remove c.in-Cell.is) (step_remove_cell _ c.in-Cell.row c.in-Cell.col _ _ _ _ c.remove.ensures.0)

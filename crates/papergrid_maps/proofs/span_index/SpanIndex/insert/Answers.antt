@@ -1,7 +1,7 @@
 use Rattle.std.proofs.Common.{◌∙◌, Some, ap, cond, refl, sym}
 use Rattle.std.specs.BTreeMap.{get as tree_get, is_at}
-use Rattle.papergrid_tables.specs.Keys.{position_cmp}
-use Rattle.papergrid_tables.proofs.ResultLemmas.{on_err}
+use Rattle.papergrid_keys.specs.Keys.{position_cmp}
+use Rattle.papergrid_keys.proofs.ResultLemmas.{on_err}
 use Rattle.papergrid_maps.proofs.IndexKeys.{held_at, held_insert}
 use Rattle.papergrid_maps.proofs.span_index.SpanIndex.insert.Goals as goal
 

@@ -2,7 +2,7 @@ use Rattle.std.proofs.Common.{◌∙◌, ap}
 use Rattle.std.specs.Option.{option_or}
 use Rattle.papergrid_tables.specs.BorderCalls.{horizontal_part, vertical_part, corner_part}
 use Rattle.papergrid_tables.proofs.BorderTold.{same_table, told_insert_border}
-use Rattle.papergrid_tables.proofs.ResultLemmas.{on_err}
+use Rattle.papergrid_keys.proofs.ResultLemmas.{on_err}
 use Rattle.papergrid_tables.proofs.border_table.BorderTable.insert_border.Goals as goal
 
 pub returns-in_err-reserve-clause-err : goal.returns-in_err-reserve-clause-err

@@ -1,7 +1,7 @@
 use Rattle.std.proofs.Common.{◌∙◌}
-use Rattle.papergrid_tables.proofs.ResultLemmas.{on_ok_map}
-use Rattle.papergrid_tables.proofs.EntryLemmas.{same_places}
-use Rattle.papergrid_tables.proofs.OverrideTold.{either_way, kept_set, kept_unchanged, on_err_map, told_set}
+use Rattle.papergrid_keys.proofs.ResultLemmas.{on_ok_map, on_err_map}
+use Rattle.papergrid_keys.proofs.EntryLemmas.{same_places}
+use Rattle.papergrid_tables.proofs.OverrideTold.{either_way, kept_set, kept_unchanged, told_set}
 use Rattle.papergrid_tables.proofs.offset_table.OffsetTable.set.Goals as goal
 
 pub invariant_of-self : goal.invariant_of-self

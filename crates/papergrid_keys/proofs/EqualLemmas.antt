@@ -1,5 +1,5 @@
 -- Equality of finite maps, by the entries of hashed ones.
-use Rattle.std.proofs.Common.{◌≡◌, ℕ, Bool, true, false, List, eqb, refl, sym, ◌∙◌}
+use Rattle.std.proofs.Common.{◌≡◌, ℕ, Bool, true, false, List, Option, Some, None, eqb, refl, sym, ◌∙◌}
 use Rattle.std.specs.Option.{option_eq}
 use Rattle.std.specs.Cmp.{IsEquivalence, nat_eq_equiv}
 use Rattle.std.specs.Map.{lookup}
@@ -10,10 +10,10 @@ use Rattle.std.specs.Ordering.{eq_by_cmp, nat_cmp}
 use Rattle.std.specs.declared.cmp.Ordering.{Ordering}
 use Rattle.std_collections.specs.Layout.HashMap.{hash_map}
 use Rattle.std_collections.specs.HashMap.Eq.{hash_map_eq_from_get, get_from_hash_map_eq}
-use Rattle.papergrid_tables.specs.Keys.{position_cmp, position_eq}
-use Rattle.papergrid_tables.specs.Equal.{numbers_eq, places_eq}
+use Rattle.papergrid_keys.specs.Keys.{position_cmp, position_eq}
+use Rattle.papergrid_keys.specs.Equal.{numbers_eq, places_eq}
 use Rattle.papergrid_values.specs.declared.position.Position.{Position}
-use Rattle.papergrid_tables.proofs.KeyLemmas.{get_at_number, get_at_position, find-lookup, position_equiv, position_ties}
+use Rattle.papergrid_keys.proofs.KeyLemmas.{get_at_number, get_at_position, find-lookup, position_equiv, position_ties}
 use Rattle.std.specs.Cmp.{unsigned_ties}
 
 -- two tests with one meaning are equal
@@ -70,3 +70,15 @@ pub places_eq-from_entries : {X : Type 0} (eq : X → X → Bool) (es fs : List 
 places_eq-from_entries eq es fs =
     same_answers position_eq position_cmp position_equiv position_ties eq _ _ es fs
     (λ q. sym (at_entries position_eq position_cmp position_equiv position_ties eq es (get_at_position es) q)) (λ q. sym (at_entries position_eq position_cmp position_equiv position_ties eq fs (get_at_position fs) q))
+
+-- what equals itself, part by part
+module _ {X : Type 0} (eq : X → X → Bool) (same : (x : X) → eq x x ≡ true) where
+  pub option_same : (o : Option X) → option_eq eq o o ≡ true
+  option_same None = refl
+  option_same (Some x) = same x
+
+  pub numbers_same : (m : FinMap nat_cmp X) → numbers_eq eq m m ≡ true
+  numbers_same m = (numbers_agree eq m m).1 (λ n. option_same (get m n))
+
+  pub places_same : (m : FinMap position_cmp X) → places_eq eq m m ≡ true
+  places_same m = (places_agree eq m m).1 (λ p. option_same (get m p))

@@ -8,7 +8,7 @@ use Rattle.std.proofs.lemmas.Cmp.{on_total, then_total}
 use Rattle.std.proofs.lemmas.Map.Lookups.{CmpEqualImpliesEq, exact_pairs, exact_unsigned}
 use Rattle.std.specs.Map.{lookup}
 use Rattle.std.specs.FinMap.{get, find, from_entries, get-from_entries}
-use Rattle.papergrid_tables.specs.Keys.{position_cmp, position_eq}
+use Rattle.papergrid_keys.specs.Keys.{position_cmp, position_eq}
 use Rattle.papergrid_values.specs.declared.position.Position.{Position}
 
 pub position_total : IsTotalOrder position_cmp
@@ -41,3 +41,7 @@ exact_position_eq p q h =
 
 pub position_equiv : IsEquivalence position_eq
 position_equiv = and_equiv (on_equiv (λ p. p.row) nat_eq_equiv) (on_equiv (λ p. p.col) nat_eq_equiv)
+
+-- nor by their order
+pub exact_position : (p q : Position) → eq_by_cmp position_cmp p q ≡ true → p ≡ q
+exact_position p q h = exact_position_eq p q (position_ties p q ∙ h)

@@ -7,6 +7,10 @@ pub on_err : {A E : Type 0} (r : Result A E) {P : Type 0} → P → OnErr r P
 on_err (Ok x) p = tt
 on_err (Err e) p = p
 
+pub on_err_map : {A E P Q : Type 0} (r : Result A E) → (P → Q) → OnErr r P → OnErr r Q
+on_err_map (Ok x) f q = q
+on_err_map (Err e) f q = f q
+
 pub on_ok_map : {A E : Type 0} (r : Result A E) {P Q : Type 0} → (P → Q) → OnOk r P → OnOk r Q
 on_ok_map (Ok x) f p = f p
 on_ok_map (Err e) f p = p

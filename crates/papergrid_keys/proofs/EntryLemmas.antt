@@ -7,8 +7,8 @@ use Rattle.std.specs.FinMap.{from_entries, same_map, nat_cmp-IsAntisymmetric}
 use Rattle.std.specs.Ordering.{nat_cmp}
 use Rattle.std.proofs.lemmas.Bool.{false≢true}
 use Rattle.papergrid_values.specs.declared.position.Position.{Position}
-use Rattle.papergrid_tables.specs.Keys.{position_cmp, position_eq}
-use Rattle.papergrid_tables.proofs.KeyLemmas.{get_at_number, get_at_position, position_total, exact_positions}
+use Rattle.papergrid_keys.specs.Keys.{position_cmp, position_eq}
+use Rattle.papergrid_keys.proofs.KeyLemmas.{get_at_number, get_at_position, position_total, exact_positions}
 
 none_is_not_some : {X : Type 0} {x : X} → ◌≡◌ {A = Option X} None (Some x) → ⊥
 none_is_not_some e = false≢true (ap is_some e)

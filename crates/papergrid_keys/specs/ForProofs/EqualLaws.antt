@@ -7,8 +7,8 @@ use Rattle.std.specs.FinMap.{entries}
 use Rattle.std.proofs.lemmas.Bool.{false≢true}
 use Rattle.std_collections.specs.Layout.HashMap.{hash_map}
 use Rattle.std_collections.specs.HashMap.Eq.{hash_map_eq_symm, hash_map_eq_trans}
-use Rattle.papergrid_tables.specs.Equal.{numbers_eq, places_eq}
-use Rattle.papergrid_tables.specs.Keys.{position_eq}
+use Rattle.papergrid_keys.specs.Equal.{numbers_eq, places_eq}
+use Rattle.papergrid_keys.specs.Keys.{position_eq}
 
 position_eq_equiv : IsEquivalence position_eq
 position_eq_equiv = and_equiv (on_equiv (λ p. p.row) nat_eq_equiv) (on_equiv (λ p. p.col) nat_eq_equiv)

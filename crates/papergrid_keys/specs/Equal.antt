@@ -3,7 +3,7 @@ use Rattle.std.specs.Prelude.{Bool, nat_eq}
 use Rattle.std.specs.HashMap.{entries_eq}
 use Rattle.std.specs.FinMap.{FinMap, entries}
 use Rattle.std.specs.Ordering.{nat_cmp}
-use Rattle.papergrid_tables.specs.Keys.{position_cmp, position_eq}
+use Rattle.papergrid_keys.specs.Keys.{position_cmp, position_eq}
 
 module _ {X : Type 0} (eq : X → X → Bool) where
   abbrev pub numbers_eq : FinMap nat_cmp X → FinMap nat_cmp X → Bool

@@ -47,7 +47,7 @@ pub fn write<K: Eq + Hash + Drop, T: Drop>(
 }
 
 /// Drops what a key has.
-pub fn take<K: Eq + Hash + Copy, T: Drop>(map: &mut HashMap<K, T>, key: K)
+pub fn remove<K: Eq + Hash + Copy, T: Drop>(map: &mut HashMap<K, T>, key: K)
     ensures { Updates K.eq map.old map.new key None }
 {
     let _ = map.remove(&key);

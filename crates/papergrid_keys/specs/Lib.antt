@@ -1,0 +1,4 @@
+pub mod Equal
+pub mod Keys
+pub mod Tabulated
+pub mod ForProofs
