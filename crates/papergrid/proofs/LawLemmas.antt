@@ -27,7 +27,7 @@ use Rattle.papergrid.specs.declared.estimate.Sizing.{Sizing}
 use Rattle.papergrid.specs.declared.estimate.Sizing.TheVariants.{ByShares, Least}
 use Rattle.papergrid.specs.Estimates.{Estimate, OutOfTable, TooLarge, Sized, unless_large, unless_out, text_measure, sizes_by, witness_by, estimate_by, estimate_of}
 use Rattle.papergrid.specs.Looks.{look_of}
-use Rattle.papergrid.specs.Scripts.{Table}
+use Rattle.papergrid_script.specs.Scripts.{Table}
 use Rattle.papergrid.specs.Totals.{AreSized, AreSizesBy, HasNone, IsTooLarge, IsWitnessOf, problem_of_table}
 use Rattle.papergrid.proofs.EstimateLemmas.{estimate_large, estimate_out}
 use Rattle.papergrid.proofs.LookLemmas.{look_covers, look_draws}

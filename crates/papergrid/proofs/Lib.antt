@@ -1,16 +1,6 @@
-mod CharacterLemmas
-mod CutLemmas
-mod EscapeLemmas
 mod EstimateLemmas
 mod KnownLemmas
 mod LawLemmas
-mod LineLemmas
 mod ListedLemmas
 mod LookLemmas
-mod RangeLemmas
-mod MarkLemmas
-mod ReadLemmas
-mod ScriptLineLemmas
 mod SeenLemmas
-mod SpellLemmas
-mod TellsLemmas

@@ -34,7 +34,7 @@ use Rattle.papergrid.specs.Estimates.{Estimate, estimate_by, estimate_of, text_m
 use Rattle.papergrid.specs.Looks.{look_of}
 use Rattle.papergrid.specs.Outputs.{estimate_end, estimate_text, script_end, script_text, output_by, end_by}
 use Rattle.papergrid.specs.Rows.{GivesBy}
-use Rattle.papergrid.specs.Scripts.{Table, table_of}
+use Rattle.papergrid_script.specs.Scripts.{Table, table_of}
 
 no_entries : {A : Type 0} (es : List A) → length es ≡ 0 → es ≡ []
 no_entries [] e = refl

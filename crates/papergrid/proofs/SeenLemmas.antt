@@ -11,10 +11,11 @@ use Rattle.papergrid_walk.specs.Looks.{spanned_look}
 use Rattle.papergrid_walk.specs.Measures.{line_measure}
 use Rattle.papergrid.specs.Estimates.{Estimate, estimate_by, estimate_of, text_measure}
 use Rattle.papergrid.specs.Looks.{look_of}
-use Rattle.papergrid.specs.ForProofs.Seen.{GivesEstimate, table_seen, texts_of}
+use Rattle.papergrid_script.specs.ForProofs.Seen.{table_seen, texts_of}
+use Rattle.papergrid.specs.ForProofs.Seen.{GivesEstimate}
 use Rattle.papergrid.specs.declared.estimate.Sizes.{Sizes}
 use Rattle.papergrid.specs.declared.estimate.Sizing.{Sizing}
-use Rattle.papergrid.specs.declared.script.Script.{Script}
+use Rattle.papergrid_script.specs.declared.script.Script.{Script}
 use Rattle.papergrid.proofs.EstimateLemmas.{estimate_told, gives_also}
 use Rattle.papergrid.proofs.LookLemmas.{look_told}
 

@@ -18,7 +18,7 @@ use Rattle.papergrid_layout.specs.Witnesses.{witness_of}
 use Rattle.papergrid.specs.declared.estimate.Sizing.{Sizing}
 use Rattle.papergrid.specs.declared.estimate.Sizing.TheVariants.{ByShares, Least}
 use Rattle.papergrid.specs.Looks.{look_of}
-use Rattle.papergrid.specs.Scripts.{Table}
+use Rattle.papergrid_script.specs.Scripts.{Table}
 
 -- the sizes are the widths, the heights, the totals of both with the lines, and the witnesses of both: the places of cells
 -- that certify them, where there are such

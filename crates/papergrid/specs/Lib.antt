@@ -1,16 +1,10 @@
 pub mod Estimates
-pub mod Grammar
 pub mod Layouts
 pub mod Looks
 pub mod Outputs
 pub mod Reasons
 pub mod Rows
 pub mod Runs
-pub mod ScriptLines
-pub mod Scripts
-pub mod Spelling
-pub mod Tells
-pub mod Texts
 pub mod Totals
 pub mod Transfer
 pub mod ForProofs

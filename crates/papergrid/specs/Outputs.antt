@@ -5,10 +5,10 @@ use Rattle.papergrid.specs.declared.estimate.Sizing.{Sizing}
 use Rattle.papergrid.specs.declared.estimate.Sizing.TheVariants.{ByShares, Least}
 use Rattle.papergrid.specs.declared.running.RunEnd.{RunEnd}
 use Rattle.papergrid.specs.declared.running.RunEnd.TheVariants.{Done, Refused, BadScript}
-use Rattle.papergrid.specs.Grammar.{space, comma}
-use Rattle.papergrid.specs.Scripts.{Table, table_of}
+use Rattle.papergrid_script.specs.Grammar.{space, comma}
+use Rattle.papergrid_script.specs.Scripts.{Table, table_of}
 use Rattle.papergrid.specs.Estimates.{Estimate, OutOfTable, TooLarge, Sized, estimate_of}
-use Rattle.papergrid.specs.Texts.{newline}
+use Rattle.papergrid_script.specs.Texts.{newline}
 
 -- a space and a number for each
 abbrev pub spaced : List ℕ → List ℕ

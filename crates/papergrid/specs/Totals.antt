@@ -16,7 +16,7 @@ use Rattle.papergrid.specs.declared.estimate.Sizing.{Sizing}
 use Rattle.papergrid.specs.declared.estimate.Sizing.TheVariants.{ByShares, Least}
 use Rattle.papergrid.specs.Estimates.{text_measure}
 use Rattle.papergrid.specs.Looks.{look_of}
-use Rattle.papergrid.specs.Scripts.{Table}
+use Rattle.papergrid_script.specs.Scripts.{Table}
 
 -- how many lines the settings make along a direction of so many columns (rows)
 abbrev pub lines_along : Direction → List Setting → ℕ → ℕ

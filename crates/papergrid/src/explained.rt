@@ -6,10 +6,10 @@ ghost use Rattle.papergrid_config.specs.Applied.{is_in_range};
 ghost use Rattle.papergrid.specs.declared.estimate.Sizing.TheVariants.{ByShares};
 ghost use Rattle.papergrid.specs.Estimates.{estimate_of};
 ghost use Rattle.papergrid.specs.Reasons.{estimate_reason, reason_of};
-ghost use Rattle.papergrid.specs.ForProofs.Seen.{table_seen};
+ghost use Rattle.papergrid_script.specs.ForProofs.Seen.{table_seen};
 
 use crate::estimate::{Sizing, estimate};
-use crate::script::{Script, ScriptError, read_script};
+use papergrid_script::{Script, ScriptError, read_script};
 use crate::table_layout::configuration;
 use bumpalo::Bump;
 use papergrid_config::SpannedConfig;

@@ -2,21 +2,15 @@
 //! tells such a table.
 #![tactic(auto)]
 
-mod cut;
 mod estimate;
 mod explained;
 pub mod laws;
-mod number;
 mod output;
 mod running;
-mod script;
-mod script_line;
-mod setting_line;
 mod table_layout;
 #[cfg(test)]
 mod tests;
 mod transfer;
-mod unescape;
 
 pub use estimate::Sizing;
 pub use explained::{Reason, explain};

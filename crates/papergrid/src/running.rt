@@ -6,12 +6,13 @@ ghost use Rattle.papergrid_config.specs.Applied.{is_in_range};
 ghost use Rattle.papergrid.specs.Estimates.{estimate_of};
 ghost use Rattle.papergrid.specs.Outputs.{end_by, end_of, estimate_end, estimate_text, least_end_of, least_output_of, output_by, output_of};
 ghost use Rattle.papergrid.specs.Runs.{IsBrokenLeastRun, IsBrokenRun, IsWholeLeastRun, IsWholeRun};
-ghost use Rattle.papergrid.specs.ForProofs.Seen.{GivesEstimate, table_seen};
+ghost use Rattle.papergrid_script.specs.ForProofs.Seen.{table_seen};
+ghost use Rattle.papergrid.specs.ForProofs.Seen.{GivesEstimate};
 ghost use Rattle.papergrid.specs.declared.running.RunFault.TheVariants.{Memory};
 
 use crate::estimate::{Sizes, Sizing, estimate};
 use crate::output::{bad_script_text, out_of_table_text, sizes_text, too_large_text};
-use crate::script::{Script, ScriptError, read_script};
+use papergrid_script::{Script, ScriptError, read_script};
 use crate::table_layout::configuration;
 use crate::transfer::{Failed, Sink, Source};
 use bumpalo::Bump;

@@ -1,18 +1,12 @@
 -- What clauses see of the values that the program holds.
-use Rattle.std.specs.Prelude.{◌≡◌, ℕ, Bool, List, map, MatchBool, Option, Some, None, option_and_then, option_map, Result, Ok, Err, Vec}
-use Rattle.std.specs.Borrow.{Bor}
+use Rattle.std.specs.Prelude.{ℕ, List, Option, option_map, Result, Ok, Err, Vec}
 use Rattle.std.specs.declared.alloc.Global.{Global}
 use Rattle.papergrid_values.specs.declared.position.Position.{Position}
-use Rattle.papergrid.specs.declared.script.Script.{Script}
-use Rattle.papergrid.specs.declared.script.ScriptError.{ScriptError}
-use Rattle.papergrid.specs.declared.script.ScriptError.TheVariants as script_errors
 use Rattle.papergrid.specs.declared.estimate.Sizes.{Sizes}
 use Rattle.papergrid.specs.declared.estimate.Sizing.{Sizing}
 use Rattle.papergrid.specs.declared.estimate.Sizing.TheVariants.{ByShares, Least}
 use Rattle.papergrid_axis.specs.declared.error.LayoutError.{LayoutError}
 use Rattle.papergrid_axis.specs.declared.error.LayoutError.TheVariants as layout_errors
-use Rattle.papergrid.specs.Grammar.{Said}
-use Rattle.papergrid.specs.Scripts.{Table, with_line}
 use Rattle.papergrid_axis.specs.Answers.{IsWitness}
 use Rattle.papergrid_axis.specs.Problem.{Problem}
 use Rattle.papergrid_walk.specs.Looks.{Look}
@@ -20,22 +14,6 @@ use Rattle.papergrid_layout.specs.Witnesses.{IsCertifiedWhere, IsLongest}
 use Rattle.papergrid_layout.specs.declared.certified.Certified.{Certified}
 use Rattle.papergrid.specs.Estimates.{Estimate, OutOfTable, TooLarge, Sized}
 use Rattle.papergrid.specs.Totals.{AreSizesBy, HasNone}
-
-abbrev pub texts_of : Vec (Bor (List ℕ)) Global → List (List ℕ)
-texts_of cells = map (λ text. text.now) cells.items
-
-abbrev pub table_seen : Script → Table
-table_seen script = record { columns = script.columns; settings = script.settings.items; rows = map texts_of script.rows.items }
-
--- what a line says fits, and makes the one table the other; or it does not fit
-abbrev pub Takes : Table → Option Said → Bool → Table → Type 0
-Takes old says fits new = MatchBool fits (option_and_then (with_line old) says ≡ Some new) (option_and_then (with_line old) says ≡ None)
-
--- the table that a script tells, or a bad line; out of memory says nothing
-abbrev pub GivesTable : Result Script ScriptError → Result Table ℕ → Type 0
-GivesTable (Ok script) told = told ≡ Ok (table_seen script)
-GivesTable (Err (script_errors.Bad number)) told = told ≡ Err number
-GivesTable (Err script_errors.Memory) told = Unit {0}
 
 -- what is found to certify the sizes of a problem
 abbrev pub IsFoundWitness : Sizing → Problem → Option (Vec Position Global) → Type 0

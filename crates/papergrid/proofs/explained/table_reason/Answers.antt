@@ -7,7 +7,7 @@ use Rattle.papergrid_config.specs.Parts.{span_calls}
 use Rattle.papergrid.specs.declared.estimate.Sizing.TheVariants.{ByShares}
 use Rattle.papergrid.specs.Estimates.{OutOfTable}
 use Rattle.papergrid.specs.Reasons.{estimate_reason}
-use Rattle.papergrid.specs.ForProofs.Seen.{table_seen, texts_of}
+use Rattle.papergrid_script.specs.ForProofs.Seen.{table_seen, texts_of}
 use Rattle.papergrid.specs.declared.explained.Reason.{Reason}
 use Rattle.papergrid.specs.declared.explained.Reason.TheVariants as reason
 use Rattle.papergrid.proofs.SeenLemmas.{gives_seen}

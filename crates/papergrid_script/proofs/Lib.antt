@@ -1,0 +1,10 @@
+mod CharacterLemmas
+mod CutLemmas
+mod EscapeLemmas
+mod LineLemmas
+mod RangeLemmas
+mod MarkLemmas
+mod ReadLemmas
+mod ScriptLineLemmas
+mod SpellLemmas
+mod TellsLemmas

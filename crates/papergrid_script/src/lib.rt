@@ -1,0 +1,12 @@
+//! Scripts that tell tables: the lines of an input, what each says, and the settings and the texts that they tell.
+#![tactic(auto)]
+
+mod cut;
+pub mod laws;
+mod number;
+pub mod script;
+mod script_line;
+mod setting_line;
+mod unescape;
+
+pub use script::{Script, ScriptError, read_script};
