@@ -8,8 +8,6 @@ pub mod laws;
 mod output;
 mod running;
 mod table_layout;
-#[cfg(test)]
-mod tests;
 mod transfer;
 
 pub use estimate::Sizing;

@@ -17,6 +17,3 @@ mod spans;
 pub use papergrid_maps::{Colors, CompactConfig, EntityMap, MapCall, NoColor, NoColors, Stopped};
 pub use setting::Setting;
 pub use spanned::SpannedConfig;
-
-#[cfg(test)]
-mod tests;

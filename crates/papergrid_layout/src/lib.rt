@@ -33,6 +33,3 @@ pub use placement::{Place, PlaceError};
 pub use placing::places;
 pub use point::cell_at;
 pub use totals::{total_height, total_width};
-
-#[cfg(test)]
-mod tests;

@@ -1,0 +1,5 @@
+//! Worked settings: tests of `papergrid_config` by its public calls.
+#![tactic(auto)]
+
+#[cfg(test)]
+mod tests;

@@ -1,0 +1,5 @@
+//! Worked tables: tests of `papergrid_layout` by its public calls.
+#![tactic(auto)]
+
+#[cfg(test)]
+mod tests;
