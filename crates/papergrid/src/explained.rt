@@ -9,11 +9,11 @@ ghost use Rattle.papergrid.specs.Reasons.{estimate_reason, reason_of};
 ghost use Rattle.papergrid_script.specs.ForProofs.Seen.{table_seen};
 
 use crate::estimate::{Sizing, estimate};
-use papergrid_script::{Script, ScriptError, read_script};
 use crate::table_layout::configuration;
 use bumpalo::Bump;
 use papergrid_config::SpannedConfig;
 use papergrid_layout::LayoutError;
+use papergrid_script::{Script, ScriptError, read_script};
 use papergrid_text::IterRecords;
 use papergrid_values::Position;
 use std::alloc::{AllocError, Global};

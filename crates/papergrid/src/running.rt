@@ -12,11 +12,11 @@ ghost use Rattle.papergrid.specs.declared.running.RunFault.TheVariants.{Memory};
 
 use crate::estimate::{Sizes, Sizing, estimate};
 use crate::output::{bad_script_text, out_of_table_text, sizes_text, too_large_text};
-use papergrid_script::{Script, ScriptError, read_script};
 use crate::table_layout::configuration;
 use crate::transfer::{Failed, Sink, Source};
 use bumpalo::Bump;
 use papergrid_layout::LayoutError;
+use papergrid_script::{Script, ScriptError, read_script};
 use papergrid_text::IterRecords;
 use std::alloc::{AllocError, Global};
 use thiserror::Error;

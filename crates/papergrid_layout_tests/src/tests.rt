@@ -13,11 +13,11 @@ ghost use Rattle.papergrid_text.specs.HeldRows.{column_count};
 ghost use Rattle.papergrid_text.specs.declared.vec_records.VecRecords.{VecRecords};
 
 use crate::tests::callers::{of_held, of_lent};
+use papergrid_config::{CompactConfig, SpannedConfig};
 use papergrid_layout::{
     CompactGridDimension, Dimension, Estimate, IterGridDimension, LayoutError,
     PeekableGridDimension,
 };
-use papergrid_config::{CompactConfig, SpannedConfig};
 use papergrid_text::{IterRecords, Text, VecRecords};
 use papergrid_values::{Entity, Indent, Position, Sides};
 use std::alloc::{AllocError, Global};

@@ -13,8 +13,8 @@ ghost use Rattle.papergrid_tables.specs.Places as places;
 
 use crate::counted_lines::Lines;
 use crate::counted_places::{Corners, Edges};
-use papergrid_keys::hashed;
 use crate::line_counts::LineCounts;
+use papergrid_keys::hashed;
 use papergrid_values::{Border, Borders, Direction, HorizontalLine, Position, VerticalLine};
 use std::alloc::AllocError;
 use std::collections::HashMap;

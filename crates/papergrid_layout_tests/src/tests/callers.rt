@@ -8,8 +8,8 @@ ghost use Rattle.papergrid_walk.specs.Measures.{line_measure};
 ghost use Rattle.papergrid_axis.specs.Answers.{AreSizes};
 ghost use Rattle.papergrid_walk.specs.Cells.{problem_of};
 
-use papergrid_layout::{IterGridDimension, LayoutError};
 use papergrid_config::SpannedConfig;
+use papergrid_layout::{IterGridDimension, LayoutError};
 use papergrid_text::VecRecords;
 use std::alloc::Global;
 

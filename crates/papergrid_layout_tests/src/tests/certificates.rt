@@ -1,12 +1,14 @@
 //! Witnesses and their checkers, on worked tables.
 
-use papergrid_layout::LayoutError;
-use papergrid_layout::iterable::{check_height_witness, check_width_witness, height_witness, width_witness};
 use crate::tests::{
     CROSSING, CROSSING_ROWS, EVEN, INNER_ROWS, LINES_ALONE, NESTED_COLUMNS, NESTED_ROWS, PICTURE,
     REMAINDER, SMALL, Table, plain, set_all,
 };
 use papergrid_config::SpannedConfig;
+use papergrid_layout::LayoutError;
+use papergrid_layout::iterable::{
+    check_height_witness, check_width_witness, height_witness, width_witness,
+};
 use papergrid_values::Position;
 use std::alloc::{AllocError, Global};
 

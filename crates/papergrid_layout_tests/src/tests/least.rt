@@ -1,13 +1,13 @@
 //! Least sizes with the cells that certify them, on worked tables.
 
-use papergrid_layout::iterable::{check_height_witness, check_width_witness};
-use papergrid_layout::least::{height_certificate, width_certificate};
 use crate::tests::{
     CROSSING, CROSSING_ROWS, EVEN, INNER_ROWS, MAX, NESTED_COLUMNS, PICTURE, SMALL, Sizes, Table,
     WIDE_SPAN, are, is_refused, out_at, plain, refusal, set_all,
 };
-use papergrid_layout::{Estimate, LayoutError, LeastGridDimension};
 use papergrid_config::SpannedConfig;
+use papergrid_layout::iterable::{check_height_witness, check_width_witness};
+use papergrid_layout::least::{height_certificate, width_certificate};
+use papergrid_layout::{Estimate, LayoutError, LeastGridDimension};
 use papergrid_values::Position;
 use std::alloc::Global;
 

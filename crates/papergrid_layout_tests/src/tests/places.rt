@@ -9,11 +9,11 @@ ghost use Rattle.papergrid_axis.specs.Answers.{IsTotal};
 ghost use Rattle.papergrid_walk.specs.Cells.{problem_of};
 
 use crate::tests::{GREATEST, NESTED_COLUMNS, PICTURE, Sizes, Table, estimated, set_all, strings};
+use papergrid_config::SpannedConfig;
 use papergrid_layout::{
     Dimension, Estimate, IterGridDimension, LayoutError, Place, PlaceError, place, total_height,
     total_width,
 };
-use papergrid_config::SpannedConfig;
 use papergrid_text::{Records, VecRecords};
 use papergrid_values::{Borders, Position};
 use std::alloc::Global;

@@ -2,8 +2,8 @@
 
 use crate::tests::places::{Taken, at};
 use crate::tests::{HIDDEN_ANCHOR, NESTED_COLUMNS, PICTURE, Table, set_all};
-use papergrid_layout::{LayoutError, Place, PlaceError, cell_at, places};
 use papergrid_config::SpannedConfig;
+use papergrid_layout::{LayoutError, Place, PlaceError, cell_at, places};
 use papergrid_values::{Borders, Position};
 use std::alloc::Global;
 
