@@ -12,7 +12,7 @@ use Rattle.papergrid_axis.specs.Problem.{Problem, total_of}
 use Rattle.papergrid_axis.specs.Ranges.{first_out, place_of}
 use Rattle.papergrid_walk.specs.Cells.{asked, demands_of, problem_of, visible_cells}
 use Rattle.papergrid_walk.specs.Looks.{Look}
-use Rattle.papergrid_layout.specs.Answers.{IsBothRefusedWhere, UnlessWant, first_out_of_table, reaches_out}
+use Rattle.papergrid_layout.specs.Answers.{IsBothRefusedWhere, UnlessMemoryError, first_out_of_table, reaches_out}
 use Rattle.papergrid_layout.specs.Witnesses.{AreCertifiedWhere}
 use Rattle.papergrid_layout.specs.declared.certified.Certified.{Certified}
 use Rattle.papergrid_layout.proofs.Told.{demands_told, problem_told, witness_is}
@@ -151,7 +151,7 @@ module _ {A B : Type 0} (look : Look) (v : A → B) (f : B → ℕ × ℕ) (colu
 
 -- why there are no certified sizes of the cells told is why these have no estimate
 pub refused : {C : Type 0} (Tells : List (List C) → Type 0) (sizing : Sizing) (look : Look) (measure : C → ℕ × ℕ) (columns : ℕ) (e : LayoutError)
-    → UnlessWant e ((cells : List (List C)) × Tells cells × IsBothRefusedWhere look measure columns cells (HasNone sizing) e)
+    → UnlessMemoryError e ((cells : List (List C)) × Tells cells × IsBothRefusedWhere look measure columns cells (HasNone sizing) e)
     → GivesEstimate (Err e) (λ answer. (cells : List (List C)) × Tells cells × (answer ≡ estimate_by sizing look measure columns cells))
 refused Tells sizing look measure columns (layout_errors.OutOfTable place) is = (is.0, is.1, sym (estimate_out look measure columns is.0 sizing place is.2))
 refused Tells sizing look measure columns layout_errors.TooLarge is = (is.0, is.1, sym (estimate_none look measure columns is.0 sizing is.2.0 is.2.1))

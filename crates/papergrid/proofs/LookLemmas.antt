@@ -20,7 +20,7 @@ use Rattle.papergrid_config.specs.Told.{IsTold}
 use Rattle.papergrid_config.specs.declared.setting.Setting.{Setting}
 use Rattle.papergrid_config.specs.declared.spanned.SpannedConfig.{SpannedConfig}
 use Rattle.papergrid_walk.specs.Looks.{Look, line_along, size_after, size_before, span_along, spanned_look}
-use Rattle.papergrid_layout.specs.Answers.{UnlessMemory, UnlessWant}
+use Rattle.papergrid_layout.specs.Answers.{UnlessMemory, UnlessMemoryError}
 use Rattle.papergrid.specs.Looks.{look_of}
 
 pub look_told : (settings : List Setting) (config : SpannedConfig) → IsTold settings config → spanned_look config ≡ look_of settings
@@ -64,7 +64,7 @@ look_draws settings direction = refl
 -- what holds of a result by one look holds of it by the same look
 pub answer_read : {A C : Type 0} (Tells : List (List C) → Type 0) (holds : Look → List (List C) → Result A LayoutError → Type 0) (look other : Look) (same : look ≡ other) (result : Result A LayoutError)
     → IfOk result (λ x. (cells : List (List C)) × Tells cells × holds look cells (Ok x))
-    → IfErr result (λ e. UnlessWant e ((cells : List (List C)) × Tells cells × holds look cells (Err e)))
+    → IfErr result (λ e. UnlessMemoryError e ((cells : List (List C)) × Tells cells × holds look cells (Err e)))
     → UnlessMemory result ((cells : List (List C)) × Tells cells × holds other cells result)
 answer_read {C = C} Tells holds look other same (Ok x) ok err = subst (λ l. (cells : List (List C)) × Tells cells × holds l cells (Ok x)) same ok
 answer_read {C = C} Tells holds look other same (Err (OutOfTable place)) ok err = subst (λ l. (cells : List (List C)) × Tells cells × holds l cells (Err (OutOfTable place))) same err

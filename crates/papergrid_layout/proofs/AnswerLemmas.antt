@@ -11,17 +11,17 @@ use Rattle.papergrid_axis.specs.Problem.{Problem}
 use Rattle.papergrid_axis.specs.Ranges.{first_out}
 use Rattle.papergrid_walk.specs.Cells.{problem_of}
 use Rattle.papergrid_walk.specs.Looks.{Look}
-use Rattle.papergrid_layout.specs.Answers.{IsBothRefusedWhere, UnlessMemory, UnlessWant, first_out_of_table}
+use Rattle.papergrid_layout.specs.Answers.{IsBothRefusedWhere, UnlessMemory, UnlessMemoryError, first_out_of_table}
 
 -- what holds anyway holds unless memory was refused
-pub unless_want : (e : LayoutError) (P : Type 0) → P → UnlessWant e P
-unless_want (OutOfTable q) P p = p
-unless_want TooLarge P p = p
-unless_want (Memory e) P p = tt
+pub unless_memory_error : (e : LayoutError) (P : Type 0) → P → UnlessMemoryError e P
+unless_memory_error (OutOfTable q) P p = p
+unless_memory_error TooLarge P p = p
+unless_memory_error (Memory e) P p = tt
 
 pub unless : {A : Type 0} (r : Result A LayoutError) (P : Type 0) → P → UnlessMemory r P
 unless (Ok x) P p = p
-unless (Err e) P p = unless_want e P p
+unless (Err e) P p = unless_memory_error e P p
 
 some_is_not_none : {A : Type 0} (x : A) (r : Option A) → r ≡ Some x → r ≡ None → ⊥
 some_is_not_none x r e n = false≢true (ap is_some (sym n ∙ e))

@@ -10,16 +10,16 @@ use Rattle.papergrid_least.specs.Answers.{AreLeastSizes, NoneFits}
 use Rattle.papergrid_walk.specs.Cells.{problem_of, visible_cells}
 use Rattle.papergrid_walk.specs.Looks.{Look}
 
--- P, but for out of memory
-abbrev pub UnlessWant : LayoutError → Type 0 → Type 0
-UnlessWant (OutOfTable p) P = P
-UnlessWant TooLarge P = P
-UnlessWant (Memory e) P = ⊤
+-- P, unless it is out of memory
+abbrev pub UnlessMemoryError : LayoutError → Type 0 → Type 0
+UnlessMemoryError (OutOfTable p) P = P
+UnlessMemoryError TooLarge P = P
+UnlessMemoryError (Memory e) P = ⊤
 
 -- P, or memory was refused
 abbrev pub UnlessMemory : {A : Type 0} → Result A LayoutError → Type 0 → Type 0
 UnlessMemory (Ok x) P = P
-UnlessMemory (Err e) P = UnlessWant e P
+UnlessMemory (Err e) P = UnlessMemoryError e P
 
 module _ {C : Type 0} (look : Look) (measure : C → ℕ × ℕ) (columns : ℕ) (cells : List (List C)) where
   -- the cell at a position reaches out of the table, along columns or along rows

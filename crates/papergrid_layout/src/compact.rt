@@ -156,7 +156,7 @@ where
     ghost use Rattle.papergrid_walk.specs.Measures.{std_line_measure};
     ghost use Rattle.papergrid_axis.specs.Answers.{AreSizes, IsRefused};
     ghost use Rattle.papergrid_walk.specs.Cells.{problem_of};
-    ghost use Rattle.papergrid_layout.specs.Answers.{UnlessWant};
+    ghost use Rattle.papergrid_layout.specs.Answers.{UnlessMemoryError};
 
     ghost accepts = { R.is_lawful };
 
@@ -164,7 +164,7 @@ where
         × AreSizes (problem_of (compact_look config) (std_line_measure R.Iter.Cell.text)
         (R.columns records) cells Columns) d.widths };
 
-    ghost is_refused = { λ _ records config error. UnlessWant error ((cells : List (List R.Iter.Cell)) × R.tells records cells
+    ghost is_refused = { λ _ records config error. UnlessMemoryError error ((cells : List (List R.Iter.Cell)) × R.tells records cells
         × IsRefused (problem_of (compact_look config) (std_line_measure R.Iter.Cell.text)
         (R.columns records) cells Columns) error) };
 

@@ -211,14 +211,14 @@ where
     ghost use Rattle.std.specs.Prelude.{List};
     ghost use Rattle.papergrid_walk.specs.Looks.{spanned_look};
     ghost use Rattle.papergrid_walk.specs.Measures.{line_measure};
-    ghost use Rattle.papergrid_layout.specs.Answers.{AreBothSizes, IsBothRefused, UnlessWant};
+    ghost use Rattle.papergrid_layout.specs.Answers.{AreBothSizes, IsBothRefused, UnlessMemoryError};
 
     ghost accepts = { R.is_lawful };
 
     ghost is_estimate = { λ d records config. (cells : List (List R.Iter.Cell)) × R.tells records cells
         × AreBothSizes (spanned_look config) (line_measure R.Iter.Cell.text) (R.columns records) cells d.widths d.heights };
 
-    ghost is_refused = { λ d records config error. UnlessWant error ((cells : List (List R.Iter.Cell)) × R.tells records cells
+    ghost is_refused = { λ d records config error. UnlessMemoryError error ((cells : List (List R.Iter.Cell)) × R.tells records cells
         × IsBothRefused (spanned_look config) (line_measure R.Iter.Cell.text) (R.columns records) cells error) };
 
     fn estimate(&mut self, records: R, config: &SpannedConfig) -> Result<(), LayoutError> {

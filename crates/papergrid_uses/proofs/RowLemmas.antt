@@ -12,7 +12,7 @@ use Rattle.papergrid_axis.specs.Problem.{Problem}
 use Rattle.papergrid_axis.specs.Ranges.{place_of}
 use Rattle.papergrid_walk.specs.Cells.{asked, demands_of, problem_of, visible_cells}
 use Rattle.papergrid_walk.specs.Looks.{Look}
-use Rattle.papergrid_layout.specs.Answers.{HoldAlong, IsBothRefusedWhere, UnlessMemory, UnlessWant, first_out_of_table, reaches_out}
+use Rattle.papergrid_layout.specs.Answers.{HoldAlong, IsBothRefusedWhere, UnlessMemory, UnlessMemoryError, first_out_of_table, reaches_out}
 use Rattle.papergrid_layout.specs.declared.iterable.IterGridDimension.{IterGridDimension}
 use Rattle.papergrid_layout.proofs.Told.{demands_told, problem_told}
 use Rattle.papergrid.specs.Layouts.{IsLaidOut}
@@ -50,7 +50,7 @@ module _ {A B : Type 0} (look : Look) (v : A → B) (f : B → ℕ × ℕ) (colu
 
   -- a refusal along both directions
   pub both_refused : (too_large : Problem → Type 0) (e : LayoutError)
-      → UnlessWant e ((cells : List (List A)) × (map (map v) cells ≡ rows) × IsBothRefusedWhere look (λ x. f (v x)) columns cells too_large e) → IsBothRefusedWhere look f columns rows too_large e
+      → UnlessMemoryError e ((cells : List (List A)) × (map (map v) cells ≡ rows) × IsBothRefusedWhere look (λ x. f (v x)) columns cells too_large e) → IsBothRefusedWhere look f columns rows too_large e
   both_refused too_large (OutOfTable place) is = sym (first_told is.0 is.1) ∙ is.2
   both_refused too_large TooLarge is = (
     sym (first_told is.0 is.1) ∙ is.2.0,
@@ -63,7 +63,7 @@ module _ {A B : Type 0} (look : Look) (v : A → B) (f : B → ℕ × ℕ) (colu
 
   -- a refusal along one direction
   pub one_refused : (too_large : Problem → Type 0) (direction : Direction) (e : LayoutError)
-      → UnlessWant e ((cells : List (List A)) × (map (map v) cells ≡ rows) × IsRefusedWhere (problem_of look (λ x. f (v x)) columns cells direction) (too_large (problem_of look (λ x. f (v x)) columns cells direction)) e)
+      → UnlessMemoryError e ((cells : List (List A)) × (map (map v) cells ≡ rows) × IsRefusedWhere (problem_of look (λ x. f (v x)) columns cells direction) (too_large (problem_of look (λ x. f (v x)) columns cells direction)) e)
       → IsRefusedWhere (problem_of look f columns rows direction) (too_large (problem_of look f columns rows direction)) e
   one_refused too_large direction (OutOfTable place) is = subst (λ problem. IsRefusedWhere problem (too_large problem) (OutOfTable place)) (one_told is.0 is.1 direction) is.2
   one_refused too_large direction TooLarge is = subst too_large (one_told is.0 is.1 direction) is.2
