@@ -12,7 +12,7 @@ mod transfer;
 
 pub use estimate::Sizing;
 pub use explained::{Reason, explain};
-pub use running::{RunEnd, RunFault, run, run_least};
+pub use running::{RunEnd, RunFault, run, run_keeping, run_least};
 pub use table_layout::{layout, layout_least};
 pub use transfer::{Failed, ReadSource, Sink, Source, WriteSink};
 

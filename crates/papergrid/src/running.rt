@@ -192,12 +192,8 @@ pub fn run<S: Source, W: Sink>(
     ensures some_beginning { IsErrOf result RunFault.Write →
         IsBrokenRun (S.remaining reader.old) (S.remaining reader.new) (W.contents writer.old) (W.contents writer.new) }
 {
-    let input = read_all(alloc, reader)?;
-    let (end, output) = answer(alloc, Sizing::ByShares, input.as_slice())?;
-    match write_all(writer, output.as_slice()) {
-        Ok(()) => Ok(end),
-        Err(_) => Err(RunFault::Write),
-    }
+    let mut input = Vec::new(alloc);
+    run_keeping(alloc, Sizing::ByShares, reader, writer, &mut input)
 }
 
 /// The same of the least sizes, whatever spans cross: no table with room for each visible cell is narrower, or lower. It is
@@ -237,8 +233,52 @@ pub fn run_least<S: Source, W: Sink>(
     ensures some_beginning { IsErrOf result RunFault.Write →
         IsBrokenLeastRun (S.remaining reader.old) (S.remaining reader.new) (W.contents writer.old) (W.contents writer.new) }
 {
-    let input = read_all(alloc, reader)?;
-    let (end, output) = answer(alloc, Sizing::Least, input.as_slice())?;
+    let mut input = Vec::new(alloc);
+    run_keeping(alloc, Sizing::Least, reader, writer, &mut input)
+}
+
+/// The same by shares or of the least sizes, as the sizing says, and the whole input is left in the vector, in place of what
+/// it held. So a caller can `explain` an input that came from a reader.
+///
+/// Conditions and errors: as those of `run`. After `Read` the vector is as it was.
+pub fn run_keeping<S: Source, W: Sink>(
+    alloc: Global,
+    sizing: Sizing,
+    reader: &mut S,
+    writer: &mut W,
+    input: &mut Vec<u8>,
+) -> Result<RunEnd, RunFault>
+    // Of a reader and a writer that had not failed.
+    requires reader { S.has_failed reader.old ≡ false }
+    requires writer { W.has_failed writer.old ≡ false }
+    // The vector holds what was read, to the end of the reader; it is all where the reader tells its bytes.
+    ensures kept { OnOk result (Consumes (S.remaining reader.old) (S.remaining reader.new) input.new.items) }
+    ensures all_kept { OnOk result (IfSome (S.remaining reader.old) (λ left. input.new.items ≡ left)) }
+    ensures end { OnOk result (IsAtEnd (S.remaining reader.new)) }
+    // What that means was written and nothing else.
+    ensures written { OnOk result (Appends (W.contents writer.old) (W.contents writer.new) (output_by sizing input.new.items)) }
+    ensures answer { IfOk result (λ end. end ≡ end_by sizing input.new.items) }
+    // No read and no write failed, and each write of a piece that isn't empty took a byte.
+    ensures reader_works { OnOk result (S.has_failed reader.new ≡ false) }
+    ensures writer_works { OnOk result (W.has_failed writer.new ≡ false) }
+    ensures writer_moves { OnOk result (W.has_stalled writer.new ≡ W.has_stalled writer.old) }
+    // Which fault comes, what was written then, and what the vector holds.
+    ensures read { IsErrOf result RunFault.Read → S.has_failed reader.new ≡ true }
+    ensures write { IsErrOf result RunFault.Write →
+        (W.has_failed writer.new ≡ true) ⊎ (W.has_stalled writer.old ≡ false → W.has_stalled writer.new ≡ true) }
+    ensures memory { IsErrOf result RunFault.Memory → S.has_failed reader.new ≡ false }
+    ensures write_alone { IsErrOf result RunFault.Write → S.has_failed reader.new ≡ false }
+    ensures read_nothing { IsErrOf result RunFault.Read → writer.new ≡ writer.old }
+    ensures read_kept { IsErrOf result RunFault.Read → input.new ≡ input.old }
+    ensures memory_nothing { IsErrOf result RunFault.Memory → writer.new ≡ writer.old }
+    ensures beginning { IsErrOf result RunFault.Write →
+        (n : ℕ) × Appends (W.contents writer.old) (W.contents writer.new) (take n (output_by sizing input.new.items)) }
+    ensures write_kept { IsErrOf result RunFault.Write → Consumes (S.remaining reader.old) (S.remaining reader.new) input.new.items }
+    ensures write_all_kept { IsErrOf result RunFault.Write → IfSome (S.remaining reader.old) (λ left. input.new.items ≡ left) }
+    ensures write_end { IsErrOf result RunFault.Write → IsAtEnd (S.remaining reader.new) }
+{
+    *input = read_all(alloc, reader)?;
+    let (end, output) = answer(alloc, sizing, input.as_slice())?;
     match write_all(writer, output.as_slice()) {
         Ok(()) => Ok(end),
         Err(_) => Err(RunFault::Write),

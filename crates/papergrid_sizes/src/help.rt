@@ -25,7 +25,7 @@ What comes out, where the total counts the lines of the table too:
   witness widths R,C ..    cells which show that no smaller total has room for every cell,
   witness heights R,C ..   or none, but never with --least
 
-or one of these, with more on standard error where a FILE was read:
+or one of these, with more on standard error:
 
   refused: out of table at R,C
   refused: too large

@@ -11,11 +11,11 @@ mod tests;
 use arguments::{Request, Unknown, asked_for};
 use help::help_text;
 use message::message_of;
-use papergrid::{ReadSource, RunEnd, RunFault, Sizing, WriteSink, run, run_least};
+use papergrid::{ReadSource, RunEnd, RunFault, Sizing, WriteSink, run_keeping};
 use std::fs::File;
 use std::io::{ErrorKind, Read, Write};
 use std::process::ExitCode;
-use std::{env, fs, io};
+use std::{env, io};
 
 /// Ends with status 0 where the sizes were written, 1 where the table has none, 2 where the script has a
 /// bad line or an argument is not taken, and 3 at a fault. What went wrong is told on standard error.
@@ -35,7 +35,7 @@ fn main(rt: HostRuntime) -> ExitCode {
 /// Does what is asked for.
 fn answered(rt: &HostRuntime, request: Request, sizing: Sizing) -> ExitCode {
     match request {
-        Request::OfInput => status(rt, sizes(rt, sizing, rt.stdin())),
+        Request::OfInput => answered_from(rt, sizing, rt.stdin()),
         Request::OfFile(path) => sizes_of_file(rt, sizing, path.as_str()),
         Request::Help => match help_text(rt.alloc()) {
             Ok(text) => told(rt, text.as_str()),
@@ -45,15 +45,27 @@ fn answered(rt: &HostRuntime, request: Request, sizing: Sizing) -> ExitCode {
     }
 }
 
-/// Writes the sizes of the script that is read, and tells how that ended.
-fn sizes<R: Read + Drop>(rt: &HostRuntime, sizing: Sizing, reader: R) -> Result<RunEnd, RunFault> {
+/// Answers the script that is read, and says what keeps it from having sizes.
+fn answered_from<R: Read + Drop>(rt: &HostRuntime, sizing: Sizing, reader: R) -> ExitCode {
+    let mut script = Vec::new(rt.alloc());
+    let end = sizes(rt, sizing, reader, &mut script);
+    if end == Ok(RunEnd::Refused) || end == Ok(RunEnd::BadScript) {
+        say_why(rt, &script);
+    }
+    status(rt, end)
+}
+
+/// Writes the sizes of the script that is read, keeps the script, and tells how that ended.
+fn sizes<R: Read + Drop>(
+    rt: &HostRuntime,
+    sizing: Sizing,
+    reader: R,
+    script: &mut Vec<u8>,
+) -> Result<RunEnd, RunFault> {
     let mut source = ReadSource::new(reader);
     let mut stdout = rt.stdout();
     let mut writer = WriteSink::new(&mut stdout);
-    let end = match sizing {
-        Sizing::ByShares => run(rt.alloc(), &mut source, &mut writer)?,
-        Sizing::Least => run_least(rt.alloc(), &mut source, &mut writer)?,
-    };
+    let end = run_keeping(rt.alloc(), sizing, &mut source, &mut writer, script)?;
     match stdout.flush() {
         Ok(()) => Ok(end),
         Err(_) => Err(RunFault::Write),
@@ -70,16 +82,10 @@ fn status(rt: &HostRuntime, end: Result<RunEnd, RunFault>) -> ExitCode {
     }
 }
 
-/// Writes the sizes of the script in a file, or says what keeps it from having any.
+/// Answers the script in a file.
 fn sizes_of_file(rt: &HostRuntime, sizing: Sizing, path: &str) -> ExitCode {
     match File::open(rt, path) {
-        Ok(file) => {
-            let end = sizes(rt, sizing, file);
-            if end == Ok(RunEnd::Refused) || end == Ok(RunEnd::BadScript) {
-                say_why(rt, path);
-            }
-            status(rt, end)
-        }
+        Ok(file) => answered_from(rt, sizing, file),
         Err(error) => unopened(rt, path, &error),
     }
 }
@@ -95,12 +101,9 @@ fn told(rt: &HostRuntime, text: &str) -> ExitCode {
 
 // Where even a line on standard error cannot be written, the status still tells.
 
-/// Says why the script in a file has no sizes, as far as it can be read once more.
-fn say_why(rt: &HostRuntime, path: &str) {
-    let Ok(input) = fs::read(rt, path) else {
-        return;
-    };
-    if let Ok(Some(text)) = message_of(rt.alloc(), &input) {
+/// Says why a script has no sizes.
+fn say_why(rt: &HostRuntime, script: &[u8]) {
+    if let Ok(Some(text)) = message_of(rt.alloc(), script) {
         let _ = eprintln!(rt; "{text}");
     }
 }
