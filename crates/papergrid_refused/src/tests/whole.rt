@@ -3,10 +3,16 @@
 use super::says;
 use super::sizes::{in_table, rows, settings};
 use papergrid::records::vec_records::VecRecords;
-use papergrid::{ReadSource, RunEnd, RunFault, WriteSink, layout};
+use papergrid::{
+    ReadSource, RunEnd, RunFault, WriteSink, explain, layout, layout_least, run, run_least,
+};
 use std::alloc::{AllocError, Global};
 use std::process::Abort;
 use std::test::Fail;
+
+/// The picture as a script.
+const PICTURE: &[u8] =
+    b"columns 4\nborder +\ncolspan 1,1 3\nrowspan 0,0 2\npad 0,0 4 4 1 1\nrow\ncell Papergrid\ncell is a library\ncell for print tables\ncell !\nrow\ncell\ncell Just like this\ncell\ncell\n";
 
 #[test]
 fn layout_of_picture(rt: HostRuntime) -> Result<(), Fail> {
@@ -17,23 +23,59 @@ fn layout_of_picture(rt: HostRuntime) -> Result<(), Fail> {
     says(in_table(&rt, answer))
 }
 
-/// Runs a script: the whole output is written, or nothing where memory was refused. The writer has room for the
-/// output, and asks for no more.
-fn run_to(rt: &impl Abort, alloc: Global, script: &[u8], output: &str) -> Result<(), Fail> {
-    let mut written: Vec<u8> = Vec::with_capacity(alloc, 1000)?;
-    let mut reader = ReadSource::new(script);
-    let mut writer = WriteSink::new(&mut written);
-    match papergrid::run(alloc, &mut reader, &mut writer) {
+#[test]
+fn layout_least_of_picture(rt: HostRuntime) -> Result<(), Fail> {
+    let records = VecRecords::new(rows(rt.alloc())?);
+    let settings = settings(rt.alloc())?;
+    assert!(rt; settings.iter().all(|setting| setting.is_in_range()));
+    let answer = layout_least(rt.alloc(), settings, records);
+    says(in_table(&rt, answer))
+}
+
+/// The picture has sizes, and to know that asks for memory.
+#[test]
+fn explain_of_picture(rt: HostRuntime) -> Result<(), Fail> {
+    let answer = explain(rt.alloc(), PICTURE);
+    assert!(rt; matches!(&answer, Ok(None) | Err(_)));
+    says(answer)
+}
+
+/// What a test ends with whose run came to this end: the whole output is written, or nothing where memory was refused.
+fn ends(
+    rt: &impl Abort,
+    end: Result<RunEnd, RunFault>,
+    written: &[u8],
+    output: &str,
+) -> Result<(), Fail> {
+    match end {
         Err(RunFault::Memory) => {
             assert!(rt; written.is_empty());
             says(Err::<(), AllocError>(AllocError))
         }
         end => {
             assert_eq!(rt; end, Ok(RunEnd::Done));
-            assert_eq!(rt; written.as_slice(), output.as_bytes());
+            assert_eq!(rt; written, output.as_bytes());
             Ok(())
         }
     }
+}
+
+/// Runs a script. The writer has room for the output, and asks for no more.
+fn run_to(rt: &impl Abort, alloc: Global, script: &[u8], output: &str) -> Result<(), Fail> {
+    let mut written: Vec<u8> = Vec::with_capacity(alloc, 1000)?;
+    let mut reader = ReadSource::new(script);
+    let mut writer = WriteSink::new(&mut written);
+    let end = run(alloc, &mut reader, &mut writer);
+    ends(rt, end, &written, output)
+}
+
+/// The same with least sizes.
+fn run_least_to(rt: &impl Abort, alloc: Global, script: &[u8], output: &str) -> Result<(), Fail> {
+    let mut written: Vec<u8> = Vec::with_capacity(alloc, 1000)?;
+    let mut reader = ReadSource::new(script);
+    let mut writer = WriteSink::new(&mut written);
+    let end = run_least(alloc, &mut reader, &mut writer);
+    ends(rt, end, &written, output)
 }
 
 #[test]
@@ -41,7 +83,7 @@ fn run_of_picture(rt: HostRuntime) -> Result<(), Fail> {
     run_to(
         &rt,
         rt.alloc(),
-        b"columns 4\nborder +\ncolspan 1,1 3\nrowspan 0,0 2\npad 0,0 4 4 1 1\nrow\ncell Papergrid\ncell is a library\ncell for print tables\ncell !\nrow\ncell\ncell Just like this\ncell\ncell\n",
+        PICTURE,
         "widths 17 12 16 1\nheights 1 1\ntotal 51 5\nwitness widths 0,0 0,1 0,2 0,3\nwitness heights 0,1 1,1\n",
     )
 }
@@ -53,5 +95,16 @@ fn run_of_nested_column_spans(rt: HostRuntime) -> Result<(), Fail> {
         rt.alloc(),
         b"columns 3\ncolspan 1,0 3\ncolspan 2,1 2\nrow\ncell a\ncell a\ncell a\nrow\ncell 0123456789\nrow\ncell a\ncell 01234567\n",
         "widths 2 4 4\nheights 1 1 1\ntotal 10 3\nwitness widths 1,0\nwitness heights 0,0 1,0 2,0\n",
+    )
+}
+
+/// Two cells of ten columns that cross share the middle column.
+#[test]
+fn run_least_of_crossing_spans(rt: HostRuntime) -> Result<(), Fail> {
+    run_least_to(
+        &rt,
+        rt.alloc(),
+        b"columns 3\ncolspan 0,0 2\ncolspan 1,1 2\nrow\ncell 0123456789\nrow\ncell\ncell 0123456789\n",
+        "widths 0 10 0\nheights 1 1\ntotal 10 2\nwitness widths 0,0\nwitness heights 0,0 1,0\n",
     )
 }
