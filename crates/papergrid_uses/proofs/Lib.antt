@@ -1,2 +1,4 @@
+pub mod AnswerLemmas
 pub mod CertificateLemmas
 pub mod RowLemmas
+pub mod WrittenLemmas

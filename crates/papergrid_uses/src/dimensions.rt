@@ -1,6 +1,7 @@
 //! The other dimensions: cells that keep their lines, one setting for all cells, and least totals.
 
-ghost use Rattle.std.specs.Prelude.{◌≡◌, IfOk, slice_index, string_bytes};
+ghost use Rattle.std.specs.Prelude.{◌≡◌, MatchResult, slice_index, string_bytes};
+ghost use Rattle.papergrid_axis.specs.Answers.{IsRefused};
 ghost use Rattle.papergrid_axis.specs.Sizes.{sizes_of};
 ghost use Rattle.papergrid_layout.specs.Answers.{AnswersBothWhere, AreBothSized};
 ghost use Rattle.papergrid_least.specs.Answers.{AreLeastSizes, NoneFits};
@@ -43,7 +44,7 @@ pub fn of_compact(
 ) -> Result<usize, LayoutError>
     ensures { let problem = problem_of (compact_look config.now) (std_line_measure string_bytes) 3
         (cells_of rows.now) Columns in
-        IfOk result (λ width. width ≡ slice_index (sizes_of problem) 0) }
+        MatchResult result (λ width. width ≡ slice_index (sizes_of problem) 0) (IsRefused problem) }
 {
     let mut dimension = CompactGridDimension::new(alloc);
     dimension.estimate(IterRecords::new(rows, 3, None), config)?;

@@ -1,6 +1,7 @@
 //! Errors of the library as an `anyhow::Error`, by `?`.
 
 ghost use Rattle.std.specs.Prelude.{◌≡◌, All, IfOk, List, length, slice_index, true, ℕ};
+ghost use Rattle.papergrid.specs.Looks.{look_of};
 ghost use Rattle.papergrid_config.specs.Applied.{is_in_range};
 ghost use Rattle.papergrid_layout.specs.Answers.{AreBothSizes};
 ghost use Rattle.papergrid_layout.specs.Places.{HasPlace};
@@ -13,6 +14,7 @@ use papergrid::config::Position;
 use papergrid::config::spanned::{Setting, SpannedConfig};
 use papergrid::dimension::iterable::IterGridDimension;
 use papergrid::dimension::{Estimate, Place, place};
+use papergrid::laws::look_by_settings;
 use papergrid::records::IterRecords;
 use std::alloc::Global;
 
@@ -38,7 +40,12 @@ pub fn place_in(
 /// The same of the first cell, by a list of settings. Condition: each setting is in range.
 pub fn first_place(alloc: Global, settings: Vec<Setting>, rows: &[Vec<&str>]) -> Result<Place>
     requires { All (λ setting. is_in_range setting ≡ true) settings.items }
+    ensures { let look = look_of settings.items in
+        IfOk result (λ place. (widths : List ℕ) × (heights : List ℕ)
+        × AreBothSizes look text_measure 3 (cells_of rows.now) widths heights
+        × HasPlace look (slice_index widths) (slice_index heights) (length rows.now, 3) (record { row = 0; col = 0 }) place) }
 {
+    look_by_settings();
     let config = told(alloc, settings)?;
     place_in(alloc, rows, &config, Position::new(0, 0))
 }

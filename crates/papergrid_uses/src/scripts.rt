@@ -1,25 +1,24 @@
 //! Scripts: answered, and explained.
 
-ghost use Rattle.std.specs.Prelude.{◌≡◌, IfOk};
-ghost use Rattle.papergrid.specs.Outputs.{end_of};
+ghost use Rattle.std.specs.Prelude.{◌≡◌, IfOk, OnErr, OnOk, false, take, ℕ};
+ghost use Rattle.std.specs.Io.KnownBytes.{Appends};
+ghost use Rattle.papergrid.specs.Outputs.{end_of, output_of};
 ghost use Rattle.papergrid.specs.Reasons.{reason_of};
 ghost use Rattle.papergrid_uses.specs.Scripts.{bad_number};
 
-use papergrid::{ReadSource, Reason, RunEnd, RunFault, WriteSink, explain, run};
+use papergrid::{ReadSource, Reason, RunEnd, RunFault, Sink, explain, run};
 use std::alloc::{AllocError, Global};
-use std::io::Write;
 
-/// Writes what the program answers to a script, and tells how that ended.
-pub fn answer_to<W: Write + Drop>(
-    alloc: Global,
-    script: &[u8],
-    writer: W,
-) -> Result<RunEnd, RunFault>
-    ensures { IfOk result (λ end. end ≡ end_of script.now) }
+/// Writes what the program answers to a script, and tells how that ended. Condition: the writer has not failed.
+pub fn answer_to<W: Sink>(alloc: Global, script: &[u8], writer: &mut W) -> Result<RunEnd, RunFault>
+    requires { W.has_failed writer.old ≡ false }
+    ensures end { IfOk result (λ end. end ≡ end_of script.now) }
+    ensures written { OnOk result (Appends (W.contents writer.old) (W.contents writer.new) (output_of script.now)) }
+    ensures beginning { OnErr result ((n : ℕ) ×
+        Appends (W.contents writer.old) (W.contents writer.new) (take n (output_of script.now))) }
 {
     let mut source = ReadSource::new(script);
-    let mut sink = WriteSink::new(writer);
-    run(alloc, &mut source, &mut sink)
+    run(alloc, &mut source, writer)
 }
 
 /// The number of a script's first bad line, counted from 1.

@@ -7,6 +7,7 @@ ghost use Rattle.papergrid_config.specs.Applied.{is_in_range};
 ghost use Rattle.papergrid_config.specs.Told.{IsTold};
 ghost use Rattle.papergrid_maps.specs.MapHeld.{held_value};
 ghost use Rattle.papergrid_values.specs.declared.position.Position.{Position};
+ghost use Rattle.papergrid_uses.specs.Lines.{line_settings};
 ghost use Rattle.papergrid_uses.specs.Rows.{cells_of, text_measure};
 
 use papergrid::config::spanned::{Setting, SpannedConfig, Stopped};
@@ -77,7 +78,9 @@ pub fn told(alloc: Global, settings: Vec<Setting>) -> Result<SpannedConfig, Stop
 
 /// A line before the second column, one before the second row with another character where it begins,
 /// a border round one cell, and one character of that row's line in place of the line's.
-pub fn lines(alloc: Global) -> Result<SpannedConfig, AllocError> {
+pub fn lines(alloc: Global) -> Result<SpannedConfig, AllocError>
+    ensures { IfOk result (IsTold line_settings) }
+{
     let mut config = SpannedConfig::new(alloc);
     config.insert_vertical_line(1, VerticalLine::filled('|'))?;
     config.insert_horizontal_line(

@@ -1,10 +1,10 @@
 //! The sizes of a table of texts, and its totals.
 
-ghost use Rattle.std.specs.Prelude.{◌≡◌, ◌+◌, ◌≤◌, All, IfOk, List, ℕ, length, slice_index, sum};
-ghost use Rattle.papergrid_axis.specs.Answers.{IsSized};
+ghost use Rattle.std.specs.Prelude.{◌≡◌, ◌+◌, ◌≤◌, All, IfOk, List, MatchResult, ℕ, length, slice_index, sum};
+ghost use Rattle.papergrid_axis.specs.Answers.{Answers, IsRefused, IsSized};
 ghost use Rattle.papergrid_axis.specs.Fits.{Fits};
 ghost use Rattle.papergrid_axis.specs.Sizes.{sizes_of};
-ghost use Rattle.papergrid_layout.specs.Answers.{AreBothSized};
+ghost use Rattle.papergrid_layout.specs.Answers.{AreBothSized, IsBothRefused, UnlessMemory};
 ghost use Rattle.papergrid_values.specs.declared.direction.Direction.TheVariants.{Columns};
 ghost use Rattle.papergrid_walk.specs.Cells.{problem_of, side, visible_cells};
 ghost use Rattle.papergrid_walk.specs.Looks.{spanned_look};
@@ -38,7 +38,8 @@ pub fn first_width(
     rows: &[Vec<&str>],
     config: &SpannedConfig,
 ) -> Result<usize, LayoutError>
-    ensures { IfOk result (λ width. width ≡ slice_index (sizes_of (texts_problem config.now 3 rows.now Columns)) 0) }
+    ensures { MatchResult result (λ width. width ≡ slice_index (sizes_of (texts_problem config.now 3 rows.now Columns)) 0)
+        (IsBothRefused (spanned_look config.now) text_measure 3 (cells_of rows.now)) }
 {
     let mut dimension = IterGridDimension::new(alloc);
     dimension.estimate(IterRecords::new(rows, 3, None), config)?;
@@ -67,9 +68,9 @@ pub fn fitting_width<R: Records + Drop>(
 where
     <<R as Records>::Iter as IntoRecords>::Cell: AsStr + Drop,
     requires { R.is_lawful records }
-    ensures { IfOk result (λ total. (cells : List (List R.Iter.Cell)) × R.tells records cells
-        × (widths : List ℕ) × (sum widths ≤ total)
-        × Fits (problem_of (spanned_look config.now) (line_measure R.Iter.Cell.text) (R.columns records) cells Columns) widths) }
+    ensures { UnlessMemory result ((cells : List (List R.Iter.Cell)) × R.tells records cells
+        × Answers (λ problem total. (widths : List ℕ) × (sum widths ≤ total) × Fits problem widths)
+        (problem_of (spanned_look config.now) (line_measure R.Iter.Cell.text) (R.columns records) cells Columns) result) }
 {
     IterGridDimension::width_total(alloc, records, config)
 }
@@ -85,11 +86,10 @@ where
     requires { R.is_lawful records }
     ensures { let look = spanned_look config.now in
         let measure = line_measure R.Iter.Cell.text in
-        IfOk result (λ total. (cells : List (List R.Iter.Cell)) × R.tells records cells
-        × All (λ cell. side Columns (measure cell.1) + look.before Columns cell.0 + look.after Columns cell.0 ≤ total)
-        (visible_cells look cells)) }
+        UnlessMemory result ((cells : List (List R.Iter.Cell)) × R.tells records cells × MatchResult result
+        (λ total. All (λ cell. side Columns (measure cell.1) + look.before Columns cell.0 + look.after Columns cell.0 ≤ total)
+        (visible_cells look cells)) (IsRefused (problem_of look measure (R.columns records) cells Columns))) }
 {
     total_covers_cells::<<<R as Records>::Iter as IntoRecords>::Cell>();
-    let total = IterGridDimension::width_total(alloc, records, config)?;
-    Ok(total)
+    IterGridDimension::width_total(alloc, records, config)
 }

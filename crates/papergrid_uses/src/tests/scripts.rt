@@ -2,7 +2,7 @@
 
 use crate::scripts::{answer_to, bad_line};
 use papergrid::config::Position;
-use papergrid::{Reason, RunEnd, explain};
+use papergrid::{Reason, RunEnd, WriteSink, explain};
 use std::alloc::Global;
 
 /// Each script of `examples`, and why it has no sizes.
@@ -74,7 +74,7 @@ fn out_of_the_table(rt: HostRuntime) {
     let end = answer_to(
         rt.alloc(),
         b"columns 1\nrow\ncell a\ncell b\n",
-        &mut written,
+        &mut WriteSink::new(&mut written),
     );
     assert!(rt; end == Ok(RunEnd::Refused));
     assert!(rt; written.as_slice() == b"refused: out of table at 0,1\n".as_slice());

@@ -1,10 +1,17 @@
+use Rattle.std.specs.Prelude.{Err, Ok}
+use Rattle.papergrid_axis.specs.Answers.{Answers, IsTotal}
 use Rattle.papergrid_values.specs.declared.direction.Direction.TheVariants.{Columns}
+use Rattle.papergrid_walk.specs.Cells.{problem_of}
 use Rattle.papergrid_walk.specs.Looks.{spanned_look}
 use Rattle.papergrid_walk.specs.Measures.{line_measure}
+use Rattle.papergrid_uses.proofs.AnswerLemmas.{answer_covers, said_of_cells}
 use Rattle.papergrid_uses.proofs.sizes.covering_width.Goals as goal
 
 pub returns : goal.returns
 returns g c =
-    let told = c.in_ok-total.ensures in
+    let look = spanned_look c.args.config.now in
     let measure = line_measure g.R.Iter.Cell.AsStr.text in
-    (told.0, told.1, c.total_covers_cells.ensures (spanned_look c.args.config.now) measure (g.R.Records.columns c.args.records) told.0 Columns c.in_ok-total.total told.2)
+    let columns = g.R.Records.columns c.args.records in
+    said_of_cells (g.R.Records.tells c.args.records) _ _
+    (λ cells result. answer_covers (problem_of look measure columns cells Columns) _ (λ total is. c.total_covers_cells.ensures look measure columns cells Columns total is) result)
+    _ c.width_total.ensures

@@ -1,0 +1,17 @@
+-- Lines of one's own, as a caller tells them.
+use Rattle.std.specs.Prelude.{List, [], ◌∷◌, Some}
+use Rattle.papergrid_values.specs.Borders.{border_with}
+use Rattle.papergrid_values.specs.Lines.{horizontal_with, vertical_with}
+use Rattle.papergrid_values.specs.declared.offset.Offset.TheVariants.{Start}
+use Rattle.papergrid_config.specs.declared.setting.Setting.{Setting}
+use Rattle.papergrid_config.specs.declared.setting.Setting.TheVariants.{InsertHorizontalLine, InsertVerticalLine, SetBorder, SetHorizontalChar}
+
+-- `|` before the second column, `-` before the second row but `>` where it begins, `#` round one cell, and `=` for the second
+-- character of the row's line
+abbrev pub line_settings : List Setting
+line_settings =
+    InsertVerticalLine 1 (vertical_with (Some 124))
+    ∷ InsertHorizontalLine 1 (record (horizontal_with (Some 45)) { left = Some 62 })
+    ∷ SetBorder (record { row = 2; col = 2 }) (border_with (Some 35))
+    ∷ SetHorizontalChar (record { row = 1; col = 0 }) (Start 1) 61
+    ∷ []
