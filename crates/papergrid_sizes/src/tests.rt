@@ -3,6 +3,7 @@
 use crate::arguments::{Request, Unknown, asked_by};
 use crate::help::help_text;
 use crate::message::message_of;
+use papergrid::{ReadSource, RunEnd, Sizing, WriteSink, run_keeping};
 use std::alloc::Global;
 
 /// Scripts, and what is said of each.
@@ -69,6 +70,27 @@ fn is_said(alloc: Global, script: &[u8], words: &str) -> bool {
 fn messages(rt: HostRuntime) {
     for (script, words) in SAID {
         assert!(rt; is_said(rt.alloc(), script, words), "{words}");
+    }
+}
+
+/// Whether a script that was read, in place of what the vector held, is kept whole, and this is said of it.
+fn is_said_once_read(alloc: Global, script: &[u8], words: &str) -> bool {
+    let (Ok(mut kept), mut written) = (vec![in alloc; b'x'], Vec::new(alloc)) else {
+        return false;
+    };
+    let mut source = ReadSource::new(script);
+    let mut sink = WriteSink::new(&mut written);
+    let end = run_keeping(alloc, Sizing::ByShares, &mut source, &mut sink, &mut kept);
+    end.is_ok()
+        && end != Ok(RunEnd::Done)
+        && kept.as_slice() == script
+        && is_said(alloc, &kept, words)
+}
+
+#[test]
+fn messages_once_read(rt: HostRuntime) {
+    for (script, words) in SAID {
+        assert!(rt; is_said_once_read(rt.alloc(), script, words), "{words}");
     }
 }
 
