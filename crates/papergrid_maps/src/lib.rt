@@ -18,6 +18,3 @@ pub use compact::CompactConfig;
 pub use entity_map::{EntityMap, MapCall, Stopped};
 pub use papergrid_tables::{BorderTable, OffsetTable, border_table, offset_table};
 pub use span_table::SpanTable;
-
-#[cfg(test)]
-mod tests;

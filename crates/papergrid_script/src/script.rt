@@ -145,7 +145,11 @@ impl<'a> Script<'a> {
     }
 }
 
-/// A row without cells, with room for as many as the last row has.
+/// For so many cells of a new row there may be room before they come. Without a bound one long row
+/// would make each short one after it as large.
+const MOST_ROOM: usize = 64;
+
+/// A row without cells, with room for as many as the last row has, within a bound.
 fn next_row<'a>(alloc: Global, rows: &[Vec<&'a str>]) -> Result<Vec<&'a str>, AllocError>
     ensures { IfOk result (λ row. row.items ≡ []) }
 {
@@ -153,5 +157,5 @@ fn next_row<'a>(alloc: Global, rows: &[Vec<&'a str>]) -> Result<Vec<&'a str>, Al
         Some(row) => row.len(),
         None => 0,
     };
-    Vec::with_capacity(alloc, count)
+    Vec::with_capacity(alloc, count.min(MOST_ROOM))
 }

@@ -12,6 +12,3 @@ pub mod offset_table;
 
 pub use border_table::BorderTable;
 pub use offset_table::OffsetTable;
-
-#[cfg(test)]
-mod tests;

@@ -1,4 +1,3 @@
-pub mod ColumnWidths
 pub mod Compared
 pub mod Counts
 pub mod Cuts

@@ -9,4 +9,3 @@ pub mod Records
 pub mod Rows
 pub mod Text
 pub mod TextOrder
-pub mod ForProofs

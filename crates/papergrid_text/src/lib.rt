@@ -14,8 +14,6 @@ pub mod peekable;
 pub mod records;
 pub mod search;
 pub mod string;
-#[cfg(test)]
-mod tests;
 pub mod text;
 pub mod vec_records;
 

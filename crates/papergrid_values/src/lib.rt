@@ -36,6 +36,3 @@ pub use offset::Offset;
 pub use position::Position;
 pub use sides::Sides;
 pub use vertical_line::VerticalLine;
-
-#[cfg(test)]
-mod tests;

@@ -1,0 +1,2 @@
+-- The definitions that the contracts of the consumers cite.
+pub mod ColumnWidths

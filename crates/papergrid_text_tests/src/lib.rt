@@ -1,0 +1,5 @@
+//! Worked texts, cells and records: tests of `papergrid_text` by its public calls.
+#![tactic(auto)]
+
+#[cfg(test)]
+mod tests;
