@@ -58,16 +58,15 @@ fn table_reason(alloc: Global, script: Script<'_>) -> Result<Option<Reason>, All
         columns,
         settings,
         rows,
-        texts: _,
     } = script;
     let config = configuration(alloc, settings)?;
-    let rows = rows.as_slice();
-    let records = IterRecords::new(rows, columns, Some(rows.len()));
+    let count = rows.len();
+    let records = IterRecords::new(rows, columns, Some(count));
     match estimate(alloc, Sizing::ByShares, records, &config) {
         Ok(_) => Ok(None),
         Err(LayoutError::OutOfTable(position)) => {
             let spans = spans_at(&config, position);
-            Ok(Some(Reason::OutOfTable(position, spans, (rows.len(), columns))))
+            Ok(Some(Reason::OutOfTable(position, spans, (count, columns))))
         }
         Err(LayoutError::TooLarge) => Ok(Some(Reason::TooLarge)),
         Err(LayoutError::Memory(error)) => Err(error),

@@ -139,11 +139,10 @@ fn table_sizes(alloc: Global, sizing: Sizing, script: Script<'_>) -> Result<Size
         columns,
         settings,
         rows,
-        texts: _,
     } = script;
     let config = configuration(alloc, settings)?;
-    let rows = rows.as_slice();
-    let records = IterRecords::new(rows, columns, Some(rows.len()));
+    let count = rows.len();
+    let records = IterRecords::new(rows, columns, Some(count));
     estimate(alloc, sizing, records, &config)
 }
 

@@ -2,9 +2,10 @@ mod CharacterLemmas
 mod CutLemmas
 mod EscapeLemmas
 mod LineLemmas
-mod RangeLemmas
 mod MarkLemmas
+mod RangeLemmas
 mod ReadLemmas
 mod ScriptLineLemmas
 mod SpellLemmas
 mod TellsLemmas
+pub mod DraftLemmas

@@ -2,6 +2,7 @@
 #![tactic(auto)]
 
 mod cut;
+mod draft;
 pub mod laws;
 mod number;
 pub mod script;

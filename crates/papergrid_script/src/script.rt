@@ -1,14 +1,15 @@
 //! A whole script: its column count, its settings and its rows.
 
-ghost use Rattle.std.specs.Prelude.{◌≡◌, [], true, All, IfOk, OnOk, Some, ◌<◌, length, take};
+ghost use Rattle.std.specs.Prelude.{◌≡◌, true, All, IfOk, ◌<◌, length, take};
 ghost use Rattle.std.specs.Str.{IsValidUpTo};
 ghost use Rattle.papergrid_config.specs.Applied.{is_in_range};
 ghost use Rattle.papergrid_script.specs.declared.script.ScriptError.TheVariants.{Memory};
-ghost use Rattle.papergrid_script.specs.Grammar.{Row, Cell, without_cr};
-ghost use Rattle.papergrid_script.specs.Scripts.{empty_table, table_of, with_line};
-ghost use Rattle.papergrid_script.specs.ForProofs.Seen.{GivesTable, Takes, table_seen};
+ghost use Rattle.papergrid_script.specs.Grammar.{without_cr};
+ghost use Rattle.papergrid_script.specs.Scripts.{table_of};
+ghost use Rattle.papergrid_script.specs.ForProofs.Seen.{GivesTable};
 
 use crate::cut::cut_marked_line;
+use crate::draft::Draft;
 use crate::script_line::take_line;
 use bumpalo::Bump;
 use papergrid_config::Setting;
@@ -16,7 +17,7 @@ use papergrid_text::string::count_lines;
 use simdutf8::compat::from_utf8;
 use std::alloc::{AllocError, Global};
 
-/// What a script tells. Texts are lent from the input, those with escapes from the arena.
+/// What a script tells. Texts are lent from the input, those with escapes and the rows from the arena.
 #[derive(Drop)]
 pub struct Script<'a> {
     /// The number of columns.
@@ -24,9 +25,7 @@ pub struct Script<'a> {
     /// The settings, oldest first.
     pub settings: Vec<Setting>,
     /// The texts of the cells of each row.
-    pub rows: Vec<Vec<&'a str>>,
-    /// Where texts with escapes are kept.
-    pub texts: &'a Bump,
+    pub rows: Vec<&'a [&'a str]>,
 }
 
 /// Why there is no script.
@@ -46,10 +45,10 @@ impl From<AllocError> for ScriptError {
     }
 }
 
-/// The script that the input spells. Texts with escapes are kept in the arena.
+/// The script that the input spells. Texts with escapes, and the rows, are kept in the arena.
 pub fn read_script<'a>(
     alloc: Global,
-    texts: &'a Bump,
+    arena: &'a Bump,
     input: &'a [u8],
 ) -> Result<Script<'a>, ScriptError>
     ensures told { GivesTable result (table_of input.now) }
@@ -57,7 +56,7 @@ pub fn read_script<'a>(
     ensures in_range { IfOk result (λ script. All (λ setting. is_in_range setting ≡ true) script.settings.items) }
 {
     let text = text_in_front(input);
-    let read = script_of_text(alloc, texts, text);
+    let read = script_of_text(alloc, arena, text);
     if text.len() < input.len() && read.is_ok() {
         // The line where the text ends goes on with what is no text.
         return Err(ScriptError::Bad(count_lines(text)));
@@ -79,35 +78,23 @@ fn text_in_front(input: &[u8]) -> &str
 /// The script that the text spells.
 fn script_of_text<'a>(
     alloc: Global,
-    texts: &'a Bump,
+    arena: &'a Bump,
     input: &'a str,
 ) -> Result<Script<'a>, ScriptError>
     ensures { GivesTable result (table_of input.now) }
 {
-    let mut script = empty_script(alloc, texts);
+    let mut draft = Draft::new(alloc, arena);
     let mut number: usize = 0;
     let mut rest = Some(input);
     while let Some(text) = rest {
         let (line, escape, after) = cut_marked_line(text, b'\\');
         number += 1;
-        if !take_line(alloc, &mut script, without_cr(line), escape)? {
+        if !take_line(&mut draft, without_cr(line), escape)? {
             return Err(ScriptError::Bad(number));
         }
         rest = after;
     }
-    Ok(script)
-}
-
-/// The script of no lines.
-fn empty_script<'a>(alloc: Global, texts: &'a Bump) -> Script<'a>
-    ensures { table_seen result ≡ empty_table }
-{
-    Script {
-        columns: 0,
-        settings: Vec::new(alloc),
-        rows: Vec::new(alloc),
-        texts,
-    }
+    Ok(draft.finish()?)
 }
 
 /// The line without one CR at its end.
@@ -119,43 +106,4 @@ fn without_cr(line: &str) -> &str
     } else {
         line
     }
-}
-
-impl<'a> Script<'a> {
-    /// Begins a row.
-    pub fn add_row(&mut self, alloc: Global) -> Result<(), AllocError>
-        ensures { OnOk result (with_line (table_seen self.old) Row ≡ Some (table_seen self.new)) }
-    {
-        let row = next_row(alloc, self.rows.as_slice())?;
-        self.rows.push(row)?;
-        Ok(())
-    }
-
-    /// Adds a cell to the last row; false where there is none.
-    pub fn add_cell(&mut self, text: &'a str) -> Result<bool, AllocError>
-        ensures { IfOk result (λ fits. Takes (table_seen self.old) (Some (Cell text.now)) fits (table_seen self.new)) }
-    {
-        match self.rows.last_mut() {
-            None => Ok(false),
-            Some(row) => {
-                row.push(text)?;
-                Ok(true)
-            }
-        }
-    }
-}
-
-/// For so many cells of a new row there may be room before they come. Without a bound one long row
-/// would make each short one after it as large.
-const MOST_ROOM: usize = 64;
-
-/// A row without cells, with room for as many as the last row has, within a bound.
-fn next_row<'a>(alloc: Global, rows: &[Vec<&'a str>]) -> Result<Vec<&'a str>, AllocError>
-    ensures { IfOk result (λ row. row.items ≡ []) }
-{
-    let count = match rows.last() {
-        Some(row) => row.len(),
-        None => 0,
-    };
-    Vec::with_capacity(alloc, count.min(MOST_ROOM))
 }

@@ -2,43 +2,42 @@
 
 ghost use Rattle.std.specs.Prelude.{◌≢◌, IfOk, codes, option_map};
 ghost use Rattle.papergrid_script.specs.Grammar.{Cell, Set, keyword_says, setting_of, text_says};
-ghost use Rattle.papergrid_script.specs.ForProofs.Seen.{Takes, table_seen};
+ghost use Rattle.papergrid_script.specs.ForProofs.Seen.{Takes, table_so_far};
 ghost use Rattle.papergrid_script.specs.Texts.{unescaped};
 ghost use Rattle.papergrid_script.specs.ForProofs.Escapes.{IsFirstEscape};
 
 use crate::cut::split_at_byte;
+use crate::draft::Draft;
 use crate::number::number;
-use crate::script::Script;
 use crate::setting_line::{line_setting, padding, placed_span};
 use crate::unescape::unescaped;
 use papergrid_config::Setting;
-use std::alloc::{AllocError, Global};
+use std::alloc::AllocError;
 
-/// Takes what one more line, which is text, says into the script; false, and the script as it was, where the line
+/// Takes what one more line, which is text, says into the draft; false, and the draft as it was, where the line
 /// is a bad one. The first backslash of the line stands at `escape`, or there is none before its end.
 #[tactic(auto, unfolding(crate::specs::Grammar::text_says))]
 pub fn take_line<'a>(
-    alloc: Global,
-    script: &mut Script<'a>,
+    draft: &mut Draft<'a>,
     line: &'a str,
     escape: usize,
 ) -> Result<bool, AllocError>
     requires { IsFirstEscape line.now escape }
-    ensures { IfOk result (λ fits. Takes (table_seen script.old) (text_says line.now) fits (table_seen script.new)) }
+    ensures { IfOk result (λ fits. Takes (table_so_far draft.old) (text_says line.now) fits (table_so_far draft.new)) }
 {
     // Most lines are cells.
     if let Some(spelled) = line.strip_prefix("cell ") {
-        return take_cell(script, spelled, escape - 5);
+        return take_cell(draft, spelled, escape - 5);
     }
     match line {
         "" => Ok(true),
         "row" => {
-            script.add_row(alloc)?;
+            draft.add_row()?;
             Ok(true)
         }
-        "cell" => script.add_cell(""),
+        "cell" => draft.add_cell(""),
         _ => match split_at_byte(line, b' ') {
-            Some((keyword, rest)) => take_keyword(script, keyword, rest),
+            Some((keyword, rest)) => take_keyword(draft, keyword, rest),
             None => Ok(false),
         },
     }
@@ -46,33 +45,29 @@ pub fn take_line<'a>(
 
 /// Takes what a keyword says, and what stands after it and a space; false where that is nothing.
 #[tactic(auto, unfolding(crate::specs::Grammar::keyword_says))]
-fn take_keyword(script: &mut Script<'_>, keyword: &str, rest: &str) -> Result<bool, AllocError>
+fn take_keyword(draft: &mut Draft<'_>, keyword: &str, rest: &str) -> Result<bool, AllocError>
     requires no_cell { keyword.now ≢ codes "cell" }
-    ensures { IfOk result (λ fits. Takes (table_seen script.old) (keyword_says keyword.now rest.now) fits (table_seen script.new)) }
+    ensures { IfOk result (λ fits. Takes (table_so_far draft.old) (keyword_says keyword.now rest.now) fits (table_so_far draft.new)) }
 {
     match keyword {
         "columns" => match number(rest) {
             Some(count) => {
-                script.columns = count;
+                draft.columns = count;
                 Ok(true)
             }
             None => Ok(false),
         },
-        _ => take_setting(script, keyword, rest),
+        _ => take_setting(draft, keyword, rest),
     }
 }
 
 /// Takes a cell of the text that is meant; false where the spelling is bad, or there is no row.
-fn take_cell<'a>(
-    script: &mut Script<'a>,
-    spelled: &'a str,
-    escape: usize,
-) -> Result<bool, AllocError>
+fn take_cell<'a>(draft: &mut Draft<'a>, spelled: &'a str, escape: usize) -> Result<bool, AllocError>
     requires { IsFirstEscape spelled.now escape }
-    ensures { IfOk result (λ fits. Takes (table_seen script.old) (option_map Cell (unescaped spelled.now)) fits (table_seen script.new)) }
+    ensures { IfOk result (λ fits. Takes (table_so_far draft.old) (option_map Cell (unescaped spelled.now)) fits (table_so_far draft.new)) }
 {
-    match unescaped(script.texts, spelled, escape)? {
-        Some(text) => script.add_cell(text),
+    match unescaped(draft.arena, spelled, escape)? {
+        Some(text) => draft.add_cell(text),
         None => Ok(false),
     }
 }
@@ -81,30 +76,30 @@ fn take_cell<'a>(
 /// A setting is large, so it has no place in what lines of other kinds go through, and where a script may
 /// have many of a kind it is made where it is kept.
 #[tactic(auto, unfolding(crate::specs::Grammar::setting_of))]
-fn take_setting(script: &mut Script<'_>, keyword: &str, rest: &str) -> Result<bool, AllocError>
-    ensures { IfOk result (λ fits. Takes (table_seen script.old) (option_map Set (setting_of keyword.now rest.now)) fits (table_seen script.new)) }
+fn take_setting(draft: &mut Draft<'_>, keyword: &str, rest: &str) -> Result<bool, AllocError>
+    ensures { IfOk result (λ fits. Takes (table_so_far draft.old) (option_map Set (setting_of keyword.now rest.now)) fits (table_so_far draft.new)) }
 {
     match keyword {
         "pad" => {
             let Some((entity, sides)) = padding(rest) else {
                 return Ok(false);
             };
-            script.settings.push(Setting::SetPadding(entity, sides))?;
+            draft.settings.push(Setting::SetPadding(entity, sides))?;
         }
         "colspan" => {
             let Some((place, count)) = placed_span(rest) else {
                 return Ok(false);
             };
-            script.settings.push(Setting::SetColumnSpan(place, count))?;
+            draft.settings.push(Setting::SetColumnSpan(place, count))?;
         }
         "rowspan" => {
             let Some((place, count)) = placed_span(rest) else {
                 return Ok(false);
             };
-            script.settings.push(Setting::SetRowSpan(place, count))?;
+            draft.settings.push(Setting::SetRowSpan(place, count))?;
         }
         _ => match line_setting(keyword, rest) {
-            Some(setting) => script.settings.push(setting)?,
+            Some(setting) => draft.settings.push(setting)?,
             None => return Ok(false),
         },
     }

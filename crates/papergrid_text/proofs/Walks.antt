@@ -108,3 +108,15 @@ module _ {X Y W : Type 0} {into : W → Iter (Vec X Y) → Type 0} {row_into : B
       = λ row xs gave. lent_drains gave.iterator xs gave.walked ∙ row_made row gave.iterator gave.made in
       map_from_zip (Gives row_into (iter_steps {A = X})) (map (λ cell. cell.now)) (λ row. row.now.items) one gave.rows cells gave.each
       ∙ sym (map_twice (λ x. x.now) (λ row. row.items) gave.rows) ∙ ap (map (λ row. row.items)) rows_are
+
+module _ {X Z : Type 0} {into : Vec (Bor (List X)) Z → IntoIter (Bor (List X)) Z → Type 0} {row_into : Bor (List X) → Iter X → Type 0} where
+  pub slice_rows : (v : Vec (Bor (List X)) Z) (cells : List (List (Bor X))) → GivesRows into (into_iter_steps {X = Bor (List X)} {Z = Z}) row_into (iter_steps {A = X}) v cells
+      → ((v : Vec (Bor (List X)) Z) (it : IntoIter (Bor (List X)) Z) → into v it → (into_iter_items it ≡ v.items) × (into_iter_len it ≡ vec_len v))
+      → ((row : Bor (List X)) (it : Iter X) → row_into row it → iter_rest it ≡ row.now)
+      → map (map (λ cell. cell.now)) cells ≡ map (λ row. row.now) v.items
+  slice_rows v cells gave made row_made =
+      let m = made v gave.walk.iterator gave.walk.made in
+      let rows_are : gave.rows ≡ v.items = owned_drains gave.walk.iterator gave.rows (ap length m.0 ∙ sym v.ok.0 ∙ sym m.1) gave.walk.walked ∙ m.0 in
+      let one : (row : Bor (List X)) (xs : List (Bor X)) → Gives row_into (iter_steps {A = X}) row xs → map (λ cell. cell.now) xs ≡ row.now
+      = λ row xs gave. lent_drains gave.iterator xs gave.walked ∙ row_made row gave.iterator gave.made in
+      map_from_zip (Gives row_into (iter_steps {A = X})) (map (λ cell. cell.now)) (λ row. row.now) one gave.rows cells gave.each ∙ ap (map (λ row. row.now)) rows_are

@@ -147,3 +147,19 @@ impl<'a, T> IntoRecords for &'a [Vec<T>] {
         self
     }
 }
+
+impl<'a, T> IntoRecords for Vec<&'a [T]> {
+    type Cell = &'a T;
+
+    type IterColumns = &'a [T];
+
+    type IterRows = Vec<&'a [T]>;
+
+    ghost is_lawful = { λ _. ⊤ };
+
+    ghost tells = { λ s cells. map (map (λ cell. cell.now)) cells ≡ map (λ row. row.now) s.items };
+
+    fn iter_rows(self) -> Vec<&'a [T]> {
+        self
+    }
+}

@@ -1,18 +1,30 @@
 -- What clauses see of a script that the program holds.
-use Rattle.std.specs.Prelude.{◌≡◌, ℕ, Bool, List, map, MatchBool, Option, Some, None, option_and_then, Result, Ok, Err, Vec}
+use Rattle.std.specs.Prelude.{◌≡◌, ◌-◌, ℕ, Bool, List, length, map, slice_set, MatchBool, Option, Some, None, option_and_then, Result, Ok, Err}
 use Rattle.std.specs.Borrow.{Bor}
-use Rattle.std.specs.declared.alloc.Global.{Global}
+use Rattle.papergrid_script.specs.declared.draft.Draft.{Draft}
 use Rattle.papergrid_script.specs.declared.script.Script.{Script}
 use Rattle.papergrid_script.specs.declared.script.ScriptError.{ScriptError}
 use Rattle.papergrid_script.specs.declared.script.ScriptError.TheVariants as script_errors
 use Rattle.papergrid_script.specs.Grammar.{Said}
 use Rattle.papergrid_script.specs.Scripts.{Table, with_line}
 
-abbrev pub texts_of : Vec (Bor (List ℕ)) Global → List (List ℕ)
-texts_of cells = map (λ text. text.now) cells.items
+-- the texts of the cells
+abbrev pub texts_of : List (Bor (List ℕ)) → List (List ℕ)
+texts_of cells = map (λ text. text.now) cells
+
+-- the texts of the cells of each row
+abbrev pub rows_seen : List (Bor (List (Bor (List ℕ)))) → List (List (List ℕ))
+rows_seen rows = map (λ row. texts_of row.now) rows
 
 abbrev pub table_seen : Script → Table
-table_seen script = record { columns = script.columns; settings = script.settings.items; rows = map texts_of script.rows.items }
+table_seen script = record { columns = script.columns; settings = script.settings.items; rows = rows_seen script.rows.items }
+
+-- the rows with these cells in the last one, if there is one
+abbrev pub with_last : List (List (List ℕ)) → List (List ℕ) → List (List (List ℕ))
+with_last rows cells = slice_set rows (length rows - 1) cells
+
+abbrev pub table_so_far : Draft → Table
+table_so_far draft = record { columns = draft.columns; settings = draft.settings.items; rows = with_last (rows_seen draft.rows.items) (texts_of draft.last.items) }
 
 -- what a line says fits, and makes the one table the other; or it does not fit
 abbrev pub Takes : Table → Option Said → Bool → Table → Type 0

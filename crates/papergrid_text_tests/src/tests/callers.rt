@@ -35,6 +35,12 @@ pub fn of_slice(alloc: Global, rows: &[Vec<String>], columns: usize) -> Widths
     widest(alloc, IterRecords::new(rows, columns, None))
 }
 
+pub fn of_slices(alloc: Global, rows: Vec<&[&str]>, columns: usize) -> Widths
+    ensures { IfOk result (λ widths. widths.items ≡ greatest_widths columns (map (λ row. map (λ cell. text_width cell.now) row.now) rows.entry.items)) }
+{
+    widest(alloc, IterRecords::new(rows, columns, None))
+}
+
 pub fn of_row_iter(alloc: Global, rows: &[Vec<String>], columns: usize) -> Widths
     ensures { IfOk result (λ widths. widths.items ≡ greatest_widths columns (map (λ row. map (λ cell. text_width (string_bytes cell)) row.items) rows.now)) }
 {

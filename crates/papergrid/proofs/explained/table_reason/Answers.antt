@@ -15,7 +15,7 @@ use Rattle.papergrid.proofs.explained.table_reason.Goals as goal
 
 pub returns-in-Ok : goal.returns-in-Ok
 returns-in-Ok c =
-    let gave = gives_seen (λ cell. cell.now) c.args.script c.in_ok-config.config _ _ ByShares c.estimate.result c.in_ok-config.ensures (ap (λ r. r.iter.now) c.new-records.ensures ∙ c.as_slice-rows.ensures.value) (ap (λ r. r.count_columns) c.new-records.ensures) c.estimate.ensures in
+    let gave = gives_seen (λ cell. cell.now) c.args.script c.in_ok-config.config _ _ ByShares c.estimate.result c.in_ok-config.ensures (ap (λ r. r.iter.items) c.new-records.ensures) (ap (λ r. r.count_columns) c.new-records.ensures) c.estimate.ensures in
     let is = rw c.in-Ok.is at gave in
     ap (estimate_reason (table_seen c.args.script)) is
 
@@ -23,18 +23,18 @@ pub returns-in-Err-OutOfTable : goal.returns-in-Err-OutOfTable
 returns-in-Err-OutOfTable c =
     let script = c.args.script in
     let place = c.in-Err-OutOfTable.position in
-    let gave = gives_seen (λ cell. cell.now) script c.in_ok-config.config _ _ ByShares c.estimate.result c.in_ok-config.ensures (ap (λ r. r.iter.now) c.new-records.ensures ∙ c.as_slice-rows.ensures.value) (ap (λ r. r.count_columns) c.new-records.ensures) c.estimate.ensures in
+    let gave = gives_seen (λ cell. cell.now) script c.in_ok-config.config _ _ ByShares c.estimate.result c.in_ok-config.ensures (ap (λ r. r.iter.items) c.new-records.ensures) (ap (λ r. r.count_columns) c.new-records.ensures) c.estimate.ensures in
     let is = rw (c.in-Err-OutOfTable.is, c.in-Err-OutOfTable.field-0-is) at gave in
     let spans = told_spans (flat_map span_calls script.settings.items) c.in_ok-config.config.spans c.in_ok-config.ensures.spans in
     let down = c.spans_at-spans.ensures.rows ∙ ap (λ s. row_span s place) spans in
     let across = c.spans_at-spans.ensures.columns ∙ ap (λ s. column_span s place) spans in
-    let rows = ap length c.as_slice-rows.ensures.value ∙ sym (length-map script.rows.items texts_of) in
-    let told : Some (reason.OutOfTable place c.spans_at-spans.result (length c.as_slice-rows.result.now, script.columns)) ≡ estimate_reason (table_seen script) (OutOfTable place) =
+    let rows = c.len-count.ensures ∙ script.rows.ok.0 ∙ sym (length-map script.rows.items (λ row. texts_of row.now)) in
+    let told : Some (reason.OutOfTable place c.spans_at-spans.result (c.len-count.result, script.columns)) ≡ estimate_reason (table_seen script) (OutOfTable place) =
     λ i. Some (reason.OutOfTable place (down i, across i) (rows i, script.columns)) in
     told ∙ ap (estimate_reason (table_seen script)) is
 
 pub returns-in-Err-TooLarge : goal.returns-in-Err-TooLarge
 returns-in-Err-TooLarge c =
-    let gave = gives_seen (λ cell. cell.now) c.args.script c.in_ok-config.config _ _ ByShares c.estimate.result c.in_ok-config.ensures (ap (λ r. r.iter.now) c.new-records.ensures ∙ c.as_slice-rows.ensures.value) (ap (λ r. r.count_columns) c.new-records.ensures) c.estimate.ensures in
+    let gave = gives_seen (λ cell. cell.now) c.args.script c.in_ok-config.config _ _ ByShares c.estimate.result c.in_ok-config.ensures (ap (λ r. r.iter.items) c.new-records.ensures) (ap (λ r. r.count_columns) c.new-records.ensures) c.estimate.ensures in
     let is = rw (c.in-Err-TooLarge.is, c.in-Err-TooLarge.field-0-is) at gave in
     ap (estimate_reason (table_seen c.args.script)) is

@@ -1,4 +1,4 @@
-use Rattle.std.proofs.Common.{ap, rules, length, ◌∙◌, arith}
+use Rattle.std.proofs.Common.{Ok, ap, rules, length, sym, ◌∙◌, arith}
 use Rattle.std.specs.Prelude.{◌==◌}
 use Rattle.std.proofs.lemmas.List.Splits.{length-slice_split}
 use Rattle.std.proofs.lemmas.List.Sums.{count_by-le-length}
@@ -26,7 +26,9 @@ returns-then-not-branch c =
     table_of-pieces c.args.input.now ∙ bad_line _ _ _ _ _ _ _ (ap lines_of_rest c.in-Some.is ∙ c.cut_marked_line-escape.ensures.lines) (text_said c.without_cr.result.now c.without_cr.utf8 ∙ ap said c.without_cr.ensures) (rw c.if-not-branch.true at c.in_ok-take_line.ensures) c.loop-rest.invariant.told
 
 pub returns : goal.returns
-returns c = table_of-pieces c.args.input.now ∙ no_more_lines _ _ _ _ (ap lines_of_rest c.in_default.is) c.loop-rest.invariant.told
+returns c =
+    table_of-pieces c.args.input.now ∙ no_more_lines _ _ _ _ (ap lines_of_rest c.in_default.is) c.loop-rest.invariant.told
+    ∙ ap (λ table. Ok table) (sym c.in_ok-finish.ensures)
 
 pub loop-rest-preserved : goal.loop-rest-preserved
 loop-rest-preserved c =

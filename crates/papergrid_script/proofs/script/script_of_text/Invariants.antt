@@ -4,7 +4,7 @@ use Rattle.papergrid_text.specs.LinesLeft.{lines_of_rest}
 use Rattle.papergrid_text.specs.Text.{split_lines}
 use Rattle.papergrid_script.specs.Grammar.{without_cr}
 use Rattle.papergrid_script.specs.Scripts.{empty_table, table_after}
-use Rattle.papergrid_script.specs.ForProofs.Seen.{table_seen}
+use Rattle.papergrid_script.specs.ForProofs.Seen.{table_so_far}
 use Rattle.papergrid_script.proofs.script.script_of_text.Given as goal
 
 -- what the whole text tells is what the rest of it does, after the lines so far
@@ -13,7 +13,7 @@ invariant-loop-rest l = record {
   text : IfSome l.rest (λ rest. IsUtf8 rest.now);
   counted : l.number + length (lines_of_rest l.rest) ≡ length (split_lines l.input);
   told : table_after 1 empty_table (map without_cr (split_lines l.input))
-      ≡ table_after (l.number + 1) (table_seen l.script) (map without_cr (lines_of_rest l.rest));
+      ≡ table_after (l.number + 1) (table_so_far l.draft) (map without_cr (lines_of_rest l.rest));
 }
 
 abbrev pub decreases-loop-rest : goal.decreases-loop-rest

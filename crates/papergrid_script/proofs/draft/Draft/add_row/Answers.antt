@@ -1,0 +1,12 @@
+use Rattle.std.proofs.Common.{◌++◌, ◌∷◌, [], Some, ap, sym, ◌∙◌}
+use Rattle.papergrid_script.specs.ForProofs.Seen.{rows_seen, texts_of, with_last}
+use Rattle.papergrid_script.proofs.DraftLemmas.{begun}
+use Rattle.papergrid_script.proofs.draft.Draft.add_row.Goals as goal
+
+pub returns : goal.returns
+returns c =
+    let draft = c.args.self.now in
+    let ended = c.in_ok-end_row.ensures ∙ ap (λ cells. with_last (rows_seen draft.rows.items) (texts_of cells)) c.as_slice.ensures.value in
+    ap (λ rows. Some (record { columns = draft.columns; settings = draft.settings.items; rows = rows }))
+    (ap (λ rows. rows ++ [] ∷ []) (sym ended) ∙ sym (begun c.end_row.new.rows.items _)
+    ∙ (λ i. with_last (rows_seen (sym c.in_ok-push.ensures.items i)) (texts_of (sym c.clear.ensures.items i))))
