@@ -363,12 +363,27 @@ fn exact_cells_peeked(rt: HostRuntime) -> Result<(), Fail> {
     let records = VecRecords::new(rows);
     let pos = Position::new(0, 0);
     let next = Position::new(0, 1);
-    assert_eq!(rt; peek(&records, pos, 0), ("ab", 1, 7, "ab", 7));
-    assert_eq!(rt; peek(&records, next, 1), ("xyz", 2, 9, "bc", 2));
-    assert_eq!(rt; peek(&&records, pos, 0), ("ab", 1, 7, "ab", 7));
-    assert_eq!(rt; peek(&&records, next, 1), ("xyz", 2, 9, "bc", 2));
+    assert_eq!(rt; records.get_text(pos), "ab");
+    assert_eq!(rt; PeekableRecords::count_lines(&records, next), 2);
+    assert_eq!(rt; records.get_line(next, 1), "bc");
+    assert_eq!(rt; records.get_width(pos), 7);
+    assert_eq!(rt; records.get_line_width(next, 1), 2);
     let lent = &records;
-    assert_eq!(rt; peek(&&lent, next, 1), ("xyz", 2, 9, "bc", 2));
+    assert_eq!(rt; PeekableRecords::get_text(&lent, pos), "ab");
+    assert_eq!(rt; PeekableRecords::count_lines(&lent, pos), 1);
+    assert_eq!(rt; PeekableRecords::count_lines(&lent, next), 2);
+    assert_eq!(rt; PeekableRecords::get_line(&lent, pos, 0), "ab");
+    assert_eq!(rt; PeekableRecords::get_line(&lent, next, 1), "bc");
+    assert_eq!(rt; PeekableRecords::get_width(&lent, pos), 7);
+    assert_eq!(rt; PeekableRecords::get_width(&lent, next), 9);
+    assert_eq!(rt; PeekableRecords::get_line_width(&lent, pos, 0), 7);
+    assert_eq!(rt; PeekableRecords::get_line_width(&lent, next, 1), 2);
+    let twice = &lent;
+    assert_eq!(rt; PeekableRecords::get_text(&twice, pos), "ab");
+    assert_eq!(rt; PeekableRecords::count_lines(&twice, next), 2);
+    assert_eq!(rt; PeekableRecords::get_line(&twice, next, 1), "bc");
+    assert_eq!(rt; PeekableRecords::get_width(&twice, pos), 7);
+    assert_eq!(rt; PeekableRecords::get_line_width(&twice, pos, 0), 7);
     Ok(())
 }
 

@@ -416,6 +416,7 @@ fn equal_clones(rt: HostRuntime) -> Result<(), Fail> {
 #[test]
 fn equal_clones_of_borders(rt: HostRuntime) -> Result<(), Fail> {
     let color = ANSIBuf::new(rt.alloc(), "<", ">")?;
+    laws::equal_clones::<ANSIBuf>();
     let border = Border {
         top: Some(color.clone()?),
         ..Border::empty()
