@@ -6,7 +6,7 @@ mod peeks;
 
 use crate::tests::callers::{
     of_chunks, of_exact_chunks, of_held, of_lent, of_lent_records, of_nested, of_row_iter,
-    of_slice, of_texts, of_vectors,
+    of_slice, of_slices, of_texts, of_vectors,
 };
 use crate::tests::peeks::of_strings;
 use papergrid_text::cell::Cell;
@@ -327,6 +327,15 @@ fn greatest_widths(rt: HostRuntime) -> Result<(), Fail> {
 }
 
 #[test]
+fn widths_of_slices(rt: HostRuntime) -> Result<(), Fail> {
+    let (first, second) = (["a", "bcd"], ["xyz"]);
+    let rows = vec![in rt.alloc(); first.as_slice(), second.as_slice()]?;
+    let widths = of_slices(rt.alloc(), rows, 2)?;
+    assert_eq!(rt; widths.as_slice(), [3usize, 3].as_slice());
+    Ok(())
+}
+
+#[test]
 fn orders_of_records(rt: HostRuntime) -> Result<(), Fail> {
     let rows = owned_rows(rt.alloc())?;
     let lent = IterRecords::new(rows.as_slice(), 2, None);
@@ -368,6 +377,18 @@ fn exact_cells_peeked(rt: HostRuntime) -> Result<(), Fail> {
     assert_eq!(rt; records.get_line(next, 1), "bc");
     assert_eq!(rt; records.get_width(pos), 7);
     assert_eq!(rt; records.get_line_width(next, 1), 2);
+    Ok(())
+}
+
+// What a reference answers, and one to a reference.
+#[test]
+fn exact_cells_lent(rt: HostRuntime) -> Result<(), Fail> {
+    let alloc = rt.alloc();
+    let first = Text::exact("ab", 7, Vec::new(alloc));
+    let second = Text::exact("xyz", 9, given_lines(alloc)?);
+    let rows = vec![in alloc; vec![in alloc; first, second]?]?;
+    let records = VecRecords::new(rows);
+    let (pos, next) = (Position::new(0, 0), Position::new(0, 1));
     let lent = &records;
     assert_eq!(rt; PeekableRecords::get_text(&lent, pos), "ab");
     assert_eq!(rt; PeekableRecords::count_lines(&lent, pos), 1);
