@@ -389,6 +389,7 @@ fn exact_cells_lent(rt: HostRuntime) -> Result<(), Fail> {
     let rows = vec![in alloc; vec![in alloc; first, second]?]?;
     let records = VecRecords::new(rows);
     let (pos, next) = (Position::new(0, 0), Position::new(0, 1));
+    assert_eq!(rt; PeekableRecords::count_lines(&records, next), 2);
     let lent = &records;
     assert_eq!(rt; PeekableRecords::get_text(&lent, pos), "ab");
     assert_eq!(rt; PeekableRecords::count_lines(&lent, pos), 1);
