@@ -101,17 +101,3 @@ fn hidden_cell_with_huge_padding(rt: HostRuntime) -> Result<(), Fail> {
         RunEnd::Refused,
     )
 }
-
-// The room of one long row is not asked for again for each of many short ones.
-#[test]
-fn long_row_before_short_ones(rt: HostRuntime) -> Result<(), Fail> {
-    let mut script = String::from_str(rt.alloc(), "row\n")?;
-    for _ in 0..20000 {
-        script.push_str("cell\n")?;
-    }
-    for _ in 0..70000 {
-        script.push_str("row\n")?;
-    }
-    let output = "refused: out of table at 0,0\n";
-    check(&rt, rt.alloc(), script.as_bytes(), output, RunEnd::Refused)
-}
