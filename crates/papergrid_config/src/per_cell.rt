@@ -2,7 +2,7 @@
 
 ghost use Rattle.std.specs.Prelude.{◌≡◌, ◌∷◌, [], List, OnOk, OnErr, IsOk, option_copied};
 ghost use Rattle.papergrid_values.specs.declared.entity.Entity.{Entity};
-ghost use Rattle.papergrid_maps.specs.MapHeld.{held_value};
+ghost use Rattle.papergrid_maps.specs.MapHeld.{held_for, held_value};
 ghost use Rattle.papergrid_config.specs.Decided as decided;
 ghost use Rattle.papergrid_config.specs.Told.{Appends, IsTold};
 ghost use Rattle.papergrid_config.specs.declared.setting.Setting.{Setting};
@@ -34,6 +34,13 @@ impl SpannedConfig {
         ensures decided { (settings : List Setting) → IsTold settings self.now → result.now ≡ decided.padding settings pos }
     {
         self.padding.get(pos)
+    }
+
+    /// The room that is set for an entity itself: of a cell without that of its column and of its row.
+    pub fn held_padding(&self, entity: Entity) -> Option<&Sides<Indent>>
+        ensures { option_copied result ≡ held_for self.now.padding entity }
+    {
+        self.padding.held_for(entity)
     }
 
     /// Sets the colours of the room round an entity's cells. Where memory is refused the

@@ -1,6 +1,6 @@
 //! A value for each position, set by entity. Source: `config/spanned/entity_map.rs`.
 
-ghost use Rattle.std.specs.Prelude.{All, Any, true, false, List, ◌≡◌, ◌∷◌, [], map, length, IfOk, OnOk, OnErr, IsOk, IfErr, IsTrue, take, slice_get, IsSomeAnd, Some, if◌then◌else◌, filter, not, ◌==◌, ◌<◌, ◌↔◌};
+ghost use Rattle.std.specs.Prelude.{All, Any, true, false, List, ◌≡◌, ◌∷◌, [], map, length, IfOk, OnOk, OnErr, IsOk, IfErr, IsTrue, take, slice_get, IsSomeAnd, Some, if◌then◌else◌, filter, not, option_copied, ◌==◌, ◌<◌, ◌↔◌};
 ghost use Rattle.std.specs.Bool.{OnTrue, OnFalse};
 ghost use Rattle.std.specs.Fn.{FnReturnsAt};
 ghost use Rattle.std.specs.HashMap.{IsUnique, keys, values, get as map_get};
@@ -98,6 +98,18 @@ impl<T> EntityMap<T> {
             return value;
         }
         &self.global
+    }
+
+    /// The value held for an entity itself: of a cell without those of its column and of its row.
+    pub fn held_for(&self, entity: Entity) -> Option<&T>
+        ensures { option_copied result ≡ held_for self.now entity }
+    {
+        match entity {
+            Entity::Global => Some(&self.global),
+            Entity::Column(col) => look_up(&self.columns, col),
+            Entity::Row(row) => look_up(&self.rows, row),
+            Entity::Cell(row, col) => look_up(&self.cells, Position { row, col }),
+        }
     }
 
     /// Whether `f` is true of a value that is held, the one for the whole table among them.

@@ -24,7 +24,7 @@ no_newlines (b ∷ bs) h =
 pub one_line : (text : List ℕ) → list_all (is_in_range 0x20 0x7E) text ≡ true → split_lines text ≡ text ∷ []
 one_line text h = slice_split_none (λ b. b == 10) text (no_newlines text h)
 
-one_width : (text : List ℕ) → list_all (is_in_range 0x20 0x7E) text ≡ true → greatest_width (text ∷ []) ≡ length text
+pub one_width : (text : List ℕ) → list_all (is_in_range 0x20 0x7E) text ≡ true → greatest_width (text ∷ []) ≡ length text
 one_width text h = let w = width-printable text h in let m : max (width_of text) 0 ≡ length text = omega arith in m
 
 pub text_width-printable : (text : List ℕ) → list_all (is_in_range 0x20 0x7E) text ≡ true → text_width text ≡ length text

@@ -3,7 +3,8 @@
 ghost use Rattle.std.specs.Prelude.{◌≡◌, ◌<◌, ◌==◌, ◌+◌, ◌++◌, ◌∷◌, ℕ, List, Option, count_by, length, replicate, string_bytes, take, false, IfOk, IfSome, IsUtf8};
 ghost use Rattle.std.specs.Cow.{cow_str_bytes, IsOwnedStr};
 ghost use Rattle.std.specs.Iterator.{YieldsFirstRef, item_count};
-ghost use Rattle.std.specs.List.{position_or_len};
+ghost use Rattle.std.specs.Int.{is_in_range};
+ghost use Rattle.std.specs.List.{position_or_len, prefix_len};
 ghost use Rattle.std.specs.Option.{unwrap_or};
 ghost use Rattle.std.specs.Str.{encode_utf8_all};
 ghost use Rattle.unicode_width.specs.Width.{char_width};
@@ -126,11 +127,25 @@ pub fn get_text_width(text: &str) -> usize
 pub fn get_text_dimension(text: &str) -> (usize, usize)
     ensures { result ≡ text_dimension text.now }
 {
-    let mut count = 0usize;
-    let mut width = 0usize;
-    let mut rest = Some(text);
+    // Most texts are printable ASCII.
+    let printable = count_printable(text);
+    if printable == text.len() {
+        return (1, printable);
+    }
+    dimension_of_lines(text, printable)
+}
+
+// The same, where it is known how many bytes at the front are printable ASCII.
+// Out of line, so that the code for printable texts stays small.
+#[inline(never)]
+fn dimension_of_lines(text: &str, printable: usize) -> (usize, usize)
+    requires { printable ≡ prefix_len (is_in_range 0x20 0x7E) text.now }
+    ensures { result ≡ text_dimension text.now }
+{
+    let mut count = 1usize;
+    let (mut width, mut rest) = measure_first_line(text, printable);
     while let Some(left) = rest {
-        let (line_width, after) = measure_first_line(left);
+        let (line_width, after) = measure_first_line(left, count_printable(left));
         count += 1;
         width = width.max(line_width);
         rest = after;
@@ -138,12 +153,13 @@ pub fn get_text_dimension(text: &str) -> (usize, usize)
     (count, width)
 }
 
-// The width of the first line, and what stands after its newline. A printable line is looked at once.
-fn measure_first_line(text: &str) -> (usize, Option<&str>)
+// The width of the first line, and what stands after its newline, where it is known how many bytes at the
+// front are printable ASCII.
+fn measure_first_line(text: &str, printable: usize) -> (usize, Option<&str>)
+    requires { printable ≡ prefix_len (is_in_range 0x20 0x7E) text.now }
     ensures first { (line : List ℕ) × (split_lines text.now ≡ line ∷ lines_of_rest result.1) × (result.0 ≡ width_of line) }
     ensures text { IfSome result.1 (λ rest. IsUtf8 rest.now) }
 {
-    let printable = count_printable(text);
     if printable == text.len() {
         return (printable, None);
     }

@@ -9,6 +9,7 @@
 //! time of the logarithm of the columns for each cell and for each anchor, whatever the spans are.
 #![tactic(auto)]
 
+pub mod known;
 pub mod laws;
 mod levels;
 pub mod measure;

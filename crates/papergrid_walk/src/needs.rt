@@ -7,13 +7,14 @@ ghost use Rattle.papergrid_walk.specs.Cells.{asked_by, count_along, demands_of};
 ghost use Rattle.papergrid_walk.specs.ForProofs.Limits.{limit_along};
 ghost use Rattle.papergrid_axis.specs.Ranges.{demand_of};
 ghost use Rattle.papergrid_walk.specs.Looks.{Look};
-ghost use Rattle.papergrid_walk.specs.ForProofs.Paddings.{AreCommon, paddings_at};
+ghost use Rattle.papergrid_walk.specs.ForProofs.Paddings.{Knows, paddings_at};
 ghost use Rattle.papergrid_walk.specs.ForProofs.Pairs.{AreBothSeen};
 ghost use Rattle.papergrid_walk.specs.ForProofs.Shown.{Shows, anchor_in};
 ghost use Rattle.papergrid_walk.specs.ForProofs.Visits.{adds_more, adds_none, shows_turn};
 ghost use Rattle.std.proofs.Common.{◌∙◌, ap, refl};
 
 use crate::Sweep;
+use crate::known::KnownPaddings;
 use crate::measure::Measure;
 use crate::settings::{Paddings, Settings};
 use crate::shown::{sweep_of, visible_anchor};
@@ -71,22 +72,21 @@ pub struct View<'a, S> {
     alloc: Global,
     settings: &'a S,
     sweep: Sweep,
-    // Of all cells, where they are known to be alike.
-    common: Option<Paddings>,
+    known: KnownPaddings,
 }
 
 impl<'a, S: Settings> View<'a, S> {
     /// Before the first cell.
     fn new(alloc: Global, settings: &'a S) -> Result<View<'a, S>, AllocError>
         ensures { IfOk result (λ view. (view.settings.now ≡ settings.now)
-            × Shows (S.look settings.now) view.sweep 0 0 × AreCommon (S.look settings.now) view.common) }
+            × Shows (S.look settings.now) view.sweep 0 0 × Knows (S.look settings.now) (S.set_for settings.now) view.known) }
     {
         let sweep = sweep_of(alloc, settings)?;
         Ok(View {
             alloc,
             settings,
             sweep,
-            common: settings.common_paddings(),
+            known: KnownPaddings::new(alloc, settings),
         })
     }
 
@@ -94,22 +94,19 @@ impl<'a, S: Settings> View<'a, S> {
     #[inline(always)]
     fn read(&mut self, position: Position) -> Result<Option<(Anchor, Paddings)>, AllocError>
         requires shows { Shows (S.look self.old.settings.now) self.old.sweep position.row position.col }
-        requires common { AreCommon (S.look self.old.settings.now) self.old.common }
+        requires knows { Knows (S.look self.old.settings.now) (S.set_for self.old.settings.now) self.old.known }
         requires row_in { position.row < 2 ^ 64 - 1 }
         requires col_in { position.col < 2 ^ 64 - 1 }
         ensures read { let look = S.look self.old.settings.now in
             IfOk result (λ found. found ≡ (if look.shows position then Some (anchor_in look position, paddings_at look position) else None)) }
         ensures later { IfOk result (λ _. Shows (S.look self.old.settings.now) self.new.sweep position.row (position.col + 1)) }
         ensures settings { IfOk result (λ _. self.new.settings ≡ self.old.settings) }
-        ensures common { IfOk result (λ _. self.new.common ≡ self.old.common) }
+        ensures knows { IfOk result (λ _. Knows (S.look self.old.settings.now) (S.set_for self.old.settings.now) self.new.known) }
     {
         let Some(anchor) = visible_anchor(&mut self.sweep, self.alloc, position)? else {
             return Ok(None);
         };
-        let paddings = match self.common {
-            Some(paddings) => paddings,
-            None => self.settings.paddings(position),
-        };
+        let paddings = self.known.at(self.settings, position)?;
         Ok(Some((anchor, paddings)))
     }
 }
@@ -124,7 +121,7 @@ pub struct Needs<'a, M, S> {
 }
 
 impl<'a, M: Measure<C>, C, S: Settings> Visitor<C> for Needs<'a, M, S> {
-    ghost stands = { λ v row column. Shows (S.look v.view.settings.now) v.view.sweep row column × AreCommon (S.look v.view.settings.now) v.view.common };
+    ghost stands = { λ v row column. Shows (S.look v.view.settings.now) v.view.sweep row column × Knows (S.look v.view.settings.now) (S.set_for v.view.settings.now) v.view.known };
 
     ghost visits = { λ v w cells. (w.view.settings ≡ v.view.settings) × (w.direction ≡ v.direction)
         × Adds v.seen w.seen (asked_by v.direction (S.look v.view.settings.now) M.measured cells) };
@@ -173,7 +170,7 @@ pub struct Both {
 }
 
 impl<'a, M: Measure<C>, C, S: Settings> Visitor<C> for BothNeeds<'a, M, S> {
-    ghost stands = { λ v row column. Shows (S.look v.view.settings.now) v.view.sweep row column × AreCommon (S.look v.view.settings.now) v.view.common };
+    ghost stands = { λ v row column. Shows (S.look v.view.settings.now) v.view.sweep row column × Knows (S.look v.view.settings.now) (S.set_for v.view.settings.now) v.view.known };
 
     ghost visits = { λ v w cells. (w.view.settings ≡ v.view.settings)
         × Adds v.both.columns w.both.columns (asked_by Columns (S.look v.view.settings.now) M.measured cells)

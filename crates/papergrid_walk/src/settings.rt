@@ -1,16 +1,20 @@
 //! What a walk reads of a configuration.
 
-ghost use Rattle.std.specs.Prelude.{◌≡◌, ◌≤◌, ◌↔◌, All, AllPairs, IfOk, IsTrue};
+ghost use Rattle.std.specs.Prelude.{◌≡◌, ◌≤◌, ◌↔◌, All, AllPairs, IfOk, IsTrue, Option, Some, option_map, refl};
 ghost use Rattle.papergrid_values.specs.Positions.{AreRising};
 ghost use Rattle.papergrid_axis.specs.ForProofs.Checks.{StayWithin};
 ghost use Rattle.papergrid_maps.specs.Anchors.{IsSorted};
+ghost use Rattle.papergrid_maps.specs.MapHeld.{held_for};
+ghost use Rattle.papergrid_values.specs.declared.entity.Entity.{Entity};
 ghost use Rattle.papergrid_walk.specs.Looks.{Look, compact_look, size_after, size_before, spanned_look};
-ghost use Rattle.papergrid_walk.specs.ForProofs.Paddings.{AreCommon, paddings_at};
+ghost use Rattle.papergrid_walk.specs.ForProofs.Paddings.{AreCommon, AreDecided, sizes};
+ghost use Rattle.papergrid_walk.specs.ForProofs.PaddingLaws.{held_decides};
+ghost use Rattle.papergrid_walk.specs.declared.settings.Paddings.{Paddings};
 ghost use Rattle.papergrid_walk.specs.ForProofs.Shown.{AreAnchorsOf};
 
 use papergrid_config::{CompactConfig, SpannedConfig};
 use papergrid_maps::Anchor;
-use papergrid_values::{Direction, Indent, Position, Sides};
+use papergrid_values::{Direction, Entity, Indent, Position, Sides};
 use std::alloc::{AllocError, Global};
 
 /// The paddings left and right of a cell's text, above and below it.
@@ -60,9 +64,15 @@ pub trait Settings {
     fn padding_after(&self, direction: Direction, pos: Position) -> usize
         ensures { result ≡ (look self.now).after direction pos };
 
-    /// The paddings of the cell at a position.
-    fn paddings(&self, pos: Position) -> Paddings
-        ensures { result ≡ paddings_at (look self.now) pos };
+    // The paddings that are set for an entity itself.
+    ghost set_for: { Self → Entity → Option Paddings };
+
+    // Those of a cell are its own, else its column's, else its row's, else the table's.
+    ghost decided: { (s : Self) → AreDecided (look s) (set_for s) };
+
+    /// The paddings that are set for an entity itself: of a cell without those of its column and of its row.
+    fn paddings_for(&self, entity: Entity) -> Option<Paddings>
+        ensures { result ≡ set_for self.now entity };
 
     /// The paddings of all cells, where it is known that they are alike.
     fn common_paddings(&self) -> Option<Paddings>
@@ -95,7 +105,7 @@ fn after(direction: Direction, padding: &Sides<Indent>) -> usize
 
 /// The sizes of the four sides.
 fn sizes(padding: &Sides<Indent>) -> Paddings
-    ensures { result ≡ record { left = padding.now.left.size; right = padding.now.right.size; top = padding.now.top.size; bottom = padding.now.bottom.size } }
+    ensures { result ≡ sizes padding.now }
 {
     Paddings {
         left: padding.left.size,
@@ -146,8 +156,12 @@ impl Settings for SpannedConfig {
         after(direction, self.get_padding(pos))
     }
 
-    fn paddings(&self, pos: Position) -> Paddings {
-        sizes(self.get_padding(pos))
+    ghost set_for = { λ s entity. option_map sizes (held_for s.padding entity) };
+
+    ghost decided = { λ s. held_decides s.padding };
+
+    fn paddings_for(&self, entity: Entity) -> Option<Paddings> {
+        self.held_padding(entity).map(sizes)
     }
 
     fn common_paddings(&self) -> Option<Paddings> {
@@ -201,8 +215,12 @@ impl Settings for CompactConfig {
         after(direction, self.get_padding())
     }
 
-    fn paddings(&self, _pos: Position) -> Paddings {
-        sizes(self.get_padding())
+    ghost set_for = { λ s _. Some (sizes s.padding) };
+
+    ghost decided = { λ s p. refl };
+
+    fn paddings_for(&self, _entity: Entity) -> Option<Paddings> {
+        Some(sizes(self.get_padding()))
     }
 
     fn common_paddings(&self) -> Option<Paddings> {

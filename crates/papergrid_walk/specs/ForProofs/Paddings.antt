@@ -1,14 +1,43 @@
 -- The paddings of a cell on its four sides.
-use Rattle.std.specs.Prelude.{◌≡◌, IfSome, Option}
-use Rattle.papergrid_values.specs.declared.position.Position.{Position}
+use Rattle.std.specs.Prelude.{◌≡◌, ℕ, IfSome, List, Option, Some, slice_get, unwrap_or}
 use Rattle.papergrid_values.specs.declared.direction.Direction.TheVariants.{Columns, Rows}
+use Rattle.papergrid_values.specs.declared.entity.Entity.{Entity}
+use Rattle.papergrid_values.specs.declared.entity.Entity.TheVariants.{Cell, Column, Global, Row}
+use Rattle.papergrid_values.specs.declared.indent.Indent.{Indent}
+use Rattle.papergrid_values.specs.declared.position.Position.{Position}
+use Rattle.papergrid_values.specs.declared.sides.Sides.{Sides}
 use Rattle.papergrid_walk.specs.Looks.{Look}
+use Rattle.papergrid_walk.specs.declared.known.KnownPaddings.{KnownPaddings}
 use Rattle.papergrid_walk.specs.declared.settings.Paddings.{Paddings}
 
 abbrev pub paddings_at : Look → Position → Paddings
 paddings_at look p =
     record { left = look.before Columns p; right = look.after Columns p; top = look.before Rows p; bottom = look.after Rows p }
 
+-- the sizes of the four sides
+abbrev pub sizes : Sides Indent → Paddings
+sizes padding =
+    record { left = padding.left.size; right = padding.right.size; top = padding.top.size; bottom = padding.bottom.size }
+
 -- where some are given, all cells have them
 abbrev pub AreCommon : Look → Option Paddings → Type 0
 AreCommon look common = IfSome common (λ paddings. (p : Position) → paddings_at look p ≡ paddings)
+
+-- no room on any side
+abbrev pub no_paddings : Paddings
+no_paddings = record { left = 0; right = 0; top = 0; bottom = 0 }
+
+-- what is set for a row, or else for the whole table
+abbrev pub set_in_row : (Entity → Option Paddings) → ℕ → Paddings
+set_in_row set r = unwrap_or (set (Row r)) (unwrap_or (set Global) no_paddings)
+
+-- the paddings of a cell are its own, else its column's, its row's or the table's
+abbrev pub AreDecided : Look → (Entity → Option Paddings) → Type 0
+AreDecided look set = (p : Position) →
+    paddings_at look p ≡ unwrap_or (set (Cell p.row p.col)) (unwrap_or (set (Column p.col)) (set_in_row set p.row))
+
+-- what is known of the paddings of all cells, of the first columns and of one row
+pub record Knows (look : Look) (set : Entity → Option Paddings) (known : KnownPaddings) : Type 0 where
+  pub common : AreCommon look known.common
+  pub columns : (c : ℕ) → IfSome (slice_get known.columns.items c) (λ found. found ≡ set (Column c))
+  pub in_row : known.in_row ≡ set_in_row set known.row

@@ -1,16 +1,12 @@
-use Rattle.std.proofs.Common.{arith, ap, length}
-use Rattle.std.specs.Prelude.{◌==◌}
-use Rattle.std.proofs.lemmas.List.Splits.{length-slice_split}
-use Rattle.std.proofs.lemmas.List.Sums.{count_by-le-length}
-use Rattle.papergrid_text.specs.LinesLeft.{lines_of_rest}
+use Rattle.std.proofs.Common.{◌≡◌, ap₂, ap, length, ◌∙◌, sym}
+use Rattle.papergrid_width.proofs.PrintableLemmas.{whole_printable}
+use Rattle.papergrid_text.specs.Text.{greatest_width}
+use Rattle.papergrid_text.proofs.Printable.{one_line, one_width}
 use Rattle.papergrid_text.proofs.string.get_text_dimension.Goals as goal
 
-pub overflow_add-count : goal.overflow_add-count
-overflow_add-count c =
-    let some = ap (λ rest. length (lines_of_rest rest)) c.in-Some.is in
-    let first = ap length c.measure_first_line-line_width.ensures.first.1 in
-    let counted = c.loop-rest.invariant.counted in
-    let lines = length-slice_split (λ b. b == 10) c.args.text.now in
-    let newlines = count_by-le-length (λ b. b == 10) c.args.text.now in
-    let short = c.type_inv.text in
-    omega arith
+pub returns-then-printable-text : goal.returns-then-printable-text
+returns-then-printable-text c =
+    let text = c.args.text.now in
+    let printable = whole_printable text _ c.count_printable-printable.ensures c.if-printable-text.true in
+    let one = one_line text printable in
+    ap₂ (λ lines width. (lines, width)) (sym (ap length one)) (c.if-printable-text.true ∙ sym (one_width text printable) ∙ sym (ap greatest_width one))

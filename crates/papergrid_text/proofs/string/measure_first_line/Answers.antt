@@ -10,7 +10,7 @@ use Rattle.papergrid_text.proofs.string.measure_first_line.Goals as goal
 
 pub returns-then-printable-text-clause-first : goal.returns-then-printable-text-clause-first
 returns-then-printable-text-clause-first c =
-    let printable = whole_printable c.args.text.now _ c.count_printable-printable.ensures c.if-printable-text.true in
+    let printable = whole_printable c.args.text.now _ c.requires c.if-printable-text.true in
     (c.args.text.now, one_line c.args.text.now printable, c.if-printable-text.true ∙ sym (width-printable c.args.text.now printable))
 
 falls_short : (text : List ℕ) (n : ℕ) → n ≡ prefix_len (is_in_range 0x20 0x7E) text → ¬ (n ≡ length text) → n < length text
@@ -18,22 +18,22 @@ falls_short text n is other = let bound = prefix_len-le-length (is_in_range 0x20
 
 pub bounds-as_bytes-printable : goal.bounds-as_bytes-printable
 bounds-as_bytes-printable c =
-    let short = falls_short c.args.text.now _ c.count_printable-printable.ensures c.if-printable-text.false in
+    let short = falls_short c.args.text.now _ c.requires c.if-printable-text.false in
     let long = ap length c.as_bytes.ensures.value in
     omega arith
 
 pub range_from-requires : goal.range_from-requires
 range_from-requires c = λ some.
-    let within = falls_short c.args.text.now _ c.count_printable-printable.ensures c.if-printable-text.false in
-    let newline : get_or c.args.text.now c.count_printable-printable.result 0 ≡ 10 = ap (λ bytes. get_or bytes c.count_printable-printable.result 0) (sym c.as_bytes.ensures.value) ∙ c.if-as_bytes-printable-eq10.true in
-    IsCharBoundary-after_ascii c.args.text.now c.count_printable-printable.result c.utf8.text (omega arith) (omega arith)
+    let within = falls_short c.args.text.now _ c.requires c.if-printable-text.false in
+    let newline : get_or c.args.text.now c.args.printable 0 ≡ 10 = ap (λ bytes. get_or bytes c.args.printable 0) (sym c.as_bytes.ensures.value) ∙ c.if-as_bytes-printable-eq10.true in
+    IsCharBoundary-after_ascii c.args.text.now c.args.printable c.utf8.text (omega arith) (omega arith)
 
 pub returns-then-as_bytes-printable-eq10-clause-first : goal.returns-then-as_bytes-printable-eq10-clause-first
 returns-then-as_bytes-printable-eq10-clause-first c =
     let text = c.args.text.now in
-    let n = c.count_printable-printable.result in
-    let is = c.count_printable-printable.ensures in
-    let within = falls_short c.args.text.now _ c.count_printable-printable.ensures c.if-printable-text.false in
+    let n = c.args.printable in
+    let is = c.requires in
+    let within = falls_short c.args.text.now _ c.requires c.if-printable-text.false in
     let newline : get_or text n 0 ≡ 10 = ap (λ bytes. get_or bytes n 0) (sym c.as_bytes.ensures.value) ∙ c.if-as_bytes-printable-eq10.true in
     let first = first_newline text (omega arith) (ap (λ k. get_or text k 0) (sym is) ∙ newline) in
     let place = is ∙ sym first in

@@ -2,7 +2,7 @@ use Rattle.std.proofs.Common.{◌≡◌, ◌+◌, length, max}
 use Rattle.std.specs.Prelude.{IsUtf8, IfSome}
 use Rattle.papergrid_text.specs.LinesLeft.{lines_of_rest}
 use Rattle.papergrid_text.specs.Text.{split_lines, greatest_width}
-use Rattle.papergrid_text.proofs.string.get_text_dimension.Given as goal
+use Rattle.papergrid_text.proofs.string.dimension_of_lines.Given as goal
 
 abbrev pub invariant-loop-rest : goal.invariant-loop-rest
 invariant-loop-rest l = record {

@@ -1,0 +1,23 @@
+-- The paddings of a configuration are decided by what is set for entities.
+use Rattle.std.proofs.Common.{◌∙◌, ap}
+use Rattle.std.specs.Prelude.{◌≡◌, Option, None, Some, option_map, refl, unwrap_or}
+use Rattle.std.specs.FinMap.{get}
+use Rattle.papergrid_maps.specs.MapHeld.{Held, held_for, held_value}
+use Rattle.papergrid_values.specs.declared.indent.Indent.{Indent}
+use Rattle.papergrid_values.specs.declared.position.Position.{Position}
+use Rattle.papergrid_values.specs.declared.sides.Sides.{Sides}
+use Rattle.papergrid_walk.specs.ForProofs.Paddings.{no_paddings, set_in_row, sizes}
+
+-- a function of the first value that is there
+taken_out : {A B : Type 0} (f : A → B) (o : Option A) (d : A) → f (unwrap_or o d) ≡ unwrap_or (option_map f o) (f d)
+taken_out f None d = refl
+taken_out f (Some v) d = refl
+
+pub held_decides : (held : Held (Sides Indent)) (p : Position) → sizes (held_value held p)
+    ≡ unwrap_or (option_map sizes (get held.cells p)) (unwrap_or (option_map sizes (get held.columns p.col)) (set_in_row (λ entity. option_map sizes (held_for held entity)) p.row))
+held_decides held p =
+    let in_row = unwrap_or (get held.rows p.row) held.global in
+    taken_out sizes (get held.cells p) (unwrap_or (get held.columns p.col) in_row)
+    ∙ ap (unwrap_or (option_map sizes (get held.cells p)))
+    (taken_out sizes (get held.columns p.col) in_row
+    ∙ ap (unwrap_or (option_map sizes (get held.columns p.col))) (taken_out sizes (get held.rows p.row) held.global))

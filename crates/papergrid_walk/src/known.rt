@@ -1,0 +1,116 @@
+//! The paddings of cells that come by row and then by column: what is set for a column or a row is
+//! looked up once.
+
+ghost use Rattle.std.specs.Prelude.{◌≡◌, IfOk};
+ghost use Rattle.papergrid_values.specs.declared.entity.Entity.TheVariants.{Column};
+ghost use Rattle.papergrid_walk.specs.ForProofs.Paddings.{Knows, paddings_at, set_in_row};
+
+use crate::settings::{Paddings, Settings};
+use papergrid_values::{Entity, Position};
+use std::alloc::{AllocError, Global};
+
+/// What is known of the paddings of a table.
+#[derive(Drop)]
+pub struct KnownPaddings {
+    /// Of all cells, where they are known to be alike.
+    pub common: Option<Paddings>,
+    /// What is set for each of the columns met so far.
+    pub columns: Vec<Option<Paddings>>,
+    /// The row that was met last.
+    pub row: usize,
+    /// What is set for that row, or else for the whole table.
+    pub in_row: Paddings,
+}
+
+const NO_PADDINGS: Paddings = Paddings {
+    left: 0,
+    right: 0,
+    top: 0,
+    bottom: 0,
+};
+
+impl KnownPaddings {
+    /// What is known before the first cell. It takes no memory.
+    pub fn new<S: Settings>(alloc: Global, settings: &S) -> KnownPaddings
+        ensures { Knows (S.look settings.now) (S.set_for settings.now) result }
+    {
+        KnownPaddings {
+            common: settings.common_paddings(),
+            columns: Vec::new(alloc),
+            row: 0,
+            in_row: set_in_row(settings, 0),
+        }
+    }
+
+    /// The paddings of the cell at a position.
+    // Each walk asks it for each of its cells.
+    #[inline(always)]
+    pub fn at<S: Settings>(
+        &mut self,
+        settings: &S,
+        position: Position,
+    ) -> Result<Paddings, AllocError>
+        requires { Knows (S.look settings.now) (S.set_for settings.now) self.old }
+        ensures value { IfOk result (λ paddings. paddings ≡ paddings_at (S.look settings.now) position) }
+        ensures knows { IfOk result (λ _. Knows (S.look settings.now) (S.set_for settings.now) self.new) }
+    {
+        match self.common {
+            Some(paddings) => Ok(paddings),
+            None => self.decided(settings, position),
+        }
+    }
+
+    /// The paddings that are set for the cell, else for its column, its row or the whole table.
+    fn decided<S: Settings>(
+        &mut self,
+        settings: &S,
+        position: Position,
+    ) -> Result<Paddings, AllocError>
+        requires { Knows (S.look settings.now) (S.set_for settings.now) self.old }
+        ensures value { IfOk result (λ paddings. paddings ≡ paddings_at (S.look settings.now) position) }
+        ensures knows { IfOk result (λ _. Knows (S.look settings.now) (S.set_for settings.now) self.new) }
+    {
+        let Position { row, col } = position;
+        if let Some(paddings) = settings.paddings_for(Entity::Cell(row, col)) {
+            return Ok(paddings);
+        }
+        if let Some(paddings) = self.in_column(settings, col)? {
+            return Ok(paddings);
+        }
+        if self.row != row {
+            self.row = row;
+            self.in_row = set_in_row(settings, row);
+        }
+        Ok(self.in_row)
+    }
+
+    /// What is set for a column. It is kept where all columns before are.
+    fn in_column<S: Settings>(
+        &mut self,
+        settings: &S,
+        col: usize,
+    ) -> Result<Option<Paddings>, AllocError>
+        requires { Knows (S.look settings.now) (S.set_for settings.now) self.old }
+        ensures value { IfOk result (λ found. found ≡ S.set_for settings.now (Column col)) }
+        ensures knows { IfOk result (λ _. Knows (S.look settings.now) (S.set_for settings.now) self.new) }
+    {
+        if col < self.columns.len() {
+            return Ok(self.columns[col]);
+        }
+        let found = settings.paddings_for(Entity::Column(col));
+        if col == self.columns.len() {
+            self.columns.push(found)?;
+        }
+        Ok(found)
+    }
+}
+
+/// What is set for a row, or else for the whole table.
+fn set_in_row<S: Settings>(settings: &S, row: usize) -> Paddings
+    ensures { result ≡ set_in_row (S.set_for settings.now) row }
+{
+    if let Some(paddings) = settings.paddings_for(Entity::Row(row)) {
+        return paddings;
+    }
+    settings.paddings_for(Entity::Global).unwrap_or(NO_PADDINGS)
+}
