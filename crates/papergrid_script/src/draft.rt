@@ -6,8 +6,8 @@ ghost use Rattle.papergrid_script.specs.Scripts.{empty_table, with_line};
 ghost use Rattle.papergrid_script.specs.ForProofs.Seen.{Takes, rows_seen, table_seen, table_so_far, texts_of, with_last};
 
 use crate::script::Script;
+use crate::script_setting::{ScriptSetting, settings_of};
 use bumpalo::Bump;
-use papergrid_config::Setting;
 use std::alloc::{AllocError, Global};
 
 /// What the lines of a script have told so far. The cells of the last row are gathered apart, and moved
@@ -17,7 +17,7 @@ pub struct Draft<'a> {
     /// The number of columns.
     pub columns: usize,
     /// The settings, oldest first.
-    pub settings: Vec<Setting>,
+    pub settings: Vec<ScriptSetting>,
     /// The texts of the cells of each row; the last row has its place here, and its cells in `last`.
     pub rows: Vec<&'a [&'a str]>,
     /// The texts of the cells of the last row.
@@ -62,7 +62,7 @@ impl<'a> Draft<'a> {
     }
 
     /// The script that all lines have told.
-    pub fn finish(self) -> Result<Script<'a>, AllocError>
+    pub fn finish(self, alloc: Global) -> Result<Script<'a>, AllocError>
         ensures { IfOk result (λ script. table_seen script ≡ table_so_far self.entry) }
     {
         let Draft {
@@ -75,7 +75,7 @@ impl<'a> Draft<'a> {
         end_row(arena, &mut rows, last.as_slice())?;
         Ok(Script {
             columns,
-            settings,
+            settings: settings_of(alloc, settings.as_slice())?,
             rows,
         })
     }

@@ -7,6 +7,7 @@ pub mod laws;
 mod number;
 pub mod script;
 mod script_line;
+mod script_setting;
 mod setting_line;
 mod unescape;
 

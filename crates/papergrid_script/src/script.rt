@@ -94,7 +94,7 @@ fn script_of_text<'a>(
         }
         rest = after;
     }
-    Ok(draft.finish()?)
+    Ok(draft.finish(alloc)?)
 }
 
 /// The line without one CR at its end.

@@ -9,9 +9,8 @@ ghost use Rattle.papergrid_script.specs.ForProofs.Escapes.{IsFirstEscape};
 use crate::cut::split_at_byte;
 use crate::draft::Draft;
 use crate::number::number;
-use crate::setting_line::{line_setting, padding, placed_span};
+use crate::setting_line::line_setting;
 use crate::unescape::unescaped;
-use papergrid_config::Setting;
 use std::alloc::AllocError;
 
 /// Takes what one more line, which is text, says into the draft; false, and the draft as it was, where the line
@@ -73,35 +72,14 @@ fn take_cell<'a>(draft: &mut Draft<'a>, spelled: &'a str, escape: usize) -> Resu
 }
 
 /// Takes the setting of a keyword, and of what stands after it and a space; false where there is none.
-/// A setting is large, so it has no place in what lines of other kinds go through, and where a script may
-/// have many of a kind it is made where it is kept.
-#[tactic(auto, unfolding(crate::specs::Grammar::setting_of))]
 fn take_setting(draft: &mut Draft<'_>, keyword: &str, rest: &str) -> Result<bool, AllocError>
     ensures { IfOk result (λ fits. Takes (table_so_far draft.old) (option_map Set (setting_of keyword.now rest.now)) fits (table_so_far draft.new)) }
 {
-    match keyword {
-        "pad" => {
-            let Some((entity, sides)) = padding(rest) else {
-                return Ok(false);
-            };
-            draft.settings.push(Setting::SetPadding(entity, sides))?;
+    match line_setting(keyword, rest) {
+        Some(setting) => {
+            draft.settings.push(setting)?;
+            Ok(true)
         }
-        "colspan" => {
-            let Some((place, count)) = placed_span(rest) else {
-                return Ok(false);
-            };
-            draft.settings.push(Setting::SetColumnSpan(place, count))?;
-        }
-        "rowspan" => {
-            let Some((place, count)) = placed_span(rest) else {
-                return Ok(false);
-            };
-            draft.settings.push(Setting::SetRowSpan(place, count))?;
-        }
-        _ => match line_setting(keyword, rest) {
-            Some(setting) => draft.settings.push(setting)?,
-            None => return Ok(false),
-        },
+        None => Ok(false),
     }
-    Ok(true)
 }

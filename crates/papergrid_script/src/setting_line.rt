@@ -1,36 +1,39 @@
 //! The lines of a script that set something of its table.
 
-ghost use Rattle.std.specs.Prelude.{◌≡◌, ◌≢◌, codes, option_map};
-ghost use Rattle.papergrid_config.specs.declared.setting.Setting.TheVariants.{SetPadding};
+ghost use Rattle.std.specs.Prelude.{◌≡◌, option_map};
+ghost use Rattle.papergrid_script.specs.ForProofs.Settings.{setting_told};
 ghost use Rattle.papergrid_script.specs.Grammar.{character_of, entity_of, padding_of, placed_character, placed_span, position_of, setting_of, sides_of};
 
 use crate::number::number;
-use papergrid_config::Setting;
-use papergrid_values::{Borders, Entity, HorizontalLine, Indent, Position, Sides, VerticalLine};
+use crate::script_setting::ScriptSetting;
+use papergrid_values::{Entity, Indent, Position, Sides};
 
-/// The setting of a keyword for lines, and of what stands after it and a space.
+/// The setting of a keyword, and of what stands after it and a space.
 #[tactic(auto, unfolding(crate::specs::Grammar::setting_of))]
-pub fn line_setting(keyword: &str, rest: &str) -> Option<Setting>
-    requires no_padding { keyword.now ≢ codes "pad" }
-    requires no_column_span { keyword.now ≢ codes "colspan" }
-    requires no_row_span { keyword.now ≢ codes "rowspan" }
-    ensures { result ≡ setting_of keyword.now rest.now }
+pub fn line_setting(keyword: &str, rest: &str) -> Option<ScriptSetting>
+    ensures { option_map setting_told result ≡ setting_of keyword.now rest.now }
 {
     match keyword {
-        "border" => Some(Setting::SetBorders(Borders::filled(character(rest)?))),
+        "pad" => padding(rest),
+        "colspan" => {
+            let (place, count) = placed_span(rest)?;
+            Some(ScriptSetting::ColumnSpan(place, count))
+        }
+        "rowspan" => {
+            let (place, count) = placed_span(rest)?;
+            Some(ScriptSetting::RowSpan(place, count))
+        }
+        "border" => Some(ScriptSetting::Border(character(rest)?)),
         "vline" => {
             let (col, c) = placed_character(rest)?;
-            let line = VerticalLine::new(Some(c), None, None, None);
-            Some(Setting::InsertVerticalLine(col, line))
+            Some(ScriptSetting::VerticalLine(col, c))
         }
         "hline" => {
             let (row, c) = placed_character(rest)?;
-            let line = HorizontalLine::new(Some(c), None, None, None);
-            Some(Setting::InsertHorizontalLine(row, line))
+            Some(ScriptSetting::HorizontalLine(row, c))
         }
-        // How many columns or rows there are makes no difference to the line.
-        "novline" => Some(Setting::RemoveVerticalLine(number(rest)?, 0)),
-        "nohline" => Some(Setting::RemoveHorizontalLine(number(rest)?, 0)),
+        "novline" => Some(ScriptSetting::NoVerticalLine(number(rest)?)),
+        "nohline" => Some(ScriptSetting::NoHorizontalLine(number(rest)?)),
         _ => None,
     }
 }
@@ -59,11 +62,11 @@ fn placed_character(spelled: &str) -> Option<(usize, char)>
 
 /// An entity, and four numbers of spaces after it.
 #[tactic(auto, unfolding(crate::specs::Grammar::padding_of))]
-pub fn padding(spelled: &str) -> Option<(Entity, Sides<Indent>)>
-    ensures { option_map (λ parts. SetPadding parts.0 parts.1) result ≡ padding_of spelled.now }
+fn padding(spelled: &str) -> Option<ScriptSetting>
+    ensures { option_map setting_told result ≡ padding_of spelled.now }
 {
     let (first, rest) = spelled.split_once(' ')?;
-    Some((entity(first)?, sides(rest)?))
+    Some(ScriptSetting::Padding(entity(first)?, sides(rest)?))
 }
 
 /// So many spaces for left, right, top and bottom.
@@ -111,7 +114,7 @@ fn position(spelled: &str) -> Option<Position>
 
 /// A position, and a number after it and a space.
 #[tactic(auto, unfolding(crate::specs::Grammar::placed_span))]
-pub fn placed_span(spelled: &str) -> Option<(Position, usize)>
+fn placed_span(spelled: &str) -> Option<(Position, usize)>
     ensures { result ≡ placed_span spelled.now }
 {
     let (place, count) = spelled.split_once(' ')?;

@@ -6,6 +6,7 @@ use Rattle.papergrid_script.specs.declared.script.Script.{Script}
 use Rattle.papergrid_script.specs.declared.script.ScriptError.{ScriptError}
 use Rattle.papergrid_script.specs.declared.script.ScriptError.TheVariants as script_errors
 use Rattle.papergrid_script.specs.Grammar.{Said}
+use Rattle.papergrid_script.specs.ForProofs.Settings.{setting_told}
 use Rattle.papergrid_script.specs.Scripts.{Table, with_line}
 
 -- the texts of the cells
@@ -24,7 +25,7 @@ abbrev pub with_last : List (List (List ℕ)) → List (List ℕ) → List (List
 with_last rows cells = slice_set rows (length rows - 1) cells
 
 abbrev pub table_so_far : Draft → Table
-table_so_far draft = record { columns = draft.columns; settings = draft.settings.items; rows = with_last (rows_seen draft.rows.items) (texts_of draft.last.items) }
+table_so_far draft = record { columns = draft.columns; settings = map setting_told draft.settings.items; rows = with_last (rows_seen draft.rows.items) (texts_of draft.last.items) }
 
 -- what a line says fits, and makes the one table the other; or it does not fit
 abbrev pub Takes : Table → Option Said → Bool → Table → Type 0

@@ -1,0 +1,18 @@
+-- What the lines of a script set, as settings of a configuration.
+use Rattle.std.specs.Prelude.{Some}
+use Rattle.papergrid_values.specs.Borders.{frame_with}
+use Rattle.papergrid_config.specs.declared.setting.Setting.{Setting}
+use Rattle.papergrid_config.specs.declared.setting.Setting.TheVariants.{SetPadding, SetColumnSpan, SetRowSpan, SetBorders, InsertVerticalLine, InsertHorizontalLine, RemoveVerticalLine, RemoveHorizontalLine}
+use Rattle.papergrid_script.specs.declared.script_setting.ScriptSetting.{ScriptSetting}
+use Rattle.papergrid_script.specs.declared.script_setting.ScriptSetting.TheVariants.{Padding, ColumnSpan, RowSpan, Border, VerticalLine, HorizontalLine, NoVerticalLine, NoHorizontalLine}
+use Rattle.papergrid_script.specs.Grammar.{horizontal_main, vertical_main}
+
+abbrev pub setting_told : ScriptSetting → Setting
+setting_told (Padding entity sides) = SetPadding entity sides
+setting_told (ColumnSpan place count) = SetColumnSpan place count
+setting_told (RowSpan place count) = SetRowSpan place count
+setting_told (Border c) = SetBorders (frame_with (Some c))
+setting_told (VerticalLine col c) = InsertVerticalLine col (vertical_main c)
+setting_told (HorizontalLine row c) = InsertHorizontalLine row (horizontal_main c)
+setting_told (NoVerticalLine col) = RemoveVerticalLine col 0
+setting_told (NoHorizontalLine row) = RemoveHorizontalLine row 0
