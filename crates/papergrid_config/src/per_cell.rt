@@ -37,6 +37,7 @@ impl SpannedConfig {
     }
 
     /// The room that is set for an entity itself: of a cell without that of its column and of its row.
+    #[inline(always)]
     pub fn held_padding(&self, entity: Entity) -> Option<&Sides<Indent>>
         ensures { option_copied result ≡ held_for self.now.padding entity }
     {

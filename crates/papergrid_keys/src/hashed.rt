@@ -8,6 +8,7 @@ use std::collections::HashMap;
 use std::hash::Hash;
 
 /// What a key has. Where the map is empty, as most are, no hash is made.
+#[inline(always)]
 pub fn look_up<K: Eq + Hash + Copy, T>(map: &HashMap<K, T>, key: K) -> Option<&T>
     ensures value { option_copied result ≡ map_get K.eq map.now key }
 {

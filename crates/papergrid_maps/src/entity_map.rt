@@ -101,6 +101,7 @@ impl<T> EntityMap<T> {
     }
 
     /// The value held for an entity itself: of a cell without those of its column and of its row.
+    #[inline(always)]
     pub fn held_for(&self, entity: Entity) -> Option<&T>
         ensures { option_copied result ≡ held_for self.now entity }
     {

@@ -6,7 +6,6 @@ ghost use Rattle.papergrid_script.specs.ForProofs.Settings.{setting_told};
 use papergrid_config::Setting;
 use papergrid_values::{Borders, Entity, HorizontalLine, Indent, Position, Sides, VerticalLine};
 use std::alloc::{AllocError, Global};
-use std::iter::Iterator;
 
 /// What a line of a script sets.
 #[derive(Clone, Copy, Debug)]
@@ -51,5 +50,9 @@ impl ScriptSetting {
 pub fn settings_of(alloc: Global, told: &[ScriptSetting]) -> Result<Vec<Setting>, AllocError>
     ensures { IfOk result (λ settings. settings.items ≡ map setting_told told.now) }
 {
-    told.iter().map(|setting| setting.setting()).collect(alloc)
+    let mut settings = Vec::with_capacity(alloc, told.len())?;
+    for setting in told {
+        settings.push(setting.setting())?;
+    }
+    Ok(settings)
 }

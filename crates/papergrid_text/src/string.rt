@@ -155,6 +155,7 @@ fn dimension_of_lines(text: &str, printable: usize) -> (usize, usize)
 
 // The width of the first line, and what stands after its newline, where it is known how many bytes at the
 // front are printable ASCII.
+#[inline(always)]
 fn measure_first_line(text: &str, printable: usize) -> (usize, Option<&str>)
     requires { printable ≡ prefix_len (is_in_range 0x20 0x7E) text.now }
     ensures first { (line : List ℕ) × (split_lines text.now ≡ line ∷ lines_of_rest result.1) × (result.0 ≡ width_of line) }

@@ -61,6 +61,8 @@ impl KnownPaddings {
     }
 
     /// The paddings that are set for the cell, else for its column, its row or the whole table.
+    // Out of line, so that the code for cells that are alike stays small.
+    #[inline(never)]
     fn decided<S: Settings>(
         &mut self,
         settings: &S,

@@ -160,6 +160,8 @@ impl Settings for SpannedConfig {
 
     ghost decided = { λ s. held_decides s.padding };
 
+    // Each walk over cells with paddings asks it for each of its cells.
+    #[inline(always)]
     fn paddings_for(&self, entity: Entity) -> Option<Paddings> {
         self.held_padding(entity).map(sizes)
     }
