@@ -152,6 +152,10 @@ spells c rest text spelled = elim (cases_lt c 128) [
   ]
 ]
 
+-- a test of the first byte, as one of the text
+pub passed : (test : ℕ → Bool) (bytes text : List ℕ) (told : Bool) → told ≡ test (get_or bytes 0 0) → told ≡ true → bytes ≡ text → test (get_or text 0 0) ≡ true
+passed test bytes text told is holds same = ap (λ bs. test (get_or bs 0 0)) (sym same) ∙ sym is ∙ holds
+
 record Begins (text : List ℕ) : Type 0 where
   first : ℕ
   rest : List ℕ
@@ -227,13 +231,24 @@ is_of_three text utf8 some h =
       | Four low lead ↦ absurd (grind (arith, nat_tests))
     ]
 
-pub starts_three : (text : List ℕ) (c columns : ℕ) → IsOfThree text → ((first : ℕ) (rest : List ℕ) → text ≡ encode_utf8 first ++ rest → c ≡ first) → columns_of_three c ≡ Some columns → StartsSimple text columns 3
+starts_three : (text : List ℕ) (c columns : ℕ) → IsOfThree text → ((first : ℕ) (rest : List ℕ) → text ≡ encode_utf8 first ++ rest → c ≡ first) → columns_of_three c ≡ Some columns → StartsSimple text columns 3
 starts_three text c columns three is told =
     let same : c ≡ three.first = is three.first three.rest three.spelled in
     elim (chosen_columns (is_two_columns c) (is_one_column c) columns told) [
       | inl two ↦ starts text three.rest three.first columns 3 three.spelled three.counted (omega (arith, two.1)) (subst (TakesColumns three.first) (sym two.1) (of_two_columns three.first (ap is_two_columns (sym same) ∙ two.0)))
       | inr one ↦ starts text three.rest three.first columns 3 three.spelled three.counted (omega (arith, one.1)) (subst (TakesColumns three.first) (sym one.1) (of_one_column three.first (ap is_one_column (sym same) ∙ one.0)))
     ]
+
+pub if_starts_three : (text : List ℕ) (c : ℕ) (told : Option ℕ) → IsOfThree text → ((first : ℕ) (rest : List ℕ) → text ≡ encode_utf8 first ++ rest → c ≡ first) → told ≡ columns_of_three c → IfSome told (λ columns. StartsSimple text columns 3)
+if_starts_three text c None three is told = tt
+if_starts_three text c (Some columns) three is told = starts_three text c columns three is (sym told)
+
+pub has_some : (text : List ℕ) → 0xE0 ≤ get_or text 0 0 → 0 < length text
+has_some [] h = absurd (omega arith)
+has_some (b ∷ bs) h = omega arith
+
+pub is_three_lead : (b : ℕ) → 0xE0 ≤ b → b ≤ 0xEF → is_in_range 0xE0 0xEF b ≡ true
+is_three_lead b low high = grind (arith, nat_tests)
 
 -- ---- a text of simple characters
 

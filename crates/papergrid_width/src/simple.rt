@@ -45,18 +45,29 @@ fn first_columns(text: &str) -> Option<(usize, usize)>
     if is_in_range(lead, 0x20, 0x7E) {
         return Some((1, 1));
     }
+    if lead >= 0xE0 {
+        return Some((columns_of_long(text)?, 3));
+    }
     if is_letter_lead(lead) {
         return Some((1, 2));
     }
+    None
+}
+
+// The columns of the first character, which has three bytes or more, where it has three and is simple.
+fn columns_of_long(text: &str) -> Option<usize>
+    requires { 0xE0 ≤ get_or text.now 0 0 }
+    ensures { IfSome result (λ columns. StartsSimple text.now columns 3) }
+{
+    let lead = text.as_bytes()[0];
     // U+4000 to U+9FFF.
     if is_in_range(lead, 0xE4, 0xE9) {
-        return Some((2, 3));
+        return Some(2);
     }
-    if is_in_range(lead, 0xE0, 0xEF) {
-        let columns = columns_of_three(first_of_three(text))?;
-        return Some((columns, 3));
+    if lead > 0xEF {
+        return None;
     }
-    None
+    columns_of_three(first_of_three(text))
 }
 
 // Whether the byte begins a letter from U+00C0 to U+02FF or U+0380 to U+047F.
