@@ -9,6 +9,7 @@ ghost use Rattle.std.specs.Prelude.{◌≡◌, ◌+◌, chars, false, get_or};
 ghost use Rattle.unicode_width.specs.Width.{str_width};
 ghost use Rattle.papergrid_width.specs.ForProofs.Parts.{is_emoji_lead};
 
+mod base;
 mod emoji;
 mod part;
 pub mod printable;
