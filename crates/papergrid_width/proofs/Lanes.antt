@@ -1,8 +1,8 @@
 -- From the mask of one load of bytes to how many of them pass a test, from the front on.
-use Rattle.std.proofs.Common.{◌≡◌, ◌+◌, ◌-◌, ◌<◌, ◌≤◌, ◌%◌, ◌^◌, ℕ, List, [], ◌∷◌, Bool, true, not, cond, map, length, take, drop, get_or, Fits, w8, refl, ap, ap₂, sym, ◌∙◌, arith}
+use Rattle.std.proofs.Common.{◌≡◌, ◌+◌, ◌<◌, ◌≤◌, ◌%◌, ◌^◌, ℕ, zero, suc, List, [], ◌∷◌, Bool, true, false, not, cond, map, length, drop, get_or, Fits, w8, refl, ap, ap₂, sym, ◌∙◌, arith}
 use Rattle.std.specs.List.{prefix_len}
-use Rattle.std.proofs.lemmas.Bool.{agree_below, agree_below_at, cond-true, eq-eqb}
-use Rattle.std.proofs.lemmas.List.{length-map, length-take, take-append-drop, drop-drop}
+use Rattle.std.proofs.lemmas.Bool.{agree_below, agree_below_at, cond-true, cond-false, eq-eqb, ne_eqb}
+use Rattle.std.proofs.lemmas.List.{length-map, length-drop, take_all, take-append-drop, drop-drop}
 use Rattle.std.proofs.lemmas.List.Folds.{prefix_len-append}
 use Rattle.std.proofs.lemmas.List.Sums.{prefix_len-le-length}
 use Rattle.std.proofs.lemmas.Simd.{map-map, mask_l-mod, length-chunk, chunk-fits, below_from_Fits, leading_from_mask_l, trailing_mask_l}
@@ -42,29 +42,51 @@ module _ (q : ℕ → Bool) (d : List ℕ) (i n : ℕ) (z : List ℕ) (room : i 
   pub first_other : ¬ (mask_l (map (top 7) z) % 2 ^ 64 ≡ 0) → count_trailing_zeros 64 (mask_l (map (top 7) z) % 2 ^ 64) ≡ prefix_len q (chunk i n d)
   first_other some = ap (count_trailing_zeros 64) mask ∙ trailing_mask_l stops 64 (chunk i n d) (omega (arith, long)) (omega (arith, mask)) ∙ same
 
--- where all of a load pass, the bytes after it are counted on
-counted_on : (q : ℕ → Bool) (bytes : List ℕ) (i n r : ℕ) → i + n ≤ length bytes → r ≡ prefix_len q (chunk i n bytes) → n ≤ r → (r ≡ n) × (prefix_len q (drop i bytes) ≡ r + prefix_len q (drop (i + r) bytes))
-counted_on q bytes i n r room is all =
+-- where all before a load passed and all of it pass, the bytes after it are counted on
+pub counted_more : (q : ℕ → Bool) (bytes : List ℕ) (i n r : ℕ) → i + n ≤ length bytes → r ≡ prefix_len q (chunk i n bytes) → n ≤ r → i + prefix_len q (drop i bytes) ≡ prefix_len q bytes → i + n + prefix_len q (drop (i + n) bytes) ≡ prefix_len q bytes
+counted_more q bytes i n r room is all so_far =
     let long = length-chunk i n bytes room in
     let bound = prefix_len-le-length q (chunk i n bytes) in
-    let same : r ≡ n = omega arith in
-    let full : prefix_len q (chunk i n bytes) ≡ length (chunk i n bytes) = omega arith in (
-      same,
-      ap (prefix_len q) (sym (take-append-drop n (drop i bytes))) ∙ prefix_len-append q (chunk i n bytes) (drop n (drop i bytes))
-          ∙ cond-true _ _ _ (eq-eqb _ _ full) ∙ ap (λ k. k + prefix_len q (drop n (drop i bytes))) (long ∙ sym same)
-          ∙ ap (λ rest. r + prefix_len q rest) (drop-drop n i bytes ∙ ap (λ k. drop (i + k) bytes) (sym same)),
-    )
+    let full : prefix_len q (chunk i n bytes) ≡ length (chunk i n bytes) = omega arith in
+    let on : prefix_len q (drop i bytes) ≡ n + prefix_len q (drop (i + n) bytes) =
+    ap (prefix_len q) (sym (take-append-drop n (drop i bytes))) ∙ prefix_len-append q (chunk i n bytes) (drop n (drop i bytes))
+    ∙ cond-true _ _ _ (eq-eqb _ _ full) ∙ ap (λ k. k + prefix_len q (drop n (drop i bytes))) long ∙ ap (λ rest. n + prefix_len q rest) (drop-drop n i bytes) in
+    omega arith
 
--- so where i bytes passed, those of the load pass too
-pub counted_more : (q : ℕ → Bool) (bytes : List ℕ) (i n r : ℕ) → i + n ≤ length bytes → r ≡ prefix_len q (chunk i n bytes) → n ≤ r → i + prefix_len q (drop i bytes) ≡ prefix_len q bytes →
-    (i + r ≤ length bytes) × (i + r + prefix_len q (drop (i + r) bytes) ≡ prefix_len q bytes)
-counted_more q bytes i n r room is all so_far =
-    let on = counted_on q bytes i n r room is all in
-    (omega (arith, on.0), omega (arith, on.1))
+-- ---- a last load that ends with the bytes
 
--- i bytes, and those after them that pass, are bytes of the text
-pub counted_within : (q : ℕ → Bool) (bytes : List ℕ) (i : ℕ) → i ≤ length bytes → i + prefix_len q (take (length bytes - i) (drop i bytes)) ≤ length bytes
-counted_within q bytes i within =
-    let bound = prefix_len-le-length q (take (length bytes - i) (drop i bytes)) in
-    let long = length-take (length bytes - i) (drop i bytes) in
+-- those of a front that passes are passed over
+passed_over : (q : ℕ → Bool) (j : ℕ) (bytes : List ℕ) → j ≤ prefix_len q bytes → j + prefix_len q (drop j bytes) ≡ prefix_len q bytes
+passed_over q zero bytes h = omega arith
+passed_over q (suc j) [] h = absurd (omega arith)
+passed_over q (suc j) (b ∷ bytes) h = by_first (q b) h (passed_over q j bytes)
+  where
+    by_first : (v : Bool) → suc j ≤ cond v (1 + prefix_len q bytes) 0 → (j ≤ prefix_len q bytes → j + prefix_len q (drop j bytes) ≡ prefix_len q bytes) → suc j + prefix_len q (drop j bytes) ≡ cond v (1 + prefix_len q bytes) 0
+    by_first true h over = let rest = over (omega arith) in omega arith
+    by_first false h over = absurd (omega arith)
+
+-- where the first i bytes pass, a load of the last n bytes that starts among them tells the rest
+pub counted_last : (q : ℕ → Bool) (bytes : List ℕ) (i last n r : ℕ) → last + n ≡ length bytes → last ≤ i → i + prefix_len q (drop i bytes) ≡ prefix_len q bytes → r ≡ prefix_len q (chunk last n bytes) → last + r ≡ prefix_len q bytes
+counted_last q bytes i last n r ends early so_far is =
+    let left : length (drop last bytes) ≡ n = omega (arith, length-drop last bytes) in
+    let whole : chunk last n bytes ≡ drop last bytes = take_all n (drop last bytes) (omega arith) in
+    let over = passed_over q last bytes (omega arith) in
+    let same = is ∙ ap (prefix_len q) whole in
+    omega arith
+
+-- a load that starts where all before it passed, and of which some do not pass
+pub counted_here : (q : ℕ → Bool) (bytes : List ℕ) (i n r : ℕ) → i + n ≤ length bytes → r ≡ prefix_len q (chunk i n bytes) → r < n → i + prefix_len q (drop i bytes) ≡ prefix_len q bytes → i + r ≡ prefix_len q bytes
+counted_here q bytes i n r room is few so_far =
+    let long = length-chunk i n bytes room in
+    let other : ¬ (prefix_len q (chunk i n bytes) ≡ length (chunk i n bytes)) = λ same. absurd (omega arith) in
+    let front : prefix_len q (drop i bytes) ≡ r =
+    ap (prefix_len q) (sym (take-append-drop n (drop i bytes))) ∙ prefix_len-append q (chunk i n bytes) (drop n (drop i bytes))
+    ∙ cond-false _ _ _ (ne_eqb _ _ other) ∙ sym is in
+    omega arith
+
+-- a load counts no more than it reads
+pub counted_few : (q : ℕ → Bool) (bytes : List ℕ) (i n r : ℕ) → i + n ≤ length bytes → r ≡ prefix_len q (chunk i n bytes) → r ≤ n
+counted_few q bytes i n r room is =
+    let bound = prefix_len-le-length q (chunk i n bytes) in
+    let long = length-chunk i n bytes room in
     omega arith

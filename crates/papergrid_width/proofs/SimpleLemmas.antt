@@ -1,5 +1,5 @@
 -- Simple characters, and texts of them.
-use Rattle.std.proofs.Common.{◌≡◌, ℕ, zero, ◌+◌, ◌*◌, ◌-◌, ◌/◌, ◌%◌, ◌<◌, ◌≤◌, ◌||◌, Bool, true, false, not, cond, List, [], ◌∷◌, ◌++◌, length, get_or, drop, encode_utf8, encode_utf8_all, IsUtf8, Option, Some, None, IfSome, refl, sym, ap, ◌∙◌, subst, arith, inl, inr, ◌⊎◌, le-ltb, lt-ltb}
+use Rattle.std.proofs.Common.{◌≡◌, ℕ, ◌+◌, ◌*◌, ◌-◌, ◌/◌, ◌%◌, ◌<◌, ◌≤◌, ◌||◌, Bool, true, false, not, cond, List, [], ◌∷◌, ◌++◌, length, get_or, drop, encode_utf8, encode_utf8_all, IsUtf8, Option, Some, None, IfSome, refl, sym, ap, ◌∙◌, subst, arith, inl, inr, ◌⊎◌, le-ltb, lt-ltb}
 use Rattle.std.specs.Int.{is_in_range}
 use Rattle.std.specs.Str.{IsCharBoundary, chars}
 use Rattle.std.proofs.Math.Seq.{drop-append_seam}

@@ -1,4 +1,4 @@
-use Rattle.std.proofs.Common.{◌≤◌, get_or, ap, subst}
+use Rattle.std.proofs.Common.{◌≤◌, get_or, subst}
 use Rattle.std.specs.Int.{is_in_range}
 use Rattle.papergrid_width.proofs.SimpleLemmas.{passed, starts_ideograph, has_some, is_three_lead, is_of_three, if_starts_three}
 use Rattle.papergrid_width.proofs.simple.columns_of_long.Goals as goal

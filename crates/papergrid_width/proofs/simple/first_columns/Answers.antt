@@ -1,4 +1,3 @@
-use Rattle.std.proofs.Common.{◌≡◌, List, ℕ, Bool, true, get_or, sym, ap, ◌∙◌}
 use Rattle.std.specs.Int.{is_in_range}
 use Rattle.papergrid_width.specs.ForProofs.Simple.{is_letter_lead}
 use Rattle.papergrid_width.proofs.SimpleLemmas.{passed, starts_ascii, starts_letter}

@@ -1,6 +1,5 @@
-use Rattle.std.proofs.Common.{◌≡◌, ◌≤◌, ◌<◌, length, get_or, true, IsUtf8, List, [], ◌∷◌, ℕ, arith, ap, ◌∙◌, subst, sym, rules}
+use Rattle.std.proofs.Common.{◌≡◌, ◌<◌, length, get_or, true, IsUtf8, List, [], ◌∷◌, ℕ, arith, ◌∙◌, subst, sym}
 use Rattle.std.specs.Int.{is_in_range}
-use Rattle.std.proofs.lemmas.Bool.{cases_lt}
 use Rattle.std.proofs.lemmas.Bool.Decides.{nat_tests}
 use Rattle.papergrid_width.proofs.SimpleLemmas.{IsOfThree, is_of_three, code_of_three}
 use Rattle.papergrid_width.proofs.simple.first_of_three.Goals as goal
