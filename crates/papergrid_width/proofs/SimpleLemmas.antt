@@ -1,11 +1,14 @@
 -- Simple characters, and texts of them.
-use Rattle.std.proofs.Common.{◌≡◌, ℕ, ◌+◌, ◌*◌, ◌-◌, ◌/◌, ◌%◌, ◌<◌, ◌≤◌, ◌||◌, Bool, true, false, not, cond, List, [], ◌∷◌, ◌++◌, length, get_or, drop, encode_utf8, encode_utf8_all, IsUtf8, Option, Some, None, IfSome, refl, sym, ap, ◌∙◌, subst, arith, inl, inr, ◌⊎◌, le-ltb, lt-ltb}
+use Rattle.std.proofs.Common.{◌≡◌, ℕ, ◌+◌, ◌*◌, ◌-◌, ◌/◌, ◌%◌, ◌<◌, ◌≤◌, ◌||◌, Bool, true, false, not, cond, List, [], ◌∷◌, ◌++◌, length, get_or, take, drop, encode_utf8, encode_utf8_all, IsUtf8, Option, Some, None, IfSome, refl, sym, ap, ◌∙◌, subst, arith, inl, inr, ◌⊎◌, le-ltb, lt-ltb}
 use Rattle.std.specs.Int.{is_in_range}
+use Rattle.std.specs.List.{list_all, prefix_len}
 use Rattle.std.specs.Str.{IsCharBoundary, chars}
 use Rattle.std.proofs.Math.Seq.{drop-append_seam}
 use Rattle.std.proofs.lemmas.Bool.{cases_lt}
 use Rattle.std.proofs.lemmas.Bool.Decides.{nat_tests}
-use Rattle.std.proofs.lemmas.Str.{encode_ascii, encode_same, length-encode, len_utf8_bounds, IsUtf8-past_char, IsCharBoundary-at_seam, chars_past_char, encodes-chars}
+use Rattle.std.proofs.lemmas.List.{length-take-le, take-append-drop, drop-drop}
+use Rattle.std.proofs.lemmas.List.Sums.{prefix_len-le-length}
+use Rattle.std.proofs.lemmas.Str.{IsUtf8-drop, IsUtf8-from_ascii, IsCharBoundary-from_rest, IsCharBoundary-from_take, chars-append, chars-IsAscii, encode_ascii, encode_same, length-encode, len_utf8_bounds, IsUtf8-past_char, IsCharBoundary-at_seam, chars_past_char, encodes-chars}
 use lib.Utf8.{encode}
 use Rattle.ucd_table.specs.Rows.{Range, in_ranges}
 use Rattle.ucd_table.proofs.Facts.{Stepped-everywhere}
@@ -14,9 +17,11 @@ use Rattle.unicode_width.specs.declared.kind.Kind.{Kind}
 use Rattle.unicode_width.specs.declared.kind.Kind.TheVariants as kinds
 use Rattle.unicode_width.specs.Kind.{kind}
 use Rattle.unicode_width.specs.Width.{alone, of_kind, plain, step, past_emoji, read_before, str_width}
+use Rattle.unicode_width.proofs.WidthLemmas.{read_before-printable}
 use Rattle.unicode_width.proofs.Computing.{unicode_width}
 use Rattle.unicode_width.proofs.KindLemmas.{kind_stepped}
-use Rattle.papergrid_width.specs.ForProofs.Simple.{ReadsPlainly, StartsSimple, TakesColumns, columns_of_three, is_letter_lead, is_one_column, is_two_columns}
+use Rattle.papergrid_width.proofs.PrintableLemmas.{ascii, front_printable, whole_printable}
+use Rattle.papergrid_width.specs.ForProofs.Simple.{IsPiece, ReadsPlainly, StartsSimple, TakesColumns, columns_of_three, is_letter_lead, is_one_column, is_two_columns}
 
 -- ---- the columns of ranges
 
@@ -279,6 +284,19 @@ cut_after text columns count start utf8 =
       omega (arith, length-encode start.first, (len_utf8_bounds start.first).0),
     )
 
+-- a printable front, and what reads plainly after it
+pub reads_past : (text : List ℕ) (n m : ℕ) → n ≤ length text → list_all (is_in_range 0x20 0x7E) (take n text) ≡ true → ReadsPlainly (drop n text) m → ReadsPlainly text (n + m)
+reads_past text n m within printable reads =
+    let is_ascii = ascii (take n text) printable in
+    let cut : chars text ≡ take n text ++ chars (drop n text) =
+    ap chars (sym (take-append-drop n text)) ∙ chars-append (take n text) (drop n text) (IsUtf8-from_ascii (take n text) is_ascii) ∙ ap (λ cs. cs ++ chars (drop n text)) (chars-IsAscii (take n text) is_ascii) in
+    let sum : m + length (take n text) ≡ n + m = omega (arith, length-take-le n text within) in
+    ap (λ cs. read_before false cs (0, plain)) cut ∙ sym (read_before-printable false (take n text) (chars (drop n text)) m printable (sym reads)) ∙ ap (λ n. (n, plain)) sum
+
+-- the text may be cut there
+pub cut_past : (text : List ℕ) (n : ℕ) → IsUtf8 text → n ≤ length text → list_all (is_in_range 0x20 0x7E) (take n text) ≡ true → IsCharBoundary text n
+cut_past text n utf8 within printable = IsCharBoundary-from_take text n utf8 within (IsUtf8-from_ascii (take n text) (ascii (take n text) printable))
+
 pub reads_nothing : ReadsPlainly [] 0
 unfolding chars
 reads_nothing = refl
@@ -286,3 +304,38 @@ reads_nothing = refl
 pub width_of_plain : (text : List ℕ) (width : ℕ) → ReadsPlainly text width → width ≡ str_width false (chars text)
 unfolding str_width
 width_of_plain text width reads = sym (ap (λ r. r.0) reads)
+
+-- ---- with the printable ASCII that follows
+
+pub reads_run : (text : List ℕ) (n m : ℕ) → n ≡ prefix_len (is_in_range 0x20 0x7E) text → ReadsPlainly (drop n text) m → ReadsPlainly text (n + m)
+reads_run text n m is =
+    let bound = prefix_len-le-length (is_in_range 0x20 0x7E) text in
+    reads_past text n m (omega arith) (subst (λ k. list_all (is_in_range 0x20 0x7E) (take k text) ≡ true) (sym is) (front_printable text))
+
+pub cut_run : (text : List ℕ) (n : ℕ) → IsUtf8 text → n ≡ prefix_len (is_in_range 0x20 0x7E) text → IsCharBoundary text n
+cut_run text n utf8 is =
+    let bound = prefix_len-le-length (is_in_range 0x20 0x7E) text in
+    cut_past text n utf8 (omega arith) (subst (λ k. list_all (is_in_range 0x20 0x7E) (take k text) ≡ true) (sym is) (front_printable text))
+
+pub piece : (text after : List ℕ) (columns count run : ℕ) → StartsSimple text columns count → IsUtf8 text → after ≡ drop count text → run ≡ prefix_len (is_in_range 0x20 0x7E) after → IsPiece text (columns + run) (count + run)
+piece text after columns count run start utf8 is counted =
+    let cut = cut_after text columns count start utf8 in
+    let bound = start.bound in
+    let counted_there : run ≡ prefix_len (is_in_range 0x20 0x7E) (drop count text) = counted ∙ ap (prefix_len (is_in_range 0x20 0x7E)) is in
+    let past = cut_run (drop count text) run (IsUtf8-drop text count utf8 cut.0) counted_there in
+    let sum : (n : ℕ) → columns + (run + n) ≡ columns + run + n = λ n. omega arith in
+    record {
+      boundary = IsCharBoundary-from_rest text count run cut.0.0 past;
+      some = omega (arith, cut.1);
+      bound = omega arith;
+      reads = λ n plainly. subst (ReadsPlainly text) (sum n)
+          (reads_more text (drop count text) columns count (run + n) start utf8 refl (reads_run (drop count text) run n counted_there (subst (λ bs. ReadsPlainly bs n) (sym (drop-drop run count text)) plainly)));
+    }
+
+-- a front that was counted whole is printable
+pub front_is_printable : (text bytes : List ℕ) (from k n : ℕ) → n ≡ prefix_len (is_in_range 0x20 0x7E) (take k bytes) → k ≡ from → bytes ≡ text → from ≤ n → from ≤ length text → list_all (is_in_range 0x20 0x7E) (take from text) ≡ true
+front_is_printable text bytes from k n is same whole all within =
+    let counted : n ≡ prefix_len (is_in_range 0x20 0x7E) (take from text) = is ∙ ap (λ k. prefix_len (is_in_range 0x20 0x7E) (take k bytes)) same ∙ ap (λ bs. prefix_len (is_in_range 0x20 0x7E) (take from bs)) whole in
+    let bound = prefix_len-le-length (is_in_range 0x20 0x7E) (take from text) in
+    let long = length-take-le from text within in
+    whole_printable (take from text) n counted (omega arith)

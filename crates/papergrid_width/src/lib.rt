@@ -21,7 +21,7 @@ mod tests;
 use emoji::emoji_width;
 pub use printable::{count_printable, is_printable};
 use runs::width_by_runs;
-use simple::width_by_simple;
+use simple::{long_simple_width, width_by_simple};
 use unicode_width::UnicodeWidthStr;
 
 // Texts of so many bytes are long.
@@ -47,11 +47,10 @@ pub fn width_by_characters(text: &str, from: usize) -> usize
     if may_be_emoji(text, from) {
         return width_of_emoji(text);
     }
-    // In a short text it does not pay to look for runs of ASCII.
     if LONG <= text.len() {
-        return width_by_runs(text);
+        return width_of_long(text);
     }
-    width_by_simple(text)
+    width_by_simple(text, from)
 }
 
 // The same, where most of the text may be emoji.
@@ -61,6 +60,18 @@ fn width_of_emoji(text: &str) -> usize
     match emoji_width(text) {
         Some(width) => width,
         None => text.width(),
+    }
+}
+
+// The same of a long text. Where it is not simple, its runs of ASCII are passed at least, which does not pay in a
+// short one.
+#[inline(never)]
+fn width_of_long(text: &str) -> usize
+    ensures { result ≡ str_width false (chars text.now) }
+{
+    match long_simple_width(text) {
+        Some(width) => width,
+        None => width_by_runs(text),
     }
 }
 

@@ -20,7 +20,7 @@ pub fn width_by_runs(text: &str) -> usize
     let mut width = 0usize;
     let mut rest = text;
     while let Some((before, run, after)) = split_at_run(rest) {
-        width += width_by_simple(before) + run;
+        width += width_by_simple(before, 0) + run;
         rest = after;
     }
     width + rest.width()

@@ -3,22 +3,36 @@
 
 ghost use Rattle.std.specs.Prelude.{◌≡◌, ℕ, ◌*◌, ◌<◌, ◌≤◌, ◌++◌, List, chars, encode_utf8, true, false, length, get_or, IfSome};
 ghost use Rattle.std.specs.Int.{is_in_range};
-ghost use Rattle.papergrid_width.specs.ForProofs.Simple.{ReadsPlainly, StartsSimple, columns_of_three, is_letter_lead};
+ghost use Rattle.papergrid_width.specs.ForProofs.Simple.{IsPiece, ReadsPlainly, StartsSimple, columns_of_three, is_letter_lead};
 ghost use Rattle.unicode_width.specs.Width.{str_width};
 
+use crate::printable::{count_printable, count_printable_bytes};
 use unicode_width::UnicodeWidthStr;
 
-/// The width of a text that may be simple characters alone.
+/// The width of a text that may be simple characters alone, of which so many bytes at its front may be
+/// printable ASCII.
 // Out of line, so that the code for printable texts stays small.
 #[inline(never)]
-pub fn width_by_simple(text: &str) -> usize
+pub fn width_by_simple(text: &str, from: usize) -> usize
     ensures value { result ≡ str_width false (chars text.now) }
     ensures bound { result ≤ 2 * length text.now }
 {
-    match simple_width(text) {
+    match simple_width_past(text, from) {
         Some(width) => width,
         None => text.width(),
     }
+}
+
+// The width of a text of simple characters with such a front, or `None` where it may be another one.
+fn simple_width_past(text: &str, from: usize) -> Option<usize>
+    ensures value { IfSome result (λ width. ReadsPlainly text.now width) }
+    ensures bound { IfSome result (λ width. width ≤ length text.now) }
+{
+    if text.len() < from || count_printable_bytes(&text.as_bytes()[..from]) < from {
+        return None;
+    }
+    let rest = simple_width(&text[from..])?;
+    Some(from + rest)
 }
 
 // The width of a text of simple characters, or `None` where it may have others.
@@ -34,6 +48,33 @@ fn simple_width(text: &str) -> Option<usize>
         rest = &rest[count..];
     }
     Some(width)
+}
+
+/// The same of a long text: what it has of printable ASCII is passed many bytes at a time.
+pub fn long_simple_width(text: &str) -> Option<usize>
+    ensures value { IfSome result (λ width. ReadsPlainly text.now width) }
+    ensures bound { IfSome result (λ width. width ≤ length text.now) }
+{
+    let run = count_printable(text);
+    let mut width = run;
+    let mut rest = &text[run..];
+    while rest.len() > 0 {
+        let (columns, count) = first_piece(rest)?;
+        width += columns;
+        rest = &rest[count..];
+    }
+    Some(width)
+}
+
+// The columns and the bytes of the first character and of the printable ASCII after it, where that character
+// is simple.
+fn first_piece(text: &str) -> Option<(usize, usize)>
+    requires { 0 < length text.now }
+    ensures { IfSome result (λ first. IsPiece text.now first.0 first.1) }
+{
+    let (columns, count) = first_columns(text)?;
+    let run = count_printable(&text[count..]);
+    Some((columns + run, count + run))
 }
 
 // The columns of the first character, and how many bytes it has, where it is simple.

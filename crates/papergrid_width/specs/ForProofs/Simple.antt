@@ -1,6 +1,7 @@
 -- Simple characters: those that are told by long ranges, and take one column or two whatever stands around them among such characters.
-use Rattle.std.specs.Prelude.{◌≡◌, ℕ, ◌+◌, ◌≤◌, Bool, false, ◌||◌, ◌++◌, List, length, Option, Some, None, chars, encode_utf8, if◌then◌else◌}
+use Rattle.std.specs.Prelude.{◌≡◌, ℕ, ◌+◌, ◌<◌, ◌≤◌, Bool, false, ◌||◌, ◌++◌, List, length, drop, Option, Some, None, chars, encode_utf8, if◌then◌else◌}
 use Rattle.std.specs.Int.{is_in_range}
+use Rattle.std.specs.Str.{IsCharBoundary}
 use Rattle.unicode_width.specs.Width.{plain, read_before, step}
 
 -- the first byte of a letter from U+00C0 to U+02FF or U+0380 to U+047F
@@ -38,3 +39,10 @@ pub record StartsSimple (text : List ℕ) (columns count : ℕ) : Type 0 where
 -- a text that has this width and joins nothing before it
 abbrev pub ReadsPlainly : List ℕ → ℕ → Type 0
 ReadsPlainly text width = read_before false (chars text) (0, plain) ≡ (width, plain)
+
+-- so many bytes at the front have so many columns before all that reads plainly
+pub record IsPiece (text : List ℕ) (columns count : ℕ) : Type 0 where
+  pub boundary : IsCharBoundary text count
+  pub some : 0 < count
+  pub bound : columns ≤ count
+  pub reads : (n : ℕ) → ReadsPlainly (drop count text) n → ReadsPlainly text (columns + n)
