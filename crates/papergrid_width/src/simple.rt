@@ -36,6 +36,7 @@ fn simple_width_past(text: &str, from: usize) -> Option<usize>
 }
 
 // The width of a text of simple characters, or `None` where it may have others.
+#[inline]
 fn simple_width(text: &str) -> Option<usize>
     ensures value { IfSome result (λ width. ReadsPlainly text.now width) }
     ensures bound { IfSome result (λ width. width ≤ length text.now) }
@@ -78,6 +79,7 @@ fn first_piece(text: &str) -> Option<(usize, usize)>
 }
 
 // The columns of the first character, and how many bytes it has, where it is simple.
+#[inline(always)]
 fn first_columns(text: &str) -> Option<(usize, usize)>
     requires { 0 < length text.now }
     ensures { IfSome result (λ first. StartsSimple text.now first.0 first.1) }
