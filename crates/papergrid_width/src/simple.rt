@@ -3,7 +3,7 @@
 
 ghost use Rattle.std.specs.Prelude.{◌≡◌, ℕ, ◌*◌, ◌<◌, ◌≤◌, ◌++◌, List, chars, encode_utf8, true, false, length, get_or, IfSome};
 ghost use Rattle.std.specs.Int.{is_in_range};
-ghost use Rattle.papergrid_width.specs.ForProofs.Simple.{IsPiece, ReadsPlainly, StartsSimple, columns_of_three, is_letter_lead};
+ghost use Rattle.papergrid_width.specs.ForProofs.Simple.{IsPiece, IsPrintableFront, ReadsPlainly, StartsSimple, columns_of_three, is_letter_lead};
 ghost use Rattle.unicode_width.specs.Width.{str_width};
 
 use crate::printable::{count_printable, count_printable_bytes};
@@ -28,11 +28,21 @@ fn simple_width_past(text: &str, from: usize) -> Option<usize>
     ensures value { IfSome result (λ width. ReadsPlainly text.now width) }
     ensures bound { IfSome result (λ width. width ≤ length text.now) }
 {
-    if text.len() < from || count_printable_bytes(&text.as_bytes()[..from]) < from {
+    if !has_printable_front(text, from) {
         return None;
     }
     let rest = simple_width(&text[from..])?;
     Some(from + rest)
+}
+
+// Whether so many bytes at the front are printable ASCII.
+fn has_printable_front(text: &str, count: usize) -> bool
+    ensures { result ≡ true → IsPrintableFront text.now count }
+{
+    if count == 0 {
+        return true;
+    }
+    count <= text.len() && count_printable_bytes(&text.as_bytes()[..count]) == count
 }
 
 // The width of a text of simple characters, or `None` where it may have others.

@@ -1,6 +1,7 @@
 -- Simple characters: those that are told by long ranges, and take one column or two whatever stands around them among such characters.
-use Rattle.std.specs.Prelude.{◌≡◌, ℕ, ◌+◌, ◌<◌, ◌≤◌, Bool, false, ◌||◌, ◌++◌, List, length, drop, Option, Some, None, chars, encode_utf8, if◌then◌else◌}
+use Rattle.std.specs.Prelude.{◌≡◌, ℕ, ◌+◌, ◌<◌, ◌≤◌, Bool, true, false, ◌||◌, ◌++◌, List, length, take, drop, Option, Some, None, chars, encode_utf8, if◌then◌else◌}
 use Rattle.std.specs.Int.{is_in_range}
+use Rattle.std.specs.List.{list_all}
 use Rattle.std.specs.Str.{IsCharBoundary}
 use Rattle.unicode_width.specs.Width.{plain, read_before, step}
 
@@ -46,3 +47,7 @@ pub record IsPiece (text : List ℕ) (columns count : ℕ) : Type 0 where
   pub some : 0 < count
   pub bound : columns ≤ count
   pub reads : (n : ℕ) → ReadsPlainly (drop count text) n → ReadsPlainly text (columns + n)
+
+pub record IsPrintableFront (text : List ℕ) (count : ℕ) : Type 0 where
+  pub within : count ≤ length text
+  pub printable : list_all (is_in_range 0x20 0x7E) (take count text) ≡ true
