@@ -248,11 +248,11 @@ pub if_starts_three : (text : List ℕ) (c : ℕ) (told : Option ℕ) → IsOfTh
 if_starts_three text c None three is told = tt
 if_starts_three text c (Some columns) three is told = starts_three text c columns three is (sym told)
 
-pub has_some : (text : List ℕ) → 0xE0 ≤ get_or text 0 0 → 0 < length text
+pub has_some : (text : List ℕ) → 0xE1 ≤ get_or text 0 0 → 0 < length text
 has_some [] h = absurd (omega arith)
 has_some (b ∷ bs) h = omega arith
 
-pub is_three_lead : (b : ℕ) → 0xE0 ≤ b → b ≤ 0xEF → is_in_range 0xE0 0xEF b ≡ true
+pub is_three_lead : (b : ℕ) → 0xE1 ≤ b → b ≤ 0xEF → is_in_range 0xE0 0xEF b ≡ true
 is_three_lead b low high = grind (arith, nat_tests)
 
 -- ---- a text of simple characters

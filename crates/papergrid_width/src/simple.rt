@@ -98,7 +98,7 @@ fn first_columns(text: &str) -> Option<(usize, usize)>
     if is_in_range(lead, 0x20, 0x7E) {
         return Some((1, 1));
     }
-    if lead >= 0xE0 {
+    if lead >= 0xE1 {
         return Some((columns_of_long(text)?, 3));
     }
     if is_letter_lead(lead) {
@@ -107,9 +107,9 @@ fn first_columns(text: &str) -> Option<(usize, usize)>
     None
 }
 
-// The columns of the first character, which has three bytes or more, where it has three and is simple.
+// The columns of the first character, which is from U+1000 on, where it has three bytes and is simple.
 fn columns_of_long(text: &str) -> Option<usize>
-    requires { 0xE0 ≤ get_or text.now 0 0 }
+    requires { 0xE1 ≤ get_or text.now 0 0 }
     ensures { IfSome result (λ columns. StartsSimple text.now columns 3) }
 {
     let lead = text.as_bytes()[0];
