@@ -1,8 +1,8 @@
 -- From the mask of one load of bytes to how many of them pass a test, from the front on.
-use Rattle.std.proofs.Common.{◌≡◌, ◌+◌, ◌<◌, ◌≤◌, ◌%◌, ◌^◌, ℕ, zero, suc, List, [], ◌∷◌, Bool, true, false, not, cond, map, length, drop, get_or, Fits, w8, refl, ap, ap₂, sym, ◌∙◌, arith}
+use Rattle.std.proofs.Common.{◌≡◌, ◌+◌, ◌-◌, ◌<◌, ◌≤◌, ◌%◌, ◌^◌, ℕ, zero, suc, List, [], ◌∷◌, Bool, true, false, not, cond, map, length, take, drop, get_or, Fits, w8, refl, ap, ap₂, sym, subst, ◌∙◌, arith}
 use Rattle.std.specs.List.{prefix_len}
 use Rattle.std.proofs.lemmas.Bool.{agree_below, agree_below_at, cond-true, cond-false, eq-eqb, ne_eqb}
-use Rattle.std.proofs.lemmas.List.{length-map, length-drop, take_all, take-append-drop, drop-drop}
+use Rattle.std.proofs.lemmas.List.{length-map, length-take, length-drop, take_all, take-append-drop, drop-drop}
 use Rattle.std.proofs.lemmas.List.Folds.{prefix_len-append}
 use Rattle.std.proofs.lemmas.List.Sums.{prefix_len-le-length}
 use Rattle.std.proofs.lemmas.Simd.{map-map, mask_l-mod, length-chunk, chunk-fits, below_from_Fits, leading_from_mask_l, trailing_mask_l}
@@ -42,16 +42,37 @@ module _ (q : ℕ → Bool) (d : List ℕ) (i n : ℕ) (z : List ℕ) (room : i 
   pub first_other : ¬ (mask_l (map (top 7) z) % 2 ^ 64 ≡ 0) → count_trailing_zeros 64 (mask_l (map (top 7) z) % 2 ^ 64) ≡ prefix_len q (chunk i n d)
   first_other some = ap (count_trailing_zeros 64) mask ∙ trailing_mask_l stops 64 (chunk i n d) (omega (arith, long)) (omega (arith, mask)) ∙ same
 
--- where all before a load passed and all of it pass, the bytes after it are counted on
-pub counted_more : (q : ℕ → Bool) (bytes : List ℕ) (i n r : ℕ) → i + n ≤ length bytes → r ≡ prefix_len q (chunk i n bytes) → n ≤ r → i + prefix_len q (drop i bytes) ≡ prefix_len q bytes → i + n + prefix_len q (drop (i + n) bytes) ≡ prefix_len q bytes
-counted_more q bytes i n r room is all so_far =
+-- where all of a load pass, the bytes after it are counted on
+counted_on : (q : ℕ → Bool) (bytes : List ℕ) (i n r : ℕ) → i + n ≤ length bytes → r ≡ prefix_len q (chunk i n bytes) → n ≤ r → (r ≡ n) × (prefix_len q (drop i bytes) ≡ r + prefix_len q (drop (i + r) bytes))
+counted_on q bytes i n r room is all =
     let long = length-chunk i n bytes room in
     let bound = prefix_len-le-length q (chunk i n bytes) in
-    let full : prefix_len q (chunk i n bytes) ≡ length (chunk i n bytes) = omega arith in
-    let on : prefix_len q (drop i bytes) ≡ n + prefix_len q (drop (i + n) bytes) =
-    ap (prefix_len q) (sym (take-append-drop n (drop i bytes))) ∙ prefix_len-append q (chunk i n bytes) (drop n (drop i bytes))
-    ∙ cond-true _ _ _ (eq-eqb _ _ full) ∙ ap (λ k. k + prefix_len q (drop n (drop i bytes))) long ∙ ap (λ rest. n + prefix_len q rest) (drop-drop n i bytes) in
+    let same : r ≡ n = omega arith in
+    let full : prefix_len q (chunk i n bytes) ≡ length (chunk i n bytes) = omega arith in (
+      same,
+      ap (prefix_len q) (sym (take-append-drop n (drop i bytes))) ∙ prefix_len-append q (chunk i n bytes) (drop n (drop i bytes))
+          ∙ cond-true _ _ _ (eq-eqb _ _ full) ∙ ap (λ k. k + prefix_len q (drop n (drop i bytes))) (long ∙ sym same)
+          ∙ ap (λ rest. r + prefix_len q rest) (drop-drop n i bytes ∙ ap (λ k. drop (i + k) bytes) (sym same)),
+    )
+
+-- so where i bytes passed, those of the load pass too
+pub counted_more : (q : ℕ → Bool) (bytes : List ℕ) (i n r : ℕ) → i + n ≤ length bytes → r ≡ prefix_len q (chunk i n bytes) → n ≤ r → i + prefix_len q (drop i bytes) ≡ prefix_len q bytes →
+    (i + r ≤ length bytes) × (i + r + prefix_len q (drop (i + r) bytes) ≡ prefix_len q bytes)
+counted_more q bytes i n r room is all so_far =
+    let on = counted_on q bytes i n r room is all in
+    (omega (arith, on.0), omega (arith, on.1))
+
+-- i bytes, and those after them that pass, are bytes of the text
+pub counted_within : (q : ℕ → Bool) (bytes : List ℕ) (i : ℕ) → i ≤ length bytes → i + prefix_len q (take (length bytes - i) (drop i bytes)) ≤ length bytes
+counted_within q bytes i within =
+    let bound = prefix_len-le-length q (take (length bytes - i) (drop i bytes)) in
+    let long = length-take (length bytes - i) (drop i bytes) in
     omega arith
+
+-- the same by the length of the load
+pub counted_past : (q : ℕ → Bool) (bytes : List ℕ) (i n r : ℕ) → i + n ≤ length bytes → r ≡ prefix_len q (chunk i n bytes) → n ≤ r → i + prefix_len q (drop i bytes) ≡ prefix_len q bytes → i + n + prefix_len q (drop (i + n) bytes) ≡ prefix_len q bytes
+counted_past q bytes i n r room is all so_far =
+    subst (λ k. i + k + prefix_len q (drop (i + k) bytes) ≡ prefix_len q bytes) (counted_on q bytes i n r room is all).0 (counted_more q bytes i n r room is all so_far).1
 
 -- ---- a last load that ends with the bytes
 
