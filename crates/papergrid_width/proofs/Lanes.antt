@@ -1,8 +1,8 @@
 -- From the mask of one load of bytes to how many of them pass a test, from the front on.
-use Rattle.std.proofs.Common.{◌≡◌, ◌+◌, ◌-◌, ◌<◌, ◌≤◌, ◌%◌, ◌^◌, ℕ, List, [], ◌∷◌, Bool, true, not, cond, map, length, take, drop, get_or, Fits, w8, refl, ap, ap₂, sym, ◌∙◌, arith}
+use Rattle.std.proofs.Common.{◌≡◌, ◌+◌, ◌-◌, ◌<◌, ◌≤◌, ◌%◌, ◌^◌, ℕ, zero, suc, List, [], ◌∷◌, Bool, true, false, not, cond, map, length, take, drop, get_or, Fits, w8, refl, ap, ap₂, sym, subst, ◌∙◌, arith}
 use Rattle.std.specs.List.{prefix_len}
-use Rattle.std.proofs.lemmas.Bool.{agree_below, agree_below_at, cond-true, eq-eqb}
-use Rattle.std.proofs.lemmas.List.{length-map, length-take, take-append-drop, drop-drop}
+use Rattle.std.proofs.lemmas.Bool.{agree_below, agree_below_at, cond-true, cond-false, eq-eqb, ne_eqb}
+use Rattle.std.proofs.lemmas.List.{length-map, length-take, length-drop, take_all, take-append-drop, drop-drop}
 use Rattle.std.proofs.lemmas.List.Folds.{prefix_len-append}
 use Rattle.std.proofs.lemmas.List.Sums.{prefix_len-le-length}
 use Rattle.std.proofs.lemmas.Simd.{map-map, mask_l-mod, length-chunk, chunk-fits, below_from_Fits, leading_from_mask_l, trailing_mask_l}
@@ -67,4 +67,47 @@ pub counted_within : (q : ℕ → Bool) (bytes : List ℕ) (i : ℕ) → i ≤ l
 counted_within q bytes i within =
     let bound = prefix_len-le-length q (take (length bytes - i) (drop i bytes)) in
     let long = length-take (length bytes - i) (drop i bytes) in
+    omega arith
+
+-- the same by the length of the load
+pub counted_past : (q : ℕ → Bool) (bytes : List ℕ) (i n r : ℕ) → i + n ≤ length bytes → r ≡ prefix_len q (chunk i n bytes) → n ≤ r → i + prefix_len q (drop i bytes) ≡ prefix_len q bytes → i + n + prefix_len q (drop (i + n) bytes) ≡ prefix_len q bytes
+counted_past q bytes i n r room is all so_far =
+    subst (λ k. i + k + prefix_len q (drop (i + k) bytes) ≡ prefix_len q bytes) (counted_on q bytes i n r room is all).0 (counted_more q bytes i n r room is all so_far).1
+
+-- ---- a last load that ends with the bytes
+
+-- those of a front that passes are passed over
+passed_over : (q : ℕ → Bool) (j : ℕ) (bytes : List ℕ) → j ≤ prefix_len q bytes → j + prefix_len q (drop j bytes) ≡ prefix_len q bytes
+passed_over q zero bytes h = omega arith
+passed_over q (suc j) [] h = absurd (omega arith)
+passed_over q (suc j) (b ∷ bytes) h = by_first (q b) h (passed_over q j bytes)
+  where
+    by_first : (v : Bool) → suc j ≤ cond v (1 + prefix_len q bytes) 0 → (j ≤ prefix_len q bytes → j + prefix_len q (drop j bytes) ≡ prefix_len q bytes) → suc j + prefix_len q (drop j bytes) ≡ cond v (1 + prefix_len q bytes) 0
+    by_first true h over = let rest = over (omega arith) in omega arith
+    by_first false h over = absurd (omega arith)
+
+-- where the first i bytes pass, a load of the last n bytes that starts among them tells the rest
+pub counted_last : (q : ℕ → Bool) (bytes : List ℕ) (i last n r : ℕ) → last + n ≡ length bytes → last ≤ i → i + prefix_len q (drop i bytes) ≡ prefix_len q bytes → r ≡ prefix_len q (chunk last n bytes) → last + r ≡ prefix_len q bytes
+counted_last q bytes i last n r ends early so_far is =
+    let left : length (drop last bytes) ≡ n = omega (arith, length-drop last bytes) in
+    let whole : chunk last n bytes ≡ drop last bytes = take_all n (drop last bytes) (omega arith) in
+    let over = passed_over q last bytes (omega arith) in
+    let same = is ∙ ap (prefix_len q) whole in
+    omega arith
+
+-- a load that starts where all before it passed, and of which some do not pass
+pub counted_here : (q : ℕ → Bool) (bytes : List ℕ) (i n r : ℕ) → i + n ≤ length bytes → r ≡ prefix_len q (chunk i n bytes) → r < n → i + prefix_len q (drop i bytes) ≡ prefix_len q bytes → i + r ≡ prefix_len q bytes
+counted_here q bytes i n r room is few so_far =
+    let long = length-chunk i n bytes room in
+    let other : ¬ (prefix_len q (chunk i n bytes) ≡ length (chunk i n bytes)) = λ same. absurd (omega arith) in
+    let front : prefix_len q (drop i bytes) ≡ r =
+    ap (prefix_len q) (sym (take-append-drop n (drop i bytes))) ∙ prefix_len-append q (chunk i n bytes) (drop n (drop i bytes))
+    ∙ cond-false _ _ _ (ne_eqb _ _ other) ∙ sym is in
+    omega arith
+
+-- a load counts no more than it reads
+pub counted_few : (q : ℕ → Bool) (bytes : List ℕ) (i n r : ℕ) → i + n ≤ length bytes → r ≡ prefix_len q (chunk i n bytes) → r ≤ n
+counted_few q bytes i n r room is =
+    let bound = prefix_len-le-length q (chunk i n bytes) in
+    let long = length-chunk i n bytes room in
     omega arith

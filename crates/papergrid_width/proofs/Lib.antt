@@ -1,6 +1,6 @@
 pub mod Lanes
-pub mod LetterLemmas
 pub mod PartLemmas
 pub mod PrintableLemmas
 pub mod RunLemmas
+pub mod SimpleLemmas
 pub mod StepLemmas

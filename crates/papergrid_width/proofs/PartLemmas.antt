@@ -10,7 +10,9 @@ use Rattle.unicode_width.specs.declared.kind.Kind.TheVariants as kinds
 use Rattle.unicode_width.specs.Kind.{kind}
 use Rattle.unicode_width.proofs.Computing.{unicode_width}
 use Rattle.unicode_width.proofs.KindLemmas.{kind_stepped}
-use Rattle.papergrid_width.specs.ForProofs.Parts.{is_pictograph, part_of}
+use Rattle.ucd_emoji.proofs.BinaryLemmas.{is_emoji_modifier_base_stepped, is_emoji_variation_base_stepped}
+use Rattle.ucd_emoji.specs.Binary.{is_emoji_modifier_base, is_emoji_variation_base}
+use Rattle.papergrid_width.specs.ForProofs.Parts.{is_common_selected, is_common_toned, is_pictograph, part_of}
 use Rattle.papergrid_width.specs.declared.part.Part.{Part}
 use Rattle.papergrid_width.specs.declared.part.Part.TheVariants as parts
 
@@ -100,3 +102,31 @@ kind_indicator c h = indicator_from (kind c) (let a = indicators_are c in grind 
 pub kind_modifier : (c : ℕ) → is_in_range 0x1F3FB 0x1F3FF c ≡ true → kind c ≡ kinds.EmojiModifier
 unfolding in_ranges
 kind_modifier c h = modifier_from (kind c) (let a = modifiers_are c in grind (arith, nat_tests))
+
+-- ---- bases that are told by ranges
+
+abbrev selected : List Range
+selected = (0x30, 0x39) ∷ (0x2600, 0x2604) ∷ (0x2763, 0x2764) ∷ []
+
+abbrev toned : List Range
+toned = (0x1F446, 0x1F450) ∷ (0x1F466, 0x1F478) ∷ []
+
+selected_are : (c : ℕ) → (not (in_ranges selected c) || is_emoji_variation_base c) ≡ true
+unfolding unicode_width
+selected_are =
+    Stepped-everywhere (λ c. not (in_ranges selected c) || is_emoji_variation_base c)
+    (zip_stepped (λ inside base. not inside || base) (in_ranges selected) is_emoji_variation_base (of_ranges selected refl) is_emoji_variation_base_stepped) refl
+
+toned_are : (c : ℕ) → (not (in_ranges toned c) || is_emoji_modifier_base c) ≡ true
+unfolding unicode_width
+toned_are =
+    Stepped-everywhere (λ c. not (in_ranges toned c) || is_emoji_modifier_base c)
+    (zip_stepped (λ inside base. not inside || base) (in_ranges toned) is_emoji_modifier_base (of_ranges toned refl) is_emoji_modifier_base_stepped) refl
+
+pub selected_base : (c : ℕ) → is_common_selected c ≡ true → is_emoji_variation_base c ≡ true
+unfolding in_ranges
+selected_base c h = let a = selected_are c in grind (arith, nat_tests)
+
+pub toned_base : (c : ℕ) → is_common_toned c ≡ true → is_emoji_modifier_base c ≡ true
+unfolding in_ranges
+toned_base c h = let a = toned_are c in grind (arith, nat_tests)

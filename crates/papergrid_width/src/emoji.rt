@@ -4,9 +4,9 @@ ghost use Rattle.std.specs.Prelude.{◌≡◌, ◌≤◌, chars, false, IfSome};
 ghost use Rattle.unicode_width.specs.Width.{str_width};
 ghost use Rattle.papergrid_width.specs.ForProofs.Emoji.{IsStep};
 
+use crate::base::{is_selected_base, is_toned_base};
 use crate::part::{After, add_before, part_of};
 use crate::printable::without_printable_end;
-use ucd_emoji::{is_emoji_modifier_base, is_emoji_variation_base};
 
 /// The width of a text of emoji and printable ASCII, or `None` where it may have something else.
 pub fn emoji_width(text: &str) -> Option<usize>
@@ -35,8 +35,8 @@ fn step_back(c: char, after: After) -> Option<(usize, After)>
     ensures bound { IfSome result (λ added. added.0 ≤ 2) }
 {
     match after {
-        After::Selector if is_emoji_variation_base(c) => Some((2, After::Emoji)),
-        After::Modifier if is_emoji_modifier_base(c) => Some((0, After::Emoji)),
+        After::Selector if is_selected_base(c) => Some((2, After::Emoji)),
+        After::Modifier if is_toned_base(c) => Some((0, After::Emoji)),
         _ => add_before(part_of(c)?, after),
     }
 }

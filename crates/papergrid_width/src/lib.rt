@@ -1,27 +1,27 @@
 //! How many columns of a terminal a text takes, as `unicode_width` counts them.
 //!
-//! A text of printable ASCII is as wide as it is long, and one of letters of two bytes has a column for each.
-//! The width of a text of emoji is found by the few rules that such a text needs. Every other text is measured
-//! by `unicode_width`, a long one without its runs of printable ASCII.
+//! A text of printable ASCII is as wide as it is long, and in a text of simple characters each has one column or
+//! two. The width of a text of emoji is found by the few rules that such a text needs. Every other text is
+//! measured by `unicode_width`, a long one without its runs of printable ASCII.
 #![tactic(auto)]
 
 ghost use Rattle.std.specs.Prelude.{◌≡◌, ◌+◌, chars, false, get_or};
 ghost use Rattle.unicode_width.specs.Width.{str_width};
-ghost use Rattle.papergrid_width.specs.ForProofs.Letters.{is_letter_lead};
 ghost use Rattle.papergrid_width.specs.ForProofs.Parts.{is_emoji_lead};
 
+mod base;
 mod emoji;
-mod letters;
 mod part;
 pub mod printable;
 mod runs;
+mod simple;
 #[cfg(test)]
 mod tests;
 
 use emoji::emoji_width;
-use letters::width_by_letters;
 pub use printable::{count_printable, is_printable};
 use runs::width_by_runs;
+use simple::{long_simple_width, width_by_simple};
 use unicode_width::UnicodeWidthStr;
 
 // Texts of so many bytes are long.
@@ -47,14 +47,10 @@ pub fn width_by_characters(text: &str, from: usize) -> usize
     if may_be_emoji(text, from) {
         return width_of_emoji(text);
     }
-    // In a short text it does not pay to look for runs of ASCII.
     if LONG <= text.len() {
-        return width_by_runs(text);
+        return width_of_long(text);
     }
-    if may_be_letter(text, from) {
-        return width_by_letters(text);
-    }
-    text.width()
+    width_by_simple(text, from)
 }
 
 // The same, where most of the text may be emoji.
@@ -64,6 +60,18 @@ fn width_of_emoji(text: &str) -> usize
     match emoji_width(text) {
         Some(width) => width,
         None => text.width(),
+    }
+}
+
+// The same of a long text. Where it is not simple, its runs of ASCII are passed at least, which does not pay in a
+// short one.
+#[inline(never)]
+fn width_of_long(text: &str) -> usize
+    ensures { result ≡ str_width false (chars text.now) }
+{
+    match long_simple_width(text) {
+        Some(width) => width,
+        None => width_by_runs(text),
     }
 }
 
@@ -80,15 +88,4 @@ fn may_be_emoji(text: &str, from: usize) -> bool
         [0xF0, 0x9F, ..] | [0xEF, 0xB8, ..] | [0xE2, 0x98..=0x9E, ..] => true,
         _ => false,
     }
-}
-
-// Whether the character there is one of the letters of two bytes that are told.
-fn may_be_letter(text: &str, from: usize) -> bool
-    ensures { result ≡ is_letter_lead (get_or text.now from 0) }
-{
-    let bytes = text.as_bytes();
-    if bytes.len() <= from {
-        return false;
-    }
-    matches!(bytes[from], 0xC3..=0xCB | 0xCE..=0xD1)
 }

@@ -7,9 +7,6 @@ ghost use Rattle.std.specs.Simd.Lanes.{chunk};
 
 use std::simd::prelude::*;
 
-// Bytes that are tested at once.
-const LANES: usize = 8;
-
 /// Whether the text is printable ASCII. Then it is as wide as it is long, and has no newline.
 pub fn is_printable(text: &str) -> bool
     ensures { result ≡ list_all (is_in_range 0x20 0x7E) text.now }
@@ -21,35 +18,69 @@ pub fn is_printable(text: &str) -> bool
 pub fn count_printable(text: &str) -> usize
     ensures { result ≡ prefix_len (is_in_range 0x20 0x7E) text.now }
 {
-    let bytes = text.as_bytes();
-    let mut count = 0usize;
-    while LANES <= bytes.len() - count {
-        let run = count_printable_lanes(bytes, count);
-        count += run;
-        if run < LANES {
-            return count;
-        }
-    }
-    count + count_printable_bytes(&bytes[count..])
+    count_printable_bytes(text.as_bytes())
 }
 
-// The same of as many bytes as there are lanes, from a place on.
-fn count_printable_lanes(bytes: &[u8], from: usize) -> usize
-    requires { from + LANES ≤ length bytes.now }
-    ensures { result ≡ prefix_len (is_in_range 0x20 0x7E) (chunk from LANES bytes.now) }
+/// The same of bytes.
+pub(crate) fn count_printable_bytes(bytes: &[u8]) -> usize
+    ensures { result ≡ prefix_len (is_in_range 0x20 0x7E) bytes.now }
 {
-    let lanes = u8x8::from_slice(&bytes[from..]);
-    let others = lanes.simd_lt(u8x8::splat(0x20)) | lanes.simd_ge(u8x8::splat(0x7F));
-    let mask = others.to_bitmask();
-    if mask == 0 {
-        LANES
+    if bytes.len() >= 16 {
+        count_by_sixteens(bytes)
+    } else if bytes.len() >= 8 {
+        count_by_eights(bytes)
+    } else if bytes.len() >= 4 {
+        count_by_fours(bytes)
     } else {
-        mask.trailing_zeros() as usize
+        count_one_by_one(bytes)
     }
 }
 
-// The same, one byte after another.
-fn count_printable_bytes(bytes: &[u8]) -> usize
+// The last load of each of these starts so early that it ends with the bytes. What it has of an earlier load is
+// printable then.
+fn count_by_sixteens(bytes: &[u8]) -> usize
+    requires { 16 ≤ length bytes.now }
+    ensures { result ≡ prefix_len (is_in_range 0x20 0x7E) bytes.now }
+{
+    let last = bytes.len() - 16;
+    let mut count = 0usize;
+    while count < last {
+        let run = count_in_sixteen(bytes, count);
+        if run < 16 {
+            return count + run;
+        }
+        count += 16;
+    }
+    last + count_in_sixteen(bytes, last)
+}
+
+fn count_by_eights(bytes: &[u8]) -> usize
+    requires least { 8 ≤ length bytes.now }
+    requires most { length bytes.now ≤ 16 }
+    ensures { result ≡ prefix_len (is_in_range 0x20 0x7E) bytes.now }
+{
+    let run = count_in_eight(bytes, 0);
+    if run < 8 {
+        return run;
+    }
+    let last = bytes.len() - 8;
+    last + count_in_eight(bytes, last)
+}
+
+fn count_by_fours(bytes: &[u8]) -> usize
+    requires least { 4 ≤ length bytes.now }
+    requires most { length bytes.now ≤ 8 }
+    ensures { result ≡ prefix_len (is_in_range 0x20 0x7E) bytes.now }
+{
+    let run = count_in_four(bytes, 0);
+    if run < 4 {
+        return run;
+    }
+    let last = bytes.len() - 4;
+    last + count_in_four(bytes, last)
+}
+
+fn count_one_by_one(bytes: &[u8]) -> usize
     ensures { result ≡ prefix_len (is_in_range 0x20 0x7E) bytes.now }
 {
     let mut count = 0usize;
@@ -60,6 +91,49 @@ fn count_printable_bytes(bytes: &[u8]) -> usize
         count += 1;
     }
     count
+}
+
+// How many of so many bytes from a place on are printable, from the front on, by one load.
+fn count_in_sixteen(bytes: &[u8], from: usize) -> usize
+    requires { from + 16 ≤ length bytes.now }
+    ensures { result ≡ prefix_len (is_in_range 0x20 0x7E) (chunk from 16 bytes.now) }
+{
+    let lanes = u8x16::from_slice(&bytes[from..]);
+    let others = lanes.simd_lt(u8x16::splat(0x20)) | lanes.simd_ge(u8x16::splat(0x7F));
+    let mask = others.to_bitmask();
+    if mask == 0 {
+        16
+    } else {
+        mask.trailing_zeros() as usize
+    }
+}
+
+fn count_in_eight(bytes: &[u8], from: usize) -> usize
+    requires { from + 8 ≤ length bytes.now }
+    ensures { result ≡ prefix_len (is_in_range 0x20 0x7E) (chunk from 8 bytes.now) }
+{
+    let lanes = u8x8::from_slice(&bytes[from..]);
+    let others = lanes.simd_lt(u8x8::splat(0x20)) | lanes.simd_ge(u8x8::splat(0x7F));
+    let mask = others.to_bitmask();
+    if mask == 0 {
+        8
+    } else {
+        mask.trailing_zeros() as usize
+    }
+}
+
+fn count_in_four(bytes: &[u8], from: usize) -> usize
+    requires { from + 4 ≤ length bytes.now }
+    ensures { result ≡ prefix_len (is_in_range 0x20 0x7E) (chunk from 4 bytes.now) }
+{
+    let lanes = u8x4::from_slice(&bytes[from..]);
+    let others = lanes.simd_lt(u8x4::splat(0x20)) | lanes.simd_ge(u8x4::splat(0x7F));
+    let mask = others.to_bitmask();
+    if mask == 0 {
+        4
+    } else {
+        mask.trailing_zeros() as usize
+    }
 }
 
 /// The text without the printable ASCII at its end.

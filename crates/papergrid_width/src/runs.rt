@@ -6,8 +6,8 @@ ghost use Rattle.std.specs.List.{position_or_len};
 ghost use Rattle.unicode_width.specs.Width.{str_width};
 ghost use Rattle.papergrid_width.specs.ForProofs.Runs.{IsSplitAtRun};
 
-use crate::letters::width_by_letters;
 use crate::printable::count_printable;
+use crate::simple::width_by_simple;
 use unicode_width::UnicodeWidthStr;
 
 /// The width of a text. Its runs of printable ASCII are as wide as they are long, and what stands between
@@ -20,7 +20,7 @@ pub fn width_by_runs(text: &str) -> usize
     let mut width = 0usize;
     let mut rest = text;
     while let Some((before, run, after)) = split_at_run(rest) {
-        width += width_by_letters(before) + run;
+        width += width_by_simple(before, 0) + run;
         rest = after;
     }
     width + rest.width()

@@ -38,6 +38,59 @@ fn letters_and_runs_of_ascii_add_up(rt: HostRuntime) {
     }
 }
 
+// Texts of simple characters, short and long, and texts that begin like them and have another character: an
+// accent apart, an emoji, a sound mark apart, a form of half the width.
+const SIMPLE: [(&str, usize); 14] = [
+    ("don’t", 5),
+    ("“x” — y…", 8),
+    ("5 € ≤ 6 €", 9),
+    ("Việt Nam", 8),
+    ("┌─┐", 3),
+    ("中文한국어かなカナ", 18),
+    ("東京、１２３。", 14),
+    ("表の幅を計算する文字列、中文宽度", 32),
+    ("naïve cafés — “where the tea isn’t so dear”", 43),
+    ("表の幅は 12 columns、それとも 14 columns か。", 45),
+    ("don’t e\u{301}", 7),
+    ("ok – 👍", 7),
+    ("か\u{3099}", 2),
+    ("ｱｲｳ", 3),
+];
+
+#[test]
+fn simple_characters_add_up(rt: HostRuntime) {
+    for (text, columns) in SIMPLE {
+        assert_eq!(rt; width(text), columns);
+        assert_eq!(rt; width_by_characters(text, 1), columns);
+    }
+}
+
+// Texts of each number of loads, and a newline in each of the loads, where they overlap too.
+const FRONTS: [(&str, usize); 15] = [
+    ("", 0),
+    ("now", 3),
+    ("no\n", 2),
+    ("now is", 6),
+    ("now\nis", 3),
+    ("now i\n", 5),
+    ("now is the time", 15),
+    ("now is\nthe time", 6),
+    ("now is the\ntime", 10),
+    ("now is the time ", 16),
+    ("now is the time for", 19),
+    ("now is the\ntime for all", 10),
+    ("now is the time for all\n", 23),
+    ("now is the time for all good men to\ncome", 35),
+    ("now is the time for all good men to come", 40),
+];
+
+#[test]
+fn printable_fronts_are_counted(rt: HostRuntime) {
+    for (text, count) in FRONTS {
+        assert_eq!(rt; count_printable(text), count);
+    }
+}
+
 #[test]
 fn printable_text_is_as_wide_as_long(rt: HostRuntime) {
     assert_eq!(rt; width(""), 0);

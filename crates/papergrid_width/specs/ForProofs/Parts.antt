@@ -49,3 +49,10 @@ add_before parts.Joiner afters.Indicators = Some (0, afters.Joiner)
 add_before parts.Indicator afters.Indicator = Some (1, afters.Indicators)
 add_before parts.Indicator afters.Indicators = Some (1, afters.Indicators)
 add_before part after = Some (add_apart part)
+
+-- some bases of U+FE0F, and some of skin tones
+abbrev pub is_common_selected : ℕ → Bool
+is_common_selected c = is_in_range 0x30 0x39 c || is_in_range 0x2600 0x2604 c || is_in_range 0x2763 0x2764 c
+
+abbrev pub is_common_toned : ℕ → Bool
+is_common_toned c = is_in_range 0x1F446 0x1F450 c || is_in_range 0x1F466 0x1F478 c

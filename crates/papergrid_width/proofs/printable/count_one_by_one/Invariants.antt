@@ -1,7 +1,7 @@
 use Rattle.std.proofs.Common.{◌≡◌, ◌+◌, drop}
 use Rattle.std.specs.Int.{is_in_range}
 use Rattle.std.specs.List.{prefix_len}
-use Rattle.papergrid_width.proofs.printable.count_printable_bytes.Given as goal
+use Rattle.papergrid_width.proofs.printable.count_one_by_one.Given as goal
 
 abbrev pub invariant-loop-b : goal.invariant-loop-b
 invariant-loop-b l = record {

@@ -2,7 +2,7 @@ use Rattle.std.proofs.Common.{leb, cond, refl, arith}
 use Rattle.std.proofs.lemmas.Simd.{zip2_of_maps, zip2_splat, zip2_splat_left, length-chunk}
 use Rattle.std.specs.Int.{is_in_range}
 use Rattle.papergrid_width.proofs.Lanes.{all_pass, by_table, first_other}
-use Rattle.papergrid_width.proofs.printable.count_printable_lanes.Goals as goal
+use Rattle.papergrid_width.proofs.printable.count_in_eight.Goals as goal
 
 pub returns-then-mask-eq0 : goal.returns-then-mask-eq0
 returns-then-mask-eq0 c =

@@ -1,0 +1,13 @@
+use Rattle.std.proofs.Common.{◌+◌, ◌≤◌, ℕ, IsUtf8, length}
+use Rattle.papergrid_width.specs.ForProofs.Simple.{ReadsPlainly}
+use Rattle.papergrid_width.proofs.simple.long_simple_width.Given as goal
+
+abbrev pub invariant-loop-rest : goal.invariant-loop-rest
+invariant-loop-rest l = record {
+  text : IsUtf8 l.rest;
+  reads : (n : ℕ) → ReadsPlainly l.rest n → ReadsPlainly l.text (l.width + n);
+  room : l.width + length l.rest ≤ length l.text;
+}
+
+abbrev pub decreases-loop-rest : goal.decreases-loop-rest
+decreases-loop-rest l = length l.rest

@@ -1,0 +1,160 @@
+//! The width of a text of simple characters: printable ASCII and long ranges of others that take one column
+//! or two, whatever stands around them among such characters.
+
+ghost use Rattle.std.specs.Prelude.{◌≡◌, ℕ, ◌*◌, ◌<◌, ◌≤◌, ◌++◌, List, chars, encode_utf8, true, false, length, get_or, IfSome};
+ghost use Rattle.std.specs.Int.{is_in_range};
+ghost use Rattle.papergrid_width.specs.ForProofs.Simple.{IsPiece, IsPrintableFront, ReadsPlainly, StartsSimple, columns_of_three, is_letter_lead};
+ghost use Rattle.unicode_width.specs.Width.{str_width};
+
+use crate::printable::{count_printable, count_printable_bytes};
+use unicode_width::UnicodeWidthStr;
+
+/// The width of a text that may be simple characters alone, of which so many bytes at its front may be
+/// printable ASCII.
+// Out of line, so that the code for printable texts stays small.
+#[inline(never)]
+pub fn width_by_simple(text: &str, from: usize) -> usize
+    ensures value { result ≡ str_width false (chars text.now) }
+    ensures bound { result ≤ 2 * length text.now }
+{
+    match simple_width_past(text, from) {
+        Some(width) => width,
+        None => text.width(),
+    }
+}
+
+// The width of a text of simple characters with such a front, or `None` where it may be another one.
+fn simple_width_past(text: &str, from: usize) -> Option<usize>
+    ensures value { IfSome result (λ width. ReadsPlainly text.now width) }
+    ensures bound { IfSome result (λ width. width ≤ length text.now) }
+{
+    if !has_printable_front(text, from) {
+        return None;
+    }
+    let rest = simple_width(&text[from..])?;
+    Some(from + rest)
+}
+
+// Whether so many bytes at the front are printable ASCII.
+fn has_printable_front(text: &str, count: usize) -> bool
+    ensures { result ≡ true → IsPrintableFront text.now count }
+{
+    if count == 0 {
+        return true;
+    }
+    count <= text.len() && count_printable_bytes(&text.as_bytes()[..count]) == count
+}
+
+// The width of a text of simple characters, or `None` where it may have others.
+#[inline]
+fn simple_width(text: &str) -> Option<usize>
+    ensures value { IfSome result (λ width. ReadsPlainly text.now width) }
+    ensures bound { IfSome result (λ width. width ≤ length text.now) }
+{
+    let mut width = 0usize;
+    let mut rest = text;
+    while rest.len() > 0 {
+        let (columns, count) = first_columns(rest)?;
+        width += columns;
+        rest = &rest[count..];
+    }
+    Some(width)
+}
+
+/// The same of a long text: what it has of printable ASCII is passed many bytes at a time.
+pub fn long_simple_width(text: &str) -> Option<usize>
+    ensures value { IfSome result (λ width. ReadsPlainly text.now width) }
+    ensures bound { IfSome result (λ width. width ≤ length text.now) }
+{
+    let run = count_printable(text);
+    let mut width = run;
+    let mut rest = &text[run..];
+    while rest.len() > 0 {
+        let (columns, count) = first_piece(rest)?;
+        width += columns;
+        rest = &rest[count..];
+    }
+    Some(width)
+}
+
+// The columns and the bytes of the first character and of the printable ASCII after it, where that character
+// is simple.
+fn first_piece(text: &str) -> Option<(usize, usize)>
+    requires { 0 < length text.now }
+    ensures { IfSome result (λ first. IsPiece text.now first.0 first.1) }
+{
+    let (columns, count) = first_columns(text)?;
+    let run = count_printable(&text[count..]);
+    Some((columns + run, count + run))
+}
+
+// The columns of the first character, and how many bytes it has, where it is simple.
+#[inline(always)]
+fn first_columns(text: &str) -> Option<(usize, usize)>
+    requires { 0 < length text.now }
+    ensures { IfSome result (λ first. StartsSimple text.now first.0 first.1) }
+{
+    let lead = text.as_bytes()[0];
+    if is_in_range(lead, 0x20, 0x7E) {
+        return Some((1, 1));
+    }
+    if lead >= 0xE1 {
+        return Some((columns_of_long(text)?, 3));
+    }
+    if is_letter_lead(lead) {
+        return Some((1, 2));
+    }
+    None
+}
+
+// The columns of the first character, which is from U+1000 on, where it has three bytes and is simple.
+fn columns_of_long(text: &str) -> Option<usize>
+    requires { 0xE1 ≤ get_or text.now 0 0 }
+    ensures { IfSome result (λ columns. StartsSimple text.now columns 3) }
+{
+    let lead = text.as_bytes()[0];
+    // U+4000 to U+9FFF.
+    if is_in_range(lead, 0xE4, 0xE9) {
+        return Some(2);
+    }
+    if lead > 0xEF {
+        return None;
+    }
+    columns_of_three(first_of_three(text))
+}
+
+// Whether the byte begins a letter from U+00C0 to U+02FF or U+0380 to U+047F.
+fn is_letter_lead(b: u8) -> bool
+    ensures { result ≡ is_letter_lead b }
+{
+    is_in_range(b, 0xC3, 0xCB) || is_in_range(b, 0xCE, 0xD1)
+}
+
+fn is_in_range(b: u8, low: u8, high: u8) -> bool
+    ensures { result ≡ is_in_range low high b }
+{
+    low <= b && b <= high
+}
+
+// The first character, where it has three bytes.
+fn first_of_three(text: &str) -> u32
+    requires { is_in_range 0xE0 0xEF (get_or text.now 0 0) ≡ true }
+    ensures { (c : ℕ) (rest : List ℕ) → text.now ≡ encode_utf8 c ++ rest → result ≡ c }
+{
+    let bytes = text.as_bytes();
+    let (a, b, c) = (bytes[0] as u32, bytes[1] as u32, bytes[2] as u32);
+    (a - 0xE0) * 4096 + (b - 0x80) * 64 + (c - 0x80)
+}
+
+// The columns of a character of three bytes, where it is simple.
+fn columns_of_three(c: u32) -> Option<usize>
+    ensures { result ≡ columns_of_three c }
+{
+    match c {
+        0x3000..=0x3029 | 0x3041..=0x3096 | 0x30A0..=0x30FF | 0x3400..=0x9FFF => Some(2),
+        0xAC00..=0xD77F | 0xFF01..=0xFF3F => Some(2),
+        0x1E00..=0x1FFF | 0x2010..=0x2027 | 0x2080..=0x20BF => Some(1),
+        0x2100..=0x22FF | 0x2500..=0x25BF => Some(1),
+        _ => None,
+    }
+}
