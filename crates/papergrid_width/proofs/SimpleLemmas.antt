@@ -88,6 +88,10 @@ of_ascii : (c : ℕ) → is_in_range 0x20 0x7E c ≡ true → TakesColumns c 1
 unfolding step past_emoji
 of_ascii c h total = grind (arith, nat_tests)
 
+of_tab : TakesColumns 9 1
+unfolding step past_emoji
+of_tab total = refl
+
 -- the letters of two bytes
 abbrev is_letter : ℕ → Bool
 is_letter c = is_in_range 0xC0 0x2FF c || is_in_range 0x380 0x47F c
@@ -185,6 +189,16 @@ starts_ascii text utf8 some h =
       | Two low high counted lead ↦ absurd (grind (arith, nat_tests))
       | Three low high counted long lead second third ↦ absurd (grind (arith, nat_tests))
       | Four low lead ↦ absurd (grind (arith, nat_tests))
+    ]
+
+pub starts_tab : (text : List ℕ) → IsUtf8 text → 0 < length text → get_or text 0 0 ≡ 9 → StartsSimple text 1 1
+starts_tab text utf8 some h =
+    let b = begins text utf8 some in
+    elim b.is [
+      | One low counted lead ↦ starts text b.rest b.first 1 1 b.spelled counted (omega arith) (subst (λ c. TakesColumns c 1) (sym h ∙ lead) of_tab)
+      | Two low high counted lead ↦ absurd (omega arith)
+      | Three low high counted long lead second third ↦ absurd (omega arith)
+      | Four low lead ↦ absurd (omega arith)
     ]
 
 pub starts_letter : (text : List ℕ) → IsUtf8 text → 0 < length text → is_letter_lead (get_or text 0 0) ≡ true → StartsSimple text 1 2

@@ -47,7 +47,8 @@ pub fn width_by_characters(text: &str, from: usize) -> usize
     if may_be_emoji(text, from) {
         return width_of_emoji(text);
     }
-    if LONG <= text.len() {
+    // A tab stands among printable ASCII, most often.
+    if LONG <= text.len() || text.as_bytes().get(from) == Some(&b'\t') {
         return width_of_long(text);
     }
     width_by_simple(text, from)

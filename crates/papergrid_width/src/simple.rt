@@ -104,6 +104,9 @@ fn first_columns(text: &str) -> Option<(usize, usize)>
     if is_letter_lead(lead) {
         return Some((1, 2));
     }
+    if lead == b'\t' {
+        return Some((1, 1));
+    }
     None
 }
 

@@ -40,7 +40,7 @@ fn letters_and_runs_of_ascii_add_up(rt: HostRuntime) {
 
 // Texts of simple characters, short and long, and texts that begin like them and have another character: an
 // accent apart, an emoji, a sound mark apart, a form of half the width.
-const SIMPLE: [(&str, usize); 14] = [
+const SIMPLE: [(&str, usize); 16] = [
     ("don’t", 5),
     ("“x” — y…", 8),
     ("5 € ≤ 6 €", 9),
@@ -55,6 +55,8 @@ const SIMPLE: [(&str, usize); 14] = [
     ("ok – 👍", 7),
     ("か\u{3099}", 2),
     ("ｱｲｳ", 3),
+    ("x\tyesterday", 11),
+    ("\ta\té\u{301}", 4),
 ];
 
 #[test]
