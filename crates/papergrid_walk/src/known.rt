@@ -12,8 +12,10 @@ use std::alloc::{AllocError, Global};
 /// What is known of the paddings of a table.
 #[derive(Drop)]
 pub struct KnownPaddings {
-    /// Of all cells, where they are known to be alike.
-    pub common: Option<Paddings>,
+    /// Whether those asked for last are those of all cells.
+    pub are_common: bool,
+    /// Those that were asked for last.
+    pub last: Paddings,
     /// What is set for each of the columns met so far.
     pub columns: Vec<Option<Paddings>>,
     /// The row that was met last.
@@ -34,8 +36,10 @@ impl KnownPaddings {
     pub fn new<S: Settings>(alloc: Global, settings: &S) -> KnownPaddings
         ensures { Knows (S.look settings.now) (S.set_for settings.now) result }
     {
+        let common = settings.common_paddings();
         KnownPaddings {
-            common: settings.common_paddings(),
+            are_common: common.is_some(),
+            last: common.unwrap_or(NO_PADDINGS),
             columns: Vec::new(alloc),
             row: 0,
             in_row: set_in_row(settings, 0),
@@ -54,10 +58,10 @@ impl KnownPaddings {
         ensures value { IfOk result (λ paddings. paddings ≡ paddings_at (S.look settings.now) position) }
         ensures knows { IfOk result (λ _. Knows (S.look settings.now) (S.set_for settings.now) self.new) }
     {
-        match self.common {
-            Some(paddings) => Ok(paddings),
-            None => self.decided(settings, position),
+        if !self.are_common {
+            self.last = self.decided(settings, position)?;
         }
+        Ok(self.last)
     }
 
     /// The paddings that are set for the cell, else for its column, its row or the whole table.

@@ -1,5 +1,5 @@
 -- The paddings of a cell on its four sides.
-use Rattle.std.specs.Prelude.{◌≡◌, ℕ, IfSome, List, Option, Some, slice_get, unwrap_or}
+use Rattle.std.specs.Prelude.{◌≡◌, ℕ, IfSome, Option, slice_get, true, unwrap_or}
 use Rattle.papergrid_values.specs.declared.direction.Direction.TheVariants.{Columns, Rows}
 use Rattle.papergrid_values.specs.declared.entity.Entity.{Entity}
 use Rattle.papergrid_values.specs.declared.entity.Entity.TheVariants.{Cell, Column, Global, Row}
@@ -38,6 +38,6 @@ AreDecided look set = (p : Position) →
 
 -- what is known of the paddings of all cells, of the first columns and of one row
 pub record Knows (look : Look) (set : Entity → Option Paddings) (known : KnownPaddings) : Type 0 where
-  pub common : AreCommon look known.common
+  pub common : known.are_common ≡ true → (p : Position) → paddings_at look p ≡ known.last
   pub columns : (c : ℕ) → IfSome (slice_get known.columns.items c) (λ found. found ≡ set (Column c))
   pub in_row : known.in_row ≡ set_in_row set known.row
