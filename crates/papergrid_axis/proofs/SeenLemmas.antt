@@ -167,6 +167,17 @@ get_or-padded [] (suc k) = refl
 get_or-padded (d ∷ ds) zero = refl
 get_or-padded (d ∷ ds) (suc k) = get_or-padded ds k
 
+-- a cell that covers a number alone and needs no more than the one that is kept there changes nothing
+pub kept_for-met : (singles : List Demand) (d : Demand) → d.need ≤ (get_or singles d.start no_demand).need → (k : ℕ) →
+    get_or singles k no_demand ≡ kept_for k (get_or singles k no_demand) d
+kept_for-met singles d met k = elim (cases_Bool (eqb d.span 1 && eqb d.start k)) [
+  | inl t ↦
+      let at : d.start ≡ k = eqb-true d.start k (and_parts (eqb d.span 1) (eqb d.start k) t).1 in
+      let enough : d.need ≤ (get_or singles k no_demand).need = subst (λ i. d.need ≤ (get_or singles i no_demand).need) at met in
+      rw (t, le-ltb (get_or singles k no_demand).need d.need enough) refl
+  | inr f ↦ rw f refl
+]
+
 -- ---- one cell more
 
 others-more : (limit : ℕ) (ds : List Demand) (d : Demand) → others limit (ds ++ d ∷ []) ≡ others limit ds ++ others limit (d ∷ [])

@@ -1,6 +1,6 @@
 //! What a walk over cells keeps of their demands.
 
-ghost use Rattle.std.specs.Prelude.{◌≡◌, ◌+◌, ◌<◌, ◌≤◌, ◌^◌, ℕ, [], ◌∷◌, OnOk, length, slice_index_or};
+ghost use Rattle.std.specs.Prelude.{◌≡◌, ◌+◌, ◌<◌, ◌≤◌, ◌^◌, ℕ, [], ◌∷◌, OnOk, length, slice_index_or, true};
 ghost use Rattle.std.specs.Option.{SomeIff};
 ghost use Rattle.papergrid_axis.specs.ForProofs.Seen.{Adds, Holds, kept_for, no_demand};
 ghost use Rattle.papergrid_values.specs.Positions.{along};
@@ -90,10 +90,43 @@ fn raise(singles: &mut Vec<Demand>, demand: Demand) -> Result<(), AllocError>
     Ok(())
 }
 
+/// Whether the cell that is kept for a number needs as much.
+fn is_met(singles: &[Demand], i: usize, need: usize) -> bool
+    ensures { result ≡ true → need ≤ (slice_index_or singles.now i no_demand).need }
+{
+    i < singles.len() && need <= singles[i].need
+}
+
 /// Keeps the demand of the visible cell at a position, of a span of columns (rows): it needs its
 /// measure with the paddings before and after it.
 #[inline(always)]
 pub fn keep(
+    seen: &mut Seen,
+    direction: Direction,
+    position: Position,
+    span: usize,
+    measure: usize,
+    before: usize,
+    after: usize,
+) -> Result<(), AllocError>
+    requires { 1 ≤ span }
+    ensures { let need = measure + before + after in
+        OnOk result (Adds seen.old seen.new (demand_of direction position span need ∷ [])) }
+{
+    let start = direction.number_of(position);
+    if let Some(need) = need_of(measure, before, after) {
+        // Most cells need no more than another one of their column (row).
+        if span == 1 && start < seen.limit && is_met(&seen.singles, start, need) {
+            return Ok(());
+        }
+    }
+    keep_new(seen, direction, position, span, measure, before, after)
+}
+
+/// The same, where it may be the first of greatest need.
+// Out of line, so that the code for cells that need no more than others stays small.
+#[inline(never)]
+fn keep_new(
     seen: &mut Seen,
     direction: Direction,
     position: Position,

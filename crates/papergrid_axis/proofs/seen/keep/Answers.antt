@@ -1,25 +1,13 @@
-use Rattle.std.proofs.Common.{◌≡◌, ◌<◌, ◌^◌, ◌+◌, true, false, ap, ◌∙◌, rules}
+use Rattle.std.proofs.Common.{◌≡◌, ◌<◌, ◌^◌, ◌+◌, true, refl, ap, ◌∙◌, rules}
 use Rattle.papergrid_axis.specs.Ranges.{demand_of}
 use Rattle.papergrid_axis.specs.ForProofs.Seen.{is_single}
-use Rattle.papergrid_axis.proofs.SeenLemmas.{Holds-other, Holds-single}
+use Rattle.papergrid_axis.proofs.SeenLemmas.{Holds-single, kept_for-met}
 use Rattle.papergrid_axis.proofs.seen.keep.Goals as goal
-use Rattle.papergrid_axis.proofs.seen.keep.Goals.{then-span-eq1+then-demand-seen+in_ok-raise, else-span-eq1+in_ok-push, else-span-eq1-via-then-span-eq1+else-demand-seen, else-span-eq1-via-else-span-eq1}
 
-pub returns-else-is_none : goal.returns-else-is_none
-returns-else-is_none c = λ limit demands held.
+pub returns-then-is_met : goal.returns-then-is_met
+returns-then-is_met c = λ limit demands held.
     let total = c.args.measure + c.args.before + c.args.after in
     let d = demand_of c.args.direction c.args.position c.args.span total in
     let small : total < 2 ^ 64 = search rules in
-    let need : c.unwrap_or.result ≡ total = search rules in
-    elim c.if-span-eq1.branch [
-      | then-span-eq1+then-demand-seen+in_ok-raise w ↦
-          let is = w.seen-is in
-          let single : is_single limit d ≡ true = search rules in
-          Holds-single limit c.args.seen.now c.if-span-eq1.seen demands d held c.requires small
-          (ap (λ s. s.limit) is) (ap (λ s. s.is_large) is) single (ap (λ s. s.others.items) is) (λ k. search rules)
-      | else-span-eq1+in_ok-push w ↦
-          let is = w.seen-is in
-          let other : is_single limit d ≡ false = search rules in
-          Holds-other limit c.args.seen.now c.if-span-eq1.seen demands d held c.requires small
-          (ap (λ s. s.limit) is) (ap (λ s. s.is_large) is) other (ap (λ s. s.others.items) is ∙ (search rules)) (ap (λ s. s.singles.items) is)
-    ]
+    let single : is_single limit d ≡ true = search rules in
+    Holds-single limit c.args.seen.now c.args.seen.now demands d held c.requires small refl refl single refl (kept_for-met c.args.seen.now.singles.items d (search rules))
