@@ -7,41 +7,74 @@ ghost use Rattle.std.specs.Simd.Lanes.{chunk};
 
 use std::simd::prelude::*;
 
-// Bytes that are tested at once. Most lines of a script are shorter.
+// Bytes that are tested at once.
 const LANES: usize = 16;
 
 /// The place of the first byte that is one of the two, or the length where none is.
 pub fn find_either(bytes: &[u8], one: u8, other: u8) -> usize
     ensures { result ≡ position_or_len (λ b. (b == one) || (b == other)) bytes.now }
 {
-    let mut at = 0usize;
-    while LANES <= bytes.len() - at {
-        let run = find_in_lanes(bytes, at, one, other);
-        at += run;
-        if run < LANES {
-            return at;
-        }
+    if LANES <= bytes.len() {
+        find_by_loads(bytes, one, other)
+    } else if 8 <= bytes.len() {
+        find_by_two_loads::<8>(bytes, one, other)
+    } else if 4 <= bytes.len() {
+        find_by_two_loads::<4>(bytes, one, other)
+    } else {
+        find_one_by_one(bytes, one, other)
     }
-    at + find_in_rest(&bytes[at..], one, other)
+}
+
+// The last load starts so early that it ends with the bytes. What it has of an earlier one is none of the two then.
+fn find_by_loads(bytes: &[u8], one: u8, other: u8) -> usize
+    requires { LANES ≤ length bytes.now }
+    ensures { result ≡ position_or_len (λ b. (b == one) || (b == other)) bytes.now }
+{
+    let last = bytes.len() - LANES;
+    let mut at = 0usize;
+    while at < last {
+        let run = find_in_lanes::<LANES>(bytes, at, one, other);
+        if run < LANES {
+            return at + run;
+        }
+        at += LANES;
+    }
+    last + find_in_lanes::<LANES>(bytes, last, one, other)
+}
+
+// The same of bytes that two loads hold.
+fn find_by_two_loads<const N: usize>(bytes: &[u8], one: u8, other: u8) -> usize
+    requires least { N ≤ length bytes.now }
+    requires most { length bytes.now ≤ N + N }
+    requires few { N ≤ 64 }
+    ensures { result ≡ position_or_len (λ b. (b == one) || (b == other)) bytes.now }
+{
+    let run = find_in_lanes::<N>(bytes, 0, one, other);
+    if run < N {
+        return run;
+    }
+    let last = bytes.len() - N;
+    last + find_in_lanes::<N>(bytes, last, one, other)
 }
 
 // The same of as many bytes as there are lanes, from a place on.
-fn find_in_lanes(bytes: &[u8], from: usize, one: u8, other: u8) -> usize
-    requires { from + LANES ≤ length bytes.now }
-    ensures { result ≡ position_or_len (λ b. (b == one) || (b == other)) (chunk from LANES bytes.now) }
+fn find_in_lanes<const N: usize>(bytes: &[u8], from: usize, one: u8, other: u8) -> usize
+    requires room { from + N ≤ length bytes.now }
+    requires few { N ≤ 64 }
+    ensures { result ≡ position_or_len (λ b. (b == one) || (b == other)) (chunk from N bytes.now) }
 {
-    let lanes = u8x16::from_slice(&bytes[from..]);
-    let found = lanes.simd_eq(u8x16::splat(one)) | lanes.simd_eq(u8x16::splat(other));
+    let lanes = Simd::<u8, N>::from_slice(&bytes[from..]);
+    let found = lanes.simd_eq(Simd::splat(one)) | lanes.simd_eq(Simd::splat(other));
     let mask = found.to_bitmask();
     if mask == 0 {
-        LANES
+        N
     } else {
         mask.trailing_zeros() as usize
     }
 }
 
 // The same, one byte after another.
-fn find_in_rest(bytes: &[u8], one: u8, other: u8) -> usize
+fn find_one_by_one(bytes: &[u8], one: u8, other: u8) -> usize
     ensures { result ≡ position_or_len (λ b. (b == one) || (b == other)) bytes.now }
 {
     let mut at = 0usize;

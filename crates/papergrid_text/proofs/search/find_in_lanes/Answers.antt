@@ -1,4 +1,4 @@
-use Rattle.std.proofs.Common.{◌≡◌, ◌||◌, Bool, true, false, not, cond, refl, arith}
+use Rattle.std.proofs.Common.{◌≡◌, ◌||◌, Bool, true, false, not, cond, refl}
 use Rattle.std.specs.Prelude.{◌==◌}
 use Rattle.std.proofs.lemmas.Simd.{zip2_of_maps, zip2_splat, length-chunk}
 use lib.Bits.{bit_or}
@@ -13,13 +13,13 @@ either_lane false true = refl
 either_lane false false = refl
 
 pub returns-then-mask-eq0 : goal.returns-then-mask-eq0
-returns-then-mask-eq0 c =
-    let long = length-chunk c.args.from 16 c.args.bytes.now c.requires in
-    all_pass (λ b. not ((b == c.args.one) || (b == c.args.other))) c.args.bytes.now c.args.from 16 _ c.requires (omega arith) c.type_inv.bytes _
-    (zip2_of_maps _ _ _ _ (zip2_splat _ _ 16 c.args.one long) (zip2_splat _ _ 16 c.args.other long)) (λ b below. either_lane (b == c.args.one) (b == c.args.other)) c.if-mask-eq0.true
+returns-then-mask-eq0 g c =
+    let long = length-chunk c.args.from g.row.N c.args.bytes.now c.requires.room in
+    all_pass (λ b. not ((b == c.args.one) || (b == c.args.other))) c.args.bytes.now c.args.from g.row.N _ c.requires.room c.requires.few c.type_inv.bytes _
+    (zip2_of_maps _ _ _ _ (zip2_splat _ _ g.row.N c.args.one long) (zip2_splat _ _ g.row.N c.args.other long)) (λ b below. either_lane (b == c.args.one) (b == c.args.other)) c.if-mask-eq0.true
 
 pub returns-else-mask-eq0 : goal.returns-else-mask-eq0
-returns-else-mask-eq0 c =
-    let long = length-chunk c.args.from 16 c.args.bytes.now c.requires in
-    first_other (λ b. not ((b == c.args.one) || (b == c.args.other))) c.args.bytes.now c.args.from 16 _ c.requires (omega arith) c.type_inv.bytes _
-    (zip2_of_maps _ _ _ _ (zip2_splat _ _ 16 c.args.one long) (zip2_splat _ _ 16 c.args.other long)) (λ b below. either_lane (b == c.args.one) (b == c.args.other)) c.if-mask-eq0.false
+returns-else-mask-eq0 g c =
+    let long = length-chunk c.args.from g.row.N c.args.bytes.now c.requires.room in
+    first_other (λ b. not ((b == c.args.one) || (b == c.args.other))) c.args.bytes.now c.args.from g.row.N _ c.requires.room c.requires.few c.type_inv.bytes _
+    (zip2_of_maps _ _ _ _ (zip2_splat _ _ g.row.N c.args.one long) (zip2_splat _ _ g.row.N c.args.other long)) (λ b below. either_lane (b == c.args.one) (b == c.args.other)) c.if-mask-eq0.false
