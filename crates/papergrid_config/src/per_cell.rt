@@ -1,7 +1,10 @@
 //! What is set by entity and asked for by position. Source: `config/spanned/mod.rs`.
 
-ghost use Rattle.std.specs.Prelude.{◌≡◌, ◌∷◌, [], List, OnOk, OnErr, IsOk, option_copied};
+ghost use Rattle.std.specs.Prelude.{◌≡◌, ◌∷◌, [], IfOk, List, OnOk, OnErr, IsOk, is_some, option_copied};
+ghost use Rattle.std.specs.Set.{is_member};
+ghost use Rattle.papergrid_keys.specs.Keys.{position_eq};
 ghost use Rattle.papergrid_values.specs.declared.entity.Entity.{Entity};
+ghost use Rattle.papergrid_values.specs.declared.position.Position.{Position};
 ghost use Rattle.papergrid_maps.specs.MapHeld.{held_for, held_value};
 ghost use Rattle.papergrid_config.specs.Decided as decided;
 ghost use Rattle.papergrid_config.specs.Told.{Appends, IsTold};
@@ -42,6 +45,13 @@ impl SpannedConfig {
         ensures { option_copied result ≡ held_for self.now.padding entity }
     {
         self.padding.held_for(entity)
+    }
+
+    /// The cells with room of their own, in no order, or out of memory.
+    pub fn padded_cells(&self) -> Result<Vec<Position>, AllocError>
+        ensures { IfOk result (λ cells. (p : Position) → is_member position_eq cells.items p ≡ is_some (held_for self.now.padding (Entity.Cell p.row p.col))) }
+    {
+        self.padding.held_cells()
     }
 
     /// Sets the colours of the room round an entity's cells. Where memory is refused the

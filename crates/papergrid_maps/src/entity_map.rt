@@ -1,6 +1,6 @@
 //! A value for each position, set by entity. Source: `config/spanned/entity_map.rs`.
 
-ghost use Rattle.std.specs.Prelude.{All, Any, true, false, List, ◌≡◌, ◌∷◌, [], map, length, IfOk, OnOk, OnErr, IsOk, IfErr, IsTrue, take, slice_get, IsSomeAnd, Some, if◌then◌else◌, filter, not, option_copied, ◌==◌, ◌<◌, ◌↔◌};
+ghost use Rattle.std.specs.Prelude.{All, Any, true, false, List, ◌≡◌, ◌∷◌, [], map, length, IfOk, OnOk, OnErr, IsOk, IfErr, IsTrue, take, slice_get, IsSomeAnd, Some, if◌then◌else◌, filter, is_some, not, option_copied, ◌==◌, ◌<◌, ◌↔◌};
 ghost use Rattle.std.specs.Bool.{OnTrue, OnFalse};
 ghost use Rattle.std.specs.Fn.{FnReturnsAt};
 ghost use Rattle.std.specs.HashMap.{IsUnique, keys, values, get as map_get};
@@ -111,6 +111,13 @@ impl<T> EntityMap<T> {
             Entity::Row(row) => look_up(&self.rows, row),
             Entity::Cell(row, col) => look_up(&self.cells, Position { row, col }),
         }
+    }
+
+    /// The cells that hold a value of their own, in no order, or out of memory.
+    pub fn held_cells(&self) -> Result<Vec<Position>, AllocError>
+        ensures { IfOk result (λ cells. (p : Position) → is_member position_eq cells.items p ≡ is_some (held_for self.now (Entity.Cell p.row p.col))) }
+    {
+        keys_of_cells(self.alloc, &self.cells)
     }
 
     /// Whether `f` is true of a value that is held, the one for the whole table among them.
@@ -293,6 +300,16 @@ impl<T: Clone> EntityMap<T> {
             }
         }
     }
+}
+
+// The cells that have a value.
+fn keys_of_cells<T>(
+    alloc: Global,
+    cells: &HashMap<Position, T>,
+) -> Result<Vec<Position>, AllocError>
+    ensures { IfOk result (λ v. v.items ≡ keys cells.now) }
+{
+    cells.keys().copied().collect(alloc)
 }
 
 // The cells of a column in the rows that have a value.

@@ -1,10 +1,11 @@
 //! The paddings of cells that come by row and then by column: what is set for a column or a row is
 //! looked up once.
 
-ghost use Rattle.std.specs.Prelude.{◌≡◌, IfOk};
-ghost use Rattle.papergrid_values.specs.declared.entity.Entity.TheVariants.{Column};
+ghost use Rattle.std.specs.Prelude.{◌≡◌, IfOk, false};
+ghost use Rattle.papergrid_values.specs.declared.entity.Entity.TheVariants.{Cell, Column};
 ghost use Rattle.papergrid_walk.specs.ForProofs.Paddings.{Knows, paddings_at, set_in_row};
 
+use crate::position_filter::PositionFilter;
 use crate::settings::{Paddings, Settings};
 use papergrid_values::{Entity, Position};
 use std::alloc::{AllocError, Global};
@@ -12,10 +13,12 @@ use std::alloc::{AllocError, Global};
 /// What is known of the paddings of a table.
 #[derive(Drop)]
 pub struct KnownPaddings {
-    /// Whether those asked for last are those of all cells.
+    /// Whether those in `last` are those of all cells.
     pub are_common: bool,
     /// Those that were asked for last.
     pub last: Paddings,
+    /// Which cells may have paddings of their own, where not all cells are alike.
+    pub own: PositionFilter,
     /// What is set for each of the columns met so far.
     pub columns: Vec<Option<Paddings>>,
     /// The row that was met last.
@@ -32,18 +35,23 @@ const NO_PADDINGS: Paddings = Paddings {
 };
 
 impl KnownPaddings {
-    /// What is known before the first cell. It takes no memory.
-    pub fn new<S: Settings>(alloc: Global, settings: &S) -> KnownPaddings
-        ensures { Knows (S.look settings.now) (S.set_for settings.now) result }
+    /// What is known before the first cell. Where all cells are alike it takes no memory.
+    pub fn new<S: Settings>(alloc: Global, settings: &S) -> Result<KnownPaddings, AllocError>
+        ensures { IfOk result (λ known. Knows (S.look settings.now) (S.set_for settings.now) known) }
     {
         let common = settings.common_paddings();
-        KnownPaddings {
+        let padded = match common {
+            Some(_) => Vec::new(alloc),
+            None => settings.padded_cells(alloc)?,
+        };
+        Ok(KnownPaddings {
             are_common: common.is_some(),
             last: common.unwrap_or(NO_PADDINGS),
+            own: PositionFilter::new(alloc, &padded)?,
             columns: Vec::new(alloc),
             row: 0,
             in_row: set_in_row(settings, 0),
-        }
+        })
     }
 
     /// The paddings of the cell at a position.
@@ -72,12 +80,13 @@ impl KnownPaddings {
         settings: &S,
         position: Position,
     ) -> Result<Paddings, AllocError>
-        requires { Knows (S.look settings.now) (S.set_for settings.now) self.old }
+        requires apart { self.old.are_common ≡ false }
+        requires knows { Knows (S.look settings.now) (S.set_for settings.now) self.old }
         ensures value { IfOk result (λ paddings. paddings ≡ paddings_at (S.look settings.now) position) }
         ensures knows { IfOk result (λ _. Knows (S.look settings.now) (S.set_for settings.now) self.new) }
     {
         let Position { row, col } = position;
-        if let Some(paddings) = settings.paddings_for(Entity::Cell(row, col)) {
+        if let Some(paddings) = self.of_cell(settings, position) {
             return Ok(paddings);
         }
         if let Some(paddings) = self.in_column(settings, col)? {
@@ -88,6 +97,18 @@ impl KnownPaddings {
             self.in_row = set_in_row(settings, row);
         }
         Ok(self.in_row)
+    }
+
+    /// What is set for a cell. Most cells have nothing, and are not looked up.
+    fn of_cell<S: Settings>(&self, settings: &S, position: Position) -> Option<Paddings>
+        requires apart { self.now.are_common ≡ false }
+        requires knows { Knows (S.look settings.now) (S.set_for settings.now) self.now }
+        ensures { result ≡ S.set_for settings.now (Cell position.row position.col) }
+    {
+        if !self.own.passes(position) {
+            return None;
+        }
+        settings.paddings_for(Entity::Cell(position.row, position.col))
     }
 
     /// What is set for a column. It is kept where all columns before are.

@@ -14,6 +14,7 @@ pub mod laws;
 mod levels;
 pub mod measure;
 pub mod needs;
+pub mod position_filter;
 pub mod settings;
 pub mod shown;
 pub mod sweep;

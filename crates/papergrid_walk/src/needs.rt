@@ -86,7 +86,7 @@ impl<'a, S: Settings> View<'a, S> {
             alloc,
             settings,
             sweep,
-            known: KnownPaddings::new(alloc, settings),
+            known: KnownPaddings::new(alloc, settings)?,
         })
     }
 

@@ -7,7 +7,7 @@ ghost use Rattle.papergrid_maps.specs.Anchors.{IsSorted};
 ghost use Rattle.papergrid_maps.specs.MapHeld.{held_for};
 ghost use Rattle.papergrid_values.specs.declared.entity.Entity.{Entity};
 ghost use Rattle.papergrid_walk.specs.Looks.{Look, compact_look, size_after, size_before, spanned_look};
-ghost use Rattle.papergrid_walk.specs.ForProofs.Paddings.{AreCommon, AreDecided, sizes};
+ghost use Rattle.papergrid_walk.specs.ForProofs.Paddings.{AreCommon, AreDecided, ArePadded, for_all_cells, sizes};
 ghost use Rattle.papergrid_walk.specs.ForProofs.PaddingLaws.{held_decides};
 ghost use Rattle.papergrid_walk.specs.declared.settings.Paddings.{Paddings};
 ghost use Rattle.papergrid_walk.specs.ForProofs.Shown.{AreAnchorsOf};
@@ -73,6 +73,10 @@ pub trait Settings {
     /// The paddings that are set for an entity itself: of a cell without those of its column and of its row.
     fn paddings_for(&self, entity: Entity) -> Option<Paddings>
         ensures { result ≡ set_for self.now entity };
+
+    /// The cells that have paddings of their own, in no order, or out of memory.
+    fn padded_cells(&self, alloc: Global) -> Result<Vec<Position>, AllocError>
+        ensures { IfOk result (λ cells. ArePadded (set_for self.now) cells.items) };
 
     /// The paddings of all cells, where it is known that they are alike.
     fn common_paddings(&self) -> Option<Paddings>
@@ -166,6 +170,10 @@ impl Settings for SpannedConfig {
         self.held_padding(entity).map(sizes)
     }
 
+    fn padded_cells(&self, _alloc: Global) -> Result<Vec<Position>, AllocError> {
+        self.padded_cells()
+    }
+
     fn common_paddings(&self) -> Option<Paddings> {
         if self.has_padding() {
             return None;
@@ -217,12 +225,20 @@ impl Settings for CompactConfig {
         after(direction, self.get_padding())
     }
 
-    ghost set_for = { λ s _. Some (sizes s.padding) };
+    ghost set_for = { λ s. for_all_cells (sizes s.padding) };
 
     ghost decided = { λ s p. refl };
 
-    fn paddings_for(&self, _entity: Entity) -> Option<Paddings> {
-        Some(sizes(self.get_padding()))
+    fn paddings_for(&self, entity: Entity) -> Option<Paddings> {
+        match entity {
+            Entity::Global => Some(sizes(self.get_padding())),
+            Entity::Column(_) | Entity::Row(_) | Entity::Cell(_, _) => None,
+        }
+    }
+
+    fn padded_cells(&self, alloc: Global) -> Result<Vec<Position>, AllocError> {
+        let _config = self;
+        Ok(Vec::new(alloc))
     }
 
     fn common_paddings(&self) -> Option<Paddings> {

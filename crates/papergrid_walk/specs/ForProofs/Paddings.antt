@@ -1,5 +1,7 @@
 -- The paddings of a cell on its four sides.
-use Rattle.std.specs.Prelude.{◌≡◌, ℕ, IfSome, Option, slice_get, true, unwrap_or}
+use Rattle.std.specs.Prelude.{◌≡◌, ℕ, IfSome, List, Option, None, Some, false, is_some, slice_get, true, unwrap_or}
+use Rattle.std.specs.Set.{is_member}
+use Rattle.papergrid_keys.specs.Keys.{position_eq}
 use Rattle.papergrid_values.specs.declared.direction.Direction.TheVariants.{Columns, Rows}
 use Rattle.papergrid_values.specs.declared.entity.Entity.{Entity}
 use Rattle.papergrid_values.specs.declared.entity.Entity.TheVariants.{Cell, Column, Global, Row}
@@ -7,6 +9,7 @@ use Rattle.papergrid_values.specs.declared.indent.Indent.{Indent}
 use Rattle.papergrid_values.specs.declared.position.Position.{Position}
 use Rattle.papergrid_values.specs.declared.sides.Sides.{Sides}
 use Rattle.papergrid_walk.specs.Looks.{Look}
+use Rattle.papergrid_walk.specs.ForProofs.Filters.{passes}
 use Rattle.papergrid_walk.specs.declared.known.KnownPaddings.{KnownPaddings}
 use Rattle.papergrid_walk.specs.declared.settings.Paddings.{Paddings}
 
@@ -27,6 +30,17 @@ AreCommon look common = IfSome common (λ paddings. (p : Position) → paddings_
 abbrev pub no_paddings : Paddings
 no_paddings = record { left = 0; right = 0; top = 0; bottom = 0 }
 
+-- what is set for the table alone
+abbrev pub for_all_cells : Paddings → Entity → Option Paddings
+for_all_cells paddings Global = Some paddings
+for_all_cells paddings (Column _) = None
+for_all_cells paddings (Row _) = None
+for_all_cells paddings (Cell _ _) = None
+
+-- these are the cells for which something is set, in any order
+abbrev pub ArePadded : (Entity → Option Paddings) → List Position → Type 0
+ArePadded set cells = (p : Position) → is_member position_eq cells p ≡ is_some (set (Cell p.row p.col))
+
 -- what is set for a row, or else for the whole table
 abbrev pub set_in_row : (Entity → Option Paddings) → ℕ → Paddings
 set_in_row set r = unwrap_or (set (Row r)) (unwrap_or (set Global) no_paddings)
@@ -36,8 +50,9 @@ abbrev pub AreDecided : Look → (Entity → Option Paddings) → Type 0
 AreDecided look set = (p : Position) →
     paddings_at look p ≡ unwrap_or (set (Cell p.row p.col)) (unwrap_or (set (Column p.col)) (set_in_row set p.row))
 
--- what is known of the paddings of all cells, of the first columns and of one row
+-- what is known of the paddings of all cells, else of which cells have none of their own, and of the first columns and of one row
 pub record Knows (look : Look) (set : Entity → Option Paddings) (known : KnownPaddings) : Type 0 where
   pub common : known.are_common ≡ true → (p : Position) → paddings_at look p ≡ known.last
+  pub own : known.are_common ≡ false → (p : Position) → passes known.own p ≡ false → set (Cell p.row p.col) ≡ None
   pub columns : (c : ℕ) → IfSome (slice_get known.columns.items c) (λ found. found ≡ set (Column c))
   pub in_row : known.in_row ≡ set_in_row set known.row
