@@ -6,3 +6,4 @@ pub mod Distinct
 pub mod PaddingLemmas
 pub mod ShownLemmas
 pub mod Steps
+pub mod FilterLemmas

@@ -3,7 +3,7 @@
 
 ghost use Rattle.std.specs.Prelude.{◌≡◌, IfOk, false};
 ghost use Rattle.papergrid_values.specs.declared.entity.Entity.TheVariants.{Cell, Column};
-ghost use Rattle.papergrid_walk.specs.ForProofs.Paddings.{Knows, paddings_at, set_in_row};
+ghost use Rattle.papergrid_walk.specs.ForProofs.Paddings.{Knows, TellsOwn, paddings_at, set_in_row};
 
 use crate::position_filter::PositionFilter;
 use crate::settings::{Paddings, Settings};
@@ -40,14 +40,14 @@ impl KnownPaddings {
         ensures { IfOk result (λ known. Knows (S.look settings.now) (S.set_for settings.now) known) }
     {
         let common = settings.common_paddings();
-        let padded = match common {
-            Some(_) => Vec::new(alloc),
-            None => settings.padded_cells(alloc)?,
+        let own = match common {
+            Some(_) => PositionFilter::new(alloc, &[])?,
+            None => filter_of(alloc, settings)?,
         };
         Ok(KnownPaddings {
             are_common: common.is_some(),
             last: common.unwrap_or(NO_PADDINGS),
-            own: PositionFilter::new(alloc, &padded)?,
+            own,
             columns: Vec::new(alloc),
             row: 0,
             in_row: set_in_row(settings, 0),
@@ -130,6 +130,14 @@ impl KnownPaddings {
         }
         Ok(found)
     }
+}
+
+/// The filter that cells with paddings of their own pass.
+fn filter_of<S: Settings>(alloc: Global, settings: &S) -> Result<PositionFilter, AllocError>
+    ensures { IfOk result (λ filter. TellsOwn (S.set_for settings.now) filter) }
+{
+    let padded = settings.padded_cells(alloc)?;
+    PositionFilter::new(alloc, &padded)
 }
 
 /// What is set for a row, or else for the whole table.

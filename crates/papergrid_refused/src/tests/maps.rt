@@ -39,6 +39,13 @@ fn into_map(rt: HostRuntime) -> Result<(), Fail> {
     says(three_rows(rt.alloc())?.into_map())
 }
 
+#[test]
+fn held_cells(rt: HostRuntime) -> Result<(), Fail> {
+    let (map, before) = with_clone(three_rows(rt.alloc())?)?;
+    let cells = map.held_cells();
+    keeps(&rt, map, before, cells)
+}
+
 fn ten_calls(alloc: Global) -> Result<Vec<MapCall<char>>, AllocError> {
     Ok(vec![in alloc;
         MapCall::Insert(Entity::Row(1), 'a'),

@@ -11,6 +11,7 @@ use Rattle.papergrid_values.specs.declared.sides.Sides.{Sides}
 use Rattle.papergrid_walk.specs.Looks.{Look}
 use Rattle.papergrid_walk.specs.ForProofs.Filters.{passes}
 use Rattle.papergrid_walk.specs.declared.known.KnownPaddings.{KnownPaddings}
+use Rattle.papergrid_walk.specs.declared.position_filter.PositionFilter.{PositionFilter}
 use Rattle.papergrid_walk.specs.declared.settings.Paddings.{Paddings}
 
 abbrev pub paddings_at : Look → Position → Paddings
@@ -41,6 +42,10 @@ for_all_cells paddings (Cell _ _) = None
 abbrev pub ArePadded : (Entity → Option Paddings) → List Position → Type 0
 ArePadded set cells = (p : Position) → is_member position_eq cells p ≡ is_some (set (Cell p.row p.col))
 
+-- nothing is set for a cell that does not pass the filter
+abbrev pub TellsOwn : (Entity → Option Paddings) → PositionFilter → Type 0
+TellsOwn set filter = (p : Position) → passes filter p ≡ false → set (Cell p.row p.col) ≡ None
+
 -- what is set for a row, or else for the whole table
 abbrev pub set_in_row : (Entity → Option Paddings) → ℕ → Paddings
 set_in_row set r = unwrap_or (set (Row r)) (unwrap_or (set Global) no_paddings)
@@ -53,6 +58,6 @@ AreDecided look set = (p : Position) →
 -- what is known of the paddings of all cells, else of which cells have none of their own, and of the first columns and of one row
 pub record Knows (look : Look) (set : Entity → Option Paddings) (known : KnownPaddings) : Type 0 where
   pub common : known.are_common ≡ true → (p : Position) → paddings_at look p ≡ known.last
-  pub own : known.are_common ≡ false → (p : Position) → passes known.own p ≡ false → set (Cell p.row p.col) ≡ None
+  pub own : known.are_common ≡ false → TellsOwn set known.own
   pub columns : (c : ℕ) → IfSome (slice_get known.columns.items c) (λ found. found ≡ set (Column c))
   pub in_row : known.in_row ≡ set_in_row set known.row

@@ -11,6 +11,6 @@ pub returns : goal.returns
 returns g c = rw (← c.self.view_is)
     (IfOk-weaker c.keys_of_cells.result _ _
     (λ cells are p.
-      ap (λ ks. is_member position_eq ks p) are ∙ sym (is_some-lookup (position_eq p) c.self.inside.cells.entries)
-      ∙ ap is_some (sym (get_at_position c.self.inside.cells.entries p)))
+    ap (λ ks. is_member position_eq ks p) are ∙ sym (is_some-lookup (position_eq p) c.self.inside.cells.entries)
+    ∙ ap is_some (sym (get_at_position c.self.inside.cells.entries p)))
     c.keys_of_cells.ensures)
