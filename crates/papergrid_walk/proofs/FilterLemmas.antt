@@ -1,8 +1,9 @@
 -- A filter of positions: a mark that is set stays set.
-use Rattle.std.proofs.Common.{◌≡◌, ℕ, ◌<◌, zero, suc, Bool, true, false, List, [], ◌∷◌, ◌++◌, length, get_or, set, refl, sym, subst, inl, inr, ◌∙◌}
+use Rattle.std.proofs.Common.{◌≡◌, ℕ, ◌+◌, ◌<◌, zero, suc, Bool, true, false, List, [], ◌∷◌, ◌++◌, length, get_or, set, take, refl, sym, ap, subst, inl, inr, ◌∙◌, arith}
 use Rattle.std.specs.Prelude.{All, Option, Some, None, is_some}
 use Rattle.std.specs.Set.{is_member}
 use Rattle.std.proofs.lemmas.Bool.{cases_Bool, false≢true, true≢false}
+use Rattle.std.proofs.Math.Seq.{take-suc}
 use Rattle.std.proofs.lemmas.List.{get_or-set_same}
 use Rattle.std.proofs.lemmas.List.Elements.{All-head, All-push, All-tail, All-weaker}
 use Rattle.papergrid_values.specs.declared.position.Position.{Position}
@@ -26,13 +27,17 @@ stays (m ∷ ms) zero (suc j) h = h
 stays (m ∷ ms) (suc i) zero h = h
 stays (m ∷ ms) (suc i) (suc j) h = stays ms i j h
 
--- those of some positions, and of one more
-pub one_more : (marks : List Bool) (count : ℕ) (done : List Position) (p : Position) → slot count p < length marks → All (IsSet marks count) done →
-    All (IsSet (set marks (slot count p) true) count) (done ++ p ∷ [])
-one_more marks count done p within were =
-    All-push (IsSet (set marks (slot count p) true) count) done p
-    (All-weaker (IsSet marks count) (IsSet (set marks (slot count p) true) count) (λ q. stays marks (slot count p) (slot count q)) done were)
-    (get_or-set_same marks (slot count p) true false within)
+-- those of the first positions, and of one more
+pub one_more : (marks : List Bool) (count at i : ℕ) (places : List Position) → at ≡ slot count (get_or places i (record { row = 0; col = 0 })) → at < length marks → i < length places →
+    All (IsSet marks count) (take i places) → All (IsSet (set marks at true) count) (take (i + 1) places)
+one_more marks count at i places is within inside were =
+    let p = get_or places i (record { row = 0; col = 0 }) in
+    let next : i + 1 ≡ suc i = omega arith in
+    let cut : take (i + 1) places ≡ take i places ++ p ∷ [] = ap (λ n. take n places) next ∙ take-suc places i (record { row = 0; col = 0 }) inside in
+    subst (All (IsSet (set marks at true) count)) (sym cut)
+    (All-push (IsSet (set marks at true) count) (take i places) p
+    (All-weaker (IsSet marks count) (IsSet (set marks at true) count) (λ q. stays marks at (slot count q)) (take i places) were)
+    (ap (λ k. get_or (set marks at true) k false) (sym is) ∙ get_or-set_same marks at true false within))
 
 -- ---- what a filter tells
 
