@@ -1,6 +1,6 @@
 -- A filter of positions: a mark that is set stays set.
 use Rattle.std.proofs.Common.{◌≡◌, ℕ, ◌+◌, ◌<◌, zero, suc, Bool, true, false, List, [], ◌∷◌, ◌++◌, length, get_or, set, take, refl, sym, ap, subst, inl, inr, ◌∙◌, arith}
-use Rattle.std.specs.Prelude.{All, Option, Some, None, is_some}
+use Rattle.std.specs.Prelude.{All, Option, Some, None, is_some, option_map}
 use Rattle.std.specs.Set.{is_member}
 use Rattle.std.proofs.lemmas.Bool.{cases_Bool, false≢true, true≢false}
 use Rattle.std.proofs.Math.Seq.{take-suc}
@@ -51,6 +51,10 @@ member_holds P (q ∷ places) p all member = elim (cases_Bool (position_eq p q))
 has_none : {A : Type 0} (o : Option A) → is_some o ≡ false → o ≡ None
 has_none None h = refl
 has_none (Some a) h = absurd (true≢false h)
+
+pub is_some-map : {A B : Type 0} (f : A → B) (o : Option A) → is_some o ≡ is_some (option_map f o)
+is_some-map f None = refl
+is_some-map f (Some a) = refl
 
 -- a filter that all padded cells pass
 pub tells_own : (set : Entity → Option Paddings) (cells : List Position) (filter : PositionFilter) → ArePadded set cells → All (λ p. passes filter p ≡ true) cells → TellsOwn set filter
