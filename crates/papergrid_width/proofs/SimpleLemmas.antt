@@ -1,5 +1,5 @@
 -- Simple characters, and texts of them.
-use Rattle.std.proofs.Common.{◌≡◌, ℕ, ◌+◌, ◌*◌, ◌-◌, ◌/◌, ◌%◌, ◌<◌, ◌≤◌, ◌||◌, Bool, true, false, not, cond, List, [], ◌∷◌, ◌++◌, length, get_or, take, drop, encode_utf8, encode_utf8_all, IsUtf8, Option, Some, None, IfSome, refl, sym, ap, ◌∙◌, subst, arith, inl, inr, ◌⊎◌, le-ltb, lt-ltb}
+use Rattle.std.proofs.Common.{◌≡◌, ℕ, ◌+◌, ◌*◌, ◌-◌, ◌/◌, ◌%◌, ◌<◌, ◌≤◌, ◌||◌, Bool, true, false, not, cond, List, [], ◌∷◌, ◌++◌, length, get_or, take, drop, encode_utf8, encode_utf8_all, IsUtf8, Option, Some, None, IfSome, refl, sym, ap, ◌∙◌, subst, arith, inl, inr, le-ltb, lt-ltb}
 use Rattle.std.specs.Int.{is_in_range}
 use Rattle.std.specs.List.{list_all, prefix_len}
 use Rattle.std.specs.Str.{IsCharBoundary, chars}
@@ -21,7 +21,7 @@ use Rattle.unicode_width.proofs.WidthLemmas.{read_before-printable}
 use Rattle.unicode_width.proofs.Computing.{unicode_width}
 use Rattle.unicode_width.proofs.KindLemmas.{kind_stepped}
 use Rattle.papergrid_width.proofs.PrintableLemmas.{ascii, front_printable, whole_printable}
-use Rattle.papergrid_width.specs.ForProofs.Simple.{IsPiece, ReadsPlainly, StartsSimple, TakesColumns, columns_of_three, is_letter_lead, is_one_column, is_two_columns}
+use Rattle.papergrid_width.specs.ForProofs.Simple.{IsPiece, ReadsPlainly, StartsSimple, TakesColumns, columns_of_brahmic, columns_of_three, is_devanagari_mark, is_letter_lead, is_one_column, is_thai_mark, is_two_columns}
 
 -- ---- the columns of ranges
 
@@ -34,11 +34,38 @@ abbrev takes_two : Kind → Bool
 takes_two kinds.Wide = true
 takes_two _ = false
 
+abbrev takes_none : Kind → Bool
+takes_none kinds.Zero = true
+takes_none _ = false
+
+abbrev marks : List Range
+marks =
+    (0x900, 0x902) ∷ (0x93A, 0x93A) ∷ (0x93C, 0x93C) ∷ (0x941, 0x948) ∷ (0x94D, 0x94D) ∷ (0x951, 0x957) ∷ (0x962, 0x963)
+    ∷ (0xE31, 0xE31) ∷ (0xE34, 0xE3A) ∷ (0xE47, 0xE4E) ∷ []
+
+-- scripts whose marks are among these
+abbrev marked : List Range
+marked = (0x900, 0x97F) ∷ (0xE00, 0xE7F) ∷ []
+
 abbrev ones : List Range
 ones = (0xC0, 0x2FF) ∷ (0x380, 0x47F) ∷ (0x1E00, 0x1FFF) ∷ (0x2010, 0x2027) ∷ (0x2080, 0x20BF) ∷ (0x2100, 0x22FF) ∷ (0x2500, 0x25BF) ∷ []
 
 abbrev twos : List Range
 twos = (0x3000, 0x3029) ∷ (0x3041, 0x3096) ∷ (0x30A0, 0x30FF) ∷ (0x3400, 0x9FFF) ∷ (0xAC00, 0xD77F) ∷ (0xFF01, 0xFF3F) ∷ []
+
+marks_take_none : (c : ℕ) → (not (in_ranges marks c) || takes_none (kind c)) ≡ true
+unfolding unicode_width
+marks_take_none =
+    Stepped-everywhere (λ c. not (in_ranges marks c) || takes_none (kind c))
+    (zip_stepped (λ inside k. not inside || takes_none k) (in_ranges marks) kind (of_ranges marks refl) kind_stepped) refl
+
+-- but for the marks
+marked_take_one : (c : ℕ) → (not (in_ranges marked c) || (in_ranges marks c || takes_one (kind c))) ≡ true
+unfolding unicode_width
+marked_take_one =
+    Stepped-everywhere (λ c. not (in_ranges marked c) || (in_ranges marks c || takes_one (kind c)))
+    (zip_stepped (λ inside rest. not inside || rest) (in_ranges marked) (λ c. in_ranges marks c || takes_one (kind c)) (of_ranges marked refl)
+    (zip_stepped (λ mark k. mark || takes_one k) (in_ranges marks) kind (of_ranges marks refl) kind_stepped)) refl
 
 ones_take_one : (c : ℕ) → (not (in_ranges ones c) || takes_one (kind c)) ≡ true
 unfolding unicode_width
@@ -51,6 +78,20 @@ unfolding unicode_width
 twos_take_two =
     Stepped-everywhere (λ c. not (in_ranges twos c) || takes_two (kind c))
     (zip_stepped (λ inside k. not inside || takes_two k) (in_ranges twos) kind (of_ranges twos refl) kind_stepped) refl
+
+of_none : (c : ℕ) (k : Kind) → takes_none k ≡ true → of_kind false c k ≡ (0, plain)
+of_none c kinds.Zero h = refl
+of_none c kinds.Narrow h = cc
+of_none c kinds.Ambiguous h = cc
+of_none c kinds.Wide h = cc
+of_none c kinds.Alef h = cc
+of_none c kinds.KhmerLetter h = cc
+of_none c kinds.TifinaghConsonant h = cc
+of_none c kinds.LisuTone h = cc
+of_none c kinds.RegionalIndicator h = cc
+of_none c kinds.EmojiModifier h = cc
+of_none c kinds.Emoji h = cc
+of_none c kinds.Single h = cc
 
 of_one : (c : ℕ) (k : Kind) → takes_one k ≡ true → of_kind false c k ≡ (1, plain)
 of_one c kinds.Narrow h = refl
@@ -117,10 +158,46 @@ of_two_columns c h =
     let k : takes_two (kind c) ≡ true = grind (arith, nat_tests) in
     by_own c 2 (grind (arith, nat_tests)) (of_two c (kind c) k)
 
-chosen_columns : (two one : Bool) (columns : ℕ) → cond two (Some 2) (cond one (Some 1) None) ≡ Some columns → ((two ≡ true) × (columns ≡ 2)) ⊎ ((one ≡ true) × (columns ≡ 1))
-chosen_columns true one columns h = inl (refl, cc)
-chosen_columns false true columns h = inr (refl, cc)
-chosen_columns false false columns h = cc
+of_brahmic_mark : (c : ℕ) → (is_devanagari_mark c || is_thai_mark c) ≡ true → TakesColumns c 0
+unfolding in_ranges alone
+of_brahmic_mark c h =
+    let a = marks_take_none c in
+    let k : takes_none (kind c) ≡ true = grind (arith, nat_tests) in
+    by_own c 0 (grind (arith, nat_tests)) (of_none c (kind c) k)
+
+of_brahmic_letter : (c : ℕ) → (is_devanagari_mark c || is_thai_mark c) ≡ false → (is_in_range 0x900 0x97F c || is_in_range 0xE00 0xE7F c) ≡ true → TakesColumns c 1
+unfolding in_ranges alone
+of_brahmic_letter c mark h =
+    let a = marked_take_one c in
+    let k : takes_one (kind c) ≡ true = grind (arith, nat_tests) in
+    by_own c 1 (grind (arith, nat_tests)) (of_one c (kind c) k)
+
+-- a character of three bytes takes no more columns
+record TakesFew (c columns : ℕ) : Type 0 where
+  adds : TakesColumns c columns
+  bound : columns ≤ 3
+
+takes_few : (c n columns : ℕ) → TakesColumns c n → n ≤ 3 → Some n ≡ Some columns → TakesFew c columns
+takes_few c n columns takes few same = subst (TakesFew c) (some_is n columns same) (record { adds = takes; bound = few })
+  where
+    some_is : (n m : ℕ) → Some n ≡ Some m → n ≡ m
+    some_is n m h = cc
+
+-- of two choices the one that was taken
+chosen : (first second : Bool) (n m c columns : ℕ) → (first ≡ true → TakesFew c n) → (first ≡ false → second ≡ true → TakesFew c m) → cond first (Some n) (cond second (Some m) None) ≡ Some columns → TakesFew c columns
+chosen true second n m c columns one other told = let takes = one refl in takes_few c n columns takes.adds takes.bound told
+chosen false true n m c columns one other told = let takes = other refl refl in takes_few c m columns takes.adds takes.bound told
+chosen false false n m c columns one other told = cc
+
+by_three : (c columns : ℕ) → columns_of_three c ≡ Some columns → TakesFew c columns
+by_three c columns =
+    chosen (is_two_columns c) (is_one_column c) 2 1 c columns (λ two. record { adds = of_two_columns c two; bound = omega arith }) (λ _ one. record { adds = of_one_column c one; bound = omega arith })
+
+by_brahmic : (c columns : ℕ) → columns_of_brahmic c ≡ Some columns → TakesFew c columns
+by_brahmic c columns =
+    chosen (is_devanagari_mark c || is_thai_mark c) (is_in_range 0x900 0x97F c || is_in_range 0xE00 0xE7F c) 0 1 c columns
+    (λ mark. record { adds = of_brahmic_mark c mark; bound = omega arith })
+    (λ mark letter. record { adds = of_brahmic_letter c mark letter; bound = omega arith })
 
 -- ---- what a text begins with
 
@@ -250,21 +327,29 @@ is_of_three text utf8 some h =
       | Four low lead ↦ absurd (grind (arith, nat_tests))
     ]
 
-starts_three : (text : List ℕ) (c columns : ℕ) → IsOfThree text → ((first : ℕ) (rest : List ℕ) → text ≡ encode_utf8 first ++ rest → c ≡ first) → columns_of_three c ≡ Some columns → StartsSimple text columns 3
-starts_three text c columns three is told =
+starts_three : (text : List ℕ) (c columns : ℕ) → IsOfThree text → ((first : ℕ) (rest : List ℕ) → text ≡ encode_utf8 first ++ rest → c ≡ first) → TakesFew c columns → StartsSimple text columns 3
+starts_three text c columns three is takes =
     let same : c ≡ three.first = is three.first three.rest three.spelled in
-    elim (chosen_columns (is_two_columns c) (is_one_column c) columns told) [
-      | inl two ↦ starts text three.rest three.first columns 3 three.spelled three.counted (omega (arith, two.1)) (subst (TakesColumns three.first) (sym two.1) (of_two_columns three.first (ap is_two_columns (sym same) ∙ two.0)))
-      | inr one ↦ starts text three.rest three.first columns 3 three.spelled three.counted (omega (arith, one.1)) (subst (TakesColumns three.first) (sym one.1) (of_one_column three.first (ap is_one_column (sym same) ∙ one.0)))
-    ]
+    starts text three.rest three.first columns 3 three.spelled three.counted takes.bound (subst (λ c. TakesColumns c columns) same takes.adds)
 
-pub if_starts_three : (text : List ℕ) (c : ℕ) (told : Option ℕ) → IsOfThree text → ((first : ℕ) (rest : List ℕ) → text ≡ encode_utf8 first ++ rest → c ≡ first) → told ≡ columns_of_three c → IfSome told (λ columns. StartsSimple text columns 3)
-if_starts_three text c None three is told = tt
-if_starts_three text c (Some columns) three is told = starts_three text c columns three is (sym told)
+if_starts_three : (text : List ℕ) (c : ℕ) (told : Option ℕ) → IsOfThree text → ((first : ℕ) (rest : List ℕ) → text ≡ encode_utf8 first ++ rest → c ≡ first) → ((columns : ℕ) → told ≡ Some columns → TakesFew c columns) → IfSome told (λ columns. StartsSimple text columns 3)
+if_starts_three text c None three is takes = tt
+if_starts_three text c (Some columns) three is takes = starts_three text c columns three is (takes columns refl)
+
+pub starts_long : (text : List ℕ) (c : ℕ) (told : Option ℕ) → IsOfThree text → ((first : ℕ) (rest : List ℕ) → text ≡ encode_utf8 first ++ rest → c ≡ first) → told ≡ columns_of_three c → IfSome told (λ columns. StartsSimple text columns 3)
+starts_long text c told three is by = if_starts_three text c told three is (λ columns some. by_three c columns (sym by ∙ some))
+
+pub starts_brahmic : (text : List ℕ) (c : ℕ) (told : Option ℕ) → IsOfThree text → ((first : ℕ) (rest : List ℕ) → text ≡ encode_utf8 first ++ rest → c ≡ first) → told ≡ columns_of_brahmic c → IfSome told (λ columns. StartsSimple text columns 3)
+starts_brahmic text c told three is by = if_starts_three text c told three is (λ columns some. by_brahmic c columns (sym by ∙ some))
 
 pub has_some : (text : List ℕ) → 0xE1 ≤ get_or text 0 0 → 0 < length text
 has_some [] h = absurd (omega arith)
 has_some (b ∷ bs) h = omega arith
+
+-- the first byte of Devanagari and Thai
+pub is_of_three_low : (text : List ℕ) → IsUtf8 text → get_or text 0 0 ≡ 0xE0 → IsOfThree text
+is_of_three_low [] utf8 h = absurd (omega (arith, h))
+is_of_three_low (b ∷ bs) utf8 h = is_of_three (b ∷ bs) utf8 (omega arith) (ap (is_in_range 0xE0 0xEF) h)
 
 pub is_three_lead : (b : ℕ) → 0xE1 ≤ b → b ≤ 0xEF → is_in_range 0xE0 0xEF b ≡ true
 is_three_lead b low high = grind (arith, nat_tests)

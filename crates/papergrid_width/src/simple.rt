@@ -1,9 +1,9 @@
-//! The width of a text of simple characters: printable ASCII and long ranges of others that take one column
-//! or two, whatever stands around them among such characters.
+//! The width of a text of simple characters: printable ASCII and ranges of others that take one column or two,
+//! or none as marks do, whatever stands around them among such characters.
 
 ghost use Rattle.std.specs.Prelude.{◌≡◌, ℕ, ◌*◌, ◌<◌, ◌≤◌, ◌++◌, List, chars, encode_utf8, true, false, length, get_or, IfSome};
 ghost use Rattle.std.specs.Int.{is_in_range};
-ghost use Rattle.papergrid_width.specs.ForProofs.Simple.{IsPiece, IsPrintableFront, ReadsPlainly, StartsSimple, columns_of_three, is_letter_lead};
+ghost use Rattle.papergrid_width.specs.ForProofs.Simple.{IsPiece, IsPrintableFront, ReadsPlainly, StartsSimple, columns_of_brahmic, columns_of_three, is_devanagari_mark, is_letter_lead, is_thai_mark};
 ghost use Rattle.unicode_width.specs.Width.{str_width};
 
 use crate::printable::{count_printable, count_printable_bytes};
@@ -107,6 +107,9 @@ fn first_columns(text: &str) -> Option<(usize, usize)>
     if lead == b'\t' {
         return Some((1, 1));
     }
+    if lead == 0xE0 {
+        return Some((first_brahmic(text)?, 3));
+    }
     None
 }
 
@@ -160,4 +163,40 @@ fn columns_of_three(c: u32) -> Option<usize>
         0x2100..=0x22FF | 0x2500..=0x25BF => Some(1),
         _ => None,
     }
+}
+
+// The columns of the first character, where it is of Devanagari or Thai.
+fn first_brahmic(text: &str) -> Option<usize>
+    requires { get_or text.now 0 0 ≡ 0xE0 }
+    ensures { IfSome result (λ columns. StartsSimple text.now columns 3) }
+{
+    columns_of_brahmic(first_of_three(text))
+}
+
+// The columns of a character of Devanagari or Thai. Marks above or below a letter have none.
+fn columns_of_brahmic(c: u32) -> Option<usize>
+    ensures { result ≡ columns_of_brahmic c }
+{
+    match c {
+        0x900..=0x97F if is_devanagari_mark(c) => Some(0),
+        0xE00..=0xE7F if is_thai_mark(c) => Some(0),
+        0x900..=0x97F | 0xE00..=0xE7F => Some(1),
+        _ => None,
+    }
+}
+
+fn is_devanagari_mark(c: u32) -> bool
+    ensures { result ≡ is_devanagari_mark c }
+{
+    match c {
+        0x900..=0x902 | 0x93A | 0x93C | 0x941..=0x948 | 0x94D => true,
+        0x951..=0x957 | 0x962..=0x963 => true,
+        _ => false,
+    }
+}
+
+fn is_thai_mark(c: u32) -> bool
+    ensures { result ≡ is_thai_mark c }
+{
+    matches!(c, 0xE31 | 0xE34..=0xE3A | 0xE47..=0xE4E)
 }

@@ -67,6 +67,30 @@ fn simple_characters_add_up(rt: HostRuntime) {
     }
 }
 
+// Letters of Thai and Devanagari take a column each, and so do vowels beside them; marks above and below take
+// none. The last four have other characters: of Lao, an emoji, of Bengali, a joiner.
+const MARKED: [(&str, usize); 11] = [
+    ("สวัสดี", 4),
+    ("ภาษาไทย", 7),
+    ("नमस्ते", 4),
+    ("हिन्दी", 5),
+    ("ราคา 12 ฿", 9),
+    ("ยินดีต้อนรับสู่ประเทศไทย", 18),
+    ("सभी मनुष्यों को गौरव और अधिकार", 27),
+    ("ไทยລາວ", 6),
+    ("ไทย 👍", 6),
+    ("বাংলা", 3),
+    ("क्\u{200D}ष", 2),
+];
+
+#[test]
+fn marks_take_no_column(rt: HostRuntime) {
+    for (text, columns) in MARKED {
+        assert_eq!(rt; width(text), columns);
+        assert_eq!(rt; width_by_characters(text, 0), columns);
+    }
+}
+
 // Texts of each number of loads, and a newline in each of the loads, where they overlap too.
 const FRONTS: [(&str, usize); 15] = [
     ("", 0),

@@ -1,5 +1,5 @@
--- Simple characters: those that are told by long ranges, and take one column or two whatever stands around them among such characters.
-use Rattle.std.specs.Prelude.{◌≡◌, ℕ, ◌+◌, ◌<◌, ◌≤◌, Bool, true, false, ◌||◌, ◌++◌, List, length, take, drop, Option, Some, None, chars, encode_utf8, if◌then◌else◌}
+-- Simple characters: those that are told by ranges, and take none, one or two columns whatever stands around them among such characters.
+use Rattle.std.specs.Prelude.{◌≡◌, ℕ, ◌+◌, ◌<◌, ◌≤◌, Bool, true, false, ◌||◌, ◌==◌, ◌++◌, List, length, take, drop, Option, Some, None, chars, encode_utf8, if◌then◌else◌}
 use Rattle.std.specs.Int.{is_in_range}
 use Rattle.std.specs.List.{list_all}
 use Rattle.std.specs.Str.{IsCharBoundary}
@@ -23,6 +23,23 @@ is_two_columns c =
 -- the columns of a character of three bytes
 abbrev pub columns_of_three : ℕ → Option ℕ
 columns_of_three c = if is_two_columns c then Some 2 else if is_one_column c then Some 1 else None
+
+-- the marks of Devanagari that stand above or below a letter
+abbrev pub is_devanagari_mark : ℕ → Bool
+is_devanagari_mark c =
+    is_in_range 0x900 0x902 c || (c == 0x93A) || (c == 0x93C) || is_in_range 0x941 0x948 c || (c == 0x94D) || is_in_range 0x951 0x957 c
+    || is_in_range 0x962 0x963 c
+
+-- the same of Thai
+abbrev pub is_thai_mark : ℕ → Bool
+is_thai_mark c = (c == 0xE31) || is_in_range 0xE34 0xE3A c || is_in_range 0xE47 0xE4E c
+
+-- the columns of a character of Devanagari or Thai
+abbrev pub columns_of_brahmic : ℕ → Option ℕ
+columns_of_brahmic c =
+    if is_devanagari_mark c || is_thai_mark c then Some 0
+    else if is_in_range 0x900 0x97F c || is_in_range 0xE00 0xE7F c then Some 1
+    else None
 
 -- where nothing that follows is joined, the character adds so many columns and joins nothing before it
 abbrev pub TakesColumns : ℕ → ℕ → Type 0
