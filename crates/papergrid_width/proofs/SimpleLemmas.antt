@@ -4,7 +4,7 @@ use Rattle.std.specs.Int.{is_in_range}
 use Rattle.std.specs.List.{list_all, prefix_len}
 use Rattle.std.specs.Str.{IsCharBoundary, chars}
 use Rattle.std.proofs.Math.Seq.{drop-append_seam}
-use Rattle.std.proofs.lemmas.Bool.{cases_lt}
+use Rattle.std.proofs.lemmas.Bool.{cases_eq, cases_lt}
 use Rattle.std.proofs.lemmas.Bool.Decides.{nat_tests}
 use Rattle.std.proofs.lemmas.List.{length-take-le, take-append-drop, drop-drop}
 use Rattle.std.proofs.lemmas.List.Sums.{prefix_len-le-length}
@@ -40,7 +40,7 @@ takes_none _ = false
 
 abbrev marks : List Range
 marks =
-    (0x900, 0x902) ∷ (0x93A, 0x93A) ∷ (0x93C, 0x93C) ∷ (0x941, 0x948) ∷ (0x94D, 0x94D) ∷ (0x951, 0x957) ∷ (0x962, 0x963)
+    (0x300, 0x337) ∷ (0x339, 0x36F) ∷ (0x900, 0x902) ∷ (0x93A, 0x93A) ∷ (0x93C, 0x93C) ∷ (0x941, 0x948) ∷ (0x94D, 0x94D) ∷ (0x951, 0x957) ∷ (0x962, 0x963)
     ∷ (0xE31, 0xE31) ∷ (0xE34, 0xE3A) ∷ (0xE47, 0xE4E) ∷ []
 
 -- scripts whose marks are among these
@@ -48,7 +48,7 @@ abbrev marked : List Range
 marked = (0x900, 0x97F) ∷ (0xE00, 0xE7F) ∷ []
 
 abbrev ones : List Range
-ones = (0xC0, 0x2FF) ∷ (0x380, 0x47F) ∷ (0x1E00, 0x1FFF) ∷ (0x2010, 0x2027) ∷ (0x2080, 0x20BF) ∷ (0x2100, 0x22FF) ∷ (0x2500, 0x25BF) ∷ []
+ones = (0xC0, 0x2FF) ∷ (0x370, 0x47F) ∷ (0x1E00, 0x1FFF) ∷ (0x2010, 0x2027) ∷ (0x2080, 0x20BF) ∷ (0x2100, 0x22FF) ∷ (0x2500, 0x25BF) ∷ []
 
 abbrev twos : List Range
 twos = (0x3000, 0x3029) ∷ (0x3041, 0x3096) ∷ (0x30A0, 0x30FF) ∷ (0x3400, 0x9FFF) ∷ (0xAC00, 0xD77F) ∷ (0xFF01, 0xFF3F) ∷ []
@@ -144,6 +144,27 @@ of_letter c h =
     let k : takes_one (kind c) ≡ true = grind (arith, nat_tests) in
     by_own c 1 (grind (arith, nat_tests)) (of_one c (kind c) k)
 
+of_greek : (c : ℕ) → is_in_range 0x370 0x37F c ≡ true → TakesColumns c 1
+unfolding in_ranges alone
+of_greek c h =
+    let a = ones_take_one c in
+    let k : takes_one (kind c) ≡ true = grind (arith, nat_tests) in
+    by_own c 1 (grind (arith, nat_tests)) (of_one c (kind c) k)
+
+of_solidus : TakesColumns 0x338 0
+unfolding unicode_width
+of_solidus = by_own 0x338 0 (omega arith) refl
+
+of_accent : (c : ℕ) → is_in_range 0x300 0x36F c ≡ true → TakesColumns c 0
+unfolding in_ranges alone
+of_accent c h = elim (cases_eq c 0x338) [
+  | inl same ↦ subst (λ c. TakesColumns c 0) (sym same) of_solidus
+  | inr other ↦
+      let a = marks_take_none c in
+      let k : takes_none (kind c) ≡ true = grind (arith, nat_tests) in
+      by_own c 0 (grind (arith, nat_tests)) (of_none c (kind c) k)
+]
+
 of_one_column : (c : ℕ) → is_one_column c ≡ true → TakesColumns c 1
 unfolding in_ranges alone
 of_one_column c h =
@@ -216,7 +237,7 @@ encode_four c low = rw (le-ltb c 128 (omega arith), le-ltb c 2048 (omega arith),
 -- the character, how many bytes it has, and what they are
 data Spelled (c : ℕ) (text : List ℕ) : Type 0 where
   One : c < 128 → length (encode_utf8 c) ≡ 1 → get_or text 0 0 ≡ c → Spelled c text
-  Two : 128 ≤ c → c < 2048 → length (encode_utf8 c) ≡ 2 → get_or text 0 0 ≡ 192 + c / 64 → Spelled c text
+  Two : 128 ≤ c → c < 2048 → length (encode_utf8 c) ≡ 2 → 2 ≤ length text → get_or text 0 0 ≡ 192 + c / 64 → get_or text 1 0 ≡ 128 + c % 64 → Spelled c text
   Three : 2048 ≤ c → c < 65536 → length (encode_utf8 c) ≡ 3 → 3 ≤ length text → get_or text 0 0 ≡ 224 + c / 4096 → get_or text 1 0 ≡ 128 + c / 64 % 64 → get_or text 2 0 ≡ 128 + c % 64 → Spelled c text
   Four : 65536 ≤ c → 240 ≤ get_or text 0 0 → Spelled c text
 
@@ -224,7 +245,11 @@ spells : (c : ℕ) (rest text : List ℕ) → text ≡ encode_utf8 c ++ rest →
 spells c rest text spelled = elim (cases_lt c 128) [
   | inl low ↦ let e = encode_ascii c low in let t = spelled ∙ ap (λ bs. bs ++ rest) e in One low (ap length e) (ap (λ bs. get_or bs 0 0) t)
   | inr past ↦ elim (cases_lt c 2048) [
-    | inl two ↦ let e = encode_two c past two in let t = spelled ∙ ap (λ bs. bs ++ rest) e in Two past two (ap length e) (ap (λ bs. get_or bs 0 0) t)
+    | inl two ↦
+        let e = encode_two c past two in
+        let t = spelled ∙ ap (λ bs. bs ++ rest) e in
+        let long : length text ≡ length rest + 2 = ap length t ∙ omega arith in
+        Two past two (ap length e) (omega arith) (ap (λ bs. get_or bs 0 0) t) (ap (λ bs. get_or bs 1 0) t)
     | inr more ↦ elim (cases_lt c 65536) [
       | inl three ↦
           let e = encode_three c more three in
@@ -263,7 +288,7 @@ starts_ascii text utf8 some h =
     let b = begins text utf8 some in
     elim b.is [
       | One low counted lead ↦ starts text b.rest b.first 1 1 b.spelled counted (omega arith) (of_ascii b.first (ap (is_in_range 0x20 0x7E) (sym lead) ∙ h))
-      | Two low high counted lead ↦ absurd (grind (arith, nat_tests))
+      | Two low high counted long lead second ↦ absurd (grind (arith, nat_tests))
       | Three low high counted long lead second third ↦ absurd (grind (arith, nat_tests))
       | Four low lead ↦ absurd (grind (arith, nat_tests))
     ]
@@ -273,7 +298,7 @@ starts_tab text utf8 some h =
     let b = begins text utf8 some in
     elim b.is [
       | One low counted lead ↦ starts text b.rest b.first 1 1 b.spelled counted (omega arith) (subst (λ c. TakesColumns c 1) (sym h ∙ lead) of_tab)
-      | Two low high counted lead ↦ absurd (omega arith)
+      | Two low high counted long lead second ↦ absurd (omega arith)
       | Three low high counted long lead second third ↦ absurd (omega arith)
       | Four low lead ↦ absurd (omega arith)
     ]
@@ -283,7 +308,7 @@ starts_letter text utf8 some h =
     let b = begins text utf8 some in
     elim b.is [
       | One low counted lead ↦ absurd (grind (arith, nat_tests))
-      | Two low high counted lead ↦ starts text b.rest b.first 1 2 b.spelled counted (omega arith) (of_letter b.first (letter_of b.first (ap is_letter_lead (sym lead) ∙ h)))
+      | Two low high counted long lead second ↦ starts text b.rest b.first 1 2 b.spelled counted (omega arith) (of_letter b.first (letter_of b.first (ap is_letter_lead (sym lead) ∙ h)))
       | Three low high counted long lead second third ↦ absurd (grind (arith, nat_tests))
       | Four low lead ↦ absurd (grind (arith, nat_tests))
     ]
@@ -296,13 +321,71 @@ starts_ideograph text utf8 some h =
     let b = begins text utf8 some in
     elim b.is [
       | One low counted lead ↦ absurd (grind (arith, nat_tests))
-      | Two low high counted lead ↦ absurd (grind (arith, nat_tests))
+      | Two low high counted long lead second ↦ absurd (grind (arith, nat_tests))
       | Three low high counted long lead second third ↦ starts text b.rest b.first 2 3 b.spelled counted (omega arith) (of_two_columns b.first (ideograph_of b.first (ap (is_in_range 0xE4 0xE9) (sym lead) ∙ h)))
       | Four low lead ↦ absurd (grind (arith, nat_tests))
     ]
   where
     ideograph_of : (c : ℕ) → is_in_range 0xE4 0xE9 (224 + c / 4096) ≡ true → is_two_columns c ≡ true
     ideograph_of c h = grind (arith, nat_tests)
+
+-- ---- characters of two bytes
+
+pub record IsOfTwo (text : List ℕ) : Type 0 where
+  pub first : ℕ
+  pub rest : List ℕ
+  pub spelled : text ≡ encode_utf8 first ++ rest
+  pub counted : length (encode_utf8 first) ≡ 2
+  pub long : 2 ≤ length text
+  pub lead : get_or text 0 0 ≡ 192 + first / 64
+  pub second : get_or text 1 0 ≡ 128 + first % 64
+
+pub is_of_two : (text : List ℕ) → IsUtf8 text → is_in_range 0xC2 0xDF (get_or text 0 0) ≡ true → IsOfTwo text
+is_of_two text utf8 h =
+    let b = begins text utf8 (some text h) in
+    elim b.is [
+      | One low counted lead ↦ absurd (grind (arith, nat_tests))
+      | Two low high counted long lead second ↦ record { first = b.first; rest = b.rest; spelled = b.spelled; counted = counted; long = long; lead = lead; second = second }
+      | Three low high counted long lead second third ↦ absurd (grind (arith, nat_tests))
+      | Four low lead ↦ absurd (grind (arith, nat_tests))
+    ]
+  where
+    some : (text : List ℕ) → is_in_range 0xC2 0xDF (get_or text 0 0) ≡ true → 0 < length text
+    some [] h = absurd (grind (arith, nat_tests))
+    some (b ∷ bs) h = omega arith
+
+accent_is_of_two : (text : List ℕ) → IsUtf8 text → is_in_range 0xCC 0xCD (get_or text 0 0) ≡ true → IsOfTwo text
+accent_is_of_two text utf8 h = is_of_two text utf8 (accent_lead (get_or text 0 0) h)
+  where
+    accent_lead : (b : ℕ) → is_in_range 0xCC 0xCD b ≡ true → is_in_range 0xC2 0xDF b ≡ true
+    accent_lead b h = grind (arith, nat_tests)
+
+pub starts_accent : (text : List ℕ) (c : ℕ) → IsUtf8 text → is_in_range 0xCC 0xCD (get_or text 0 0) ≡ true → ((first : ℕ) (rest : List ℕ) → text ≡ encode_utf8 first ++ rest → c ≡ first) → c < 0x370 → StartsSimple text 0 2
+starts_accent text c utf8 h is low =
+    let two = accent_is_of_two text utf8 h in
+    let same = is two.first two.rest two.spelled in
+    let lead = ap (is_in_range 0xCC 0xCD) (sym two.lead) ∙ h in
+    starts text two.rest two.first 0 2 two.spelled two.counted (omega arith) (of_accent two.first (within two.first lead (omega arith)))
+  where
+    within : (c : ℕ) → is_in_range 0xCC 0xCD (192 + c / 64) ≡ true → c < 0x370 → is_in_range 0x300 0x36F c ≡ true
+    within c h low = grind (arith, nat_tests)
+
+pub starts_greek : (text : List ℕ) (c : ℕ) → IsUtf8 text → is_in_range 0xCC 0xCD (get_or text 0 0) ≡ true → ((first : ℕ) (rest : List ℕ) → text ≡ encode_utf8 first ++ rest → c ≡ first) → 0x370 ≤ c → StartsSimple text 1 2
+starts_greek text c utf8 h is high =
+    let two = accent_is_of_two text utf8 h in
+    let same = is two.first two.rest two.spelled in
+    let lead = ap (is_in_range 0xCC 0xCD) (sym two.lead) ∙ h in
+    starts text two.rest two.first 1 2 two.spelled two.counted (omega arith) (of_greek two.first (within two.first lead (omega arith)))
+  where
+    within : (c : ℕ) → is_in_range 0xCC 0xCD (192 + c / 64) ≡ true → 0x370 ≤ c → is_in_range 0x370 0x37F c ≡ true
+    within c h low = grind (arith, nat_tests)
+
+pub code_of_two : (text : List ℕ) (c : ℕ) (rest : List ℕ) → IsOfTwo text → text ≡ encode_utf8 c ++ rest → (get_or text 0 0 - 192) * 64 + (get_or text 1 0 - 128) ≡ c
+code_of_two text c rest two spelled =
+    let same = encode_same two.first c two.rest rest (sym two.spelled ∙ spelled) in
+    let lead = two.lead in
+    let second = two.second in
+    omega (arith, same.0)
 
 -- ---- characters of three bytes
 
@@ -322,7 +405,7 @@ is_of_three text utf8 some h =
     let b = begins text utf8 some in
     elim b.is [
       | One low counted lead ↦ absurd (grind (arith, nat_tests))
-      | Two low high counted lead ↦ absurd (grind (arith, nat_tests))
+      | Two low high counted long lead second ↦ absurd (grind (arith, nat_tests))
       | Three low high counted long lead second third ↦ record { first = b.first; rest = b.rest; spelled = b.spelled; counted = counted; long = long; small = high; lead = lead; second = second; third = third }
       | Four low lead ↦ absurd (grind (arith, nat_tests))
     ]

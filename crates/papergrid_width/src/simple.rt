@@ -110,6 +110,9 @@ fn first_columns(text: &str) -> Option<(usize, usize)>
     if lead == 0xE0 {
         return Some((first_brahmic(text)?, 3));
     }
+    if is_in_range(lead, 0xCC, 0xCD) {
+        return Some((columns_of_accent(text), 2));
+    }
     None
 }
 
@@ -199,4 +202,23 @@ fn is_thai_mark(c: u32) -> bool
     ensures { result ≡ is_thai_mark c }
 {
     matches!(c, 0xE31 | 0xE34..=0xE3A | 0xE47..=0xE4E)
+}
+
+// The columns of the first character, which is from U+0300 to U+037F: accents have none, and letters from U+0370
+// on one.
+fn columns_of_accent(text: &str) -> usize
+    requires { is_in_range 0xCC 0xCD (get_or text.now 0 0) ≡ true }
+    ensures { StartsSimple text.now result 2 }
+{
+    if first_of_two(text) < 0x370 { 0 } else { 1 }
+}
+
+// The first character, where it has two bytes.
+fn first_of_two(text: &str) -> u32
+    requires { is_in_range 0xC2 0xDF (get_or text.now 0 0) ≡ true }
+    ensures { (c : ℕ) (rest : List ℕ) → text.now ≡ encode_utf8 c ++ rest → result ≡ c }
+{
+    let bytes = text.as_bytes();
+    let (a, b) = (bytes[0] as u32, bytes[1] as u32);
+    (a - 0xC0) * 64 + (b - 0x80)
 }

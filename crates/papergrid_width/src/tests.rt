@@ -39,7 +39,7 @@ fn letters_and_runs_of_ascii_add_up(rt: HostRuntime) {
 }
 
 // Texts of simple characters, short and long, and texts that begin like them and have another character: an
-// accent apart, an emoji, a sound mark apart, a form of half the width.
+// emoji, a sound mark apart, a form of half the width.
 const SIMPLE: [(&str, usize); 16] = [
     ("don’t", 5),
     ("“x” — y…", 8),
@@ -82,6 +82,30 @@ const MARKED: [(&str, usize); 11] = [
     ("বাংলা", 3),
     ("क्\u{200D}ष", 2),
 ];
+
+// Accents apart take no column, and Greek letters beside them one. The last three have other characters: a
+// selector, a letter of Arabic, a joiner.
+const ACCENTED: [(&str, usize); 11] = [
+    ("e\u{301}", 1),
+    ("\u{301}", 0),
+    ("cafe\u{301}s", 5),
+    ("a\u{300}e\u{36F}", 2),
+    ("x\u{338}", 1),
+    ("\u{370}\u{37F}", 2),
+    ("か\u{301}", 2),
+    ("the cafe\u{301} on the corner by the river", 35),
+    ("1\u{301}\u{FE0F}", 1),
+    ("e\u{301}ب", 2),
+    ("e\u{301}\u{200D}e\u{301}", 2),
+];
+
+#[test]
+fn accents_take_no_column(rt: HostRuntime) {
+    for (text, columns) in ACCENTED {
+        assert_eq!(rt; width(text), columns);
+        assert_eq!(rt; width_by_characters(text, 0), columns);
+    }
+}
 
 #[test]
 fn marks_take_no_column(rt: HostRuntime) {
