@@ -1,9 +1,10 @@
 //! The width of a text of simple characters: printable ASCII and ranges of others that take one column or two,
-//! or none as marks do, whatever stands around them among such characters.
+//! or none as marks do, whatever stands around them among such characters. Of these only the Arabic lam joins
+//! another: it has one column with the alef after it.
 
 ghost use Rattle.std.specs.Prelude.{◌≡◌, ℕ, ◌*◌, ◌<◌, ◌≤◌, ◌++◌, List, chars, encode_utf8, true, false, length, get_or, IfSome};
 ghost use Rattle.std.specs.Int.{is_in_range};
-ghost use Rattle.papergrid_width.specs.ForProofs.Simple.{IsPiece, IsPrintableFront, ReadsPlainly, StartsSimple, columns_of_brahmic, columns_of_three, is_devanagari_mark, is_letter_lead, is_thai_mark};
+ghost use Rattle.papergrid_width.specs.ForProofs.Simple.{IsPiece, IsPrintableFront, ReadsQuietly, BeginsWith, columns_of_brahmic, columns_of_three, is_alef, is_devanagari_mark, is_letter_lead, is_semitic_letter, is_thai_mark};
 ghost use Rattle.unicode_width.specs.Width.{str_width};
 
 use crate::printable::{count_printable, count_printable_bytes};
@@ -25,7 +26,7 @@ pub fn width_by_simple(text: &str, from: usize) -> usize
 
 // The width of a text of simple characters with such a front, or `None` where it may be another one.
 fn simple_width_past(text: &str, from: usize) -> Option<usize>
-    ensures value { IfSome result (λ width. ReadsPlainly text.now width) }
+    ensures value { IfSome result (λ width. ReadsQuietly text.now width) }
     ensures bound { IfSome result (λ width. width ≤ length text.now) }
 {
     if !has_printable_front(text, from) {
@@ -48,7 +49,7 @@ fn has_printable_front(text: &str, count: usize) -> bool
 // The width of a text of simple characters, or `None` where it may have others.
 #[inline]
 fn simple_width(text: &str) -> Option<usize>
-    ensures value { IfSome result (λ width. ReadsPlainly text.now width) }
+    ensures value { IfSome result (λ width. ReadsQuietly text.now width) }
     ensures bound { IfSome result (λ width. width ≤ length text.now) }
 {
     let mut width = 0usize;
@@ -63,7 +64,7 @@ fn simple_width(text: &str) -> Option<usize>
 
 /// The same of a long text: what it has of printable ASCII is passed many bytes at a time.
 pub fn long_simple_width(text: &str) -> Option<usize>
-    ensures value { IfSome result (λ width. ReadsPlainly text.now width) }
+    ensures value { IfSome result (λ width. ReadsQuietly text.now width) }
     ensures bound { IfSome result (λ width. width ≤ length text.now) }
 {
     let run = count_printable(text);
@@ -92,7 +93,7 @@ fn first_piece(text: &str) -> Option<(usize, usize)>
 #[inline(always)]
 fn first_columns(text: &str) -> Option<(usize, usize)>
     requires { 0 < length text.now }
-    ensures { IfSome result (λ first. StartsSimple text.now first.0 first.1) }
+    ensures { IfSome result (λ first. IsPiece text.now first.0 first.1) }
 {
     let lead = text.as_bytes()[0];
     if is_in_range(lead, 0x20, 0x7E) {
@@ -107,6 +108,9 @@ fn first_columns(text: &str) -> Option<(usize, usize)>
     if lead == b'\t' {
         return Some((1, 1));
     }
+    if is_in_range(lead, 0xD7, 0xD9) {
+        return first_semitic(text);
+    }
     if lead == 0xE0 {
         return Some((first_brahmic(text)?, 3));
     }
@@ -119,7 +123,7 @@ fn first_columns(text: &str) -> Option<(usize, usize)>
 // The columns of the first character, which is from U+1000 on, where it has three bytes and is simple.
 fn columns_of_long(text: &str) -> Option<usize>
     requires { 0xE1 ≤ get_or text.now 0 0 }
-    ensures { IfSome result (λ columns. StartsSimple text.now columns 3) }
+    ensures { IfSome result (λ columns. IsPiece text.now columns 3) }
 {
     let lead = text.as_bytes()[0];
     // U+4000 to U+9FFF.
@@ -171,7 +175,7 @@ fn columns_of_three(c: u32) -> Option<usize>
 // The columns of the first character, where it is of Devanagari or Thai.
 fn first_brahmic(text: &str) -> Option<usize>
     requires { get_or text.now 0 0 ≡ 0xE0 }
-    ensures { IfSome result (λ columns. StartsSimple text.now columns 3) }
+    ensures { IfSome result (λ columns. IsPiece text.now columns 3) }
 {
     columns_of_brahmic(first_of_three(text))
 }
@@ -208,9 +212,67 @@ fn is_thai_mark(c: u32) -> bool
 // on one.
 fn columns_of_accent(text: &str) -> usize
     requires { is_in_range 0xCC 0xCD (get_or text.now 0 0) ≡ true }
-    ensures { StartsSimple text.now result 2 }
+    ensures { IsPiece text.now result 2 }
 {
     if first_of_two(text) < 0x370 { 0 } else { 1 }
+}
+
+// The columns and the bytes of the first character, where it is a letter of Hebrew or Arabic. A lam is read with
+// the alef after it.
+fn first_semitic(text: &str) -> Option<(usize, usize)>
+    requires { is_in_range 0xD7 0xD9 (get_or text.now 0 0) ≡ true }
+    ensures { IfSome result (λ first. IsPiece text.now first.0 first.1) }
+{
+    let first = first_of_two(text);
+    if first == 0x644 {
+        return first_lam(text);
+    }
+    if is_semitic_letter(first) {
+        return Some((1, 2));
+    }
+    None
+}
+
+// The same of a lam, which has one column with an alef, and by itself. `None` where a mark may stand between them.
+fn first_lam(text: &str) -> Option<(usize, usize)>
+    requires { BeginsWith text.now 0x644 }
+    ensures { IfSome result (λ first. IsPiece text.now first.0 first.1) }
+{
+    let rest = &text[2..];
+    if is_word_end(rest) {
+        return Some((1, 2));
+    }
+    if !is_in_range(rest.as_bytes()[0], 0xD7, 0xD9) {
+        return None;
+    }
+    let next = first_of_two(rest);
+    if is_alef(next) {
+        return Some((1, 4));
+    }
+    if is_semitic_letter(next) {
+        return Some((1, 2));
+    }
+    None
+}
+
+// Whether the text has no character, or one of printable ASCII first.
+fn is_word_end(text: &str) -> bool
+    ensures ends { result ≡ true → get_or text.now 0 0 < 0x80 }
+    ensures goes_on { result ≡ false → 0 < length text.now }
+{
+    matches!(text.as_bytes(), [] | [b' '..=b'~', ..])
+}
+
+fn is_semitic_letter(c: u32) -> bool
+    ensures { result ≡ is_semitic_letter c }
+{
+    matches!(c, 0x5D0..=0x5EA | 0x620..=0x64A)
+}
+
+fn is_alef(c: u32) -> bool
+    ensures { result ≡ is_alef c }
+{
+    matches!(c, 0x622..=0x623 | 0x625 | 0x627)
 }
 
 // The first character, where it has two bytes.

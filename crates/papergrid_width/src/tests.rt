@@ -84,7 +84,7 @@ const MARKED: [(&str, usize); 11] = [
 ];
 
 // Accents apart take no column, and Greek letters beside them one. The last three have other characters: a
-// selector, a letter of Arabic, a joiner.
+// selector, a letter of Armenian, a joiner.
 const ACCENTED: [(&str, usize); 11] = [
     ("e\u{301}", 1),
     ("\u{301}", 0),
@@ -95,7 +95,7 @@ const ACCENTED: [(&str, usize); 11] = [
     ("か\u{301}", 2),
     ("the cafe\u{301} on the corner by the river", 35),
     ("1\u{301}\u{FE0F}", 1),
-    ("e\u{301}ب", 2),
+    ("e\u{301}ա", 2),
     ("e\u{301}\u{200D}e\u{301}", 2),
 ];
 
@@ -110,6 +110,41 @@ fn accents_take_no_column(rt: HostRuntime) {
 #[test]
 fn marks_take_no_column(rt: HostRuntime) {
     for (text, columns) in MARKED {
+        assert_eq!(rt; width(text), columns);
+        assert_eq!(rt; width_by_characters(text, 0), columns);
+    }
+}
+
+// Letters of Hebrew and Arabic take a column each, but a lam and the alef after it one together, also with a mark
+// between them. The last five have other characters: marks of Arabic, a comma of it, an emoji, a joiner, with which
+// alef and lamed make one.
+const SEMITIC: [(&str, usize); 21] = [
+    ("שלום", 4),
+    ("של", 2),
+    ("أب", 2),
+    ("لا", 1),
+    ("سلام", 3),
+    ("السلام عليكم", 11),
+    ("لآلئ", 3),
+    ("ليل", 3),
+    ("لل لا", 4),
+    ("abc שלום لا xyz", 14),
+    ("مرحبا بالعالم في كل مكان من الأرض", 32),
+    ("שלום עולם ולכל מי שגר בו היום", 29),
+    ("ب\u{300}ا", 2),
+    ("ل\u{300}ا", 1),
+    ("ل\u{E31}ا", 1),
+    ("سل\u{300}م", 3),
+    ("لَا", 1),
+    ("كلّ", 2),
+    ("كتاب، لا", 7),
+    ("لا👍", 3),
+    ("א\u{200D}ל", 1),
+];
+
+#[test]
+fn letters_of_hebrew_and_arabic_add_up(rt: HostRuntime) {
+    for (text, columns) in SEMITIC {
         assert_eq!(rt; width(text), columns);
         assert_eq!(rt; width_by_characters(text, 0), columns);
     }
