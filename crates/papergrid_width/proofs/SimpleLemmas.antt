@@ -13,7 +13,7 @@ use lib.Utf8.{encode}
 use Rattle.unicode_width.specs.Width.{plain, step, read_before, str_width}
 use Rattle.papergrid_width.proofs.ColumnLemmas.{TakesColumns, TakesFew, by_brahmic, by_three, is_letter, of_accent, of_ascii, of_lam, of_lam_alef, of_letter, of_semitic, of_tab, of_two_columns}
 use Rattle.papergrid_width.proofs.PrintableLemmas.{ascii, front_printable, whole_printable}
-use Rattle.papergrid_width.specs.ForProofs.Simple.{BeginsWith, IsPiece, Plain, Reads, ReadsQuietly, columns_of_brahmic, columns_of_three, is_alef, is_letter_lead, is_semitic_letter, is_two_columns, may_join_lam}
+use Rattle.papergrid_width.specs.ForProofs.Simple.{BeginsWith, IsPiece, Plain, Reads, ReadsQuietly, columns_of_brahmic, columns_of_three, is_alef, is_semitic_letter, is_two_columns, may_join_lam}
 
 -- ---- what a text begins with
 
@@ -122,18 +122,23 @@ starts_tab text utf8 some h =
       | Four low lead ↦ absurd (omega arith)
     ]
 
-pub starts_letter : (text : List ℕ) → IsUtf8 text → 0 < length text → is_letter_lead (get_or text 0 0) ≡ true → IsPiece text 1 2
-starts_letter text utf8 some h =
-    let b = begins text utf8 some in
+pub has_lead : (text : List ℕ) → is_in_range 0xC3 0xD1 (get_or text 0 0) ≡ true → 0 < length text
+has_lead [] h = absurd (grind (arith, nat_tests))
+has_lead (b ∷ bs) h = omega arith
+
+pub starts_letter : (text : List ℕ) → IsUtf8 text → is_in_range 0xC3 0xD1 (get_or text 0 0) ≡ true → is_in_range 0xCC 0xCD (get_or text 0 0) ≡ false → IsPiece text 1 2
+starts_letter text utf8 h apart =
+    let b = begins text utf8 (has_lead text h) in
     elim b.is [
       | One low counted lead ↦ absurd (grind (arith, nat_tests))
-      | Two low high counted long lead second ↦ starts text b.rest b.first 1 2 b.spelled utf8 counted (omega arith) (of_letter b.first (letter_of b.first (ap is_letter_lead (sym lead) ∙ h)))
+      | Two low high counted long lead second ↦
+          starts text b.rest b.first 1 2 b.spelled utf8 counted (omega arith) (of_letter b.first (letter_of b.first (ap (is_in_range 0xC3 0xD1) (sym lead) ∙ h) (ap (is_in_range 0xCC 0xCD) (sym lead) ∙ apart)))
       | Three low high counted long lead second third ↦ absurd (grind (arith, nat_tests))
       | Four low lead ↦ absurd (grind (arith, nat_tests))
     ]
   where
-    letter_of : (c : ℕ) → is_letter_lead (192 + c / 64) ≡ true → is_letter c ≡ true
-    letter_of c h = grind (arith, nat_tests)
+    letter_of : (c : ℕ) → is_in_range 0xC3 0xD1 (192 + c / 64) ≡ true → is_in_range 0xCC 0xCD (192 + c / 64) ≡ false → is_letter c ≡ true
+    letter_of c h apart = grind (arith, nat_tests)
 
 pub starts_ideograph : (text : List ℕ) → IsUtf8 text → 0 < length text → is_in_range 0xE4 0xE9 (get_or text 0 0) ≡ true → IsPiece text 2 3
 starts_ideograph text utf8 some h =

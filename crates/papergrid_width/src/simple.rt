@@ -4,7 +4,8 @@
 
 ghost use Rattle.std.specs.Prelude.{◌≡◌, ℕ, ◌*◌, ◌<◌, ◌≤◌, ◌++◌, List, chars, encode_utf8, true, false, length, get_or, IfSome};
 ghost use Rattle.std.specs.Int.{is_in_range};
-ghost use Rattle.papergrid_width.specs.ForProofs.Simple.{IsPiece, IsPrintableFront, ReadsQuietly, BeginsWith, columns_of_brahmic, columns_of_three, is_alef, is_devanagari_mark, is_letter_lead, is_semitic_letter, is_thai_mark};
+ghost use Rattle.std.specs.List.{prefix_len};
+ghost use Rattle.papergrid_width.specs.ForProofs.Simple.{IsPiece, IsPrintableFront, ReadsQuietly, BeginsWith, columns_of_brahmic, columns_of_three, is_alef, is_devanagari_mark, is_semitic_letter, is_thai_mark};
 ghost use Rattle.unicode_width.specs.Width.{str_width};
 
 use crate::printable::{count_printable, count_printable_bytes};
@@ -84,9 +85,19 @@ fn first_piece(text: &str) -> Option<(usize, usize)>
     requires { 0 < length text.now }
     ensures { IfSome result (λ first. IsPiece text.now first.0 first.1) }
 {
-    let (columns, count) = first_columns(text)?;
-    let run = count_printable(&text[count..]);
+    let (columns, count) = first_other(text)?;
+    let run = count_run(&text[count..]);
     Some((columns + run, count + run))
+}
+
+// How many bytes of printable ASCII the text begins with, where it mostly begins with none.
+fn count_run(text: &str) -> usize
+    ensures { result ≡ prefix_len (is_in_range 0x20 0x7E) text.now }
+{
+    match text.as_bytes() {
+        [first, ..] if *first < 0x80 => count_printable(text),
+        _ => 0,
+    }
 }
 
 // The columns of the first character, and how many bytes it has, where it is simple.
@@ -95,15 +106,24 @@ fn first_columns(text: &str) -> Option<(usize, usize)>
     requires { 0 < length text.now }
     ensures { IfSome result (λ first. IsPiece text.now first.0 first.1) }
 {
-    let lead = text.as_bytes()[0];
-    if is_in_range(lead, 0x20, 0x7E) {
+    if is_in_range(text.as_bytes()[0], 0x20, 0x7E) {
         return Some((1, 1));
     }
+    first_other(text)
+}
+
+// The same of a character that is no printable ASCII.
+#[inline(always)]
+fn first_other(text: &str) -> Option<(usize, usize)>
+    requires { 0 < length text.now }
+    ensures { IfSome result (λ first. IsPiece text.now first.0 first.1) }
+{
+    let lead = text.as_bytes()[0];
     if lead >= 0xE1 {
         return Some((columns_of_long(text)?, 3));
     }
-    if is_letter_lead(lead) {
-        return Some((1, 2));
+    if is_in_range(lead, 0xC3, 0xD1) {
+        return Some((columns_of_letter(text), 2));
     }
     if lead == b'\t' {
         return Some((1, 1));
@@ -113,9 +133,6 @@ fn first_columns(text: &str) -> Option<(usize, usize)>
     }
     if lead == 0xE0 {
         return Some((first_brahmic(text)?, 3));
-    }
-    if is_in_range(lead, 0xCC, 0xCD) {
-        return Some((columns_of_accent(text), 2));
     }
     None
 }
@@ -136,11 +153,15 @@ fn columns_of_long(text: &str) -> Option<usize>
     columns_of_three(first_of_three(text))
 }
 
-// Whether the byte begins a letter from U+00C0 to U+02FF or U+0380 to U+047F.
-fn is_letter_lead(b: u8) -> bool
-    ensures { result ≡ is_letter_lead b }
+// The columns of the first character, which is from U+00C0 to U+047F.
+fn columns_of_letter(text: &str) -> usize
+    requires { is_in_range 0xC3 0xD1 (get_or text.now 0 0) ≡ true }
+    ensures { IsPiece text.now result 2 }
 {
-    is_in_range(b, 0xC3, 0xCB) || is_in_range(b, 0xCE, 0xD1)
+    if is_in_range(text.as_bytes()[0], 0xCC, 0xCD) {
+        return columns_of_accent(text);
+    }
+    1
 }
 
 fn is_in_range(b: u8, low: u8, high: u8) -> bool

@@ -8,10 +8,6 @@ use Rattle.unicode_width.specs.declared.state.After.TheVariants.{Alef, Lamed}
 use Rattle.unicode_width.specs.declared.state.State.{State}
 use Rattle.unicode_width.specs.Width.{Reading, before, plain, read_before}
 
--- the first byte of a letter from U+00C0 to U+02FF or U+0380 to U+047F
-abbrev pub is_letter_lead : ℕ → Bool
-is_letter_lead b = is_in_range 0xC3 0xCB b || is_in_range 0xCE 0xD1 b
-
 -- Latin and Greek letters with accents, punctuation, subscripts and currencies, symbols, lines and blocks
 abbrev pub is_one_column : ℕ → Bool
 is_one_column c =
