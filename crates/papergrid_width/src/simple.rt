@@ -80,7 +80,7 @@ pub fn long_simple_width(text: &str) -> Option<usize>
 }
 
 // The columns and the bytes of the first character and of the printable ASCII after it, where that character
-// is simple.
+// is simple, and none of printable ASCII itself.
 fn first_piece(text: &str) -> Option<(usize, usize)>
     requires { 0 < length text.now }
     ensures { IfSome result (λ first. IsPiece text.now first.0 first.1) }
