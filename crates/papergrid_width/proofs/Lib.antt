@@ -1,3 +1,4 @@
+pub mod ColumnLemmas
 pub mod Lanes
 pub mod PartLemmas
 pub mod PrintableLemmas

@@ -1,126 +1,19 @@
 -- Simple characters, and texts of them.
-use Rattle.std.proofs.Common.{◌≡◌, ℕ, ◌+◌, ◌*◌, ◌-◌, ◌/◌, ◌%◌, ◌<◌, ◌≤◌, ◌||◌, Bool, true, false, not, cond, List, [], ◌∷◌, ◌++◌, length, get_or, take, drop, encode_utf8, encode_utf8_all, IsUtf8, Option, Some, None, IfSome, refl, sym, ap, ◌∙◌, subst, arith, inl, inr, ◌⊎◌, le-ltb, lt-ltb}
+use Rattle.std.proofs.Common.{◌≡◌, ◌≢◌, ℕ, ◌+◌, ◌*◌, ◌-◌, ◌/◌, ◌%◌, ◌<◌, ◌≤◌, Bool, true, false, List, [], ◌∷◌, ◌++◌, length, get_or, take, drop, encode_utf8, encode_utf8_all, IsUtf8, Option, Some, None, IfSome, refl, sym, ap, ◌∙◌, subst, arith, inl, inr, le-ltb, lt-ltb}
 use Rattle.std.specs.Int.{is_in_range}
 use Rattle.std.specs.List.{list_all, prefix_len}
 use Rattle.std.specs.Str.{IsCharBoundary, chars}
 use Rattle.std.proofs.Math.Seq.{drop-append_seam}
-use Rattle.std.proofs.lemmas.Bool.{cases_lt}
+use Rattle.std.proofs.lemmas.Bool.{and_parts, cases_lt}
 use Rattle.std.proofs.lemmas.Bool.Decides.{nat_tests}
 use Rattle.std.proofs.lemmas.List.{length-take-le, take-append-drop, drop-drop}
 use Rattle.std.proofs.lemmas.List.Sums.{prefix_len-le-length}
 use Rattle.std.proofs.lemmas.Str.{IsUtf8-drop, IsUtf8-from_ascii, IsCharBoundary-from_rest, IsCharBoundary-from_take, chars-append, chars-IsAscii, encode_ascii, encode_same, length-encode, len_utf8_bounds, IsUtf8-past_char, IsCharBoundary-at_seam, chars_past_char, encodes-chars}
 use lib.Utf8.{encode}
-use Rattle.ucd_table.specs.Rows.{Range, in_ranges}
-use Rattle.ucd_table.proofs.Facts.{Stepped-everywhere}
-use Rattle.ucd_table.proofs.Stepped.{of_ranges, zip_stepped}
-use Rattle.unicode_width.specs.declared.kind.Kind.{Kind}
-use Rattle.unicode_width.specs.declared.kind.Kind.TheVariants as kinds
-use Rattle.unicode_width.specs.Kind.{kind}
-use Rattle.unicode_width.specs.Width.{alone, of_kind, plain, step, past_emoji, read_before, str_width}
-use Rattle.unicode_width.proofs.WidthLemmas.{read_before-printable}
-use Rattle.unicode_width.proofs.Computing.{unicode_width}
-use Rattle.unicode_width.proofs.KindLemmas.{kind_stepped}
+use Rattle.unicode_width.specs.Width.{plain, step, read_before, str_width}
+use Rattle.papergrid_width.proofs.ColumnLemmas.{TakesColumns, TakesFew, by_brahmic, by_three, is_letter, of_accent, of_ascii, of_lam, of_lam_alef, of_letter, of_semitic, of_tab, of_two_columns}
 use Rattle.papergrid_width.proofs.PrintableLemmas.{ascii, front_printable, whole_printable}
-use Rattle.papergrid_width.specs.ForProofs.Simple.{IsPiece, ReadsPlainly, StartsSimple, TakesColumns, columns_of_three, is_letter_lead, is_one_column, is_two_columns}
-
--- ---- the columns of ranges
-
-abbrev takes_one : Kind → Bool
-takes_one kinds.Narrow = true
-takes_one kinds.Ambiguous = true
-takes_one _ = false
-
-abbrev takes_two : Kind → Bool
-takes_two kinds.Wide = true
-takes_two _ = false
-
-abbrev ones : List Range
-ones = (0xC0, 0x2FF) ∷ (0x380, 0x47F) ∷ (0x1E00, 0x1FFF) ∷ (0x2010, 0x2027) ∷ (0x2080, 0x20BF) ∷ (0x2100, 0x22FF) ∷ (0x2500, 0x25BF) ∷ []
-
-abbrev twos : List Range
-twos = (0x3000, 0x3029) ∷ (0x3041, 0x3096) ∷ (0x30A0, 0x30FF) ∷ (0x3400, 0x9FFF) ∷ (0xAC00, 0xD77F) ∷ (0xFF01, 0xFF3F) ∷ []
-
-ones_take_one : (c : ℕ) → (not (in_ranges ones c) || takes_one (kind c)) ≡ true
-unfolding unicode_width
-ones_take_one =
-    Stepped-everywhere (λ c. not (in_ranges ones c) || takes_one (kind c))
-    (zip_stepped (λ inside k. not inside || takes_one k) (in_ranges ones) kind (of_ranges ones refl) kind_stepped) refl
-
-twos_take_two : (c : ℕ) → (not (in_ranges twos c) || takes_two (kind c)) ≡ true
-unfolding unicode_width
-twos_take_two =
-    Stepped-everywhere (λ c. not (in_ranges twos c) || takes_two (kind c))
-    (zip_stepped (λ inside k. not inside || takes_two k) (in_ranges twos) kind (of_ranges twos refl) kind_stepped) refl
-
-of_one : (c : ℕ) (k : Kind) → takes_one k ≡ true → of_kind false c k ≡ (1, plain)
-of_one c kinds.Narrow h = refl
-of_one c kinds.Ambiguous h = refl
-of_one c kinds.Zero h = cc
-of_one c kinds.Wide h = cc
-of_one c kinds.Alef h = cc
-of_one c kinds.KhmerLetter h = cc
-of_one c kinds.TifinaghConsonant h = cc
-of_one c kinds.LisuTone h = cc
-of_one c kinds.RegionalIndicator h = cc
-of_one c kinds.EmojiModifier h = cc
-of_one c kinds.Emoji h = cc
-of_one c kinds.Single h = cc
-
-of_two : (c : ℕ) (k : Kind) → takes_two k ≡ true → of_kind false c k ≡ (2, plain)
-of_two c kinds.Wide h = refl
-of_two c kinds.Narrow h = cc
-of_two c kinds.Ambiguous h = cc
-of_two c kinds.Zero h = cc
-of_two c kinds.Alef h = cc
-of_two c kinds.KhmerLetter h = cc
-of_two c kinds.TifinaghConsonant h = cc
-of_two c kinds.LisuTone h = cc
-of_two c kinds.RegionalIndicator h = cc
-of_two c kinds.EmojiModifier h = cc
-of_two c kinds.Emoji h = cc
-of_two c kinds.Single h = cc
-
-by_own : (c columns : ℕ) → 0xA0 < c → alone false c ≡ (columns, plain) → TakesColumns c columns
-unfolding step past_emoji
-by_own c columns high own total = grind (arith, nat_tests)
-
-of_ascii : (c : ℕ) → is_in_range 0x20 0x7E c ≡ true → TakesColumns c 1
-unfolding step past_emoji
-of_ascii c h total = grind (arith, nat_tests)
-
-of_tab : TakesColumns 9 1
-unfolding step past_emoji
-of_tab total = refl
-
--- the letters of two bytes
-abbrev is_letter : ℕ → Bool
-is_letter c = is_in_range 0xC0 0x2FF c || is_in_range 0x380 0x47F c
-
-of_letter : (c : ℕ) → is_letter c ≡ true → TakesColumns c 1
-unfolding in_ranges alone
-of_letter c h =
-    let a = ones_take_one c in
-    let k : takes_one (kind c) ≡ true = grind (arith, nat_tests) in
-    by_own c 1 (grind (arith, nat_tests)) (of_one c (kind c) k)
-
-of_one_column : (c : ℕ) → is_one_column c ≡ true → TakesColumns c 1
-unfolding in_ranges alone
-of_one_column c h =
-    let a = ones_take_one c in
-    let k : takes_one (kind c) ≡ true = grind (arith, nat_tests) in
-    by_own c 1 (grind (arith, nat_tests)) (of_one c (kind c) k)
-
-of_two_columns : (c : ℕ) → is_two_columns c ≡ true → TakesColumns c 2
-unfolding in_ranges alone
-of_two_columns c h =
-    let a = twos_take_two c in
-    let k : takes_two (kind c) ≡ true = grind (arith, nat_tests) in
-    by_own c 2 (grind (arith, nat_tests)) (of_two c (kind c) k)
-
-chosen_columns : (two one : Bool) (columns : ℕ) → cond two (Some 2) (cond one (Some 1) None) ≡ Some columns → ((two ≡ true) × (columns ≡ 2)) ⊎ ((one ≡ true) × (columns ≡ 1))
-chosen_columns true one columns h = inl (refl, cc)
-chosen_columns false true columns h = inr (refl, cc)
-chosen_columns false false columns h = cc
+use Rattle.papergrid_width.specs.ForProofs.Simple.{BeginsWith, IsPiece, Plain, Reads, ReadsQuietly, columns_of_brahmic, columns_of_three, is_alef, is_semitic_letter, is_two_columns, may_join_lam}
 
 -- ---- what a text begins with
 
@@ -139,7 +32,7 @@ encode_four c low = rw (le-ltb c 128 (omega arith), le-ltb c 2048 (omega arith),
 -- the character, how many bytes it has, and what they are
 data Spelled (c : ℕ) (text : List ℕ) : Type 0 where
   One : c < 128 → length (encode_utf8 c) ≡ 1 → get_or text 0 0 ≡ c → Spelled c text
-  Two : 128 ≤ c → c < 2048 → length (encode_utf8 c) ≡ 2 → get_or text 0 0 ≡ 192 + c / 64 → Spelled c text
+  Two : 128 ≤ c → c < 2048 → length (encode_utf8 c) ≡ 2 → 2 ≤ length text → get_or text 0 0 ≡ 192 + c / 64 → get_or text 1 0 ≡ 128 + c % 64 → Spelled c text
   Three : 2048 ≤ c → c < 65536 → length (encode_utf8 c) ≡ 3 → 3 ≤ length text → get_or text 0 0 ≡ 224 + c / 4096 → get_or text 1 0 ≡ 128 + c / 64 % 64 → get_or text 2 0 ≡ 128 + c % 64 → Spelled c text
   Four : 65536 ≤ c → 240 ≤ get_or text 0 0 → Spelled c text
 
@@ -147,7 +40,11 @@ spells : (c : ℕ) (rest text : List ℕ) → text ≡ encode_utf8 c ++ rest →
 spells c rest text spelled = elim (cases_lt c 128) [
   | inl low ↦ let e = encode_ascii c low in let t = spelled ∙ ap (λ bs. bs ++ rest) e in One low (ap length e) (ap (λ bs. get_or bs 0 0) t)
   | inr past ↦ elim (cases_lt c 2048) [
-    | inl two ↦ let e = encode_two c past two in let t = spelled ∙ ap (λ bs. bs ++ rest) e in Two past two (ap length e) (ap (λ bs. get_or bs 0 0) t)
+    | inl two ↦
+        let e = encode_two c past two in
+        let t = spelled ∙ ap (λ bs. bs ++ rest) e in
+        let long : length text ≡ length rest + 2 = ap length t ∙ omega arith in
+        Two past two (ap length e) (omega arith) (ap (λ bs. get_or bs 0 0) t) (ap (λ bs. get_or bs 1 0) t)
     | inr more ↦ elim (cases_lt c 65536) [
       | inl three ↦
           let e = encode_three c more three in
@@ -178,54 +75,141 @@ begins_with text (c ∷ cs) is some = record { first = c; rest = encode_utf8_all
 begins : (text : List ℕ) → IsUtf8 text → 0 < length text → Begins text
 begins text utf8 some = begins_with text (chars text) (encodes-chars text utf8) some
 
-starts : (text rest : List ℕ) (c columns count : ℕ) → text ≡ encode_utf8 c ++ rest → length (encode_utf8 c) ≡ count → columns ≤ count → TakesColumns c columns → StartsSimple text columns count
-starts text rest c columns count spelled counted bound adds = record { first = c; rest = rest; spelled = spelled; counted = counted; adds = adds; bound = bound }
+-- ---- pieces
 
-pub starts_ascii : (text : List ℕ) → IsUtf8 text → 0 < length text → is_in_range 0x20 0x7E (get_or text 0 0) ≡ true → StartsSimple text 1 1
+past : (c : ℕ) (rest text : List ℕ) (count : ℕ) → text ≡ encode_utf8 c ++ rest → length (encode_utf8 c) ≡ count → drop count text ≡ rest
+past c rest text count spelled counted = ap (drop count) spelled ∙ ap (λ n. drop n (encode_utf8 c ++ rest)) (sym counted) ∙ drop-append_seam (encode_utf8 c) rest
+
+-- what is read of a text, by what is read of its characters
+reads_by : (text cs : List ℕ) (width : ℕ) → chars text ≡ cs → Reads (get_or cs 0 0) width (read_before false cs (0, plain)) → ReadsQuietly text width
+reads_by text cs width is reads = subst (λ cs. Reads (get_or cs 0 0) width (read_before false cs (0, plain))) (sym is) reads
+
+starts_by : (text rest : List ℕ) (c columns count : ℕ) → text ≡ encode_utf8 c ++ rest → IsUtf8 text → length (encode_utf8 c) ≡ count → columns ≤ count → ((n : ℕ) → ReadsQuietly rest n → ReadsQuietly text (columns + n)) → IsPiece text columns count
+starts_by text rest c columns count spelled utf8 counted bound reads =
+    let cut = past c rest text count spelled counted in
+    record {
+      boundary = subst (IsCharBoundary text) counted (IsCharBoundary-at_seam text (encode_utf8 c) rest spelled (IsUtf8-past_char text rest c utf8 spelled));
+      some = omega (arith, length-encode c, (len_utf8_bounds c).0);
+      bound = bound;
+      reads = λ n quietly. reads n (subst (λ bs. ReadsQuietly bs n) cut quietly);
+    }
+
+starts : (text rest : List ℕ) (c columns count : ℕ) → text ≡ encode_utf8 c ++ rest → IsUtf8 text → length (encode_utf8 c) ≡ count → columns ≤ count → TakesColumns c columns → IsPiece text columns count
+starts text rest c columns count spelled utf8 counted bound adds = starts_by text rest c columns count spelled utf8 counted bound more
+  where
+    more : (n : ℕ) → ReadsQuietly rest n → ReadsQuietly text (columns + n)
+    more n quietly =
+        let swap : n + columns ≡ columns + n = omega arith in
+        reads_by text (c ∷ chars rest) (columns + n) (chars_past_char text rest c utf8 spelled) (subst (λ n. Reads c n (step false c (read_before false (chars rest) (0, plain)))) swap (adds _ n _ quietly))
+
+pub starts_ascii : (text : List ℕ) → IsUtf8 text → 0 < length text → is_in_range 0x20 0x7E (get_or text 0 0) ≡ true → IsPiece text 1 1
 starts_ascii text utf8 some h =
     let b = begins text utf8 some in
     elim b.is [
-      | One low counted lead ↦ starts text b.rest b.first 1 1 b.spelled counted (omega arith) (of_ascii b.first (ap (is_in_range 0x20 0x7E) (sym lead) ∙ h))
-      | Two low high counted lead ↦ absurd (grind (arith, nat_tests))
+      | One low counted lead ↦ starts text b.rest b.first 1 1 b.spelled utf8 counted (omega arith) (of_ascii b.first (ap (is_in_range 0x20 0x7E) (sym lead) ∙ h))
+      | Two low high counted long lead second ↦ absurd (grind (arith, nat_tests))
       | Three low high counted long lead second third ↦ absurd (grind (arith, nat_tests))
       | Four low lead ↦ absurd (grind (arith, nat_tests))
     ]
 
-pub starts_tab : (text : List ℕ) → IsUtf8 text → 0 < length text → get_or text 0 0 ≡ 9 → StartsSimple text 1 1
+pub starts_tab : (text : List ℕ) → IsUtf8 text → 0 < length text → get_or text 0 0 ≡ 9 → IsPiece text 1 1
 starts_tab text utf8 some h =
     let b = begins text utf8 some in
     elim b.is [
-      | One low counted lead ↦ starts text b.rest b.first 1 1 b.spelled counted (omega arith) (subst (λ c. TakesColumns c 1) (sym h ∙ lead) of_tab)
-      | Two low high counted lead ↦ absurd (omega arith)
+      | One low counted lead ↦ starts text b.rest b.first 1 1 b.spelled utf8 counted (omega arith) (subst (λ c. TakesColumns c 1) (sym h ∙ lead) of_tab)
+      | Two low high counted long lead second ↦ absurd (omega arith)
       | Three low high counted long lead second third ↦ absurd (omega arith)
       | Four low lead ↦ absurd (omega arith)
     ]
 
-pub starts_letter : (text : List ℕ) → IsUtf8 text → 0 < length text → is_letter_lead (get_or text 0 0) ≡ true → StartsSimple text 1 2
-starts_letter text utf8 some h =
-    let b = begins text utf8 some in
+pub has_lead : (text : List ℕ) → is_in_range 0xC3 0xD1 (get_or text 0 0) ≡ true → 0 < length text
+has_lead [] h = absurd (grind (arith, nat_tests))
+has_lead (b ∷ bs) h = omega arith
+
+pub starts_letter : (text : List ℕ) → IsUtf8 text → is_in_range 0xC3 0xD1 (get_or text 0 0) ≡ true → is_in_range 0xCC 0xCD (get_or text 0 0) ≡ false → IsPiece text 1 2
+starts_letter text utf8 h apart =
+    let b = begins text utf8 (has_lead text h) in
     elim b.is [
       | One low counted lead ↦ absurd (grind (arith, nat_tests))
-      | Two low high counted lead ↦ starts text b.rest b.first 1 2 b.spelled counted (omega arith) (of_letter b.first (letter_of b.first (ap is_letter_lead (sym lead) ∙ h)))
+      | Two low high counted long lead second ↦
+          starts text b.rest b.first 1 2 b.spelled utf8 counted (omega arith) (of_letter b.first (letter_of b.first (ap (is_in_range 0xC3 0xD1) (sym lead) ∙ h) (ap (is_in_range 0xCC 0xCD) (sym lead) ∙ apart)))
       | Three low high counted long lead second third ↦ absurd (grind (arith, nat_tests))
       | Four low lead ↦ absurd (grind (arith, nat_tests))
     ]
   where
-    letter_of : (c : ℕ) → is_letter_lead (192 + c / 64) ≡ true → is_letter c ≡ true
-    letter_of c h = grind (arith, nat_tests)
+    letter_of : (c : ℕ) → is_in_range 0xC3 0xD1 (192 + c / 64) ≡ true → is_in_range 0xCC 0xCD (192 + c / 64) ≡ false → is_letter c ≡ true
+    letter_of c h apart = grind (arith, nat_tests)
 
-pub starts_ideograph : (text : List ℕ) → IsUtf8 text → 0 < length text → is_in_range 0xE4 0xE9 (get_or text 0 0) ≡ true → StartsSimple text 2 3
+pub starts_ideograph : (text : List ℕ) → IsUtf8 text → 0 < length text → is_in_range 0xE4 0xE9 (get_or text 0 0) ≡ true → IsPiece text 2 3
 starts_ideograph text utf8 some h =
     let b = begins text utf8 some in
     elim b.is [
       | One low counted lead ↦ absurd (grind (arith, nat_tests))
-      | Two low high counted lead ↦ absurd (grind (arith, nat_tests))
-      | Three low high counted long lead second third ↦ starts text b.rest b.first 2 3 b.spelled counted (omega arith) (of_two_columns b.first (ideograph_of b.first (ap (is_in_range 0xE4 0xE9) (sym lead) ∙ h)))
+      | Two low high counted long lead second ↦ absurd (grind (arith, nat_tests))
+      | Three low high counted long lead second third ↦ starts text b.rest b.first 2 3 b.spelled utf8 counted (omega arith) (of_two_columns b.first (ideograph_of b.first (ap (is_in_range 0xE4 0xE9) (sym lead) ∙ h)))
       | Four low lead ↦ absurd (grind (arith, nat_tests))
     ]
   where
     ideograph_of : (c : ℕ) → is_in_range 0xE4 0xE9 (224 + c / 4096) ≡ true → is_two_columns c ≡ true
     ideograph_of c h = grind (arith, nat_tests)
+
+-- ---- characters of two bytes
+
+pub record IsOfTwo (text : List ℕ) : Type 0 where
+  pub first : ℕ
+  pub rest : List ℕ
+  pub spelled : text ≡ encode_utf8 first ++ rest
+  pub counted : length (encode_utf8 first) ≡ 2
+  pub long : 2 ≤ length text
+  pub lead : get_or text 0 0 ≡ 192 + first / 64
+  pub second : get_or text 1 0 ≡ 128 + first % 64
+
+pub is_of_two : (text : List ℕ) → IsUtf8 text → is_in_range 0xC2 0xDF (get_or text 0 0) ≡ true → IsOfTwo text
+is_of_two text utf8 h =
+    let b = begins text utf8 (some text h) in
+    elim b.is [
+      | One low counted lead ↦ absurd (grind (arith, nat_tests))
+      | Two low high counted long lead second ↦ record { first = b.first; rest = b.rest; spelled = b.spelled; counted = counted; long = long; lead = lead; second = second }
+      | Three low high counted long lead second third ↦ absurd (grind (arith, nat_tests))
+      | Four low lead ↦ absurd (grind (arith, nat_tests))
+    ]
+  where
+    some : (text : List ℕ) → is_in_range 0xC2 0xDF (get_or text 0 0) ≡ true → 0 < length text
+    some [] h = absurd (grind (arith, nat_tests))
+    some (b ∷ bs) h = omega arith
+
+accent_is_of_two : (text : List ℕ) → IsUtf8 text → is_in_range 0xCC 0xCD (get_or text 0 0) ≡ true → IsOfTwo text
+accent_is_of_two text utf8 h = is_of_two text utf8 (accent_lead (get_or text 0 0) h)
+  where
+    accent_lead : (b : ℕ) → is_in_range 0xCC 0xCD b ≡ true → is_in_range 0xC2 0xDF b ≡ true
+    accent_lead b h = grind (arith, nat_tests)
+
+pub starts_accent : (text : List ℕ) (c : ℕ) → IsUtf8 text → is_in_range 0xCC 0xCD (get_or text 0 0) ≡ true → ((first : ℕ) (rest : List ℕ) → text ≡ encode_utf8 first ++ rest → c ≡ first) → c < 0x370 → IsPiece text 0 2
+starts_accent text c utf8 h is low =
+    let two = accent_is_of_two text utf8 h in
+    let same = is two.first two.rest two.spelled in
+    let lead = ap (is_in_range 0xCC 0xCD) (sym two.lead) ∙ h in
+    starts text two.rest two.first 0 2 two.spelled utf8 two.counted (omega arith) (of_accent two.first (within two.first lead (omega arith)))
+  where
+    within : (c : ℕ) → is_in_range 0xCC 0xCD (192 + c / 64) ≡ true → c < 0x370 → is_in_range 0x300 0x36F c ≡ true
+    within c h low = grind (arith, nat_tests)
+
+pub starts_greek : (text : List ℕ) (c : ℕ) → IsUtf8 text → is_in_range 0xCC 0xCD (get_or text 0 0) ≡ true → ((first : ℕ) (rest : List ℕ) → text ≡ encode_utf8 first ++ rest → c ≡ first) → 0x370 ≤ c → IsPiece text 1 2
+starts_greek text c utf8 h is high =
+    let two = accent_is_of_two text utf8 h in
+    let same = is two.first two.rest two.spelled in
+    let lead = ap (is_in_range 0xCC 0xCD) (sym two.lead) ∙ h in
+    starts text two.rest two.first 1 2 two.spelled utf8 two.counted (omega arith) (of_letter two.first (within two.first lead (omega arith)))
+  where
+    within : (c : ℕ) → is_in_range 0xCC 0xCD (192 + c / 64) ≡ true → 0x370 ≤ c → is_letter c ≡ true
+    within c h low = grind (arith, nat_tests)
+
+pub code_of_two : (text : List ℕ) (c : ℕ) (rest : List ℕ) → IsOfTwo text → text ≡ encode_utf8 c ++ rest → (get_or text 0 0 - 192) * 64 + (get_or text 1 0 - 128) ≡ c
+code_of_two text c rest two spelled =
+    let same = encode_same two.first c two.rest rest (sym two.spelled ∙ spelled) in
+    let lead = two.lead in
+    let second = two.second in
+    omega (arith, same.0)
 
 -- ---- characters of three bytes
 
@@ -245,42 +229,37 @@ is_of_three text utf8 some h =
     let b = begins text utf8 some in
     elim b.is [
       | One low counted lead ↦ absurd (grind (arith, nat_tests))
-      | Two low high counted lead ↦ absurd (grind (arith, nat_tests))
+      | Two low high counted long lead second ↦ absurd (grind (arith, nat_tests))
       | Three low high counted long lead second third ↦ record { first = b.first; rest = b.rest; spelled = b.spelled; counted = counted; long = long; small = high; lead = lead; second = second; third = third }
       | Four low lead ↦ absurd (grind (arith, nat_tests))
     ]
 
-starts_three : (text : List ℕ) (c columns : ℕ) → IsOfThree text → ((first : ℕ) (rest : List ℕ) → text ≡ encode_utf8 first ++ rest → c ≡ first) → columns_of_three c ≡ Some columns → StartsSimple text columns 3
-starts_three text c columns three is told =
+starts_three : (text : List ℕ) (c columns : ℕ) → IsUtf8 text → IsOfThree text → ((first : ℕ) (rest : List ℕ) → text ≡ encode_utf8 first ++ rest → c ≡ first) → TakesFew c columns → IsPiece text columns 3
+starts_three text c columns utf8 three is takes =
     let same : c ≡ three.first = is three.first three.rest three.spelled in
-    elim (chosen_columns (is_two_columns c) (is_one_column c) columns told) [
-      | inl two ↦ starts text three.rest three.first columns 3 three.spelled three.counted (omega (arith, two.1)) (subst (TakesColumns three.first) (sym two.1) (of_two_columns three.first (ap is_two_columns (sym same) ∙ two.0)))
-      | inr one ↦ starts text three.rest three.first columns 3 three.spelled three.counted (omega (arith, one.1)) (subst (TakesColumns three.first) (sym one.1) (of_one_column three.first (ap is_one_column (sym same) ∙ one.0)))
-    ]
+    starts text three.rest three.first columns 3 three.spelled utf8 three.counted takes.bound (subst (λ c. TakesColumns c columns) same takes.adds)
 
-pub if_starts_three : (text : List ℕ) (c : ℕ) (told : Option ℕ) → IsOfThree text → ((first : ℕ) (rest : List ℕ) → text ≡ encode_utf8 first ++ rest → c ≡ first) → told ≡ columns_of_three c → IfSome told (λ columns. StartsSimple text columns 3)
-if_starts_three text c None three is told = tt
-if_starts_three text c (Some columns) three is told = starts_three text c columns three is (sym told)
+if_starts_three : (text : List ℕ) (c : ℕ) (told : Option ℕ) → IsUtf8 text → IsOfThree text → ((first : ℕ) (rest : List ℕ) → text ≡ encode_utf8 first ++ rest → c ≡ first) → ((columns : ℕ) → told ≡ Some columns → TakesFew c columns) → IfSome told (λ columns. IsPiece text columns 3)
+if_starts_three text c None utf8 three is takes = tt
+if_starts_three text c (Some columns) utf8 three is takes = starts_three text c columns utf8 three is (takes columns refl)
+
+pub starts_long : (text : List ℕ) (c : ℕ) (told : Option ℕ) → IsUtf8 text → IsOfThree text → ((first : ℕ) (rest : List ℕ) → text ≡ encode_utf8 first ++ rest → c ≡ first) → told ≡ columns_of_three c → IfSome told (λ columns. IsPiece text columns 3)
+starts_long text c told utf8 three is by = if_starts_three text c told utf8 three is (λ columns some. by_three c columns (sym by ∙ some))
+
+pub starts_brahmic : (text : List ℕ) (c : ℕ) (told : Option ℕ) → IsUtf8 text → IsOfThree text → ((first : ℕ) (rest : List ℕ) → text ≡ encode_utf8 first ++ rest → c ≡ first) → told ≡ columns_of_brahmic c → IfSome told (λ columns. IsPiece text columns 3)
+starts_brahmic text c told utf8 three is by = if_starts_three text c told utf8 three is (λ columns some. by_brahmic c columns (sym by ∙ some))
 
 pub has_some : (text : List ℕ) → 0xE1 ≤ get_or text 0 0 → 0 < length text
 has_some [] h = absurd (omega arith)
 has_some (b ∷ bs) h = omega arith
 
+-- the first byte of Devanagari and Thai
+pub is_of_three_low : (text : List ℕ) → IsUtf8 text → get_or text 0 0 ≡ 0xE0 → IsOfThree text
+is_of_three_low [] utf8 h = absurd (omega (arith, h))
+is_of_three_low (b ∷ bs) utf8 h = is_of_three (b ∷ bs) utf8 (omega arith) (ap (is_in_range 0xE0 0xEF) h)
+
 pub is_three_lead : (b : ℕ) → 0xE1 ≤ b → b ≤ 0xEF → is_in_range 0xE0 0xEF b ≡ true
 is_three_lead b low high = grind (arith, nat_tests)
-
--- ---- a text of simple characters
-
--- what stands after the first one reads plainly, so the text does too
-pub reads_more : (text after : List ℕ) (columns count n : ℕ) → StartsSimple text columns count → IsUtf8 text → after ≡ drop count text → ReadsPlainly after n → ReadsPlainly text (columns + n)
-reads_more text after columns count n start utf8 is reads =
-    let cut : drop count text ≡ start.rest = past start.first start.rest text count start.spelled start.counted in
-    let plainly : ReadsPlainly start.rest n = subst (λ bs. ReadsPlainly bs n) (is ∙ cut) reads in
-    let swap : n + columns ≡ columns + n = omega arith in
-    ap (λ cs. read_before false cs (0, plain)) (chars_past_char text start.rest start.first utf8 start.spelled) ∙ ap (step false start.first) plainly ∙ start.adds n ∙ ap (λ n. (n, plain)) swap
-  where
-    past : (c : ℕ) (rest text : List ℕ) (count : ℕ) → text ≡ encode_utf8 c ++ rest → length (encode_utf8 c) ≡ count → drop count text ≡ rest
-    past c rest text count spelled counted = ap (drop count) spelled ∙ ap (λ n. drop n (encode_utf8 c ++ rest)) (sym counted) ∙ drop-append_seam (encode_utf8 c) rest
 
 pub code_of_three : (text : List ℕ) (c : ℕ) (rest : List ℕ) → IsOfThree text → text ≡ encode_utf8 c ++ rest → (get_or text 0 0 - 224) * 4096 + (get_or text 1 0 - 128) * 64 + (get_or text 2 0 - 128) ≡ c
 code_of_three text c rest three spelled =
@@ -290,38 +269,38 @@ code_of_three text c rest three spelled =
     let third = three.third in
     omega (arith, same.0)
 
--- the text may be cut after its first character, which has a byte
-pub cut_after : (text : List ℕ) (columns count : ℕ) → StartsSimple text columns count → IsUtf8 text → IsCharBoundary text count × (0 < count)
-cut_after text columns count start utf8 =
-    let counted = start.counted in (
-      subst (IsCharBoundary text) counted (IsCharBoundary-at_seam text (encode_utf8 start.first) start.rest start.spelled (IsUtf8-past_char text start.rest start.first utf8 start.spelled)),
-      omega (arith, length-encode start.first, (len_utf8_bounds start.first).0),
-    )
+-- ---- a text of simple characters
 
--- a printable front, and what reads plainly after it
-pub reads_past : (text : List ℕ) (n m : ℕ) → n ≤ length text → list_all (is_in_range 0x20 0x7E) (take n text) ≡ true → ReadsPlainly (drop n text) m → ReadsPlainly text (n + m)
+reads_printable : (bs cs : List ℕ) (m : ℕ) → list_all (is_in_range 0x20 0x7E) bs ≡ true → Reads (get_or cs 0 0) m (read_before false cs (0, plain)) → Reads (get_or (bs ++ cs) 0 0) (length bs + m) (read_before false (bs ++ cs) (0, plain))
+reads_printable [] cs m printable reads = let none : m ≡ 0 + m = omega arith in subst (λ m. Reads (get_or cs 0 0) m (read_before false cs (0, plain))) none reads
+reads_printable (b ∷ bs) cs m printable reads =
+    let parts = and_parts (is_in_range 0x20 0x7E b) (list_all (is_in_range 0x20 0x7E) bs) printable in
+    let sum : length bs + m + 1 ≡ length (b ∷ bs) + m = omega arith in
+    subst (λ m. Reads b m (read_before false (b ∷ (bs ++ cs)) (0, plain))) sum (of_ascii b parts.0 _ _ _ (reads_printable bs cs m parts.1 reads))
+
+-- a printable front, and what reads quietly after it
+pub reads_past : (text : List ℕ) (n m : ℕ) → n ≤ length text → list_all (is_in_range 0x20 0x7E) (take n text) ≡ true → ReadsQuietly (drop n text) m → ReadsQuietly text (n + m)
 reads_past text n m within printable reads =
     let is_ascii = ascii (take n text) printable in
     let cut : chars text ≡ take n text ++ chars (drop n text) =
     ap chars (sym (take-append-drop n text)) ∙ chars-append (take n text) (drop n text) (IsUtf8-from_ascii (take n text) is_ascii) ∙ ap (λ cs. cs ++ chars (drop n text)) (chars-IsAscii (take n text) is_ascii) in
-    let sum : m + length (take n text) ≡ n + m = omega (arith, length-take-le n text within) in
-    ap (λ cs. read_before false cs (0, plain)) cut ∙ sym (read_before-printable false (take n text) (chars (drop n text)) m printable (sym reads)) ∙ ap (λ n. (n, plain)) sum
+    reads_by text _ (n + m) cut (subst (λ k. Reads (get_or (take n text ++ chars (drop n text)) 0 0) (k + m) (read_before false (take n text ++ chars (drop n text)) (0, plain))) (length-take-le n text within) (reads_printable (take n text) (chars (drop n text)) m printable reads))
 
 -- the text may be cut there
 pub cut_past : (text : List ℕ) (n : ℕ) → IsUtf8 text → n ≤ length text → list_all (is_in_range 0x20 0x7E) (take n text) ≡ true → IsCharBoundary text n
 cut_past text n utf8 within printable = IsCharBoundary-from_take text n utf8 within (IsUtf8-from_ascii (take n text) (ascii (take n text) printable))
 
-pub reads_nothing : ReadsPlainly [] 0
+pub reads_nothing : ReadsQuietly [] 0
 unfolding chars
-reads_nothing = refl
+reads_nothing = record { counted = refl; quiet = Plain refl }
 
-pub width_of_plain : (text : List ℕ) (width : ℕ) → ReadsPlainly text width → width ≡ str_width false (chars text)
+pub width_of_quiet : (text : List ℕ) (width : ℕ) → ReadsQuietly text width → width ≡ str_width false (chars text)
 unfolding str_width
-width_of_plain text width reads = sym (ap (λ r. r.0) reads)
+width_of_quiet text width reads = sym reads.counted
 
 -- ---- with the printable ASCII that follows
 
-pub reads_run : (text : List ℕ) (n m : ℕ) → n ≡ prefix_len (is_in_range 0x20 0x7E) text → ReadsPlainly (drop n text) m → ReadsPlainly text (n + m)
+pub reads_run : (text : List ℕ) (n m : ℕ) → n ≡ prefix_len (is_in_range 0x20 0x7E) text → ReadsQuietly (drop n text) m → ReadsQuietly text (n + m)
 reads_run text n m is =
     let bound = prefix_len-le-length (is_in_range 0x20 0x7E) text in
     reads_past text n m (omega arith) (subst (λ k. list_all (is_in_range 0x20 0x7E) (take k text) ≡ true) (sym is) (front_printable text))
@@ -331,20 +310,110 @@ cut_run text n utf8 is =
     let bound = prefix_len-le-length (is_in_range 0x20 0x7E) text in
     cut_past text n utf8 (omega arith) (subst (λ k. list_all (is_in_range 0x20 0x7E) (take k text) ≡ true) (sym is) (front_printable text))
 
-pub piece : (text after : List ℕ) (columns count run : ℕ) → StartsSimple text columns count → IsUtf8 text → after ≡ drop count text → run ≡ prefix_len (is_in_range 0x20 0x7E) after → IsPiece text (columns + run) (count + run)
-piece text after columns count run start utf8 is counted =
-    let cut = cut_after text columns count start utf8 in
-    let bound = start.bound in
+pub piece : (text after : List ℕ) (columns count run : ℕ) → IsPiece text columns count → IsUtf8 text → after ≡ drop count text → run ≡ prefix_len (is_in_range 0x20 0x7E) after → IsPiece text (columns + run) (count + run)
+piece text after columns count run first utf8 is counted =
+    let bound = first.bound in
     let counted_there : run ≡ prefix_len (is_in_range 0x20 0x7E) (drop count text) = counted ∙ ap (prefix_len (is_in_range 0x20 0x7E)) is in
-    let past = cut_run (drop count text) run (IsUtf8-drop text count utf8 cut.0) counted_there in
+    let past_run = cut_run (drop count text) run (IsUtf8-drop text count utf8 first.boundary) counted_there in
     let sum : (n : ℕ) → columns + (run + n) ≡ columns + run + n = λ n. omega arith in
     record {
-      boundary = IsCharBoundary-from_rest text count run cut.0.0 past;
-      some = omega (arith, cut.1);
+      boundary = IsCharBoundary-from_rest text count run first.boundary.0 past_run;
+      some = omega (arith, first.some);
       bound = omega arith;
-      reads = λ n plainly. subst (ReadsPlainly text) (sum n)
-          (reads_more text (drop count text) columns count (run + n) start utf8 refl (reads_run (drop count text) run n counted_there (subst (λ bs. ReadsPlainly bs n) (sym (drop-drop run count text)) plainly)));
+      reads = λ n quietly. subst (ReadsQuietly text) (sum n)
+          (first.reads (run + n) (reads_run (drop count text) run n counted_there (subst (λ bs. ReadsQuietly bs n) (sym (drop-drop run count text)) quietly)));
     }
+
+-- ---- letters of Hebrew and Arabic
+
+pub semitic_is_of_two : (text : List ℕ) → IsUtf8 text → is_in_range 0xD7 0xD9 (get_or text 0 0) ≡ true → IsOfTwo text
+semitic_is_of_two text utf8 h = is_of_two text utf8 (semitic_lead (get_or text 0 0) h)
+  where
+    semitic_lead : (b : ℕ) → is_in_range 0xD7 0xD9 b ≡ true → is_in_range 0xC2 0xDF b ≡ true
+    semitic_lead b h = grind (arith, nat_tests)
+
+pub starts_semitic : (text : List ℕ) (c : ℕ) → IsUtf8 text → is_in_range 0xD7 0xD9 (get_or text 0 0) ≡ true → ((first : ℕ) (rest : List ℕ) → text ≡ encode_utf8 first ++ rest → c ≡ first) → c ≢ 0x644 → is_semitic_letter c ≡ true → IsPiece text 1 2
+starts_semitic text c utf8 h is unlike letter =
+    let two = semitic_is_of_two text utf8 h in
+    starts text two.rest two.first 1 2 two.spelled utf8 two.counted (omega arith) (subst (λ c. TakesColumns c 1) (is two.first two.rest two.spelled) (of_semitic c letter unlike))
+
+pub begins_with_lam : (text : List ℕ) (c : ℕ) → IsUtf8 text → is_in_range 0xD7 0xD9 (get_or text 0 0) ≡ true → ((first : ℕ) (rest : List ℕ) → text ≡ encode_utf8 first ++ rest → c ≡ first) → c ≡ 0x644 → BeginsWith text 0x644
+begins_with_lam text c utf8 h is lam =
+    let two = semitic_is_of_two text utf8 h in
+    (two.rest, two.spelled ∙ ap (λ c. encode_utf8 c ++ two.rest) (sym (is two.first two.rest two.spelled) ∙ lam))
+
+two_bytes : length (encode_utf8 0x644) ≡ 2
+unfolding encode_utf8
+two_bytes = refl
+
+after_lam : (text : List ℕ) (lam : BeginsWith text 0x644) → drop 2 text ≡ lam.0
+after_lam text lam = past 0x644 lam.0 text 2 lam.1 two_bytes
+
+pub cut_lam : (text : List ℕ) → IsUtf8 text → BeginsWith text 0x644 → IsCharBoundary text 2
+cut_lam text utf8 lam = subst (IsCharBoundary text) two_bytes (IsCharBoundary-at_seam text (encode_utf8 0x644) lam.0 lam.1 (IsUtf8-past_char text lam.0 0x644 utf8 lam.1))
+
+-- a lam before what it cannot join
+lam_alone : (text after : List ℕ) → IsUtf8 text → BeginsWith text 0x644 → after ≡ drop 2 text → may_join_lam (get_or (chars after) 0 0) ≡ false → IsPiece text 1 2
+lam_alone text after utf8 lam is apart = starts_by text lam.0 0x644 1 2 lam.1 utf8 two_bytes (omega arith) more
+  where
+    apart_there : may_join_lam (get_or (chars lam.0) 0 0) ≡ false
+    apart_there = subst (λ bs. may_join_lam (get_or (chars bs) 0 0) ≡ false) (is ∙ after_lam text lam) apart
+
+    more : (n : ℕ) → ReadsQuietly lam.0 n → ReadsQuietly text (1 + n)
+    more n quietly =
+        let swap : n + 1 ≡ 1 + n = omega arith in
+        reads_by text (0x644 ∷ chars lam.0) (1 + n) (chars_past_char text lam.0 0x644 utf8 lam.1) (subst (λ n. Reads 0x644 n (step false 0x644 (read_before false (chars lam.0) (0, plain)))) swap (of_lam _ n _ apart_there quietly))
+
+-- the first character of a text that begins with a byte of ASCII, or of none, is no more
+first_is_low : (text : List ℕ) → IsUtf8 text → get_or text 0 0 < 0x80 → get_or (chars text) 0 0 < 0x80
+unfolding chars
+first_is_low [] utf8 low = omega arith
+first_is_low (b ∷ bs) utf8 low =
+    let start = begins (b ∷ bs) utf8 (omega arith) in
+    let first : get_or (chars (b ∷ bs)) 0 0 ≡ start.first = ap (λ cs. get_or cs 0 0) (chars_past_char (b ∷ bs) start.rest start.first utf8 start.spelled) in
+    elim start.is [
+      | One small counted lead ↦ omega (arith, first, small)
+      | Two small high counted long lead second ↦ absurd (omega (arith, lead))
+      | Three small high counted long lead second third ↦ absurd (omega (arith, lead))
+      | Four small lead ↦ absurd (omega (arith, lead))
+    ]
+
+pub lam_at_end : (text after : List ℕ) → IsUtf8 text → BeginsWith text 0x644 → after ≡ drop 2 text → IsUtf8 after → get_or after 0 0 < 0x80 → IsPiece text 1 2
+lam_at_end text after utf8 lam is utf8_after low = lam_alone text after utf8 lam is (apart_from _ (first_is_low after utf8_after low))
+  where
+    apart_from : (c : ℕ) → c < 0x80 → may_join_lam c ≡ false
+    apart_from c low = grind (arith, nat_tests)
+
+pub lam_in_word : (text after : List ℕ) (next : ℕ) → IsUtf8 text → BeginsWith text 0x644 → after ≡ drop 2 text → IsUtf8 after → is_in_range 0xD7 0xD9 (get_or after 0 0) ≡ true → ((first : ℕ) (rest : List ℕ) → after ≡ encode_utf8 first ++ rest → next ≡ first) → is_alef next ≡ false → is_semitic_letter next ≡ true → IsPiece text 1 2
+lam_in_word text after next utf8 lam is utf8_after h same unlike letter =
+    let two = semitic_is_of_two after utf8_after h in
+    let first : get_or (chars after) 0 0 ≡ next = ap (λ cs. get_or cs 0 0) (chars_past_char after two.rest two.first utf8_after two.spelled) ∙ sym (same two.first two.rest two.spelled) in
+    lam_alone text after utf8 lam is (ap may_join_lam first ∙ apart_from next unlike letter)
+  where
+    apart_from : (c : ℕ) → is_alef c ≡ false → is_semitic_letter c ≡ true → may_join_lam c ≡ false
+    apart_from c unlike letter = grind (arith, nat_tests)
+
+pub lam_and_alef : (text after : List ℕ) (next : ℕ) → IsUtf8 text → BeginsWith text 0x644 → after ≡ drop 2 text → IsUtf8 after → is_in_range 0xD7 0xD9 (get_or after 0 0) ≡ true → ((first : ℕ) (rest : List ℕ) → after ≡ encode_utf8 first ++ rest → next ≡ first) → is_alef next ≡ true → IsPiece text 1 4
+lam_and_alef text after next utf8 lam is utf8_after h same alef =
+    let two = semitic_is_of_two after utf8_after h in
+    let known : is_alef two.first ≡ true = ap is_alef (sym (same two.first two.rest two.spelled)) ∙ alef in
+    let cut : drop 4 text ≡ two.rest = sym (drop-drop 2 2 text) ∙ ap (drop 2) (sym is) ∙ past two.first two.rest after 2 two.spelled two.counted in
+    let spelled : lam.0 ≡ encode_utf8 two.first ++ two.rest = sym (is ∙ after_lam text lam) ∙ two.spelled in
+    let utf8_there : IsUtf8 lam.0 = subst IsUtf8 (is ∙ after_lam text lam) utf8_after in
+    let there : IsCharBoundary after 2 = subst (IsCharBoundary after) two.counted (IsCharBoundary-at_seam after (encode_utf8 two.first) two.rest two.spelled (IsUtf8-past_char after two.rest two.first utf8_after two.spelled)) in
+    let both : chars text ≡ 0x644 ∷ two.first ∷ chars two.rest =
+    chars_past_char text lam.0 0x644 utf8 lam.1 ∙ ap (λ cs. 0x644 ∷ cs) (chars_past_char lam.0 two.rest two.first utf8_there spelled) in
+    record {
+      boundary = IsCharBoundary-from_rest text 2 2 (cut_lam text utf8 lam).0 (subst (λ bs. IsCharBoundary bs 2) is there);
+      some = omega arith;
+      bound = omega arith;
+      reads = λ n quietly. more two.first two.rest n known both (subst (λ bs. ReadsQuietly bs n) cut quietly);
+    }
+  where
+    more : (c : ℕ) (rest : List ℕ) (n : ℕ) → is_alef c ≡ true → chars text ≡ 0x644 ∷ c ∷ chars rest → ReadsQuietly rest n → ReadsQuietly text (1 + n)
+    more c rest n known both quietly =
+        let swap : n + 1 ≡ 1 + n = omega arith in
+        reads_by text (0x644 ∷ c ∷ chars rest) (1 + n) both (subst (λ n. Reads 0x644 n (step false 0x644 (step false c (read_before false (chars rest) (0, plain))))) swap (of_lam_alef c _ n _ known quietly))
 
 -- a front that was counted whole is printable
 pub front_is_printable : (text bytes : List ℕ) (from k n : ℕ) → n ≡ prefix_len (is_in_range 0x20 0x7E) (take k bytes) → k ≡ from → bytes ≡ text → from ≤ n → from ≤ length text → list_all (is_in_range 0x20 0x7E) (take from text) ≡ true

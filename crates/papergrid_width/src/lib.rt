@@ -1,8 +1,9 @@
 //! How many columns of a terminal a text takes, as `unicode_width` counts them.
 //!
 //! A text of printable ASCII is as wide as it is long, and in a text of simple characters each has one column or
-//! two. The width of a text of emoji is found by the few rules that such a text needs. Every other text is
-//! measured by `unicode_width`, a long one without its runs of printable ASCII.
+//! two, or none as marks do, and an Arabic lam has one with the alef after it. The width of a text of emoji is
+//! found by the few rules that such a text needs. Every other text is measured by `unicode_width`, a long one
+//! without its runs of printable ASCII.
 #![tactic(auto)]
 
 ghost use Rattle.std.specs.Prelude.{◌≡◌, ◌+◌, chars, false, get_or};

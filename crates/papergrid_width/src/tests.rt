@@ -39,7 +39,7 @@ fn letters_and_runs_of_ascii_add_up(rt: HostRuntime) {
 }
 
 // Texts of simple characters, short and long, and texts that begin like them and have another character: an
-// accent apart, an emoji, a sound mark apart, a form of half the width.
+// emoji, a sound mark apart, a form of half the width.
 const SIMPLE: [(&str, usize); 16] = [
     ("don’t", 5),
     ("“x” — y…", 8),
@@ -64,6 +64,89 @@ fn simple_characters_add_up(rt: HostRuntime) {
     for (text, columns) in SIMPLE {
         assert_eq!(rt; width(text), columns);
         assert_eq!(rt; width_by_characters(text, 1), columns);
+    }
+}
+
+// Letters of Thai and Devanagari take a column each, and so do vowels beside them; marks above and below take
+// none. The last four have other characters: of Lao, an emoji, of Bengali, a joiner.
+const MARKED: [(&str, usize); 11] = [
+    ("สวัสดี", 4),
+    ("ภาษาไทย", 7),
+    ("नमस्ते", 4),
+    ("हिन्दी", 5),
+    ("ราคา 12 ฿", 9),
+    ("ยินดีต้อนรับสู่ประเทศไทย", 18),
+    ("सभी मनुष्यों को गौरव और अधिकार", 27),
+    ("ไทยລາວ", 6),
+    ("ไทย 👍", 6),
+    ("বাংলা", 3),
+    ("क्\u{200D}ष", 2),
+];
+
+// Accents apart take no column, and Greek letters beside them one. The last three have other characters: a
+// selector, a letter of Armenian, a joiner.
+const ACCENTED: [(&str, usize); 11] = [
+    ("e\u{301}", 1),
+    ("\u{301}", 0),
+    ("cafe\u{301}s", 5),
+    ("a\u{300}e\u{36F}", 2),
+    ("x\u{338}", 1),
+    ("\u{370}\u{37F}", 2),
+    ("か\u{301}", 2),
+    ("the cafe\u{301} on the corner by the river", 35),
+    ("1\u{301}\u{FE0F}", 1),
+    ("e\u{301}ա", 2),
+    ("e\u{301}\u{200D}e\u{301}", 2),
+];
+
+#[test]
+fn accents_take_no_column(rt: HostRuntime) {
+    for (text, columns) in ACCENTED {
+        assert_eq!(rt; width(text), columns);
+        assert_eq!(rt; width_by_characters(text, 0), columns);
+    }
+}
+
+#[test]
+fn marks_take_no_column(rt: HostRuntime) {
+    for (text, columns) in MARKED {
+        assert_eq!(rt; width(text), columns);
+        assert_eq!(rt; width_by_characters(text, 0), columns);
+    }
+}
+
+// Letters of Hebrew and Arabic take a column each, but a lam and the alef after it one together, also with a mark
+// between them. The last five have other characters: marks of Arabic, a comma of it, an emoji, a joiner, with which
+// alef and lamed make one.
+const SEMITIC: [(&str, usize); 21] = [
+    ("שלום", 4),
+    ("של", 2),
+    ("أب", 2),
+    ("لا", 1),
+    ("سلام", 3),
+    ("السلام عليكم", 11),
+    ("لآلئ", 3),
+    ("ليل", 3),
+    ("لل لا", 4),
+    ("abc שלום لا xyz", 14),
+    ("مرحبا بالعالم في كل مكان من الأرض", 32),
+    ("שלום עולם ולכל מי שגר בו היום", 29),
+    ("ب\u{300}ا", 2),
+    ("ل\u{300}ا", 1),
+    ("ل\u{E31}ا", 1),
+    ("سل\u{300}م", 3),
+    ("لَا", 1),
+    ("كلّ", 2),
+    ("كتاب، لا", 7),
+    ("لا👍", 3),
+    ("א\u{200D}ל", 1),
+];
+
+#[test]
+fn letters_of_hebrew_and_arabic_add_up(rt: HostRuntime) {
+    for (text, columns) in SEMITIC {
+        assert_eq!(rt; width(text), columns);
+        assert_eq!(rt; width_by_characters(text, 0), columns);
     }
 }
 

@@ -1,6 +1,6 @@
 use Rattle.std.proofs.Common.{◌≡◌, ◌+◌, ℕ, subst, sym, ap, arith, length}
 use Rattle.std.proofs.lemmas.List.{nil_from_length, length-drop}
-use Rattle.papergrid_width.specs.ForProofs.Simple.{ReadsPlainly}
+use Rattle.papergrid_width.specs.ForProofs.Simple.{ReadsQuietly}
 use Rattle.papergrid_width.proofs.SimpleLemmas.{cut_run, reads_run, reads_nothing}
 use Rattle.papergrid_width.proofs.simple.long_simple_width.Goals as goal
 
@@ -14,7 +14,7 @@ loop-rest-init c =
     let rest = ap length c.range_from-rest.ensures.value in
     record {
       text = c.range_from-rest.utf8;
-      reads = λ n plainly. reads_run c.args.text.now c.count_printable-run.result n c.count_printable-run.ensures (subst (λ bs. ReadsPlainly bs n) c.range_from-rest.ensures.value plainly);
+      reads = λ n quietly. reads_run c.args.text.now c.count_printable-run.result n c.count_printable-run.ensures (subst (λ bs. ReadsQuietly bs n) c.range_from-rest.ensures.value quietly);
       room = omega (arith, cut.0);
     }
 
@@ -38,7 +38,7 @@ loop-rest-preserved c =
     let sum : (n : ℕ) → c.loop-rest.width + (c.in_ok-columns.columns + n) ≡ c.loop-rest.width + c.in_ok-columns.columns + n = λ n. omega arith in
     record {
       text = c.range_from-rest-in-loop-rest.utf8;
-      reads = λ n plainly. subst (ReadsPlainly c.args.text.now) (sum n) (c.loop-rest.invariant.reads _ (piece.reads n (subst (λ bs. ReadsPlainly bs n) c.range_from-rest-in-loop-rest.ensures.value plainly)));
+      reads = λ n quietly. subst (ReadsQuietly c.args.text.now) (sum n) (c.loop-rest.invariant.reads _ (piece.reads n (subst (λ bs. ReadsQuietly bs n) c.range_from-rest-in-loop-rest.ensures.value quietly)));
       room = omega (arith, piece.boundary.0);
     }
 
@@ -46,4 +46,4 @@ pub returns-clause-value : goal.returns-clause-value
 returns-clause-value c =
     let none = nil_from_length c.loop-rest.rest.now (omega arith) in
     let whole : c.loop-rest.width + 0 ≡ c.loop-rest.width = omega arith in
-    subst (ReadsPlainly c.args.text.now) whole (c.loop-rest.invariant.reads 0 (subst (λ bs. ReadsPlainly bs 0) (sym none) reads_nothing))
+    subst (ReadsQuietly c.args.text.now) whole (c.loop-rest.invariant.reads 0 (subst (λ bs. ReadsQuietly bs 0) (sym none) reads_nothing))

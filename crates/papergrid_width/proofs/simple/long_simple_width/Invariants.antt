@@ -1,11 +1,11 @@
 use Rattle.std.proofs.Common.{◌+◌, ◌≤◌, ℕ, IsUtf8, length}
-use Rattle.papergrid_width.specs.ForProofs.Simple.{ReadsPlainly}
+use Rattle.papergrid_width.specs.ForProofs.Simple.{ReadsQuietly}
 use Rattle.papergrid_width.proofs.simple.long_simple_width.Given as goal
 
 abbrev pub invariant-loop-rest : goal.invariant-loop-rest
 invariant-loop-rest l = record {
   text : IsUtf8 l.rest;
-  reads : (n : ℕ) → ReadsPlainly l.rest n → ReadsPlainly l.text (l.width + n);
+  reads : (n : ℕ) → ReadsQuietly l.rest n → ReadsQuietly l.text (l.width + n);
   room : l.width + length l.rest ≤ length l.text;
 }
 

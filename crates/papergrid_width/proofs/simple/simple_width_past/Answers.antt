@@ -1,5 +1,5 @@
 use Rattle.std.proofs.Common.{subst}
-use Rattle.papergrid_width.specs.ForProofs.Simple.{ReadsPlainly}
+use Rattle.papergrid_width.specs.ForProofs.Simple.{ReadsQuietly}
 use Rattle.papergrid_width.proofs.SimpleLemmas.{cut_past, reads_past}
 use Rattle.papergrid_width.proofs.simple.simple_width_past.Goals as goal
 
@@ -11,4 +11,4 @@ range_from-requires c =
 pub returns-clause-value : goal.returns-clause-value
 returns-clause-value c =
     let front = c.has_printable_front.ensures c.if-not-has_printable_front.false in
-    reads_past c.args.text.now c.args.from _ front.within front.printable (subst (λ bs. ReadsPlainly bs c.in_ok-rest.rest) c.range_from.ensures.value c.in_ok-rest.ensures.value)
+    reads_past c.args.text.now c.args.from _ front.within front.printable (subst (λ bs. ReadsQuietly bs c.in_ok-rest.rest) c.range_from.ensures.value c.in_ok-rest.ensures.value)
