@@ -1,8 +1,8 @@
 -- From the mask of one load of bytes to how many of them pass a test, from the front on.
-use Rattle.std.proofs.Common.{◌≡◌, ◌+◌, ◌-◌, ◌<◌, ◌≤◌, ◌%◌, ◌^◌, ℕ, zero, suc, List, [], ◌∷◌, Bool, true, false, not, cond, map, length, take, drop, get_or, Fits, w8, refl, ap, ap₂, sym, subst, ◌∙◌, arith}
+use Rattle.std.proofs.Common.{◌≡◌, ◌+◌, ◌<◌, ◌≤◌, ◌%◌, ◌^◌, ℕ, zero, suc, List, [], ◌∷◌, Bool, true, false, not, cond, map, length, drop, get_or, Fits, w8, refl, ap, ap₂, sym, subst, ◌∙◌, arith}
 use Rattle.std.specs.List.{prefix_len}
 use Rattle.std.proofs.lemmas.Bool.{agree_below, agree_below_at, cond-true, cond-false, eq-eqb, ne_eqb}
-use Rattle.std.proofs.lemmas.List.{length-map, length-take, length-drop, take_all, take-append-drop, drop-drop}
+use Rattle.std.proofs.lemmas.List.{length-map, length-drop, take_all, take-append-drop, drop-drop}
 use Rattle.std.proofs.lemmas.List.Folds.{prefix_len-append}
 use Rattle.std.proofs.lemmas.List.Sums.{prefix_len-le-length}
 use Rattle.std.proofs.lemmas.Simd.{map-map, mask_l-mod, length-chunk, chunk-fits, below_from_Fits, leading_from_mask_l, trailing_mask_l}
@@ -56,18 +56,11 @@ counted_on q bytes i n r room is all =
     )
 
 -- so where i bytes passed, those of the load pass too
-pub counted_more : (q : ℕ → Bool) (bytes : List ℕ) (i n r : ℕ) → i + n ≤ length bytes → r ≡ prefix_len q (chunk i n bytes) → n ≤ r → i + prefix_len q (drop i bytes) ≡ prefix_len q bytes →
+counted_more : (q : ℕ → Bool) (bytes : List ℕ) (i n r : ℕ) → i + n ≤ length bytes → r ≡ prefix_len q (chunk i n bytes) → n ≤ r → i + prefix_len q (drop i bytes) ≡ prefix_len q bytes →
     (i + r ≤ length bytes) × (i + r + prefix_len q (drop (i + r) bytes) ≡ prefix_len q bytes)
 counted_more q bytes i n r room is all so_far =
     let on = counted_on q bytes i n r room is all in
     (omega (arith, on.0), omega (arith, on.1))
-
--- i bytes, and those after them that pass, are bytes of the text
-pub counted_within : (q : ℕ → Bool) (bytes : List ℕ) (i : ℕ) → i ≤ length bytes → i + prefix_len q (take (length bytes - i) (drop i bytes)) ≤ length bytes
-counted_within q bytes i within =
-    let bound = prefix_len-le-length q (take (length bytes - i) (drop i bytes)) in
-    let long = length-take (length bytes - i) (drop i bytes) in
-    omega arith
 
 -- the same by the length of the load
 pub counted_past : (q : ℕ → Bool) (bytes : List ℕ) (i n r : ℕ) → i + n ≤ length bytes → r ≡ prefix_len q (chunk i n bytes) → n ≤ r → i + prefix_len q (drop i bytes) ≡ prefix_len q bytes → i + n + prefix_len q (drop (i + n) bytes) ≡ prefix_len q bytes
