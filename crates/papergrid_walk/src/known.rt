@@ -1,7 +1,7 @@
 //! The paddings of cells that come by row and then by column: what is set for a column or a row is
 //! looked up once.
 
-ghost use Rattle.std.specs.Prelude.{◌≡◌, IfOk, false};
+ghost use Rattle.std.specs.Prelude.{◌≡◌, IfOk, OnOk, false};
 ghost use Rattle.papergrid_values.specs.declared.entity.Entity.TheVariants.{Cell, Column};
 ghost use Rattle.papergrid_walk.specs.ForProofs.Paddings.{Knows, TellsOwn, paddings_at, set_in_row};
 
@@ -67,36 +67,35 @@ impl KnownPaddings {
         ensures knows { IfOk result (λ _. Knows (S.look settings.now) (S.set_for settings.now) self.new) }
     {
         if !self.are_common {
-            self.last = self.decided(settings, position)?;
+            self.decide(settings, position)?;
         }
         Ok(self.last)
     }
 
-    /// The paddings that are set for the cell, else for its column, its row or the whole table.
+    /// Keeps the paddings that are set for the cell, else for its column, its row or the whole table.
     // Out of line, so that the code for cells that are alike stays small.
     #[inline(never)]
-    fn decided<S: Settings>(
-        &mut self,
-        settings: &S,
-        position: Position,
-    ) -> Result<Paddings, AllocError>
+    fn decide<S: Settings>(&mut self, settings: &S, position: Position) -> Result<(), AllocError>
         requires apart { self.old.are_common ≡ false }
         requires knows { Knows (S.look settings.now) (S.set_for settings.now) self.old }
-        ensures value { IfOk result (λ paddings. paddings ≡ paddings_at (S.look settings.now) position) }
-        ensures knows { IfOk result (λ _. Knows (S.look settings.now) (S.set_for settings.now) self.new) }
+        ensures value { OnOk result (self.new.last ≡ paddings_at (S.look settings.now) position) }
+        ensures knows { OnOk result (Knows (S.look settings.now) (S.set_for settings.now) self.new) }
     {
         let Position { row, col } = position;
         if let Some(paddings) = self.of_cell(settings, position) {
-            return Ok(paddings);
+            self.last = paddings;
+            return Ok(());
         }
         if let Some(paddings) = self.in_column(settings, col)? {
-            return Ok(paddings);
+            self.last = paddings;
+            return Ok(());
         }
         if self.row != row {
             self.row = row;
             self.in_row = set_in_row(settings, row);
         }
-        Ok(self.in_row)
+        self.last = self.in_row;
+        Ok(())
     }
 
     /// What is set for a cell. Most cells have nothing, and are not looked up.

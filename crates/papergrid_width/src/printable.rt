@@ -28,9 +28,9 @@ pub(crate) fn count_printable_bytes(bytes: &[u8]) -> usize
     if bytes.len() >= 16 {
         count_by_sixteens(bytes)
     } else if bytes.len() >= 8 {
-        count_by_eights(bytes)
+        count_by_two_loads::<8>(bytes)
     } else if bytes.len() >= 4 {
-        count_by_fours(bytes)
+        count_by_two_loads::<4>(bytes)
     } else {
         count_one_by_one(bytes)
     }
@@ -45,39 +45,31 @@ fn count_by_sixteens(bytes: &[u8]) -> usize
     let last = bytes.len() - 16;
     let mut count = 0usize;
     while count < last {
-        let run = count_in_sixteen(bytes, count);
+        let run = count_in_load::<16>(bytes, count);
         if run < 16 {
             return count + run;
         }
         count += 16;
     }
-    last + count_in_sixteen(bytes, last)
+    last + count_in_load::<16>(bytes, last)
 }
 
-fn count_by_eights(bytes: &[u8]) -> usize
-    requires least { 8 ≤ length bytes.now }
-    requires most { length bytes.now ≤ 16 }
+fn count_by_two_loads<const N: usize>(bytes: &[u8]) -> usize
+    requires least { N ≤ length bytes.now }
+    requires most { length bytes.now ≤ N + N }
+    requires few { N ≤ 64 }
     ensures { result ≡ prefix_len (is_in_range 0x20 0x7E) bytes.now }
 {
-    let run = count_in_eight(bytes, 0);
-    if run < 8 {
+    let last = bytes.len() - N;
+    // Most texts are printable.
+    if is_printable_load::<N>(bytes, 0) && is_printable_load::<N>(bytes, last) {
+        return bytes.len();
+    }
+    let run = count_in_load::<N>(bytes, 0);
+    if run < N {
         return run;
     }
-    let last = bytes.len() - 8;
-    last + count_in_eight(bytes, last)
-}
-
-fn count_by_fours(bytes: &[u8]) -> usize
-    requires least { 4 ≤ length bytes.now }
-    requires most { length bytes.now ≤ 8 }
-    ensures { result ≡ prefix_len (is_in_range 0x20 0x7E) bytes.now }
-{
-    let run = count_in_four(bytes, 0);
-    if run < 4 {
-        return run;
-    }
-    let last = bytes.len() - 4;
-    last + count_in_four(bytes, last)
+    last + count_in_load::<N>(bytes, last)
 }
 
 fn count_one_by_one(bytes: &[u8]) -> usize
@@ -93,44 +85,28 @@ fn count_one_by_one(bytes: &[u8]) -> usize
     count
 }
 
-// How many of so many bytes from a place on are printable, from the front on, by one load.
-fn count_in_sixteen(bytes: &[u8], from: usize) -> usize
-    requires { from + 16 ≤ length bytes.now }
-    ensures { result ≡ prefix_len (is_in_range 0x20 0x7E) (chunk from 16 bytes.now) }
+// Whether all of so many bytes from a place on are printable, by one load.
+fn is_printable_load<const N: usize>(bytes: &[u8], from: usize) -> bool
+    requires room { from + N ≤ length bytes.now }
+    requires few { N ≤ 64 }
+    ensures { result ≡ true → N ≡ prefix_len (is_in_range 0x20 0x7E) (chunk from N bytes.now) }
 {
-    let lanes = u8x16::from_slice(&bytes[from..]);
-    let others = lanes.simd_lt(u8x16::splat(0x20)) | lanes.simd_ge(u8x16::splat(0x7F));
-    let mask = others.to_bitmask();
-    if mask == 0 {
-        16
-    } else {
-        mask.trailing_zeros() as usize
-    }
+    let lanes = Simd::<u8, N>::from_slice(&bytes[from..]);
+    let others = lanes.simd_lt(Simd::splat(0x20)) | lanes.simd_ge(Simd::splat(0x7F));
+    others.to_bitmask() == 0
 }
 
-fn count_in_eight(bytes: &[u8], from: usize) -> usize
-    requires { from + 8 ≤ length bytes.now }
-    ensures { result ≡ prefix_len (is_in_range 0x20 0x7E) (chunk from 8 bytes.now) }
+// How many of them are printable, from the front on.
+fn count_in_load<const N: usize>(bytes: &[u8], from: usize) -> usize
+    requires room { from + N ≤ length bytes.now }
+    requires few { N ≤ 64 }
+    ensures { result ≡ prefix_len (is_in_range 0x20 0x7E) (chunk from N bytes.now) }
 {
-    let lanes = u8x8::from_slice(&bytes[from..]);
-    let others = lanes.simd_lt(u8x8::splat(0x20)) | lanes.simd_ge(u8x8::splat(0x7F));
+    let lanes = Simd::<u8, N>::from_slice(&bytes[from..]);
+    let others = lanes.simd_lt(Simd::splat(0x20)) | lanes.simd_ge(Simd::splat(0x7F));
     let mask = others.to_bitmask();
     if mask == 0 {
-        8
-    } else {
-        mask.trailing_zeros() as usize
-    }
-}
-
-fn count_in_four(bytes: &[u8], from: usize) -> usize
-    requires { from + 4 ≤ length bytes.now }
-    ensures { result ≡ prefix_len (is_in_range 0x20 0x7E) (chunk from 4 bytes.now) }
-{
-    let lanes = u8x4::from_slice(&bytes[from..]);
-    let others = lanes.simd_lt(u8x4::splat(0x20)) | lanes.simd_ge(u8x4::splat(0x7F));
-    let mask = others.to_bitmask();
-    if mask == 0 {
-        4
+        N
     } else {
         mask.trailing_zeros() as usize
     }
