@@ -8,7 +8,7 @@ ghost use Rattle.papergrid_walk.specs.ForProofs.Limits.{limit_along};
 ghost use Rattle.papergrid_axis.specs.Ranges.{demand_of};
 ghost use Rattle.papergrid_walk.specs.Looks.{Look};
 ghost use Rattle.papergrid_walk.specs.ForProofs.Paddings.{Knows, paddings_at};
-ghost use Rattle.papergrid_walk.specs.ForProofs.Pairs.{AreBothSeen};
+ghost use Rattle.papergrid_walk.specs.ForProofs.Pairs.{AddsBoth, AreBothSeen, StandsAt};
 ghost use Rattle.papergrid_walk.specs.ForProofs.Shown.{Shows, anchor_in};
 ghost use Rattle.papergrid_walk.specs.ForProofs.Visits.{adds_more, adds_none, shows_turn};
 ghost use Rattle.std.proofs.Common.{◌∙◌, ap, refl};
@@ -121,7 +121,7 @@ pub struct Needs<'a, M, S> {
 }
 
 impl<'a, M: Measure<C>, C, S: Settings> Visitor<C> for Needs<'a, M, S> {
-    ghost stands = { λ v row column. Shows (S.look v.view.settings.now) v.view.sweep row column × Knows (S.look v.view.settings.now) (S.set_for v.view.settings.now) v.view.known };
+    ghost stands = { λ v row column. StandsAt (S.look v.view.settings.now) (S.set_for v.view.settings.now) v.view.sweep v.view.known row column };
 
     ghost visits = { λ v w cells. (w.view.settings ≡ v.view.settings) × (w.direction ≡ v.direction)
         × Adds v.seen w.seen (asked_by v.direction (S.look v.view.settings.now) M.measured cells) };
@@ -169,18 +169,19 @@ pub struct Both {
     pub rows: Seen,
 }
 
-impl<'a, M: Measure<C>, C, S: Settings> Visitor<C> for BothNeeds<'a, M, S> {
-    ghost stands = { λ v row column. Shows (S.look v.view.settings.now) v.view.sweep row column × Knows (S.look v.view.settings.now) (S.set_for v.view.settings.now) v.view.known };
-
-    ghost visits = { λ v w cells. (w.view.settings ≡ v.view.settings)
-        × Adds v.both.columns w.both.columns (asked_by Columns (S.look v.view.settings.now) M.measured cells)
-        × Adds v.both.rows w.both.rows (asked_by Rows (S.look v.view.settings.now) M.measured cells) };
-
-    ghost may_fail = { ⊤ };
-
-    // A cell is measured once.
+impl<'a, M, S: Settings> BothNeeds<'a, M, S> {
+    /// Keeps what a cell asks for, where it is visible. It is measured once.
     #[inline(always)]
-    fn visit(&mut self, position: Position, cell: &C) -> Result<(), AllocError> {
+    fn keep_cell<C>(&mut self, position: Position, cell: &C) -> Result<(), AllocError>
+    where
+        M: Measure<C>,
+        requires stands { StandsAt (S.look self.old.view.settings.now) (S.set_for self.old.view.settings.now) self.old.view.sweep self.old.view.known position.row position.col }
+        requires row_in { position.row < 2 ^ 64 - 1 }
+        requires col_in { position.col < 2 ^ 64 - 1 }
+        ensures adds { OnOk result (AddsBoth (S.look self.old.view.settings.now) M.measured self.old.both self.new.both ((position, cell.now) ∷ [])) }
+        ensures stands { OnOk result (StandsAt (S.look self.old.view.settings.now) (S.set_for self.old.view.settings.now) self.new.view.sweep self.new.view.known position.row (position.col + 1)) }
+        ensures settings { OnOk result (self.new.view.settings ≡ self.old.view.settings) }
+    {
         let Some((anchor, paddings)) = self.view.read(position)? else {
             return Ok(());
         };
@@ -201,14 +202,49 @@ impl<'a, M: Measure<C>, C, S: Settings> Visitor<C> for BothNeeds<'a, M, S> {
         )
     }
 
-    ghost none = { λ v. (refl, adds_none v.both.columns, adds_none v.both.rows) };
+    /// The same out of line, where cells have spans.
+    #[inline(never)]
+    fn keep_among_spans<C>(&mut self, position: Position, cell: &C) -> Result<(), AllocError>
+    where
+        M: Measure<C>,
+        requires stands { StandsAt (S.look self.old.view.settings.now) (S.set_for self.old.view.settings.now) self.old.view.sweep self.old.view.known position.row position.col }
+        requires row_in { position.row < 2 ^ 64 - 1 }
+        requires col_in { position.col < 2 ^ 64 - 1 }
+        ensures adds { OnOk result (AddsBoth (S.look self.old.view.settings.now) M.measured self.old.both self.new.both ((position, cell.now) ∷ [])) }
+        ensures stands { OnOk result (StandsAt (S.look self.old.view.settings.now) (S.set_for self.old.view.settings.now) self.new.view.sweep self.new.view.known position.row (position.col + 1)) }
+        ensures settings { OnOk result (self.new.view.settings ≡ self.old.view.settings) }
+    {
+        self.keep_cell(position, cell)
+    }
+}
+
+impl<'a, M: Measure<C>, C, S: Settings> Visitor<C> for BothNeeds<'a, M, S> {
+    ghost stands = { λ v row column. StandsAt (S.look v.view.settings.now) (S.set_for v.view.settings.now) v.view.sweep v.view.known row column };
+
+    ghost visits = { λ v w cells. (w.view.settings ≡ v.view.settings) × AddsBoth (S.look v.view.settings.now) M.measured v.both w.both cells };
+
+    ghost may_fail = { ⊤ };
+
+    // Where there are no spans this has code of its own, in which each cell spans one column and one row.
+    #[inline(always)]
+    fn visit(&mut self, position: Position, cell: &C) -> Result<(), AllocError> {
+        if self.view.sweep.anchors().is_empty() {
+            self.keep_cell(position, cell)
+        } else {
+            self.keep_among_spans(position, cell)
+        }
+    }
+
+    ghost none = { λ v. (refl, (adds_none v.both.columns, adds_none v.both.rows)) };
 
     ghost more = { λ u v w cells further first second. (
       second.0 ∙ first.0,
-      adds_more M.measured Columns Columns (S.look u.view.settings.now) (S.look v.view.settings.now) refl (ap (λ s. S.look s.now) first.0)
-          u.both.columns v.both.columns w.both.columns cells further first.1 second.1,
-      adds_more M.measured Rows Rows (S.look u.view.settings.now) (S.look v.view.settings.now) refl (ap (λ s. S.look s.now) first.0)
-          u.both.rows v.both.rows w.both.rows cells further first.2 second.2,
+      (
+        adds_more M.measured Columns Columns (S.look u.view.settings.now) (S.look v.view.settings.now) refl (ap (λ s. S.look s.now) first.0)
+            u.both.columns v.both.columns w.both.columns cells further first.1.0 second.1.0,
+        adds_more M.measured Rows Rows (S.look u.view.settings.now) (S.look v.view.settings.now) refl (ap (λ s. S.look s.now) first.0)
+            u.both.rows v.both.rows w.both.rows cells further first.1.1 second.1.1,
+      ),
     ) };
 
     ghost turns = { λ v row column so_far. (shows_turn (S.look v.view.settings.now) v.view.sweep row column so_far.0, so_far.1) };

@@ -19,9 +19,9 @@ returns g c =
       found.1,
       record {
         wide = IsSeen-demands Columns look g.M.Measure.measured columns found.0 c.walk.new.visitor.both.columns (omega arith)
-            (subst (λ l. Holds columns c.walk.new.visitor.both.columns (demands_of Columns l g.M.Measure.measured found.0)) same (found.2.1 columns [] wide));
+            (subst (λ l. Holds columns c.walk.new.visitor.both.columns (demands_of Columns l g.M.Measure.measured found.0)) same (found.2.1.0 columns [] wide));
         high = IsSeen-demands Rows look g.M.Measure.measured columns found.0 c.walk.new.visitor.both.rows few
-            (subst (λ l. Holds (limit_along Rows columns) c.walk.new.visitor.both.rows (demands_of Rows l g.M.Measure.measured found.0)) same (found.2.2 (limit_along Rows columns) [] high));
+            (subst (λ l. Holds (limit_along Rows columns) c.walk.new.visitor.both.rows (demands_of Rows l g.M.Measure.measured found.0)) same (found.2.1.1 (limit_along Rows columns) [] high));
       },
       found.3,
     )
