@@ -145,12 +145,3 @@ fn anchors(rt: HostRuntime) -> Result<(), Fail> {
     let anchors = config.anchors();
     keeps(&rt, config, before, anchors)
 }
-
-#[test]
-fn padded_cells(rt: HostRuntime) -> Result<(), Fail> {
-    let cell = Setting::SetPadding(Entity::Cell(1, 2), padding(2));
-    let settings = vec![in rt.alloc(); cell]?;
-    let (config, before) = with_clone(told(rt.alloc(), settings)?)?;
-    let cells = config.padded_cells();
-    keeps(&rt, config, before, cells)
-}
