@@ -1,19 +1,17 @@
 //! Why a script has no sizes.
 
-ghost use Rattle.std.specs.Prelude.{◌≡◌, All, IfOk, Some, true};
+ghost use Rattle.std.specs.Prelude.{◌≡◌, IfOk, Some};
 ghost use Rattle.papergrid_maps.specs.Spans.{column_span, row_span};
-ghost use Rattle.papergrid_config.specs.Applied.{is_in_range};
 ghost use Rattle.papergrid.specs.declared.estimate.Sizing.TheVariants.{ByShares};
 ghost use Rattle.papergrid.specs.Estimates.{estimate_of};
 ghost use Rattle.papergrid.specs.Reasons.{estimate_reason, reason_of};
 ghost use Rattle.papergrid_script.specs.ForProofs.Seen.{table_seen};
 
 use crate::estimate::{Sizing, estimate};
-use crate::table_layout::configuration;
 use bumpalo::Bump;
 use papergrid_config::SpannedConfig;
 use papergrid_layout::LayoutError;
-use papergrid_script::{Script, ScriptError, read_script};
+use papergrid_script::{Script, ScriptError, configuration_of, read_script};
 use papergrid_text::IterRecords;
 use papergrid_values::Position;
 use std::alloc::{AllocError, Global};
@@ -50,7 +48,6 @@ pub fn explain(alloc: Global, input: &[u8]) -> Result<Option<Reason>, AllocError
 
 /// Why the table that a script tells has no sizes.
 fn table_reason(alloc: Global, script: Script<'_>) -> Result<Option<Reason>, AllocError>
-    requires in_range { All (λ setting. is_in_range setting ≡ true) script.settings.items }
     ensures { let table = table_seen script.entry in
         IfOk result (λ reason. reason ≡ estimate_reason table (estimate_of ByShares table)) }
 {
@@ -59,7 +56,7 @@ fn table_reason(alloc: Global, script: Script<'_>) -> Result<Option<Reason>, All
         settings,
         rows,
     } = script;
-    let config = configuration(alloc, settings)?;
+    let config = configuration_of(alloc, settings)?;
     let count = rows.len();
     let records = IterRecords::new(rows, columns, Some(count));
     match estimate(alloc, Sizing::ByShares, records, &config) {

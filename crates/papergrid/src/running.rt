@@ -1,8 +1,7 @@
 //! The whole run: read to the end, judge, write.
 
-ghost use Rattle.std.specs.Prelude.{◌≡◌, ◌⊎◌, ℕ, All, take, true, false, IfOk, IfSome, OnOk, OnErr, IsErrOf};
+ghost use Rattle.std.specs.Prelude.{◌≡◌, ◌⊎◌, ℕ, take, true, false, IfOk, IfSome, OnOk, OnErr, IsErrOf};
 ghost use Rattle.std.specs.Io.KnownBytes.{Appends, Consumes, IsAtEnd};
-ghost use Rattle.papergrid_config.specs.Applied.{is_in_range};
 ghost use Rattle.papergrid.specs.Estimates.{estimate_of};
 ghost use Rattle.papergrid.specs.Outputs.{end_by, end_of, estimate_end, estimate_text, least_end_of, least_output_of, output_by, output_of};
 ghost use Rattle.papergrid.specs.Runs.{IsBrokenLeastRun, IsBrokenRun, IsWholeLeastRun, IsWholeRun};
@@ -12,11 +11,10 @@ ghost use Rattle.papergrid.specs.declared.running.RunFault.TheVariants.{Memory};
 
 use crate::estimate::{Sizes, Sizing, estimate};
 use crate::output::{bad_script_text, out_of_table_text, sizes_text, too_large_text};
-use crate::table_layout::configuration;
 use crate::transfer::{Failed, Sink, Source};
 use bumpalo::Bump;
 use papergrid_layout::LayoutError;
-use papergrid_script::{Script, ScriptError, read_script};
+use papergrid_script::{Script, ScriptError, configuration_of, read_script};
 use papergrid_text::IterRecords;
 use std::alloc::{AllocError, Global};
 use thiserror::Error;
@@ -116,7 +114,6 @@ fn table_answer(
     sizing: Sizing,
     script: Script<'_>,
 ) -> Result<(RunEnd, Vec<u8>), AllocError>
-    requires in_range { All (λ setting. is_in_range setting ≡ true) script.settings.items }
     ensures end { IfOk result (λ answer. answer.0 ≡ estimate_end (estimate_of sizing (table_seen script.entry))) }
     ensures text { IfOk result (λ answer. answer.1.items ≡ estimate_text (estimate_of sizing (table_seen script.entry))) }
 {
@@ -132,7 +129,6 @@ fn table_answer(
 
 /// The sizes of the table that a script tells.
 fn table_sizes(alloc: Global, sizing: Sizing, script: Script<'_>) -> Result<Sizes, LayoutError>
-    requires in_range { All (λ setting. is_in_range setting ≡ true) script.settings.items }
     ensures { GivesEstimate result (λ answer. answer ≡ estimate_of sizing (table_seen script.entry)) }
 {
     let Script {
@@ -140,7 +136,7 @@ fn table_sizes(alloc: Global, sizing: Sizing, script: Script<'_>) -> Result<Size
         settings,
         rows,
     } = script;
-    let config = configuration(alloc, settings)?;
+    let config = configuration_of(alloc, settings)?;
     let count = rows.len();
     let records = IterRecords::new(rows, columns, Some(count));
     estimate(alloc, sizing, records, &config)

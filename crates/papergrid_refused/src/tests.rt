@@ -44,6 +44,32 @@ fn keeps<T: PartialEq + Drop, A: Drop>(
     says(answer)
 }
 
+/// The same of a call that reads a value.
+fn reads<T: Clone + PartialEq + Drop, A: Drop, F>(
+    rt: &impl Abort,
+    value: T,
+    read: F,
+) -> Result<(), Fail>
+where
+    F: FnOnce(&T) -> Result<A, AllocError>,
+    requires { F.IsAlwaysCallable read }
+{
+    let (value, before) = with_clone(value)?;
+    let answer = read(&value);
+    keeps(rt, value, before, answer)
+}
+
+/// The same of a call that changes a value.
+fn changes<T: Clone + PartialEq + Drop, F>(rt: &impl Abort, value: T, change: F) -> Result<(), Fail>
+where
+    F: FnOnce(&mut T) -> Result<(), AllocError>,
+    requires { F.IsAlwaysCallable change }
+{
+    let (mut value, before) = with_clone(value)?;
+    let answer = change(&mut value);
+    keeps(rt, value, before, answer)
+}
+
 /// The same of a clone.
 fn clones<T: Clone + PartialEq + Drop>(rt: &impl Abort, value: T) -> Result<(), Fail> {
     let (value, before) = with_clone(value)?;

@@ -1,12 +1,12 @@
 -- Texts with escapes, cut at their first backslash.
-use Rattle.std.proofs.Common.{◌≡◌, ◌<◌, ◌+◌, ◌-◌, ◌++◌, ◌∷◌, [], ℕ, zero, suc, List, Bool, true, false, not, cond, Option, Some, None, option_map, length, take, drop, length-take, nat_eq, refl, sym, ap, ◌∙◌, append_assoc, arith}
+use Rattle.std.proofs.Common.{◌≡◌, ◌<◌, ◌≤◌, ◌+◌, ◌-◌, ◌++◌, ◌∷◌, [], ℕ, zero, suc, List, Bool, true, false, not, cond, Option, Some, None, option_map, length, take, drop, length-take, nat_eq, refl, sym, ap, ◌∙◌, append_assoc, arith}
 use Rattle.std.specs.List.{position_or_len, before_first, after_first}
 use Rattle.std.proofs.Math.Utf8.{encode}
-use Rattle.std.proofs.lemmas.Option.{same_Some}
+use Rattle.std.proofs.lemmas.Option.{same_Some, none-some, cond_some}
 use Rattle.std.proofs.lemmas.Str.{encode_ascii}
-use borrow.Author.Tests.{eqb-true}
+use borrow.Author.Tests.{eqb-true, ltb-true, ltb-false}
 use Rattle.papergrid_text.proofs.Places.{first_in_front, no_more_than}
-use Rattle.papergrid_script.specs.Grammar.{without_cr}
+use Rattle.papergrid_script.specs.Grammar.{parted_at, without_cr}
 use Rattle.papergrid_script.specs.Texts.{unescaped, escape_of, put_first}
 use Rattle.papergrid_script.specs.ForProofs.Escapes.{IsFirstEscape, escape_at}
 
@@ -103,6 +103,22 @@ escape_without_cr line shown at front first = at_front _ line shown (length line
 -- the rest begins with these plain bytes and a backslash, and then this
 abbrev pub IsCut : List ℕ → List ℕ → List ℕ → Type 0
 IsCut rest plain after = (plain ≡ before_first is_backslash rest) × (after ≡ after_first is_backslash rest) × (position_or_len is_backslash rest < length rest)
+
+pub parted_cut : (rest plain after : List ℕ) → Some (plain, after) ≡ parted_at 92 rest → IsCut rest plain after
+parted_cut rest plain after h =
+    let found = cond_some _ _ _ (sym h) in
+    (ap (λ parts. parts.0) (sym found.1), ap (λ parts. parts.1) (sym found.1), ltb-true _ _ found.0)
+
+-- a text without one is whole
+has_none : (some : Bool) (parts : List ℕ × List ℕ) → None ≡ cond some (Some parts) None → some ≡ false
+has_none true parts h = absurd (none-some _ h)
+has_none false parts h = refl
+
+pub parted_none : (rest : List ℕ) → None ≡ parted_at 92 rest → position_or_len is_backslash rest ≡ length rest
+parted_none rest h =
+    let past : length rest ≤ position_or_len is_backslash rest = ltb-false _ _ (has_none _ _ h) in
+    let within = no_more_than rest 92 in
+    omega arith
 
 pub cut_open : (rest plain after : List ℕ) → IsCut rest plain after → unescaped rest ≡ option_map (λ more. plain ++ more) (unescaped (92 ∷ after))
 cut_open rest plain after cut = unescaped-parted rest (position_or_len is_backslash rest) refl cut.2 ∙ rw (cut.0, cut.1) refl

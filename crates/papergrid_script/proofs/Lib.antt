@@ -3,7 +3,6 @@ mod CutLemmas
 mod EscapeLemmas
 mod LineLemmas
 mod MarkLemmas
-mod RangeLemmas
 mod ReadLemmas
 mod ScriptLineLemmas
 mod SpellLemmas

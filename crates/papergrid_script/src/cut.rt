@@ -1,9 +1,10 @@
 //! Texts cut at bytes: a line at its newline, a line at its first backslash, a text at a byte.
 
-ghost use Rattle.std.specs.Prelude.{◌≡◌, ◌<◌, ◌==◌, ◌+◌, ◌∷◌, length, min, take, drop, slice_index, IfSome, IsUtf8, MatchOption};
-ghost use Rattle.std.specs.List.{position_or_len, before_first, after_first};
+ghost use Rattle.std.specs.Prelude.{◌≡◌, ◌<◌, ◌==◌, ◌+◌, ◌∷◌, length, min, take, drop, slice_index, IfSome, IsUtf8, option_map};
+ghost use Rattle.std.specs.List.{position_or_len};
 ghost use Rattle.papergrid_text.specs.LinesLeft.{lines_of_rest};
 ghost use Rattle.papergrid_text.specs.Text.{split_lines};
+ghost use Rattle.papergrid_script.specs.Grammar.{parted_at};
 
 use papergrid_text::search::{find_byte, find_either};
 use papergrid_text::string::cut_line_at;
@@ -50,9 +51,7 @@ pub fn split_around(text: &str, at: usize) -> (&str, &str)
 /// What stands before the first such byte, and what stands after it.
 pub fn split_at_byte(text: &str, byte: u8) -> Option<(&str, &str)>
     requires { byte < 128 }
-    ensures parts { MatchOption result (position_or_len (λ b. b == byte) text.now ≡ length text.now)
-        (λ parts. (parts.0.now ≡ before_first (λ b. b == byte) text.now) × (parts.1.now ≡ after_first (λ b. b == byte) text.now)
-        × (position_or_len (λ b. b == byte) text.now < length text.now)) }
+    ensures parts { option_map (λ parts. (parts.0.now, parts.1.now)) result ≡ parted_at byte text.now }
     ensures text { IfSome result (λ parts. IsUtf8 parts.0.now × IsUtf8 parts.1.now) }
 {
     let at = find_byte(text.as_bytes(), byte);

@@ -6,7 +6,7 @@ ghost use Rattle.papergrid_script.specs.Scripts.{empty_table, with_line};
 ghost use Rattle.papergrid_script.specs.ForProofs.Seen.{Takes, rows_seen, table_seen, table_so_far, texts_of, with_last};
 
 use crate::script::Script;
-use crate::script_setting::{ScriptSetting, settings_of};
+use crate::script_setting::ScriptSetting;
 use bumpalo::Bump;
 use std::alloc::{AllocError, Global};
 
@@ -62,7 +62,7 @@ impl<'a> Draft<'a> {
     }
 
     /// The script that all lines have told.
-    pub fn finish(self, alloc: Global) -> Result<Script<'a>, AllocError>
+    pub fn finish(self) -> Result<Script<'a>, AllocError>
         ensures { IfOk result (λ script. table_seen script ≡ table_so_far self.entry) }
     {
         let Draft {
@@ -75,7 +75,7 @@ impl<'a> Draft<'a> {
         end_row(arena, &mut rows, last.as_slice())?;
         Ok(Script {
             columns,
-            settings: settings_of(alloc, settings.as_slice())?,
+            settings,
             rows,
         })
     }

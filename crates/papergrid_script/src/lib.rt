@@ -7,8 +7,9 @@ pub mod laws;
 mod number;
 pub mod script;
 mod script_line;
-mod script_setting;
+pub mod script_setting;
 mod setting_line;
 mod unescape;
 
 pub use script::{Script, ScriptError, read_script};
+pub use script_setting::{ScriptSetting, configuration_of};

@@ -1,8 +1,7 @@
 //! A whole script: its column count, its settings and its rows.
 
-ghost use Rattle.std.specs.Prelude.{◌≡◌, true, All, IfOk, ◌<◌, length, take};
+ghost use Rattle.std.specs.Prelude.{◌≡◌, ◌<◌, length, take};
 ghost use Rattle.std.specs.Str.{IsValidUpTo};
-ghost use Rattle.papergrid_config.specs.Applied.{is_in_range};
 ghost use Rattle.papergrid_script.specs.declared.script.ScriptError.TheVariants.{Memory};
 ghost use Rattle.papergrid_script.specs.Grammar.{without_cr};
 ghost use Rattle.papergrid_script.specs.Scripts.{table_of};
@@ -11,8 +10,8 @@ ghost use Rattle.papergrid_script.specs.ForProofs.Seen.{GivesTable};
 use crate::cut::cut_marked_line;
 use crate::draft::Draft;
 use crate::script_line::take_line;
+use crate::script_setting::ScriptSetting;
 use bumpalo::Bump;
-use papergrid_config::Setting;
 use papergrid_text::string::count_lines;
 use simdutf8::compat::from_utf8;
 use std::alloc::{AllocError, Global};
@@ -23,7 +22,7 @@ pub struct Script<'a> {
     /// The number of columns.
     pub columns: usize,
     /// The settings, oldest first.
-    pub settings: Vec<Setting>,
+    pub settings: Vec<ScriptSetting>,
     /// The texts of the cells of each row.
     pub rows: Vec<&'a [&'a str]>,
 }
@@ -51,9 +50,7 @@ pub fn read_script<'a>(
     arena: &'a Bump,
     input: &'a [u8],
 ) -> Result<Script<'a>, ScriptError>
-    ensures told { GivesTable result (table_of input.now) }
-    // What a list of settings must be, to be applied.
-    ensures in_range { IfOk result (λ script. All (λ setting. is_in_range setting ≡ true) script.settings.items) }
+    ensures { GivesTable result (table_of input.now) }
 {
     let text = text_in_front(input);
     let read = script_of_text(alloc, arena, text);
@@ -94,7 +91,7 @@ fn script_of_text<'a>(
         }
         rest = after;
     }
-    Ok(draft.finish(alloc)?)
+    Ok(draft.finish()?)
 }
 
 /// The line without one CR at its end.

@@ -1,16 +1,18 @@
-//! Settings as the lines of a script spell them. A `Setting` of a configuration has 850 bytes, and these have a tenth of them.
+//! Settings as the lines of a script spell them. A `Setting` of a configuration has 850 bytes, and these have 64.
 
-ghost use Rattle.std.specs.Prelude.{◌≡◌, IfOk, map};
-ghost use Rattle.papergrid_script.specs.ForProofs.Settings.{setting_told};
+ghost use Rattle.std.specs.Prelude.{◌≡◌, ◌∷◌, [], IfOk, OnOk, map};
+ghost use Rattle.papergrid_config.specs.Told.{Appends, IsTold};
+ghost use Rattle.papergrid_script.specs.ForProofs.Settings.{setting_told, spaced_sides};
 
-use papergrid_config::Setting;
+use papergrid_config::SpannedConfig;
 use papergrid_values::{Borders, Entity, HorizontalLine, Indent, Position, Sides, VerticalLine};
 use std::alloc::{AllocError, Global};
 
 /// What a line of a script sets.
 #[derive(Clone, Copy, Debug)]
 pub enum ScriptSetting {
-    Padding(Entity, Sides<Indent>),
+    /// So many spaces on each side of an entity's texts.
+    Padding(Entity, Sides<usize>),
     ColumnSpan(Position, usize),
     RowSpan(Position, usize),
     /// All lines of the table are of the character.
@@ -24,35 +26,55 @@ pub enum ScriptSetting {
 }
 
 impl ScriptSetting {
-    /// The setting of a configuration.
-    fn setting(self) -> Setting
-        ensures { result ≡ setting_told self }
+    /// Makes the call of a configuration that the setting is, or is out of memory.
+    fn apply(self, config: &mut SpannedConfig) -> Result<(), AllocError>
+        ensures { OnOk result (Appends config.old config.new (setting_told self ∷ [])) }
     {
         match self {
-            ScriptSetting::Padding(entity, sides) => Setting::SetPadding(entity, sides),
-            ScriptSetting::ColumnSpan(place, count) => Setting::SetColumnSpan(place, count),
-            ScriptSetting::RowSpan(place, count) => Setting::SetRowSpan(place, count),
-            ScriptSetting::Border(c) => Setting::SetBorders(Borders::filled(c)),
+            ScriptSetting::Padding(entity, sides) => config.set_padding(entity, spaced(sides))?,
+            ScriptSetting::ColumnSpan(place, count) => config.set_column_span(place, count)?,
+            ScriptSetting::RowSpan(place, count) => config.set_row_span(place, count)?,
+            ScriptSetting::Border(c) => config.set_borders(Borders::filled(c)),
             ScriptSetting::VerticalLine(col, c) => {
-                Setting::InsertVerticalLine(col, VerticalLine::new(Some(c), None, None, None))
+                let line = VerticalLine::new(Some(c), None, None, None);
+                config.insert_vertical_line(col, line)?;
             }
             ScriptSetting::HorizontalLine(row, c) => {
-                Setting::InsertHorizontalLine(row, HorizontalLine::new(Some(c), None, None, None))
+                let line = HorizontalLine::new(Some(c), None, None, None);
+                config.insert_horizontal_line(row, line)?;
             }
             // How many columns or rows there are makes no difference to the line.
-            ScriptSetting::NoVerticalLine(col) => Setting::RemoveVerticalLine(col, 0),
-            ScriptSetting::NoHorizontalLine(row) => Setting::RemoveHorizontalLine(row, 0),
+            ScriptSetting::NoVerticalLine(col) => config.remove_vertical_line(col, 0),
+            ScriptSetting::NoHorizontalLine(row) => config.remove_horizontal_line(row, 0),
         }
+        Ok(())
     }
 }
 
-/// The settings of a configuration, in the same order.
-pub fn settings_of(alloc: Global, told: &[ScriptSetting]) -> Result<Vec<Setting>, AllocError>
-    ensures { IfOk result (λ settings. settings.items ≡ map setting_told told.now) }
+/// So many spaces on each side.
+fn spaced(sides: Sides<usize>) -> Sides<Indent>
+    ensures { result ≡ spaced_sides sides }
 {
-    let mut settings = Vec::with_capacity(alloc, told.len())?;
-    for setting in told {
-        settings.push(setting.setting())?;
+    Sides::new(
+        Indent::spaced(sides.left),
+        Indent::spaced(sides.right),
+        Indent::spaced(sides.top),
+        Indent::spaced(sides.bottom),
+    )
+}
+
+/// The configuration that the settings tell, or out of memory.
+// It is made where its caller keeps it: it is large, and is not moved.
+#[inline(always)]
+pub fn configuration_of(
+    alloc: Global,
+    settings: Vec<ScriptSetting>,
+) -> Result<SpannedConfig, AllocError>
+    ensures { IfOk result (λ config. IsTold (map setting_told settings.items) config) }
+{
+    let mut config = SpannedConfig::new(alloc);
+    for setting in settings {
+        setting.apply(&mut config)?;
     }
-    Ok(settings)
+    Ok(config)
 }

@@ -1,12 +1,13 @@
 //! The lines of a script that set something of its table.
 
 ghost use Rattle.std.specs.Prelude.{◌≡◌, option_map};
-ghost use Rattle.papergrid_script.specs.ForProofs.Settings.{setting_told};
+ghost use Rattle.papergrid_script.specs.ForProofs.Settings.{setting_told, spaced_sides};
 ghost use Rattle.papergrid_script.specs.Grammar.{character_of, entity_of, padding_of, placed_character, placed_span, position_of, setting_of, sides_of};
 
+use crate::cut::split_at_byte;
 use crate::number::number;
 use crate::script_setting::ScriptSetting;
-use papergrid_values::{Entity, Indent, Position, Sides};
+use papergrid_values::{Entity, Position, Sides};
 
 /// The setting of a keyword, and of what stands after it and a space.
 #[tactic(auto, unfolding(crate::specs::Grammar::setting_of))]
@@ -56,7 +57,7 @@ fn character(spelled: &str) -> Option<char>
 fn placed_character(spelled: &str) -> Option<(usize, char)>
     ensures { result ≡ placed_character spelled.now }
 {
-    let (place, rest) = spelled.split_once(' ')?;
+    let (place, rest) = split_at_byte(spelled, b' ')?;
     Some((number(place)?, character(rest)?))
 }
 
@@ -65,24 +66,19 @@ fn placed_character(spelled: &str) -> Option<(usize, char)>
 fn padding(spelled: &str) -> Option<ScriptSetting>
     ensures { option_map setting_told result ≡ padding_of spelled.now }
 {
-    let (first, rest) = spelled.split_once(' ')?;
+    let (first, rest) = split_at_byte(spelled, b' ')?;
     Some(ScriptSetting::Padding(entity(first)?, sides(rest)?))
 }
 
 /// So many spaces for left, right, top and bottom.
 #[tactic(auto, unfolding(crate::specs::Grammar::sides_of))]
-fn sides(spelled: &str) -> Option<Sides<Indent>>
-    ensures { result ≡ sides_of spelled.now }
+fn sides(spelled: &str) -> Option<Sides<usize>>
+    ensures { option_map spaced_sides result ≡ sides_of spelled.now }
 {
-    let (left, rest) = spelled.split_once(' ')?;
-    let (right, rest) = rest.split_once(' ')?;
-    let (top, bottom) = rest.split_once(' ')?;
-    Some(Sides::new(
-        Indent::spaced(number(left)?),
-        Indent::spaced(number(right)?),
-        Indent::spaced(number(top)?),
-        Indent::spaced(number(bottom)?),
-    ))
+    let (left, rest) = split_at_byte(spelled, b' ')?;
+    let (right, rest) = split_at_byte(rest, b' ')?;
+    let (top, bottom) = split_at_byte(rest, b' ')?;
+    Some(Sides::new(number(left)?, number(right)?, number(top)?, number(bottom)?))
 }
 
 /// The entity that the text spells: `*`, `c` or `r` with a number, or a row and a column with a comma.
@@ -108,7 +104,7 @@ fn entity(spelled: &str) -> Option<Entity>
 fn position(spelled: &str) -> Option<Position>
     ensures { result ≡ position_of spelled.now }
 {
-    let (row, col) = spelled.split_once(',')?;
+    let (row, col) = split_at_byte(spelled, b',')?;
     Some(Position::new(number(row)?, number(col)?))
 }
 
@@ -117,6 +113,6 @@ fn position(spelled: &str) -> Option<Position>
 fn placed_span(spelled: &str) -> Option<(Position, usize)>
     ensures { result ≡ placed_span spelled.now }
 {
-    let (place, count) = spelled.split_once(' ')?;
+    let (place, count) = split_at_byte(spelled, b' ')?;
     Some((position(place)?, number(count)?))
 }

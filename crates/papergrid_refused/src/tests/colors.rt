@@ -1,6 +1,6 @@
 //! Colours, and what is made of them.
 
-use super::{clones, color, keeps, says, with_clone};
+use super::{clones, color, reads, says};
 use papergrid_values::{ANSIBuf, Border, Borders, HorizontalLine, Sides, VerticalLine};
 use std::test::Fail;
 
@@ -11,9 +11,12 @@ fn new(rt: HostRuntime) -> Result<(), Fail> {
 
 #[test]
 fn copy_of(rt: HostRuntime) -> Result<(), Fail> {
-    let (color, before) = with_clone(color(rt.alloc())?)?;
-    let copy = ANSIBuf::copy_of(rt.alloc(), color.as_ref());
-    keeps(&rt, color, before, copy)
+    let alloc = rt.alloc();
+    reads(
+        &rt,
+        color(alloc)?,
+        |color| ANSIBuf::copy_of(alloc, color.as_ref()),
+    )
 }
 
 #[test]
@@ -23,9 +26,11 @@ fn clone(rt: HostRuntime) -> Result<(), Fail> {
 
 #[test]
 fn cloned(rt: HostRuntime) -> Result<(), Fail> {
-    let (color, before) = with_clone(color(rt.alloc())?)?;
-    let copy = Border::filled(&color).cloned();
-    keeps(&rt, color, before, copy)
+    reads(
+        &rt,
+        color(rt.alloc())?,
+        |color| Border::filled(color).cloned(),
+    )
 }
 
 #[test]

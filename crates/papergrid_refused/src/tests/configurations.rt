@@ -1,7 +1,7 @@
 //! Configurations, and lists of settings.
 
 use super::settings::{apply, each, held, padding, ten, told, twins, two_of_each};
-use super::{clones, keeps, says, with_clone};
+use super::{clones, keeps, reads, says};
 use papergrid_config::{CompactConfig, Setting, SpannedConfig, Stopped};
 use papergrid_values::{ANSIStr, Borders, Entity, Sides};
 use std::alloc::{AllocError, Global};
@@ -106,42 +106,51 @@ fn clone_of_settings(rt: HostRuntime) -> Result<(), Fail> {
     says(settings.clone())
 }
 
-/// A configuration that holds two lines and two spans of each direction, and its clone.
-fn with_two(alloc: Global) -> Result<(SpannedConfig, SpannedConfig), AllocError> {
-    with_clone(told(alloc, two_of_each(alloc)?)?)
+/// What a test ends with that reads a configuration that holds two lines and two spans of each direction.
+fn reads_two<A: Drop, F>(rt: &impl Abort, alloc: Global, read: F) -> Result<(), Fail>
+where
+    F: FnOnce(&SpannedConfig) -> Result<A, AllocError>,
+    requires { F.IsAlwaysCallable read }
+{
+    reads(rt, told(alloc, two_of_each(alloc)?)?, read)
 }
 
 #[test]
 fn get_horizontal_lines(rt: HostRuntime) -> Result<(), Fail> {
-    let (config, before) = with_two(rt.alloc())?;
-    let lines = config.get_horizontal_lines();
-    keeps(&rt, config, before, lines)
+    reads_two(&rt, rt.alloc(), SpannedConfig::get_horizontal_lines)
 }
 
 #[test]
 fn get_vertical_lines(rt: HostRuntime) -> Result<(), Fail> {
-    let (config, before) = with_two(rt.alloc())?;
-    let lines = config.get_vertical_lines();
-    keeps(&rt, config, before, lines)
+    reads_two(&rt, rt.alloc(), SpannedConfig::get_vertical_lines)
 }
 
 #[test]
 fn get_column_spans(rt: HostRuntime) -> Result<(), Fail> {
-    let (config, before) = with_two(rt.alloc())?;
-    let spans = config.get_column_spans();
-    keeps(&rt, config, before, spans)
+    reads_two(&rt, rt.alloc(), SpannedConfig::get_column_spans)
 }
 
 #[test]
 fn get_row_spans(rt: HostRuntime) -> Result<(), Fail> {
-    let (config, before) = with_two(rt.alloc())?;
-    let spans = config.get_row_spans();
-    keeps(&rt, config, before, spans)
+    reads_two(&rt, rt.alloc(), SpannedConfig::get_row_spans)
 }
 
 #[test]
 fn anchors(rt: HostRuntime) -> Result<(), Fail> {
-    let (config, before) = with_two(rt.alloc())?;
-    let anchors = config.anchors();
-    keeps(&rt, config, before, anchors)
+    reads_two(&rt, rt.alloc(), SpannedConfig::anchors)
+}
+
+/// A configuration that holds a padding for one cell.
+fn with_padded_cell(alloc: Global) -> Result<SpannedConfig, AllocError> {
+    let cell = Setting::SetPadding(Entity::Cell(1, 2), padding(2));
+    told(alloc, vec![in alloc; cell]?)
+}
+
+#[test]
+fn padded_cells(rt: HostRuntime) -> Result<(), Fail> {
+    reads(
+        &rt,
+        with_padded_cell(rt.alloc())?,
+        SpannedConfig::padded_cells,
+    )
 }

@@ -1,6 +1,6 @@
 //! Values by entity.
 
-use super::{clones, keeps, says, with_clone};
+use super::{changes, clones, keeps, reads, says};
 use papergrid_maps::{EntityMap, MapCall, Stopped};
 use papergrid_values::Entity;
 use std::alloc::{AllocError, Global};
@@ -17,16 +17,20 @@ fn three_rows(alloc: Global) -> Result<EntityMap<char>, AllocError> {
 
 #[test]
 fn insert_column(rt: HostRuntime) -> Result<(), Fail> {
-    let (mut map, before) = with_clone(three_rows(rt.alloc())?)?;
-    let answer = map.insert(Entity::Column(1), 'n');
-    keeps(&rt, map, before, answer)
+    changes(
+        &rt,
+        three_rows(rt.alloc())?,
+        |map| map.insert(Entity::Column(1), 'n'),
+    )
 }
 
 #[test]
 fn insert_row(rt: HostRuntime) -> Result<(), Fail> {
-    let (mut map, before) = with_clone(three_rows(rt.alloc())?)?;
-    let answer = map.insert(Entity::Row(1), 'n');
-    keeps(&rt, map, before, answer)
+    changes(
+        &rt,
+        three_rows(rt.alloc())?,
+        |map| map.insert(Entity::Row(1), 'n'),
+    )
 }
 
 #[test]
@@ -41,9 +45,7 @@ fn into_map(rt: HostRuntime) -> Result<(), Fail> {
 
 #[test]
 fn held_cells(rt: HostRuntime) -> Result<(), Fail> {
-    let (map, before) = with_clone(three_rows(rt.alloc())?)?;
-    let cells = map.held_cells();
-    keeps(&rt, map, before, cells)
+    reads(&rt, three_rows(rt.alloc())?, EntityMap::held_cells)
 }
 
 fn ten_calls(alloc: Global) -> Result<Vec<MapCall<char>>, AllocError> {

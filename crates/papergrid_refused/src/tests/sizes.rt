@@ -52,92 +52,71 @@ pub fn in_table<A>(rt: &impl Abort, answer: Result<A, LayoutError>) -> Result<A,
     }
 }
 
+/// What a test ends with that asks for something of the picture.
+fn answers<A: Drop, F>(rt: &impl Abort, alloc: Global, ask: F) -> Result<(), Fail>
+where
+    F: FnOnce(Global, VecRecords<&'static str>, &SpannedConfig) -> Result<A, LayoutError>,
+    requires { F.IsAlwaysCallable ask }
+{
+    let (records, config) = picture(alloc)?;
+    let answer = ask(alloc, records, &config);
+    drop(config);
+    says(in_table(rt, answer))
+}
+
 #[test]
 fn iter_width(rt: HostRuntime) -> Result<(), Fail> {
-    let (records, config) = picture(rt.alloc())?;
-    let answer = IterGridDimension::width(rt.alloc(), records, &config);
-    drop(config);
-    says(in_table(&rt, answer))
+    answers(&rt, rt.alloc(), IterGridDimension::width)
 }
 
 #[test]
 fn iter_height(rt: HostRuntime) -> Result<(), Fail> {
-    let (records, config) = picture(rt.alloc())?;
-    let answer = IterGridDimension::height(rt.alloc(), records, &config);
-    drop(config);
-    says(in_table(&rt, answer))
+    answers(&rt, rt.alloc(), IterGridDimension::height)
 }
 
 #[test]
 fn iter_width_total(rt: HostRuntime) -> Result<(), Fail> {
-    let (records, config) = picture(rt.alloc())?;
-    let answer = IterGridDimension::width_total(rt.alloc(), records, &config);
-    drop(config);
-    says(in_table(&rt, answer))
+    answers(&rt, rt.alloc(), IterGridDimension::width_total)
 }
 
 #[test]
 fn iter_height_total(rt: HostRuntime) -> Result<(), Fail> {
-    let (records, config) = picture(rt.alloc())?;
-    let answer = IterGridDimension::height_total(rt.alloc(), records, &config);
-    drop(config);
-    says(in_table(&rt, answer))
+    answers(&rt, rt.alloc(), IterGridDimension::height_total)
 }
 
 #[test]
 fn least_width(rt: HostRuntime) -> Result<(), Fail> {
-    let (records, config) = picture(rt.alloc())?;
-    let answer = LeastGridDimension::width(rt.alloc(), records, &config);
-    drop(config);
-    says(in_table(&rt, answer))
+    answers(&rt, rt.alloc(), LeastGridDimension::width)
 }
 
 #[test]
 fn least_height(rt: HostRuntime) -> Result<(), Fail> {
-    let (records, config) = picture(rt.alloc())?;
-    let answer = LeastGridDimension::height(rt.alloc(), records, &config);
-    drop(config);
-    says(in_table(&rt, answer))
+    answers(&rt, rt.alloc(), LeastGridDimension::height)
 }
 
 #[test]
 fn least_width_total(rt: HostRuntime) -> Result<(), Fail> {
-    let (records, config) = picture(rt.alloc())?;
-    let answer = LeastGridDimension::width_total(rt.alloc(), records, &config);
-    drop(config);
-    says(in_table(&rt, answer))
+    answers(&rt, rt.alloc(), LeastGridDimension::width_total)
 }
 
 #[test]
 fn least_height_total(rt: HostRuntime) -> Result<(), Fail> {
-    let (records, config) = picture(rt.alloc())?;
-    let answer = LeastGridDimension::height_total(rt.alloc(), records, &config);
-    drop(config);
-    says(in_table(&rt, answer))
+    answers(&rt, rt.alloc(), LeastGridDimension::height_total)
 }
 
 #[test]
 fn peekable_width(rt: HostRuntime) -> Result<(), Fail> {
-    let (records, config) = picture(rt.alloc())?;
-    let answer = PeekableGridDimension::width(rt.alloc(), records, &config);
-    drop(config);
-    says(in_table(&rt, answer))
+    answers(&rt, rt.alloc(), PeekableGridDimension::width)
 }
 
 #[test]
 fn peekable_height(rt: HostRuntime) -> Result<(), Fail> {
-    let (records, config) = picture(rt.alloc())?;
-    let answer = PeekableGridDimension::height(rt.alloc(), records, &config);
-    drop(config);
-    says(in_table(&rt, answer))
+    answers(&rt, rt.alloc(), PeekableGridDimension::height)
 }
 
 #[test]
 fn peekable_dimension(rt: HostRuntime) -> Result<(), Fail> {
-    let (records, config) = picture(rt.alloc())?;
-    let answer = PeekableGridDimension::dimension(rt.alloc(), records, &config);
-    drop(config);
-    says(in_table(&rt, answer))
+    answers(&rt, rt.alloc(), PeekableGridDimension::dimension)
 }
 
 #[test]
@@ -163,42 +142,27 @@ fn compact_dimension(rt: HostRuntime) -> Result<(), Fail> {
 
 #[test]
 fn by_width_witness(rt: HostRuntime) -> Result<(), Fail> {
-    let (records, config) = picture(rt.alloc())?;
-    let answer = width_witness(rt.alloc(), records, &config);
-    drop(config);
-    says(in_table(&rt, answer))
+    answers(&rt, rt.alloc(), width_witness)
 }
 
 #[test]
 fn by_height_witness(rt: HostRuntime) -> Result<(), Fail> {
-    let (records, config) = picture(rt.alloc())?;
-    let answer = height_witness(rt.alloc(), records, &config);
-    drop(config);
-    says(in_table(&rt, answer))
+    answers(&rt, rt.alloc(), height_witness)
 }
 
 #[test]
 fn by_width_certificate(rt: HostRuntime) -> Result<(), Fail> {
-    let (records, config) = picture(rt.alloc())?;
-    let answer = width_certificate(rt.alloc(), records, &config);
-    drop(config);
-    says(in_table(&rt, answer))
+    answers(&rt, rt.alloc(), width_certificate)
 }
 
 #[test]
 fn by_height_certificate(rt: HostRuntime) -> Result<(), Fail> {
-    let (records, config) = picture(rt.alloc())?;
-    let answer = height_certificate(rt.alloc(), records, &config);
-    drop(config);
-    says(in_table(&rt, answer))
+    answers(&rt, rt.alloc(), height_certificate)
 }
 
 #[test]
 fn by_certified_sizes(rt: HostRuntime) -> Result<(), Fail> {
-    let (records, config) = picture(rt.alloc())?;
-    let answer = certified_sizes(rt.alloc(), records, &config);
-    drop(config);
-    says(in_table(&rt, answer))
+    answers(&rt, rt.alloc(), certified_sizes)
 }
 
 fn short_rows(alloc: Global) -> Result<Vec<Vec<&'static str>>, AllocError> {
@@ -223,31 +187,31 @@ fn estimates<C, D: Estimate<VecRecords<&'static str>, C> + Clone + PartialEq + D
     keeps(rt, dimension, before, in_table(rt, answer))
 }
 
-#[test]
-fn iter_estimate(rt: HostRuntime) -> Result<(), Fail> {
-    let config = told(rt.alloc(), settings(rt.alloc())?)?;
-    let dimension = IterGridDimension::new(rt.alloc());
-    let end = estimates(&rt, rt.alloc(), dimension, &config);
+/// The same by the settings of the picture.
+fn estimates_picture<D>(rt: &impl Abort, alloc: Global, dimension: D) -> Result<(), Fail>
+where
+    D: Estimate<VecRecords<&'static str>, SpannedConfig> + Clone + PartialEq + Drop,
+    requires { (records : VecRecords (Bor (List ℕ))) → D.accepts records }
+{
+    let config = told(alloc, settings(alloc)?)?;
+    let end = estimates(rt, alloc, dimension, &config);
     drop(config);
     end
+}
+
+#[test]
+fn iter_estimate(rt: HostRuntime) -> Result<(), Fail> {
+    estimates_picture(&rt, rt.alloc(), IterGridDimension::new(rt.alloc()))
 }
 
 #[test]
 fn least_estimate(rt: HostRuntime) -> Result<(), Fail> {
-    let config = told(rt.alloc(), settings(rt.alloc())?)?;
-    let dimension = LeastGridDimension::new(rt.alloc());
-    let end = estimates(&rt, rt.alloc(), dimension, &config);
-    drop(config);
-    end
+    estimates_picture(&rt, rt.alloc(), LeastGridDimension::new(rt.alloc()))
 }
 
 #[test]
 fn peekable_estimate(rt: HostRuntime) -> Result<(), Fail> {
-    let config = told(rt.alloc(), settings(rt.alloc())?)?;
-    let dimension = PeekableGridDimension::new(rt.alloc());
-    let end = estimates(&rt, rt.alloc(), dimension, &config);
-    drop(config);
-    end
+    estimates_picture(&rt, rt.alloc(), PeekableGridDimension::new(rt.alloc()))
 }
 
 #[test]
@@ -270,6 +234,18 @@ fn clones_sized<C, D: Estimate<VecRecords<&'static str>, C> + Clone + PartialEq 
     clones(rt, dimension)
 }
 
+/// The same without settings.
+fn clones_plain<D>(rt: &impl Abort, alloc: Global, dimension: D) -> Result<(), Fail>
+where
+    D: Estimate<VecRecords<&'static str>, SpannedConfig> + Clone + PartialEq + Drop,
+    requires { (records : VecRecords (Bor (List ℕ))) → D.accepts records }
+{
+    let config = SpannedConfig::new(alloc);
+    let end = clones_sized(rt, alloc, dimension, &config);
+    drop(config);
+    end
+}
+
 #[test]
 fn compact_clone(rt: HostRuntime) -> Result<(), Fail> {
     let dimension = CompactGridDimension::new(rt.alloc());
@@ -278,29 +254,17 @@ fn compact_clone(rt: HostRuntime) -> Result<(), Fail> {
 
 #[test]
 fn iter_clone(rt: HostRuntime) -> Result<(), Fail> {
-    let config = SpannedConfig::new(rt.alloc());
-    let dimension = IterGridDimension::new(rt.alloc());
-    let end = clones_sized(&rt, rt.alloc(), dimension, &config);
-    drop(config);
-    end
+    clones_plain(&rt, rt.alloc(), IterGridDimension::new(rt.alloc()))
 }
 
 #[test]
 fn least_clone(rt: HostRuntime) -> Result<(), Fail> {
-    let config = SpannedConfig::new(rt.alloc());
-    let dimension = LeastGridDimension::new(rt.alloc());
-    let end = clones_sized(&rt, rt.alloc(), dimension, &config);
-    drop(config);
-    end
+    clones_plain(&rt, rt.alloc(), LeastGridDimension::new(rt.alloc()))
 }
 
 #[test]
 fn peekable_clone(rt: HostRuntime) -> Result<(), Fail> {
-    let config = SpannedConfig::new(rt.alloc());
-    let dimension = PeekableGridDimension::new(rt.alloc());
-    let end = clones_sized(&rt, rt.alloc(), dimension, &config);
-    drop(config);
-    end
+    clones_plain(&rt, rt.alloc(), PeekableGridDimension::new(rt.alloc()))
 }
 
 /// A width and a height of one for each column and row.

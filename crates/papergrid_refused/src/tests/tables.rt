@@ -1,6 +1,6 @@
 //! Tables of borders, of offsets and of spans, that hold two of each.
 
-use super::{at, clones, keeps, with_clone};
+use super::{at, changes, clones, reads};
 use papergrid_maps::{BorderTable, OffsetTable, SpanTable};
 use papergrid_values::{Border, HorizontalLine, Offset, VerticalLine};
 use std::alloc::{AllocError, Global};
@@ -23,16 +23,12 @@ fn clone_of_borders(rt: HostRuntime) -> Result<(), Fail> {
 
 #[test]
 fn get_horizontal_lines(rt: HostRuntime) -> Result<(), Fail> {
-    let (table, before) = with_clone(borders(rt.alloc())?)?;
-    let lines = table.get_horizontal_lines();
-    keeps(&rt, table, before, lines)
+    reads(&rt, borders(rt.alloc())?, BorderTable::get_horizontal_lines)
 }
 
 #[test]
 fn get_vertical_lines(rt: HostRuntime) -> Result<(), Fail> {
-    let (table, before) = with_clone(borders(rt.alloc())?)?;
-    let lines = table.get_vertical_lines();
-    keeps(&rt, table, before, lines)
+    reads(&rt, borders(rt.alloc())?, BorderTable::get_vertical_lines)
 }
 
 fn offsets(alloc: Global) -> Result<OffsetTable<char>, AllocError> {
@@ -63,39 +59,37 @@ fn clone_of_spans(rt: HostRuntime) -> Result<(), Fail> {
 
 #[test]
 fn columns(rt: HostRuntime) -> Result<(), Fail> {
-    let (table, before) = with_clone(spans(rt.alloc())?)?;
-    let all = table.columns();
-    keeps(&rt, table, before, all)
+    reads(&rt, spans(rt.alloc())?, SpanTable::columns)
 }
 
 #[test]
 fn rows(rt: HostRuntime) -> Result<(), Fail> {
-    let (table, before) = with_clone(spans(rt.alloc())?)?;
-    let all = table.rows();
-    keeps(&rt, table, before, all)
+    reads(&rt, spans(rt.alloc())?, SpanTable::rows)
 }
 
 #[test]
 fn anchors(rt: HostRuntime) -> Result<(), Fail> {
-    let (table, before) = with_clone(spans(rt.alloc())?)?;
-    let all = table.anchors();
-    keeps(&rt, table, before, all)
+    reads(&rt, spans(rt.alloc())?, SpanTable::anchors)
 }
 
 /// A first border needs room for its parts and for each count of them.
 #[test]
 fn first_border(rt: HostRuntime) -> Result<(), Fail> {
-    let (mut table, before) = with_clone(BorderTable::new(rt.alloc()))?;
-    let answer = table.insert_border(at(0, 0), Border::filled('x'));
-    keeps(&rt, table, before, answer)
+    changes(
+        &rt,
+        BorderTable::new(rt.alloc()),
+        |table| table.insert_border(at(0, 0), Border::filled('x')),
+    )
 }
 
 /// A second offset of a position.
 #[test]
 fn second_offset(rt: HostRuntime) -> Result<(), Fail> {
-    let (mut table, before) = with_clone(offsets(rt.alloc())?)?;
-    let answer = table.set(at(0, 0), Offset::End(2), 'n');
-    keeps(&rt, table, before, answer)
+    changes(
+        &rt,
+        offsets(rt.alloc())?,
+        |table| table.set(at(0, 0), Offset::End(2), 'n'),
+    )
 }
 
 /// A row span beside a column span grows two maps.
@@ -103,16 +97,12 @@ fn second_offset(rt: HostRuntime) -> Result<(), Fail> {
 fn row_span_beside_column_span(rt: HostRuntime) -> Result<(), Fail> {
     let mut table = SpanTable::new(rt.alloc());
     table.set_column(at(0, 0), 2)?;
-    let (mut table, before) = with_clone(table)?;
-    let answer = table.set_row(at(0, 0), 2);
-    keeps(&rt, table, before, answer)
+    changes(&rt, table, |table| table.set_row(at(0, 0), 2))
 }
 
 #[test]
 fn column_span_beside_row_span(rt: HostRuntime) -> Result<(), Fail> {
     let mut table = SpanTable::new(rt.alloc());
     table.set_row(at(0, 0), 2)?;
-    let (mut table, before) = with_clone(table)?;
-    let answer = table.set_column(at(0, 0), 2);
-    keeps(&rt, table, before, answer)
+    changes(&rt, table, |table| table.set_column(at(0, 0), 2))
 }

@@ -18,7 +18,7 @@ abbrev pub rows_seen : List (Bor (List (Bor (List ℕ)))) → List (List (List �
 rows_seen rows = map (λ row. texts_of row.now) rows
 
 abbrev pub table_seen : Script → Table
-table_seen script = record { columns = script.columns; settings = script.settings.items; rows = rows_seen script.rows.items }
+table_seen script = record { columns = script.columns; settings = map setting_told script.settings.items; rows = rows_seen script.rows.items }
 
 -- the rows with these cells in the last one, if there is one
 abbrev pub with_last : List (List (List ℕ)) → List (List ℕ) → List (List (List ℕ))

@@ -1,14 +1,20 @@
 -- What the lines of a script set, as settings of a configuration.
-use Rattle.std.specs.Prelude.{Some}
+use Rattle.std.specs.Prelude.{ℕ, Some}
+use Rattle.papergrid_values.specs.declared.indent.Indent.{Indent}
+use Rattle.papergrid_values.specs.declared.sides.Sides.{Sides}
 use Rattle.papergrid_values.specs.Borders.{frame_with}
 use Rattle.papergrid_config.specs.declared.setting.Setting.{Setting}
 use Rattle.papergrid_config.specs.declared.setting.Setting.TheVariants.{SetPadding, SetColumnSpan, SetRowSpan, SetBorders, InsertVerticalLine, InsertHorizontalLine, RemoveVerticalLine, RemoveHorizontalLine}
 use Rattle.papergrid_script.specs.declared.script_setting.ScriptSetting.{ScriptSetting}
 use Rattle.papergrid_script.specs.declared.script_setting.ScriptSetting.TheVariants.{Padding, ColumnSpan, RowSpan, Border, VerticalLine, HorizontalLine, NoVerticalLine, NoHorizontalLine}
-use Rattle.papergrid_script.specs.Grammar.{horizontal_main, vertical_main}
+use Rattle.papergrid_script.specs.Grammar.{horizontal_main, spaces, vertical_main}
+
+-- so many spaces on each side
+abbrev pub spaced_sides : Sides ℕ → Sides Indent
+spaced_sides sides = record { top = spaces sides.top; bottom = spaces sides.bottom; left = spaces sides.left; right = spaces sides.right }
 
 abbrev pub setting_told : ScriptSetting → Setting
-setting_told (Padding entity sides) = SetPadding entity sides
+setting_told (Padding entity sides) = SetPadding entity (spaced_sides sides)
 setting_told (ColumnSpan place count) = SetColumnSpan place count
 setting_told (RowSpan place count) = SetRowSpan place count
 setting_told (Border c) = SetBorders (frame_with (Some c))

@@ -1,5 +1,5 @@
 use Rattle.std.proofs.Common.{◌≡◌, ap, ◌∙◌, sym, length}
-use Rattle.std.specs.Prelude.{Option, Some, flat_map}
+use Rattle.std.specs.Prelude.{Option, Some, flat_map, map}
 use Rattle.std.proofs.lemmas.List.{length-map}
 use Rattle.papergrid_maps.specs.Spans.{column_span, row_span}
 use Rattle.papergrid_maps.proofs.MadeTables.{told_spans}
@@ -8,6 +8,7 @@ use Rattle.papergrid.specs.declared.estimate.Sizing.TheVariants.{ByShares}
 use Rattle.papergrid.specs.Estimates.{OutOfTable}
 use Rattle.papergrid.specs.Reasons.{estimate_reason}
 use Rattle.papergrid_script.specs.ForProofs.Seen.{table_seen, texts_of}
+use Rattle.papergrid_script.specs.ForProofs.Settings.{setting_told}
 use Rattle.papergrid.specs.declared.explained.Reason.{Reason}
 use Rattle.papergrid.specs.declared.explained.Reason.TheVariants as reason
 use Rattle.papergrid.proofs.SeenLemmas.{gives_seen}
@@ -25,7 +26,7 @@ returns-in-Err-OutOfTable c =
     let place = c.in-Err-OutOfTable.position in
     let gave = gives_seen (λ cell. cell.now) script c.in_ok-config.config _ _ ByShares c.estimate.result c.in_ok-config.ensures (ap (λ r. r.iter.items) c.new-records.ensures) (ap (λ r. r.count_columns) c.new-records.ensures) c.estimate.ensures in
     let is = rw (c.in-Err-OutOfTable.is, c.in-Err-OutOfTable.field-0-is) at gave in
-    let spans = told_spans (flat_map span_calls script.settings.items) c.in_ok-config.config.spans c.in_ok-config.ensures.spans in
+    let spans = told_spans (flat_map span_calls (map setting_told script.settings.items)) c.in_ok-config.config.spans c.in_ok-config.ensures.spans in
     let down = c.spans_at-spans.ensures.rows ∙ ap (λ s. row_span s place) spans in
     let across = c.spans_at-spans.ensures.columns ∙ ap (λ s. column_span s place) spans in
     let rows = c.len-count.ensures ∙ script.rows.ok.0 ∙ sym (length-map script.rows.items (λ row. texts_of row.now)) in

@@ -1,0 +1,7 @@
+use Rattle.std.proofs.Common.{map}
+use Rattle.papergrid_config.specs.Told.{IsTold}
+use Rattle.papergrid_script.specs.ForProofs.Settings.{setting_told}
+use Rattle.papergrid_script.proofs.script_setting.configuration_of.Given as goal
+
+abbrev pub invariant-loop-setting : goal.invariant-loop-setting
+invariant-loop-setting l = IsTold (map setting_told l.yielded) l.config
