@@ -78,10 +78,8 @@ fn laid_out<D: Estimate<R, SpannedConfig> + Drop, R>(
     ensures ok { IfOk result (λ made. D.is_estimate made records config.now) }
     ensures err { IfErr result (λ error. D.is_refused dimension records config.now error) }
 {
-    match dimension.estimate(records, config) {
-        Ok(()) => Ok(dimension),
-        Err(error) => Err(error),
-    }
+    dimension.estimate(records, config)?;
+    Ok(dimension)
 }
 
 /// The configuration that the settings tell. Condition: each setting is in range.

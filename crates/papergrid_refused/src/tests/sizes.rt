@@ -53,9 +53,9 @@ pub fn in_table<A>(rt: &impl Abort, answer: Result<A, LayoutError>) -> Result<A,
 }
 
 /// What a test ends with that asks for something of the picture.
-fn answers<A: Drop, F>(rt: &impl Abort, alloc: Global, ask: F) -> Result<(), Fail>
+fn answers<'a, A: Drop, F>(rt: &impl Abort, alloc: Global, ask: F) -> Result<(), Fail>
 where
-    F: FnOnce(Global, VecRecords<&'static str>, &SpannedConfig) -> Result<A, LayoutError>,
+    F: FnOnce(Global, VecRecords<&'a str>, &SpannedConfig) -> Result<A, LayoutError>,
     requires { F.IsAlwaysCallable ask }
 {
     let (records, config) = picture(alloc)?;
@@ -142,12 +142,16 @@ fn compact_dimension(rt: HostRuntime) -> Result<(), Fail> {
 
 #[test]
 fn by_width_witness(rt: HostRuntime) -> Result<(), Fail> {
-    answers(&rt, rt.alloc(), width_witness)
+    answers(&rt, rt.alloc(), |alloc, records, config| {
+        width_witness(alloc, records, config)
+    })
 }
 
 #[test]
 fn by_height_witness(rt: HostRuntime) -> Result<(), Fail> {
-    answers(&rt, rt.alloc(), height_witness)
+    answers(&rt, rt.alloc(), |alloc, records, config| {
+        height_witness(alloc, records, config)
+    })
 }
 
 #[test]
