@@ -17,6 +17,7 @@ ghost use Rattle.papergrid.specs.Totals.{AreSized, IsTooLarge};
 
 pub use papergrid_script::laws::{
     entity_form, line_form, number_form, script_by_lines, script_lines_form,
+    script_settings_in_range,
 };
 
 /// What the worked scripts give, by the definitions alone.

@@ -9,7 +9,7 @@ use std::alloc::Global;
 
 /// The settings of a table: of each cell by entity, of the lines by place, overrides of their
 /// characters and colours, spans, and the margin of the whole table.
-#[derive(Clone, Debug, PartialEq, Drop)]
+#[derive(Clone, Debug, PartialEq)]
 pub struct SpannedConfig {
     pub(crate) alloc: Global,
     pub(crate) padding: EntityMap<Sides<Indent>>,
@@ -64,5 +64,34 @@ impl SpannedConfig {
             margin_offset: Sides::filled(Offset::Start(0)),
             missing: ' ',
         }
+    }
+}
+
+// By hand, since what a derive makes is proved anew in each function that drops a configuration.
+impl Drop for SpannedConfig {
+    fn drop(self) {
+        let SpannedConfig {
+            alloc: _,
+            padding: _,
+            padding_color: _,
+            trim_horizontal: _,
+            trim_vertical: _,
+            line_alignment: _,
+            alignment_horizontal: _,
+            alignment_vertical: _,
+            justification: _,
+            justification_color: _,
+            characters: _,
+            colors: _,
+            horizontal_chars: _,
+            vertical_chars: _,
+            horizontal_colors: _,
+            vertical_colors: _,
+            spans: _,
+            margin: _,
+            margin_color: _,
+            margin_offset: _,
+            missing: _,
+        } = self;
     }
 }

@@ -3,6 +3,7 @@ mod CutLemmas
 mod EscapeLemmas
 mod LineLemmas
 mod MarkLemmas
+mod RangeLemmas
 mod ReadLemmas
 mod ScriptLineLemmas
 mod SpellLemmas

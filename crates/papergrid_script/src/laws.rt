@@ -1,7 +1,8 @@
 //! Laws of the definitions, each the contract of a function that does nothing.
 
-ghost use Rattle.std.specs.Prelude.{◌≡◌, ◌+◌, ℕ, IsUtf8, List, Some, Ok, Err};
+ghost use Rattle.std.specs.Prelude.{◌≡◌, ◌+◌, ℕ, All, IsUtf8, List, Some, Ok, Err, true};
 ghost use Rattle.papergrid_values.specs.declared.entity.Entity.{Entity};
+ghost use Rattle.papergrid_config.specs.Applied.{is_in_range};
 ghost use Rattle.papergrid_script.specs.Grammar.{Said, entity_of, number_of, said, script_lines};
 ghost use Rattle.papergrid_script.specs.ScriptLines.{AreScriptLines};
 ghost use Rattle.papergrid_script.specs.Scripts.{Table, table_of};
@@ -39,4 +40,9 @@ pub fn script_by_lines()
     ensures none_bad { (input : List ℕ) (table : Table) → table_of input ≡ Ok table → (i : ℕ) → ¬ (IsBad (script_lines input) i) }
     ensures named { (input : List ℕ) (n : ℕ) → table_of input ≡ Err n → (i : ℕ) × (n ≡ i + 1) × IsFirstBad (script_lines input) i }
     ensures found { (input : List ℕ) (i : ℕ) → IsFirstBad (script_lines input) i → table_of input ≡ Err (i + 1) }
+{}
+
+/// The settings that a script tells are in range: each may be applied.
+pub fn script_settings_in_range()
+    ensures { (input : List ℕ) (table : Table) → table_of input ≡ Ok table → All (λ setting. is_in_range setting ≡ true) table.settings }
 {}

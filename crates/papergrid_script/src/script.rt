@@ -1,11 +1,13 @@
 //! A whole script: its column count, its settings and its rows.
 
-ghost use Rattle.std.specs.Prelude.{◌≡◌, ◌<◌, length, take};
+ghost use Rattle.std.specs.Prelude.{◌≡◌, ◌<◌, All, IfOk, true, length, take};
 ghost use Rattle.std.specs.Str.{IsValidUpTo};
+ghost use Rattle.papergrid_config.specs.Applied.{is_in_range};
 ghost use Rattle.papergrid_script.specs.declared.script.ScriptError.TheVariants.{Memory};
 ghost use Rattle.papergrid_script.specs.Grammar.{without_cr};
 ghost use Rattle.papergrid_script.specs.Scripts.{table_of};
 ghost use Rattle.papergrid_script.specs.ForProofs.Seen.{GivesTable};
+ghost use Rattle.papergrid_script.specs.ForProofs.Settings.{setting_told};
 
 use crate::cut::cut_marked_line;
 use crate::draft::Draft;
@@ -50,7 +52,8 @@ pub fn read_script<'a>(
     arena: &'a Bump,
     input: &'a [u8],
 ) -> Result<Script<'a>, ScriptError>
-    ensures { GivesTable result (table_of input.now) }
+    ensures told { GivesTable result (table_of input.now) }
+    ensures in_range { IfOk result (λ script. All (λ setting. is_in_range (setting_told setting) ≡ true) script.settings.items) }
 {
     let text = text_in_front(input);
     let read = script_of_text(alloc, arena, text);

@@ -1,6 +1,7 @@
 //! Settings as the lines of a script spell them. A `Setting` of a configuration has 850 bytes, and these have 64.
 
-ghost use Rattle.std.specs.Prelude.{◌≡◌, ◌∷◌, [], IfOk, OnOk, map};
+ghost use Rattle.std.specs.Prelude.{◌≡◌, ◌∷◌, [], All, IfOk, IsOk, OnOk, map, true};
+ghost use Rattle.papergrid_config.specs.Applied.{is_free};
 ghost use Rattle.papergrid_config.specs.Told.{Appends, IsTold};
 ghost use Rattle.papergrid_script.specs.ForProofs.Settings.{setting_told, spaced_sides};
 
@@ -13,7 +14,9 @@ use std::alloc::{AllocError, Global};
 pub enum ScriptSetting {
     /// So many spaces on each side of an entity's texts.
     Padding(Entity, Sides<usize>),
+    /// The cell at the position spans so many columns.
     ColumnSpan(Position, usize),
+    /// The cell at the position spans so many rows.
     RowSpan(Position, usize),
     /// All lines of the table are of the character.
     Border(char),
@@ -21,14 +24,17 @@ pub enum ScriptSetting {
     VerticalLine(usize, char),
     /// The line before a row is of the character.
     HorizontalLine(usize, char),
+    /// The line before a column is taken away.
     NoVerticalLine(usize),
+    /// The line before a row is taken away.
     NoHorizontalLine(usize),
 }
 
 impl ScriptSetting {
     /// Makes the call of a configuration that the setting is, or is out of memory.
     fn apply(self, config: &mut SpannedConfig) -> Result<(), AllocError>
-        ensures { OnOk result (Appends config.old config.new (setting_told self ∷ [])) }
+        ensures told { OnOk result (Appends config.old config.new (setting_told self ∷ [])) }
+        ensures free { is_free (setting_told self) ≡ true → IsOk result }
     {
         match self {
             ScriptSetting::Padding(entity, sides) => config.set_padding(entity, spaced(sides))?,
@@ -63,14 +69,16 @@ fn spaced(sides: Sides<usize>) -> Sides<Indent>
     )
 }
 
-/// The configuration that the settings tell, or out of memory.
+/// The configuration that the settings tell. Errors: `AllocError` where memory is refused; settings that take
+/// none (borders, removals, paddings of the whole table, spans below 2) are never refused.
 // It is made where its caller keeps it: it is large, and is not moved.
 #[inline(always)]
 pub fn configuration_of(
     alloc: Global,
     settings: Vec<ScriptSetting>,
 ) -> Result<SpannedConfig, AllocError>
-    ensures { IfOk result (λ config. IsTold (map setting_told settings.items) config) }
+    ensures told { IfOk result (λ config. IsTold (map setting_told settings.items) config) }
+    ensures free { All (λ setting. is_free (setting_told setting) ≡ true) settings.items → IsOk result }
 {
     let mut config = SpannedConfig::new(alloc);
     for setting in settings {

@@ -1,7 +1,7 @@
 //! Configurations, and lists of settings.
 
-use super::settings::{apply, each, held, padding, ten, told, twins, two_of_each};
-use super::{clones, keeps, reads, says};
+use super::settings::{apply, each, full, held, padding, ten, told, two_of_each};
+use super::{changes, clones, keeps, reads, says};
 use papergrid_config::{CompactConfig, Setting, SpannedConfig, Stopped};
 use papergrid_values::{ANSIStr, Borders, Entity, Sides};
 use std::alloc::{AllocError, Global};
@@ -10,12 +10,11 @@ use std::test::Fail;
 
 #[test]
 fn apply_one(rt: HostRuntime) -> Result<(), Fail> {
-    let (mut config, before) = twins(rt.alloc())?;
-    let answer = apply(
-        &mut config,
-        Setting::SetPadding(Entity::Column(2), padding(2)),
-    );
-    keeps(&rt, config, before, answer)
+    changes(
+        &rt,
+        full(rt.alloc())?,
+        |config| apply(config, Setting::SetPadding(Entity::Column(2), padding(2))),
+    )
 }
 
 /// What a test ends with where memory was refused to the next of the settings that are given.

@@ -1,7 +1,7 @@
 //! The setters of a configuration that holds one of each setting.
 
-use super::settings::{left, padding, top_and_bottom, twins};
-use super::{at, color, keeps};
+use super::settings::{full, left, padding, top_and_bottom};
+use super::{at, changes, color};
 use papergrid_config::SpannedConfig;
 use papergrid_values::{
     AlignmentHorizontal, AlignmentVertical, Border, Entity, HorizontalLine, Offset, VerticalLine,
@@ -19,9 +19,7 @@ where
     F: FnOnce(&mut SpannedConfig) -> Result<(), AllocError>,
     requires { F.IsAlwaysCallable set }
 {
-    let (mut config, before) = twins(alloc)?;
-    let answer = set(&mut config);
-    keeps(rt, config, before, answer)
+    changes(rt, full(alloc)?, set)
 }
 
 #[test]

@@ -1,6 +1,6 @@
 //! Lists of settings, and configurations that they tell.
 
-use super::{at, color, with_clone};
+use super::{at, color};
 use papergrid_config::{Setting, SpannedConfig};
 use papergrid_values::{
     ANSIBuf, AlignmentHorizontal, AlignmentVertical, Border, Borders, Entity, HorizontalLine,
@@ -164,7 +164,7 @@ pub fn told(alloc: Global, settings: Vec<Setting>) -> Result<SpannedConfig, Allo
     }
 }
 
-/// A configuration that holds one of each setting, and its clone.
-pub fn twins(alloc: Global) -> Result<(SpannedConfig, SpannedConfig), AllocError> {
-    with_clone(told(alloc, held(alloc)?)?)
+/// A configuration that holds one of each setting.
+pub fn full(alloc: Global) -> Result<SpannedConfig, AllocError> {
+    told(alloc, held(alloc)?)
 }
