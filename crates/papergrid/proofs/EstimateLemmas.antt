@@ -1,6 +1,6 @@
 -- What an estimate is, by the answers of a dimension, and what follows from it.
 use Rattle.std.proofs.Common.{◌≡◌, ◌⊎◌, ◌∙◌, ℕ, ◌+◌, ◌<◌, ◌≤◌, ◌^◌, Bool, true, false, List, [], ◌∷◌, ◌||◌, length, map, refl, ap, sym, subst, arith, inl, inr, nat_lt, nat_le}
-use Rattle.std.specs.Prelude.{Option, Some, None, Result, Ok, Err, Vec, find, if◌then◌else◌}
+use Rattle.std.specs.Prelude.{Option, Some, None, Result, Ok, Err, Vec, find}
 use Rattle.std.specs.declared.alloc.Global.{Global}
 use Rattle.std.proofs.lemmas.Bool.Decides.{nat_tests}
 use Rattle.std.proofs.lemmas.List.{length-map}

@@ -10,7 +10,7 @@ use Rattle.papergrid_walk.specs.Looks.{spanned_look}
 use Rattle.papergrid_walk.specs.Measures.{line_measure}
 use Rattle.papergrid.specs.Estimates.{Estimate, estimate_by, estimate_of, text_measure}
 use Rattle.papergrid.specs.Looks.{look_of}
-use Rattle.papergrid_script.specs.ForProofs.Seen.{rows_seen, table_seen, texts_of}
+use Rattle.papergrid_script.specs.ForProofs.Seen.{rows_seen, table_seen}
 use Rattle.papergrid_script.specs.ForProofs.Settings.{setting_told}
 use Rattle.papergrid.specs.ForProofs.Seen.{GivesEstimate}
 use Rattle.papergrid.specs.declared.estimate.Sizes.{Sizes}

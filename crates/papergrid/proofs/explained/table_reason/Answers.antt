@@ -1,5 +1,5 @@
-use Rattle.std.proofs.Common.{◌≡◌, ap, ◌∙◌, sym, length}
-use Rattle.std.specs.Prelude.{Option, Some, flat_map, map}
+use Rattle.std.proofs.Common.{◌≡◌, ap, ◌∙◌, sym}
+use Rattle.std.specs.Prelude.{Some, flat_map, map}
 use Rattle.std.proofs.lemmas.List.{length-map}
 use Rattle.papergrid_maps.specs.Spans.{column_span, row_span}
 use Rattle.papergrid_maps.proofs.MadeTables.{told_spans}
@@ -9,14 +9,13 @@ use Rattle.papergrid.specs.Estimates.{OutOfTable}
 use Rattle.papergrid.specs.Reasons.{estimate_reason}
 use Rattle.papergrid_script.specs.ForProofs.Seen.{table_seen, texts_of}
 use Rattle.papergrid_script.specs.ForProofs.Settings.{setting_told}
-use Rattle.papergrid.specs.declared.explained.Reason.{Reason}
 use Rattle.papergrid.specs.declared.explained.Reason.TheVariants as reason
 use Rattle.papergrid.proofs.SeenLemmas.{gives_seen}
 use Rattle.papergrid.proofs.explained.table_reason.Goals as goal
 
 pub returns-in-Ok : goal.returns-in-Ok
 returns-in-Ok c =
-    let gave = gives_seen (λ cell. cell.now) c.args.script c.in_ok-config.config _ _ ByShares c.estimate.result c.in_ok-config.ensures (ap (λ r. r.iter.items) c.new-records.ensures) (ap (λ r. r.count_columns) c.new-records.ensures) c.estimate.ensures in
+    let gave = gives_seen (λ cell. cell.now) c.args.script c.in_ok-config.config _ _ ByShares c.estimate.result c.in_ok-config.ensures.told (ap (λ r. r.iter.items) c.new-records.ensures) (ap (λ r. r.count_columns) c.new-records.ensures) c.estimate.ensures in
     let is = rw c.in-Ok.is at gave in
     ap (estimate_reason (table_seen c.args.script)) is
 
@@ -24,9 +23,9 @@ pub returns-in-Err-OutOfTable : goal.returns-in-Err-OutOfTable
 returns-in-Err-OutOfTable c =
     let script = c.args.script in
     let place = c.in-Err-OutOfTable.position in
-    let gave = gives_seen (λ cell. cell.now) script c.in_ok-config.config _ _ ByShares c.estimate.result c.in_ok-config.ensures (ap (λ r. r.iter.items) c.new-records.ensures) (ap (λ r. r.count_columns) c.new-records.ensures) c.estimate.ensures in
+    let gave = gives_seen (λ cell. cell.now) script c.in_ok-config.config _ _ ByShares c.estimate.result c.in_ok-config.ensures.told (ap (λ r. r.iter.items) c.new-records.ensures) (ap (λ r. r.count_columns) c.new-records.ensures) c.estimate.ensures in
     let is = rw (c.in-Err-OutOfTable.is, c.in-Err-OutOfTable.field-0-is) at gave in
-    let spans = told_spans (flat_map span_calls (map setting_told script.settings.items)) c.in_ok-config.config.spans c.in_ok-config.ensures.spans in
+    let spans = told_spans (flat_map span_calls (map setting_told script.settings.items)) c.in_ok-config.config.spans c.in_ok-config.ensures.told.spans in
     let down = c.spans_at-spans.ensures.rows ∙ ap (λ s. row_span s place) spans in
     let across = c.spans_at-spans.ensures.columns ∙ ap (λ s. column_span s place) spans in
     let rows = c.len-count.ensures ∙ script.rows.ok.0 ∙ sym (length-map script.rows.items (λ row. texts_of row.now)) in
@@ -36,6 +35,6 @@ returns-in-Err-OutOfTable c =
 
 pub returns-in-Err-TooLarge : goal.returns-in-Err-TooLarge
 returns-in-Err-TooLarge c =
-    let gave = gives_seen (λ cell. cell.now) c.args.script c.in_ok-config.config _ _ ByShares c.estimate.result c.in_ok-config.ensures (ap (λ r. r.iter.items) c.new-records.ensures) (ap (λ r. r.count_columns) c.new-records.ensures) c.estimate.ensures in
+    let gave = gives_seen (λ cell. cell.now) c.args.script c.in_ok-config.config _ _ ByShares c.estimate.result c.in_ok-config.ensures.told (ap (λ r. r.iter.items) c.new-records.ensures) (ap (λ r. r.count_columns) c.new-records.ensures) c.estimate.ensures in
     let is = rw (c.in-Err-TooLarge.is, c.in-Err-TooLarge.field-0-is) at gave in
     ap (estimate_reason (table_seen c.args.script)) is
