@@ -20,8 +20,8 @@ const MAX: usize = 18446744073709551615;
 
 const HALF: usize = 9223372036854775807;
 
-/// A cell's row and column, its span, its measure and a padding.
-type Cell = (usize, usize, usize, usize, usize);
+/// A cell's column, its span, its measure and a padding.
+type Cell = (usize, usize, usize, usize);
 
 /// The spans of two cells, and the lines: all or, by its number, one. All other cells have a span of
 /// one.
@@ -78,358 +78,258 @@ fn one_line(line: usize) -> Sample {
     Sample { line, ..NONE }
 }
 
-const PICTURE: [Cell; 5] = [
-    (0, 0, 1, 9, 8),
-    (0, 1, 1, 12, 0),
-    (0, 2, 1, 16, 0),
-    (0, 3, 1, 1, 0),
-    (1, 1, 3, 14, 0),
+/// A table, by the cells of each row, along a direction.
+#[derive(Clone, Copy)]
+struct Table<'a> {
+    direction: Direction,
+    axis: Sample,
+    rows: &'a [&'a [Cell]],
+}
+
+/// A table along its columns.
+fn columns<'a>(axis: Sample, rows: &'a [&'a [Cell]]) -> Table<'a> {
+    Table {
+        direction: Columns,
+        axis,
+        rows,
+    }
+}
+
+/// A table along its rows.
+fn rows<'a>(axis: Sample, rows: &'a [&'a [Cell]]) -> Table<'a> {
+    Table {
+        direction: Rows,
+        ..columns(axis, rows)
+    }
+}
+
+const PICTURE: &[&[Cell]] = &[
+    &[(0, 1, 9, 8), (1, 1, 12, 0), (2, 1, 16, 0), (3, 1, 1, 0)],
+    &[(1, 3, 14, 0)],
 ];
 
-const NESTED: [Cell; 6] = [
-    (0, 0, 1, 1, 0),
-    (0, 1, 1, 1, 0),
-    (0, 2, 1, 1, 0),
-    (1, 0, 3, 10, 0),
-    (2, 0, 1, 1, 0),
-    (2, 1, 2, 8, 0),
+const NESTED: &[&[Cell]] = &[
+    &[(0, 1, 1, 0), (1, 1, 1, 0), (2, 1, 1, 0)],
+    &[(0, 3, 10, 0)],
+    &[(0, 1, 1, 0), (1, 2, 8, 0)],
 ];
 
-const NESTED_ROWS: [Cell; 6] = [
-    (0, 0, 1, 1, 0),
-    (0, 1, 3, 1, 9),
-    (0, 2, 1, 1, 0),
-    (1, 0, 1, 1, 0),
-    (1, 2, 2, 1, 7),
-    (2, 0, 1, 1, 0),
+const HIGH: &[&[Cell]] = &[
+    &[(0, 1, 1, 0), (1, 3, 1, 9), (2, 1, 1, 0)],
+    &[(0, 1, 1, 0), (2, 2, 1, 7)],
+    &[(0, 1, 1, 0)],
 ];
 
-const EVEN: [Cell; 8] = [
-    (0, 0, 2, 7, 0),
-    (0, 1, 1, 1, 0),
-    (0, 2, 1, 1, 0),
-    (1, 1, 1, 1, 0),
-    (1, 2, 1, 1, 0),
-    (2, 0, 1, 1, 0),
-    (2, 1, 1, 1, 0),
-    (2, 2, 1, 1, 0),
+const EVEN: &[&[Cell]] = &[
+    &[(0, 2, 7, 0), (1, 1, 1, 0), (2, 1, 1, 0)],
+    &[(1, 1, 1, 0), (2, 1, 1, 0)],
+    &[(0, 1, 1, 0), (1, 1, 1, 0), (2, 1, 1, 0)],
 ];
 
-const INNER_ROWS: [Cell; 11] = [
-    (0, 0, 1, 1, 0),
-    (0, 1, 4, 1, 6),
-    (0, 2, 2, 1, 4),
-    (0, 3, 1, 1, 0),
-    (1, 0, 1, 1, 0),
-    (1, 3, 1, 1, 0),
-    (2, 0, 1, 1, 0),
-    (2, 2, 1, 1, 0),
-    (2, 3, 2, 1, 2),
-    (3, 0, 1, 1, 0),
-    (3, 2, 1, 1, 0),
+const INNER: &[&[Cell]] = &[
+    &[(0, 1, 1, 0), (1, 4, 1, 6), (2, 2, 1, 4), (3, 1, 1, 0)],
+    &[(0, 1, 1, 0), (3, 1, 1, 0)],
+    &[(0, 1, 1, 0), (2, 1, 1, 0), (3, 2, 1, 2)],
+    &[(0, 1, 1, 0), (2, 1, 1, 0)],
 ];
 
-const CROSSING: [Cell; 4] = [
-    (0, 0, 2, 10, 0),
-    (0, 2, 1, 0, 0),
-    (1, 0, 1, 0, 0),
-    (1, 1, 2, 10, 0),
+const CROSSING: &[&[Cell]] = &[
+    &[(0, 2, 10, 0), (2, 1, 0, 0)],
+    &[(0, 1, 0, 0), (1, 2, 10, 0)],
 ];
 
 fn at(row: usize, col: usize) -> Position {
     Position::new(row, col)
 }
 
-fn seen(
-    alloc: Global,
-    direction: Direction,
-    count: usize,
-    cells: &[Cell],
-) -> Result<Seen, AllocError>
+fn seen(alloc: Global, table: Table<'_>, count: usize) -> Result<Seen, AllocError>
     ensures { IfOk result (λ seen. (demands : List Demand) × IsSeen count seen demands) }
 {
     let mut seen = Seen::new(alloc, count);
-    for (row, col, span, measure, padding) in cells {
-        let position = at(*row, *col);
-        keep(
-            &mut seen,
-            direction,
-            position,
-            (*span).max(1),
-            *measure,
-            *padding,
-            0,
-        )?;
+    for (row, cells) in table.rows.iter().enumerate() {
+        for (col, span, measure, padding) in *cells {
+            let (position, span) = (at(row, *col), (*span).max(1));
+            keep(
+                &mut seen,
+                table.direction,
+                position,
+                span,
+                *measure,
+                *padding,
+                0,
+            )?;
+        }
     }
     Ok(seen)
 }
 
-fn sizes(
-    alloc: Global,
-    direction: Direction,
-    count: usize,
-    axis: Sample,
-    cells: &[Cell],
-) -> Result<Vec<usize>, LayoutError> {
-    let seen = seen(alloc, direction, count, cells)?;
-    Vec::<usize>::solve(alloc, count, &seen, &axis)
-}
-
-fn certified(
-    alloc: Global,
-    direction: Direction,
-    count: usize,
-    axis: Sample,
-    cells: &[Cell],
-) -> Result<CertifiedSizes, LayoutError> {
-    let seen = seen(alloc, direction, count, cells)?;
-    CertifiedSizes::solve(alloc, count, &seen, &axis)
+/// What a table of so many columns (rows) comes to.
+fn solved<S: Solution>(alloc: Global, table: Table<'_>, count: usize) -> Result<S, LayoutError> {
+    let seen = seen(alloc, table, count)?;
+    S::solve(alloc, count, &seen, &table.axis)
 }
 
 /// Whether these are the sizes, alone and with their places, and these the places.
-fn finds(
-    alloc: Global,
-    direction: Direction,
-    axis: Sample,
-    cells: &[Cell],
-    expected: &[usize],
-    places: Option<&[Position]>,
-) -> Result<bool, LayoutError> {
-    let count = expected.len();
-    let alone = sizes(alloc, direction, count, axis, cells)?;
-    let found = certified(alloc, direction, count, axis, cells)?;
+fn finds(alloc: Global, table: Table<'_>, sizes: &[usize], places: Option<&[Position]>) -> bool {
+    let alone = solved::<Vec<usize>>(alloc, table, sizes.len());
+    let found = solved::<CertifiedSizes>(alloc, table, sizes.len());
+    let (Ok(alone), Ok(found)) = (&alone, &found) else {
+        return false;
+    };
     let agree = match (&found.witness, places) {
         (Some(witness), Some(places)) => witness.as_slice() == places,
         (None, None) => true,
         _ => false,
     };
-    Ok(agree && alone.as_slice() == expected && found.sizes.as_slice() == expected)
+    agree && alone.as_slice() == sizes && found.sizes.as_slice() == sizes
 }
 
 /// Whether there are no sizes, alone or with their places, for this reason.
-fn refuses(
-    alloc: Global,
-    direction: Direction,
-    count: usize,
-    axis: Sample,
-    cells: &[Cell],
-    reason: LayoutError,
-) -> bool {
-    let alone = sizes(alloc, direction, count, axis, cells).err();
-    let found = certified(alloc, direction, count, axis, cells).err();
+fn refuses(alloc: Global, table: Table<'_>, count: usize, reason: LayoutError) -> bool {
+    let alone = solved::<Vec<usize>>(alloc, table, count).err();
+    let found = solved::<CertifiedSizes>(alloc, table, count).err();
     alone == Some(reason) && found == Some(reason)
 }
 
 /// Whether sizes and places are accepted for cells whose spans are those of the axis.
-fn check(
-    direction: Direction,
-    count: usize,
-    axis: Sample,
-    cells: &[Cell],
-    sizes: &[usize],
-    places: &[Position],
-) -> bool {
+fn check(table: Table<'_>, count: usize, sizes: &[usize], places: &[Position]) -> bool {
     let claim = Claim {
-        direction,
+        direction: table.direction,
         sizes,
         places,
-        is_ordered: are_in_order(direction, &axis, places),
+        is_ordered: are_in_order(table.direction, &table.axis, places),
         ends_within: false,
     };
     let mut checked = Checked::new();
-    for (row, col, _, measure, padding) in cells {
-        let need = wide_need(*measure, *padding, 0);
-        checked = visit(checked, &claim, &axis, at(*row, *col), need);
+    for (row, cells) in table.rows.iter().enumerate() {
+        for (col, _, measure, padding) in *cells {
+            let need = wide_need(*measure, *padding, 0);
+            checked = visit(checked, &claim, &table.axis, at(row, *col), need);
+        }
     }
-    accepts(checked, &claim, &axis, count)
+    accepts(checked, &claim, &table.axis, count)
 }
 
 #[test]
 fn readme_picture(rt: HostRuntime) {
-    let alloc = rt.alloc();
-    assert_eq!(rt;
-        finds(
-            alloc,
-            Columns,
-            LINED,
-            &PICTURE,
-            &[17, 12, 16, 1],
-            Some(&[at(0, 0), at(0, 1), at(0, 2), at(0, 3)])
-        ),
-        Ok(true)
-    );
+    let places = [at(0, 0), at(0, 1), at(0, 2), at(0, 3)];
+    let table = columns(LINED, PICTURE);
+    assert!(rt; finds(rt.alloc(), table, &[17, 12, 16, 1], Some(&places)));
 }
 
 #[test]
 fn even_shares_over_inner_line(rt: HostRuntime) {
-    let alloc = rt.alloc();
-    assert_eq!(rt;
-        finds(
-            alloc,
-            Rows,
-            LINED,
-            &EVEN,
-            &[3, 3, 1],
-            Some(&[at(0, 0), at(2, 0)])
-        ),
-        Ok(true)
-    );
+    let places = [at(0, 0), at(2, 0)];
+    assert!(rt; finds(rt.alloc(), rows(LINED, EVEN), &[3, 3, 1], Some(&places)));
 }
 
 #[test]
 fn remainder_to_first(rt: HostRuntime) {
-    let alloc = rt.alloc();
-    let rows = [(0, 0, 2, 8, 0), (0, 1, 1, 1, 0), (1, 1, 1, 1, 0)];
-    assert_eq!(rt;
-        finds(alloc, Rows, LINED, &rows, &[4, 3], Some(&[at(0, 0)])),
-        Ok(true)
-    );
+    let table = rows(LINED, &[&[(0, 2, 8, 0), (1, 1, 1, 0)], &[(1, 1, 1, 0)]]);
+    assert!(rt; finds(rt.alloc(), table, &[4, 3], Some(&[at(0, 0)])));
 }
 
 #[test]
 fn lines_alone_satisfy(rt: HostRuntime) {
-    let alloc = rt.alloc();
-    let rows = [
-        (0, 0, 3, 1, 0),
-        (0, 1, 2, 1, 0),
-        (0, 2, 2, 1, 0),
-        (2, 1, 1, 1, 0),
-        (2, 2, 1, 1, 0),
-    ];
-    assert_eq!(rt;
-        finds(alloc, Rows, LINED, &rows, &[0, 0, 1], Some(&[at(2, 1)])),
-        Ok(true)
+    let table = rows(
+        LINED,
+        &[
+            &[(0, 3, 1, 0), (1, 2, 1, 0), (2, 2, 1, 0)],
+            &[],
+            &[(1, 1, 1, 0), (2, 1, 1, 0)],
+        ],
     );
+    assert!(rt; finds(rt.alloc(), table, &[0, 0, 1], Some(&[at(2, 1)])));
 }
 
 #[test]
 fn nested_spans(rt: HostRuntime) {
     let alloc = rt.alloc();
-    assert_eq!(rt;
-        finds(alloc, Columns, NONE, &NESTED, &[2, 4, 4], Some(&[at(1, 0)])),
-        Ok(true)
-    );
-    assert_eq!(rt;
-        finds(
-            alloc,
-            Rows,
-            NONE,
-            &NESTED_ROWS,
-            &[2, 4, 4],
-            Some(&[at(0, 1)])
-        ),
-        Ok(true)
-    );
-    assert_eq!(rt;
-        finds(
-            alloc,
-            Rows,
-            NONE,
-            &INNER_ROWS,
-            &[3, 2, 2, 1],
-            Some(&[at(0, 2), at(2, 3)])
-        ),
-        Ok(true)
-    );
+    assert!(rt; finds(alloc, columns(NONE, NESTED), &[2, 4, 4], Some(&[at(1, 0)])));
+    assert!(rt; finds(alloc, rows(NONE, HIGH), &[2, 4, 4], Some(&[at(0, 1)])));
+    let inner = [at(0, 2), at(2, 3)];
+    assert!(rt; finds(alloc, rows(NONE, INNER), &[3, 2, 2, 1], Some(&inner)));
 }
 
 #[test]
 fn crossing_spans(rt: HostRuntime) {
     let alloc = rt.alloc();
-    let rows = [
-        (0, 0, 2, 10, 0),
-        (0, 1, 1, 1, 0),
-        (1, 1, 2, 10, 0),
-        (2, 0, 1, 1, 0),
+    let high: &[&[Cell]] = &[
+        &[(0, 2, 10, 0), (1, 1, 1, 0)],
+        &[(1, 2, 10, 0)],
+        &[(0, 1, 1, 0)],
     ];
-    assert_eq!(rt; finds(alloc, Rows, NONE, &rows, &[6, 7, 3], None), Ok(true));
-    assert_eq!(rt;
-        finds(alloc, Columns, NONE, &CROSSING, &[5, 8, 2], None),
-        Ok(true)
-    );
+    assert!(rt; finds(alloc, rows(NONE, high), &[6, 7, 3], None));
+    assert!(rt; finds(alloc, columns(NONE, CROSSING), &[5, 8, 2], None));
 }
 
 #[test]
 fn equal_ranges(rt: HostRuntime) {
     let alloc = rt.alloc();
-    let cells = [(0, 0, 2, 3, 0), (1, 0, 2, 6, 0)];
-    let rows = [(0, 0, 2, 6, 0), (0, 1, 2, 3, 0)];
-    assert_eq!(rt;
-        finds(alloc, Columns, NONE, &cells, &[4, 2], Some(&[at(1, 0)])),
-        Ok(true)
-    );
-    assert_eq!(rt;
-        finds(alloc, Rows, NONE, &rows, &[3, 3], Some(&[at(0, 0)])),
-        Ok(true)
-    );
+    let wide = columns(NONE, &[&[(0, 2, 3, 0)], &[(0, 2, 6, 0)]]);
+    assert!(rt; finds(alloc, wide, &[4, 2], Some(&[at(1, 0)])));
+    let high = rows(NONE, &[&[(0, 2, 6, 0), (1, 2, 3, 0)]]);
+    assert!(rt; finds(alloc, high, &[3, 3], Some(&[at(0, 0)])));
 }
 
 #[test]
 fn greatest_size(rt: HostRuntime) {
     let alloc = rt.alloc();
-    let cell = [(0, 0, 1, 0, MAX)];
-    assert_eq!(rt;
-        finds(alloc, Columns, NONE, &cell, &[MAX], Some(&[at(0, 0)])),
-        Ok(true)
-    );
-    let larger = [(0, 0, 1, 1, MAX)];
-    assert!(rt; refuses(alloc, Columns, 1, NONE, &larger, TooLarge));
-    assert!(rt; refuses(alloc, Columns, 1, one_line(1), &cell, TooLarge));
-    assert!(rt; refuses(alloc, Columns, 1, LINED, &cell, TooLarge));
+    let cell: &[&[Cell]] = &[&[(0, 1, 0, MAX)]];
+    assert!(rt; finds(alloc, columns(NONE, cell), &[MAX], Some(&[at(0, 0)])));
+    let larger = columns(NONE, &[&[(0, 1, 1, MAX)]]);
+    for table in [larger, columns(one_line(1), cell), columns(LINED, cell)] {
+        assert!(rt; refuses(alloc, table, 1, TooLarge));
+    }
 }
 
 #[test]
 fn halves_of_the_greatest(rt: HostRuntime) {
     let alloc = rt.alloc();
-    let cell = [(0, 0, 2, 0, MAX)];
+    let cell: &[&[Cell]] = &[&[(0, 2, 0, MAX)]];
     let place = [at(0, 0)];
-    let above = [HALF + 1, HALF];
-    assert_eq!(rt;
-        finds(alloc, Columns, NONE, &cell, &above, Some(&place)),
-        Ok(true)
-    );
-    let halves = [HALF, HALF];
-    assert_eq!(rt;
-        finds(alloc, Columns, one_line(1), &cell, &halves, Some(&place)),
-        Ok(true)
-    );
-    assert!(rt; refuses(alloc, Columns, 2, one_line(0), &cell, TooLarge));
+    assert!(rt; finds(alloc, columns(NONE, cell), &[HALF + 1, HALF], Some(&place)));
+    let lined = columns(one_line(1), cell);
+    assert!(rt; finds(alloc, lined, &[HALF, HALF], Some(&place)));
+    assert!(rt; refuses(alloc, columns(one_line(0), cell), 2, TooLarge));
 }
 
+// The cells of a row, how many columns there are, and the column of the first cell that reaches out.
 #[test]
 fn out_of_table(rt: HostRuntime) {
-    let alloc = rt.alloc();
-    let wide = [(0, 0, 3, 1, 0)];
-    assert!(rt; refuses(alloc, Columns, 2, NONE, &wide, OutOfTable(at(0, 0))));
-    let second = [(0, 0, 1, 1, 0), (0, 1, 1, 1, 0)];
-    assert!(rt; refuses(alloc, Columns, 1, NONE, &second, OutOfTable(at(0, 1))));
-    let greatest = [(0, 0, MAX, 1, 0)];
-    assert!(rt; refuses(alloc, Columns, 1, NONE, &greatest, OutOfTable(at(0, 0))));
-    let large = [(0, 0, 1, 1, MAX), (0, 1, 1, 1, MAX)];
-    assert!(rt; refuses(alloc, Columns, 1, NONE, &large, OutOfTable(at(0, 1))));
+    let cases: [(&[Cell], usize, usize); 4] = [
+        (&[(0, 3, 1, 0)], 2, 0),
+        (&[(0, 1, 1, 0), (1, 1, 1, 0)], 1, 1),
+        (&[(0, MAX, 1, 0)], 1, 0),
+        (&[(0, 1, 1, MAX), (1, 1, 1, MAX)], 1, 1),
+    ];
+    for (cells, count, col) in &cases {
+        let rows = [*cells];
+        let reason = OutOfTable(at(0, *col));
+        assert!(rt; refuses(rt.alloc(), columns(NONE, &rows), *count, reason));
+    }
 }
 
 #[test]
 fn first_out_in_each_direction(rt: HostRuntime) {
     let alloc = rt.alloc();
-    let wide = [(0, 0, 1, 0, 0), (0, 1, 1, 0, 0), (1, 1, 2, 0, 0)];
-    assert!(rt; refuses(alloc, Columns, 2, NONE, &wide, OutOfTable(at(1, 1))));
-    let high = [(0, 0, 3, 1, 0), (0, 1, 1, 1, 0), (1, 1, 1, 1, 0)];
-    assert!(rt; refuses(alloc, Rows, 2, NONE, &high, OutOfTable(at(0, 0))));
+    let wide = columns(NONE, &[&[(0, 1, 0, 0), (1, 1, 0, 0)], &[(1, 2, 0, 0)]]);
+    assert!(rt; refuses(alloc, wide, 2, OutOfTable(at(1, 1))));
+    let high = rows(NONE, &[&[(0, 3, 1, 0), (1, 1, 1, 0)], &[(1, 1, 1, 0)]]);
+    assert!(rt; refuses(alloc, high, 2, OutOfTable(at(0, 0))));
 }
 
 #[test]
 fn empty_tables(rt: HostRuntime) {
     let alloc = rt.alloc();
-    assert_eq!(rt; finds(alloc, Columns, LINED, &[], &[], Some(&[])), Ok(true));
-    assert_eq!(rt; finds(alloc, Rows, NONE, &[], &[], Some(&[])), Ok(true));
+    assert!(rt; finds(alloc, columns(LINED, &[]), &[], Some(&[])));
+    assert!(rt; finds(alloc, rows(NONE, &[]), &[], Some(&[])));
 }
 
 // No block is that large, and nothing is counted up to the count.
 #[test]
 fn false_held_counts(rt: HostRuntime) {
-    let cell = [(0, 0, 1, 1, 0)];
-    let sizes = sizes(rt.alloc(), Columns, MAX, NONE, &cell);
+    let sizes = solved::<Vec<usize>>(rt.alloc(), columns(NONE, &[&[(0, 1, 1, 0)]]), MAX);
     assert!(rt; matches!(&sizes, Err(LayoutError::Memory(_))));
 }
 
@@ -442,26 +342,22 @@ fn width_checker(rt: HostRuntime) {
         second_span: 2,
         ..NONE
     };
-    assert!(rt; check(Columns, 3, axis, &NESTED, &[2, 4, 4], &[at(1, 0)]));
-    assert!(rt; !check(Columns, 3, axis, &NESTED, &[2, 4, 4], &[at(0, 0), at(2, 1)]));
-    assert!(rt; !check(Columns, 3, axis, &NESTED, &[1, 4, 4], &[at(0, 0), at(2, 1)]));
+    let nested = columns(axis, NESTED);
+    assert!(rt; check(nested, 3, &[2, 4, 4], &[at(1, 0)]));
+    assert!(rt; !check(nested, 3, &[2, 4, 4], &[at(0, 0), at(2, 1)]));
+    assert!(rt; !check(nested, 3, &[1, 4, 4], &[at(0, 0), at(2, 1)]));
+}
+
+#[test]
+fn width_checker_where_spans_cross(rt: HostRuntime) {
     let axis = Sample {
-        first: ORIGIN,
         first_span: 2,
         second: Position { row: 1, col: 1 },
         second_span: 2,
         ..NONE
     };
-    assert!(rt;
-        !check(
-            Columns,
-            3,
-            axis,
-            &CROSSING,
-            &[10, 10, 0],
-            &[at(0, 0), at(1, 1)]
-        )
-    );
+    let places = [at(0, 0), at(1, 1)];
+    assert!(rt; !check(columns(axis, CROSSING), 3, &[10, 10, 0], &places));
 }
 
 #[test]
@@ -470,24 +366,17 @@ fn height_checker(rt: HostRuntime) {
         first_span: 2,
         ..LINED
     };
-    assert!(rt; check(Rows, 3, axis, &EVEN, &[3, 3, 1], &[at(0, 0), at(2, 0)]));
-    assert!(rt; !check(Rows, 3, axis, &EVEN, &[3, 3], &[at(0, 0), at(2, 0)]));
-    assert!(rt; !check(Rows, 3, axis, &EVEN, &[3, 3, 1], &[at(0, 0), at(1, 0)]));
-    assert!(rt;
-        !check(
-            Rows,
-            3,
-            axis,
-            &EVEN,
-            &[3, 3, 1],
-            &[at(0, 0), at(2, 0), at(9, 9)]
-        )
-    );
+    let even = rows(axis, EVEN);
+    let places = [at(0, 0), at(2, 0)];
+    assert!(rt; check(even, 3, &[3, 3, 1], &places));
+    assert!(rt; !check(even, 3, &[3, 3], &places));
+    assert!(rt; !check(even, 3, &[3, 3, 1], &[at(0, 0), at(1, 0)]));
+    assert!(rt; !check(even, 3, &[3, 3, 1], &[at(0, 0), at(2, 0), at(9, 9)]));
 }
 
 #[test]
 fn checker_on_empty_table(rt: HostRuntime) {
-    assert!(rt; check(Columns, 0, NONE, &[], &[], &[]));
+    assert!(rt; check(columns(NONE, &[]), 0, &[], &[]));
 }
 
 #[test]

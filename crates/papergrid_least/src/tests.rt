@@ -6,6 +6,7 @@ ghost use Rattle.papergrid_axis.specs.declared.demand.Demand.{Demand};
 
 use crate::{CertifiedLeast, LeastSizes};
 use papergrid_axis::axis::Axis;
+use papergrid_axis::error::LayoutError::{OutOfTable, TooLarge};
 use papergrid_axis::seen::keep;
 use papergrid_axis::{LayoutError, Seen, Solution};
 use papergrid_values::Direction::Columns;
@@ -50,17 +51,21 @@ fn seen(alloc: Global, count: usize, cells: &[Cell]) -> Result<Seen, AllocError>
 {
     let mut seen = Seen::new(alloc, count);
     for (row, col, span, measure, padding) in cells {
-        keep(
-            &mut seen,
-            Columns,
-            at(*row, *col),
-            (*span).max(1),
-            *measure,
-            *padding,
-            0,
-        )?;
+        let (position, span) = (at(*row, *col), (*span).max(1));
+        keep(&mut seen, Columns, position, span, *measure, *padding, 0)?;
     }
     Ok(seen)
+}
+
+/// What the cells of a table of so many columns come to.
+fn solved<S: Solution>(
+    alloc: Global,
+    axis: OneLine,
+    count: usize,
+    cells: &[Cell],
+) -> Result<S, LayoutError> {
+    let seen = seen(alloc, count, cells)?;
+    S::solve(alloc, count, &seen, &axis)
 }
 
 /// Whether these are the least sizes, alone and with their places, and these the places.
@@ -68,41 +73,36 @@ fn finds(
     alloc: Global,
     axis: OneLine,
     cells: &[Cell],
-    expected: &[usize],
+    sizes: &[usize],
     places: &[Position],
-) -> Result<bool, LayoutError> {
-    let count = expected.len();
-    let seen = seen(alloc, count, cells)?;
-    let alone = LeastSizes::solve(alloc, count, &seen, &axis)?;
-    let found = CertifiedLeast::solve(alloc, count, &seen, &axis)?;
-    Ok(
-        alone.sizes.as_slice() == expected
-            && found.sizes.as_slice() == expected
-            && found.places.as_slice() == places,
-    )
+) -> bool {
+    let alone = solved::<LeastSizes>(alloc, axis, sizes.len(), cells);
+    let found = solved::<CertifiedLeast>(alloc, axis, sizes.len(), cells);
+    let (Ok(alone), Ok(found)) = (&alone, &found) else {
+        return false;
+    };
+    alone.sizes.as_slice() == sizes
+        && found.sizes.as_slice() == sizes
+        && found.places.as_slice() == places
 }
 
 /// Whether there are no least sizes, alone or with their places, for this reason.
 fn refuses(
     alloc: Global,
-    count: usize,
     axis: OneLine,
+    count: usize,
     cells: &[Cell],
     reason: LayoutError,
-) -> Result<bool, LayoutError> {
-    let seen = seen(alloc, count, cells)?;
-    let alone = LeastSizes::solve(alloc, count, &seen, &axis).err();
-    let found = CertifiedLeast::solve(alloc, count, &seen, &axis).err();
-    Ok(alone == Some(reason) && found == Some(reason))
+) -> bool {
+    let alone = solved::<LeastSizes>(alloc, axis, count, cells).err();
+    let found = solved::<CertifiedLeast>(alloc, axis, count, cells).err();
+    alone == Some(reason) && found == Some(reason)
 }
 
 #[test]
 fn crossing_cells_share_a_column(rt: HostRuntime) {
     let cells = [(0, 0, 2, 10, 0), (1, 1, 2, 10, 0)];
-    assert_eq!(rt;
-        finds(rt.alloc(), NO_LINE, &cells, &[0, 10, 0], &[at(0, 0)]),
-        Ok(true)
-    );
+    assert!(rt; finds(rt.alloc(), NO_LINE, &cells, &[0, 10, 0], &[at(0, 0)]));
 }
 
 #[test]
@@ -115,113 +115,59 @@ fn as_by_shares_where_spans_are_nested(rt: HostRuntime) {
         (2, 0, 1, 1, 0),
         (2, 1, 2, 8, 0),
     ];
-    assert_eq!(rt;
-        finds(rt.alloc(), NO_LINE, &cells, &[2, 4, 4], &[at(1, 0)]),
-        Ok(true)
-    );
+    assert!(rt; finds(rt.alloc(), NO_LINE, &cells, &[2, 4, 4], &[at(1, 0)]));
 }
 
 #[test]
 fn inner_line_counts(rt: HostRuntime) {
     let cells = [(0, 0, 1, 4, 0), (1, 0, 1, 4, 0), (1, 1, 2, 3, 2)];
     let axis = OneLine { line: 2 };
-    assert_eq!(rt;
-        finds(rt.alloc(), axis, &cells, &[4, 2, 2], &[at(0, 0), at(1, 1)]),
-        Ok(true)
-    );
+    let places = [at(0, 0), at(1, 1)];
+    assert!(rt; finds(rt.alloc(), axis, &cells, &[4, 2, 2], &places));
 }
 
+// Of the two cells that each reach the total, the one that stands first by row and then by column.
 #[test]
-fn longer_cell_before_a_single_one(rt: HostRuntime) {
-    let cells = [
-        (0, 0, 2, 10, 0),
-        (1, 0, 1, 1, 0),
-        (1, 1, 2, 10, 0),
-        (2, 2, 1, 1, 0),
-    ];
-    assert_eq!(rt;
-        finds(
-            rt.alloc(),
-            NO_LINE,
-            &cells,
-            &[1, 9, 1],
-            &[at(1, 0), at(1, 1)]
-        ),
-        Ok(true)
-    );
-}
-
-#[test]
-fn single_cell_before_a_longer_one(rt: HostRuntime) {
-    let cells = [
-        (0, 0, 2, 10, 0),
-        (0, 2, 1, 1, 0),
-        (1, 0, 1, 1, 0),
-        (1, 1, 2, 10, 0),
-    ];
-    assert_eq!(rt;
-        finds(
-            rt.alloc(),
-            NO_LINE,
-            &cells,
-            &[1, 9, 1],
-            &[at(0, 0), at(0, 2)]
-        ),
-        Ok(true)
-    );
+fn longer_and_single_cells(rt: HostRuntime) {
+    let (first, second) = ((0, 0, 2, 10, 0), (1, 1, 2, 10, 0));
+    let longer_before = [first, (1, 0, 1, 1, 0), second, (2, 2, 1, 1, 0)];
+    let single_before = [first, (0, 2, 1, 1, 0), (1, 0, 1, 1, 0), second];
+    for (cells, places) in [
+        (longer_before, [at(1, 0), at(1, 1)]),
+        (single_before, [at(0, 0), at(0, 2)]),
+    ] {
+        assert!(rt; finds(rt.alloc(), NO_LINE, &cells, &[1, 9, 1], &places));
+    }
 }
 
 #[test]
 fn shares_too_large_and_least_not(rt: HostRuntime) {
     let alloc = rt.alloc();
     let cells = [(0, 0, 2, MAX, 0), (1, 1, 2, MAX, 0)];
-    assert_eq!(rt;
-        finds(alloc, NO_LINE, &cells, &[0, MAX, 0], &[at(0, 0)]),
-        Ok(true)
-    );
-    let shares = match seen(alloc, 3, &cells) {
-        Ok(seen) => Vec::<usize>::solve(alloc, 3, &seen, &NO_LINE).err(),
-        Err(_) => None,
-    };
-    assert_eq!(rt; shares, Some(LayoutError::TooLarge));
-}
-
-#[test]
-fn too_large_with_a_line(rt: HostRuntime) {
-    let cells = [(0, 0, 2, MAX, 0), (1, 1, 2, MAX, 0)];
-    let axis = OneLine { line: 3 };
-    assert_eq!(rt;
-        refuses(rt.alloc(), 3, axis, &cells, LayoutError::TooLarge),
-        Ok(true)
-    );
+    assert!(rt; finds(alloc, NO_LINE, &cells, &[0, MAX, 0], &[at(0, 0)]));
+    let shares = solved::<Vec<usize>>(alloc, NO_LINE, 3, &cells).err();
+    assert_eq!(rt; shares, Some(TooLarge));
+    // With a line after the last column the least total is too large as well.
+    assert!(rt; refuses(alloc, OneLine { line: 3 }, 3, &cells, TooLarge));
 }
 
 #[test]
 fn too_large_one_after_another(rt: HostRuntime) {
     let cells = [(0, 0, 2, MAX, 0), (1, 2, 1, 1, 0)];
-    assert_eq!(rt;
-        refuses(rt.alloc(), 3, NO_LINE, &cells, LayoutError::TooLarge),
-        Ok(true)
-    );
+    assert!(rt; refuses(rt.alloc(), NO_LINE, 3, &cells, TooLarge));
 }
 
 #[test]
 fn too_large_need(rt: HostRuntime) {
-    let cells = [(0, 0, 1, MAX, 1)];
-    assert_eq!(rt;
-        refuses(rt.alloc(), 2, NO_LINE, &cells, LayoutError::TooLarge),
-        Ok(true)
-    );
-}
-
-#[test]
-fn out_of_table_before_too_large(rt: HostRuntime) {
-    let cells = [(0, 0, 1, MAX, 1), (1, 1, 2, 1, 0)];
-    let reason = LayoutError::OutOfTable(at(1, 1));
-    assert_eq!(rt; refuses(rt.alloc(), 2, NO_LINE, &cells, reason), Ok(true));
+    let alloc = rt.alloc();
+    let large = (0, 0, 1, MAX, 1);
+    assert!(rt; refuses(alloc, NO_LINE, 2, &[large], TooLarge));
+    // That a later cell reaches out of the table comes before it.
+    let out = [large, (1, 1, 2, 1, 0)];
+    assert!(rt; refuses(alloc, NO_LINE, 2, &out, OutOfTable(at(1, 1))));
 }
 
 #[test]
 fn empty_table(rt: HostRuntime) {
-    assert_eq!(rt; finds(rt.alloc(), NO_LINE, &[], &[], &[]), Ok(true));
+    assert!(rt; finds(rt.alloc(), NO_LINE, &[], &[], &[]));
 }

@@ -5,3 +5,6 @@ use Rattle.papergrid_axis.proofs.tests.seen.Given as goal
 
 abbrev pub invariant-loop-row : goal.invariant-loop-row
 invariant-loop-row l = (demands : List Demand) × Holds l.count l.seen demands
+
+abbrev pub invariant-loop-col : goal.invariant-loop-col
+invariant-loop-col l = (demands : List Demand) × Holds l.count l.seen demands
