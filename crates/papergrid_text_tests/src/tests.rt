@@ -30,6 +30,7 @@ use std::cmp::Ordering;
 use std::convert::AsStr;
 use std::hash::{DefaultHasher, Hash, Hasher};
 use std::iter::Iterator;
+use std::process::Abort;
 use std::test::Fail;
 
 #[test]
@@ -297,14 +298,18 @@ fn provided_peeks(rt: HostRuntime) {
     assert_eq!(rt; one.get_line(pos, 2), "");
 }
 
+// The texts, each as one of its own.
+fn owned(alloc: Global, texts: &[&str]) -> Result<Vec<String>, AllocError> {
+    let mut owned = Vec::new(alloc);
+    for text in texts {
+        owned.push(String::from_str(alloc, *text)?)?;
+    }
+    Ok(owned)
+}
+
 // The rows `a`, `bcd` and `xyz`, of two cells and of one.
 fn owned_rows(alloc: Global) -> Result<Vec<Vec<String>>, AllocError> {
-    let first = vec![in alloc;
-        String::from_str(alloc, "a")?,
-        String::from_str(alloc, "bcd")?,
-    ]?;
-    let second = vec![in alloc; String::from_str(alloc, "xyz")?]?;
-    Ok(vec![in alloc; first, second]?)
+    Ok(vec![in alloc; owned(alloc, &["a", "bcd"])?, owned(alloc, &["xyz"])?]?)
 }
 
 #[test]
@@ -363,59 +368,38 @@ fn greatest_widths_of_records(rt: HostRuntime) -> Result<(), Fail> {
     Ok(())
 }
 
-#[test]
-fn exact_cells_peeked(rt: HostRuntime) -> Result<(), Fail> {
-    let alloc = rt.alloc();
-    let first = Text::exact("ab", 7, Vec::new(alloc));
-    let second = Text::exact("xyz", 9, given_lines(alloc)?);
-    let rows = vec![in alloc; vec![in alloc; first, second]?]?;
-    let records = VecRecords::new(rows);
-    let pos = Position::new(0, 0);
-    let next = Position::new(0, 1);
-    assert_eq!(rt; records.get_text(pos), "ab");
-    assert_eq!(rt; PeekableRecords::count_lines(&records, next), 2);
-    assert_eq!(rt; records.get_line(next, 1), "bc");
-    assert_eq!(rt; records.get_width(pos), 7);
-    assert_eq!(rt; records.get_line_width(next, 1), 2);
-    Ok(())
+// What records answer of a cell of one line that tells its width, and of one that tells its lines too.
+fn exact_peeks<R: PeekableRecords>(rt: &impl Abort, records: &R)
+    requires first { R.has records.now (record { row = 0; col = 0 }) }
+    requires line { R.has_line records.now (record { row = 0; col = 0 }) 0 }
+    requires second { R.has records.now (record { row = 0; col = 1 }) }
+    requires second_line { R.has_line records.now (record { row = 0; col = 1 }) 1 }
+{
+    let (pos, next) = (Position::new(0, 0), Position::new(0, 1));
+    assert_eq!(rt; peek(records, pos, 0), ("ab", 1, 7, "ab", 7));
+    assert_eq!(rt; peek(records, next, 1), ("xyz", 2, 9, "bc", 2));
 }
 
-// What a reference answers, and one to a reference.
+// Records answer the same themselves, through a reference, and through one to a reference.
 #[test]
-fn exact_cells_lent(rt: HostRuntime) -> Result<(), Fail> {
+fn exact_cells(rt: HostRuntime) -> Result<(), Fail> {
     let alloc = rt.alloc();
     let first = Text::exact("ab", 7, Vec::new(alloc));
     let second = Text::exact("xyz", 9, given_lines(alloc)?);
-    let rows = vec![in alloc; vec![in alloc; first, second]?]?;
-    let records = VecRecords::new(rows);
+    let records = VecRecords::new(vec![in alloc; vec![in alloc; first, second]?]?);
     let (pos, next) = (Position::new(0, 0), Position::new(0, 1));
+    assert_eq!(rt; PeekableRecords::count_lines(&records, pos), 1);
     assert_eq!(rt; PeekableRecords::count_lines(&records, next), 2);
-    let lent = &records;
-    assert_eq!(rt; PeekableRecords::get_text(&lent, pos), "ab");
-    assert_eq!(rt; PeekableRecords::count_lines(&lent, pos), 1);
-    assert_eq!(rt; PeekableRecords::count_lines(&lent, next), 2);
-    assert_eq!(rt; PeekableRecords::get_line(&lent, pos, 0), "ab");
-    assert_eq!(rt; PeekableRecords::get_line(&lent, next, 1), "bc");
-    assert_eq!(rt; PeekableRecords::get_width(&lent, pos), 7);
-    assert_eq!(rt; PeekableRecords::get_width(&lent, next), 9);
-    assert_eq!(rt; PeekableRecords::get_line_width(&lent, pos, 0), 7);
-    assert_eq!(rt; PeekableRecords::get_line_width(&lent, next, 1), 2);
-    let twice = &lent;
-    assert_eq!(rt; PeekableRecords::get_text(&twice, pos), "ab");
-    assert_eq!(rt; PeekableRecords::count_lines(&twice, next), 2);
-    assert_eq!(rt; PeekableRecords::get_line(&twice, next, 1), "bc");
-    assert_eq!(rt; PeekableRecords::get_width(&twice, pos), 7);
-    assert_eq!(rt; PeekableRecords::get_line_width(&twice, pos, 0), 7);
+    exact_peeks(&rt, &records);
+    exact_peeks(&rt, &&records);
+    exact_peeks(&rt, &&&records);
     Ok(())
 }
 
 #[test]
 fn rows_cut_from_one_list(rt: HostRuntime) -> Result<(), Fail> {
     let alloc = rt.alloc();
-    let mut texts = Vec::new(alloc);
-    for text in ["a", "bcd", "xyz", "", "efghi"] {
-        texts.push(String::from_str(alloc, text)?)?;
-    }
+    let texts = owned(alloc, &["a", "bcd", "xyz", "", "efghi"])?;
     let expected = [5usize, 3];
     assert_eq!(rt;
         of_chunks(alloc, texts.as_slice(), 2)?.as_slice(),

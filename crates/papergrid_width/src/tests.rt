@@ -1,6 +1,19 @@
 //! Widths that Unicode and the rules of `unicode_width` give.
 
 use super::*;
+use std::process::Abort;
+
+// Each text takes its columns, also where it is told that from a byte on it is more than printable ASCII.
+fn take_columns(rt: &impl Abort, from: usize, texts: &[(&str, usize)]) {
+    for (text, columns) in texts {
+        assert_eq!(rt; width(text), *columns, "{text}");
+        assert_eq!(rt;
+            width_by_characters(text, from),
+            *columns,
+            "{text} from {from}"
+        );
+    }
+}
 
 #[test]
 fn each_emoji_takes_two_columns(rt: HostRuntime) {
@@ -31,13 +44,6 @@ const SENTENCES: [(&str, usize); 7] = [
     ("It’s — x…", 9),
 ];
 
-#[test]
-fn letters_and_runs_of_ascii_add_up(rt: HostRuntime) {
-    for (text, columns) in SENTENCES {
-        assert_eq!(rt; width(text), columns);
-    }
-}
-
 // Texts of simple characters, short and long, and texts that begin like them and have another character: an
 // emoji, a sound mark apart, a form of half the width.
 const SIMPLE: [(&str, usize); 16] = [
@@ -58,14 +64,6 @@ const SIMPLE: [(&str, usize); 16] = [
     ("x\tyesterday", 11),
     ("\ta\té\u{301}", 4),
 ];
-
-#[test]
-fn simple_characters_add_up(rt: HostRuntime) {
-    for (text, columns) in SIMPLE {
-        assert_eq!(rt; width(text), columns);
-        assert_eq!(rt; width_by_characters(text, 1), columns);
-    }
-}
 
 // Letters of Thai and Devanagari take a column each, and so do vowels beside them; marks above and below take
 // none. The last four have other characters: of Lao, an emoji, of Bengali, a joiner.
@@ -99,22 +97,6 @@ const ACCENTED: [(&str, usize); 11] = [
     ("e\u{301}\u{200D}e\u{301}", 2),
 ];
 
-#[test]
-fn accents_take_no_column(rt: HostRuntime) {
-    for (text, columns) in ACCENTED {
-        assert_eq!(rt; width(text), columns);
-        assert_eq!(rt; width_by_characters(text, 0), columns);
-    }
-}
-
-#[test]
-fn marks_take_no_column(rt: HostRuntime) {
-    for (text, columns) in MARKED {
-        assert_eq!(rt; width(text), columns);
-        assert_eq!(rt; width_by_characters(text, 0), columns);
-    }
-}
-
 // Letters of Hebrew and Arabic take a column each, but a lam and the alef after it one together, also with a mark
 // between them. The last five have other characters: marks of Arabic, a comma of it, an emoji, a joiner, with which
 // alef and lamed make one.
@@ -143,11 +125,12 @@ const SEMITIC: [(&str, usize); 21] = [
 ];
 
 #[test]
-fn letters_of_hebrew_and_arabic_add_up(rt: HostRuntime) {
-    for (text, columns) in SEMITIC {
-        assert_eq!(rt; width(text), columns);
-        assert_eq!(rt; width_by_characters(text, 0), columns);
-    }
+fn characters_add_up(rt: HostRuntime) {
+    take_columns(&rt, 0, &SENTENCES);
+    take_columns(&rt, 1, &SIMPLE);
+    take_columns(&rt, 0, &MARKED);
+    take_columns(&rt, 0, &ACCENTED);
+    take_columns(&rt, 0, &SEMITIC);
 }
 
 // Texts of each number of loads, and a newline in each of the loads, where they overlap too.

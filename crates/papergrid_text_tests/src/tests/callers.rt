@@ -2,7 +2,7 @@
 
 ghost use Rattle.std.specs.Prelude.{◌≡◌, ◌<◌, map, IfOk, string_bytes};
 ghost use Rattle.papergrid_text_tests.specs.ColumnWidths.{greatest_widths};
-ghost use Rattle.papergrid_text.specs.Counted.{counted_rows, counted_columns};
+ghost use Rattle.papergrid_text.specs.Counted.{counted_rows, counted_columns, rows_iterated};
 ghost use Rattle.papergrid_text.specs.Cut.{cut_rows, cut_whole_rows};
 ghost use Rattle.papergrid_text.specs.HeldRows.{rows_held, column_count};
 ghost use Rattle.papergrid_text.specs.Text.{text_width};
@@ -16,6 +16,14 @@ use std::alloc::{AllocError, Global};
 
 /// The greatest width of each column, or out of memory.
 type Widths = Result<Vec<usize>, AllocError>;
+
+/// Records of the rows that an iterator gives.
+fn iterated<I>(rows: I, columns: usize) -> IterRecords<RowIter<I>>
+    ensures rows { rows_iterated (counted_rows result) ≡ rows }
+    ensures columns { counted_columns result ≡ columns }
+{
+    IterRecords::new(RowIter::new(rows), columns, None)
+}
 
 pub fn of_vectors(alloc: Global, rows: Vec<Vec<&str>>, columns: usize) -> Widths
     ensures { IfOk result (λ widths. widths.items ≡ greatest_widths columns (map (λ row. map (λ cell. text_width cell.now) row.items) rows.entry.items)) }
@@ -45,10 +53,7 @@ pub fn of_row_iter(alloc: Global, rows: &[Vec<String>], columns: usize) -> Width
     ensures { IfOk result (λ widths. widths.items ≡ greatest_widths columns (map (λ row. map (λ cell. text_width (string_bytes cell)) row.items) rows.now)) }
 {
     vectors_tell_rows::<String>();
-    widest(
-        alloc,
-        IterRecords::new(RowIter::new(rows.iter()), columns, None),
-    )
+    widest(alloc, iterated(rows.iter(), columns))
 }
 
 pub fn of_nested(alloc: Global, records: IterRecords<Vec<Vec<String>>>, columns: usize) -> Widths
@@ -80,10 +85,7 @@ pub fn of_chunks(alloc: Global, texts: &[String], columns: usize) -> Widths
     ensures { IfOk result (λ widths. widths.items ≡ greatest_widths columns (map (map (λ cell. text_width (string_bytes cell))) (cut_rows columns texts.now))) }
 {
     chunks_tell_rows::<String>();
-    widest(
-        alloc,
-        IterRecords::new(RowIter::new(texts.chunks(columns)), columns, None),
-    )
+    widest(alloc, iterated(texts.chunks(columns), columns))
 }
 
 pub fn of_exact_chunks(alloc: Global, texts: &[String], columns: usize) -> Widths
@@ -91,8 +93,5 @@ pub fn of_exact_chunks(alloc: Global, texts: &[String], columns: usize) -> Width
     ensures { IfOk result (λ widths. widths.items ≡ greatest_widths columns (map (map (λ cell. text_width (string_bytes cell))) (cut_whole_rows columns texts.now))) }
 {
     exact_chunks_tell_rows::<String>();
-    widest(
-        alloc,
-        IterRecords::new(RowIter::new(texts.chunks_exact(columns)), columns, None),
-    )
+    widest(alloc, iterated(texts.chunks_exact(columns), columns))
 }
