@@ -14,9 +14,10 @@ use Rattle.papergrid_script.proofs.script_setting.configuration_of.Goals as goal
 pub loop-setting-preserved : goal.loop-setting-preserved
 loop-setting-preserved c =
     let told = c.in_ok-apply.ensures.told _ c.loop-setting.invariant.0 in
-    let settings = c.loop-setting.yielded in
-    (subst (λ settings. IsTold settings c.apply.new.config) (sym (map-append setting_told settings (c.in-Some.setting ∷ []))) told,
-    append_assoc settings (c.in-Some.setting ∷ []) _ ∙ ap (λ left. settings ++ left) (sym c.in-Some.ensures.steps.0) ∙ c.loop-setting.invariant.1)
+    let settings = c.loop-setting.yielded in (
+      subst (λ settings. IsTold settings c.apply.new.config) (sym (map-append setting_told settings (c.in-Some.setting ∷ []))) told,
+      append_assoc settings (c.in-Some.setting ∷ []) _ ∙ ap (λ left. settings ++ left) (sym c.in-Some.ensures.steps.0) ∙ c.loop-setting.invariant.1,
+    )
 
 pub returns-in_err-apply-clause-free : goal.returns-in_err-apply-clause-free
 returns-in_err-apply-clause-free c = λ all.
