@@ -14,7 +14,7 @@ use Rattle.papergrid_walk.specs.Cells.{asked, demands_of, problem_of, visible_ce
 use Rattle.papergrid_walk.specs.Looks.{Look}
 use Rattle.papergrid_layout.specs.Answers.{IsBothRefusedWhere, UnlessMemoryError, first_out_of_table, reaches_out}
 use Rattle.papergrid_layout.specs.Witnesses.{AreCertifiedWhere}
-use Rattle.papergrid_layout.specs.declared.certified.Certified.{Certified}
+use Rattle.papergrid_layout.specs.declared.certificates.Certified.{Certified}
 use Rattle.papergrid_layout.proofs.Told.{demands_told, problem_told, witness_is}
 use Rattle.papergrid_layout.proofs.PairLemmas.{none_reaches_out}
 use Rattle.papergrid.specs.declared.estimate.Sizes.{Sizes}
@@ -105,10 +105,10 @@ module _ {C : Type 0} (look : Look) (measure : C → ℕ × ℕ) (columns : ℕ)
 
     module _ (certified : Certified) (are : AreCertifiedWhere look measure columns cells (AreSizesBy sizing) (IsFoundWitness sizing) certified) where
       wide : AreFound sizing across certified.widths.items
-      wide = are_found sizing across certified.widths.items are.sizes.widths
+      wide = are_found sizing across certified.widths.items are.widths.0
 
       high : AreFound sizing down certified.heights.items
-      high = are_found sizing down certified.heights.items are.sizes.heights
+      high = are_found sizing down certified.heights.items are.heights.0
 
       pub width_fits : total_along Columns look (length certified.widths.items) certified.widths.items < 2 ^ 64
       width_fits = subst (λ n. total_along Columns look n certified.widths.items < 2 ^ 64) (sym wide.one_each) wide.total
@@ -124,7 +124,7 @@ module _ {C : Type 0} (look : Look) (measure : C → ℕ × ℕ) (columns : ℕ)
           estimate_inside ((none_reaches_out look measure columns cells).1 (wide.none_out, high.none_out))
           ∙ (λ i. unless_large (sym wide.exact i) (sym high.exact i)
           (total_along Columns look (sym wide.one_each i) (sym wide.exact i)) (total_along Rows look (sym high.one_each i) (sym high.exact i))
-          (sym (found_witness sizing across certified.width_witness are.witnesses.widths) i) (sym (found_witness sizing down certified.height_witness are.witnesses.heights) i))
+          (sym (found_witness sizing across certified.width_witness are.widths.1) i) (sym (found_witness sizing down certified.height_witness are.heights.1) i))
           ∙ sized certified.widths.items certified.heights.items (total_along Columns look (length certified.widths.items) certified.widths.items)
           (total_along Rows look (length certified.heights.items) certified.heights.items) (places_seen certified.width_witness) (places_seen certified.height_witness) width_fits height_fits
 

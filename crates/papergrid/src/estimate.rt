@@ -10,9 +10,8 @@ ghost use Rattle.papergrid.specs.ForProofs.Seen.{GivesEstimate, IsCertifiedBy};
 
 use papergrid_config::SpannedConfig;
 use papergrid_layout::LayoutError;
-use papergrid_layout::certified::{Certified, certified_least, certified_sizes};
+use papergrid_layout::certificates::{Certified, certified_least, certified_sizes};
 use papergrid_text::{IntoRecords, Records};
-use papergrid_values::Position;
 use std::alloc::Global;
 use std::convert::AsStr;
 
@@ -26,17 +25,14 @@ pub enum Sizing {
     Least,
 }
 
-/// The width of each column, in columns of a terminal, the height of each row, in lines, the totals of
-/// both with the lines of the table, and for each direction the positions of the cells that certify that
-/// its sizes are least; none where sizes are by shares and two longer ranges are neither nested nor disjoint.
+/// The sizes of a table and the cells that certify them, and the totals with the lines of the table: the width in columns of
+/// a terminal, the height in lines. None certify a direction where sizes are by shares and two longer ranges are neither
+/// nested nor disjoint.
 #[derive(Debug, Drop)]
 pub struct Sizes {
-    pub widths: Vec<usize>,
-    pub heights: Vec<usize>,
+    pub certified: Certified,
     pub total_width: usize,
     pub total_height: usize,
-    pub width_witness: Option<Vec<Position>>,
-    pub height_witness: Option<Vec<Position>>,
 }
 
 /// The sizes, the totals and the witnesses of the table of these records, by this configuration.
@@ -45,13 +41,14 @@ pub struct Sizes {
 ///
 /// `OutOfTable` with the first visible cell that reaches out, else `TooLarge` where a total is more than the
 /// greatest `usize`; `Memory` in place of any answer.
-pub fn estimate<R: Records + Drop>(
+pub fn estimate<R>(
     alloc: Global,
     sizing: Sizing,
     records: R,
     config: &SpannedConfig,
 ) -> Result<Sizes, LayoutError>
 where
+    R: Records + Drop,
     <<R as Records>::Iter as IntoRecords>::Cell: AsStr + Drop,
     requires { R.is_lawful records }
     ensures { GivesEstimate result (λ answer. (cells : List (List R.Iter.Cell)) × R.tells records cells
@@ -64,13 +61,14 @@ where
 }
 
 /// The sizes that are chosen so, with the cells that certify them.
-fn certified_by<R: Records + Drop>(
+fn certified_by<R>(
     alloc: Global,
     sizing: Sizing,
     records: R,
     config: &SpannedConfig,
 ) -> Result<Certified, LayoutError>
 where
+    R: Records + Drop,
     <<R as Records>::Iter as IntoRecords>::Cell: AsStr + Drop,
     requires { R.is_lawful records }
     ensures { UnlessMemory result ((cells : List (List R.Iter.Cell)) × R.tells records cells
@@ -82,32 +80,22 @@ where
     }
 }
 
-/// The sizes and their witnesses, and the totals with the lines of the configuration.
+/// The sizes, with the totals by the lines of the configuration.
 fn with_totals(certified: Certified, config: &SpannedConfig) -> Sizes
     requires width { total_along Columns (spanned_look config.now) (length certified.widths.items) certified.widths.items < 2 ^ 64 }
     requires height { total_along Rows (spanned_look config.now) (length certified.heights.items) certified.heights.items < 2 ^ 64 }
-    ensures widths { result.widths.items ≡ certified.widths.items }
-    ensures heights { result.heights.items ≡ certified.heights.items }
+    ensures certified { result.certified ≡ certified }
     ensures total_width { result.total_width ≡ total_along Columns (spanned_look config.now) (length certified.widths.items) certified.widths.items }
     ensures total_height { result.total_height ≡ total_along Rows (spanned_look config.now) (length certified.heights.items) certified.heights.items }
-    ensures width_witness { result.width_witness ≡ certified.width_witness }
-    ensures height_witness { result.height_witness ≡ certified.height_witness }
 {
-    let Certified {
-        widths,
-        heights,
-        width_witness,
-        height_witness,
-    } = certified;
-    let total_width = total(&widths, config.count_vertical(widths.len()));
-    let total_height = total(&heights, config.count_horizontal(heights.len()));
+    let vertical = config.count_vertical(certified.widths.len());
+    let horizontal = config.count_horizontal(certified.heights.len());
+    let total_width = total(&certified.widths, vertical);
+    let total_height = total(&certified.heights, horizontal);
     Sizes {
-        widths,
-        heights,
+        certified,
         total_width,
         total_height,
-        width_witness,
-        height_witness,
     }
 }
 

@@ -51,14 +51,9 @@ fn table_reason(alloc: Global, script: Script<'_>) -> Result<Option<Reason>, All
     ensures { let table = table_seen script.entry in
         IfOk result (λ reason. reason ≡ estimate_reason table (estimate_of ByShares table)) }
 {
-    let Script {
-        columns,
-        settings,
-        rows,
-    } = script;
-    let config = configuration_of(alloc, settings)?;
-    let count = rows.len();
-    let records = IterRecords::new(rows, columns, Some(count));
+    let config = configuration_of(alloc, script.settings)?;
+    let (columns, count) = (script.columns, script.rows.len());
+    let records = IterRecords::new(script.rows, columns, Some(count));
     match estimate(alloc, Sizing::ByShares, records, &config) {
         Ok(_) => Ok(None),
         Err(LayoutError::OutOfTable(position)) => {

@@ -15,12 +15,13 @@ pub fn sizes_text(alloc: Global, sizes: &Sizes) -> Result<Vec<u8>, AllocError>
     ensures { IfOk result (λ text. text.items ≡ estimate_text (sizes_seen sizes.now)) }
 {
     let mut text = Vec::new(alloc);
-    push_line(&mut text, b"widths", sizes.widths.as_slice())?;
-    push_line(&mut text, b"heights", sizes.heights.as_slice())?;
+    let certified = &sizes.certified;
+    push_line(&mut text, b"widths", certified.widths.as_slice())?;
+    push_line(&mut text, b"heights", certified.heights.as_slice())?;
     let totals = [sizes.total_width, sizes.total_height];
     push_line(&mut text, b"total", totals.as_slice())?;
-    push_witness(&mut text, b"witness widths", &sizes.width_witness)?;
-    push_witness(&mut text, b"witness heights", &sizes.height_witness)?;
+    push_witness(&mut text, b"witness widths", &certified.width_witness)?;
+    push_witness(&mut text, b"witness heights", &certified.height_witness)?;
     Ok(text)
 }
 

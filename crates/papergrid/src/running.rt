@@ -131,14 +131,9 @@ fn table_answer(
 fn table_sizes(alloc: Global, sizing: Sizing, script: Script<'_>) -> Result<Sizes, LayoutError>
     ensures { GivesEstimate result (λ answer. answer ≡ estimate_of sizing (table_seen script.entry)) }
 {
-    let Script {
-        columns,
-        settings,
-        rows,
-    } = script;
-    let config = configuration_of(alloc, settings)?;
-    let count = rows.len();
-    let records = IterRecords::new(rows, columns, Some(count));
+    let config = configuration_of(alloc, script.settings)?;
+    let (columns, count) = (script.columns, script.rows.len());
+    let records = IterRecords::new(script.rows, columns, Some(count));
     estimate(alloc, sizing, records, &config)
 }
 

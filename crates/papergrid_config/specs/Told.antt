@@ -1,11 +1,12 @@
 -- What a configuration holds after a list of settings.
-use Rattle.std.specs.Prelude.{◌≡◌, false, List, [], ◌∷◌, ◌++◌, reverse, None}
+use Rattle.std.specs.Prelude.{◌≡◌, false, List, [], ◌∷◌, reverse, None}
 use Rattle.std.specs.List.{flat_map}
 use Rattle.papergrid_values.specs.declared.alignment.AlignmentHorizontal.TheVariants.{Left}
 use Rattle.papergrid_values.specs.declared.alignment.AlignmentVertical.TheVariants.{Top}
 use Rattle.papergrid_values.specs.declared.indent.Indent.{Indent}
 use Rattle.papergrid_values.specs.declared.offset.Offset.TheVariants.{Start}
 use Rattle.papergrid_values.specs.declared.sides.Sides.{Sides}
+use Rattle.papergrid_keys.specs.Told as told
 use Rattle.papergrid_tables.specs.BorderHeld as lines
 use Rattle.papergrid_tables.specs.Overrides as overrides
 use Rattle.papergrid_maps.specs.MapHeld as map
@@ -56,4 +57,4 @@ pub record IsTold (settings : List Setting) (config : SpannedConfig) : Type 0 wh
 
 -- told by any settings, the configuration is told by these and then the further ones
 abbrev pub Appends : SpannedConfig → SpannedConfig → List Setting → Type 0
-Appends old new further = (settings : List Setting) → IsTold settings old → IsTold (settings ++ further) new
+Appends old new further = told.Appends IsTold old new further

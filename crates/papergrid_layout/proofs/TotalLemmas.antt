@@ -1,11 +1,11 @@
 -- Sums of sizes with their lines.
-use Rattle.std.proofs.Common.{◌≡◌, ℕ, ◌+◌, ◌≤◌, List, [], ◌∷◌, ap, arith, length, nat_lt, map}
+use Rattle.std.proofs.Common.{◌≡◌, ◌∙◌, ℕ, ◌+◌, ◌<◌, ◌≤◌, List, [], ◌∷◌, ap, arith, length, nat_lt, map, subst, sym}
 use Rattle.std.specs.Prelude.{All, Bool, None, sum}
 use Rattle.std.proofs.lemmas.Bool.{ltb-false}
 use Rattle.std.proofs.lemmas.List.Elements.{All-cons, All-head, All-nil, All-tail}
 use Rattle.papergrid_values.specs.declared.position.Position.{Position}
 use Rattle.papergrid_values.specs.declared.direction.Direction.{Direction}
-use Rattle.papergrid_axis.specs.Answers.{IsTotal}
+use Rattle.papergrid_axis.specs.Answers.{IsTotal, IsTotalBy}
 use Rattle.papergrid_axis.specs.Fits.{HasRoom}
 use Rattle.papergrid_axis.specs.Problem.{Problem, total_of}
 use Rattle.papergrid_values.specs.Lines.{all_lines}
@@ -15,10 +15,20 @@ use Rattle.papergrid_axis.proofs.OutLemmas.{if_none}
 use Rattle.papergrid_walk.specs.Cells.{asked, problem_of, side, visible_cells}
 use Rattle.papergrid_walk.specs.Looks.{Look}
 
--- the sum of the sizes and of all lines, by how many sizes there are
-pub by_length : (draws : ℕ → ℕ → Bool) (sizes : List ℕ) (count : ℕ) → length sizes ≡ count →
-    sum sizes + all_lines (draws (length sizes)) (length sizes) ≡ sum sizes + all_lines (draws count) count
-by_length draws sizes count many = ap (λ k. sum sizes + all_lines (draws k) k) many
+-- sizes, one for each column (row) of a problem whose lines are drawn so
+module _ (draws : ℕ → ℕ → Bool) (problem : Problem) (drawn : problem.line ≡ draws problem.count) (sizes : List ℕ) (one_each : length sizes ≡ problem.count) where
+  -- their sum with all lines
+  with_lines : ℕ
+  with_lines = sum sizes + all_lines (draws (length sizes)) (length sizes)
+
+  as_total : with_lines ≡ total_of problem sizes
+  as_total = ap (λ k. sum sizes + all_lines (draws k) k) one_each ∙ ap (λ line. sum sizes + all_lines line problem.count) (sym drawn)
+
+  pub total_fits : total_of problem sizes < 18446744073709551616 → with_lines < 18446744073709551616
+  total_fits fits = subst (λ total. total < 18446744073709551616) (sym as_total) fits
+
+  pub is_total : (holds : List ℕ → Type 0) (total : ℕ) → holds sizes → total ≡ with_lines → IsTotalBy problem holds total
+  is_total holds total are_sizes adds_up = record { sizes = sizes; are_sizes = are_sizes; adds_up = adds_up ∙ as_total }
 
 -- no visible cell needs more than the total with its lines
 module _ {C : Type 0} (look : Look) (measure : C → ℕ × ℕ) (columns : ℕ) (cells : List (List C)) (direction : Direction) where

@@ -2,6 +2,7 @@
 use Rattle.std.specs.Prelude.{◌↔◌, ℕ, Bool, IsTrue, if◌then◌else◌, List, map, Option, Some, None, Result, Ok, Err, Vec}
 use Rattle.std.specs.declared.alloc.Global.{Global}
 use Rattle.papergrid_values.specs.declared.position.Position.{Position}
+use Rattle.papergrid_values.specs.declared.direction.Direction.TheVariants.{Columns, Rows}
 use Rattle.papergrid_axis.specs.declared.error.LayoutError.{LayoutError}
 use Rattle.papergrid_axis.specs.Answers.{AreSizes, IsAccepted, IsWitness, NoneHolds}
 use Rattle.papergrid_axis.specs.Chosen.{chosen_of}
@@ -10,9 +11,10 @@ use Rattle.papergrid_axis.specs.KeptApart.{is_kept_apart}
 use Rattle.papergrid_axis.specs.Problem.{Problem}
 use Rattle.papergrid_axis.specs.Ranges.{place_of}
 use Rattle.papergrid_least.specs.Answers.{AreLeastSizes, AreLongest, NoneFits}
+use Rattle.papergrid_walk.specs.Cells.{problem_of}
 use Rattle.papergrid_walk.specs.Looks.{Look}
-use Rattle.papergrid_layout.specs.Answers.{HoldAlong, IsBothRefusedWhere}
-use Rattle.papergrid_layout.specs.declared.certified.Certified.{Certified}
+use Rattle.papergrid_layout.specs.Answers.{IsBothRefusedWhere}
+use Rattle.papergrid_layout.specs.declared.certificates.Certified.{Certified}
 
 -- whether these sizes, with these places of cells that certify them, are accepted; those that are, are least
 pub record IsChecked (problem : Problem) (sizes : List ℕ) (places : List Position) (answer : Bool) : Type 0 where
@@ -29,10 +31,12 @@ IsLongest problem None = ⊥
 IsLongest problem (Some places) = AreLongest problem places.items
 
 module _ {C : Type 0} (look : Look) (measure : C → ℕ × ℕ) (columns : ℕ) (cells : List (List C)) where
-  -- along both directions this holds of the sizes, and this of what certifies them
+  -- along columns and along rows this holds of the sizes, and this of what certifies them
   pub record AreCertifiedWhere (are_sizes : Problem → List ℕ → Type 0) (is_witness : Problem → Option (Vec Position Global) → Type 0) (certified : Certified) : Type 0 where
-    pub sizes : HoldAlong look measure columns cells are_sizes certified.widths.items certified.heights.items
-    pub witnesses : HoldAlong look measure columns cells is_witness certified.width_witness certified.height_witness
+    pub widths : are_sizes (problem_of look measure columns cells Columns) certified.widths.items
+        × is_witness (problem_of look measure columns cells Columns) certified.width_witness
+    pub heights : are_sizes (problem_of look measure columns cells Rows) certified.heights.items
+        × is_witness (problem_of look measure columns cells Rows) certified.height_witness
 
   -- such sizes, or why there are none
   abbrev pub IsCertifiedWhere : (Problem → Type 0) → (Problem → List ℕ → Type 0) → (Problem → Option (Vec Position Global) → Type 0) → Result Certified LayoutError → Type 0

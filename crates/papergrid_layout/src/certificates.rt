@@ -1,45 +1,27 @@
-//! Witnesses that the sizes of records whose cells are texts are least, and their checkers.
+//! The cells that certify that the sizes of records whose cells are texts are least, alone or with the sizes, and the
+//! checkers of such cells.
 
 ghost use Rattle.std.specs.Prelude.{List};
 ghost use Rattle.papergrid_values.specs.declared.direction.Direction.TheVariants.{Columns, Rows};
 ghost use Rattle.papergrid_axis.specs.Answers.{Answers, IsWitness};
+ghost use Rattle.papergrid_least.specs.Answers.{IsLeastCertified};
 ghost use Rattle.papergrid_walk.specs.Cells.{problem_of};
 ghost use Rattle.papergrid_walk.specs.Looks.{spanned_look};
 ghost use Rattle.papergrid_walk.specs.Measures.{line_measure};
 ghost use Rattle.papergrid_layout.specs.Answers.{UnlessMemory};
-ghost use Rattle.papergrid_layout.specs.Witnesses.{IsChecked};
+ghost use Rattle.papergrid_layout.specs.Witnesses.{IsCertified, IsCertifiedLeast, IsChecked};
 
 use crate::along::solve_along;
+use crate::both::solve_both;
 use crate::check::check;
 use papergrid_axis::{CertifiedSizes, LayoutError};
 use papergrid_config::SpannedConfig;
+use papergrid_least::CertifiedLeast;
 use papergrid_text::{IntoRecords, Records};
 use papergrid_values::{Direction, Position};
 use papergrid_walk::measure::ByLines;
 use std::alloc::Global;
 use std::convert::AsStr;
-
-/// The positions of the cells that certify that the sizes of the records along a direction are least.
-fn witness<R: Records + Drop>(
-    alloc: Global,
-    records: R,
-    config: &SpannedConfig,
-    direction: Direction,
-) -> Result<Option<Vec<Position>>, LayoutError>
-where
-    <<R as Records>::Iter as IntoRecords>::Cell: AsStr + Drop,
-    requires { R.is_lawful records }
-    ensures { UnlessMemory result ((cells : List (List R.Iter.Cell)) × R.tells records cells
-        × Answers IsWitness (problem_of (spanned_look config.now) (line_measure R.Iter.Cell.text)
-        (R.columns records) cells direction) result) }
-{
-    match solve_along::<CertifiedSizes, ByLines, R, SpannedConfig>(
-        alloc, records, config, direction,
-    ) {
-        Ok(found) => Ok(found.witness),
-        Err(refused) => Err(refused),
-    }
-}
 
 /// The positions of the cells that certify that the widths of the records' columns are least, by the
 /// starts of their ranges: visible cells of disjoint ranges, whose needs less the lines inside of
@@ -63,7 +45,9 @@ where
         × Answers IsWitness (problem_of (spanned_look config.now) (line_measure R.Iter.Cell.text)
         (R.columns records) cells Columns) result) }
 {
-    witness(alloc, records, config, Direction::Columns)
+    solve_along::<CertifiedSizes, ByLines, _, _>(alloc, records, config, Direction::Columns).map(
+        |found| found.witness,
+    )
 }
 
 /// The positions of the cells that certify that the heights of the records' rows are least, as
@@ -87,7 +71,9 @@ where
         × Answers IsWitness (problem_of (spanned_look config.now) (line_measure R.Iter.Cell.text)
         (R.columns records) cells Rows) result) }
 {
-    witness(alloc, records, config, Direction::Rows)
+    solve_along::<CertifiedSizes, ByLines, _, _>(alloc, records, config, Direction::Rows).map(
+        |found| found.witness,
+    )
 }
 
 /// Whether no visible cell of the records reaches out along columns, there are as many widths as
@@ -134,4 +120,130 @@ where
         (R.columns records) cells Rows) heights.now list.now result }
 {
     check::<ByLines, R, SpannedConfig>(records, config, Direction::Rows, heights, list)
+}
+
+/// The positions of the cells that certify that the widths of the records' columns are least, by the
+/// starts of their ranges: visible cells of disjoint ranges, whose needs less the lines inside of
+/// them add up to the widths. There always are such cells.
+///
+/// Condition: the records are lawful: they tell one finite list of rows, as each vector of
+/// rows does.
+///
+/// # Errors
+///
+/// As those of `LeastGridDimension::width`.
+pub fn width_certificate<R: Records + Drop>(
+    alloc: Global,
+    records: R,
+    config: &SpannedConfig,
+) -> Result<Vec<Position>, LayoutError>
+where
+    <<R as Records>::Iter as IntoRecords>::Cell: AsStr + Drop,
+    requires { R.is_lawful records }
+    ensures { UnlessMemory result ((cells : List (List R.Iter.Cell)) × R.tells records cells
+        × IsLeastCertified (problem_of (spanned_look config.now) (line_measure R.Iter.Cell.text)
+        (R.columns records) cells Columns) result) }
+{
+    solve_along::<CertifiedLeast, ByLines, _, _>(alloc, records, config, Direction::Columns).map(
+        |found| found.places,
+    )
+}
+
+/// The positions of the cells that certify that the heights of the records' rows are least, as
+/// `width_certificate` for columns.
+///
+/// Condition: the records are lawful: they tell one finite list of rows, as each vector of
+/// rows does.
+///
+/// # Errors
+///
+/// As those of `LeastGridDimension::height`.
+pub fn height_certificate<R: Records + Drop>(
+    alloc: Global,
+    records: R,
+    config: &SpannedConfig,
+) -> Result<Vec<Position>, LayoutError>
+where
+    <<R as Records>::Iter as IntoRecords>::Cell: AsStr + Drop,
+    requires { R.is_lawful records }
+    ensures { UnlessMemory result ((cells : List (List R.Iter.Cell)) × R.tells records cells
+        × IsLeastCertified (problem_of (spanned_look config.now) (line_measure R.Iter.Cell.text)
+        (R.columns records) cells Rows) result) }
+{
+    solve_along::<CertifiedLeast, ByLines, _, _>(alloc, records, config, Direction::Rows).map(
+        |found| found.places,
+    )
+}
+
+/// The width of each column, in columns of a terminal, and the height of each row, in lines; and for
+/// each direction the positions of the cells that certify that its total is least, where there are such.
+#[derive(Debug, Drop)]
+pub struct Certified {
+    pub widths: Vec<usize>,
+    pub heights: Vec<usize>,
+    pub width_witness: Option<Vec<Position>>,
+    pub height_witness: Option<Vec<Position>>,
+}
+
+/// The sizes that `IterGridDimension` estimates, and the witnesses that `width_witness` and
+/// `height_witness` give, by one walk over the records: none along a direction where two longer
+/// ranges are neither nested nor disjoint.
+///
+/// Condition: the records are lawful: they tell one finite list of rows, as each vector of
+/// rows does.
+///
+/// # Errors
+///
+/// As those of the estimate.
+pub fn certified_sizes<R: Records + Drop>(
+    alloc: Global,
+    records: R,
+    config: &SpannedConfig,
+) -> Result<Certified, LayoutError>
+where
+    <<R as Records>::Iter as IntoRecords>::Cell: AsStr + Drop,
+    requires { R.is_lawful records }
+    ensures { UnlessMemory result ((cells : List (List R.Iter.Cell)) × R.tells records cells
+        × IsCertified (spanned_look config.now) (line_measure R.Iter.Cell.text) (R.columns records) cells result) }
+{
+    match solve_both::<CertifiedSizes, ByLines, _, _>(alloc, records, config) {
+        Ok((across, down)) => Ok(Certified {
+            widths: across.sizes,
+            heights: down.sizes,
+            width_witness: across.witness,
+            height_witness: down.witness,
+        }),
+        Err(refused) => Err(refused),
+    }
+}
+
+/// The sizes that `LeastGridDimension` estimates, and the cells that `width_certificate` and
+/// `height_certificate` give, by one walk over the records.
+///
+/// Condition: the records are lawful: they tell one finite list of rows, as each vector of
+/// rows does.
+///
+/// # Errors
+///
+/// As those of the estimate.
+pub fn certified_least<R: Records + Drop>(
+    alloc: Global,
+    records: R,
+    config: &SpannedConfig,
+) -> Result<Certified, LayoutError>
+where
+    <<R as Records>::Iter as IntoRecords>::Cell: AsStr + Drop,
+    requires { R.is_lawful records }
+    ensures { UnlessMemory result ((cells : List (List R.Iter.Cell)) × R.tells records cells
+        × IsCertifiedLeast (spanned_look config.now) (line_measure R.Iter.Cell.text) (R.columns records) cells result) }
+{
+    match solve_both::<CertifiedLeast, ByLines, _, _>(alloc, records, config) {
+        Ok((across, down)) => Ok(Certified {
+            widths: across.sizes,
+            heights: down.sizes,
+            width_witness: Some(across.places),
+            height_witness: Some(down.places),
+        }),
+        Err(refused) => Err(refused),
+    }
 }

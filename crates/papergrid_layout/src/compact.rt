@@ -61,12 +61,7 @@ impl CompactGridDimension {
             × IsSized (problem_of (compact_look config.now) (std_line_measure R.Iter.Cell.text)
             (R.columns records) cells Columns) result) }
     {
-        solve_along::<Vec<usize>, ByStdLines, R, CompactConfig>(
-            alloc,
-            records,
-            config,
-            Direction::Columns,
-        )
+        solve_along::<Vec<usize>, ByStdLines, _, _>(alloc, records, config, Direction::Columns)
     }
 
     /// The heights of the rows of the records, in lines.
@@ -90,12 +85,7 @@ impl CompactGridDimension {
             × IsSized (problem_of (compact_look config.now) (std_line_measure R.Iter.Cell.text)
             (R.columns records) cells Rows) result) }
     {
-        solve_along::<Vec<usize>, ByStdLines, R, CompactConfig>(
-            alloc,
-            records,
-            config,
-            Direction::Rows,
-        )
+        solve_along::<Vec<usize>, ByStdLines, _, _>(alloc, records, config, Direction::Rows)
     }
 
     /// The widths of the columns of the records, in columns of a terminal, and the heights of their
@@ -119,7 +109,7 @@ impl CompactGridDimension {
         ensures { UnlessMemory result ((cells : List (List R.Iter.Cell)) × R.tells records cells
             × AreBothSized (compact_look config.now) (std_line_measure R.Iter.Cell.text) (R.columns records) cells result) }
     {
-        solve_both::<Vec<usize>, ByStdLines, R, CompactConfig>(alloc, records, config)
+        solve_both::<Vec<usize>, ByStdLines, _, _>(alloc, records, config)
     }
 }
 

@@ -68,12 +68,7 @@ impl IterGridDimension {
             × IsSized (problem_of (spanned_look config.now) (line_measure R.Iter.Cell.text)
             (R.columns records) cells Columns) result) }
     {
-        solve_along::<Vec<usize>, ByLines, R, SpannedConfig>(
-            alloc,
-            records,
-            config,
-            Direction::Columns,
-        )
+        solve_along::<Vec<usize>, ByLines, _, _>(alloc, records, config, Direction::Columns)
     }
 
     /// The heights of the rows of the records, in lines.
@@ -96,12 +91,7 @@ impl IterGridDimension {
             × IsSized (problem_of (spanned_look config.now) (line_measure R.Iter.Cell.text)
             (R.columns records) cells Rows) result) }
     {
-        solve_along::<Vec<usize>, ByLines, R, SpannedConfig>(
-            alloc,
-            records,
-            config,
-            Direction::Rows,
-        )
+        solve_along::<Vec<usize>, ByLines, _, _>(alloc, records, config, Direction::Rows)
     }
 
     /// The width of the records' table: the sum of the widths and of the vertical lines.
@@ -178,7 +168,7 @@ where
         × Answers IsTotal (problem_of (spanned_look config.now) (line_measure R.Iter.Cell.text)
         (R.columns records) cells direction) result) }
 {
-    match solve_along::<Vec<usize>, ByLines, R, SpannedConfig>(alloc, records, config, direction) {
+    match solve_along::<Vec<usize>, ByLines, _, _>(alloc, records, config, direction) {
         Ok(sizes) => Ok(with_lines(config, direction, &sizes)),
         Err(error) => Err(error),
     }
@@ -222,7 +212,7 @@ where
         × IsBothRefused (spanned_look config) (line_measure R.Iter.Cell.text) (R.columns records) cells error) };
 
     fn estimate(&mut self, records: R, config: &SpannedConfig) -> Result<(), LayoutError> {
-        match solve_both::<Vec<usize>, ByLines, R, SpannedConfig>(self.alloc, records, config) {
+        match solve_both::<Vec<usize>, ByLines, _, _>(self.alloc, records, config) {
             Ok((widths, heights)) => {
                 self.widths = SizeList::of(widths);
                 self.heights = SizeList::of(heights);

@@ -1,23 +1,24 @@
-//! The least sizes of records whose cells are texts, whatever spans cross, and the cells that certify them.
+//! The least sizes of records whose cells are texts, whatever spans cross.
 
 ghost use Rattle.std.specs.Prelude.{◌≡◌, [], List};
 ghost use Rattle.papergrid_values.specs.declared.direction.Direction.TheVariants.{Columns, Rows};
 ghost use Rattle.papergrid_walk.specs.Looks.{spanned_look};
 ghost use Rattle.papergrid_walk.specs.Measures.{line_measure};
-ghost use Rattle.papergrid_least.specs.Answers.{IsLeastCertified, IsLeastSized, IsLeastTotal, LeastAnswers};
+ghost use Rattle.papergrid_least.specs.Answers.{IsLeastSized, IsLeastTotal, LeastAnswers};
 ghost use Rattle.papergrid_walk.specs.Cells.{problem_of};
 ghost use Rattle.papergrid_layout.specs.Answers.{UnlessMemory};
 
 use crate::along::solve_along;
 use crate::both::solve_both;
+pub use crate::certificates::{height_certificate, width_certificate};
 use crate::dimension::{Dimension, Estimate};
 use crate::size_list::SizeList;
 use crate::sums::with_lines;
 use papergrid_axis::LayoutError;
 use papergrid_config::SpannedConfig;
-use papergrid_least::{CertifiedLeast, LeastSizes};
+use papergrid_least::LeastSizes;
 use papergrid_text::{IntoRecords, Records};
-use papergrid_values::{Direction, Position};
+use papergrid_values::Direction;
 use papergrid_walk::measure::ByLines;
 use std::alloc::Global;
 use std::convert::AsStr;
@@ -169,10 +170,9 @@ where
         × IsLeastSized (problem_of (spanned_look config.now) (line_measure R.Iter.Cell.text)
         (R.columns records) cells direction) result) }
 {
-    match solve_along::<LeastSizes, ByLines, R, SpannedConfig>(alloc, records, config, direction) {
-        Ok(found) => Ok(found.sizes),
-        Err(refused) => Err(refused),
-    }
+    solve_along::<LeastSizes, ByLines, _, _>(alloc, records, config, direction).map(
+        |found| found.sizes,
+    )
 }
 
 /// The total of the records along a direction: the sum of the sizes and of the lines.
@@ -193,77 +193,6 @@ where
         Ok(sizes) => Ok(with_lines(config, direction, &sizes)),
         Err(error) => Err(error),
     }
-}
-
-/// The positions of the cells that certify that the least sizes of the records along a direction are that.
-fn certificate<R: Records + Drop>(
-    alloc: Global,
-    records: R,
-    config: &SpannedConfig,
-    direction: Direction,
-) -> Result<Vec<Position>, LayoutError>
-where
-    <<R as Records>::Iter as IntoRecords>::Cell: AsStr + Drop,
-    requires { R.is_lawful records }
-    ensures { UnlessMemory result ((cells : List (List R.Iter.Cell)) × R.tells records cells
-        × IsLeastCertified (problem_of (spanned_look config.now) (line_measure R.Iter.Cell.text)
-        (R.columns records) cells direction) result) }
-{
-    match solve_along::<CertifiedLeast, ByLines, R, SpannedConfig>(
-        alloc, records, config, direction,
-    ) {
-        Ok(found) => Ok(found.places),
-        Err(refused) => Err(refused),
-    }
-}
-
-/// The positions of the cells that certify that the widths of the records' columns are least, by the
-/// starts of their ranges: visible cells of disjoint ranges, whose needs less the lines inside of
-/// them add up to the widths. There always are such cells.
-///
-/// Condition: the records are lawful: they tell one finite list of rows, as each vector of
-/// rows does.
-///
-/// # Errors
-///
-/// As those of `LeastGridDimension::width`.
-pub fn width_certificate<R: Records + Drop>(
-    alloc: Global,
-    records: R,
-    config: &SpannedConfig,
-) -> Result<Vec<Position>, LayoutError>
-where
-    <<R as Records>::Iter as IntoRecords>::Cell: AsStr + Drop,
-    requires { R.is_lawful records }
-    ensures { UnlessMemory result ((cells : List (List R.Iter.Cell)) × R.tells records cells
-        × IsLeastCertified (problem_of (spanned_look config.now) (line_measure R.Iter.Cell.text)
-        (R.columns records) cells Columns) result) }
-{
-    certificate(alloc, records, config, Direction::Columns)
-}
-
-/// The positions of the cells that certify that the heights of the records' rows are least, as
-/// `width_certificate` for columns.
-///
-/// Condition: the records are lawful: they tell one finite list of rows, as each vector of
-/// rows does.
-///
-/// # Errors
-///
-/// As those of `LeastGridDimension::height`.
-pub fn height_certificate<R: Records + Drop>(
-    alloc: Global,
-    records: R,
-    config: &SpannedConfig,
-) -> Result<Vec<Position>, LayoutError>
-where
-    <<R as Records>::Iter as IntoRecords>::Cell: AsStr + Drop,
-    requires { R.is_lawful records }
-    ensures { UnlessMemory result ((cells : List (List R.Iter.Cell)) × R.tells records cells
-        × IsLeastCertified (problem_of (spanned_look config.now) (line_measure R.Iter.Cell.text)
-        (R.columns records) cells Rows) result) }
-{
-    certificate(alloc, records, config, Direction::Rows)
 }
 
 impl Dimension for LeastGridDimension {
@@ -304,7 +233,7 @@ where
         × HaveNoLeast (spanned_look config) (line_measure R.Iter.Cell.text) (R.columns records) cells error) };
 
     fn estimate(&mut self, records: R, config: &SpannedConfig) -> Result<(), LayoutError> {
-        match solve_both::<LeastSizes, ByLines, R, SpannedConfig>(self.alloc, records, config) {
+        match solve_both::<LeastSizes, ByLines, _, _>(self.alloc, records, config) {
             Ok((across, down)) => {
                 self.widths = SizeList::of(across.sizes);
                 self.heights = SizeList::of(down.sizes);

@@ -3,8 +3,7 @@
 
 mod along;
 mod both;
-mod certificates;
-pub mod certified;
+pub mod certificates;
 mod check;
 pub mod compact;
 pub mod dimension;

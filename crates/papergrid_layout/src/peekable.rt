@@ -62,12 +62,7 @@ impl PeekableGridDimension {
             × IsSized (problem_of (spanned_look config.now) (cell_measure R.Iter.Cell.width R.Iter.Cell.lines)
             (R.columns records) cells Columns) result) }
     {
-        solve_along::<Vec<usize>, ByCell, R, SpannedConfig>(
-            alloc,
-            records,
-            config,
-            Direction::Columns,
-        )
+        solve_along::<Vec<usize>, ByCell, _, _>(alloc, records, config, Direction::Columns)
     }
 
     /// The heights of the rows of the records, in lines.
@@ -90,7 +85,7 @@ impl PeekableGridDimension {
             × IsSized (problem_of (spanned_look config.now) (cell_measure R.Iter.Cell.width R.Iter.Cell.lines)
             (R.columns records) cells Rows) result) }
     {
-        solve_along::<Vec<usize>, ByCell, R, SpannedConfig>(alloc, records, config, Direction::Rows)
+        solve_along::<Vec<usize>, ByCell, _, _>(alloc, records, config, Direction::Rows)
     }
 
     /// The widths of the columns of the records, in columns of a terminal, and the heights of their
@@ -115,7 +110,7 @@ impl PeekableGridDimension {
         ensures { UnlessMemory result ((cells : List (List R.Iter.Cell)) × R.tells records cells
             × AreBothSized (spanned_look config.now) (cell_measure R.Iter.Cell.width R.Iter.Cell.lines) (R.columns records) cells result) }
     {
-        solve_both::<Vec<usize>, ByCell, R, SpannedConfig>(alloc, records, config)
+        solve_both::<Vec<usize>, ByCell, _, _>(alloc, records, config)
     }
 
     /// The widths and the heights.
@@ -170,7 +165,7 @@ where
         × IsBothRefused (spanned_look config) (cell_measure R.Iter.Cell.width R.Iter.Cell.lines) (R.columns records) cells error) };
 
     fn estimate(&mut self, records: R, config: &SpannedConfig) -> Result<(), LayoutError> {
-        match solve_both::<Vec<usize>, ByCell, R, SpannedConfig>(self.alloc, records, config) {
+        match solve_both::<Vec<usize>, ByCell, _, _>(self.alloc, records, config) {
             Ok((widths, heights)) => {
                 self.widths = SizeList::of(widths);
                 self.heights = SizeList::of(heights);

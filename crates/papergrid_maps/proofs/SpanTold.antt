@@ -12,7 +12,8 @@ use Rattle.papergrid_values.specs.declared.position.Position.{Position}
 use Rattle.papergrid_keys.specs.Keys.{position_cmp, position_eq}
 use Rattle.papergrid_values.specs.declared.direction.Direction.{Direction}
 use Rattle.papergrid_values.specs.declared.direction.Direction.TheVariants.{Columns, Rows}
-use Rattle.papergrid_maps.specs.Spans.{Spans, SpanCall, SetSpan, RemoveSpans, HasSpan, IsTold, Appends, spans_along, span_from, from_two}
+use Rattle.papergrid_keys.specs.Told.{Appends}
+use Rattle.papergrid_maps.specs.Spans.{Spans, SpanCall, SetSpan, RemoveSpans, HasSpan, IsTold, spans_along, span_from, from_two}
 use Rattle.papergrid_maps.specs.ForProofs.SpanIndex.{AreFromTwo, held_along, key_of, span_set}
 use Rattle.papergrid_keys.proofs.KeyLemmas.{position_equiv, position_ties, position_total}
 use Rattle.papergrid_maps.proofs.IndexKeys.{held_at, key_key}
@@ -33,7 +34,7 @@ same_some m n e = ap (λ o. unwrap_or o m) e
 -- what a call makes of the spans of each direction makes a step of the table
 told_step : (old new : Spans) (call : SpanCall)
     → ((d : Direction) (p : Position) (older : List SpanCall) → get (spans_along d old) p ≡ from_two (span_from d p older) → get (spans_along d new) p ≡ from_two (span_from d p (call ∷ older)))
-    → Appends old new (call ∷ [])
+    → Appends IsTold old new (call ∷ [])
 told_step old new call step calls told d p =
     step d p (reverse calls) (told d p) ∙ ap (λ xs. from_two (span_from d p xs)) (sym (newest calls call))
 
@@ -46,14 +47,14 @@ module _ (q : Position) (n : ℕ) (old new : FinMap position_cmp ℕ) (changed :
   set_step : (p : Position) (span : ℕ) → get old p ≡ from_two span → get new p ≡ from_two (cond (leb 1 n && position_eq q p) n span)
   set_step p span held = changed p ∙ ap (span_set q n p) held ∙ either (leb 1 n && position_eq q p) n span
 
-  pub told_set_column : (rows : FinMap position_cmp ℕ) → Appends (record { columns = old; rows = rows }) (record { columns = new; rows = rows }) (SetSpan Columns q n ∷ [])
+  pub told_set_column : (rows : FinMap position_cmp ℕ) → Appends IsTold (record { columns = old; rows = rows }) (record { columns = new; rows = rows }) (SetSpan Columns q n ∷ [])
   told_set_column rows = told_step _ _ (SetSpan Columns q n) (λ d p older.
       elim d as (λ d. get (spans_along d (record { columns = old; rows = rows })) p ≡ from_two (span_from d p older) → get (spans_along d (record { columns = new; rows = rows })) p ≡ from_two (span_from d p (SetSpan Columns q n ∷ older))) [
         | Columns ↦ set_step p (span_from Columns p older)
         | Rows ↦ λ held. held
       ])
 
-  pub told_set_row : (columns : FinMap position_cmp ℕ) → Appends (record { columns = columns; rows = old }) (record { columns = columns; rows = new }) (SetSpan Rows q n ∷ [])
+  pub told_set_row : (columns : FinMap position_cmp ℕ) → Appends IsTold (record { columns = columns; rows = old }) (record { columns = columns; rows = new }) (SetSpan Rows q n ∷ [])
   told_set_row columns = told_step _ _ (SetSpan Rows q n) (λ d p older.
       elim d as (λ d. get (spans_along d (record { columns = columns; rows = old })) p ≡ from_two (span_from d p older) → get (spans_along d (record { columns = columns; rows = new })) p ≡ from_two (span_from d p (SetSpan Rows q n ∷ older))) [
         | Columns ↦ λ held. held
@@ -94,14 +95,14 @@ held_set old q n big p =
     get-insert position_total old q n p
     ∙ (λ i. cond ((tied p q ∙ ap (λ b. b && position_eq q p) (sym one)) i) (cond (sym two i) (Some n) None) (get old p))
 
-pub told_remove_columns : (columns rows : FinMap position_cmp ℕ) → Appends (record { columns = columns; rows = rows }) (record { columns = empty; rows = rows }) (RemoveSpans Columns ∷ [])
+pub told_remove_columns : (columns rows : FinMap position_cmp ℕ) → Appends IsTold (record { columns = columns; rows = rows }) (record { columns = empty; rows = rows }) (RemoveSpans Columns ∷ [])
 told_remove_columns columns rows = told_step _ _ (RemoveSpans Columns) (λ d p older.
     elim d as (λ d. get (spans_along d (record { columns = columns; rows = rows })) p ≡ from_two (span_from d p older) → get (spans_along d (record { columns = empty; rows = rows })) p ≡ from_two (span_from d p (RemoveSpans Columns ∷ older))) [
       | Columns ↦ λ held. get-empty position_cmp p
       | Rows ↦ λ held. held
     ])
 
-pub told_remove_rows : (columns rows : FinMap position_cmp ℕ) → Appends (record { columns = columns; rows = rows }) (record { columns = columns; rows = empty }) (RemoveSpans Rows ∷ [])
+pub told_remove_rows : (columns rows : FinMap position_cmp ℕ) → Appends IsTold (record { columns = columns; rows = rows }) (record { columns = columns; rows = empty }) (RemoveSpans Rows ∷ [])
 told_remove_rows columns rows = told_step _ _ (RemoveSpans Rows) (λ d p older.
     elim d as (λ d. get (spans_along d (record { columns = columns; rows = rows })) p ≡ from_two (span_from d p older) → get (spans_along d (record { columns = columns; rows = empty })) p ≡ from_two (span_from d p (RemoveSpans Rows ∷ older))) [
       | Columns ↦ λ held. held

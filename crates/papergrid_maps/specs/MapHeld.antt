@@ -1,9 +1,10 @@
 -- What a map of values by entity holds.
-use Rattle.std.specs.Prelude.{◌≡◌, ◌⊎◌, ℕ, List, ◌++◌, reverse, Option, Some, None, unwrap_or, refl}
+use Rattle.std.specs.Prelude.{◌≡◌, ◌⊎◌, ℕ, List, reverse, Option, Some, None, unwrap_or, refl}
 use Rattle.std.specs.Ordering.{nat_cmp}
 use Rattle.std.specs.FinMap.{FinMap, get, code}
 use Rattle.std.specs.Coded.{Coded, code_by, coded×, coded_ℕ}
 use Rattle.papergrid_keys.specs.Keys.{position_cmp, coded_position}
+use Rattle.papergrid_keys.specs.Told as told
 use Rattle.papergrid_maps.specs.MapCalls.{global_value, pinned_value, standing_value}
 use Rattle.papergrid_values.specs.declared.position.Position.{Position}
 use Rattle.papergrid_values.specs.declared.entity.Entity.{Entity}
@@ -40,7 +41,7 @@ module _ {T : Type 0} where
 
   -- told by any calls, the map is told by these and then the further ones
   abbrev pub Appends : Held T → Held T → List (MapCall T) → Type 0
-  Appends old new further = (given : T) (calls : List (MapCall T)) → IsTold given calls old → IsTold given (calls ++ further) new
+  Appends old new further = (given : T) → told.Appends (IsTold given) old new further
 
   -- no value is held for a column, a row or a cell
   pub record HasNothing (held : Held T) : Type 0 where

@@ -46,10 +46,6 @@ from_two n = if nat_le 2 n then Some n else None
 abbrev pub IsTold : List SpanCall → Spans → Type 0
 IsTold calls spans = (d : Direction) (p : Position) → get (spans_along d spans) p ≡ from_two (decided_span d p calls)
 
--- told by any calls, the table is told by these and then the further ones
-abbrev pub Appends : Spans → Spans → List SpanCall → Type 0
-Appends old new further = (calls : List SpanCall) → IsTold calls old → IsTold (calls ++ further) new
-
 -- a span of the direction is held
 abbrev pub HasSpan : FinMap position_cmp ℕ → Type 0
 HasSpan spans = (p : Position) × IsSome (get spans p)

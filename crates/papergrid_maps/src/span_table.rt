@@ -7,12 +7,13 @@ ghost use Rattle.std.specs.List.{list_any};
 ghost use Rattle.std.specs.HashMap.{get as map_get};
 ghost use Rattle.std.specs.FinMap as map;
 ghost use Rattle.std.specs.FinMap.{get as value_at};
+ghost use Rattle.papergrid_keys.specs.Told.{Appends};
 ghost use Rattle.papergrid_values.specs.Positions.{AreRising};
 ghost use Rattle.papergrid_values.specs.declared.direction.Direction.TheVariants.{Columns, Rows};
 ghost use Rattle.papergrid_values.specs.declared.position.Position.{Position};
 ghost use Rattle.papergrid_keys.specs.Keys.{position_cmp, position_eq};
 ghost use Rattle.papergrid_maps.specs.Anchors.{AreAnchors, HasAnchor, IsSorted};
-ghost use Rattle.papergrid_maps.specs.Spans.{IsTold, Appends, EndWithin, HasSpan, IsVisible, IsCoveredByColumn, IsCoveredByRow, IsCoveredByBoth, SetSpan, RemoveSpans, column_span, row_span, is_visible, span_at, spans_along};
+ghost use Rattle.papergrid_maps.specs.Spans.{IsTold, EndWithin, HasSpan, IsVisible, IsCoveredByColumn, IsCoveredByRow, IsCoveredByBoth, SetSpan, RemoveSpans, column_span, row_span, is_visible, span_at, spans_along};
 ghost use Rattle.papergrid_maps.specs.ForProofs.SpanIndex.{AreFromTwo, HoldsBoth, span_set};
 
 use crate::anchors::{Anchor, anchors_of};
@@ -70,7 +71,7 @@ impl SpanTable {
     /// Sets the column span of a position: 0 does nothing and 1 removes the one that is held, so
     /// that neither takes memory. Where memory is refused the table is as it was.
     pub fn set_column(&mut self, pos: Position, span: usize) -> Result<(), AllocError>
-        ensures ok { OnOk result (Appends self.old self.new (SetSpan Columns pos span ∷ [])) }
+        ensures ok { OnOk result (Appends IsTold self.old self.new (SetSpan Columns pos span ∷ [])) }
         ensures err { OnErr result (self.new ≡ self.old) }
         ensures others { self.new.rows ≡ self.old.rows }
         ensures small { span < 2 → IsOk result }
@@ -80,7 +81,7 @@ impl SpanTable {
 
     /// Sets the row span of a position, as `set_column` does the column span.
     pub fn set_row(&mut self, pos: Position, span: usize) -> Result<(), AllocError>
-        ensures ok { OnOk result (Appends self.old self.new (SetSpan Rows pos span ∷ [])) }
+        ensures ok { OnOk result (Appends IsTold self.old self.new (SetSpan Rows pos span ∷ [])) }
         ensures err { OnErr result (self.new ≡ self.old) }
         ensures others { self.new.columns ≡ self.old.columns }
         ensures small { span < 2 → IsOk result }
@@ -106,7 +107,7 @@ impl SpanTable {
 
     /// Removes all column spans.
     pub fn remove_columns(&mut self)
-        ensures told { Appends self.old self.new (RemoveSpans Columns ∷ []) }
+        ensures told { Appends IsTold self.old self.new (RemoveSpans Columns ∷ []) }
         ensures others { self.new.rows ≡ self.old.rows }
     {
         self.columns.clear();
@@ -115,7 +116,7 @@ impl SpanTable {
 
     /// Removes all row spans.
     pub fn remove_rows(&mut self)
-        ensures told { Appends self.old self.new (RemoveSpans Rows ∷ []) }
+        ensures told { Appends IsTold self.old self.new (RemoveSpans Rows ∷ []) }
         ensures others { self.new.columns ≡ self.old.columns }
     {
         self.rows.clear();

@@ -12,7 +12,8 @@ use Rattle.papergrid_values.specs.declared.borders.Borders.{Borders}
 use Rattle.papergrid_values.specs.declared.horizontal_line.HorizontalLine.{HorizontalLine}
 use Rattle.papergrid_values.specs.declared.vertical_line.VerticalLine.{VerticalLine}
 use Rattle.papergrid_tables.specs.BorderCalls.{BorderCall, InsertBorder, RemoveBorder, InsertHorizontalLine, RemoveHorizontalLine, InsertVerticalLine, RemoveVerticalLine, SetBorders, SetGlobal, Clear, at_frame, at_global, at_horizontal_line, at_vertical_line, at_horizontal_edge, at_vertical_edge, at_corner, below, right_of, horizontal_part, vertical_part, corner_part}
-use Rattle.papergrid_tables.specs.BorderHeld.{HeldBorders, IsTold, Appends, places_of}
+use Rattle.papergrid_keys.specs.Told.{Appends}
+use Rattle.papergrid_tables.specs.BorderHeld.{HeldBorders, IsTold, places_of}
 use Rattle.papergrid_tables.specs.Changes.{Change, Keeps, Removes, Writes, after, if_set, last}
 use Rattle.papergrid_keys.specs.Keys.{position_cmp, position_eq}
 use Rattle.papergrid_tables.specs.Places.{Places, no_frame, places_from}
@@ -77,7 +78,7 @@ module _ {T : Type 0} where
     corner = λ p. last (at_corner p) (call ∷ older);
   }
 
-  told_step : (old new : HeldBorders T) (call : BorderCall T) → places_of new ≡ changed call (places_of old) → Appends old new (call ∷ [])
+  told_step : (old new : HeldBorders T) (call : BorderCall T) → places_of new ≡ changed call (places_of old) → Appends IsTold old new (call ∷ [])
   told_step old new call step calls told =
       step ∙ ap (changed call) told ∙ next call (reverse calls) ∙ ap places_from (sym (reverse-append calls (call ∷ [])))
 
@@ -103,7 +104,7 @@ module _ {T : Type 0} where
         → ((p : Position) → lookup (position_eq p) he' ≡ option_or (horizontal_part cell b p) (lookup (position_eq p) he))
         → ((p : Position) → lookup (position_eq p) ve' ≡ option_or (vertical_part cell b p) (lookup (position_eq p) ve))
         → ((p : Position) → lookup (position_eq p) ks' ≡ option_or (corner_part cell b p) (lookup (position_eq p) ks))
-        → Appends (table_of g f hl vl he ve ks) (table_of g f hl vl he' ve' ks') (InsertBorder cell b ∷ [])
+        → Appends IsTold (table_of g f hl vl he ve ks) (table_of g f hl vl he' ve' ks') (InsertBorder cell b ∷ [])
     told_insert_border he' ve' ks' cell b horizontal vertical corners = told_step _ _ (InsertBorder cell b) (λ i. record {
       global = g;
       frame = f;
@@ -123,7 +124,7 @@ module _ {T : Type 0} where
         → ((p : Position) → lookup (position_eq p) he' ≡ cond (position_eq cell p || position_eq (below cell) p) None (lookup (position_eq p) he))
         → ((p : Position) → lookup (position_eq p) ve' ≡ cond (position_eq cell p || position_eq (right_of cell) p) None (lookup (position_eq p) ve))
         → ((p : Position) → lookup (position_eq p) ks' ≡ cond ((position_eq cell p || position_eq (right_of cell) p) || (position_eq (below cell) p || position_eq (below (right_of cell)) p)) None (lookup (position_eq p) ks))
-        → Appends (table_of g f hl vl he ve ks) (table_of g f hl vl he' ve' ks') (RemoveBorder cell ∷ [])
+        → Appends IsTold (table_of g f hl vl he ve ks) (table_of g f hl vl he' ve' ks') (RemoveBorder cell ∷ [])
     told_remove_border he' ve' ks' cell horizontal vertical corners = told_step _ _ (RemoveBorder cell) (λ i. record {
       global = g;
       frame = f;
@@ -146,36 +147,36 @@ module _ {T : Type 0} where
 
     pub told_insert_horizontal_line : (hl' : List (ℕ × HorizontalLine T)) (k : ℕ) (line : HorizontalLine T)
         → ((n : ℕ) → lookup (eqb n) hl' ≡ cond (eqb k n) (Some line) (lookup (eqb n) hl))
-        → Appends (table_of g f hl vl he ve ks) (table_of g f hl' vl he ve ks) (InsertHorizontalLine k line ∷ [])
+        → Appends IsTold (table_of g f hl vl he ve ks) (table_of g f hl' vl he ve ks) (InsertHorizontalLine k line ∷ [])
     told_insert_horizontal_line hl' k line written =
         let old = places_of (table_of g f hl vl he ve ks) in
         told_step _ _ (InsertHorizontalLine k line) (λ i. record old { horizontal_line = λ n. line_written k line hl hl' written n i })
 
     pub told_remove_horizontal_line : (hl' : List (ℕ × HorizontalLine T)) (k : ℕ)
         → ((n : ℕ) → lookup (eqb n) hl' ≡ cond (eqb k n) None (lookup (eqb n) hl))
-        → Appends (table_of g f hl vl he ve ks) (table_of g f hl' vl he ve ks) (RemoveHorizontalLine k ∷ [])
+        → Appends IsTold (table_of g f hl vl he ve ks) (table_of g f hl' vl he ve ks) (RemoveHorizontalLine k ∷ [])
     told_remove_horizontal_line hl' k removed =
         let old = places_of (table_of g f hl vl he ve ks) in
         told_step _ _ (RemoveHorizontalLine k) (λ i. record old { horizontal_line = λ n. line_taken k hl hl' removed n i })
 
     pub told_insert_vertical_line : (vl' : List (ℕ × VerticalLine T)) (k : ℕ) (line : VerticalLine T)
         → ((n : ℕ) → lookup (eqb n) vl' ≡ cond (eqb k n) (Some line) (lookup (eqb n) vl))
-        → Appends (table_of g f hl vl he ve ks) (table_of g f hl vl' he ve ks) (InsertVerticalLine k line ∷ [])
+        → Appends IsTold (table_of g f hl vl he ve ks) (table_of g f hl vl' he ve ks) (InsertVerticalLine k line ∷ [])
     told_insert_vertical_line vl' k line written =
         let old = places_of (table_of g f hl vl he ve ks) in
         told_step _ _ (InsertVerticalLine k line) (λ i. record old { vertical_line = λ n. line_written k line vl vl' written n i })
 
     pub told_remove_vertical_line : (vl' : List (ℕ × VerticalLine T)) (k : ℕ)
         → ((n : ℕ) → lookup (eqb n) vl' ≡ cond (eqb k n) None (lookup (eqb n) vl))
-        → Appends (table_of g f hl vl he ve ks) (table_of g f hl vl' he ve ks) (RemoveVerticalLine k ∷ [])
+        → Appends IsTold (table_of g f hl vl he ve ks) (table_of g f hl vl' he ve ks) (RemoveVerticalLine k ∷ [])
     told_remove_vertical_line vl' k removed =
         let old = places_of (table_of g f hl vl he ve ks) in
         told_step _ _ (RemoveVerticalLine k) (λ i. record old { vertical_line = λ n. line_taken k vl vl' removed n i })
 
-    pub told_set_borders : (frame : Borders T) → Appends (table_of g f hl vl he ve ks) (table_of g frame hl vl he ve ks) (SetBorders frame ∷ [])
+    pub told_set_borders : (frame : Borders T) → Appends IsTold (table_of g f hl vl he ve ks) (table_of g frame hl vl he ve ks) (SetBorders frame ∷ [])
     told_set_borders frame = told_step _ _ (SetBorders frame) refl
 
-    pub told_set_global : (v : T) → Appends (table_of g f hl vl he ve ks) (table_of (Some v) f hl vl he ve ks) (SetGlobal v ∷ [])
+    pub told_set_global : (v : T) → Appends IsTold (table_of g f hl vl he ve ks) (table_of (Some v) f hl vl he ve ks) (SetGlobal v ∷ [])
     told_set_global v = told_step _ _ (SetGlobal v) refl
 
     -- edges and corners that answer alike are held alike

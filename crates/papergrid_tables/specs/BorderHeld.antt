@@ -35,7 +35,3 @@ module _ {T : Type 0} where
   -- a new table that was given the calls holds this: at each place what they leave there
   abbrev pub IsTold : List (BorderCall T) → HeldBorders T → Type 0
   IsTold calls held = places_of held ≡ places_from (reverse calls)
-
-  -- told by any calls, the table is told by these and then the further ones
-  abbrev pub Appends : HeldBorders T → HeldBorders T → List (BorderCall T) → Type 0
-  Appends old new further = (calls : List (BorderCall T)) → IsTold calls old → IsTold (calls ++ further) new

@@ -44,10 +44,6 @@ module _ {T : Type 0} where
   abbrev pub IsTold : List (OffsetCall T) → FinMap position_cmp (HeldOffsets T) → Type 0
   IsTold calls held = (p : Position) (o : Offset) → override_at held p o ≡ last (at_override p o) (reverse calls)
 
-  -- told by any calls, the table is told by these and then the further ones
-  abbrev pub Appends : FinMap position_cmp (HeldOffsets T) → FinMap position_cmp (HeldOffsets T) → List (OffsetCall T) → Type 0
-  Appends old new further = (calls : List (OffsetCall T)) → IsTold calls old → IsTold (calls ++ further) new
-
   -- what is found at an offset of an end: the one from the start, or else the one from the end
   abbrev pub found_override : (Offset → Option T) → ℕ → ℕ → Option T
   found_override held offset limit =

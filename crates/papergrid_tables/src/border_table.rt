@@ -4,9 +4,10 @@ ghost use Rattle.std.specs.Prelude.{◌≡◌, ◌∷◌, [], ◌+◌, ◌<◌, 
 ghost use Rattle.std.specs.HashMap.{get as map_get};
 ghost use Rattle.std.specs.Option.{option_or};
 ghost use Rattle.std.specs.FinMap.{get as value_at};
+ghost use Rattle.papergrid_keys.specs.Told.{Appends};
 ghost use Rattle.papergrid_values.specs.Borders.{border_map};
 ghost use Rattle.papergrid_tables.specs.BorderCalls.{BorderCall, Clear, InsertBorder, RemoveBorder, InsertHorizontalLine, RemoveHorizontalLine, InsertVerticalLine, RemoveVerticalLine, SetBorders, SetGlobal};
-ghost use Rattle.papergrid_tables.specs.BorderHeld.{IsTold, Appends, places_of};
+ghost use Rattle.papergrid_tables.specs.BorderHeld.{IsTold, places_of};
 ghost use Rattle.papergrid_keys.specs.Keys.{position_eq};
 ghost use Rattle.papergrid_tables.specs.LineTests.{horizontal_line_at, vertical_line_at};
 ghost use Rattle.papergrid_tables.specs.Places.{IsBare, HasHorizontal, HasVertical, IsHorizontalSet, IsVerticalSet, found_border, found_horizontal, found_intersection, found_vertical};
@@ -236,7 +237,7 @@ impl<T: Drop> BorderTable<T> {
     pub fn insert_border(&mut self, pos: Position, border: Border<T>) -> Result<(), AllocError>
         requires row { pos.row + 1 < 2 ^ 64 }
         requires col { pos.col + 1 < 2 ^ 64 }
-        ensures ok { OnOk result (Appends self.old self.new (InsertBorder pos border ∷ [])) }
+        ensures ok { OnOk result (Appends IsTold self.old self.new (InsertBorder pos border ∷ [])) }
         ensures err { OnErr result (self.new ≡ self.old) }
     {
         parts::reserve(
@@ -259,7 +260,7 @@ impl<T: Drop> BorderTable<T> {
     pub fn remove_border(&mut self, pos: Position, _shape: (usize, usize))
         requires row { pos.row + 1 < 2 ^ 64 }
         requires col { pos.col + 1 < 2 ^ 64 }
-        ensures { Appends self.old self.new (RemoveBorder pos ∷ []) }
+        ensures { Appends IsTold self.old self.new (RemoveBorder pos ∷ []) }
     {
         parts::take_border(
             &mut self.horizontal_edges,
@@ -276,7 +277,7 @@ impl<T: Drop> BorderTable<T> {
         row: usize,
         line: HorizontalLine<T>,
     ) -> Result<(), AllocError>
-        ensures ok { OnOk result (Appends self.old self.new (InsertHorizontalLine row line ∷ [])) }
+        ensures ok { OnOk result (Appends IsTold self.old self.new (InsertHorizontalLine row line ∷ [])) }
         ensures err { OnErr result (self.new ≡ self.old) }
     {
         self.horizontal_lines.put(row, line)
@@ -289,7 +290,7 @@ impl<T: Drop> BorderTable<T> {
         col: usize,
         line: VerticalLine<T>,
     ) -> Result<(), AllocError>
-        ensures ok { OnOk result (Appends self.old self.new (InsertVerticalLine col line ∷ [])) }
+        ensures ok { OnOk result (Appends IsTold self.old self.new (InsertVerticalLine col line ∷ [])) }
         ensures err { OnErr result (self.new ≡ self.old) }
     {
         self.vertical_lines.put(col, line)
@@ -297,28 +298,28 @@ impl<T: Drop> BorderTable<T> {
 
     /// Removes the horizontal line at a row, whatever the number of rows.
     pub fn remove_horizontal_line(&mut self, row: usize, _count: usize)
-        ensures { Appends self.old self.new (RemoveHorizontalLine row ∷ []) }
+        ensures { Appends IsTold self.old self.new (RemoveHorizontalLine row ∷ []) }
     {
         self.horizontal_lines.take(row);
     }
 
     /// Removes the vertical line at a column, whatever the number of columns.
     pub fn remove_vertical_line(&mut self, col: usize, _count: usize)
-        ensures { Appends self.old self.new (RemoveVerticalLine col ∷ []) }
+        ensures { Appends IsTold self.old self.new (RemoveVerticalLine col ∷ []) }
     {
         self.vertical_lines.take(col);
     }
 
     /// Sets the frame.
     pub fn set_borders(&mut self, borders: Borders<T>)
-        ensures { Appends self.old self.new (SetBorders borders ∷ []) }
+        ensures { Appends IsTold self.old self.new (SetBorders borders ∷ []) }
     {
         self.frame = borders;
     }
 
     /// Sets the value for all lines.
     pub fn set_global(&mut self, value: T)
-        ensures { Appends self.old self.new (SetGlobal value ∷ []) }
+        ensures { Appends IsTold self.old self.new (SetGlobal value ∷ []) }
     {
         self.global = Some(value);
     }

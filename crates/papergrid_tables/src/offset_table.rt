@@ -2,11 +2,12 @@
 
 ghost use Rattle.std.specs.Prelude.{◌≡◌, ◌∷◌, [], ◌↔◌, Some, None, ◌-◌, nat_eq, nat_lt, IsTrue, OnOk, OnErr, if◌then◌else◌, option_copied};
 ghost use Rattle.std.specs.HashMap.{get as map_get};
+ghost use Rattle.papergrid_keys.specs.Told.{Appends};
 ghost use Rattle.papergrid_values.specs.declared.offset.Offset.{Offset};
 ghost use Rattle.papergrid_values.specs.declared.position.Position.{Position};
 ghost use Rattle.papergrid_keys.specs.Keys.{position_eq};
 ghost use Rattle.papergrid_tables.specs.ForProofs.OverrideScan.{AfterSet, AreSet};
-ghost use Rattle.papergrid_tables.specs.Overrides.{Appends, IsClear, IsOverridden, IsTold, RemoveAll, RemoveAt, SetAt, at_offset, found_override, is_same_offset, override_at};
+ghost use Rattle.papergrid_tables.specs.Overrides.{IsClear, IsOverridden, IsTold, RemoveAll, RemoveAt, SetAt, at_offset, found_override, is_same_offset, override_at};
 
 use papergrid_keys::hashed::{remove, write};
 use papergrid_values::{Offset, Position};
@@ -127,7 +128,7 @@ impl<T> OffsetTable<T> {
 impl<T: Drop> OffsetTable<T> {
     /// Sets the value of a position at an offset. Where memory is refused the table is as it was.
     pub fn set(&mut self, pos: Position, offset: Offset, value: T) -> Result<(), AllocError>
-        ensures ok { OnOk result (Appends self.old self.new (SetAt pos offset value ∷ [])) }
+        ensures ok { OnOk result (Appends IsTold self.old self.new (SetAt pos offset value ∷ [])) }
         ensures err { OnErr result (self.new ≡ self.old) }
     {
         set_override(self.alloc, &mut self.overrides, pos, offset, value)
@@ -135,14 +136,14 @@ impl<T: Drop> OffsetTable<T> {
 
     /// Removes all values of a position.
     pub fn remove(&mut self, pos: Position)
-        ensures { Appends self.old self.new (RemoveAt pos ∷ []) }
+        ensures { Appends IsTold self.old self.new (RemoveAt pos ∷ []) }
     {
         remove(&mut self.overrides, pos);
     }
 
     /// Removes all values.
     pub fn clear(&mut self)
-        ensures { Appends self.old self.new (RemoveAll ∷ []) }
+        ensures { Appends IsTold self.old self.new (RemoveAll ∷ []) }
     {
         self.overrides.clear();
     }

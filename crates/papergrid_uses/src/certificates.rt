@@ -37,13 +37,9 @@ pub fn is_certified(
 }
 
 /// Whether somebody's widths are certified by somebody's list of cells. If so they are least.
-pub fn is_right<R: Records + Drop>(
-    records: R,
-    config: &SpannedConfig,
-    widths: &[usize],
-    cells: &[Position],
-) -> bool
+pub fn is_right<R>(records: R, config: &SpannedConfig, widths: &[usize], cells: &[Position]) -> bool
 where
+    R: Records + Drop,
     <<R as Records>::Iter as IntoRecords>::Cell: AsStr + Drop,
     requires { R.is_lawful records }
     ensures { (rows : List (List R.Iter.Cell)) × R.tells records rows

@@ -59,32 +59,21 @@ pub fn widths(
     IterGridDimension::width(alloc, IterRecords::new(rows, columns, None), config)
 }
 
-/// The width of the records' table. There are widths in it that have room for each visible cell.
-pub fn fitting_width<R: Records + Drop>(
+/// The width of the records' table. There are widths in it that have room for each visible cell, and no visible cell, with
+/// its paddings, needs more.
+pub fn covering_width<R>(
     alloc: Global,
     records: R,
     config: &SpannedConfig,
 ) -> Result<usize, LayoutError>
 where
+    R: Records + Drop,
     <<R as Records>::Iter as IntoRecords>::Cell: AsStr + Drop,
     requires { R.is_lawful records }
-    ensures { UnlessMemory result ((cells : List (List R.Iter.Cell)) × R.tells records cells
+    ensures fits { UnlessMemory result ((cells : List (List R.Iter.Cell)) × R.tells records cells
         × Answers (λ problem total. (widths : List ℕ) × (sum widths ≤ total) × Fits problem widths)
         (problem_of (spanned_look config.now) (line_measure R.Iter.Cell.text) (R.columns records) cells Columns) result) }
-{
-    IterGridDimension::width_total(alloc, records, config)
-}
-
-/// The width of the records' table. No visible cell, with its paddings, needs more.
-pub fn covering_width<R: Records + Drop>(
-    alloc: Global,
-    records: R,
-    config: &SpannedConfig,
-) -> Result<usize, LayoutError>
-where
-    <<R as Records>::Iter as IntoRecords>::Cell: AsStr + Drop,
-    requires { R.is_lawful records }
-    ensures { let look = spanned_look config.now in
+    ensures covers { let look = spanned_look config.now in
         let measure = line_measure R.Iter.Cell.text in
         UnlessMemory result ((cells : List (List R.Iter.Cell)) × R.tells records cells × MatchResult result
         (λ total. All (λ cell. side Columns (measure cell.1) + look.before Columns cell.0 + look.after Columns cell.0 ≤ total)

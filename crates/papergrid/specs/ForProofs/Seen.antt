@@ -11,7 +11,7 @@ use Rattle.papergrid_axis.specs.Answers.{IsWitness}
 use Rattle.papergrid_axis.specs.Problem.{Problem}
 use Rattle.papergrid_walk.specs.Looks.{Look}
 use Rattle.papergrid_layout.specs.Witnesses.{IsCertifiedWhere, IsLongest}
-use Rattle.papergrid_layout.specs.declared.certified.Certified.{Certified}
+use Rattle.papergrid_layout.specs.declared.certificates.Certified.{Certified}
 use Rattle.papergrid.specs.Estimates.{Estimate, OutOfTable, TooLarge, Sized}
 use Rattle.papergrid.specs.Totals.{AreSizesBy, HasNone}
 
@@ -30,8 +30,8 @@ places_seen witness = option_map (λ places. places.items) witness
 
 abbrev pub sizes_seen : Sizes → Estimate
 sizes_seen sizes =
-    Sized sizes.widths.items sizes.heights.items sizes.total_width sizes.total_height
-    (places_seen sizes.width_witness) (places_seen sizes.height_witness)
+    Sized sizes.certified.widths.items sizes.certified.heights.items sizes.total_width sizes.total_height
+    (places_seen sizes.certified.width_witness) (places_seen sizes.certified.height_witness)
 
 -- what is estimated is so; out of memory says nothing
 abbrev pub GivesEstimate : Result Sizes LayoutError → (Estimate → Type 0) → Type 0

@@ -21,7 +21,7 @@ returns-in-Ok g c =
     let told = c.in-Ok.ensures in
     let sized = estimate_certified (spanned_look c.args.config.now) (line_measure g.R.Iter.Cell.AsStr.text) (g.R.Records.columns c.args.records) told.0 c.args.sizing c.in-Ok.certified told.2 in
     let with = c.with_totals.ensures in
-    (told.0, told.1, (λ i. Sized (with.widths i) (with.heights i) (with.total_width i) (with.total_height i) (places_seen (with.width_witness i)) (places_seen (with.height_witness i))) ∙ sym sized)
+    (told.0, told.1, (λ i. Sized (with.certified i).widths.items (with.certified i).heights.items (with.total_width i) (with.total_height i) (places_seen (with.certified i).width_witness) (places_seen (with.certified i).height_witness)) ∙ sym sized)
 
 pub returns-in-Err : goal.returns-in-Err
 returns-in-Err g c = refused (g.R.Records.tells c.args.records) c.args.sizing (spanned_look c.args.config.now) (line_measure g.R.Iter.Cell.AsStr.text) (g.R.Records.columns c.args.records) c.in-Err.error c.in-Err.ensures

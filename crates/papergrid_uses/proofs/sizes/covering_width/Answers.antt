@@ -4,11 +4,18 @@ use Rattle.papergrid_values.specs.declared.direction.Direction.TheVariants.{Colu
 use Rattle.papergrid_walk.specs.Cells.{problem_of}
 use Rattle.papergrid_walk.specs.Looks.{spanned_look}
 use Rattle.papergrid_walk.specs.Measures.{line_measure}
-use Rattle.papergrid_uses.proofs.AnswerLemmas.{answer_covers, said_of_cells}
+use Rattle.papergrid_uses.proofs.AnswerLemmas.{answer_covers, fitting_total, said_of_cells}
 use Rattle.papergrid_uses.proofs.sizes.covering_width.Goals as goal
 
-pub returns : goal.returns
-returns g c =
+pub returns-clause-fits : goal.returns-clause-fits
+returns-clause-fits g c =
+    let measure = line_measure g.R.Iter.Cell.AsStr.text in
+    let columns = g.R.Records.columns c.args.records in
+    said_of_cells (g.R.Records.tells c.args.records) _ _
+    (λ cells result. fitting_total (problem_of (spanned_look c.args.config.now) measure columns cells Columns) result) _ c.width_total.ensures
+
+pub returns-clause-covers : goal.returns-clause-covers
+returns-clause-covers g c =
     let look = spanned_look c.args.config.now in
     let measure = line_measure g.R.Iter.Cell.AsStr.text in
     let columns = g.R.Records.columns c.args.records in
