@@ -20,6 +20,9 @@ pub enum LayoutError {
     Memory(AllocError),
 }
 
+/// What is found of a table, or why it has no sizes.
+pub type Found<T> = Result<T, LayoutError>;
+
 impl From<AllocError> for LayoutError {
     ghost use Rattle.std.specs.Prelude.{◌≡◌};
     ghost use Rattle.papergrid_axis.specs.declared.error.LayoutError.TheVariants.{Memory};

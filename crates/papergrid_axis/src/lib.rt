@@ -21,7 +21,7 @@ pub use axis::Axis;
 pub use checked::Checked;
 pub use claim::Claim;
 pub use demand::Demand;
-pub use error::LayoutError;
+pub use error::{Found, LayoutError};
 pub use seen::Seen;
 pub use solution::{CertifiedSizes, Solution};
 

@@ -114,16 +114,17 @@ pub fn keep(
         OnOk result (Adds seen.old seen.new (demand_of direction position span need ∷ [])) }
 {
     let start = direction.number_of(position);
-    if let Some(need) = need_of(measure, before, after) {
+    let need = need_of(measure, before, after);
+    if let Some(need) = need {
         // Most cells need no more than another one of their column (row).
         if span == 1 && start < seen.limit && is_met(&seen.singles, start, need) {
             return Ok(());
         }
     }
-    keep_new(seen, direction, position, span, measure, before, after)
+    keep_new(seen, direction, position, span, need)
 }
 
-/// The same, where it may be the first of greatest need.
+/// Keeps a demand that may be the first of greatest need; none is given for a need that does not fit.
 // Out of line, so that the code for cells that need no more than others stays small.
 #[inline(never)]
 fn keep_new(
@@ -131,15 +132,12 @@ fn keep_new(
     direction: Direction,
     position: Position,
     span: usize,
-    measure: usize,
-    before: usize,
-    after: usize,
+    need: Option<usize>,
 ) -> Result<(), AllocError>
     requires { 1 ≤ span }
-    ensures { let need = measure + before + after in
-        OnOk result (Adds seen.old seen.new (demand_of direction position span need ∷ [])) }
+    ensures { (total : ℕ) → SomeIff need (total < 2 ^ 64) total →
+        OnOk result (Adds seen.old seen.new (demand_of direction position span total ∷ [])) }
 {
-    let need = need_of(measure, before, after);
     let demand = Demand {
         row: position.row,
         col: position.col,

@@ -12,7 +12,7 @@ ghost use Rattle.papergrid_axis.specs.ForProofs.Settled.{IsLargeInside, IsSettle
 
 use crate::axis::Axis;
 use crate::demand::Demand;
-use crate::error::LayoutError;
+use crate::error::{Found, LayoutError};
 use crate::growers::grow_to_total;
 use crate::seen::{Seen, single_at};
 use papergrid_values::Position;
@@ -125,12 +125,7 @@ pub struct Settled {
 ///
 /// `OutOfTable` with the position of the first cell that reaches out, else `TooLarge` where the
 /// sizes with all lines come to more than the greatest `usize`.
-pub fn settle<A: Axis>(
-    alloc: Global,
-    count: usize,
-    seen: &Seen,
-    axis: &A,
-) -> Result<Settled, LayoutError>
+pub fn settle<A: Axis>(alloc: Global, count: usize, seen: &Seen, axis: &A) -> Found<Settled>
     requires { (demands : List Demand) × IsSeen count seen.now demands }
     ensures { (demands : List Demand) → IsSeen count seen.now demands →
         IsSettled (given (A.line axis.now) count demands) result }

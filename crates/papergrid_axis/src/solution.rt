@@ -7,7 +7,7 @@ ghost use Rattle.papergrid_axis.specs.declared.demand.Demand.{Demand};
 ghost use Rattle.papergrid_axis.specs.ForProofs.Seen.{IsSeen};
 
 use crate::axis::Axis;
-use crate::error::LayoutError;
+use crate::error::Found;
 use crate::seen::Seen;
 use crate::settled::settle;
 use crate::witness::settled_witness;
@@ -28,12 +28,7 @@ pub trait Solution {
     ///
     /// `OutOfTable` with the position of the first cell that reaches out, else `TooLarge` where the
     /// sizes that are looked for come, with all lines, to more than the greatest `usize`.
-    fn solve<A: Axis>(
-        alloc: Global,
-        count: usize,
-        seen: &Seen,
-        axis: &A,
-    ) -> Result<Self, LayoutError>
+    fn solve<A: Axis>(alloc: Global, count: usize, seen: &Seen, axis: &A) -> Found<Self>
         requires { (demands : List Demand) × IsSeen count seen.now demands }
         ensures { (demands : List Demand) → IsSeen count seen.now demands →
             AnswersWhere too_large solves (given (A.line axis.now) count demands) result };
@@ -47,12 +42,7 @@ impl Solution for Vec<usize> {
 
     ghost too_large = { NoneHolds };
 
-    fn solve<A: Axis>(
-        alloc: Global,
-        count: usize,
-        seen: &Seen,
-        axis: &A,
-    ) -> Result<Vec<usize>, LayoutError> {
+    fn solve<A: Axis>(alloc: Global, count: usize, seen: &Seen, axis: &A) -> Found<Vec<usize>> {
         let settled = settle(alloc, count, seen, axis)?;
         Ok(settled.sizes)
     }
@@ -73,12 +63,7 @@ impl Solution for CertifiedSizes {
 
     ghost too_large = { NoneHolds };
 
-    fn solve<A: Axis>(
-        alloc: Global,
-        count: usize,
-        seen: &Seen,
-        axis: &A,
-    ) -> Result<CertifiedSizes, LayoutError> {
+    fn solve<A: Axis>(alloc: Global, count: usize, seen: &Seen, axis: &A) -> Found<CertifiedSizes> {
         let settled = settle(alloc, count, seen, axis)?;
         let witness = settled_witness(alloc, count, seen, &settled)?;
         Ok(CertifiedSizes {

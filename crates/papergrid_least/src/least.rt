@@ -10,7 +10,7 @@ ghost use Rattle.papergrid_least.specs.Longest.{longest};
 use crate::longest::{follow, mark_pushers};
 use crate::settled::{Settled, settle};
 use papergrid_axis::axis::Axis;
-use papergrid_axis::{LayoutError, Seen, Solution};
+use papergrid_axis::{Found, Seen, Solution};
 use papergrid_values::Position;
 use std::alloc::{AllocError, Global};
 
@@ -28,12 +28,7 @@ impl Solution for LeastSizes {
 
     ghost too_large = { NoneFits };
 
-    fn solve<A: Axis>(
-        alloc: Global,
-        count: usize,
-        seen: &Seen,
-        axis: &A,
-    ) -> Result<LeastSizes, LayoutError> {
+    fn solve<A: Axis>(alloc: Global, count: usize, seen: &Seen, axis: &A) -> Found<LeastSizes> {
         let settled = settle(alloc, count, seen, axis)?;
         Ok(LeastSizes {
             sizes: settled.sizes,
@@ -75,12 +70,7 @@ impl Solution for CertifiedLeast {
 
     ghost too_large = { NoneFits };
 
-    fn solve<A: Axis>(
-        alloc: Global,
-        count: usize,
-        seen: &Seen,
-        axis: &A,
-    ) -> Result<CertifiedLeast, LayoutError> {
+    fn solve<A: Axis>(alloc: Global, count: usize, seen: &Seen, axis: &A) -> Found<CertifiedLeast> {
         let settled = settle(alloc, count, seen, axis)?;
         let places = longest_places(alloc, seen, &settled)?;
         Ok(CertifiedLeast {

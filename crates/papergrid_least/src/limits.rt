@@ -12,7 +12,7 @@ ghost use Rattle.papergrid_least.specs.ForProofs.Limits.{AreLimits, IsEarliest, 
 use crate::cells::{all_asking, sort_by_end, sort_later_first};
 use crate::edges::{lay_earliest, lay_latest};
 use crate::lines::Lines;
-use papergrid_axis::{Demand, LayoutError};
+use papergrid_axis::{Demand, Found, LayoutError};
 use std::alloc::{AllocError, Global};
 
 /// The earliest and the latest edges.
@@ -34,7 +34,7 @@ fn zeros_and(alloc: Global, count: usize, last: usize) -> Result<Vec<usize>, All
 }
 
 /// The earliest edges, by what each number needs alone and by the cells of longer ranges.
-fn earliest_of(alloc: Global, base: &[usize], cells: &[Demand]) -> Result<Vec<usize>, LayoutError>
+fn earliest_of(alloc: Global, base: &[usize], cells: &[Demand]) -> Found<Vec<usize>>
     requires table { All (IsInTable (length base.now)) cells.now }
     requires sorted { IsNonDecreasingBy end_of cells.now }
     ensures earliest { IfOk result (λ edges. IsEarliest base.now cells.now edges.items) }
@@ -66,12 +66,7 @@ fn latest_of(
 }
 
 /// The earliest and the latest edges, where the last, with all lines, fits.
-pub fn limits_of(
-    alloc: Global,
-    lines: &Lines,
-    base: &[usize],
-    cells: &[Demand],
-) -> Result<Limits, LayoutError>
+pub fn limits_of(alloc: Global, lines: &Lines, base: &[usize], cells: &[Demand]) -> Found<Limits>
     requires lines { length lines.now ≡ length base.now + 1 }
     requires table { All (IsInTable (length base.now)) cells.now }
     ensures limits { let line = line_at lines.now in

@@ -20,17 +20,12 @@ use crate::lower::lower_edges;
 use papergrid_axis::axis::Axis;
 use papergrid_axis::growers::grow_all;
 use papergrid_axis::settled::{refusal, taken, write_base};
-use papergrid_axis::{Demand, LayoutError, Seen};
+use papergrid_axis::{Demand, Found, Seen};
 use std::alloc::Global;
 
 /// Makes of what each number needs alone the sizes by shares, and of these the least ones; gives the
 /// edges between which theirs lie.
-fn make_least(
-    alloc: Global,
-    lines: &Lines,
-    sizes: &mut [usize],
-    cells: &[Demand],
-) -> Result<Limits, LayoutError>
+fn make_least(alloc: Global, lines: &Lines, sizes: &mut [usize], cells: &[Demand]) -> Found<Limits>
     requires lines { length lines.now ≡ length sizes.old + 1 }
     requires table { All (IsInTable (length sizes.old)) cells.now }
     ensures limits { let line = line_at lines.now in
@@ -61,12 +56,7 @@ pub struct Settled {
 }
 
 /// What the seen cells of a table of `count` columns (rows) come to, with the lines of the axis.
-pub fn settle<A: Axis>(
-    alloc: Global,
-    count: usize,
-    seen: &Seen,
-    axis: &A,
-) -> Result<Settled, LayoutError>
+pub fn settle<A: Axis>(alloc: Global, count: usize, seen: &Seen, axis: &A) -> Found<Settled>
     requires { (demands : List Demand) × IsSeen count seen.now demands }
     ensures small { IfOk result (λ settled. seen.now.is_large ≡ false) }
     ensures settled { (demands : List Demand) → IsSeen count seen.now demands →

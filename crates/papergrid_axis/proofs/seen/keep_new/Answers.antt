@@ -1,4 +1,4 @@
-use Rattle.std.proofs.Common.{◌≡◌, ◌<◌, ◌^◌, ◌+◌, true, false, ap, ◌∙◌, rules}
+use Rattle.std.proofs.Common.{◌≡◌, ◌<◌, ◌^◌, true, false, ap, ◌∙◌, rules}
 use Rattle.papergrid_axis.specs.Ranges.{demand_of}
 use Rattle.papergrid_axis.specs.ForProofs.Seen.{is_single}
 use Rattle.papergrid_axis.proofs.SeenLemmas.{Holds-other, Holds-single}
@@ -6,8 +6,7 @@ use Rattle.papergrid_axis.proofs.seen.keep_new.Goals as goal
 use Rattle.papergrid_axis.proofs.seen.keep_new.Goals.{then-span-eq1+then-demand-seen+in_ok-raise, else-span-eq1+in_ok-push, else-span-eq1-via-then-span-eq1+else-demand-seen, else-span-eq1-via-else-span-eq1}
 
 pub returns-else-is_none : goal.returns-else-is_none
-returns-else-is_none c = λ limit demands held.
-    let total = c.args.measure + c.args.before + c.args.after in
+returns-else-is_none c = λ total is_need limit demands held.
     let d = demand_of c.args.direction c.args.position c.args.span total in
     let small : total < 2 ^ 64 = search rules in
     let need : c.unwrap_or.result ≡ total = search rules in
