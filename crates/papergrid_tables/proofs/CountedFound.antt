@@ -3,7 +3,7 @@ use Rattle.std.proofs.Common.{◌≡◌, ℕ, ◌+◌, Bool, true, false, ◌&&�
 use Rattle.std.specs.Prelude.{◌||◌, ◌⊎◌, ◌↔◌, IsTrue, IsSome, is_some, nat_lt}
 use Rattle.std.specs.Ordering.{nat_cmp}
 use Rattle.std.specs.FinMap.{get, from_entries}
-use Rattle.std.specs.HashMap.{HashMap, keys, get as get_in}
+use Rattle.std.specs.HashMap.{HashMap, keys}
 use Rattle.std.specs.List.{count_by, list_any}
 use Rattle.std.specs.Map.{keys_of, values_of}
 use Rattle.std.proofs.lemmas.Bool.{eqb-true, eq-eqb}

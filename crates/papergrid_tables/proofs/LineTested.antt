@@ -17,7 +17,7 @@ use Rattle.papergrid_tables.specs.LineTests.{ends_at_column, ends_at_row, horizo
 use Rattle.papergrid_tables.specs.Places.{HasHorizontal, HasVertical, HasEnd}
 use Rattle.papergrid_keys.proofs.AnyLemmas.{any_place}
 use Rattle.papergrid_tables.proofs.BorderFound.{either, has_end_is, some_value}
-use Rattle.papergrid_keys.proofs.KeyLemmas.{exact_position, exact_position_eq, position_ties, position_equiv}
+use Rattle.papergrid_keys.proofs.KeyLemmas.{exact_position, position_ties, position_equiv}
 use Rattle.papergrid_keys.proofs.ResultLemmas.{same_answer}
 
 -- some key that is held passes

@@ -1,20 +1,19 @@
 -- The border table that calls make is told by them, and no other is.
-use Rattle.std.proofs.Common.{◌≡◌, ℕ, Bool, true, false, cond, ◌&&◌, List, [], ◌∷◌, ◌++◌, Option, Some, None, refl, sym, ap, ◌∙◌, eqb}
+use Rattle.std.proofs.Common.{◌≡◌, ℕ, Bool, true, false, cond, List, [], ◌∷◌, ◌++◌, Option, Some, None, refl, sym, ◌∙◌, eqb}
 use Rattle.std.specs.Prelude.{◌||◌, flat_map, reverse, is_some}
-use Rattle.std.specs.Cmp.{IsTotalOrder, nat_cmp_total, unsigned_tied}
+use Rattle.std.specs.Cmp.{nat_cmp_total, unsigned_tied}
 use Rattle.std.specs.List.{list_any}
 use Rattle.std.specs.Option.{option_or}
 use Rattle.std.specs.Ordering.{eq_by_cmp, nat_cmp}
 use Rattle.std.specs.declared.cmp.Ordering.{Ordering}
-use Rattle.std.specs.FinMap.{FinMap, get, get-empty, get-insert, nat_cmp-IsAntisymmetric, same_map}
+use Rattle.std.specs.FinMap.{nat_cmp-IsAntisymmetric, same_map}
 use Rattle.std.proofs.lemmas.Bool.{false≢true, or_left, or_right, eqb-true, eq-eqb}
 use Rattle.papergrid_values.specs.declared.position.Position.{Position}
-use Rattle.papergrid_tables.specs.BorderCalls.{at_place, below, right_of, BorderCall, InsertBorder, RemoveBorder, InsertHorizontalLine, RemoveHorizontalLine, InsertVerticalLine, RemoveVerticalLine, SetBorders, SetGlobal, Clear, at_horizontal_line, at_vertical_line, at_horizontal_edge, at_vertical_edge, at_corner}
+use Rattle.papergrid_tables.specs.BorderCalls.{at_place, below, right_of, BorderCall, InsertBorder, RemoveBorder, InsertHorizontalLine, RemoveHorizontalLine, InsertVerticalLine, RemoveVerticalLine, at_horizontal_line, at_vertical_line, at_horizontal_edge, at_vertical_edge, at_corner}
 use Rattle.papergrid_tables.specs.BorderHeld.{HeldBorders, IsTold, places_of}
 use Rattle.papergrid_tables.specs.Changes.{Change, Keeps, Removes, Writes, after, if_set, last}
 use Rattle.papergrid_keys.specs.Keys.{position_cmp, position_eq}
 use Rattle.papergrid_tables.specs.Made.{borders_made, named_columns, named_places, named_rows}
-use Rattle.papergrid_keys.specs.Tabulated.{tabulated}
 use Rattle.papergrid_tables.specs.Places.{places_from}
 use Rattle.papergrid_keys.proofs.TabulatedLemmas.{tabulates}
 use Rattle.papergrid_keys.proofs.KeyLemmas.{exact_position, exact_positions, position_equiv, position_ties, position_total}

@@ -2,7 +2,6 @@
 use Rattle.std.proofs.Common.{◌≡◌, ◌∙◌, sym, ap, refl, Bool, true, List, [], ◌∷◌, Option, Some, None}
 use Rattle.std.specs.FinMap.{FinMap, get}
 use Rattle.std.specs.Option.{option_eq}
-use Rattle.std.specs.Ordering.{nat_cmp}
 use Rattle.std.proofs.lemmas.Bool.{and_from}
 use Rattle.papergrid_values.specs.Borders.{frame_parts}
 use Rattle.papergrid_values.specs.Lines.{horizontal_parts, vertical_parts}
@@ -10,7 +9,6 @@ use Rattle.papergrid_tables.specs.BorderCalls.{BorderCall}
 use Rattle.papergrid_tables.specs.ForProofs.BorderEq.{borders_eq, horizontal_line_eq, parts_eq, vertical_line_eq}
 use Rattle.papergrid_tables.specs.BorderHeld as borders
 use Rattle.papergrid_tables.specs.BorderHeld.{HeldBorders}
-use Rattle.papergrid_keys.specs.Equal.{numbers_eq, places_eq}
 use Rattle.papergrid_keys.specs.Keys.{position_cmp}
 use Rattle.papergrid_tables.specs.OffsetEq.{overrides_eq}
 use Rattle.papergrid_tables.specs.Overrides as overrides

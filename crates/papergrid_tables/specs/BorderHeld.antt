@@ -1,5 +1,5 @@
 -- What a border table holds.
-use Rattle.std.specs.Prelude.{◌≡◌, List, ◌++◌, reverse, Option}
+use Rattle.std.specs.Prelude.{◌≡◌, List, reverse, Option}
 use Rattle.std.specs.Ordering.{nat_cmp}
 use Rattle.std.specs.FinMap.{FinMap, get}
 use Rattle.papergrid_values.specs.declared.borders.Borders.{Borders}

@@ -1,5 +1,5 @@
 -- Overrides at the offsets of positions: what the calls leave, what is held, and what is found.
-use Rattle.std.specs.Prelude.{◌≡◌, ℕ, ◌-◌, ◌==◌, ◌&&◌, nat_lt, Bool, false, if◌then◌else◌, List, ◌++◌, reverse, Option, None, IsSome, option_and_then}
+use Rattle.std.specs.Prelude.{◌≡◌, ℕ, ◌-◌, ◌==◌, ◌&&◌, nat_lt, Bool, false, if◌then◌else◌, List, reverse, Option, None, IsSome, option_and_then}
 use Rattle.std.specs.FinMap.{FinMap, get}
 use Rattle.std.specs.Option.{option_or}
 use Rattle.std.specs.Ordering.{nat_cmp}
