@@ -20,9 +20,9 @@ use Rattle.papergrid_layout.proofs.PairLemmas.{none_reaches_out}
 use Rattle.papergrid.specs.declared.estimate.Sizes.{Sizes}
 use Rattle.papergrid.specs.declared.estimate.Sizing.{Sizing}
 use Rattle.papergrid.specs.declared.estimate.Sizing.TheVariants.{ByShares, Least}
-use Rattle.papergrid.specs.Estimates.{Estimate, OutOfTable, TooLarge, Sized, unless_large, unless_out, sizes_by, witness_by, total_along, totalled, estimate_by}
+use Rattle.papergrid.specs.Estimates.{Estimate, OutOfTable, TooLarge, Sized, unless_large, unless_out, sizes_by, witness_by, totalled, estimate_by}
 use Rattle.papergrid.specs.Totals.{AreSizesBy, HasNone}
-use Rattle.papergrid.specs.ForProofs.Seen.{GivesEstimate, IsFoundWitness, places_seen}
+use Rattle.papergrid.specs.ForProofs.Seen.{GivesEstimate, IsFoundWitness, places_seen, total_along}
 
 -- ---- tests and options
 

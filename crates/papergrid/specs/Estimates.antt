@@ -36,10 +36,6 @@ abbrev pub unless_out : Option Position → Estimate → Estimate
 unless_out (Some place) sized = OutOfTable place
 unless_out None sized = sized
 
--- the sum of sizes along a direction, with the lines between, before and after them
-abbrev pub total_along : Direction → Look → ℕ → List ℕ → ℕ
-total_along direction look count sizes = sum sizes + all_lines (look.draws direction count) count
-
 -- the sizes that are chosen along a direction
 abbrev pub sizes_by : Sizing → Problem → List ℕ
 sizes_by ByShares problem = sizes_of problem

@@ -5,8 +5,8 @@ ghost use Rattle.papergrid_values.specs.declared.direction.Direction.TheVariants
 ghost use Rattle.papergrid_walk.specs.Looks.{spanned_look};
 ghost use Rattle.papergrid_walk.specs.Measures.{line_measure};
 ghost use Rattle.papergrid_layout.specs.Answers.{UnlessMemory};
-ghost use Rattle.papergrid.specs.Estimates.{estimate_by, total_along};
-ghost use Rattle.papergrid.specs.ForProofs.Seen.{GivesEstimate, IsCertifiedBy};
+ghost use Rattle.papergrid.specs.Estimates.{estimate_by};
+ghost use Rattle.papergrid.specs.ForProofs.Seen.{GivesEstimate, IsCertifiedBy, total_along};
 
 use papergrid_config::SpannedConfig;
 use papergrid_layout::LayoutError;

@@ -8,7 +8,7 @@ ghost use Rattle.papergrid_layout.specs.ForProofs.Earlier.{earlier, earlier_of};
 
 use crate::along::Along;
 use papergrid_axis::settled::find_out;
-use papergrid_axis::{LayoutError, Solution};
+use papergrid_axis::{Found, LayoutError, Solution};
 use papergrid_text::{IntoRecords, Records};
 use papergrid_values::{Direction, Position};
 use papergrid_walk::{Both, Measure, Settings, gather_both};
@@ -50,7 +50,7 @@ fn conclude<T: Solution + Drop, M: Measure<C>, C, S: Settings>(
     rows: usize,
     both: &Both,
     settings: &S,
-) -> Result<(T, T), LayoutError>
+) -> Found<(T, T)>
     requires { (cells : List (List C)) × (rows ≡ length cells) × AreBothSeen (S.look settings.now) M.measured columns cells both.now }
     ensures { (cells : List (List C)) → rows ≡ length cells → AreBothSeen (S.look settings.now) M.measured columns cells both.now →
         AnswersBothWhere (S.look settings.now) M.measured columns cells T.too_large T.solves result }
@@ -84,12 +84,11 @@ fn conclude<T: Solution + Drop, M: Measure<C>, C, S: Settings>(
 /// `OutOfTable` with the first visible cell that reaches out along columns or rows, else `TooLarge`
 /// where the sizes that are looked for along one of them come, with all lines, to more than the greatest
 /// `usize`; `Memory` in place of any answer.
-pub fn solve_both<T: Solution + Drop, M, R: Records + Drop, S: Settings>(
-    alloc: Global,
-    records: R,
-    settings: &S,
-) -> Result<(T, T), LayoutError>
+pub fn solve_both<T, M, R, S>(alloc: Global, records: R, settings: &S) -> Found<(T, T)>
 where
+    T: Solution + Drop,
+    R: Records + Drop,
+    S: Settings,
     M: Measure<<<R as Records>::Iter as IntoRecords>::Cell>,
     <<R as Records>::Iter as IntoRecords>::Cell: Drop,
     requires { R.is_lawful records }

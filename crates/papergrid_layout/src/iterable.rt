@@ -168,10 +168,8 @@ where
         × Answers IsTotal (problem_of (spanned_look config.now) (line_measure R.Iter.Cell.text)
         (R.columns records) cells direction) result) }
 {
-    match solve_along::<Vec<usize>, ByLines, _, _>(alloc, records, config, direction) {
-        Ok(sizes) => Ok(with_lines(config, direction, &sizes)),
-        Err(error) => Err(error),
-    }
+    let sizes = solve_along::<Vec<usize>, ByLines, _, _>(alloc, records, config, direction)?;
+    Ok(with_lines(config, direction, &sizes))
 }
 
 impl Dimension for IterGridDimension {
@@ -212,13 +210,10 @@ where
         × IsBothRefused (spanned_look config) (line_measure R.Iter.Cell.text) (R.columns records) cells error) };
 
     fn estimate(&mut self, records: R, config: &SpannedConfig) -> Result<(), LayoutError> {
-        match solve_both::<Vec<usize>, ByLines, _, _>(self.alloc, records, config) {
-            Ok((widths, heights)) => {
-                self.widths = SizeList::of(widths);
-                self.heights = SizeList::of(heights);
-                Ok(())
-            }
-            Err(refused) => Err(refused),
-        }
+        let (widths, heights) =
+            solve_both::<Vec<usize>, ByLines, _, _>(self.alloc, records, config)?;
+        self.widths = SizeList::of(widths);
+        self.heights = SizeList::of(heights);
+        Ok(())
     }
 }

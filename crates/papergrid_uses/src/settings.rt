@@ -70,10 +70,8 @@ pub fn told(alloc: Global, settings: Vec<Setting>) -> Result<SpannedConfig, Stop
     ensures { IfOk result (IsTold settings.items) }
 {
     let mut config = SpannedConfig::new(alloc);
-    match config.apply_all(settings) {
-        Ok(()) => Ok(config),
-        Err(stopped) => Err(stopped),
-    }
+    config.apply_all(settings)?;
+    Ok(config)
 }
 
 /// A line before the second column, one before the second row with another character where it begins,

@@ -1,7 +1,9 @@
 -- What clauses see of the values that the program holds.
-use Rattle.std.specs.Prelude.{ℕ, List, Option, option_map, Result, Ok, Err, Vec}
+use Rattle.std.specs.Prelude.{ℕ, ◌+◌, List, sum, Option, option_map, Result, Ok, Err, Vec}
 use Rattle.std.specs.declared.alloc.Global.{Global}
+use Rattle.papergrid_values.specs.declared.direction.Direction.{Direction}
 use Rattle.papergrid_values.specs.declared.position.Position.{Position}
+use Rattle.papergrid_values.specs.Lines.{all_lines}
 use Rattle.papergrid.specs.declared.estimate.Sizes.{Sizes}
 use Rattle.papergrid.specs.declared.estimate.Sizing.{Sizing}
 use Rattle.papergrid.specs.declared.estimate.Sizing.TheVariants.{ByShares, Least}
@@ -39,3 +41,7 @@ GivesEstimate (Ok sizes) IsSo = IsSo (sizes_seen sizes)
 GivesEstimate (Err (layout_errors.OutOfTable place)) IsSo = IsSo (OutOfTable place)
 GivesEstimate (Err layout_errors.TooLarge) IsSo = IsSo TooLarge
 GivesEstimate (Err (layout_errors.Memory e)) IsSo = Unit {0}
+
+-- the sum of sizes along a direction, with the lines between, before and after them
+abbrev pub total_along : Direction → Look → ℕ → List ℕ → ℕ
+total_along direction look count sizes = sum sizes + all_lines (look.draws direction count) count
