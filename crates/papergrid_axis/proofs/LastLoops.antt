@@ -1,14 +1,13 @@
 -- What the loops over the table of last cells keep.
-use Rattle.std.proofs.Common.{◌≡◌, ℕ, ◌+◌, ◌<◌, ◌≤◌, Bool, true, false, cond, ◌⊎◌, inl, inr, List, length, get_or, refl, sym, ap, ◌∙◌, arith, Option, Some, None, [], ◌∷◌, ◌++◌, ◌==◌, drop, ltb, lt-ltb, le-ltb, append_assoc, ap₂, zero, suc}
+use Rattle.std.proofs.Common.{◌≡◌, ℕ, ◌+◌, ◌<◌, ◌≤◌, true, cond, ◌⊎◌, inl, inr, List, length, get_or, refl, sym, ap, ◌∙◌, arith, Option, Some, None, [], ◌∷◌, ◌++◌, ◌==◌, ap₂, zero, suc}
 use Rattle.std.specs.Prelude.{find, filter_map}
 use Rattle.std.specs.List.{AllByRecursion, range_with_len, cons_option}
 use Rattle.std.proofs.lemmas.List.Elements.{filter_map-append}
 use Rattle.std.proofs.lemmas.Bool.{cases_Bool, cases_eq, cases_lt, true≢false}
-use Rattle.std.proofs.lemmas.List.{get_or_past, drop_more}
+use Rattle.std.proofs.lemmas.List.{get_or_past}
 use Rattle.papergrid_axis.specs.declared.demand.Demand.{Demand}
 use Rattle.papergrid_axis.specs.Ranges.{end_of, holds, IsInTable, LiesIn}
-use Rattle.papergrid_axis.specs.Sizes.{grown, lack}
-use Rattle.papergrid_axis.specs.Chosen.{growing, or_else, exact_single, single_at, outermost, chosen}
+use Rattle.papergrid_axis.specs.Chosen.{or_else, exact_single, single_at, outermost, chosen}
 use Rattle.papergrid_axis.proofs.RangeLemmas.{covered}
 use Rattle.papergrid_axis.proofs.LoopLemmas.{range_with_len-append}
 use Rattle.papergrid_axis.specs.ForProofs.LastCells.{AreExact, IsLaminar, last_holding, slot_of, chosen_slot}
@@ -71,24 +70,6 @@ module _ (n : ℕ) (ds : List Demand) (last : List (Option Demand)) (table : All
   pub under-from_laminar : (d : Demand) (es : List Demand) → IsInTable n d → IsLaminar (ds ++ d ∷ es) → (i : ℕ) (o : Demand) → holds d i ≡ true → get_or last i None ≡ Some o → LiesIn o d
   under-from_laminar d es t laminar i o h e =
       last-from_precedes ds d (IsLaminar-before ds d es laminar) i o h (sym (is.holds_last i (in_table d i t h)) ∙ e)
-
--- the cells that grow, one step on
-module _ (line : ℕ → Bool) (sizes : List ℕ) (taken cells all : List Demand) (i : ℕ) (e : Demand) (l : i < length taken)
-    (so_far : cells ++ growing line sizes (drop i taken) ≡ all) where
-  step : growing line sizes (drop i taken) ≡ growing line sizes (get_or taken i e ∷ drop (i + 1) taken)
-  step = ap (growing line sizes) (drop_more taken i e l)
-
-  pub cells-more_yes : 0 < lack line sizes (get_or taken i e) → (cells ++ get_or taken i e ∷ []) ++ growing line (grown line sizes (get_or taken i e)) (drop (i + 1) taken) ≡ all
-  cells-more_yes grows =
-      let y : ltb 0 (lack line sizes (get_or taken i e)) ≡ true = lt-ltb 0 (lack line sizes (get_or taken i e)) grows in
-      let step' : growing line sizes (drop i taken) ≡ get_or taken i e ∷ growing line (grown line sizes (get_or taken i e)) (drop (i + 1) taken) = rw y at step in
-      append_assoc cells (get_or taken i e ∷ []) (growing line (grown line sizes (get_or taken i e)) (drop (i + 1) taken)) ∙ ap (λ xs. cells ++ xs) (sym step') ∙ so_far
-
-  pub cells-more_no : (0 < lack line sizes (get_or taken i e) → ⊥) → cells ++ growing line (grown line sizes (get_or taken i e)) (drop (i + 1) taken) ≡ all
-  cells-more_no stays =
-      let n : ltb 0 (lack line sizes (get_or taken i e)) ≡ false = le-ltb 0 (lack line sizes (get_or taken i e)) (omega (arith, stays)) in
-      let step' : growing line sizes (drop i taken) ≡ growing line (grown line sizes (get_or taken i e)) (drop (i + 1) taken) = rw n at step in
-      ap (λ xs. cells ++ xs) (sym step') ∙ so_far
 
 -- one more number for the chosen cells
 pub filter_map_slot_more : (h : ℕ → Option Demand) (i : ℕ) → filter_map h (range_with_len 0 (i + 1)) ≡ filter_map h (range_with_len 0 i) ++ cons_option (h i) []

@@ -7,6 +7,7 @@ use Rattle.papergrid_axis.specs.declared.demand.Demand.{Demand}
 use Rattle.papergrid_axis.specs.declared.error.LayoutError.{LayoutError}
 use Rattle.papergrid_axis.specs.declared.error.LayoutError.TheVariants.{OutOfTable, TooLarge, Memory}
 use Rattle.papergrid_axis.specs.declared.seen.Seen.{Seen}
+use Rattle.papergrid_axis.specs.Answers.{IsRefusedWhere}
 use Rattle.papergrid_axis.specs.Fits.{Fits, IsTooLarge}
 use Rattle.papergrid_axis.specs.ForProofs.Seen.{IsSeen, no_demand}
 use Rattle.papergrid_axis.specs.ForProofs.Settled.{IsLargeInside}
@@ -17,7 +18,7 @@ use Rattle.papergrid_axis.proofs.DrawnLemmas.{lines-drawn, sizes-drawn}
 use Rattle.papergrid_axis.proofs.OutLemmas.{large_any, out_seen, table_demands}
 use Rattle.papergrid_axis.proofs.SeenLemmas.{base-seen, taken-seen}
 use Rattle.papergrid_least.specs.declared.limits.Limits.{Limits}
-use Rattle.papergrid_least.specs.Answers.{AreLeastSizes, HasNoLeast, NoneFits}
+use Rattle.papergrid_least.specs.Answers.{AreLeastSizes, NoneFits}
 use Rattle.papergrid_least.specs.Earliest.{earliest}
 use Rattle.papergrid_least.specs.Edges.{asked, edges_of, sizes_between}
 use Rattle.papergrid_least.specs.Least.{latest, least_of}
@@ -79,10 +80,10 @@ module _ (line : ℕ → Bool) (n : ℕ) (seen : Seen) (demands : List Demand) (
           let all : 18446744073709551616 ≤ sum other + all_lines line n = omega arith in
           all
 
-  pub HasNoLeast-refused : (e : LayoutError) → Refuses ((edge : ℕ → ℕ) → AreLaid base kept edge → 18446744073709551616 ≤ edge (length base) + all_lines drawn (length base)) e → HasNoLeast (given line n demands) e
-  HasNoLeast-refused (OutOfTable place) refused = absurd refused
-  HasNoLeast-refused TooLarge refused = past refused
-  HasNoLeast-refused (Memory e) refused = tt
+  pub IsRefusedWhere-refuses : (e : LayoutError) → Refuses ((edge : ℕ → ℕ) → AreLaid base kept edge → 18446744073709551616 ≤ edge (length base) + all_lines drawn (length base)) e → IsRefusedWhere (given line n demands) (NoneFits (given line n demands)) e
+  IsRefusedWhere-refuses (OutOfTable place) refused = absurd refused
+  IsRefusedWhere-refuses TooLarge refused = past refused
+  IsRefusedWhere-refuses (Memory e) refused = tt
 
   module _ (limits : Limits) (are : AreLimits drawn base kept limits) where
     earliest-kept : IsEarliest base (longer_asking line drawn n is_seen.limit demands agree table is_seen.below base base_is many) limits.earliest.items

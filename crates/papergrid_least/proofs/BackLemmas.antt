@@ -41,18 +41,6 @@ pub record LaidFrom (base : List ℕ) (cells : List Demand) (k a total : ℕ) (e
   pub earlier : (j : ℕ) (d : Demand) → k ≤ j → j < length cells → (get_or cells j d).start ≤ a
   pub above : (edge : ℕ → ℕ) → AreLaid base cells edge → edge (length base) ≤ total → (i : ℕ) → a ≤ i → i ≤ length base → edge i ≤ get_or edges i 0
 
-pub LaidFrom-none : (base : List ℕ) (cells : List Demand) (edges : List ℕ) → All (IsInTable (length base)) cells → length edges ≡ length base + 1 →
-    LaidFrom base cells 0 (length base) (get_or edges (length base) 0) edges
-LaidFrom-none base cells edges table one_more = record {
-  one_more = one_more;
-  within = omega arith;
-  last = omega arith;
-  steps = λ i from l. absurd (omega arith);
-  apart = λ j d l. absurd (omega arith);
-  earlier = λ j d from l. let le : end_of (get_or cells j d) ≤ length base = (table j d l).ends_within in omega arith;
-  above = λ edge are le i from l. let e : i ≡ length base = omega arith in rw e le;
-}
-
 -- one step of the loop: edges laid back to the start of the next cell, as `mid`
 module _ (base : List ℕ) (cells : List Demand) (table : All (IsInTable (length base)) cells) (sorted : AreLaterFirst cells) (k a total : ℕ) (edges mid : List ℕ) (listed : k < length cells)
     (laid_from : LaidFrom base cells k a total edges) (same : length mid ≡ length edges) (after : (i : ℕ) → a ≤ i → get_or mid i 0 ≡ get_or edges i 0)
@@ -181,30 +169,6 @@ module _ (base : List ℕ) (cells : List Demand) (table : All (IsInTable (length
 -- after the last cell: edges laid back to the first, as `whole`
 module _ (base : List ℕ) (cells : List Demand) (k a total : ℕ) (edges whole : List ℕ) (all : length cells ≤ k) (laid_from : LaidFrom base cells k a total edges)
     (after : (i : ℕ) → a ≤ i → get_or whole i 0 ≡ get_or edges i 0) (laid : (i : ℕ) → 0 ≤ i → i < a → get_or whole (i + 1) 0 ≡ get_or whole i 0 + get_or base i 0) where
-  pub AreLaid-back : All (IsInTable (length base)) cells → AreLaid base cells (λ i. get_or whole i 0)
-  AreLaid-back table = record {
-    steps = λ i from l. elim (cases_lt i a) [
-      | inr late ↦
-          let p : get_or whole i 0 ≡ get_or edges i 0 = after i late in
-          let q : get_or whole (i + 1) 0 ≡ get_or edges (i + 1) 0 = after (i + 1) (omega arith) in
-          let r : get_or edges i 0 + get_or base i 0 ≤ get_or edges (i + 1) 0 = laid_from.steps i late l in
-          omega arith
-      | inl early ↦ let p : get_or whole (i + 1) 0 ≡ get_or whole i 0 + get_or base i 0 = laid i from early in omega arith
-    ];
-    apart = λ j d l. apart_at (get_or cells j d) (laid_from.apart j d (omega arith));
-  }
-    where
-      apart_at : (d : Demand) → (a ≤ d.start) × (get_or edges d.start 0 + d.need ≤ get_or edges (end_of d) 0) → get_or whole d.start 0 + d.need ≤ get_or whole (end_of d) 0
-      apart_at d known =
-          let starts : a ≤ d.start = known.0 in
-          let apart : get_or edges d.start 0 + d.need ≤ get_or edges (end_of d) 0 = known.1 in
-          let p : get_or whole d.start 0 ≡ get_or edges d.start 0 = after d.start starts in
-          let q : get_or whole (end_of d) 0 ≡ get_or edges (end_of d) 0 = after (end_of d) (omega arith) in
-          omega arith
-
-  pub last-back : get_or whole (length base) 0 ≡ total
-  last-back = after (length base) laid_from.within ∙ laid_from.last
-
   pub above-back : (edge : ℕ → ℕ) → AreLaid base cells edge → edge (length base) ≤ total → (i : ℕ) → i ≤ length base → edge i ≤ get_or whole i 0
   above-back edge are le i l = elim (cases_lt i a) [
     | inr late ↦

@@ -121,16 +121,6 @@ pub record LaidTo (base : List ℕ) (cells : List Demand) (k a : ℕ) (edges : L
   pub later : (j : ℕ) (d : Demand) → k ≤ j → j < length cells → a ≤ end_of (get_or cells j d)
   pub below : (edge : ℕ → ℕ) → AreLaid base cells edge → (i : ℕ) → i ≤ a → get_or edges i 0 ≤ edge i
 
-pub LaidTo-none : (base : List ℕ) (cells : List Demand) (edges : List ℕ) → length edges ≡ length base + 1 → get_or edges 0 0 ≡ 0 → LaidTo base cells 0 0 edges
-LaidTo-none base cells edges one_more first = record {
-  one_more = one_more;
-  within = omega arith;
-  steps = λ i from l. absurd (omega arith);
-  apart = λ j d l. absurd (omega arith);
-  later = λ j d from l. omega arith;
-  below = λ edge are i l. let e : i ≡ 0 = omega arith in rw e (omega arith);
-}
-
 -- one step of the loop: edges laid on up to the end of the next cell, as `mid`
 module _ (base : List ℕ) (cells : List Demand) (table : All (IsInTable (length base)) cells) (sorted : IsNonDecreasingBy end_of cells) (k a : ℕ) (edges mid : List ℕ) (listed : k < length cells)
     (laid_to : LaidTo base cells k a edges) (same : length mid ≡ length edges) (before : (i : ℕ) → i ≤ a → get_or mid i 0 ≡ get_or edges i 0)
@@ -181,27 +171,6 @@ module _ (base : List ℕ) (cells : List Demand) (table : All (IsInTable (length
 -- after the last cell: edges laid on up to the end, as `whole`
 module _ (base : List ℕ) (cells : List Demand) (k a : ℕ) (edges whole : List ℕ) (all : length cells ≤ k) (laid_to : LaidTo base cells k a edges)
     (before : (i : ℕ) → i ≤ a → get_or whole i 0 ≡ get_or edges i 0) (laid : (i : ℕ) → a ≤ i → i < length base → get_or whole (i + 1) 0 ≡ get_or whole i 0 + get_or base i 0) where
-  pub AreLaid-whole : All (IsInTable (length base)) cells → AreLaid base cells (λ i. get_or whole i 0)
-  AreLaid-whole table = record {
-    steps = λ i from l. elim (cases_lt i a) [
-      | inl early ↦
-          let p : get_or whole i 0 ≡ get_or edges i 0 = before i (omega arith) in
-          let q : get_or whole (i + 1) 0 ≡ get_or edges (i + 1) 0 = before (i + 1) (omega arith) in
-          let r : get_or edges i 0 + get_or base i 0 ≤ get_or edges (i + 1) 0 = laid_to.steps i from early in
-          omega arith
-      | inr late ↦ let p : get_or whole (i + 1) 0 ≡ get_or whole i 0 + get_or base i 0 = laid i late l in omega arith
-    ];
-    apart = λ j d l. apart_at (get_or cells j d) (laid_to.apart j d (omega arith));
-  }
-    where
-      apart_at : (d : Demand) → (end_of d ≤ a) × (get_or edges d.start 0 + d.need ≤ get_or edges (end_of d) 0) → get_or whole d.start 0 + d.need ≤ get_or whole (end_of d) 0
-      apart_at d known =
-          let ends : end_of d ≤ a = known.0 in
-          let apart : get_or edges d.start 0 + d.need ≤ get_or edges (end_of d) 0 = known.1 in
-          let p : get_or whole d.start 0 ≡ get_or edges d.start 0 = before d.start (omega arith) in
-          let q : get_or whole (end_of d) 0 ≡ get_or edges (end_of d) 0 = before (end_of d) ends in
-          omega arith
-
   pub below-whole : (edge : ℕ → ℕ) → AreLaid base cells edge → (i : ℕ) → i ≤ length base → get_or whole i 0 ≤ edge i
   below-whole edge are =
       below-more base (length base) edge (λ i. get_or whole i 0) a (length base) are.steps (omega arith)

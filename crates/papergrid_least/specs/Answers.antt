@@ -2,7 +2,7 @@
 use Rattle.std.specs.Prelude.{◌≡◌, ℕ, ◌^◌, ◌<◌, ◌≤◌, List, EachIndex, slice_index, map, Result, None, Vec}
 use Rattle.papergrid_values.specs.declared.position.Position.{Position}
 use Rattle.papergrid_axis.specs.declared.error.LayoutError.{LayoutError}
-use Rattle.papergrid_axis.specs.Answers.{AnswersWhere, IsRefusedWhere, IsTotalBy}
+use Rattle.papergrid_axis.specs.Answers.{AnswersWhere, IsTotalBy}
 use Rattle.papergrid_axis.specs.Problem.{Problem, total_of}
 use Rattle.papergrid_axis.specs.Ranges.{first_out, place_of}
 use Rattle.papergrid_axis.specs.Fits.{Fits, IsCertificate, IsLeast, IsTooLarge, top_need}
@@ -30,11 +30,6 @@ module _ (problem : Problem) where
     pub none_out : first_out problem.count problem.demands ≡ None
     pub too_large : IsTooLarge problem (least_of problem)
     pub none_fits : (other : List ℕ) → Fits problem other → IsTooLarge problem other
-
-  -- out of the table by the first cell that reaches out, else too large, as every list that fits is; memory may be refused in
-  -- place of any answer
-  abbrev pub HasNoLeast : LayoutError → Type 0
-  HasNoLeast e = IsRefusedWhere problem NoneFits e
 
   -- the sum of the least sizes and of all lines
   abbrev pub IsLeastTotal : ℕ → Type 0

@@ -1,4 +1,4 @@
-use Rattle.std.proofs.Common.{◌≡◌, ◌<◌, ◌^◌, ◌+◌, true, refl, ap, ◌∙◌, rules}
+use Rattle.std.proofs.Common.{◌≡◌, ◌<◌, ◌^◌, ◌+◌, true, refl, rules}
 use Rattle.papergrid_axis.specs.Ranges.{demand_of}
 use Rattle.papergrid_axis.specs.ForProofs.Seen.{is_single}
 use Rattle.papergrid_axis.proofs.SeenLemmas.{Holds-single, kept_for-met}

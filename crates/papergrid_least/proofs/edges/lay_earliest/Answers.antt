@@ -1,10 +1,7 @@
 use Rattle.std.proofs.Common.{rules, ℕ, ◌≤◌, length, arith}
 use Rattle.papergrid_least.specs.ForProofs.Laid.{AreLaid}
-use Rattle.papergrid_least.proofs.LaidLemmas.{LaidTo-none, LaidTo-cell, AreLaid-whole, below-whole, no_cell, past-cell}
+use Rattle.papergrid_least.proofs.LaidLemmas.{LaidTo-cell, below-whole, no_cell, past-cell}
 use Rattle.papergrid_least.proofs.edges.lay_earliest.Goals as goal
-
-pub loop-cell-init : goal.loop-cell-init
-loop-cell-init c = LaidTo-none c.args.base.now c.args.cells.now c.args.edges.now c.requires.one_more c.requires.first
 
 pub lay-requires-clause-ordered : goal.lay-requires-clause-ordered
 lay-requires-clause-ordered c = c.loop-cell.invariant.later c.loop-cell.cell-index no_cell (omega arith) c.loop-cell-test.true
@@ -32,11 +29,6 @@ returns-in_err-lay-2-clause-too_large c =
     let large : (edge : ℕ → ℕ) → AreLaid c.args.base.now c.args.cells.now edge → 18446744073709551616 ≤ edge (length c.args.base.now) =
     λ edge are. c.in_err-lay-2.ensures.too_large edge (c.loop-cell.invariant.below edge are c.loop-cell.laid (omega arith)) (λ i from l. are.steps i (omega arith) l) in
     search rules
-
-pub returns-clause-laid : goal.returns-clause-laid
-returns-clause-laid c =
-    AreLaid-whole c.args.base.now c.args.cells.now c.loop-cell.cell-index c.loop-cell.laid c.loop-cell.edges c.lay-2.new.edges (omega arith) c.loop-cell.invariant
-    c.in_ok-lay-2.ensures.before c.in_ok-lay-2.ensures.laid c.requires.table
 
 pub returns-clause-below : goal.returns-clause-below
 returns-clause-below c =

@@ -3,11 +3,12 @@ use Rattle.std.specs.Vec.{with_items}
 use Rattle.std.proofs.lemmas.List.{with_items_is}
 use Rattle.papergrid_axis.specs.ForProofs.Settled.{line_at}
 use Rattle.papergrid_axis.specs.ForProofs.Seen.{no_demand}
+use Rattle.papergrid_axis.specs.Answers.{IsRefusedWhere}
 use Rattle.papergrid_axis.specs.Problem.{given}
 use Rattle.papergrid_axis.proofs.OutLemmas.{IsRefusedWhere-weaker, table_demands}
 use Rattle.papergrid_axis.proofs.SeenLemmas.{table-seen}
-use Rattle.papergrid_least.specs.Answers.{HasNoLeast}
-use Rattle.papergrid_least.proofs.AnswerLemmas.{AreLeastSizes-made, HasNoLeast-refused, NoneFits-large, earliest-made, many-made}
+use Rattle.papergrid_least.specs.Answers.{NoneFits}
+use Rattle.papergrid_least.proofs.AnswerLemmas.{AreLeastSizes-made, IsRefusedWhere-refuses, NoneFits-large, earliest-made, many-made}
 use Rattle.papergrid_least.proofs.settled.settle.Goals as goal
 
 pub returns-in-Some-clause-settled : goal.returns-in-Some-clause-settled
@@ -23,8 +24,9 @@ make_least-requires-clause-table g c =
 
 pub returns-in_err-limits-clause-settled : goal.returns-in_err-limits-clause-settled
 returns-in_err-limits-clause-settled g c = λ demands seen.
-    let refused : HasNoLeast (given (g.A.Axis.line c.args.axis.now) c.args.count demands) c.in_err-limits.field-0.0 =
-    HasNoLeast-refused (g.A.Axis.line c.args.axis.now) c.args.count c.args.seen.now demands seen c.in_default.ensures.inside c.in_default.ensures.small
+    let problem = given (g.A.Axis.line c.args.axis.now) c.args.count demands in
+    let refused : IsRefusedWhere problem (NoneFits problem) c.in_err-limits.field-0.0 =
+    IsRefusedWhere-refuses (g.A.Axis.line c.args.axis.now) c.args.count c.args.seen.now demands seen c.in_default.ensures.inside c.in_default.ensures.small
     (line_at c.in_ok-lines.lines) c.in_ok-lines.ensures.drawn
     c.deref_mut-2.result.now (omega (arith, c.in_ok-sizes.ensures.len, c.deref_mut.ensures.len, c.write_base.ensures.length, c.deref_mut-2.ensures.len))
     (rw (c.deref_mut-2.ensures.value ∙ with_items_is c.in_ok-sizes.sizes c.write_base.new.sizes (omega arith)) (λ k l. c.write_base.ensures.base k l ∙ ap (λ ds. (get_or ds k no_demand).need) c.deref.ensures.value))

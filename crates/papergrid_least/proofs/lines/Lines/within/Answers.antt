@@ -33,24 +33,25 @@ counted-within drawn counts d are inside =
     let part : count_by (λ x. x) (take (d.span - 1) (drop (d.start + 1) drawn)) ≡ inner_lines (line_at drawn) d = drawn_from drawn (d.start + 1) (d.span - 1) (omega arith) in
     omega arith
 
+-- the same of the lines as they are seen, by what is read at the ends
+read-within : (drawn lines : List Bool) (counts : List ℕ) (d : Demand) (last first : ℕ) → drawn ≡ lines → AreCounts drawn counts → IsInTable (length lines) d →
+    last ≡ get_or counts (end_of d) last → first ≡ get_or counts (d.start + 1) first → last ≡ first + inner_lines (line_at lines) d
+read-within drawn lines counts d last first seen are inside read_last read_first =
+    let inside' : IsInTable (length drawn) d = subst (λ xs. IsInTable (length xs) d) (sym seen) inside in
+    let one : 1 ≤ d.span = inside'.covers_one in
+    let ends : end_of d ≤ length drawn = inside'.ends_within in
+    let many : length counts ≡ length drawn + 1 = are.one_more in
+    let last' : last ≡ get_or counts (end_of d) 0 = read_last ∙ get_or_default counts (end_of d) last 0 (omega arith) in
+    let first' : first ≡ get_or counts (d.start + 1) 0 = read_first ∙ get_or_default counts (d.start + 1) first 0 (omega arith) in
+    let within = counted-within drawn counts d are inside' in
+    subst (λ xs. last ≡ first + inner_lines (line_at xs) d) seen (omega (arith, within))
+
 pub overflow_sub-result : goal.overflow_sub-result
 overflow_sub-result c =
-    let inside : IsInTable (length c.self.inside.drawn.items) c.args.demand = subst (λ xs. IsInTable (length xs) c.args.demand) (sym c.self.view_is) c.requires in
-    let ends : end_of c.args.demand ≤ length c.self.inside.drawn.items = inside.ends_within in
-    let one : 1 ≤ c.args.demand.span = inside.covers_one in
-    let many : length c.self.inside.counts.items ≡ length c.self.inside.drawn.items + 1 = c.self.invariant.one_more in
-    let last : c.index.result.now ≡ get_or c.self.inside.counts.items (end_of c.args.demand) 0 = c.index.ensures ∙ get_or_default c.self.inside.counts.items (end_of c.args.demand) c.index.result.now 0 (omega arith) in
-    let first : c.index-2.result.now ≡ get_or c.self.inside.counts.items (c.args.demand.start + 1) 0 = c.index-2.ensures ∙ get_or_default c.self.inside.counts.items (c.args.demand.start + 1) c.index-2.result.now 0 (omega arith) in
-    let within = counted-within c.self.inside.drawn.items c.self.inside.counts.items c.args.demand c.self.invariant inside in
-    omega (arith, within)
+    let read = read-within c.self.inside.drawn.items _ c.self.inside.counts.items c.args.demand c.index.result.now c.index-2.result.now c.self.view_is c.self.invariant c.requires c.index.ensures c.index-2.ensures in
+    omega (arith, read)
 
 pub returns : goal.returns
 returns c =
-    let inside : IsInTable (length c.self.inside.drawn.items) c.args.demand = subst (λ xs. IsInTable (length xs) c.args.demand) (sym c.self.view_is) c.requires in
-    let ends : end_of c.args.demand ≤ length c.self.inside.drawn.items = inside.ends_within in
-    let one : 1 ≤ c.args.demand.span = inside.covers_one in
-    let many : length c.self.inside.counts.items ≡ length c.self.inside.drawn.items + 1 = c.self.invariant.one_more in
-    let last : c.index.result.now ≡ get_or c.self.inside.counts.items (end_of c.args.demand) 0 = c.index.ensures ∙ get_or_default c.self.inside.counts.items (end_of c.args.demand) c.index.result.now 0 (omega arith) in
-    let first : c.index-2.result.now ≡ get_or c.self.inside.counts.items (c.args.demand.start + 1) 0 = c.index-2.ensures ∙ get_or_default c.self.inside.counts.items (c.args.demand.start + 1) c.index-2.result.now 0 (omega arith) in
-    let within = counted-within c.self.inside.drawn.items c.self.inside.counts.items c.args.demand c.self.invariant inside in
-    subst (λ xs. c.index.result.now - c.index-2.result.now ≡ inner_lines (line_at xs) c.args.demand) c.self.view_is (omega (arith, within))
+    let read = read-within c.self.inside.drawn.items _ c.self.inside.counts.items c.args.demand c.index.result.now c.index-2.result.now c.self.view_is c.self.invariant c.requires c.index.ensures c.index-2.ensures in
+    omega (arith, read)
