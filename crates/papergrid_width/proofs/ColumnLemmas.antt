@@ -155,9 +155,11 @@ mark_own c h own joins first total (t, u) reads = by reads.counted reads.quiet
 group_own : (group : Group) (c : ℕ) → in_ranges high c ≡ true → in_ranges (ranges_of group) c ≡ true → 0 < (own_of group).0 → IsQuiet c (own_of group).1 → TakesColumns c (own_of group).0
 group_own group c h inside some quiet = letter_own c (own_of group).0 (own_of group).1 (is_high c h) some (own group c inside) quiet
 
+-- a mark adds nothing
 none_own : (c : ℕ) → in_ranges high c ≡ true → in_ranges (ranges_of Marks) c ≡ true → may_join_lam c ≡ true → TakesColumns c 0
 none_own c h inside joins = mark_own c (is_high c h) (own Marks c inside) joins
 
+-- a letter of one column adds that
 one_own : (c : ℕ) → in_ranges high c ≡ true → in_ranges (ranges_of Ones) c ≡ true → TakesColumns c 1
 one_own c h inside = group_own Ones c h inside (omega arith) (Plain refl)
 

@@ -41,6 +41,7 @@ pub pictograph_in : (c : ℕ) → is_pictograph c ≡ true → in_ranges (ranges
 unfolding in_ranges
 pictograph_in c h = grind (arith, nat_tests)
 
+-- their kind
 pub kind_pictograph : (c : ℕ) → is_pictograph c ≡ true → kind c ≡ kinds.Emoji
 kind_pictograph c h = emoji_from (kind c) (kind_in Pictographs c (pictograph_in c h))
   where

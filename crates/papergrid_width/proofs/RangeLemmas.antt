@@ -96,6 +96,7 @@ AllHaveKind group = AllPass (ranges_of group) (λ c. has_kind group (kind c))
 abbrev kind_stepped_in : (group : Group) → rise (ranges_of group) ≡ true → Stepped (λ c. not (in_ranges (ranges_of group) c) || has_kind group (kind c))
 kind_stepped_in group rising = zip_stepped (λ inside k. not inside || has_kind group k) (in_ranges (ranges_of group)) kind (of_ranges (ranges_of group) rising) kind_stepped
 
+-- what the steps tell of a group
 by_steps : (group : Group) (rising : rise (ranges_of group) ≡ true) → passes_by_steps (λ c. not (in_ranges (ranges_of group) c) || has_kind group (kind c)) (kind_stepped_in group rising) ≡ true → AllHaveKind group
 by_steps group rising = Stepped-everywhere (λ c. not (in_ranges (ranges_of group) c) || has_kind group (kind c)) (kind_stepped_in group rising)
 
@@ -104,10 +105,12 @@ pictographs_have_kind : AllHaveKind Pictographs
 unfolding unicode_width
 pictographs_have_kind = by_steps Pictographs refl refl
 
+-- the same of those of two columns
 twos_have_kind : AllHaveKind Twos
 unfolding unicode_width
 twos_have_kind = by_steps Twos refl refl
 
+-- the same of every group
 all_have_kind : (group : Group) → AllHaveKind group
 unfolding unicode_width
 all_have_kind Marks = by_steps Marks refl refl
