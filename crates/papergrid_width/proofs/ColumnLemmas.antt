@@ -4,178 +4,51 @@ use Rattle.std.specs.Int.{is_in_range}
 use Rattle.std.proofs.lemmas.Bool.{cases_eq, cases_lt}
 use Rattle.std.proofs.lemmas.Bool.Decides.{nat_tests}
 use Rattle.ucd_table.specs.Rows.{Range, in_ranges}
-use Rattle.ucd_table.proofs.Facts.{Stepped-everywhere}
-use Rattle.ucd_table.proofs.Stepped.{of_ranges, zip_stepped}
+use Rattle.ucd_table.proofs.Stepped.{map_stepped, of_ranges, zip_stepped}
 use Rattle.ucd_bidi.specs.JoiningGroup.{joining_group, joining_group_eq}
 use Rattle.ucd_bidi.specs.JoiningType.{joining_type, joining_type_eq}
 use Rattle.ucd_bidi.specs.declared.JoiningGroup.TheVariants.{Lam}
 use Rattle.ucd_bidi.specs.declared.JoiningType.TheVariants.{Transparent}
 use Rattle.ucd_bidi.proofs.JoiningGroupLemmas.{joining_group_stepped}
-use Rattle.unicode_width.specs.declared.kind.Kind.{Kind}
-use Rattle.unicode_width.specs.declared.kind.Kind.TheVariants as kinds
 use Rattle.unicode_width.specs.declared.state.After.TheVariants.{Alef, Lamed}
 use Rattle.unicode_width.specs.declared.state.State.{State}
 use Rattle.unicode_width.specs.Kind.{kind, is_ligature_transparent}
-use Rattle.unicode_width.specs.Width.{Reading, added, alone, before, before_alef, in_context, is_lam, joins, of_kind, past_emoji, past_selectors, plain, step}
+use Rattle.unicode_width.specs.Width.{Reading, added, alone, before, before_alef, in_context, is_lam, joins, past_emoji, past_selectors, plain, step}
 use Rattle.unicode_width.proofs.Computing.{unicode_width}
 use Rattle.unicode_width.proofs.KindLemmas.{is_ligature_transparent_stepped, kind_stepped}
+use Rattle.papergrid_width.proofs.RangeLemmas.{AllPass, Group, Alefs, Marks, Ones, Twos, all_pass, has_kind, own, own_alone, own_by_kind, own_of, ranges_of}
 use Rattle.papergrid_width.specs.ForProofs.Simple.{AtAlef, AtLamed, IsQuiet, Plain, Reads, columns_of_brahmic, columns_of_three, is_alef, is_devanagari_mark, is_one_column, is_semitic_letter, is_thai_mark, is_two_columns, may_join_lam}
 
 -- before each text of simple characters the character adds so many columns
 abbrev pub TakesColumns : ℕ → ℕ → Type 0
 TakesColumns c columns = (first total : ℕ) (r : Reading) → Reads first total r → Reads c (total + columns) (step false c r)
 
--- ---- the kinds of ranges
+-- ---- what the tables tell
 
-abbrev takes_none : Kind → Bool
-takes_none kinds.Zero = true
-takes_none _ = false
-
-abbrev takes_one : Kind → Bool
-takes_one kinds.Narrow = true
-takes_one kinds.Ambiguous = true
-takes_one _ = false
-
-abbrev takes_two : Kind → Bool
-takes_two kinds.Wide = true
-takes_two _ = false
-
-abbrev is_alef_kind : Kind → Bool
-is_alef_kind kinds.Alef = true
-is_alef_kind _ = false
-
-abbrev marks : List Range
-marks =
-    (0x300, 0x337) ∷ (0x339, 0x36F) ∷ (0x900, 0x902) ∷ (0x93A, 0x93A) ∷ (0x93C, 0x93C) ∷ (0x941, 0x948) ∷ (0x94D, 0x94D) ∷ (0x951, 0x957) ∷ (0x962, 0x963)
-    ∷ (0xE31, 0xE31) ∷ (0xE34, 0xE3A) ∷ (0xE47, 0xE4E) ∷ []
-
--- scripts whose marks are among these
+-- scripts whose marks are among the marks
 abbrev marked : List Range
 marked = (0x900, 0x97F) ∷ (0xE00, 0xE7F) ∷ []
-
-abbrev ones : List Range
-ones = (0xC0, 0x2FF) ∷ (0x370, 0x47F) ∷ (0x1E00, 0x1FFF) ∷ (0x2010, 0x2027) ∷ (0x2080, 0x20BF) ∷ (0x2100, 0x22FF) ∷ (0x2500, 0x25BF) ∷ []
-
-abbrev alefs : List Range
-alefs = (0x622, 0x623) ∷ (0x625, 0x625) ∷ (0x627, 0x627) ∷ []
-
--- letters of Hebrew and Arabic that join no character before them
-abbrev apart : List Range
-apart = (0x5D0, 0x5DB) ∷ (0x5DD, 0x5EA) ∷ (0x620, 0x621) ∷ (0x624, 0x624) ∷ (0x626, 0x626) ∷ (0x628, 0x64A) ∷ []
-
-abbrev twos : List Range
-twos = (0x3000, 0x3029) ∷ (0x3041, 0x3096) ∷ (0x30A0, 0x30FF) ∷ (0x3400, 0x9FFF) ∷ (0xAC00, 0xD77F) ∷ (0xFF01, 0xFF3F) ∷ []
 
 -- above U+00A0 all but lams, U+200D and the variation selectors, as far as simple characters go
 abbrev high : List Range
 high = (0xA1, 0x643) ∷ (0x645, 0x64A) ∷ (0x900, 0x200C) ∷ (0x200E, 0xFDFF) ∷ (0xFE10, 0x10_FFFF) ∷ []
 
-marks_take_none : (c : ℕ) → (not (in_ranges marks c) || takes_none (kind c)) ≡ true
-unfolding unicode_width
-marks_take_none =
-    Stepped-everywhere (λ c. not (in_ranges marks c) || takes_none (kind c))
-    (zip_stepped (λ inside k. not inside || takes_none k) (in_ranges marks) kind (of_ranges marks refl) kind_stepped) refl
-
 -- but for the marks
-marked_take_one : (c : ℕ) → (not (in_ranges marked c) || (in_ranges marks c || takes_one (kind c))) ≡ true
+marked_take_one : AllPass marked (λ c. in_ranges (ranges_of Marks) c || has_kind Ones (kind c))
 unfolding unicode_width
 marked_take_one =
-    Stepped-everywhere (λ c. not (in_ranges marked c) || (in_ranges marks c || takes_one (kind c)))
-    (zip_stepped (λ inside rest. not inside || rest) (in_ranges marked) (λ c. in_ranges marks c || takes_one (kind c)) (of_ranges marked refl)
-    (zip_stepped (λ mark k. mark || takes_one k) (in_ranges marks) kind (of_ranges marks refl) kind_stepped)) refl
+    all_pass marked (λ c. in_ranges (ranges_of Marks) c || has_kind Ones (kind c))
+    (zip_stepped (λ mark k. mark || has_kind Ones k) (in_ranges (ranges_of Marks)) kind (of_ranges (ranges_of Marks) refl) kind_stepped) refl refl
 
-ones_take_one : (c : ℕ) → (not (in_ranges ones c) || takes_one (kind c)) ≡ true
+no_lam : AllPass high (λ c. not (is_lam c))
 unfolding unicode_width
-ones_take_one =
-    Stepped-everywhere (λ c. not (in_ranges ones c) || takes_one (kind c))
-    (zip_stepped (λ inside k. not inside || takes_one k) (in_ranges ones) kind (of_ranges ones refl) kind_stepped) refl
+no_lam = all_pass high (λ c. not (is_lam c)) (map_stepped (λ g. not (joining_group_eq g Lam)) joining_group joining_group_stepped) refl refl
 
-apart_take_one : (c : ℕ) → (not (in_ranges apart c) || takes_one (kind c)) ≡ true
-unfolding unicode_width
-apart_take_one =
-    Stepped-everywhere (λ c. not (in_ranges apart c) || takes_one (kind c))
-    (zip_stepped (λ inside k. not inside || takes_one k) (in_ranges apart) kind (of_ranges apart refl) kind_stepped) refl
-
-alefs_are_such : (c : ℕ) → (not (in_ranges alefs c) || is_alef_kind (kind c)) ≡ true
-unfolding unicode_width
-alefs_are_such =
-    Stepped-everywhere (λ c. not (in_ranges alefs c) || is_alef_kind (kind c))
-    (zip_stepped (λ inside k. not inside || is_alef_kind k) (in_ranges alefs) kind (of_ranges alefs refl) kind_stepped) refl
-
-twos_take_two : (c : ℕ) → (not (in_ranges twos c) || takes_two (kind c)) ≡ true
-unfolding unicode_width
-twos_take_two =
-    Stepped-everywhere (λ c. not (in_ranges twos c) || takes_two (kind c))
-    (zip_stepped (λ inside k. not inside || takes_two k) (in_ranges twos) kind (of_ranges twos refl) kind_stepped) refl
-
-no_lam : (c : ℕ) → (not (in_ranges high c) || not (is_lam c)) ≡ true
-unfolding unicode_width
-no_lam =
-    Stepped-everywhere (λ c. not (in_ranges high c) || not (is_lam c))
-    (zip_stepped (λ inside g. not inside || not (joining_group_eq g Lam)) (in_ranges high) joining_group (of_ranges high refl) joining_group_stepped) refl
-
-transparent_take_none : (c : ℕ) → (not (in_ranges high c) || (not (is_ligature_transparent c) || takes_none (kind c))) ≡ true
+transparent_take_none : AllPass high (λ c. not (is_ligature_transparent c) || has_kind Marks (kind c))
 unfolding unicode_width
 transparent_take_none =
-    Stepped-everywhere (λ c. not (in_ranges high c) || (not (is_ligature_transparent c) || takes_none (kind c)))
-    (zip_stepped (λ inside rest. not inside || rest) (in_ranges high) (λ c. not (is_ligature_transparent c) || takes_none (kind c)) (of_ranges high refl)
-    (zip_stepped (λ t k. not t || takes_none k) is_ligature_transparent kind is_ligature_transparent_stepped kind_stepped)) refl
-
-of_none : (c : ℕ) (k : Kind) → takes_none k ≡ true → of_kind false c k ≡ (0, plain)
-of_none c kinds.Zero h = refl
-of_none c kinds.Narrow h = cc
-of_none c kinds.Ambiguous h = cc
-of_none c kinds.Wide h = cc
-of_none c kinds.Alef h = cc
-of_none c kinds.KhmerLetter h = cc
-of_none c kinds.TifinaghConsonant h = cc
-of_none c kinds.LisuTone h = cc
-of_none c kinds.RegionalIndicator h = cc
-of_none c kinds.EmojiModifier h = cc
-of_none c kinds.Emoji h = cc
-of_none c kinds.Single h = cc
-
-of_one : (c : ℕ) (k : Kind) → takes_one k ≡ true → of_kind false c k ≡ (1, plain)
-of_one c kinds.Narrow h = refl
-of_one c kinds.Ambiguous h = refl
-of_one c kinds.Zero h = cc
-of_one c kinds.Wide h = cc
-of_one c kinds.Alef h = cc
-of_one c kinds.KhmerLetter h = cc
-of_one c kinds.TifinaghConsonant h = cc
-of_one c kinds.LisuTone h = cc
-of_one c kinds.RegionalIndicator h = cc
-of_one c kinds.EmojiModifier h = cc
-of_one c kinds.Emoji h = cc
-of_one c kinds.Single h = cc
-
-of_two : (c : ℕ) (k : Kind) → takes_two k ≡ true → of_kind false c k ≡ (2, plain)
-of_two c kinds.Wide h = refl
-of_two c kinds.Narrow h = cc
-of_two c kinds.Ambiguous h = cc
-of_two c kinds.Zero h = cc
-of_two c kinds.Alef h = cc
-of_two c kinds.KhmerLetter h = cc
-of_two c kinds.TifinaghConsonant h = cc
-of_two c kinds.LisuTone h = cc
-of_two c kinds.RegionalIndicator h = cc
-of_two c kinds.EmojiModifier h = cc
-of_two c kinds.Emoji h = cc
-of_two c kinds.Single h = cc
-
-of_alef_kind : (c : ℕ) (k : Kind) → is_alef_kind k ≡ true → of_kind false c k ≡ (1, before Alef)
-of_alef_kind c kinds.Alef h = refl
-of_alef_kind c kinds.Narrow h = cc
-of_alef_kind c kinds.Ambiguous h = cc
-of_alef_kind c kinds.Zero h = cc
-of_alef_kind c kinds.Wide h = cc
-of_alef_kind c kinds.KhmerLetter h = cc
-of_alef_kind c kinds.TifinaghConsonant h = cc
-of_alef_kind c kinds.LisuTone h = cc
-of_alef_kind c kinds.RegionalIndicator h = cc
-of_alef_kind c kinds.EmojiModifier h = cc
-of_alef_kind c kinds.Emoji h = cc
-of_alef_kind c kinds.Single h = cc
+    all_pass high (λ c. not (is_ligature_transparent c) || has_kind Marks (kind c))
+    (zip_stepped (λ t k. not t || has_kind Marks k) is_ligature_transparent kind is_ligature_transparent_stepped kind_stepped) refl refl
 
 -- ---- one step back
 
@@ -185,7 +58,7 @@ record IsHigh (c : ℕ) : Type 0 where
   unjoined : c ≢ 0x200D
   unselected : (c < 0xFE00) ⊎ (0xFE0F < c)
   unlike : is_lam c ≡ false
-  none : is_ligature_transparent c ≡ true → takes_none (kind c) ≡ true
+  none : is_ligature_transparent c ≡ true → has_kind Marks (kind c) ≡ true
 
 is_high : (c : ℕ) → in_ranges high c ≡ true → IsHigh c
 unfolding in_ranges
@@ -245,7 +118,7 @@ not_none n some = grind (arith, nat_tests)
 not_transparent : (c columns : ℕ) (s : State) (b : Bool) → is_ligature_transparent c ≡ b → IsHigh c → 0 < columns → alone false c ≡ (columns, s) → b ≡ false
 unfolding alone
 not_transparent c columns s false is h some own = refl
-not_transparent c columns s true is h some own = absurd (omega (arith, ap (λ o. o.0) (sym own ∙ of_none c (kind c) (h.none is))))
+not_transparent c columns s true is h some own = absurd (omega (arith, ap (λ o. o.0) (sym own ∙ own_by_kind Marks c (kind c) (h.none is))))
 
 not_see_through : (c columns : ℕ) (s : State) → 0 < columns → alone false c ≡ (columns, s) → is_see_through c ≡ false
 not_see_through c columns s some own =
@@ -278,17 +151,17 @@ mark_own c h own joins first total (t, u) reads = by reads.counted reads.quiet
     by counted (AtLamed is) = by_lamed (is_ligature_transparent c) refl counted is
     by counted (AtAlef is _) = by_alef (is_see_through c) refl counted is
 
-none_own : (c : ℕ) → in_ranges high c ≡ true → takes_none (kind c) ≡ true → may_join_lam c ≡ true → TakesColumns c 0
-unfolding alone
-none_own c h k joins = mark_own c (is_high c h) (of_none c (kind c) k) joins
+-- a letter that has columns of its own, by its group
+group_own : (group : Group) (c : ℕ) → in_ranges high c ≡ true → in_ranges (ranges_of group) c ≡ true → 0 < (own_of group).0 → IsQuiet c (own_of group).1 → TakesColumns c (own_of group).0
+group_own group c h inside some quiet = letter_own c (own_of group).0 (own_of group).1 (is_high c h) some (own group c inside) quiet
 
-one_own : (c : ℕ) → in_ranges high c ≡ true → takes_one (kind c) ≡ true → TakesColumns c 1
-unfolding alone
-one_own c h k = letter_own c 1 plain (is_high c h) (omega arith) (of_one c (kind c) k) (Plain refl)
+-- a mark adds nothing
+none_own : (c : ℕ) → in_ranges high c ≡ true → in_ranges (ranges_of Marks) c ≡ true → may_join_lam c ≡ true → TakesColumns c 0
+none_own c h inside joins = mark_own c (is_high c h) (own Marks c inside) joins
 
-two_own : (c : ℕ) → in_ranges high c ≡ true → takes_two (kind c) ≡ true → TakesColumns c 2
-unfolding alone
-two_own c h k = letter_own c 2 plain (is_high c h) (omega arith) (of_two c (kind c) k) (Plain refl)
+-- a letter of one column adds that
+one_own : (c : ℕ) → in_ranges high c ≡ true → in_ranges (ranges_of Ones) c ≡ true → TakesColumns c 1
+one_own c h inside = group_own Ones c h inside (omega arith) (Plain refl)
 
 -- printable ASCII and the tab
 abbrev is_low : ℕ → Bool
@@ -321,24 +194,11 @@ is_letter c = is_in_range 0xC0 0x2FF c || is_in_range 0x370 0x47F c
 
 pub of_letter : (c : ℕ) → is_letter c ≡ true → TakesColumns c 1
 unfolding in_ranges
-of_letter c h =
-    let a = ones_take_one c in
-    let k : takes_one (kind c) ≡ true = grind (arith, nat_tests) in
-    one_own c (grind (arith, nat_tests)) k
-
-of_one_column : (c : ℕ) → is_one_column c ≡ true → TakesColumns c 1
-unfolding in_ranges
-of_one_column c h =
-    let a = ones_take_one c in
-    let k : takes_one (kind c) ≡ true = grind (arith, nat_tests) in
-    one_own c (grind (arith, nat_tests)) k
+of_letter c h = one_own c (grind (arith, nat_tests)) (grind (arith, nat_tests))
 
 pub of_two_columns : (c : ℕ) → is_two_columns c ≡ true → TakesColumns c 2
 unfolding in_ranges
-of_two_columns c h =
-    let a = twos_take_two c in
-    let k : takes_two (kind c) ≡ true = grind (arith, nat_tests) in
-    two_own c (grind (arith, nat_tests)) k
+of_two_columns c h = group_own Twos c (grind (arith, nat_tests)) (grind (arith, nat_tests)) (omega arith) (Plain refl)
 
 of_solidus : TakesColumns 0x338 0
 unfolding unicode_width in_ranges
@@ -348,25 +208,19 @@ pub of_accent : (c : ℕ) → is_in_range 0x300 0x36F c ≡ true → TakesColumn
 unfolding in_ranges
 of_accent c h = elim (cases_eq c 0x338) [
   | inl same ↦ subst (λ c. TakesColumns c 0) (sym same) of_solidus
-  | inr other ↦
-      let a = marks_take_none c in
-      let k : takes_none (kind c) ≡ true = grind (arith, nat_tests) in
-      none_own c (grind (arith, nat_tests)) k (grind (arith, nat_tests))
+  | inr other ↦ none_own c (grind (arith, nat_tests)) (grind (arith, nat_tests)) (grind (arith, nat_tests))
 ]
 
 of_brahmic_mark : (c : ℕ) → (is_devanagari_mark c || is_thai_mark c) ≡ true → TakesColumns c 0
 unfolding in_ranges
-of_brahmic_mark c h =
-    let a = marks_take_none c in
-    let k : takes_none (kind c) ≡ true = grind (arith, nat_tests) in
-    none_own c (grind (arith, nat_tests)) k (grind (arith, nat_tests))
+of_brahmic_mark c h = none_own c (grind (arith, nat_tests)) (grind (arith, nat_tests)) (grind (arith, nat_tests))
 
 of_brahmic_letter : (c : ℕ) → (is_devanagari_mark c || is_thai_mark c) ≡ false → (is_in_range 0x900 0x97F c || is_in_range 0xE00 0xE7F c) ≡ true → TakesColumns c 1
 unfolding in_ranges
 of_brahmic_letter c mark h =
     let a = marked_take_one c in
-    let k : takes_one (kind c) ≡ true = grind (arith, nat_tests) in
-    one_own c (grind (arith, nat_tests)) k
+    let k : has_kind Ones (kind c) ≡ true = grind (arith, nat_tests) in
+    letter_own c 1 plain (is_high c (grind (arith, nat_tests))) (omega arith) (own_alone Ones c k) (Plain refl)
 
 of_lamed : TakesColumns 0x5DC 1
 unfolding unicode_width in_ranges
@@ -377,11 +231,8 @@ unfolding in_ranges
 alef_is_high c h = is_high c (grind (arith, nat_tests))
 
 alef_own : (c : ℕ) → is_alef c ≡ true → alone false c ≡ (1, before Alef)
-unfolding in_ranges alone
-alef_own c h =
-    let a = alefs_are_such c in
-    let k : is_alef_kind (kind c) ≡ true = grind (arith, nat_tests) in
-    of_alef_kind c (kind c) k
+unfolding in_ranges
+alef_own c h = own Alefs c (grind (arith, nat_tests))
 
 pub of_semitic : (c : ℕ) → is_semitic_letter c ≡ true → c ≢ 0x644 → TakesColumns c 1
 unfolding in_ranges
@@ -392,10 +243,7 @@ of_semitic c h unlike = elim (cases_eq c 0x5DC) [
   where
     by : (b : Bool) → is_alef c ≡ b → c ≢ 0x5DC → TakesColumns c 1
     by true is other = letter_own c 1 (before Alef) (alef_is_high c is) (omega arith) (alef_own c is) (AtAlef refl (grind (arith, nat_tests)))
-    by false is other =
-        let a = apart_take_one c in
-        let k : takes_one (kind c) ≡ true = grind (arith, nat_tests) in
-        one_own c (grind (arith, nat_tests)) k
+    by false is other = one_own c (grind (arith, nat_tests)) (grind (arith, nat_tests))
 
 -- ---- lam
 
@@ -446,8 +294,9 @@ chosen false true n m c columns one other told = let takes = other refl refl in 
 chosen false false n m c columns one other told = cc
 
 pub by_three : (c columns : ℕ) → columns_of_three c ≡ Some columns → TakesFew c columns
+unfolding in_ranges
 by_three c columns =
-    chosen (is_two_columns c) (is_one_column c) 2 1 c columns (λ two. record { adds = of_two_columns c two; bound = omega arith }) (λ _ one. record { adds = of_one_column c one; bound = omega arith })
+    chosen (is_two_columns c) (is_one_column c) 2 1 c columns (λ two. record { adds = of_two_columns c two; bound = omega arith }) (λ _ one. record { adds = one_own c (grind (arith, nat_tests)) (grind (arith, nat_tests)); bound = omega arith })
 
 pub by_brahmic : (c columns : ℕ) → columns_of_brahmic c ≡ Some columns → TakesFew c columns
 by_brahmic c columns =

@@ -6,7 +6,7 @@ use Rattle.std.specs.Str.{IsCharBoundary, chars}
 use Rattle.std.proofs.Math.Seq.{drop-append_seam}
 use Rattle.std.proofs.lemmas.Bool.{and_parts, cases_lt}
 use Rattle.std.proofs.lemmas.Bool.Decides.{nat_tests}
-use Rattle.std.proofs.lemmas.List.{length-take-le, take-append-drop, drop-drop}
+use Rattle.std.proofs.lemmas.List.{get_or_past, length-take-le, take-append-drop, drop-drop}
 use Rattle.std.proofs.lemmas.List.Sums.{prefix_len-le-length}
 use Rattle.std.proofs.lemmas.Str.{IsUtf8-drop, IsUtf8-from_ascii, IsCharBoundary-from_rest, IsCharBoundary-from_take, chars-append, chars-IsAscii, encode_ascii, encode_same, length-encode, len_utf8_bounds, IsUtf8-past_char, IsCharBoundary-at_seam, chars_past_char, encodes-chars}
 use lib.Utf8.{encode}
@@ -29,31 +29,67 @@ encode_four : (c : ℕ) → 65536 ≤ c → encode c ≡ (240 + c / 262144) ∷ 
 unfolding encode
 encode_four c low = rw (le-ltb c 128 (omega arith), le-ltb c 2048 (omega arith), le-ltb c 65536 low) refl
 
--- the character, how many bytes it has, and what they are
-data Spelled (c : ℕ) (text : List ℕ) : Type 0 where
-  One : c < 128 → length (encode_utf8 c) ≡ 1 → get_or text 0 0 ≡ c → Spelled c text
-  Two : 128 ≤ c → c < 2048 → length (encode_utf8 c) ≡ 2 → 2 ≤ length text → get_or text 0 0 ≡ 192 + c / 64 → get_or text 1 0 ≡ 128 + c % 64 → Spelled c text
-  Three : 2048 ≤ c → c < 65536 → length (encode_utf8 c) ≡ 3 → 3 ≤ length text → get_or text 0 0 ≡ 224 + c / 4096 → get_or text 1 0 ≡ 128 + c / 64 % 64 → get_or text 2 0 ≡ 128 + c % 64 → Spelled c text
-  Four : 65536 ≤ c → 240 ≤ get_or text 0 0 → Spelled c text
+-- the bytes of a text that begins with a character of one byte, of two, or of three
+pub record OneByte (c : ℕ) (text : List ℕ) : Type 0 where
+  pub small : c < 128
+  pub lead : get_or text 0 0 ≡ c
 
-spells : (c : ℕ) (rest text : List ℕ) → text ≡ encode_utf8 c ++ rest → Spelled c text
+pub record TwoBytes (c : ℕ) (text : List ℕ) : Type 0 where
+  pub small : c < 2048
+  pub lead : get_or text 0 0 ≡ 192 + c / 64
+  pub second : get_or text 1 0 ≡ 128 + c % 64
+
+pub record ThreeBytes (c : ℕ) (text : List ℕ) : Type 0 where
+  pub small : c < 65536
+  pub lead : get_or text 0 0 ≡ 224 + c / 4096
+  pub second : get_or text 1 0 ≡ 128 + c / 64 % 64
+  pub third : get_or text 2 0 ≡ 128 + c % 64
+
+-- the text begins with a character of so many bytes, which are these
+pub record StartsWith (count : ℕ) (Bytes : ℕ → List ℕ → Type 0) (text : List ℕ) : Type 0 where
+  pub first : ℕ
+  pub rest : List ℕ
+  pub spelled : text ≡ encode_utf8 first ++ rest
+  pub counted : length (encode_utf8 first) ≡ count
+  pub bytes : Bytes first text
+
+abbrev pub IsOfOne : List ℕ → Type 0
+IsOfOne = StartsWith 1 OneByte
+
+abbrev pub IsOfTwo : List ℕ → Type 0
+IsOfTwo = StartsWith 2 TwoBytes
+
+abbrev pub IsOfThree : List ℕ → Type 0
+IsOfThree = StartsWith 3 ThreeBytes
+
+-- how the text begins
+data Start (text : List ℕ) : Type 0 where
+  One : IsOfOne text → Start text
+  Two : IsOfTwo text → Start text
+  Three : IsOfThree text → Start text
+  Four : 240 ≤ get_or text 0 0 → Start text
+
+spells : (c : ℕ) (rest text : List ℕ) → text ≡ encode_utf8 c ++ rest → Start text
 spells c rest text spelled = elim (cases_lt c 128) [
-  | inl low ↦ let e = encode_ascii c low in let t = spelled ∙ ap (λ bs. bs ++ rest) e in One low (ap length e) (ap (λ bs. get_or bs 0 0) t)
+  | inl low ↦
+      let e = encode_ascii c low in
+      let t = spelled ∙ ap (λ bs. bs ++ rest) e in
+      One (record { first = c; rest = rest; spelled = spelled; counted = ap length e; bytes = record { small = low; lead = ap (λ bs. get_or bs 0 0) t } })
   | inr past ↦ elim (cases_lt c 2048) [
     | inl two ↦
         let e = encode_two c past two in
         let t = spelled ∙ ap (λ bs. bs ++ rest) e in
-        let long : length text ≡ length rest + 2 = ap length t ∙ omega arith in
-        Two past two (ap length e) (omega arith) (ap (λ bs. get_or bs 0 0) t) (ap (λ bs. get_or bs 1 0) t)
+        let bytes : TwoBytes c text = record { small = two; lead = ap (λ bs. get_or bs 0 0) t; second = ap (λ bs. get_or bs 1 0) t } in
+        Two (record { first = c; rest = rest; spelled = spelled; counted = ap length e; bytes = bytes })
     | inr more ↦ elim (cases_lt c 65536) [
       | inl three ↦
           let e = encode_three c more three in
           let t = spelled ∙ ap (λ bs. bs ++ rest) e in
-          let long : length text ≡ length rest + 3 = ap length t ∙ omega arith in
-          Three more three (ap length e) (omega arith) (ap (λ bs. get_or bs 0 0) t) (ap (λ bs. get_or bs 1 0) t) (ap (λ bs. get_or bs 2 0) t)
+          let bytes : ThreeBytes c text = record { small = three; lead = ap (λ bs. get_or bs 0 0) t; second = ap (λ bs. get_or bs 1 0) t; third = ap (λ bs. get_or bs 2 0) t } in
+          Three (record { first = c; rest = rest; spelled = spelled; counted = ap length e; bytes = bytes })
       | inr four ↦
           let lead : get_or text 0 0 ≡ 240 + c / 262144 = ap (λ bs. get_or bs 0 0) (spelled ∙ ap (λ bs. bs ++ rest) (encode_four c four)) in
-          Four four (omega arith)
+          Four (omega arith)
     ]
   ]
 ]
@@ -62,18 +98,48 @@ spells c rest text spelled = elim (cases_lt c 128) [
 pub passed : (test : ℕ → Bool) (bytes text : List ℕ) (told : Bool) → told ≡ test (get_or bytes 0 0) → told ≡ true → bytes ≡ text → test (get_or text 0 0) ≡ true
 passed test bytes text told is holds same = ap (λ bs. test (get_or bs 0 0)) (sym same) ∙ sym is ∙ holds
 
-record Begins (text : List ℕ) : Type 0 where
-  first : ℕ
-  rest : List ℕ
-  spelled : text ≡ encode_utf8 first ++ rest
-  is : Spelled first text
-
-begins_with : (text cs : List ℕ) → encode_utf8_all cs ≡ text → 0 < length text → Begins text
+begins_with : (text cs : List ℕ) → encode_utf8_all cs ≡ text → 0 < length text → Start text
 begins_with text [] is some = absurd (omega (arith, ap length is))
-begins_with text (c ∷ cs) is some = record { first = c; rest = encode_utf8_all cs; spelled = sym is; is = spells c (encode_utf8_all cs) text (sym is) }
+begins_with text (c ∷ cs) is some = spells c (encode_utf8_all cs) text (sym is)
 
-begins : (text : List ℕ) → IsUtf8 text → 0 < length text → Begins text
+begins : (text : List ℕ) → IsUtf8 text → 0 < length text → Start text
 begins text utf8 some = begins_with text (chars text) (encodes-chars text utf8) some
+
+-- a byte other than 0 is one of the text's
+pub is_there : (text : List ℕ) (i : ℕ) → 0 < get_or text i 0 → i < length text
+is_there text i some = elim (cases_lt i (length text)) [
+  | inl within ↦ within
+  | inr past ↦ absurd (omega (arith, get_or_past text i 0 past))
+]
+
+-- a text that begins with such a byte begins with a character of so many
+pub is_of_one : (text : List ℕ) → IsUtf8 text → 0 < length text → get_or text 0 0 < 128 → IsOfOne text
+is_of_one text utf8 some h = elim (begins text utf8 some) [
+  | One one ↦ one
+  | Two two ↦ absurd (let lead = two.bytes.lead in omega arith)
+  | Three three ↦ absurd (let lead = three.bytes.lead in omega arith)
+  | Four lead ↦ absurd (omega arith)
+]
+
+pub is_of_two : (text : List ℕ) → IsUtf8 text → is_in_range 0xC2 0xDF (get_or text 0 0) ≡ true → IsOfTwo text
+is_of_two text utf8 h = elim (begins text utf8 (is_there text 0 (grind (arith, nat_tests)))) [
+  | Two two ↦ two
+  | One one ↦ absurd (let lead = one.bytes.lead in let small = one.bytes.small in grind (arith, nat_tests))
+  | Three three ↦ absurd (let lead = three.bytes.lead in grind (arith, nat_tests))
+  | Four lead ↦ absurd (grind (arith, nat_tests))
+]
+
+pub is_of_three : (text : List ℕ) → IsUtf8 text → is_in_range 0xE0 0xEF (get_or text 0 0) ≡ true → IsOfThree text
+is_of_three text utf8 h = elim (begins text utf8 (is_there text 0 (grind (arith, nat_tests)))) [
+  | Three three ↦ three
+  | Two two ↦ absurd (let lead = two.bytes.lead in let small = two.bytes.small in grind (arith, nat_tests))
+  | One one ↦ absurd (let lead = one.bytes.lead in let small = one.bytes.small in grind (arith, nat_tests))
+  | Four lead ↦ absurd (grind (arith, nat_tests))
+]
+
+-- the first character, as a caller has found it
+abbrev pub IsFirst : List ℕ → ℕ → Type 0
+IsFirst text c = (first : ℕ) (rest : List ℕ) → text ≡ encode_utf8 first ++ rest → c ≡ first
 
 -- ---- pieces
 
@@ -102,81 +168,45 @@ starts text rest c columns count spelled utf8 counted bound adds = starts_by tex
         let swap : n + columns ≡ columns + n = omega arith in
         reads_by text (c ∷ chars rest) (columns + n) (chars_past_char text rest c utf8 spelled) (subst (λ n. Reads c n (step false c (read_before false (chars rest) (0, plain)))) swap (adds _ n _ quietly))
 
+-- a text takes the columns of its first character
+starts_as : (text : List ℕ) (columns count : ℕ) (Bytes : ℕ → List ℕ → Type 0) (start : StartsWith count Bytes text) → IsUtf8 text → columns ≤ count → TakesColumns start.first columns → IsPiece text columns count
+starts_as text columns count Bytes start utf8 bound takes = starts text start.rest start.first columns count start.spelled utf8 start.counted bound takes
+
+-- the same where a caller has found the character
+starts_found : (text : List ℕ) (c columns count : ℕ) (Bytes : ℕ → List ℕ → Type 0) → StartsWith count Bytes text → IsUtf8 text → IsFirst text c → columns ≤ count → TakesColumns c columns → IsPiece text columns count
+starts_found text c columns count Bytes start utf8 is bound takes = starts_as text columns count Bytes start utf8 bound (subst (λ c. TakesColumns c columns) (is start.first start.rest start.spelled) takes)
+
 pub starts_ascii : (text : List ℕ) → IsUtf8 text → 0 < length text → is_in_range 0x20 0x7E (get_or text 0 0) ≡ true → IsPiece text 1 1
-starts_ascii text utf8 some h =
-    let b = begins text utf8 some in
-    elim b.is [
-      | One low counted lead ↦ starts text b.rest b.first 1 1 b.spelled utf8 counted (omega arith) (of_ascii b.first (ap (is_in_range 0x20 0x7E) (sym lead) ∙ h))
-      | Two low high counted long lead second ↦ absurd (grind (arith, nat_tests))
-      | Three low high counted long lead second third ↦ absurd (grind (arith, nat_tests))
-      | Four low lead ↦ absurd (grind (arith, nat_tests))
-    ]
+starts_ascii text utf8 some h = by (is_of_one text utf8 some (grind (arith, nat_tests)))
+  where
+    by : IsOfOne text → IsPiece text 1 1
+    by one = starts_as text 1 1 _ one utf8 (omega arith) (of_ascii one.first (ap (is_in_range 0x20 0x7E) (sym one.bytes.lead) ∙ h))
 
 pub starts_tab : (text : List ℕ) → IsUtf8 text → 0 < length text → get_or text 0 0 ≡ 9 → IsPiece text 1 1
 starts_tab text utf8 some h =
-    let b = begins text utf8 some in
-    elim b.is [
-      | One low counted lead ↦ starts text b.rest b.first 1 1 b.spelled utf8 counted (omega arith) (subst (λ c. TakesColumns c 1) (sym h ∙ lead) of_tab)
-      | Two low high counted long lead second ↦ absurd (omega arith)
-      | Three low high counted long lead second third ↦ absurd (omega arith)
-      | Four low lead ↦ absurd (omega arith)
-    ]
-
-pub has_lead : (text : List ℕ) → is_in_range 0xC3 0xD1 (get_or text 0 0) ≡ true → 0 < length text
-has_lead [] h = absurd (grind (arith, nat_tests))
-has_lead (b ∷ bs) h = omega arith
+    let one = is_of_one text utf8 some (omega arith) in
+    starts_as text 1 1 _ one utf8 (omega arith) (subst (λ c. TakesColumns c 1) (sym h ∙ one.bytes.lead) of_tab)
 
 pub starts_letter : (text : List ℕ) → IsUtf8 text → is_in_range 0xC3 0xD1 (get_or text 0 0) ≡ true → is_in_range 0xCC 0xCD (get_or text 0 0) ≡ false → IsPiece text 1 2
-starts_letter text utf8 h apart =
-    let b = begins text utf8 (has_lead text h) in
-    elim b.is [
-      | One low counted lead ↦ absurd (grind (arith, nat_tests))
-      | Two low high counted long lead second ↦
-          starts text b.rest b.first 1 2 b.spelled utf8 counted (omega arith) (of_letter b.first (letter_of b.first (ap (is_in_range 0xC3 0xD1) (sym lead) ∙ h) (ap (is_in_range 0xCC 0xCD) (sym lead) ∙ apart)))
-      | Three low high counted long lead second third ↦ absurd (grind (arith, nat_tests))
-      | Four low lead ↦ absurd (grind (arith, nat_tests))
-    ]
+starts_letter text utf8 h apart = by (is_of_two text utf8 (grind (arith, nat_tests)))
   where
     letter_of : (c : ℕ) → is_in_range 0xC3 0xD1 (192 + c / 64) ≡ true → is_in_range 0xCC 0xCD (192 + c / 64) ≡ false → is_letter c ≡ true
     letter_of c h apart = grind (arith, nat_tests)
 
-pub starts_ideograph : (text : List ℕ) → IsUtf8 text → 0 < length text → is_in_range 0xE4 0xE9 (get_or text 0 0) ≡ true → IsPiece text 2 3
-starts_ideograph text utf8 some h =
-    let b = begins text utf8 some in
-    elim b.is [
-      | One low counted lead ↦ absurd (grind (arith, nat_tests))
-      | Two low high counted long lead second ↦ absurd (grind (arith, nat_tests))
-      | Three low high counted long lead second third ↦ starts text b.rest b.first 2 3 b.spelled utf8 counted (omega arith) (of_two_columns b.first (ideograph_of b.first (ap (is_in_range 0xE4 0xE9) (sym lead) ∙ h)))
-      | Four low lead ↦ absurd (grind (arith, nat_tests))
-    ]
+    by : IsOfTwo text → IsPiece text 1 2
+    by two =
+        starts_as text 1 2 _ two utf8 (omega arith) (of_letter two.first (letter_of two.first (ap (is_in_range 0xC3 0xD1) (sym two.bytes.lead) ∙ h) (ap (is_in_range 0xCC 0xCD) (sym two.bytes.lead) ∙ apart)))
+
+pub starts_ideograph : (text : List ℕ) → IsUtf8 text → is_in_range 0xE4 0xE9 (get_or text 0 0) ≡ true → IsPiece text 2 3
+starts_ideograph text utf8 h = by (is_of_three text utf8 (grind (arith, nat_tests)))
   where
     ideograph_of : (c : ℕ) → is_in_range 0xE4 0xE9 (224 + c / 4096) ≡ true → is_two_columns c ≡ true
     ideograph_of c h = grind (arith, nat_tests)
 
+    by : IsOfThree text → IsPiece text 2 3
+    by three = starts_as text 2 3 _ three utf8 (omega arith) (of_two_columns three.first (ideograph_of three.first (ap (is_in_range 0xE4 0xE9) (sym three.bytes.lead) ∙ h)))
+
 -- ---- characters of two bytes
-
-pub record IsOfTwo (text : List ℕ) : Type 0 where
-  pub first : ℕ
-  pub rest : List ℕ
-  pub spelled : text ≡ encode_utf8 first ++ rest
-  pub counted : length (encode_utf8 first) ≡ 2
-  pub long : 2 ≤ length text
-  pub lead : get_or text 0 0 ≡ 192 + first / 64
-  pub second : get_or text 1 0 ≡ 128 + first % 64
-
-pub is_of_two : (text : List ℕ) → IsUtf8 text → is_in_range 0xC2 0xDF (get_or text 0 0) ≡ true → IsOfTwo text
-is_of_two text utf8 h =
-    let b = begins text utf8 (some text h) in
-    elim b.is [
-      | One low counted lead ↦ absurd (grind (arith, nat_tests))
-      | Two low high counted long lead second ↦ record { first = b.first; rest = b.rest; spelled = b.spelled; counted = counted; long = long; lead = lead; second = second }
-      | Three low high counted long lead second third ↦ absurd (grind (arith, nat_tests))
-      | Four low lead ↦ absurd (grind (arith, nat_tests))
-    ]
-  where
-    some : (text : List ℕ) → is_in_range 0xC2 0xDF (get_or text 0 0) ≡ true → 0 < length text
-    some [] h = absurd (grind (arith, nat_tests))
-    some (b ∷ bs) h = omega arith
 
 accent_is_of_two : (text : List ℕ) → IsUtf8 text → is_in_range 0xCC 0xCD (get_or text 0 0) ≡ true → IsOfTwo text
 accent_is_of_two text utf8 h = is_of_two text utf8 (accent_lead (get_or text 0 0) h)
@@ -184,89 +214,61 @@ accent_is_of_two text utf8 h = is_of_two text utf8 (accent_lead (get_or text 0 0
     accent_lead : (b : ℕ) → is_in_range 0xCC 0xCD b ≡ true → is_in_range 0xC2 0xDF b ≡ true
     accent_lead b h = grind (arith, nat_tests)
 
-pub starts_accent : (text : List ℕ) (c : ℕ) → IsUtf8 text → is_in_range 0xCC 0xCD (get_or text 0 0) ≡ true → ((first : ℕ) (rest : List ℕ) → text ≡ encode_utf8 first ++ rest → c ≡ first) → c < 0x370 → IsPiece text 0 2
+-- the characters that begin with such a byte
+accent_range : (text : List ℕ) (c : ℕ) → IsUtf8 text → is_in_range 0xCC 0xCD (get_or text 0 0) ≡ true → IsFirst text c → is_in_range 0x300 0x37F c ≡ true
+accent_range text c utf8 h is =
+    let two = accent_is_of_two text utf8 h in
+    ap (is_in_range 0x300 0x37F) (is two.first two.rest two.spelled) ∙ within two.first (ap (is_in_range 0xCC 0xCD) (sym two.bytes.lead) ∙ h)
+  where
+    within : (c : ℕ) → is_in_range 0xCC 0xCD (192 + c / 64) ≡ true → is_in_range 0x300 0x37F c ≡ true
+    within c h = grind (arith, nat_tests)
+
+pub starts_accent : (text : List ℕ) (c : ℕ) → IsUtf8 text → is_in_range 0xCC 0xCD (get_or text 0 0) ≡ true → IsFirst text c → c < 0x370 → IsPiece text 0 2
 starts_accent text c utf8 h is low =
-    let two = accent_is_of_two text utf8 h in
-    let same = is two.first two.rest two.spelled in
-    let lead = ap (is_in_range 0xCC 0xCD) (sym two.lead) ∙ h in
-    starts text two.rest two.first 0 2 two.spelled utf8 two.counted (omega arith) (of_accent two.first (within two.first lead (omega arith)))
-  where
-    within : (c : ℕ) → is_in_range 0xCC 0xCD (192 + c / 64) ≡ true → c < 0x370 → is_in_range 0x300 0x36F c ≡ true
-    within c h low = grind (arith, nat_tests)
+    let range = accent_range text c utf8 h is in
+    starts_found text c 0 2 _ (accent_is_of_two text utf8 h) utf8 is (omega arith) (of_accent c (grind (arith, nat_tests)))
 
-pub starts_greek : (text : List ℕ) (c : ℕ) → IsUtf8 text → is_in_range 0xCC 0xCD (get_or text 0 0) ≡ true → ((first : ℕ) (rest : List ℕ) → text ≡ encode_utf8 first ++ rest → c ≡ first) → 0x370 ≤ c → IsPiece text 1 2
+pub starts_greek : (text : List ℕ) (c : ℕ) → IsUtf8 text → is_in_range 0xCC 0xCD (get_or text 0 0) ≡ true → IsFirst text c → 0x370 ≤ c → IsPiece text 1 2
 starts_greek text c utf8 h is high =
-    let two = accent_is_of_two text utf8 h in
-    let same = is two.first two.rest two.spelled in
-    let lead = ap (is_in_range 0xCC 0xCD) (sym two.lead) ∙ h in
-    starts text two.rest two.first 1 2 two.spelled utf8 two.counted (omega arith) (of_letter two.first (within two.first lead (omega arith)))
-  where
-    within : (c : ℕ) → is_in_range 0xCC 0xCD (192 + c / 64) ≡ true → 0x370 ≤ c → is_letter c ≡ true
-    within c h low = grind (arith, nat_tests)
+    let range = accent_range text c utf8 h is in
+    starts_found text c 1 2 _ (accent_is_of_two text utf8 h) utf8 is (omega arith) (of_letter c (grind (arith, nat_tests)))
 
-pub code_of_two : (text : List ℕ) (c : ℕ) (rest : List ℕ) → IsOfTwo text → text ≡ encode_utf8 c ++ rest → (get_or text 0 0 - 192) * 64 + (get_or text 1 0 - 128) ≡ c
-code_of_two text c rest two spelled =
+-- the character, by the lead and what the byte after it adds
+pub code_of_two : (text : List ℕ) (c second : ℕ) (rest : List ℕ) → IsOfTwo text → second ≡ get_or text 1 0 - 128 → text ≡ encode_utf8 c ++ rest → (get_or text 0 0 - 192) * 64 + second ≡ c
+code_of_two text c second rest two is spelled =
     let same = encode_same two.first c two.rest rest (sym two.spelled ∙ spelled) in
-    let lead = two.lead in
-    let second = two.second in
+    let lead = two.bytes.lead in
+    let there = two.bytes.second in
     omega (arith, same.0)
 
 -- ---- characters of three bytes
 
-pub record IsOfThree (text : List ℕ) : Type 0 where
-  pub first : ℕ
-  pub rest : List ℕ
-  pub spelled : text ≡ encode_utf8 first ++ rest
-  pub counted : length (encode_utf8 first) ≡ 3
-  pub long : 3 ≤ length text
-  pub small : first < 65536
-  pub lead : get_or text 0 0 ≡ 224 + first / 4096
-  pub second : get_or text 1 0 ≡ 128 + first / 64 % 64
-  pub third : get_or text 2 0 ≡ 128 + first % 64
+starts_three : (text : List ℕ) (c columns : ℕ) → IsUtf8 text → IsOfThree text → IsFirst text c → TakesFew c columns → IsPiece text columns 3
+starts_three text c columns utf8 three is takes = starts_found text c columns 3 _ three utf8 is takes.bound takes.adds
 
-pub is_of_three : (text : List ℕ) → IsUtf8 text → 0 < length text → is_in_range 0xE0 0xEF (get_or text 0 0) ≡ true → IsOfThree text
-is_of_three text utf8 some h =
-    let b = begins text utf8 some in
-    elim b.is [
-      | One low counted lead ↦ absurd (grind (arith, nat_tests))
-      | Two low high counted long lead second ↦ absurd (grind (arith, nat_tests))
-      | Three low high counted long lead second third ↦ record { first = b.first; rest = b.rest; spelled = b.spelled; counted = counted; long = long; small = high; lead = lead; second = second; third = third }
-      | Four low lead ↦ absurd (grind (arith, nat_tests))
-    ]
-
-starts_three : (text : List ℕ) (c columns : ℕ) → IsUtf8 text → IsOfThree text → ((first : ℕ) (rest : List ℕ) → text ≡ encode_utf8 first ++ rest → c ≡ first) → TakesFew c columns → IsPiece text columns 3
-starts_three text c columns utf8 three is takes =
-    let same : c ≡ three.first = is three.first three.rest three.spelled in
-    starts text three.rest three.first columns 3 three.spelled utf8 three.counted takes.bound (subst (λ c. TakesColumns c columns) same takes.adds)
-
-if_starts_three : (text : List ℕ) (c : ℕ) (told : Option ℕ) → IsUtf8 text → IsOfThree text → ((first : ℕ) (rest : List ℕ) → text ≡ encode_utf8 first ++ rest → c ≡ first) → ((columns : ℕ) → told ≡ Some columns → TakesFew c columns) → IfSome told (λ columns. IsPiece text columns 3)
+if_starts_three : (text : List ℕ) (c : ℕ) (told : Option ℕ) → IsUtf8 text → IsOfThree text → IsFirst text c → ((columns : ℕ) → told ≡ Some columns → TakesFew c columns) → IfSome told (λ columns. IsPiece text columns 3)
 if_starts_three text c None utf8 three is takes = tt
 if_starts_three text c (Some columns) utf8 three is takes = starts_three text c columns utf8 three is (takes columns refl)
 
-pub starts_long : (text : List ℕ) (c : ℕ) (told : Option ℕ) → IsUtf8 text → IsOfThree text → ((first : ℕ) (rest : List ℕ) → text ≡ encode_utf8 first ++ rest → c ≡ first) → told ≡ columns_of_three c → IfSome told (λ columns. IsPiece text columns 3)
+pub starts_long : (text : List ℕ) (c : ℕ) (told : Option ℕ) → IsUtf8 text → IsOfThree text → IsFirst text c → told ≡ columns_of_three c → IfSome told (λ columns. IsPiece text columns 3)
 starts_long text c told utf8 three is by = if_starts_three text c told utf8 three is (λ columns some. by_three c columns (sym by ∙ some))
 
-pub starts_brahmic : (text : List ℕ) (c : ℕ) (told : Option ℕ) → IsUtf8 text → IsOfThree text → ((first : ℕ) (rest : List ℕ) → text ≡ encode_utf8 first ++ rest → c ≡ first) → told ≡ columns_of_brahmic c → IfSome told (λ columns. IsPiece text columns 3)
+pub starts_brahmic : (text : List ℕ) (c : ℕ) (told : Option ℕ) → IsUtf8 text → IsOfThree text → IsFirst text c → told ≡ columns_of_brahmic c → IfSome told (λ columns. IsPiece text columns 3)
 starts_brahmic text c told utf8 three is by = if_starts_three text c told utf8 three is (λ columns some. by_brahmic c columns (sym by ∙ some))
-
-pub has_some : (text : List ℕ) → 0xE1 ≤ get_or text 0 0 → 0 < length text
-has_some [] h = absurd (omega arith)
-has_some (b ∷ bs) h = omega arith
 
 -- the first byte of Devanagari and Thai
 pub is_of_three_low : (text : List ℕ) → IsUtf8 text → get_or text 0 0 ≡ 0xE0 → IsOfThree text
-is_of_three_low [] utf8 h = absurd (omega (arith, h))
-is_of_three_low (b ∷ bs) utf8 h = is_of_three (b ∷ bs) utf8 (omega arith) (ap (is_in_range 0xE0 0xEF) h)
+is_of_three_low text utf8 h = is_of_three text utf8 (ap (is_in_range 0xE0 0xEF) h)
 
 pub is_three_lead : (b : ℕ) → 0xE1 ≤ b → b ≤ 0xEF → is_in_range 0xE0 0xEF b ≡ true
 is_three_lead b low high = grind (arith, nat_tests)
 
-pub code_of_three : (text : List ℕ) (c : ℕ) (rest : List ℕ) → IsOfThree text → text ≡ encode_utf8 c ++ rest → (get_or text 0 0 - 224) * 4096 + (get_or text 1 0 - 128) * 64 + (get_or text 2 0 - 128) ≡ c
-code_of_three text c rest three spelled =
+pub code_of_three : (text : List ℕ) (c second third : ℕ) (rest : List ℕ) → IsOfThree text → second ≡ get_or text 1 0 - 128 → third ≡ get_or text 2 0 - 128 → text ≡ encode_utf8 c ++ rest → (get_or text 0 0 - 224) * 4096 + second * 64 + third ≡ c
+code_of_three text c second third rest three is_second is_third spelled =
     let same = encode_same three.first c three.rest rest (sym three.spelled ∙ spelled) in
-    let lead = three.lead in
-    let second = three.second in
-    let third = three.third in
+    let lead = three.bytes.lead in
+    let there = three.bytes.second in
+    let last = three.bytes.third in
     omega (arith, same.0)
 
 -- ---- a text of simple characters
@@ -332,12 +334,11 @@ semitic_is_of_two text utf8 h = is_of_two text utf8 (semitic_lead (get_or text 0
     semitic_lead : (b : ℕ) → is_in_range 0xD7 0xD9 b ≡ true → is_in_range 0xC2 0xDF b ≡ true
     semitic_lead b h = grind (arith, nat_tests)
 
-pub starts_semitic : (text : List ℕ) (c : ℕ) → IsUtf8 text → is_in_range 0xD7 0xD9 (get_or text 0 0) ≡ true → ((first : ℕ) (rest : List ℕ) → text ≡ encode_utf8 first ++ rest → c ≡ first) → c ≢ 0x644 → is_semitic_letter c ≡ true → IsPiece text 1 2
+pub starts_semitic : (text : List ℕ) (c : ℕ) → IsUtf8 text → is_in_range 0xD7 0xD9 (get_or text 0 0) ≡ true → IsFirst text c → c ≢ 0x644 → is_semitic_letter c ≡ true → IsPiece text 1 2
 starts_semitic text c utf8 h is unlike letter =
-    let two = semitic_is_of_two text utf8 h in
-    starts text two.rest two.first 1 2 two.spelled utf8 two.counted (omega arith) (subst (λ c. TakesColumns c 1) (is two.first two.rest two.spelled) (of_semitic c letter unlike))
+    starts_found text c 1 2 _ (semitic_is_of_two text utf8 h) utf8 is (omega arith) (of_semitic c letter unlike)
 
-pub begins_with_lam : (text : List ℕ) (c : ℕ) → IsUtf8 text → is_in_range 0xD7 0xD9 (get_or text 0 0) ≡ true → ((first : ℕ) (rest : List ℕ) → text ≡ encode_utf8 first ++ rest → c ≡ first) → c ≡ 0x644 → BeginsWith text 0x644
+pub begins_with_lam : (text : List ℕ) (c : ℕ) → IsUtf8 text → is_in_range 0xD7 0xD9 (get_or text 0 0) ≡ true → IsFirst text c → c ≡ 0x644 → BeginsWith text 0x644
 begins_with_lam text c utf8 h is lam =
     let two = semitic_is_of_two text utf8 h in
     (two.rest, two.spelled ∙ ap (λ c. encode_utf8 c ++ two.rest) (sym (is two.first two.rest two.spelled) ∙ lam))
@@ -369,14 +370,9 @@ first_is_low : (text : List ℕ) → IsUtf8 text → get_or text 0 0 < 0x80 → 
 unfolding chars
 first_is_low [] utf8 low = omega arith
 first_is_low (b ∷ bs) utf8 low =
-    let start = begins (b ∷ bs) utf8 (omega arith) in
-    let first : get_or (chars (b ∷ bs)) 0 0 ≡ start.first = ap (λ cs. get_or cs 0 0) (chars_past_char (b ∷ bs) start.rest start.first utf8 start.spelled) in
-    elim start.is [
-      | One small counted lead ↦ omega (arith, first, small)
-      | Two small high counted long lead second ↦ absurd (omega (arith, lead))
-      | Three small high counted long lead second third ↦ absurd (omega (arith, lead))
-      | Four small lead ↦ absurd (omega (arith, lead))
-    ]
+    let one = is_of_one (b ∷ bs) utf8 (omega arith) low in
+    let first : get_or (chars (b ∷ bs)) 0 0 ≡ one.first = ap (λ cs. get_or cs 0 0) (chars_past_char (b ∷ bs) one.rest one.first utf8 one.spelled) in
+    omega (arith, first, one.bytes.small)
 
 pub lam_at_end : (text after : List ℕ) → IsUtf8 text → BeginsWith text 0x644 → after ≡ drop 2 text → IsUtf8 after → get_or after 0 0 < 0x80 → IsPiece text 1 2
 lam_at_end text after utf8 lam is utf8_after low = lam_alone text after utf8 lam is (apart_from _ (first_is_low after utf8_after low))
@@ -384,7 +380,7 @@ lam_at_end text after utf8 lam is utf8_after low = lam_alone text after utf8 lam
     apart_from : (c : ℕ) → c < 0x80 → may_join_lam c ≡ false
     apart_from c low = grind (arith, nat_tests)
 
-pub lam_in_word : (text after : List ℕ) (next : ℕ) → IsUtf8 text → BeginsWith text 0x644 → after ≡ drop 2 text → IsUtf8 after → is_in_range 0xD7 0xD9 (get_or after 0 0) ≡ true → ((first : ℕ) (rest : List ℕ) → after ≡ encode_utf8 first ++ rest → next ≡ first) → is_alef next ≡ false → is_semitic_letter next ≡ true → IsPiece text 1 2
+pub lam_in_word : (text after : List ℕ) (next : ℕ) → IsUtf8 text → BeginsWith text 0x644 → after ≡ drop 2 text → IsUtf8 after → is_in_range 0xD7 0xD9 (get_or after 0 0) ≡ true → IsFirst after next → is_alef next ≡ false → is_semitic_letter next ≡ true → IsPiece text 1 2
 lam_in_word text after next utf8 lam is utf8_after h same unlike letter =
     let two = semitic_is_of_two after utf8_after h in
     let first : get_or (chars after) 0 0 ≡ next = ap (λ cs. get_or cs 0 0) (chars_past_char after two.rest two.first utf8_after two.spelled) ∙ sym (same two.first two.rest two.spelled) in
@@ -393,7 +389,7 @@ lam_in_word text after next utf8 lam is utf8_after h same unlike letter =
     apart_from : (c : ℕ) → is_alef c ≡ false → is_semitic_letter c ≡ true → may_join_lam c ≡ false
     apart_from c unlike letter = grind (arith, nat_tests)
 
-pub lam_and_alef : (text after : List ℕ) (next : ℕ) → IsUtf8 text → BeginsWith text 0x644 → after ≡ drop 2 text → IsUtf8 after → is_in_range 0xD7 0xD9 (get_or after 0 0) ≡ true → ((first : ℕ) (rest : List ℕ) → after ≡ encode_utf8 first ++ rest → next ≡ first) → is_alef next ≡ true → IsPiece text 1 4
+pub lam_and_alef : (text after : List ℕ) (next : ℕ) → IsUtf8 text → BeginsWith text 0x644 → after ≡ drop 2 text → IsUtf8 after → is_in_range 0xD7 0xD9 (get_or after 0 0) ≡ true → IsFirst after next → is_alef next ≡ true → IsPiece text 1 4
 lam_and_alef text after next utf8 lam is utf8_after h same alef =
     let two = semitic_is_of_two after utf8_after h in
     let known : is_alef two.first ≡ true = ap is_alef (sym (same two.first two.rest two.spelled)) ∙ alef in

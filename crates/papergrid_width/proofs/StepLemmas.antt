@@ -9,7 +9,7 @@ use Rattle.ucd_emoji.proofs.BinaryLemmas.{is_emoji_modifier_base_stepped}
 use Rattle.ucd_emoji.specs.Binary.{is_emoji_modifier_base, is_emoji_variation_base}
 use Rattle.unicode_width.specs.declared.state.After.TheVariants as states
 use Rattle.unicode_width.specs.declared.state.State.{State}
-use Rattle.unicode_width.specs.Width.{alone, before, plain, added, of_kind, in_context, joins, past_emoji, past_selectors, step}
+use Rattle.unicode_width.specs.Width.{alone, before, plain, added, in_context, joins, past_emoji, past_selectors, step}
 use Rattle.unicode_width.proofs.Computing.{unicode_width}
 use Rattle.papergrid_width.specs.ForProofs.Parts.{is_pictograph, part_of, add_before}
 use Rattle.papergrid_width.specs.ForProofs.Emoji.{IsStep, state_of}
@@ -17,7 +17,8 @@ use Rattle.papergrid_width.specs.declared.part.Part.{Part}
 use Rattle.papergrid_width.specs.declared.part.Part.TheVariants as parts
 use Rattle.papergrid_width.specs.declared.part.After.{After}
 use Rattle.papergrid_width.specs.declared.part.After.TheVariants as afters
-use Rattle.papergrid_width.proofs.PartLemmas.{lies, kind_pictograph, kind_indicator, kind_modifier}
+use Rattle.papergrid_width.proofs.PartLemmas.{lies, kind_pictograph, pictograph_in, indicator_in, modifier_in}
+use Rattle.papergrid_width.proofs.RangeLemmas.{Indicators, Modifiers, Pictographs, own}
 
 -- neither of the two parts that look at what follows by a property of the character
 abbrev pub IsPlainly : ℕ → After → Type 0
@@ -76,17 +77,8 @@ indicators_step : (c total : ℕ) → IsHigh c → is_in_range 0x1F1E6 0x1F1FF c
 unfolding step past_emoji in_context past_selectors joins
 indicators_step c total h is = grind (arith, nat_tests)
 
-pictograph_own : (c : ℕ) → is_pictograph c ≡ true → alone false c ≡ (2, before states.Emoji)
-unfolding alone
-pictograph_own c h = ap (of_kind false c) (kind_pictograph c h)
-
 indicator_own : (c : ℕ) → is_in_range 0x1F1E6 0x1F1FF c ≡ true → alone false c ≡ (1, before states.RegionalIndicator)
-unfolding alone
-indicator_own c h = ap (of_kind false c) (kind_indicator c h)
-
-modifier_own : (c : ℕ) → is_in_range 0x1F3FB 0x1F3FF c ≡ true → alone false c ≡ (2, before states.EmojiModifier)
-unfolding alone
-modifier_own c h = ap (of_kind false c) (kind_modifier c h)
+indicator_own c h = own Indicators c (indicator_in c h)
 
 -- ---- a character that joins what follows
 
@@ -133,50 +125,52 @@ same_total total s = let e : total ≡ total + 0 = omega arith in ap (λ n. (n, 
 
 joiner : (after : After) → IfSome (add_before parts.Joiner after) (IsStep 0x200D after)
 unfolding unicode_width
-joiner afters.Other = λ total. refl
 joiner afters.Emoji = λ total. same_total total _
 joiner afters.Modifier = λ total. same_total total _
-joiner afters.Selector = λ total. refl
-joiner afters.Joiner = λ total. refl
-joiner afters.Indicator = λ total. refl
 joiner afters.Indicators = λ total. same_total total _
+joiner _ = λ total. refl
 
 selector : (after : After) → IfSome (add_before parts.Selector after) (IsStep 0xFE0F after)
 unfolding unicode_width
 selector afters.Other = λ total. refl
-selector afters.Emoji = λ total. same_total total _
-selector afters.Modifier = λ total. same_total total _
 selector afters.Selector = λ total. refl
 selector afters.Joiner = tt
-selector afters.Indicator = λ total. same_total total _
-selector afters.Indicators = λ total. same_total total _
+selector _ = λ total. same_total total _
 
 keycap : (after : After) → IfSome (add_before parts.Keycap after) (IsStep 0x20E3 after)
 unfolding unicode_width
-keycap afters.Other = λ total. refl
-keycap afters.Emoji = λ total. refl
-keycap afters.Modifier = λ total. refl
-keycap afters.Selector = λ total. refl
 keycap afters.Joiner = tt
-keycap afters.Indicator = λ total. refl
-keycap afters.Indicators = λ total. refl
+keycap _ = λ total. refl
 
 -- ---- each part before all that may follow
 
 by_own : (c total : ℕ) (state : State) (own : ℕ × State) → step false c (total, state) ≡ added total (alone false c) → alone false c ≡ own → step false c (total, state) ≡ added total own
 by_own c total state own e is = e ∙ ap (added total) is
 
+-- what a pictograph or a skin tone adds, which joins what follows a joiner
+abbrev emoji_before : After → After → ℕ × After
+emoji_before begins afters.Joiner = (0, begins)
+emoji_before begins _ = (2, begins)
+
+-- the steps of both
+emoji : (c : ℕ) (begins after : After) → IsHigh c → is_in_range 0x1F1E6 0x1F1FF c ≡ false → IsPlainly c after → alone false c ≡ (2, state_of begins) → ((total : ℕ) → step false c (total, before states.ZwjEmoji) ≡ (total + 0, state_of begins)) → IsStep c after (emoji_before begins after)
+emoji c begins afters.Other high apart is own joined = λ total. by_own c total _ _ (plain_step c total high) own
+emoji c begins afters.Emoji high apart is own joined = λ total. by_own c total _ _ (emoji_step c total high) own
+emoji c begins afters.Modifier high apart is own joined = λ total. by_own c total _ _ (modifier_step c total high is) own
+emoji c begins afters.Selector high apart is own joined = λ total. by_own c total _ _ (selector_step c total high is) own
+emoji c begins afters.Joiner high apart is own joined = joined
+emoji c begins afters.Indicator high apart is own joined = λ total. by_own c total _ _ (indicator_step c total high apart) own
+emoji c begins afters.Indicators high apart is own joined = λ total. by_own c total _ _ (indicators_step c total high apart) own
+
 pictograph : (c : ℕ) (after : After) → is_pictograph c ≡ true → IsPlainly c after → IfSome (add_before parts.Pictograph after) (IsStep c after)
-pictograph c after h is = all after (grind (arith, nat_tests)) is
-  where
-    all : (after : After) → IsHigh c → IsPlainly c after → IfSome (add_before parts.Pictograph after) (IsStep c after)
-    all afters.Other high is = λ total. by_own c total _ _ (plain_step c total high) (pictograph_own c h)
-    all afters.Emoji high is = λ total. by_own c total _ _ (emoji_step c total high) (pictograph_own c h)
-    all afters.Modifier high is = λ total. by_own c total _ _ (modifier_step c total high is) (pictograph_own c h)
-    all afters.Selector high is = λ total. by_own c total _ _ (selector_step c total high is) (pictograph_own c h)
-    all afters.Joiner high is = λ total. joined_pictograph c total h
-    all afters.Indicator high is = λ total. by_own c total _ _ (indicator_step c total high (grind (arith, nat_tests))) (pictograph_own c h)
-    all afters.Indicators high is = λ total. by_own c total _ _ (indicators_step c total high (grind (arith, nat_tests))) (pictograph_own c h)
+pictograph c after h is =
+    let added : add_before parts.Pictograph after ≡ Some (emoji_before afters.Emoji after) = grind arith in
+    rw added (emoji c afters.Emoji after (grind (arith, nat_tests)) (grind (arith, nat_tests)) is (own Pictographs c (pictograph_in c h)) (λ total. joined_pictograph c total h))
+
+modifier : (c : ℕ) (after : After) → is_in_range 0x1F3FB 0x1F3FF c ≡ true → IsPlainly c after → IfSome (add_before parts.Modifier after) (IsStep c after)
+modifier c after h is =
+    let added : add_before parts.Modifier after ≡ Some (emoji_before afters.Modifier after) = grind arith in
+    rw added (emoji c afters.Modifier after (grind (arith, nat_tests)) (grind (arith, nat_tests)) is (own Modifiers c (modifier_in c h)) (λ total. joined_modifier c total h))
 
 indicator : (c : ℕ) (after : After) → is_in_range 0x1F1E6 0x1F1FF c ≡ true → IsPlainly c after → IfSome (add_before parts.Indicator after) (IsStep c after)
 indicator c after h is = all after (grind (arith, nat_tests)) is
@@ -189,18 +183,6 @@ indicator c after h is = all after (grind (arith, nat_tests)) is
     all afters.Joiner high is = tt
     all afters.Indicator high is = λ total. second_indicator c total h
     all afters.Indicators high is = λ total. later_indicator c total h
-
-modifier : (c : ℕ) (after : After) → is_in_range 0x1F3FB 0x1F3FF c ≡ true → IsPlainly c after → IfSome (add_before parts.Modifier after) (IsStep c after)
-modifier c after h is = all after (grind (arith, nat_tests)) is
-  where
-    all : (after : After) → IsHigh c → IsPlainly c after → IfSome (add_before parts.Modifier after) (IsStep c after)
-    all afters.Other high is = λ total. by_own c total _ _ (plain_step c total high) (modifier_own c h)
-    all afters.Emoji high is = λ total. by_own c total _ _ (emoji_step c total high) (modifier_own c h)
-    all afters.Modifier high is = λ total. by_own c total _ _ (modifier_step c total high is) (modifier_own c h)
-    all afters.Selector high is = λ total. by_own c total _ _ (selector_step c total high is) (modifier_own c h)
-    all afters.Joiner high is = λ total. joined_modifier c total h
-    all afters.Indicator high is = λ total. by_own c total _ _ (indicator_step c total high (grind (arith, nat_tests))) (modifier_own c h)
-    all afters.Indicators high is = λ total. by_own c total _ _ (indicators_step c total high (grind (arith, nat_tests))) (modifier_own c h)
 
 ascii : (c : ℕ) (after : After) → is_in_range 0x20 0x7E c ≡ true → IsPlainly c after → IfSome (add_before parts.Printable after) (IsStep c after)
 ascii c afters.Other h is = λ total. printable c total afters.Other h is

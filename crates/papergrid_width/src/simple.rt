@@ -2,7 +2,7 @@
 //! or none as marks do, whatever stands around them among such characters. Of these only the Arabic lam joins
 //! another: it has one column with the alef after it.
 
-ghost use Rattle.std.specs.Prelude.{◌≡◌, ℕ, ◌*◌, ◌<◌, ◌≤◌, ◌++◌, List, chars, encode_utf8, true, false, length, get_or, IfSome};
+ghost use Rattle.std.specs.Prelude.{◌≡◌, ℕ, ◌*◌, ◌-◌, ◌<◌, ◌≤◌, ◌++◌, List, chars, encode_utf8, true, false, length, get_or, IfSome};
 ghost use Rattle.std.specs.Int.{is_in_range};
 ghost use Rattle.std.specs.List.{prefix_len};
 ghost use Rattle.papergrid_width.specs.ForProofs.Simple.{IsPiece, IsPrintableFront, ReadsQuietly, BeginsWith, columns_of_brahmic, columns_of_three, is_alef, is_devanagari_mark, is_semitic_letter, is_thai_mark};
@@ -33,7 +33,7 @@ fn simple_width_past(text: &str, from: usize) -> Option<usize>
     if !has_printable_front(text, from) {
         return None;
     }
-    let rest = simple_width(&text[from..])?;
+    let rest = simple_width::<false>(&text[from..])?;
     Some(from + rest)
 }
 
@@ -47,16 +47,17 @@ fn has_printable_front(text: &str, count: usize) -> bool
     count <= text.len() && count_printable_bytes(&text.as_bytes()[..count]) == count
 }
 
-// The width of a text of simple characters, or `None` where it may have others.
+// The width of a text of simple characters, or `None` where it may have others. In a `LONG` text the printable
+// ASCII after a character is passed many bytes at a time.
 #[inline]
-fn simple_width(text: &str) -> Option<usize>
+fn simple_width<const LONG: bool>(text: &str) -> Option<usize>
     ensures value { IfSome result (λ width. ReadsQuietly text.now width) }
     ensures bound { IfSome result (λ width. width ≤ length text.now) }
 {
     let mut width = 0usize;
     let mut rest = text;
     while rest.len() > 0 {
-        let (columns, count) = first_columns(rest)?;
+        let (columns, count) = next_piece::<LONG>(rest)?;
         width += columns;
         rest = &rest[count..];
     }
@@ -69,14 +70,21 @@ pub fn long_simple_width(text: &str) -> Option<usize>
     ensures bound { IfSome result (λ width. width ≤ length text.now) }
 {
     let run = count_printable(text);
-    let mut width = run;
-    let mut rest = &text[run..];
-    while rest.len() > 0 {
-        let (columns, count) = first_piece(rest)?;
-        width += columns;
-        rest = &rest[count..];
+    let rest = simple_width::<true>(&text[run..])?;
+    Some(run + rest)
+}
+
+// The columns and the bytes of the first character, where it is simple, and of what is passed with it.
+#[inline(always)]
+fn next_piece<const LONG: bool>(text: &str) -> Option<(usize, usize)>
+    requires { 0 < length text.now }
+    ensures { IfSome result (λ first. IsPiece text.now first.0 first.1) }
+{
+    if LONG {
+        first_piece(text)
+    } else {
+        first_columns(text)
     }
-    Some(width)
 }
 
 // The columns and the bytes of the first character and of the printable ASCII after it, where that character
@@ -176,8 +184,16 @@ fn first_of_three(text: &str) -> u32
     ensures { (c : ℕ) (rest : List ℕ) → text.now ≡ encode_utf8 c ++ rest → result ≡ c }
 {
     let bytes = text.as_bytes();
-    let (a, b, c) = (bytes[0] as u32, bytes[1] as u32, bytes[2] as u32);
-    (a - 0xE0) * 4096 + (b - 0x80) * 64 + (c - 0x80)
+    let lead = bytes[0] as u32 - 0xE0;
+    lead * 4096 + continuation(bytes, 1) * 64 + continuation(bytes, 2)
+}
+
+// What a byte after the first adds to a character.
+fn continuation(bytes: &[u8], at: usize) -> u32
+    requires { 0x80 ≤ get_or bytes.now at 0 }
+    ensures { result ≡ get_or bytes.now at 0 - 0x80 }
+{
+    bytes[at] as u32 - 0x80
 }
 
 // The columns of a character of three bytes, where it is simple.
@@ -302,6 +318,5 @@ fn first_of_two(text: &str) -> u32
     ensures { (c : ℕ) (rest : List ℕ) → text.now ≡ encode_utf8 c ++ rest → result ≡ c }
 {
     let bytes = text.as_bytes();
-    let (a, b) = (bytes[0] as u32, bytes[1] as u32);
-    (a - 0xC0) * 64 + (b - 0x80)
+    (bytes[0] as u32 - 0xC0) * 64 + continuation(bytes, 1)
 }

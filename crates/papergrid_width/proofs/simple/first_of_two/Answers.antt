@@ -6,11 +6,8 @@ use Rattle.papergrid_width.proofs.simple.first_of_two.Goals as goal
 two : (text bytes : List ℕ) → IsUtf8 text → is_in_range 0xC2 0xDF (get_or text 0 0) ≡ true → bytes ≡ text → IsOfTwo bytes
 two text bytes utf8 h is = subst IsOfTwo (sym is) (is_of_two text utf8 h)
 
-pub bounds-bytes-1 : goal.bounds-bytes-1
-bounds-bytes-1 c = let t = two _ _ c.utf8.text c.requires c.as_bytes-bytes.ensures.value in omega (arith, t.long)
-
-pub overflow_sub-result-2 : goal.overflow_sub-result-2
-overflow_sub-result-2 c = let t = two _ _ c.utf8.text c.requires c.as_bytes-bytes.ensures.value in omega (arith, t.second)
+pub continuation-requires : goal.continuation-requires
+continuation-requires c = let t = two _ _ c.utf8.text c.requires c.as_bytes-bytes.ensures.value in omega (arith, t.bytes.second)
 
 pub returns : goal.returns
-returns c = λ first rest spelled. code_of_two c.as_bytes-bytes.result.now first rest (two _ _ c.utf8.text c.requires c.as_bytes-bytes.ensures.value) (c.as_bytes-bytes.ensures.value ∙ spelled)
+returns c = λ first rest spelled. code_of_two c.as_bytes-bytes.result.now first _ rest (two _ _ c.utf8.text c.requires c.as_bytes-bytes.ensures.value) c.continuation.ensures (c.as_bytes-bytes.ensures.value ∙ spelled)

@@ -1,49 +1,10 @@
-use Rattle.std.proofs.Common.{◌≡◌, ◌+◌, ℕ, subst, sym, ap, arith, length}
-use Rattle.std.proofs.lemmas.List.{nil_from_length, length-drop}
+use Rattle.std.proofs.Common.{subst}
 use Rattle.papergrid_width.specs.ForProofs.Simple.{ReadsQuietly}
-use Rattle.papergrid_width.proofs.SimpleLemmas.{cut_run, reads_run, reads_nothing}
+use Rattle.papergrid_width.proofs.SimpleLemmas.{cut_run, reads_run}
 use Rattle.papergrid_width.proofs.simple.long_simple_width.Goals as goal
 
-pub range_from-rest-requires : goal.range_from-rest-requires
-range_from-rest-requires c = λ some. cut_run c.args.text.now _ c.utf8.text c.count_printable-run.ensures
-
-pub loop-rest-init : goal.loop-rest-init
-loop-rest-init c =
-    let cut = cut_run c.args.text.now _ c.utf8.text c.count_printable-run.ensures in
-    let left = length-drop c.count_printable-run.result c.args.text.now in
-    let rest = ap length c.range_from-rest.ensures.value in
-    record {
-      text = c.range_from-rest.utf8;
-      reads = λ n quietly. reads_run c.args.text.now c.count_printable-run.result n c.count_printable-run.ensures (subst (λ bs. ReadsQuietly bs n) c.range_from-rest.ensures.value quietly);
-      room = omega (arith, cut.0);
-    }
-
-pub range_from-rest-requires-in-loop-rest : goal.range_from-rest-requires-in-loop-rest
-range_from-rest-requires-in-loop-rest c = λ some. c.in_ok-columns.ensures.boundary
-
-pub loop-rest-smaller : goal.loop-rest-smaller
-loop-rest-smaller c =
-    let piece = c.in_ok-columns.ensures in
-    let left = length-drop c.in_ok-columns.count c.loop-rest.rest.now in
-    let rest = ap length c.range_from-rest-in-loop-rest.ensures.value in
-    omega (arith, piece.boundary.0, piece.some)
-
-pub loop-rest-preserved : goal.loop-rest-preserved
-loop-rest-preserved c =
-    let piece = c.in_ok-columns.ensures in
-    let bound = piece.bound in
-    let room = c.loop-rest.invariant.room in
-    let left = length-drop c.in_ok-columns.count c.loop-rest.rest.now in
-    let rest = ap length c.range_from-rest-in-loop-rest.ensures.value in
-    let sum : (n : ℕ) → c.loop-rest.width + (c.in_ok-columns.columns + n) ≡ c.loop-rest.width + c.in_ok-columns.columns + n = λ n. omega arith in
-    record {
-      text = c.range_from-rest-in-loop-rest.utf8;
-      reads = λ n quietly. subst (ReadsQuietly c.args.text.now) (sum n) (c.loop-rest.invariant.reads _ (piece.reads n (subst (λ bs. ReadsQuietly bs n) c.range_from-rest-in-loop-rest.ensures.value quietly)));
-      room = omega (arith, piece.boundary.0);
-    }
+pub range_from-requires : goal.range_from-requires
+range_from-requires c = λ some. cut_run c.args.text.now _ c.utf8.text c.count_printable-run.ensures
 
 pub returns-clause-value : goal.returns-clause-value
-returns-clause-value c =
-    let none = nil_from_length c.loop-rest.rest.now (omega arith) in
-    let whole : c.loop-rest.width + 0 ≡ c.loop-rest.width = omega arith in
-    subst (ReadsQuietly c.args.text.now) whole (c.loop-rest.invariant.reads 0 (subst (λ bs. ReadsQuietly bs 0) (sym none) reads_nothing))
+returns-clause-value c = reads_run c.args.text.now _ _ c.count_printable-run.ensures (subst (λ bs. ReadsQuietly bs c.in_ok-rest.rest) c.range_from.ensures.value c.in_ok-rest.ensures.value)

@@ -5,17 +5,17 @@ use Rattle.papergrid_width.proofs.SimpleLemmas.{reads_nothing}
 use Rattle.papergrid_width.proofs.simple.simple_width.Goals as goal
 
 pub range_from-rest-requires : goal.range_from-rest-requires
-range_from-rest-requires c = λ some. c.in_ok-columns.ensures.boundary
+range_from-rest-requires g c = λ some. c.in_ok-columns.ensures.boundary
 
 pub loop-rest-smaller : goal.loop-rest-smaller
-loop-rest-smaller c =
+loop-rest-smaller g c =
     let piece = c.in_ok-columns.ensures in
     let left = length-drop c.in_ok-columns.count c.loop-rest.rest.now in
     let rest = ap length c.range_from-rest.ensures.value in
     omega (arith, piece.boundary.0, piece.some)
 
 pub loop-rest-preserved : goal.loop-rest-preserved
-loop-rest-preserved c =
+loop-rest-preserved g c =
     let piece = c.in_ok-columns.ensures in
     let bound = piece.bound in
     let room = c.loop-rest.invariant.room in
@@ -29,7 +29,7 @@ loop-rest-preserved c =
     }
 
 pub returns-clause-value : goal.returns-clause-value
-returns-clause-value c =
+returns-clause-value g c =
     let none = nil_from_length c.loop-rest.rest.now (omega arith) in
     let whole : c.loop-rest.width + 0 ≡ c.loop-rest.width = omega arith in
     subst (ReadsQuietly c.args.text.now) whole (c.loop-rest.invariant.reads 0 (subst (λ bs. ReadsQuietly bs 0) (sym none) reads_nothing))

@@ -1,0 +1,145 @@
+-- What all characters of some ranges are, as the tables tell.
+use Rattle.std.proofs.Common.{◌≡◌, ℕ, Bool, true, false, not, ◌&&◌, ◌||◌, List, [], ◌∷◌, refl, arith}
+use Rattle.std.proofs.lemmas.Bool.Decides.{nat_tests}
+use Rattle.ucd_table.specs.Rows.{Range, in_ranges}
+use Rattle.ucd_table.proofs.Facts.{Stepped-everywhere, always, ends_by}
+use Rattle.ucd_table.proofs.Stepped.{Stepped, of_ranges, zip_stepped}
+use Rattle.ucd_table.proofs.StepsLemmas.{range_rows, rises_from}
+use Rattle.unicode_width.specs.declared.kind.Kind.{Kind}
+use Rattle.unicode_width.specs.declared.kind.Kind.TheVariants as kinds
+use Rattle.unicode_width.specs.declared.state.After.TheVariants as states
+use Rattle.unicode_width.specs.declared.state.State.{State}
+use Rattle.unicode_width.specs.Kind.{kind}
+use Rattle.unicode_width.specs.Width.{alone, before, of_kind, plain}
+use Rattle.unicode_width.proofs.Computing.{unicode_width}
+use Rattle.unicode_width.proofs.KindLemmas.{kind_stepped}
+
+-- ---- a test of ranges
+
+-- each character of the ranges passes the test
+abbrev pub AllPass : List Range → (ℕ → Bool) → Type 0
+AllPass ranges test = (c : ℕ) → (not (in_ranges ranges c) || test c) ≡ true
+
+-- the ranges rise
+abbrev pub rise : List Range → Bool
+rise ranges = rises_from 0 (range_rows ranges)
+
+-- the steps of a test that is asked of the ranges alone
+abbrev pub within_stepped : (ranges : List Range) (test : ℕ → Bool) → rise ranges ≡ true → Stepped test → Stepped (λ c. not (in_ranges ranges c) || test c)
+within_stepped ranges test rising steps = zip_stepped (λ inside passes. not inside || passes) (in_ranges ranges) test (of_ranges ranges rising) steps
+
+-- each step passes, and so does what lies in none
+abbrev pub passes_by_steps : (test : ℕ → Bool) → Stepped test → Bool
+passes_by_steps test steps = always test steps && (ends_by 0x11_0000 steps.steps && steps.default)
+
+-- what the steps tell of the ranges
+pub all_pass : (ranges : List Range) (test : ℕ → Bool) (steps : Stepped test) (rising : rise ranges ≡ true) → passes_by_steps (λ c. not (in_ranges ranges c) || test c) (within_stepped ranges test rising steps) ≡ true → AllPass ranges test
+all_pass ranges test steps rising = Stepped-everywhere (λ c. not (in_ranges ranges c) || test c) (within_stepped ranges test rising steps)
+
+-- the test is passed in the ranges
+pub passes : (ranges : List Range) (test : ℕ → Bool) (c : ℕ) → AllPass ranges test → in_ranges ranges c ≡ true → test c ≡ true
+passes ranges test c all inside = let either = all c in grind (arith, nat_tests)
+
+-- ---- ranges of characters that are alike by themselves
+
+pub data Group : Type 0 where
+  Marks : Group
+  Ones : Group
+  Alefs : Group
+  Twos : Group
+  Pictographs : Group
+  Indicators : Group
+  Modifiers : Group
+
+-- their ranges, as far as simple characters and the parts go
+abbrev pub ranges_of : Group → List Range
+ranges_of Marks =
+    (0x300, 0x337) ∷ (0x339, 0x36F) ∷ (0x900, 0x902) ∷ (0x93A, 0x93A) ∷ (0x93C, 0x93C) ∷ (0x941, 0x948) ∷ (0x94D, 0x94D) ∷ (0x951, 0x957) ∷ (0x962, 0x963)
+    ∷ (0xE31, 0xE31) ∷ (0xE34, 0xE3A) ∷ (0xE47, 0xE4E) ∷ []
+ranges_of Ones =
+    (0xC0, 0x2FF) ∷ (0x370, 0x47F) ∷ (0x5D0, 0x5DB) ∷ (0x5DD, 0x5EA) ∷ (0x620, 0x621) ∷ (0x624, 0x624) ∷ (0x626, 0x626) ∷ (0x628, 0x64A)
+    ∷ (0x1E00, 0x1FFF) ∷ (0x2010, 0x2027) ∷ (0x2080, 0x20BF) ∷ (0x2100, 0x22FF) ∷ (0x2500, 0x25BF) ∷ []
+ranges_of Alefs = (0x622, 0x623) ∷ (0x625, 0x625) ∷ (0x627, 0x627) ∷ []
+ranges_of Twos = (0x3000, 0x3029) ∷ (0x3041, 0x3096) ∷ (0x30A0, 0x30FF) ∷ (0x3400, 0x9FFF) ∷ (0xAC00, 0xD77F) ∷ (0xFF01, 0xFF3F) ∷ []
+ranges_of Pictographs =
+    (0x1F337, 0x1F37C) ∷ (0x1F400, 0x1F43E) ∷ (0x1F442, 0x1F4FC) ∷ (0x1F5FB, 0x1F64F) ∷ (0x1F680, 0x1F6C5) ∷ (0x1F90C, 0x1F93A) ∷ (0x1F947, 0x1F9FF) ∷ []
+ranges_of Indicators = (0x1F1E6, 0x1F1FF) ∷ []
+ranges_of Modifiers = (0x1F3FB, 0x1F3FF) ∷ []
+
+-- their kinds
+abbrev pub has_kind : Group → Kind → Bool
+has_kind Marks kinds.Zero = true
+has_kind Ones kinds.Narrow = true
+has_kind Ones kinds.Ambiguous = true
+has_kind Alefs kinds.Alef = true
+has_kind Twos kinds.Wide = true
+has_kind Pictographs kinds.Emoji = true
+has_kind Indicators kinds.RegionalIndicator = true
+has_kind Modifiers kinds.EmojiModifier = true
+has_kind _ _ = false
+
+-- their columns, and what they are for the character before them
+abbrev pub own_of : Group → ℕ × State
+own_of Marks = (0, plain)
+own_of Ones = (1, plain)
+own_of Alefs = (1, before states.Alef)
+own_of Twos = (2, plain)
+own_of Pictographs = (2, before states.Emoji)
+own_of Indicators = (1, before states.RegionalIndicator)
+own_of Modifiers = (2, before states.EmojiModifier)
+
+-- each character of the group's ranges has a kind of the group
+abbrev AllHaveKind : Group → Type 0
+AllHaveKind group = AllPass (ranges_of group) (λ c. has_kind group (kind c))
+
+-- the steps of that
+abbrev kind_stepped_in : (group : Group) → rise (ranges_of group) ≡ true → Stepped (λ c. not (in_ranges (ranges_of group) c) || has_kind group (kind c))
+kind_stepped_in group rising = zip_stepped (λ inside k. not inside || has_kind group k) (in_ranges (ranges_of group)) kind (of_ranges (ranges_of group) rising) kind_stepped
+
+-- what the steps tell of a group
+by_steps : (group : Group) (rising : rise (ranges_of group) ≡ true) → passes_by_steps (λ c. not (in_ranges (ranges_of group) c) || has_kind group (kind c)) (kind_stepped_in group rising) ≡ true → AllHaveKind group
+by_steps group rising = Stepped-everywhere (λ c. not (in_ranges (ranges_of group) c) || has_kind group (kind c)) (kind_stepped_in group rising)
+
+-- a computation by itself, so that none is too long
+pictographs_have_kind : AllHaveKind Pictographs
+unfolding unicode_width
+pictographs_have_kind = by_steps Pictographs refl refl
+
+-- the same of those of two columns
+twos_have_kind : AllHaveKind Twos
+unfolding unicode_width
+twos_have_kind = by_steps Twos refl refl
+
+-- the same of every group
+all_have_kind : (group : Group) → AllHaveKind group
+unfolding unicode_width
+all_have_kind Marks = by_steps Marks refl refl
+all_have_kind Ones = by_steps Ones refl refl
+all_have_kind Alefs = by_steps Alefs refl refl
+all_have_kind Twos = twos_have_kind
+all_have_kind Pictographs = pictographs_have_kind
+all_have_kind Indicators = by_steps Indicators refl refl
+all_have_kind Modifiers = by_steps Modifiers refl refl
+
+-- a character of the ranges has a kind of its group
+pub kind_in : (group : Group) (c : ℕ) → in_ranges (ranges_of group) c ≡ true → has_kind group (kind c) ≡ true
+kind_in group c = passes (ranges_of group) (λ c. has_kind group (kind c)) c (all_have_kind group)
+
+-- what a kind of the group adds
+pub own_by_kind : (group : Group) (c : ℕ) (k : Kind) → has_kind group k ≡ true → of_kind false c k ≡ own_of group
+own_by_kind Marks c k h = grind arith
+own_by_kind Ones c k h = grind arith
+own_by_kind Alefs c k h = grind arith
+own_by_kind Twos c k h = grind arith
+own_by_kind Pictographs c k h = grind arith
+own_by_kind Indicators c k h = grind arith
+own_by_kind Modifiers c k h = grind arith
+
+-- what a character of such a kind adds
+pub own_alone : (group : Group) (c : ℕ) → has_kind group (kind c) ≡ true → alone false c ≡ own_of group
+unfolding alone
+own_alone group c h = own_by_kind group c (kind c) h
+
+-- what a character of the ranges adds
+pub own : (group : Group) (c : ℕ) → in_ranges (ranges_of group) c ≡ true → alone false c ≡ own_of group
+own group c inside = own_alone group c (kind_in group c inside)
