@@ -175,11 +175,10 @@ fn written_colours(rt: HostRuntime) -> Result<(), Fail> {
     let alloc = rt.alloc();
     let lent = ANSIStr::new("<", ">");
     let color = ANSIBuf::new(alloc, "<", ">")?;
-    let (of_lent, of_color) = (written(alloc, &lent)?, written(alloc, &color)?);
     for text in [
-        of_lent,
-        of_color,
+        written(alloc, &lent)?,
         written(alloc, lent)?,
+        written(alloc, &color)?,
         written(alloc, color)?,
     ] {
         assert_eq!(rt; text.as_str(), "<|>");
