@@ -9,7 +9,7 @@ ghost use Rattle.papergrid.specs.Estimates.{estimate_by};
 ghost use Rattle.papergrid.specs.ForProofs.Seen.{GivesEstimate, IsCertifiedBy, total_along};
 
 use papergrid_config::SpannedConfig;
-use papergrid_layout::LayoutError;
+use papergrid_layout::Found;
 use papergrid_layout::certificates::{Certified, certified_least, certified_sizes};
 use papergrid_text::{IntoRecords, Records};
 use std::alloc::Global;
@@ -41,55 +41,45 @@ pub struct Sizes {
 ///
 /// `OutOfTable` with the first visible cell that reaches out, else `TooLarge` where a total is more than the
 /// greatest `usize`; `Memory` in place of any answer.
-pub fn estimate<R>(
-    alloc: Global,
-    sizing: Sizing,
-    records: R,
-    config: &SpannedConfig,
-) -> Result<Sizes, LayoutError>
+pub fn estimate<R>(alloc: Global, sizing: Sizing, records: R, cfg: &SpannedConfig) -> Found<Sizes>
 where
     R: Records + Drop,
     <<R as Records>::Iter as IntoRecords>::Cell: AsStr + Drop,
     requires { R.is_lawful records }
     ensures { GivesEstimate result (λ answer. (cells : List (List R.Iter.Cell)) × R.tells records cells
-        × (answer ≡ estimate_by sizing (spanned_look config.now) (line_measure R.Iter.Cell.text) (R.columns records) cells)) }
+        × (answer ≡ estimate_by sizing (spanned_look cfg.now) (line_measure R.Iter.Cell.text) (R.columns records) cells)) }
 {
-    match certified_by(alloc, sizing, records, config) {
-        Ok(certified) => Ok(with_totals(certified, config)),
+    match certify(alloc, sizing, records, cfg) {
+        Ok(certified) => Ok(with_totals(certified, cfg)),
         Err(error) => Err(error),
     }
 }
 
 /// The sizes that are chosen so, with the cells that certify them.
-fn certified_by<R>(
-    alloc: Global,
-    sizing: Sizing,
-    records: R,
-    config: &SpannedConfig,
-) -> Result<Certified, LayoutError>
+fn certify<R>(alloc: Global, sizing: Sizing, records: R, cfg: &SpannedConfig) -> Found<Certified>
 where
     R: Records + Drop,
     <<R as Records>::Iter as IntoRecords>::Cell: AsStr + Drop,
     requires { R.is_lawful records }
     ensures { UnlessMemory result ((cells : List (List R.Iter.Cell)) × R.tells records cells
-        × IsCertifiedBy sizing (spanned_look config.now) (line_measure R.Iter.Cell.text) (R.columns records) cells result) }
+        × IsCertifiedBy sizing (spanned_look cfg.now) (line_measure R.Iter.Cell.text) (R.columns records) cells result) }
 {
     match sizing {
-        Sizing::ByShares => certified_sizes(alloc, records, config),
-        Sizing::Least => certified_least(alloc, records, config),
+        Sizing::ByShares => certified_sizes(alloc, records, cfg),
+        Sizing::Least => certified_least(alloc, records, cfg),
     }
 }
 
 /// The sizes, with the totals by the lines of the configuration.
-fn with_totals(certified: Certified, config: &SpannedConfig) -> Sizes
-    requires width { total_along Columns (spanned_look config.now) (length certified.widths.items) certified.widths.items < 2 ^ 64 }
-    requires height { total_along Rows (spanned_look config.now) (length certified.heights.items) certified.heights.items < 2 ^ 64 }
+fn with_totals(certified: Certified, cfg: &SpannedConfig) -> Sizes
+    requires width { total_along Columns (spanned_look cfg.now) (length certified.widths.items) certified.widths.items < 2 ^ 64 }
+    requires height { total_along Rows (spanned_look cfg.now) (length certified.heights.items) certified.heights.items < 2 ^ 64 }
     ensures certified { result.certified ≡ certified }
-    ensures total_width { result.total_width ≡ total_along Columns (spanned_look config.now) (length certified.widths.items) certified.widths.items }
-    ensures total_height { result.total_height ≡ total_along Rows (spanned_look config.now) (length certified.heights.items) certified.heights.items }
+    ensures total_width { result.total_width ≡ total_along Columns (spanned_look cfg.now) (length certified.widths.items) certified.widths.items }
+    ensures total_height { result.total_height ≡ total_along Rows (spanned_look cfg.now) (length certified.heights.items) certified.heights.items }
 {
-    let vertical = config.count_vertical(certified.widths.len());
-    let horizontal = config.count_horizontal(certified.heights.len());
+    let vertical = cfg.count_vertical(certified.widths.len());
+    let horizontal = cfg.count_horizontal(certified.heights.len());
     let total_width = total(&certified.widths, vertical);
     let total_height = total(&certified.heights, horizontal);
     Sizes {

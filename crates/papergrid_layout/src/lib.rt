@@ -25,7 +25,7 @@ pub use compact::CompactGridDimension;
 pub use dimension::{Dimension, Estimate};
 pub use iterable::IterGridDimension;
 pub use least::LeastGridDimension;
-pub use papergrid_axis::LayoutError;
+pub use papergrid_axis::{Found, LayoutError};
 pub use peekable::PeekableGridDimension;
 pub use placed::place;
 pub use placement::{Place, PlaceError};

@@ -1,4 +1,4 @@
-use Rattle.papergrid.proofs.estimate.certified_by.Goals as goal
+use Rattle.papergrid.proofs.estimate.certify.Goals as goal
 
 pub returns-in-ByShares : goal.returns-in-ByShares
 returns-in-ByShares g c = rw c.in-ByShares.is c.certified_sizes.ensures
