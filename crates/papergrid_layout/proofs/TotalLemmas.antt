@@ -18,7 +18,7 @@ use Rattle.papergrid_walk.specs.Looks.{Look}
 -- sizes, one for each column (row) of a problem whose lines are drawn so
 module _ (draws : ℕ → ℕ → Bool) (problem : Problem) (drawn : problem.line ≡ draws problem.count) (sizes : List ℕ) (one_each : length sizes ≡ problem.count) where
   -- their sum with all lines
-  with_lines : ℕ
+  abbrev with_lines : ℕ
   with_lines = sum sizes + all_lines (draws (length sizes)) (length sizes)
 
   as_total : with_lines ≡ total_of problem sizes

@@ -206,15 +206,13 @@ where
     ensures { UnlessMemory result ((cells : List (List R.Iter.Cell)) × R.tells records cells
         × IsCertified (spanned_look config.now) (line_measure R.Iter.Cell.text) (R.columns records) cells result) }
 {
-    match solve_both::<CertifiedSizes, ByLines, _, _>(alloc, records, config) {
-        Ok((across, down)) => Ok(Certified {
-            widths: across.sizes,
-            heights: down.sizes,
-            width_witness: across.witness,
-            height_witness: down.witness,
-        }),
-        Err(refused) => Err(refused),
-    }
+    let (across, down) = solve_both::<CertifiedSizes, ByLines, _, _>(alloc, records, config)?;
+    Ok(Certified {
+        widths: across.sizes,
+        heights: down.sizes,
+        width_witness: across.witness,
+        height_witness: down.witness,
+    })
 }
 
 /// The sizes that `LeastGridDimension` estimates, and the cells that `width_certificate` and
@@ -237,13 +235,11 @@ where
     ensures { UnlessMemory result ((cells : List (List R.Iter.Cell)) × R.tells records cells
         × IsCertifiedLeast (spanned_look config.now) (line_measure R.Iter.Cell.text) (R.columns records) cells result) }
 {
-    match solve_both::<CertifiedLeast, ByLines, _, _>(alloc, records, config) {
-        Ok((across, down)) => Ok(Certified {
-            widths: across.sizes,
-            heights: down.sizes,
-            width_witness: Some(across.places),
-            height_witness: Some(down.places),
-        }),
-        Err(refused) => Err(refused),
-    }
+    let (across, down) = solve_both::<CertifiedLeast, ByLines, _, _>(alloc, records, config)?;
+    Ok(Certified {
+        widths: across.sizes,
+        heights: down.sizes,
+        width_witness: Some(across.places),
+        height_witness: Some(down.places),
+    })
 }

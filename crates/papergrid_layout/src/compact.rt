@@ -159,12 +159,8 @@ where
         (R.columns records) cells Columns) error) };
 
     fn estimate(&mut self, records: R, config: &CompactConfig) -> Result<(), LayoutError> {
-        match CompactGridDimension::width(self.alloc, records, config) {
-            Ok(widths) => {
-                self.widths = SizeList::of(widths);
-                Ok(())
-            }
-            Err(refused) => Err(refused),
-        }
+        let widths = CompactGridDimension::width(self.alloc, records, config)?;
+        self.widths = SizeList::of(widths);
+        Ok(())
     }
 }

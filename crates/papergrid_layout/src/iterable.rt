@@ -210,10 +210,9 @@ where
         × IsBothRefused (spanned_look config) (line_measure R.Iter.Cell.text) (R.columns records) cells error) };
 
     fn estimate(&mut self, records: R, config: &SpannedConfig) -> Result<(), LayoutError> {
-        let (widths, heights) =
-            solve_both::<Vec<usize>, ByLines, _, _>(self.alloc, records, config)?;
-        self.widths = SizeList::of(widths);
-        self.heights = SizeList::of(heights);
+        let both = solve_both::<Vec<usize>, ByLines, _, _>(self.alloc, records, config)?;
+        self.widths = SizeList::of(both.0);
+        self.heights = SizeList::of(both.1);
         Ok(())
     }
 }

@@ -189,10 +189,8 @@ where
         × LeastAnswers IsLeastTotal (problem_of (spanned_look config.now) (line_measure R.Iter.Cell.text)
         (R.columns records) cells direction) result) }
 {
-    match sizes_along(alloc, records, config, direction) {
-        Ok(sizes) => Ok(with_lines(config, direction, &sizes)),
-        Err(error) => Err(error),
-    }
+    let sizes = sizes_along(alloc, records, config, direction)?;
+    Ok(with_lines(config, direction, &sizes))
 }
 
 impl Dimension for LeastGridDimension {
@@ -233,13 +231,9 @@ where
         × HaveNoLeast (spanned_look config) (line_measure R.Iter.Cell.text) (R.columns records) cells error) };
 
     fn estimate(&mut self, records: R, config: &SpannedConfig) -> Result<(), LayoutError> {
-        match solve_both::<LeastSizes, ByLines, _, _>(self.alloc, records, config) {
-            Ok((across, down)) => {
-                self.widths = SizeList::of(across.sizes);
-                self.heights = SizeList::of(down.sizes);
-                Ok(())
-            }
-            Err(refused) => Err(refused),
-        }
+        let both = solve_both::<LeastSizes, ByLines, _, _>(self.alloc, records, config)?;
+        self.widths = SizeList::of(both.0.sizes);
+        self.heights = SizeList::of(both.1.sizes);
+        Ok(())
     }
 }

@@ -165,13 +165,9 @@ where
         × IsBothRefused (spanned_look config) (cell_measure R.Iter.Cell.width R.Iter.Cell.lines) (R.columns records) cells error) };
 
     fn estimate(&mut self, records: R, config: &SpannedConfig) -> Result<(), LayoutError> {
-        match solve_both::<Vec<usize>, ByCell, _, _>(self.alloc, records, config) {
-            Ok((widths, heights)) => {
-                self.widths = SizeList::of(widths);
-                self.heights = SizeList::of(heights);
-                Ok(())
-            }
-            Err(refused) => Err(refused),
-        }
+        let both = solve_both::<Vec<usize>, ByCell, _, _>(self.alloc, records, config)?;
+        self.widths = SizeList::of(both.0);
+        self.heights = SizeList::of(both.1);
+        Ok(())
     }
 }
