@@ -158,14 +158,7 @@ taken-others n limit ds = spans-others limit ds 2 (n - 1) (omega arith)
 pub table-others : (n limit : ℕ) (ds : List Demand) → All (IsInTable n) ds → All (IsInTable n) (others limit ds)
 table-others n limit ds table = All-filter (λ d. not (is_single limit d)) (IsInTable n) ds table
 
--- ---- what is kept by number
-
--- cells that need nothing stand for none
-pub get_or-padded : (ds : List Demand) (k : ℕ) → get_or (ds ++ no_demand ∷ []) k no_demand ≡ get_or ds k no_demand
-get_or-padded [] zero = refl
-get_or-padded [] (suc k) = refl
-get_or-padded (d ∷ ds) zero = refl
-get_or-padded (d ∷ ds) (suc k) = get_or-padded ds k
+-- ---- one cell more
 
 -- a cell that covers a number alone and needs no more than the one that is kept there changes nothing
 pub kept_for-met : (singles : List Demand) (d : Demand) → d.need ≤ (get_or singles d.start no_demand).need → (k : ℕ) →
@@ -177,8 +170,6 @@ kept_for-met singles d met k = elim (cases_Bool (eqb d.span 1 && eqb d.start k))
       rw (t, le-ltb (get_or singles k no_demand).need d.need enough) refl
   | inr f ↦ rw f refl
 ]
-
--- ---- one cell more
 
 others-more : (limit : ℕ) (ds : List Demand) (d : Demand) → others limit (ds ++ d ∷ []) ≡ others limit ds ++ others limit (d ∷ [])
 others-more limit ds d = filter-append (λ d. not (is_single limit d)) ds (d ∷ [])

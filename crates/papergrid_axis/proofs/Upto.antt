@@ -17,13 +17,6 @@ upto-ext f g (suc n) h =
     let e' : f n ≡ g n = h n (omega arith) in
     omega arith
 
-pub upto-le : (f g : ℕ → ℕ) (n : ℕ) → ((i : ℕ) → i < n → f i ≤ g i) → upto f n ≤ upto g n
-upto-le f g zero h = omega arith
-upto-le f g (suc n) h =
-    let e : upto f n ≤ upto g n = upto-le f g n (λ i l. h i (omega arith)) in
-    let e' : f n ≤ g n = h n (omega arith) in
-    omega arith
-
 pub upto-zero : (f : ℕ → ℕ) (n : ℕ) → ((i : ℕ) → i < n → f i ≡ 0) → upto f n ≡ 0
 upto-zero f zero h = refl
 upto-zero f (suc n) h =

@@ -1,5 +1,5 @@
 -- The longest way, from what was settled.
-use Rattle.std.proofs.Common.{◌≡◌, ℕ, suc, Bool, ◌&&◌, ◌==◌, ◌+◌, ◌-◌, ◌<◌, ◌≤◌, ◌∙◌, true, false, inl, inr, List, [], ◌∷◌, ◌++◌, length, get_or, map, refl, sym, ap, subst, arith, eq-eqb, ne_eqb, Option, Some, None}
+use Rattle.std.proofs.Common.{◌≡◌, ℕ, Bool, ◌&&◌, ◌==◌, ◌+◌, ◌-◌, ◌<◌, ◌≤◌, ◌∙◌, true, false, inl, inr, List, [], ◌∷◌, ◌++◌, length, get_or, map, refl, sym, ap, subst, arith, eq-eqb, ne_eqb, Option, Some, None}
 use Rattle.std.specs.Prelude.{All, Contains, find, not, reverse, unwrap_or}
 use Rattle.std.proofs.lemmas.Bool.{and_parts, cases_eq, cases_lt}
 use Rattle.std.proofs.lemmas.List.{get_or_past, map-append, reverse-append}
@@ -21,7 +21,7 @@ use Rattle.papergrid_least.specs.Edges.{AreEdges, asked}
 use Rattle.papergrid_least.specs.Longest.{longest, pushers as way}
 use Rattle.papergrid_least.specs.ForProofs.Followed.{followed, kept_longer, kept_single, pushes_by}
 use Rattle.papergrid_least.specs.ForProofs.Settled.{AreSettled}
-use Rattle.papergrid_least.proofs.EarliestLemmas.{AreEdges-earliest, earliest-rises}
+use Rattle.papergrid_least.proofs.EarliestLemmas.{AreEdges-earliest}
 use Rattle.papergrid_least.proofs.PermutedLemmas.{table-wider}
 use Rattle.papergrid_least.proofs.PusherLemmas.{followed-is}
 
@@ -92,15 +92,6 @@ module _ (problem : Problem) (seen : Seen) (is : IsSeen problem.count seen probl
           let a : edge d.start ≡ earliest (asked problem.line) problem.demands d.start = are.earliest d.start (omega arith) in
           let b : edge (end_of d) ≡ earliest (asked problem.line) problem.demands (end_of d) = are.earliest (end_of d) within in
           omega arith
-
-  pub rise-edges : (i : ℕ) → i + 1 < length settled.limits.earliest.items → edge i ≤ edge (i + 1)
-  rise-edges i l =
-      let many : length settled.limits.earliest.items ≡ problem.count + 1 = are.many in
-      let a : edge i ≡ earliest (asked problem.line) problem.demands i = are.earliest i (omega arith) in
-      let b : edge (i + 1) ≡ earliest (asked problem.line) problem.demands (i + 1) = are.earliest (i + 1) (omega arith) in
-      let c : earliest (asked problem.line) problem.demands i ≤ earliest (asked problem.line) problem.demands (suc i) = earliest-rises (asked problem.line) problem.demands i in
-      let e : earliest (asked problem.line) problem.demands (i + 1) ≡ earliest (asked problem.line) problem.demands (suc i) = ap (earliest (asked problem.line) problem.demands) (let s : i + 1 ≡ suc i = omega arith in s) in
-      omega arith
 
   pub alone-edges : (i : ℕ) → i + 1 < length settled.limits.earliest.items → (kept_single seen.singles.items i).start ≤ i
   alone-edges i l =

@@ -6,9 +6,3 @@ use Rattle.papergrid_axis.proofs.settled.refusal.Goals as goal
 pub returns-in-Some-clause-refused : goal.returns-in-Some-clause-refused
 returns-in-Some-clause-refused c = λ line demands seen.
     out_seen c.args.count c.args.seen.now demands seen ∙ ap (first_out c.args.count) (sym c.deref.ensures.value) ∙ sym c.find_out.ensures ∙ c.in-Some.is
-
-pub returns-then-seen-clause-refused : goal.returns-then-seen-clause-refused
-returns-then-seen-clause-refused c = λ line demands seen. record {
-  inside = ap (first_out c.args.count) (sym c.deref.ensures.value) ∙ sym c.find_out.ensures ∙ c.in_default.is;
-  is_large = c.if-seen.true;
-}

@@ -1,16 +1,7 @@
 use Rattle.std.proofs.Common.{rules, ℕ, ◌≤◌, length, arith}
 use Rattle.papergrid_least.specs.ForProofs.Laid.{AreLaid}
-use Rattle.papergrid_least.proofs.LaidLemmas.{LaidTo-cell, below-whole, no_cell, past-cell}
+use Rattle.papergrid_least.proofs.LaidLemmas.{LaidTo-cell, below-whole, past-cell}
 use Rattle.papergrid_least.proofs.edges.lay_earliest.Goals as goal
-
-pub lay-requires-clause-ordered : goal.lay-requires-clause-ordered
-lay-requires-clause-ordered c = c.loop-cell.invariant.later c.loop-cell.cell-index no_cell (omega arith) c.loop-cell-test.true
-
-pub returns-in_err-lay-clause-too_large : goal.returns-in_err-lay-clause-too_large
-returns-in_err-lay-clause-too_large c =
-    let large : (edge : ℕ → ℕ) → AreLaid c.args.base.now c.args.cells.now edge → 18446744073709551616 ≤ edge (length c.args.base.now) =
-    λ edge are. c.in_err-lay.ensures.too_large edge (c.loop-cell.invariant.below edge are c.loop-cell.laid (omega arith)) (λ i from l. are.steps i (omega arith) l) in
-    search rules
 
 pub returns-in_err-checked_add-clause-too_large : goal.returns-in_err-checked_add-clause-too_large
 returns-in_err-checked_add-clause-too_large c =

@@ -4,7 +4,7 @@ use Rattle.papergrid_axis.specs.ForProofs.Settled.{line_at}
 use Rattle.papergrid_least.specs.Edges.{asked}
 use Rattle.papergrid_least.specs.ForProofs.Followed.{pushes_by}
 use Rattle.std.proofs.lemmas.List.{with_items_is}
-use Rattle.papergrid_least.proofs.WayLemmas.{alone-edges, apart-edges, ends-edges, longest-met, rise-edges, starts-edges, table-lines}
+use Rattle.papergrid_least.proofs.WayLemmas.{alone-edges, apart-edges, ends-edges, longest-met, starts-edges, table-lines}
 use Rattle.papergrid_least.proofs.least.longest_places.Goals as goal
 
 pub mark_pushers-requires-clause-table : goal.mark_pushers-requires-clause-table
@@ -19,9 +19,6 @@ mark_pushers-requires-clause-ends c =
 pub mark_pushers-requires-clause-apart : goal.mark_pushers-requires-clause-apart
 mark_pushers-requires-clause-apart c =
     rw (c.deref.ensures.value, c.deref-2.ensures.value) (apart-edges c.requires.settled.0 c.args.seen.now c.requires.settled.1 c.requires.small c.args.settled.now c.requires.settled.2)
-
-pub follow-requires-clause-rise : goal.follow-requires-clause-rise
-follow-requires-clause-rise c = rw c.deref-3.ensures.value (rise-edges c.requires.settled.0 c.args.seen.now c.requires.settled.1 c.requires.small c.args.settled.now c.requires.settled.2)
 
 pub follow-requires-clause-alone : goal.follow-requires-clause-alone
 follow-requires-clause-alone c =

@@ -11,11 +11,8 @@ use Rattle.papergrid_axis.proofs.LoopLemmas.{all_lines-drawn}
 use Rattle.papergrid_least.specs.Edges.{asked}
 use Rattle.papergrid_least.specs.ForProofs.Laid.{AreLaid, carrying}
 use Rattle.papergrid_least.specs.ForProofs.Limits.{IsEarliest, IsLatest, Refuses}
-use Rattle.papergrid_least.proofs.PermutedLemmas.{AreLaid-permuted, IsEarliest-unpermuted, IsLatest-unpermuted, Refuses-weaker, ends-fit, table-carrying, table-wider}
+use Rattle.papergrid_least.proofs.PermutedLemmas.{AreLaid-permuted, IsEarliest-unpermuted, IsLatest-unpermuted, Refuses-weaker, ends-fit, table-carrying}
 use Rattle.papergrid_least.proofs.limits.limits_of.Goals as goal
-
-pub all_asking-requires : goal.all_asking-requires
-all_asking-requires c = table-wider (length c.args.base.now) (length c.args.lines.now) c.args.cells.now (omega arith) c.requires.table
 
 pub sort_by_end-requires : goal.sort_by_end-requires
 sort_by_end-requires c =
