@@ -15,7 +15,7 @@ use Rattle.papergrid_walk.specs.Looks.{Look}
 use Rattle.papergrid_layout.specs.Answers.{IsBothRefusedWhere, UnlessMemoryError, first_out_of_table, reaches_out}
 use Rattle.papergrid_layout.specs.Witnesses.{AreCertifiedWhere}
 use Rattle.papergrid_layout.specs.declared.certificates.Certified.{Certified}
-use Rattle.papergrid_layout.proofs.Told.{demands_told, problem_told, witness_is}
+use Rattle.papergrid_layout.proofs.Told.{first_told, problem_told, witness_is}
 use Rattle.papergrid_layout.proofs.PairLemmas.{none_reaches_out}
 use Rattle.papergrid.specs.declared.estimate.Sizes.{Sizes}
 use Rattle.papergrid.specs.declared.estimate.Sizing.{Sizing}
@@ -67,16 +67,6 @@ found_witness Least problem None is = absurd is
 found_witness Least problem (Some places) longest = ap Some longest.exact
 
 module _ {C : Type 0} (look : Look) (measure : C → ℕ × ℕ) (columns : ℕ) (cells : List (List C)) where
-  -- ---- the first cell out of the table
-
-  places_among : (xs : List (Position × C)) → map (λ x. x.0) xs ≡ map place_of (map (asked Columns look measure) xs)
-  places_among [] = refl
-  places_among (x ∷ xs) = ap (λ ps. x.0 ∷ ps) (places_among xs)
-
-  -- by what the cells ask for alone
-  first_by_demands : first_out_of_table look measure columns cells ≡ find (reaches_out look measure columns cells) (map place_of (demands_of Columns look measure cells))
-  first_by_demands = ap (find (reaches_out look measure columns cells)) (places_among (visible_cells look cells))
-
   module _ (sizing : Sizing) where
     -- ---- the answers
 
@@ -130,22 +120,13 @@ module _ {C : Type 0} (look : Look) (measure : C → ℕ × ℕ) (columns : ℕ)
 
 -- cells that are seen through a view
 module _ {A B : Type 0} (look : Look) (v : A → B) (f : B → ℕ × ℕ) (columns : ℕ) (cells : List (List A)) (rows : List (List B)) (same : map (map v) cells ≡ rows) where
-  as_many : length cells ≡ length rows
-  as_many = sym (length-map cells (map v)) ∙ ap length same
-
-  first_told : first_out_of_table look (λ x. f (v x)) columns cells ≡ first_out_of_table look f columns rows
-  first_told =
-      let wide = demands_told look v f cells rows same Columns in
-      first_by_demands look (λ x. f (v x)) columns cells
-      ∙ (λ i. find (λ p. nat_lt columns (p.col + look.span Columns p) || nat_lt (as_many i) (p.row + look.span Rows p)) (map place_of (wide i)))
-      ∙ sym (first_by_demands look f columns rows)
-
   pub estimate_told : (sizing : Sizing) → estimate_by sizing look (λ x. f (v x)) columns cells ≡ estimate_by sizing look f columns rows
   unfolding estimate_by
   estimate_told sizing =
       let wide = problem_told look v f cells rows same Columns columns in
       let high = problem_told look v f cells rows same Rows columns in
-      λ i. unless_out (first_told i) (totalled sizing (wide i) (high i))
+      let first = first_told look v f cells rows same columns in
+      λ i. unless_out (first i) (totalled sizing (wide i) (high i))
 
 -- ---- results
 

@@ -20,6 +20,7 @@ use Rattle.papergrid_config.specs.Told.{IsTold}
 use Rattle.papergrid_config.specs.declared.setting.Setting.{Setting}
 use Rattle.papergrid_config.specs.declared.spanned.SpannedConfig.{SpannedConfig}
 use Rattle.papergrid_walk.specs.Looks.{Look, line_along, size_after, size_before, span_along, spanned_look}
+use Rattle.papergrid_walk.proofs.LookLemmas.{same_look_by}
 use Rattle.papergrid_layout.specs.Answers.{UnlessMemory, UnlessMemoryError}
 use Rattle.papergrid.specs.Looks.{look_of}
 
@@ -29,13 +30,7 @@ look_told settings config told =
     let spans_same = told_spans (flat_map span_calls settings) config.spans told.spans in
     let lines_same = told_borders (flat_map character_calls settings) config.characters told.characters in
     let padding_same : (p : Position) → held_value config.padding p ≡ decided.padding settings p = λ p. held_decided _ _ _ told.padding p in
-    λ i. record {
-      shows = is_visible (spans_same i);
-      span = span_along (spans_same i);
-      before = λ direction p. size_before direction (padding_same p i);
-      after = λ direction p. size_after direction (padding_same p i);
-      draws = line_along (lines_same i);
-    }
+    same_look_by spans_same padding_same lines_same
 
 -- ---- spans are 1 or more
 
@@ -70,3 +65,10 @@ answer_read {C = C} Tells holds look other same (Ok x) ok err = subst (λ l. (ce
 answer_read {C = C} Tells holds look other same (Err (OutOfTable place)) ok err = subst (λ l. (cells : List (List C)) × Tells cells × holds l cells (Err (OutOfTable place))) same err
 answer_read {C = C} Tells holds look other same (Err TooLarge) ok err = subst (λ l. (cells : List (List C)) × Tells cells × holds l cells (Err TooLarge)) same err
 answer_read Tells holds look other same (Err (Memory e)) ok err = tt
+
+-- what holds of a result by a configuration holds of it by the settings that this is told
+pub settings_read : {A C : Type 0} (Tells : List (List C) → Type 0) (holds : Look → List (List C) → Result A LayoutError → Type 0) (settings : List Setting) (config : SpannedConfig) → IsTold settings config → (result : Result A LayoutError)
+    → IfOk result (λ x. (cells : List (List C)) × Tells cells × holds (spanned_look config) cells (Ok x))
+    → IfErr result (λ e. UnlessMemoryError e ((cells : List (List C)) × Tells cells × holds (spanned_look config) cells (Err e)))
+    → UnlessMemory result ((cells : List (List C)) × Tells cells × holds (look_of settings) cells result)
+settings_read Tells holds settings config told = answer_read Tells holds (spanned_look config) (look_of settings) (look_told settings config told)

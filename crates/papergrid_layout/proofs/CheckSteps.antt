@@ -1,5 +1,5 @@
 -- The steps of a checker's walk, and what it concludes.
-use Rattle.std.proofs.Common.{◌≡◌, ◌==◌, ◌&&◌, ℕ, ◌+◌, ◌<◌, ◌≤◌, Bool, true, false, ◌⊎◌, inl, inr, List, [], ◌∷◌, length, count_by, get_or, sym, ◌∙◌, arith, subst}
+use Rattle.std.proofs.Common.{◌≡◌, ◌==◌, ◌&&◌, ℕ, ◌+◌, ◌<◌, ◌≤◌, Bool, true, false, ◌⊎◌, inl, inr, List, [], ◌∷◌, length, count_by, get_or, sym, ap, ◌∙◌, arith, subst}
 use Rattle.std.specs.Prelude.{All, Contains, IsTrue, ◌↔◌}
 use Rattle.std.proofs.lemmas.Bool.{and_parts, cases_Bool, eqb-true, false≢true, true≢false}
 use Rattle.std.proofs.lemmas.List.Elements.{All-contains, All-map, All-weaker, filter_passes}
@@ -26,20 +26,21 @@ module _ (look : Look) (claim : Claim) where
     check_hidden checked pos cell f = rw f (check_none look claim checked)
 
     -- a visible one is not
-    pub check_shown : (old new : Checked) (pos : Position) (cell : C) (need : ℕ) → look.shows pos ≡ true →
-        need ≡ side claim.direction (measure cell) + look.before claim.direction pos + look.after claim.direction pos →
+    pub check_shown : (old new : Checked) (pos : Position) (cell : C) (size need : ℕ) → look.shows pos ≡ true →
+        size ≡ side claim.direction (measure cell) → need ≡ size + look.before claim.direction pos + look.after claim.direction pos →
         ChecksMore look claim old new (demand_of claim.direction pos (look.span claim.direction pos) need ∷ []) →
         ChecksMore look claim old new (asked_by claim.direction look measure ((pos, cell) ∷ []))
-    check_shown old new pos cell need t same more =
-        rw t (subst (λ n. ChecksMore look claim old new (demand_of claim.direction pos (look.span claim.direction pos) n ∷ [])) same more)
+    check_shown old new pos cell size need t measured same more =
+        let whole = same ∙ ap (λ n. n + look.before claim.direction pos + look.after claim.direction pos) measured in
+        rw t (subst (λ n. ChecksMore look claim old new (demand_of claim.direction pos (look.span claim.direction pos) n ∷ [])) whole more)
 
     -- one that changes nothing may be either
-    pub check_same : (old new : Checked) (pos : Position) (cell : C) (need : ℕ) → new ≡ old →
-        need ≡ side claim.direction (measure cell) + look.before claim.direction pos + look.after claim.direction pos →
+    pub check_same : (old new : Checked) (pos : Position) (cell : C) (size need : ℕ) → new ≡ old →
+        size ≡ side claim.direction (measure cell) → need ≡ size + look.before claim.direction pos + look.after claim.direction pos →
         ChecksMore look claim old new (demand_of claim.direction pos (look.span claim.direction pos) need ∷ []) →
         ChecksMore look claim old old (asked_by claim.direction look measure ((pos, cell) ∷ []))
-    check_same old new pos cell need unchanged same more = elim (cases_Bool (look.shows pos)) [
-      | inl t ↦ check_shown old old pos cell need t same (subst (λ kept. ChecksMore look claim old kept (demand_of claim.direction pos (look.span claim.direction pos) need ∷ [])) unchanged more)
+    check_same old new pos cell size need unchanged measured same more = elim (cases_Bool (look.shows pos)) [
+      | inl t ↦ check_shown old old pos cell size need t measured same (subst (λ kept. ChecksMore look claim old kept (demand_of claim.direction pos (look.span claim.direction pos) need ∷ [])) unchanged more)
       | inr f ↦ check_hidden old pos cell f
     ]
 

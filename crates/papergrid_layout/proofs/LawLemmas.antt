@@ -32,6 +32,7 @@ use Rattle.papergrid_walk.specs.Cells.{asked_by, demands_of, placed_from, placed
 use Rattle.papergrid_walk.specs.Looks.{Look, line_along, size_after, size_before, span_along, spanned_look}
 use Rattle.papergrid_walk.specs.Measures.{cell_measure, line_measure}
 use Rattle.papergrid_walk.specs.ForProofs.Visits.{asked_by-append}
+use Rattle.papergrid_walk.proofs.LookLemmas.{same_look_by}
 use Rattle.papergrid_layout.specs.Laws.{AreReordered, AreSwapped, IsNewText, TellTheSame, concerns, set_span}
 
 -- ---- measures
@@ -80,13 +81,7 @@ same_look settings other same x y told also =
     ∙ sym (told_borders (flat_map character_calls other) y.characters also.characters) in
     let padding_same : (p : Position) → held_value x.padding p ≡ held_value y.padding p
     = λ p. held_decided _ _ _ told.padding p ∙ same.padding p ∙ sym (held_decided _ _ _ also.padding p) in
-    λ k. record {
-      shows = is_visible (spans_same k);
-      span = span_along (spans_same k);
-      before = λ direction p. size_before direction (padding_same p k);
-      after = λ direction p. size_after direction (padding_same p k);
-      draws = line_along (lines_same k);
-    }
+    same_look_by spans_same padding_same lines_same
 
 around : {A : Type 0} (f : Setting → List A) (before after : List Setting) (a b : Setting) →
     flat_map f (before ++ a ∷ b ∷ after) ≡ flat_map f before ++ (f a ++ (f b ++ flat_map f after))

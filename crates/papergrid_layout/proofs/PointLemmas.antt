@@ -75,12 +75,12 @@ module _ (look : Look) (widths heights : ℕ → ℕ) (shape : ℕ × ℕ) where
 
     -- the numbers whose stretches the point lies in are those of a position in the rectangle of each cell that stands over it
     pub over-within : (r c : ℕ) →
-        (offset heights (look.draws Rows shape.0) r ≤ y) × (y < offset heights (look.draws Rows shape.0) (r + 1)) →
-        (offset widths (look.draws Columns shape.1) c ≤ x) × (x < offset widths (look.draws Columns shape.1) (c + 1)) →
+        (r < shape.0) × (offset heights (look.draws Rows shape.0) r ≤ y) × (y < offset heights (look.draws Rows shape.0) (r + 1)) →
+        (c < shape.1) × (offset widths (look.draws Columns shape.1) c ≤ x) × (x < offset widths (look.draws Columns shape.1) (c + 1)) →
         (q : Position) → Over q → IsInRectangle (look.span Columns) (look.span Rows) q (record { row = r; col = c })
     over-within r c down across q over =
-        let high = number-within heights (look.draws Rows shape.0) q.row (look.span Rows q) y over.covers.below_top over.covers.above_bottom r down in
-        let wide = number-within widths (look.draws Columns shape.1) q.col (look.span Columns q) x over.covers.after_left over.covers.before_right c across in
+        let high = number-within heights (look.draws Rows shape.0) q.row (look.span Rows q) y over.covers.below_top over.covers.above_bottom r (down.1, down.2) in
+        let wide = number-within widths (look.draws Columns shape.1) q.col (look.span Columns q) x over.covers.after_left over.covers.before_right c (across.1, across.2) in
         record { below_top = high.0; above_bottom = high.1; after_left = wide.0; before_right = wide.1 }
 
     pub none-beside : (x < offset widths (look.draws Columns shape.1) 0) ⊎ (offset widths (look.draws Columns shape.1) shape.1 ≤ x) → (q : Position) → Over q → ⊥

@@ -1,18 +1,21 @@
 -- What a caller that knows its rows reads of an answer: the cells told are seen through a view, as lent cells are.
-use Rattle.std.proofs.Common.{◌≡◌, ◌∙◌, ℕ, ◌+◌, true, List, [], ◌∷◌, ◌++◌, length, map, refl, ap, sym, inl, inr, Vec}
-use Rattle.std.specs.Prelude.{None, Option, Some}
+use Rattle.std.proofs.Common.{◌≡◌, ◌∙◌, ℕ, ◌+◌, ◌||◌, true, List, [], ◌∷◌, ◌++◌, length, map, nat_lt, refl, ap, sym, inl, inr, Vec}
+use Rattle.std.specs.Prelude.{None, Option, Some, find}
 use Rattle.std.specs.Option.{option_map}
 use Rattle.std.proofs.lemmas.Bool.{cases_Bool}
 use Rattle.std.proofs.lemmas.List.{length-map}
 use Rattle.papergrid_values.specs.declared.position.Position.{Position}
 use Rattle.papergrid_values.specs.declared.direction.Direction.{Direction}
+use Rattle.papergrid_values.specs.declared.direction.Direction.TheVariants.{Columns, Rows}
 use Rattle.papergrid_axis.specs.Answers.{IsWitness}
 use Rattle.papergrid_axis.specs.KeptApart.{is_kept_apart}
 use Rattle.papergrid_axis.specs.Problem.{Problem, given}
 use Rattle.papergrid_axis.proofs.KeptApartLemmas.{Decides-is_kept_apart, not_kept_apart}
-use Rattle.papergrid_walk.specs.Cells.{asked, asked_by, count_along, demands_of, placed_from, placed_row, problem_of}
+use Rattle.papergrid_axis.specs.Ranges.{place_of}
+use Rattle.papergrid_walk.specs.Cells.{asked, asked_by, count_along, demands_of, placed_from, placed_row, problem_of, visible_cells}
 use Rattle.papergrid_walk.specs.Looks.{Look}
 use Rattle.papergrid_walk.specs.ForProofs.Visits.{asked_by-append}
+use Rattle.papergrid_layout.specs.Answers.{first_out_of_table, reaches_out}
 use Rattle.papergrid_layout.specs.Witnesses.{witness_of}
 
 -- the places that a witness gives, by the test of ranges that are kept apart
@@ -25,6 +28,15 @@ witness_is problem None none = elim (cases_Bool (is_kept_apart problem.demands))
 witness_is problem (Some places) chosen =
     let t : is_kept_apart problem.demands ≡ true = (Decides-is_kept_apart problem.demands).1 chosen.kept_apart in
     rw t (ap Some chosen.exact)
+
+module _ {C : Type 0} (look : Look) (measure : C → ℕ × ℕ) (columns : ℕ) (cells : List (List C)) where
+  places_among : (xs : List (Position × C)) → map (λ x. x.0) xs ≡ map place_of (map (asked Columns look measure) xs)
+  places_among [] = refl
+  places_among (x ∷ xs) = ap (λ ps. x.0 ∷ ps) (places_among xs)
+
+  -- the first cell out of the table, by what the cells ask for alone
+  first_by_demands : first_out_of_table look measure columns cells ≡ find (reaches_out look measure columns cells) (map place_of (demands_of Columns look measure cells))
+  first_by_demands = ap (find (reaches_out look measure columns cells)) (places_among (visible_cells look cells))
 
 module _ {A B : Type 0} (look : Look) (v : A → B) (f : B → ℕ × ℕ) where
   told_row : (direction : Direction) (r c : ℕ) (cells : List A) → asked_by direction look (λ x. f (v x)) (placed_row r c cells) ≡ asked_by direction look f (placed_row r c (map v cells))
@@ -49,9 +61,17 @@ module _ {A B : Type 0} (look : Look) (v : A → B) (f : B → ℕ × ℕ) where
     pub demands_told : (direction : Direction) → demands_of direction look (λ x. f (v x)) cells ≡ demands_of direction look f rows
     demands_told direction = told_from direction 0 cells ∙ ap (demands_of direction look f) same
 
-    as_many : length cells ≡ length rows
+    pub as_many : length cells ≡ length rows
     as_many = sym (length-map cells (map v)) ∙ ap length same
 
     pub problem_told : (direction : Direction) (columns : ℕ) → problem_of look (λ x. f (v x)) columns cells direction ≡ problem_of look f columns rows direction
     problem_told direction columns =
         λ i. given (look.draws direction (count_along direction columns (as_many i))) (count_along direction columns (as_many i)) (demands_told direction i)
+
+    -- the same cell is the first out of the table
+    pub first_told : (columns : ℕ) → first_out_of_table look (λ x. f (v x)) columns cells ≡ first_out_of_table look f columns rows
+    first_told columns =
+        let wide = demands_told Columns in
+        first_by_demands look (λ x. f (v x)) columns cells
+        ∙ (λ i. find (λ p. nat_lt columns (p.col + look.span Columns p) || nat_lt (as_many i) (p.row + look.span Rows p)) (map place_of (wide i)))
+        ∙ sym (first_by_demands look f columns rows)

@@ -1,4 +1,5 @@
 pub mod LevelLemmas
+pub mod LookLemmas
 pub mod PassLemmas
 pub mod HiddenLemmas
 pub mod SpanLemmas

@@ -1,8 +1,20 @@
 -- The steps of the walk.
-use Rattle.std.proofs.Common.{◌≡◌, ℕ, ◌+◌, List, [], ◌∷◌, ◌++◌, length, refl, ap, sym, ◌∙◌, arith, suc}
+use Rattle.std.proofs.Common.{◌≡◌, ℕ, ◌+◌, ◌<◌, ◌^◌, List, [], ◌∷◌, ◌++◌, length, refl, ap, sym, ◌∙◌, arith, suc, length-append}
+use Rattle.std.specs.Prelude.{Option, Some}
+use Rattle.std.specs.Iterator.{Yields, Count}
 use Rattle.std.specs.List.{AllZip}
 use Rattle.std.proofs.lemmas.List.{append-nil, append_assoc}
+use Rattle.papergrid_text.specs.Records.{IsShort}
+use Rattle.papergrid_text.proofs.RowSteps.{one_more_fits}
 use Rattle.papergrid_walk.specs.Cells.{placed_from, placed_row}
+
+-- one more is counted
+pub counted_more : {A : Type 0} (xs : List A) (x : A) (count : ℕ) → count ≡ length xs → count + 1 ≡ length (xs ++ x ∷ [])
+counted_more xs x count same = let more = length-append xs (x ∷ []) in omega arith
+
+-- and their count fits
+pub one_more_counted : {S A : Type 0} {can : S → Type 0} {left : S → Count} {steps : S → Option A → S → Type 0} {P : A → Type 0} {it : S} → IsShort can left steps P it → (t u : S) (xs : List A) (x : A) (count : ℕ) → count ≡ length xs → Yields steps it xs t → steps t (Some x) u → count + 1 < 2 ^ 64
+one_more_counted short t u xs x count same walked step = let fits = one_more_fits short t u xs x walked step in omega arith
 
 pub zip_length : {A B : Type 0} (R : A → B → Type 0) (xs : List A) (ys : List B) → AllZip R xs ys → length xs ≡ length ys
 zip_length R [] [] z = refl

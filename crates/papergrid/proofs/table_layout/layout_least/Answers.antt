@@ -1,13 +1,10 @@
-use Rattle.papergrid_walk.specs.Looks.{spanned_look}
 use Rattle.papergrid_walk.specs.Measures.{line_measure}
 use Rattle.papergrid.specs.Layouts.{IsLaidOutLeast}
-use Rattle.papergrid.specs.Looks.{look_of}
-use Rattle.papergrid.proofs.LookLemmas.{answer_read, look_told}
+use Rattle.papergrid.proofs.LookLemmas.{settings_read}
 use Rattle.papergrid.proofs.table_layout.layout_least.Goals as goal
 
 pub returns : goal.returns
 returns g c =
-    answer_read (g.R.Records.tells c.args.records)
+    settings_read (g.R.Records.tells c.args.records)
     (λ look cells result. IsLaidOutLeast look (line_measure g.R.Iter.Cell.AsStr.text) (g.R.Records.columns c.args.records) cells result)
-    (spanned_look c.in_ok-config.config) (look_of c.args.settings.items) (look_told c.args.settings.items c.in_ok-config.config c.in_ok-config.ensures)
-    c.laid_out.result c.laid_out.ensures.ok c.laid_out.ensures.err
+    c.args.settings.items c.in_ok-config.config c.in_ok-config.ensures c.laid_out.result c.laid_out.ensures.ok c.laid_out.ensures.err

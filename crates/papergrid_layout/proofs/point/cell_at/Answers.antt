@@ -42,8 +42,7 @@ pub is_under-requires-clause-reach : goal.is_under-requires-clause-reach
 is_under-requires-clause-reach g c =
     let down = rw c.new-down.ensures at c.in_ok-number_at.ensures in
     let across = rw c.new-across.ensures at c.in_ok-number_at-2.ensures in
-    over-within (spanned_look c.args.cfg.now) (g.D.Dimension.width_of c.args.dim.now) (g.D.Dimension.height_of c.args.dim.now) c.args.shape c.args.column c.args.line
-    c.in_ok-number_at.field-0 c.in_ok-number_at-2.field-0 (down.1, down.2) (across.1, across.2)
+    over-within (spanned_look c.args.cfg.now) (g.D.Dimension.width_of c.args.dim.now) (g.D.Dimension.height_of c.args.dim.now) c.args.shape c.args.column c.args.line _ _ down across
 
 pub returns-then-is_visible : goal.returns-then-is_visible
 returns-then-is_visible g c =
@@ -53,12 +52,10 @@ returns-then-is_visible g c =
     (one-tested (spanned_look c.args.cfg.now) (g.D.Dimension.width_of c.args.dim.now) (g.D.Dimension.height_of c.args.dim.now) c.args.shape c.args.column c.args.line
     (record { row = c.in_ok-number_at.field-0; col = c.in_ok-number_at-2.field-0 }) c.is_under.result c.is_under.ensures
     (λ q over. none-but-visible c.args.cfg.now (record { row = c.in_ok-number_at.field-0; col = c.in_ok-number_at-2.field-0 }) q (sym c.if-is_visible.ensures)
-    (over-within (spanned_look c.args.cfg.now) (g.D.Dimension.width_of c.args.dim.now) (g.D.Dimension.height_of c.args.dim.now) c.args.shape c.args.column c.args.line
-    c.in_ok-number_at.field-0 c.in_ok-number_at-2.field-0 (down.1, down.2) (across.1, across.2) q over)))
+    (over-within (spanned_look c.args.cfg.now) (g.D.Dimension.width_of c.args.dim.now) (g.D.Dimension.height_of c.args.dim.now) c.args.shape c.args.column c.args.line _ _ down across q over)))
 
 pub first-requires-clause-reach : goal.first-requires-clause-reach
 first-requires-clause-reach g c =
     let down = rw c.new-down.ensures at c.in_ok-number_at.ensures in
     let across = rw c.new-across.ensures at c.in_ok-number_at-2.ensures in
-    over-within (spanned_look c.args.cfg.now) (g.D.Dimension.width_of c.args.dim.now) (g.D.Dimension.height_of c.args.dim.now) c.args.shape c.args.column c.args.line
-    c.in_ok-number_at.field-0 c.in_ok-number_at-2.field-0 (down.1, down.2) (across.1, across.2)
+    over-within (spanned_look c.args.cfg.now) (g.D.Dimension.width_of c.args.dim.now) (g.D.Dimension.height_of c.args.dim.now) c.args.shape c.args.column c.args.line _ _ down across

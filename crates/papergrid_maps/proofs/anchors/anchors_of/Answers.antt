@@ -5,34 +5,22 @@ use Rattle.std.proofs.lemmas.List.Sorted.{answers_always}
 use Rattle.papergrid_maps.proofs.AnchorLemmas.{alone-at, anchors-held, anchors-of, joined-at, rising-dedup, same_place, sorted-from_rising}
 use Rattle.papergrid_maps.proofs.anchors.anchors_of.Goals as goal
 
-pub returns-then-not-holds_any-clause-sorted : goal.returns-then-not-holds_any-clause-sorted
-returns-then-not-holds_any-clause-sorted c = sorted-from_rising _ (c.in_ok-anchors.ensures.sorted c.requires.columns)
+pub returns-then-not-holds_any : goal.returns-then-not-holds_any
+returns-then-not-holds_any c =
+    let at = alone-at c.args.columns.now c.args.rows.now c.requires.columns _ c.in_ok-anchors.ensures.spans (λ held. true≢false (sym (c.holds_any.ensures.1 held) ∙ c.if-not-holds_any.true)) in
+    record {
+      sorted = sorted-from_rising _ (c.in_ok-anchors.ensures.sorted c.requires.columns);
+      spans = anchors-of c.args.columns.now.spans c.args.rows.now.spans _ at;
+      held = anchors-held c.args.columns.now.spans c.args.rows.now.spans _ at;
+    }
 
-pub returns-then-not-holds_any-clause-spans : goal.returns-then-not-holds_any-clause-spans
-returns-then-not-holds_any-clause-spans c = anchors-of c.args.columns.now.spans c.args.rows.now.spans _
-    (alone-at c.args.columns.now c.args.rows.now c.requires.columns _ c.in_ok-anchors.ensures.spans
-    (λ held. true≢false (sym (c.holds_any.ensures.1 held) ∙ c.if-not-holds_any.true)))
-
-pub returns-then-not-holds_any-clause-held : goal.returns-then-not-holds_any-clause-held
-returns-then-not-holds_any-clause-held c = anchors-held c.args.columns.now.spans c.args.rows.now.spans _
-    (alone-at c.args.columns.now c.args.rows.now c.requires.columns _ c.in_ok-anchors.ensures.spans
-    (λ held. true≢false (sym (c.holds_any.ensures.1 held) ∙ c.if-not-holds_any.true)))
-
-pub returns-clause-sorted : goal.returns-clause-sorted
-returns-clause-sorted c =
-    let kept = dedup_same _ same_place _ (λ x y b f' x' y' k. search rules) _ _ c.dedup_by_key.ensures.filtered in
-    rw kept (sorted-from_rising _ (rising-dedup _ (c.in_ok-sort_by_key.ensures.sorted (λ a. a.position) (answers_always _ _ _ (λ f a r g h. search rules)))))
-
-pub returns-clause-spans : goal.returns-clause-spans
-returns-clause-spans c =
+pub returns : goal.returns
+returns c =
     let kept = dedup_same _ same_place _ (λ x y b f' x' y' k. search rules) _ _ c.dedup_by_key.ensures.filtered in
     let moved = rw c.in_ok-append.ensures.items at c.sort_by_key.ensures.permutation in
-    rw kept (anchors-of c.args.columns.now.spans c.args.rows.now.spans _
-    (joined-at c.args.columns.now c.args.rows.now c.requires.columns _ _ _ c.requires.rows c.in_ok-anchors.ensures.spans c.in_ok-others.ensures.spans moved))
-
-pub returns-clause-held : goal.returns-clause-held
-returns-clause-held c =
-    let kept = dedup_same _ same_place _ (λ x y b f' x' y' k. search rules) _ _ c.dedup_by_key.ensures.filtered in
-    let moved = rw c.in_ok-append.ensures.items at c.sort_by_key.ensures.permutation in
-    rw kept (anchors-held c.args.columns.now.spans c.args.rows.now.spans _
-    (joined-at c.args.columns.now c.args.rows.now c.requires.columns _ _ _ c.requires.rows c.in_ok-anchors.ensures.spans c.in_ok-others.ensures.spans moved))
+    let at = joined-at c.args.columns.now c.args.rows.now c.requires.columns _ _ _ c.requires.rows c.in_ok-anchors.ensures.spans c.in_ok-others.ensures.spans moved in
+    record {
+      sorted = rw kept (sorted-from_rising _ (rising-dedup _ (c.in_ok-sort_by_key.ensures.sorted (λ a. a.position) (answers_always _ _ _ (λ f a r g h. search rules)))));
+      spans = rw kept (anchors-of c.args.columns.now.spans c.args.rows.now.spans _ at);
+      held = rw kept (anchors-held c.args.columns.now.spans c.args.rows.now.spans _ at);
+    }

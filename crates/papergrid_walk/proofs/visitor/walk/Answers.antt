@@ -1,7 +1,7 @@
-use Rattle.std.proofs.Common.{arith, refl, subst, sym, [], ◌∷◌, ◌++◌, ◌∙◌, ◌+◌, ◌≡◌, ap, length, length-append}
-use Rattle.papergrid_text.proofs.RowSteps.{one_more_fits, zip_more}
+use Rattle.std.proofs.Common.{arith, refl, subst, sym, [], ◌∷◌, ◌++◌, ◌∙◌, ◌+◌, ◌≡◌, ap, length}
+use Rattle.papergrid_text.proofs.RowSteps.{zip_more}
 use Rattle.papergrid_walk.specs.Cells.{placed, placed_row}
-use Rattle.papergrid_walk.proofs.Steps.{placed_from-more, zip_length}
+use Rattle.papergrid_walk.proofs.Steps.{counted_more, one_more_counted, placed_from-more, zip_length}
 use Rattle.papergrid_walk.proofs.visitor.walk.Goals as goal
 
 pub loop-row-init : goal.loop-row-init
@@ -17,31 +17,25 @@ walk_row-requires-clause-short g c =
 pub walk_row-requires-clause-row_in : goal.walk_row-requires-clause-row_in
 walk_row-requires-clause-row_in g c =
     let rows = c.iter_rows-row-items.ensures.finite c.requires.lawful c.into_iter-row-iterator.result c.into_iter-row-iterator.ensures.into_iter_gives in
-    let n = one_more_fits rows c.loop-row.row-iterator c.next.new.self c.loop-row.yielded c.in-Some.row c.loop-row.yielded_by c.in-Some.ensures.steps in
-    let e = c.loop-row.invariant.2 in
-    omega arith
+    omega (arith, one_more_counted rows c.loop-row.row-iterator c.next.new.self c.loop-row.yielded c.in-Some.row c.loop-row.count c.loop-row.invariant.2 c.loop-row.yielded_by c.in-Some.ensures.steps)
 
 pub overflow_add-count : goal.overflow_add-count
 overflow_add-count g c =
     let rows = c.iter_rows-row-items.ensures.finite c.requires.lawful c.into_iter-row-iterator.result c.into_iter-row-iterator.ensures.into_iter_gives in
-    let n = one_more_fits rows c.loop-row.row-iterator c.next.new.self c.loop-row.yielded c.in-Some.row c.loop-row.yielded_by c.in-Some.ensures.steps in
-    let e = c.loop-row.invariant.2 in
-    omega arith
+    omega (arith, one_more_counted rows c.loop-row.row-iterator c.next.new.self c.loop-row.yielded c.in-Some.row c.loop-row.count c.loop-row.invariant.2 c.loop-row.yielded_by c.in-Some.ensures.steps)
 
 pub loop-row-preserved : goal.loop-row-preserved
 loop-row-preserved g c =
     let goes = c.in-Some.ensures.goes.on c.loop-row.invariant.1 in
-    let same = c.loop-row.invariant.2 in
-    let n = length-append c.loop-row.yielded (c.in-Some.row ∷ []) in
     let so_far = c.loop-row.invariant.4 in
     let row = c.in_ok-walk_row.ensures.visits in
     let many = zip_length _ c.loop-row.yielded so_far.0 so_far.1 in
-    let at : 0 + length so_far.0 ≡ c.loop-row.count = omega (arith, same, many) in
+    let at : 0 + length so_far.0 ≡ c.loop-row.count = omega (arith, c.loop-row.invariant.2, many) in
     let cells : placed (so_far.0 ++ row.0 ∷ []) ≡ placed so_far.0 ++ placed_row c.loop-row.count 0 row.0 =
     placed_from-more 0 so_far.0 row.0 ∙ ap (λ k. placed so_far.0 ++ placed_row k 0 row.0) at in (
       goes.0,
       goes.1,
-      omega arith,
+      counted_more c.loop-row.yielded c.in-Some.row c.loop-row.count c.loop-row.invariant.2,
       c.in_ok-walk_row.ensures.stands,
       (
         so_far.0 ++ row.0 ∷ [],
