@@ -16,25 +16,13 @@ pub fn line_setting(keyword: &str, rest: &str) -> Option<ScriptSetting>
 {
     match keyword {
         "pad" => padding(rest),
-        "colspan" => {
-            let (place, count) = placed_span(rest)?;
-            Some(ScriptSetting::ColumnSpan(place, count))
-        }
-        "rowspan" => {
-            let (place, count) = placed_span(rest)?;
-            Some(ScriptSetting::RowSpan(place, count))
-        }
-        "border" => Some(ScriptSetting::Border(character(rest)?)),
-        "vline" => {
-            let (col, c) = placed_character(rest)?;
-            Some(ScriptSetting::VerticalLine(col, c))
-        }
-        "hline" => {
-            let (row, c) = placed_character(rest)?;
-            Some(ScriptSetting::HorizontalLine(row, c))
-        }
-        "novline" => Some(ScriptSetting::NoVerticalLine(number(rest)?)),
-        "nohline" => Some(ScriptSetting::NoHorizontalLine(number(rest)?)),
+        "colspan" => placed_span(rest).map(|(pos, span)| ScriptSetting::ColumnSpan(pos, span)),
+        "rowspan" => placed_span(rest).map(|(pos, span)| ScriptSetting::RowSpan(pos, span)),
+        "border" => character(rest).map(ScriptSetting::Border),
+        "vline" => placed_character(rest).map(|(col, c)| ScriptSetting::VerticalLine(col, c)),
+        "hline" => placed_character(rest).map(|(row, c)| ScriptSetting::HorizontalLine(row, c)),
+        "novline" => number(rest).map(ScriptSetting::NoVerticalLine),
+        "nohline" => number(rest).map(ScriptSetting::NoHorizontalLine),
         _ => None,
     }
 }

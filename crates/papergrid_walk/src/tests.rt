@@ -10,6 +10,7 @@ use crate::sweep::Sweep;
 use papergrid_maps::{Anchor, SpanTable};
 use papergrid_values::Position;
 use std::alloc::{AllocError, Global};
+use std::process::Abort;
 use std::test::Fail;
 
 const MAX: usize = 18446744073709551615;
@@ -93,13 +94,24 @@ fn hidden(
     }
 }
 
+/// What a test ends with whose anchors are in order, and hide these cells and no others.
+fn hides(
+    rt: &impl Abort,
+    alloc: Global,
+    anchors: Vec<Anchor>,
+    (rows, columns): (usize, usize),
+    cells: Vec<Position>,
+) -> Result<(), Fail> {
+    assert_eq!(rt; hidden(alloc, anchors, rows, columns)?, Some(cells));
+    Ok(())
+}
+
 #[test]
 fn rectangle_of_both_spans(rt: HostRuntime) -> Result<(), Fail> {
     let alloc = rt.alloc();
     let anchors = vec![in alloc; anchor(0, 0, 2, 2)]?;
     let cells = vec![in alloc; at(0, 1), at(1, 0), at(1, 1)]?;
-    assert_eq!(rt; hidden(alloc, anchors, 3, 3)?, Some(cells));
-    Ok(())
+    hides(&rt, alloc, anchors, (3, 3), cells)
 }
 
 #[test]
@@ -107,8 +119,7 @@ fn hidden_anchor_hides(rt: HostRuntime) -> Result<(), Fail> {
     let alloc = rt.alloc();
     let anchors = vec![in alloc; anchor(0, 0, 1, 2), anchor(0, 1, 2, 2)]?;
     let cells = vec![in alloc; at(0, 1), at(0, 2), at(1, 1), at(1, 2)]?;
-    assert_eq!(rt; hidden(alloc, anchors, 2, 3)?, Some(cells));
-    Ok(())
+    hides(&rt, alloc, anchors, (2, 3), cells)
 }
 
 // The anchor stands behind the one cell of its row.
@@ -134,9 +145,8 @@ fn greatest_spans(rt: HostRuntime) -> Result<(), Fail> {
     let tall = vec![in alloc; anchor(1, 0, MAX, 1), anchor(MAX, 0, MAX, MAX)]?;
     let row = vec![in alloc; at(0, 2), at(0, 3)]?;
     let column = vec![in alloc; at(2, 0), at(3, 0)]?;
-    assert_eq!(rt; hidden(alloc, wide, 3, 4)?, Some(row));
-    assert_eq!(rt; hidden(alloc, tall, 4, 2)?, Some(column));
-    Ok(())
+    hides(&rt, alloc, wide, (3, 4), row)?;
+    hides(&rt, alloc, tall, (4, 2), column)
 }
 
 // The columns 1 to 4, of which the first and the last are no pair with another one.
@@ -153,8 +163,7 @@ fn odd_sides(rt: HostRuntime) -> Result<(), Fail> {
         at(1, 3),
         at(1, 4),
     ]?;
-    assert_eq!(rt; hidden(alloc, anchors, 3, 7)?, Some(cells));
-    Ok(())
+    hides(&rt, alloc, anchors, (3, 7), cells)
 }
 
 #[test]
@@ -170,9 +179,8 @@ fn crossing_rectangles(rt: HostRuntime) -> Result<(), Fail> {
         at(2, 1),
         at(2, 2),
     ]?;
-    assert_eq!(rt; hidden(alloc, anchors, 3, 5)?, Some(cells));
     visible_where_not_hidden();
-    Ok(())
+    hides(&rt, alloc, anchors, (3, 5), cells)
 }
 
 #[test]
