@@ -1,6 +1,6 @@
 -- What a caller that holds its rows reads of an answer: the cells told are seen through a view, and are those of the rows.
 use Rattle.std.proofs.Common.{◌≡◌, ◌∙◌, ℕ, ◌+◌, ◌||◌, inl, inr, List, [], ◌∷◌, length, map, nat_lt, refl, ap, sym, subst}
-use Rattle.std.specs.Prelude.{Err, Ok, Result, find}
+use Rattle.std.specs.Prelude.{Err, IsErrAnd, Ok, Result}
 use Rattle.std.proofs.lemmas.List.{length-map}
 use Rattle.papergrid_values.specs.declared.position.Position.{Position}
 use Rattle.papergrid_values.specs.declared.direction.Direction.{Direction}
@@ -12,32 +12,13 @@ use Rattle.papergrid_axis.specs.Problem.{Problem}
 use Rattle.papergrid_axis.specs.Ranges.{place_of}
 use Rattle.papergrid_walk.specs.Cells.{asked, demands_of, problem_of, visible_cells}
 use Rattle.papergrid_walk.specs.Looks.{Look}
-use Rattle.papergrid_layout.specs.Answers.{HoldAlong, IsBothRefusedWhere, UnlessMemory, UnlessMemoryError, first_out_of_table, reaches_out}
+use Rattle.papergrid_layout.specs.Answers.{AnswersBothWhere, HoldAlong, IsBothRefusedWhere, UnlessMemory, UnlessMemoryError}
 use Rattle.papergrid_layout.specs.declared.iterable.IterGridDimension.{IterGridDimension}
-use Rattle.papergrid_layout.proofs.Told.{demands_told, problem_told}
+use Rattle.papergrid_layout.proofs.Told.{first_told, problem_told}
 use Rattle.papergrid.specs.Layouts.{IsLaidOut}
-
-module _ {C : Type 0} (look : Look) (measure : C → ℕ × ℕ) (columns : ℕ) (cells : List (List C)) where
-  places_among : (xs : List (Position × C)) → map (λ x. x.0) xs ≡ map place_of (map (asked Columns look measure) xs)
-  places_among [] = refl
-  places_among (x ∷ xs) = ap (λ ps. x.0 ∷ ps) (places_among xs)
-
-  -- the first cell out of the table, by what the cells ask for alone
-  first_by_demands : first_out_of_table look measure columns cells ≡ find (reaches_out look measure columns cells) (map place_of (demands_of Columns look measure cells))
-  first_by_demands = ap (find (reaches_out look measure columns cells)) (places_among (visible_cells look cells))
 
 module _ {A B : Type 0} (look : Look) (v : A → B) (f : B → ℕ × ℕ) (columns : ℕ) (rows : List (List B)) where
   module _ (cells : List (List A)) (same : map (map v) cells ≡ rows) where
-    pub as_many : length cells ≡ length rows
-    as_many = sym (length-map cells (map v)) ∙ ap length same
-
-    first_told : first_out_of_table look (λ x. f (v x)) columns cells ≡ first_out_of_table look f columns rows
-    first_told =
-        let wide = demands_told look v f cells rows same Columns in
-        first_by_demands look (λ x. f (v x)) columns cells
-        ∙ (λ i. find (λ p. nat_lt columns (p.col + look.span Columns p) || nat_lt (as_many i) (p.row + look.span Rows p)) (map place_of (wide i)))
-        ∙ sym (first_by_demands look f columns rows)
-
     pub one_told : (direction : Direction) → problem_of look (λ x. f (v x)) columns cells direction ≡ problem_of look f columns rows direction
     one_told direction = problem_told look v f cells rows same direction columns
 
@@ -51,15 +32,28 @@ module _ {A B : Type 0} (look : Look) (v : A → B) (f : B → ℕ × ℕ) (colu
   -- a refusal along both directions
   pub both_refused : (too_large : Problem → Type 0) (e : LayoutError)
       → UnlessMemoryError e ((cells : List (List A)) × (map (map v) cells ≡ rows) × IsBothRefusedWhere look (λ x. f (v x)) columns cells too_large e) → IsBothRefusedWhere look f columns rows too_large e
-  both_refused too_large (OutOfTable place) is = sym (first_told is.0 is.1) ∙ is.2
+  both_refused too_large (OutOfTable place) is = sym (first_told look v f is.0 rows is.1 columns) ∙ is.2
   both_refused too_large TooLarge is = (
-    sym (first_told is.0 is.1) ∙ is.2.0,
+    sym (first_told look v f is.0 rows is.1 columns) ∙ is.2.0,
     elim is.2.1 [
       | inl wide ↦ inl (subst too_large (one_told is.0 is.1 Columns) wide)
       | inr high ↦ inr (subst too_large (one_told is.0 is.1 Rows) high)
     ],
   )
   both_refused too_large (Memory e) is = tt
+
+  -- the same, as a `?` hands it on
+  pub refused_on : {V : Type 0} (too_large : Problem → Type 0) (holds : Problem → V → Type 0) (result : Result (V × V) LayoutError) (e : LayoutError) → IsErrAnd result (λ error. error ≡ e)
+      → UnlessMemoryError e ((cells : List (List A)) × (map (map v) cells ≡ rows) × IsBothRefusedWhere look (λ x. f (v x)) columns cells too_large e) → AnswersBothWhere look f columns rows too_large holds result
+  refused_on too_large holds (Ok found) e is told = absurd is
+  refused_on too_large holds (Err error) e is told = subst (IsBothRefusedWhere look f columns rows too_large) (sym is) (both_refused too_large e told)
+
+  -- the sizes along both directions, as a dimension hands them out
+  pub sizes_told : {V : Type 0} (items : V → List ℕ) (holds : Problem → List ℕ → Type 0) (across down : List ℕ) (wide high : V) → items wide ≡ across → items high ≡ down
+      → (cells : List (List A)) × (map (map v) cells ≡ rows) × HoldAlong look (λ x. f (v x)) columns cells holds across down → HoldAlong look f columns rows (λ problem sizes. holds problem (items sizes)) wide high
+  sizes_told items holds across down wide high widths heights told =
+      let both = both_told told.0 told.1 holds across down told.2 in
+      record { widths = rw widths both.widths; heights = rw heights both.heights }
 
   -- a refusal along one direction
   pub one_refused : (too_large : Problem → Type 0) (direction : Direction) (e : LayoutError)

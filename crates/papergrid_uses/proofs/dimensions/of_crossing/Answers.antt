@@ -1,21 +1,11 @@
-use Rattle.std.proofs.lemmas.Result.{err_from_is_err_and}
 use Rattle.papergrid_least.specs.Answers.{AreLeastSizes, NoneFits}
 use Rattle.papergrid_walk.specs.Looks.{spanned_look}
 use Rattle.papergrid_uses.specs.Rows.{cells_of, text_measure}
-use Rattle.papergrid_uses.proofs.RowLemmas.{both_refused, both_told}
+use Rattle.papergrid_uses.proofs.RowLemmas.{refused_on, sizes_told}
 use Rattle.papergrid_uses.proofs.dimensions.of_crossing.Goals as goal
 
 pub returns-in_err-estimate : goal.returns-in_err-estimate
-returns-in_err-estimate c =
-    let p = err_from_is_err_and c.from_residual.result c.from_residual.ensures.1 in
-    let told = rw c.new.ensures at c.in_err-estimate.ensures.err in
-    rw (p.1, p.2) (both_refused (spanned_look c.args.config.now) (λ cell. cell.now) text_measure 3 (cells_of c.args.rows.now) NoneFits _ told)
+returns-in_err-estimate c = refused_on (spanned_look c.args.config.now) (λ cell. cell.now) text_measure 3 (cells_of c.args.rows.now) NoneFits (λ problem sizes. AreLeastSizes problem sizes.items) _ _ c.from_residual.ensures.1 (rw c.new.ensures at c.in_err-estimate.ensures.err)
 
 pub returns : goal.returns
-returns c =
-    let told = rw c.new.ensures at c.in_ok-estimate.ensures.ok in
-    let both = both_told (spanned_look c.args.config.now) (λ cell. cell.now) text_measure 3 (cells_of c.args.rows.now) told.0 told.1 AreLeastSizes _ _ told.2 in
-    record {
-      widths = rw c.get_values.ensures.widths both.widths;
-      heights = rw c.get_values.ensures.heights both.heights;
-    }
+returns c = sizes_told (spanned_look c.args.config.now) (λ cell. cell.now) text_measure 3 (cells_of c.args.rows.now) (λ sizes. sizes.items) AreLeastSizes _ _ _ _ c.get_values.ensures.widths c.get_values.ensures.heights (rw c.new.ensures at c.in_ok-estimate.ensures.ok)
