@@ -5,6 +5,7 @@ mod certificates;
 mod least;
 mod places;
 mod points;
+mod tables;
 mod visible;
 
 ghost use Rattle.std.specs.Prelude.{◌≡◌, ℕ, IfOk, List, OnOk, length};
@@ -13,6 +14,12 @@ ghost use Rattle.papergrid_text.specs.HeldRows.{column_count};
 ghost use Rattle.papergrid_text.specs.declared.vec_records.VecRecords.{VecRecords};
 
 use crate::tests::callers::{of_held, of_lent};
+use crate::tests::tables::{
+    COMPACT, CROSSING, CROSSING_ROWS, EMPTY_CELL, EVEN, GREATEST, GREATEST_WITH_LINES,
+    HIDDEN_ANCHOR, HIDDEN_BEYOND, HIGH_SPAN, INNER_ROWS, LINES_ALONE, MAX, NESTED_COLUMNS,
+    NESTED_ROWS, NEWLINE_CELL, OUT_BOTH_WAYS, PAST_THE_GREATEST, PICTURE, Padding, REMAINDER,
+    SMALL, SPANS, SPANS_TURNED, Span, Table, WIDE_ROW, WIDE_SPAN,
+};
 use papergrid_config::{CompactConfig, SpannedConfig};
 use papergrid_layout::{
     CompactGridDimension, Dimension, Estimate, IterGridDimension, LayoutError,
@@ -23,196 +30,12 @@ use papergrid_values::{Entity, Indent, Position, Sides};
 use std::alloc::{AllocError, Global};
 use std::test::Fail;
 
-const MAX: usize = 18446744073709551615;
-
-/// A row, a column and a span.
-type Span = (usize, usize, usize);
-
-/// A row and a column, and the paddings left, right, above and below.
-type Padding = (usize, usize, usize, usize, usize, usize);
-
-/// The texts of a table, and what is set for it.
-#[derive(Clone, Copy)]
-struct Table {
-    columns: usize,
-    rows: &'static [&'static [&'static str]],
-    column_spans: &'static [Span],
-    row_spans: &'static [Span],
-    paddings: &'static [Padding],
-    has_lines: bool,
-}
-
-const PICTURE: Table = Table {
-    columns: 4,
-    rows: &[
-        &["Papergrid", "is a library", "for print tables", "!"],
-        &["", "Just like this", "", ""],
-    ],
-    column_spans: &[(1, 1, 3)],
-    row_spans: &[(0, 0, 2)],
-    paddings: &[(0, 0, 4, 4, 1, 1)],
-    has_lines: true,
-};
-
-const EVEN: Table = Table {
-    columns: 3,
-    rows: &[
-        &["0-0\nxx\nx\nx\nx\nx\nx", "0-1", "0-2"],
-        &["1-0", "1-1", "1-2"],
-        &["2-0", "2-1", "2-2"],
-    ],
-    column_spans: &[],
-    row_spans: &[(0, 0, 2)],
-    paddings: &[],
-    has_lines: true,
-};
-
-const REMAINDER: Table = Table {
-    columns: 2,
-    rows: &[&["1\n\n\n\n\n\n\n23", "0-1"], &["1-0", "1-1"]],
-    column_spans: &[],
-    row_spans: &[(0, 0, 2)],
-    paddings: &[],
-    has_lines: true,
-};
-
-const LINES_ALONE: Table = Table {
-    columns: 3,
-    rows: &[
-        &["0-0", "0-1", "0-2"],
-        &["1-0", "1-1", "1-2"],
-        &["2-0", "2-1", "2-2"],
-    ],
-    column_spans: &[],
-    row_spans: &[(0, 0, 3), (0, 1, 2), (0, 2, 2)],
-    paddings: &[],
-    has_lines: true,
-};
-
-const NESTED_COLUMNS: Table = Table {
-    columns: 3,
-    rows: &[&["a", "a", "a"], &["0123456789"], &["a", "01234567"]],
-    column_spans: &[(1, 0, 3), (2, 1, 2)],
-    row_spans: &[],
-    paddings: &[],
-    has_lines: false,
-};
-
-const NESTED_ROWS: Table = Table {
-    columns: 3,
-    rows: &[&["a", "a", "a"], &["a", "a", "a"], &["a", "a", "a"]],
-    column_spans: &[],
-    row_spans: &[(0, 1, 3), (1, 2, 2)],
-    paddings: &[(0, 1, 0, 0, 9, 0), (1, 2, 0, 0, 7, 0)],
-    has_lines: false,
-};
-
-const INNER_ROWS: Table = Table {
-    columns: 4,
-    rows: &[
-        &["", "", "", ""],
-        &["", "", "", ""],
-        &["", "", "", ""],
-        &["", "", "", ""],
-    ],
-    column_spans: &[],
-    row_spans: &[(0, 1, 4), (0, 2, 2), (2, 3, 2)],
-    paddings: &[(0, 1, 0, 0, 6, 0), (0, 2, 0, 0, 4, 0), (2, 3, 0, 0, 2, 0)],
-    has_lines: false,
-};
-
-const CROSSING_ROWS: Table = Table {
-    columns: 2,
-    rows: &[&["", ""], &["", ""], &["", ""]],
-    column_spans: &[],
-    row_spans: &[(0, 0, 2), (1, 1, 2)],
-    paddings: &[(0, 0, 0, 0, 9, 0), (1, 1, 0, 0, 9, 0)],
-    has_lines: false,
-};
-
-const CROSSING: Table = Table {
-    columns: 3,
-    rows: &[&["0123456789"], &["", "0123456789"]],
-    column_spans: &[(0, 0, 2), (1, 1, 2)],
-    row_spans: &[],
-    paddings: &[],
-    has_lines: false,
-};
-
-const HIDDEN_BEYOND: Table = Table {
-    columns: 1,
-    rows: &[&["a"], &["b", "zzz"]],
-    column_spans: &[],
-    row_spans: &[(0, 1, 2)],
-    paddings: &[],
-    has_lines: false,
-};
-
-const HIDDEN_ANCHOR: Table = Table {
-    columns: 3,
-    rows: &[&["abcd", "x", "zzz"]],
-    column_spans: &[(0, 0, 2), (0, 1, 2)],
-    row_spans: &[],
-    paddings: &[],
-    has_lines: false,
-};
-
-const WIDE_SPAN: Table = Table {
-    columns: 2,
-    rows: &[&["a"]],
-    column_spans: &[(0, 0, 3)],
-    row_spans: &[],
-    paddings: &[],
-    has_lines: false,
-};
-
-const WIDE_ROW: Table = Table {
-    columns: 1,
-    rows: &[&["a", "b"]],
-    column_spans: &[],
-    row_spans: &[],
-    paddings: &[],
-    has_lines: false,
-};
-
-const HIGH_SPAN: Table = Table {
-    columns: 1,
-    rows: &[&["a"]],
-    column_spans: &[],
-    row_spans: &[(0, 0, 2)],
-    paddings: &[],
-    has_lines: false,
-};
-
-const OUT_BOTH_WAYS: Table = Table {
-    columns: 2,
-    rows: &[&["", ""], &["", ""]],
-    column_spans: &[(1, 1, 2)],
-    row_spans: &[(0, 0, 3)],
-    paddings: &[],
-    has_lines: false,
-};
-
-const SPANS: Table = Table {
-    columns: 3,
-    rows: &[&["abcdef", "b", "c"], &["d", "efgh", "i"], &["j", "k", "l"]],
-    column_spans: &[(0, 0, 2), (1, 1, 2)],
-    row_spans: &[(1, 0, 2)],
-    paddings: &[],
-    has_lines: false,
-};
-
-const SPANS_TURNED: Table = Table {
-    column_spans: &[(1, 1, 2), (0, 0, 2)],
-    ..SPANS
-};
-
-fn row_of(alloc: Global, cells: &[&'static str]) -> Result<Vec<&'static str>, AllocError> {
+fn row_of<'a>(alloc: Global, cells: &[&'a str]) -> Result<Vec<&'a str>, AllocError> {
     cells.iter().copied().collect(alloc)
 }
 
-fn plain(alloc: Global, table: Table) -> Result<VecRecords<&'static str>, AllocError>
-    ensures { IfOk result (λ records. column_count records ≡ table.columns) }
+fn plain<'a>(alloc: Global, table: Table<'a>) -> Result<VecRecords<&'a str>, AllocError>
+    ensures { IfOk result (λ records. column_count records ≡ table.entry.columns) }
 {
     let mut rows = Vec::new(alloc);
     for row in table.rows {
@@ -221,7 +44,7 @@ fn plain(alloc: Global, table: Table) -> Result<VecRecords<&'static str>, AllocE
     Ok(VecRecords::with_size(rows, 0, table.columns))
 }
 
-fn text_row(alloc: Global, cells: &[&'static str]) -> Result<Vec<Text<&'static str>>, AllocError> {
+fn text_row<'a>(alloc: Global, cells: &[&'a str]) -> Result<Vec<Text<&'a str>>, AllocError> {
     let mut texts = Vec::new(alloc);
     for cell in cells {
         texts.push(Text::new(alloc, *cell)?)?;
@@ -229,7 +52,7 @@ fn text_row(alloc: Global, cells: &[&'static str]) -> Result<Vec<Text<&'static s
     Ok(texts)
 }
 
-fn texts(alloc: Global, table: Table) -> Result<VecRecords<Text<&'static str>>, AllocError> {
+fn texts<'a>(alloc: Global, table: Table<'a>) -> Result<VecRecords<Text<&'a str>>, AllocError> {
     let mut rows = Vec::new(alloc);
     for row in table.rows {
         rows.push(text_row(alloc, *row)?)?;
@@ -264,7 +87,7 @@ fn set_paddings(config: &mut SpannedConfig, paddings: &[Padding]) -> Result<(), 
     Ok(())
 }
 
-fn set_all(config: &mut SpannedConfig, table: Table) -> Result<(), AllocError> {
+fn set_all(config: &mut SpannedConfig, table: Table<'_>) -> Result<(), AllocError> {
     if table.has_lines {
         config.set_border_default('+');
     }
@@ -275,16 +98,94 @@ fn set_all(config: &mut SpannedConfig, table: Table) -> Result<(), AllocError> {
 
 type Sizes = (Vec<usize>, Vec<usize>);
 
-fn estimated(alloc: Global, table: Table, config: &SpannedConfig) -> Result<Sizes, LayoutError> {
+/// What is answered for what is given, with the settings of a table.
+fn answered<G: Drop, A: Drop, F>(
+    alloc: Global,
+    table: Table<'_>,
+    given: G,
+    ask: F,
+) -> Result<A, LayoutError>
+where
+    F: FnOnce(Global, G, &SpannedConfig) -> Result<A, LayoutError>,
+    requires { F.IsAlwaysCallable ask }
+{
+    let mut config = SpannedConfig::new(alloc);
+    let answer = match set_all(&mut config, table) {
+        Ok(()) => ask(alloc, given, &config),
+        Err(error) => Err(LayoutError::Memory(error)),
+    };
+    drop(config);
+    answer
+}
+
+/// The same for the plain texts of the table.
+fn of_plain<'a, A: Drop, F>(alloc: Global, table: Table<'a>, ask: F) -> Result<A, LayoutError>
+where
+    F: FnOnce(Global, VecRecords<&'a str>, &SpannedConfig) -> Result<A, LayoutError>,
+    requires { F.IsAlwaysCallable ask }
+{
+    answered(alloc, table, plain(alloc, table)?, ask)
+}
+
+/// What is answered for its plain texts along columns, and along rows.
+fn of_both<'a, A: Drop, W, H>(
+    alloc: Global,
+    table: Table<'a>,
+    widths: W,
+    heights: H,
+) -> Result<(A, A), LayoutError>
+where
+    W: FnOnce(Global, VecRecords<&'a str>, &SpannedConfig) -> Result<A, LayoutError>,
+    H: FnOnce(Global, VecRecords<&'a str>, &SpannedConfig) -> Result<A, LayoutError>,
+    requires widths { W.IsAlwaysCallable widths }
+    requires heights { H.IsAlwaysCallable heights }
+{
+    Ok((
+        of_plain(alloc, table, widths)?,
+        of_plain(alloc, table, heights)?,
+    ))
+}
+
+/// The sizes by an estimate.
+fn estimated(
+    alloc: Global,
+    records: VecRecords<&str>,
+    config: &SpannedConfig,
+) -> Result<Sizes, LayoutError> {
     let mut dimension = IterGridDimension::new(alloc);
-    dimension.estimate(plain(alloc, table)?, config)?;
+    dimension.estimate(records, config)?;
     Ok(dimension.get_values())
 }
 
-fn peeked(alloc: Global, table: Table, config: &SpannedConfig) -> Result<Sizes, LayoutError> {
+/// The sizes by an estimate of measured texts.
+fn peeked(alloc: Global, table: Table<'_>, config: &SpannedConfig) -> Result<Sizes, LayoutError> {
     let mut dimension = PeekableGridDimension::new(alloc);
     dimension.estimate(texts(alloc, table)?, config)?;
     Ok(dimension.get_values())
+}
+
+/// The sizes of measured texts, asked for each alone and together.
+fn peeked_twice(
+    alloc: Global,
+    table: Table<'_>,
+    config: &SpannedConfig,
+) -> Result<(Sizes, Sizes), LayoutError> {
+    let widths = PeekableGridDimension::width(alloc, texts(alloc, table)?, config)?;
+    let heights = PeekableGridDimension::height(alloc, texts(alloc, table)?, config)?;
+    let both = PeekableGridDimension::dimension(alloc, texts(alloc, table)?, config)?;
+    Ok(((widths, heights), both))
+}
+
+/// Rows and columns of cells.
+type Cells = &'static [(usize, usize)];
+
+/// Whether these are the positions of the cells.
+fn stand_at(places: &[Position], cells: Cells) -> bool {
+    places.len() == cells.len()
+        && places
+            .iter()
+            .zip(cells)
+            .all(|(place, cell)| *place == Position::from(*cell))
 }
 
 fn are(sizes: &Sizes, widths: &[usize], heights: &[usize]) -> bool {
@@ -294,23 +195,20 @@ fn are(sizes: &Sizes, widths: &[usize], heights: &[usize]) -> bool {
 /// Whether both dimensions give these sizes by all of their calls.
 fn gives(
     alloc: Global,
-    table: Table,
-    config: &SpannedConfig,
+    table: Table<'_>,
     widths: &[usize],
     heights: &[usize],
 ) -> Result<bool, LayoutError> {
-    let by_lines = (
-        IterGridDimension::width(alloc, plain(alloc, table)?, config)?,
-        IterGridDimension::height(alloc, plain(alloc, table)?, config)?,
-    );
-    let by_cell = (
-        PeekableGridDimension::width(alloc, texts(alloc, table)?, config)?,
-        PeekableGridDimension::height(alloc, texts(alloc, table)?, config)?,
-    );
-    let both = PeekableGridDimension::dimension(alloc, texts(alloc, table)?, config)?;
+    let by_lines = of_both(
+        alloc,
+        table,
+        IterGridDimension::width,
+        IterGridDimension::height,
+    )?;
+    let (by_cell, both) = answered(alloc, table, table, peeked_twice)?;
     Ok(
-        are(&estimated(alloc, table, config)?, widths, heights)
-            && are(&peeked(alloc, table, config)?, widths, heights)
+        are(&of_plain(alloc, table, estimated)?, widths, heights)
+            && are(&answered(alloc, table, table, peeked)?, widths, heights)
             && are(&by_lines, widths, heights)
             && are(&by_cell, widths, heights)
             && are(&both, widths, heights),
@@ -318,30 +216,24 @@ fn gives(
 }
 
 /// The width and the height of the table with its lines.
-fn totals(
-    alloc: Global,
-    table: Table,
-    config: &SpannedConfig,
-) -> Result<(usize, usize), LayoutError> {
-    let width = IterGridDimension::width_total(alloc, plain(alloc, table)?, config)?;
-    let height = IterGridDimension::height_total(alloc, plain(alloc, table)?, config)?;
-    Ok((width, height))
+fn totals(alloc: Global, table: Table<'_>) -> Result<(usize, usize), LayoutError> {
+    of_both(
+        alloc,
+        table,
+        IterGridDimension::width_total,
+        IterGridDimension::height_total,
+    )
 }
 
 /// Whether a table has these sizes, and these totals.
 fn has_sizes(
     alloc: Global,
-    table: Table,
+    table: Table<'_>,
     widths: &[usize],
     heights: &[usize],
     total: (usize, usize),
 ) -> bool {
-    let mut config = SpannedConfig::new(alloc);
-    let is_set = set_all(&mut config, table).is_ok();
-    let is_given = gives(alloc, table, &config, widths, heights);
-    let is_total = totals(alloc, table, &config);
-    drop(config);
-    is_set && is_given == Ok(true) && is_total == Ok(total)
+    gives(alloc, table, widths, heights) == Ok(true) && totals(alloc, table) == Ok(total)
 }
 
 #[test]
@@ -399,40 +291,6 @@ fn hidden_anchor_hides(rt: HostRuntime) {
     assert!(rt; has_sizes(rt.alloc(), HIDDEN_ANCHOR, &[2, 2, 0], &[1], (4, 1)));
 }
 
-/// What a refused call answers.
-fn refusal<T: Drop>(answer: Result<T, LayoutError>) -> Option<LayoutError> {
-    match answer {
-        Ok(_) => None,
-        Err(error) => Some(error),
-    }
-}
-
-/// What the estimates answer, and then the widths and the heights alone.
-fn refusals(alloc: Global, table: Table, config: &SpannedConfig) -> [Option<LayoutError>; 4] {
-    [
-        refusal(estimated(alloc, table, config)),
-        refusal(peeked(alloc, table, config)),
-        refusal(width_alone(alloc, table, config)),
-        refusal(height_alone(alloc, table, config)),
-    ]
-}
-
-fn width_alone(
-    alloc: Global,
-    table: Table,
-    config: &SpannedConfig,
-) -> Result<Vec<usize>, LayoutError> {
-    IterGridDimension::width(alloc, plain(alloc, table)?, config)
-}
-
-fn height_alone(
-    alloc: Global,
-    table: Table,
-    config: &SpannedConfig,
-) -> Result<Vec<usize>, LayoutError> {
-    IterGridDimension::height(alloc, plain(alloc, table)?, config)
-}
-
 fn out_at(row: usize, col: usize) -> Option<LayoutError> {
     Some(LayoutError::OutOfTable(Position::new(row, col)))
 }
@@ -440,16 +298,15 @@ fn out_at(row: usize, col: usize) -> Option<LayoutError> {
 /// Whether a table is refused so: by the estimates, along columns and along rows.
 fn is_refused(
     alloc: Global,
-    table: Table,
+    table: Table<'_>,
     both: Option<LayoutError>,
     columns: Option<LayoutError>,
     rows: Option<LayoutError>,
 ) -> bool {
-    let mut config = SpannedConfig::new(alloc);
-    let is_set = set_all(&mut config, table).is_ok();
-    let found = refusals(alloc, table, &config);
-    drop(config);
-    is_set && found == [both, both, columns, rows]
+    of_plain(alloc, table, estimated).err() == both
+        && answered(alloc, table, table, peeked).err() == both
+        && of_plain(alloc, table, IterGridDimension::width).err() == columns
+        && of_plain(alloc, table, IterGridDimension::height).err() == rows
 }
 
 #[test]
@@ -474,22 +331,13 @@ fn first_out_in_each_direction(rt: HostRuntime) {
     );
 }
 
-const COMPACT: Table = Table {
-    columns: 2,
-    rows: &[&["ab", "c\nde"], &["", "x"]],
-    column_spans: &[],
-    row_spans: &[],
-    paddings: &[],
-    has_lines: false,
-};
-
 /// Estimates a table, with the default configuration.
 fn estimate_compact(
     alloc: Global,
-    table: Table,
+    table: Table<'_>,
     dimension: &mut CompactGridDimension,
 ) -> Result<(), LayoutError>
-    ensures { OnOk result (length dimension.new.widths ≡ table.columns) }
+    ensures { OnOk result (length dimension.new.widths ≡ table.entry.columns) }
 {
     let config = CompactConfig::new();
     dimension.estimate(plain(alloc, table)?, &config)
@@ -518,38 +366,31 @@ fn compact_default(rt: HostRuntime) -> Result<(), Fail> {
     Ok(())
 }
 
-const SMALL: Table = Table {
-    columns: 1,
-    rows: &[&["ab"]],
-    column_spans: &[],
-    row_spans: &[],
-    paddings: &[],
-    has_lines: false,
-};
-
 /// Estimates a table through any dimension that takes plain texts.
-fn estimate_plain<D: Estimate<VecRecords<&'static str>, SpannedConfig>>(
+fn estimate_plain<'a, D: Estimate<VecRecords<&'a str>, SpannedConfig>>(
     alloc: Global,
-    table: Table,
+    table: Table<'a>,
     dimension: &mut D,
-    config: &SpannedConfig,
 ) -> Result<(), LayoutError>
     requires { (records : VecRecords (Bor (List ℕ))) → D.accepts records }
 {
-    dimension.estimate(plain(alloc, table)?, config)
+    let mut config = SpannedConfig::new(alloc);
+    let is_set = set_all(&mut config, table);
+    let answer = match (is_set, plain(alloc, table)) {
+        (Ok(()), Ok(records)) => dimension.estimate(records, &config),
+        _ => Err(LayoutError::Memory(AllocError)),
+    };
+    drop(config);
+    answer
 }
 
 /// Whether a dimension that holds the sizes of a small table keeps them when it is given a table
 /// that is refused.
-fn keeps_sizes(alloc: Global, table: Table) -> bool {
-    let mut config = SpannedConfig::new(alloc);
+fn keeps_sizes(alloc: Global, table: Table<'_>) -> bool {
     let mut dimension = IterGridDimension::new(alloc);
-    let is_small = estimate_plain(alloc, SMALL, &mut dimension, &config).is_ok();
-    let is_set = set_all(&mut config, table).is_ok();
-    let answer = refusal(estimate_plain(alloc, table, &mut dimension, &config));
-    drop(config);
-    let is_kept = are(&dimension.get_values(), &[2], &[1]);
-    is_small && is_set && answer == out_at(0, 0) && is_kept
+    let is_small = estimate_plain(alloc, SMALL, &mut dimension).is_ok();
+    let answer = estimate_plain(alloc, table, &mut dimension).err();
+    is_small && answer == out_at(0, 0) && are(&dimension.get_values(), &[2], &[1])
 }
 
 #[test]
@@ -559,7 +400,7 @@ fn refused_estimate_keeps(rt: HostRuntime) {
     assert!(rt; keeps_sizes(alloc, HIGH_SPAN));
 }
 
-fn one_column(alloc: Global, texts: &[&'static str]) -> Result<Vec<Vec<&'static str>>, AllocError> {
+fn one_column<'a>(alloc: Global, texts: &'a [&'a str]) -> Result<Vec<Vec<&'a str>>, AllocError> {
     let mut rows = Vec::new(alloc);
     for text in texts {
         rows.push(row_of(alloc, &[*text])?)?;
@@ -567,72 +408,71 @@ fn one_column(alloc: Global, texts: &[&'static str]) -> Result<Vec<Vec<&'static 
     Ok(rows)
 }
 
-fn ignores_hint(alloc: Global, config: &SpannedConfig) -> Result<bool, LayoutError> {
-    let records = IterRecords::new(one_column(alloc, &["a"])?, 1, Some(MAX));
-    let mut dimension = IterGridDimension::new(alloc);
-    dimension.estimate(records, config)?;
-    Ok(are(&dimension.get_values(), &[1], &[1]))
-}
-
 #[test]
-fn false_hint_of_rows(rt: HostRuntime) {
-    let config = SpannedConfig::new(rt.alloc());
-    let is_ignored = ignores_hint(rt.alloc(), &config);
-    drop(config);
-    assert_eq!(rt; is_ignored, Ok(true));
+fn false_hint_of_rows(rt: HostRuntime) -> Result<(), Fail> {
+    let alloc = rt.alloc();
+    let records = IterRecords::new(one_column(alloc, &["a"])?, 1, Some(MAX));
+    let sizes = answered(alloc, SMALL, records, |alloc, records, config| {
+        let mut dimension = IterGridDimension::new(alloc);
+        dimension.estimate(records, config)?;
+        Ok(dimension.get_values())
+    })?;
+    assert!(rt; are(&sizes, &[1], &[1]));
+    Ok(())
 }
 
 /// Records of one column that are said to have this number of rows and of columns.
-fn counted(
+fn counted<'a>(
     alloc: Global,
-    texts: &[&'static str],
+    texts: &'a [&'a str],
     rows: usize,
     columns: usize,
-) -> Result<VecRecords<&'static str>, AllocError> {
+) -> Result<VecRecords<&'a str>, AllocError> {
     Ok(VecRecords::with_size(one_column(alloc, texts)?, rows, columns))
 }
 
-fn ignores_row_count(alloc: Global, config: &SpannedConfig) -> Result<bool, LayoutError> {
-    let mut dimension = IterGridDimension::new(alloc);
-    dimension.estimate(counted(alloc, &["a", "b"], 0, 1)?, config)?;
-    Ok(are(&dimension.get_values(), &[1], &[1, 1]))
-}
-
-/// Whether widths of the greatest number of columns are out of memory, and heights are not.
-fn is_too_much(alloc: Global, config: &SpannedConfig) -> Result<bool, LayoutError> {
-    let widths = IterGridDimension::width(alloc, counted(alloc, &["a"], 1, MAX)?, config);
-    let heights = IterGridDimension::height(alloc, counted(alloc, &["a"], 1, MAX)?, config)?;
-    let mut dimension = IterGridDimension::new(alloc);
-    let both = dimension.estimate(counted(alloc, &["a"], 1, MAX)?, config);
-    Ok(
-        matches!(&widths, Err(LayoutError::Memory(_)))
-            && matches!(&both, Err(LayoutError::Memory(_)))
-            && heights.as_slice() == [1].as_slice(),
-    )
-}
-
 #[test]
-fn false_held_counts(rt: HostRuntime) {
-    let config = SpannedConfig::new(rt.alloc());
-    let is_ignored = ignores_row_count(rt.alloc(), &config);
-    let is_refused = is_too_much(rt.alloc(), &config);
-    drop(config);
-    assert_eq!(rt; is_ignored, Ok(true));
-    assert_eq!(rt; is_refused, Ok(true));
+fn false_row_count(rt: HostRuntime) -> Result<(), Fail> {
+    let alloc = rt.alloc();
+    let records = counted(alloc, &["a", "b"], 0, 1)?;
+    let sizes = answered(alloc, SMALL, records, estimated)?;
+    assert!(rt; are(&sizes, &[1], &[1, 1]));
+    Ok(())
+}
+
+/// What is answered for one cell that is said to be of the greatest number of columns.
+fn of_too_many<'a, A: Drop, F>(alloc: Global, ask: F) -> Result<A, LayoutError>
+where
+    F: FnOnce(Global, VecRecords<&'a str>, &SpannedConfig) -> Result<A, LayoutError>,
+    requires { F.IsAlwaysCallable ask }
+{
+    answered(alloc, SMALL, counted(alloc, &["a"], 1, MAX)?, ask)
+}
+
+// Widths of so many columns are out of memory, and heights are not.
+#[test]
+fn false_column_count(rt: HostRuntime) -> Result<(), Fail> {
+    let alloc = rt.alloc();
+    let widths = of_too_many(alloc, IterGridDimension::width);
+    let heights = of_too_many(alloc, IterGridDimension::height)?;
+    let both = of_too_many(alloc, estimated);
+    assert!(rt; matches!(&widths, Err(LayoutError::Memory(_))));
+    assert!(rt; matches!(&both, Err(LayoutError::Memory(_))));
+    assert!(rt; heights.as_slice() == [1].as_slice());
+    Ok(())
 }
 
 /// Whether a cell has this width, and these heights: by the lines that a plain text has of its own, as
 /// a `Text`, and by its lines between newlines.
 fn are_by_measure(
     alloc: Global,
-    table: Table,
-    config: &SpannedConfig,
+    table: Table<'_>,
     width: usize,
     heights: (usize, usize, usize),
 ) -> Result<bool, LayoutError> {
-    let own = PeekableGridDimension::dimension(alloc, plain(alloc, table)?, config)?;
-    let text = peeked(alloc, table, config)?;
-    let lines = estimated(alloc, table, config)?;
+    let own = of_plain(alloc, table, PeekableGridDimension::dimension)?;
+    let text = answered(alloc, table, table, peeked)?;
+    let lines = of_plain(alloc, table, estimated)?;
     Ok(
         are(&own, &[width], &[heights.0])
             && are(&text, &[width], &[heights.1])
@@ -640,61 +480,20 @@ fn are_by_measure(
     )
 }
 
-const EMPTY_CELL: Table = Table {
-    rows: &[&[""]],
-    ..SMALL
-};
-
-const NEWLINE_CELL: Table = Table {
-    rows: &[&["a\n"]],
-    ..SMALL
-};
-
 #[test]
 fn empty_cells_by_measure(rt: HostRuntime) {
     let alloc = rt.alloc();
-    let config = SpannedConfig::new(alloc);
-    let empty = are_by_measure(alloc, EMPTY_CELL, &config, 0, (0, 1, 1));
-    let newline = are_by_measure(alloc, NEWLINE_CELL, &config, 1, (1, 2, 2));
-    drop(config);
-    assert_eq!(rt; empty, Ok(true));
-    assert_eq!(rt; newline, Ok(true));
-}
-
-fn sizes_of(alloc: Global, table: Table) -> Result<Sizes, LayoutError> {
-    let mut config = SpannedConfig::new(alloc);
-    let is_set = set_all(&mut config, table);
-    let sizes = estimated(alloc, table, &config);
-    drop(config);
-    match is_set {
-        Ok(()) => sizes,
-        Err(error) => Err(LayoutError::Memory(error)),
-    }
+    assert_eq!(rt; are_by_measure(alloc, EMPTY_CELL, 0, (0, 1, 1)), Ok(true));
+    assert_eq!(rt; are_by_measure(alloc, NEWLINE_CELL, 1, (1, 2, 2)), Ok(true));
 }
 
 #[test]
 fn order_of_span_calls(rt: HostRuntime) -> Result<(), Fail> {
     let alloc = rt.alloc();
-    let sizes = sizes_of(alloc, SPANS)?;
-    assert_eq!(rt; sizes_of(alloc, SPANS_TURNED)?, sizes);
+    let sizes = of_plain(alloc, SPANS, estimated)?;
+    assert_eq!(rt; of_plain(alloc, SPANS_TURNED, estimated)?, sizes);
     Ok(())
 }
-
-const GREATEST: Table = Table {
-    rows: &[&[""]],
-    paddings: &[(0, 0, MAX, 0, 0, 0)],
-    ..SMALL
-};
-
-const GREATEST_WITH_LINES: Table = Table {
-    has_lines: true,
-    ..GREATEST
-};
-
-const PAST_THE_GREATEST: Table = Table {
-    rows: &[&["a"]],
-    ..GREATEST
-};
 
 #[test]
 fn greatest_size(rt: HostRuntime) {
@@ -705,23 +504,19 @@ fn greatest_size(rt: HostRuntime) {
     assert!(rt; is_refused(alloc, PAST_THE_GREATEST, large, large, None));
 }
 
-fn has_equal_clone(alloc: Global, config: &SpannedConfig) -> Result<bool, LayoutError> {
-    let mut dimension = IterGridDimension::new(alloc);
-    let is_new = dimension == IterGridDimension::new(alloc);
-    dimension.estimate(plain(alloc, SMALL)?, config)?;
-    let copy = dimension.clone()?;
-    Ok(is_new && copy == dimension && copy != IterGridDimension::new(alloc))
-}
-
 #[test]
-fn clones(rt: HostRuntime) {
-    let config = SpannedConfig::new(rt.alloc());
-    let is_equal = has_equal_clone(rt.alloc(), &config);
-    drop(config);
-    assert_eq!(rt; is_equal, Ok(true));
+fn clones(rt: HostRuntime) -> Result<(), Fail> {
+    let alloc = rt.alloc();
+    let mut dimension = IterGridDimension::new(alloc);
+    assert!(rt; dimension == IterGridDimension::new(alloc));
+    estimate_plain(alloc, SMALL, &mut dimension)?;
+    let copy = dimension.clone()?;
+    assert!(rt; copy == dimension);
+    assert!(rt; copy != IterGridDimension::new(alloc));
+    Ok(())
 }
 
-fn string_row(alloc: Global, cells: &[&'static str]) -> Result<Vec<String>, AllocError> {
+fn string_row(alloc: Global, cells: &[&str]) -> Result<Vec<String>, AllocError> {
     let mut strings = Vec::new(alloc);
     for cell in cells {
         strings.push(String::from_str(alloc, *cell)?)?;
@@ -729,7 +524,7 @@ fn string_row(alloc: Global, cells: &[&'static str]) -> Result<Vec<String>, Allo
     Ok(strings)
 }
 
-fn strings(alloc: Global, table: Table) -> Result<VecRecords<String>, AllocError> {
+fn strings(alloc: Global, table: Table<'_>) -> Result<VecRecords<String>, AllocError> {
     let mut rows = Vec::new(alloc);
     for row in table.rows {
         rows.push(string_row(alloc, *row)?)?;
@@ -738,16 +533,19 @@ fn strings(alloc: Global, table: Table) -> Result<VecRecords<String>, AllocError
 }
 
 /// Whether the widths of records are the same, lent and by value.
-fn is_same_lent(alloc: Global, table: Table, config: &SpannedConfig) -> Result<bool, LayoutError> {
-    let records = strings(alloc, table)?;
+fn is_same_lent(
+    alloc: Global,
+    records: VecRecords<String>,
+    config: &SpannedConfig,
+) -> Result<bool, LayoutError> {
     let lent = of_lent(alloc, &records, config)?;
     Ok(lent == of_held(alloc, records, config)?)
 }
 
 #[test]
-fn lent_records(rt: HostRuntime) {
-    let config = SpannedConfig::new(rt.alloc());
-    let is_same = is_same_lent(rt.alloc(), LINES_ALONE, &config);
-    drop(config);
-    assert_eq!(rt; is_same, Ok(true));
+fn lent_records(rt: HostRuntime) -> Result<(), Fail> {
+    let alloc = rt.alloc();
+    let records = strings(alloc, LINES_ALONE)?;
+    assert_eq!(rt; answered(alloc, SMALL, records, is_same_lent), Ok(true));
+    Ok(())
 }

@@ -23,6 +23,14 @@ fn check(
     check_by(rt, alloc, Sizing::Least, script, output, end)
 }
 
+/// Checks each of the scripts by what it writes and how its run ends.
+fn check_each(rt: &impl Abort, alloc: Global, cases: &[(&[u8], &str, RunEnd)]) -> Result<(), Fail> {
+    for (script, output, end) in cases {
+        check(rt, alloc, *script, *output, *end)?;
+    }
+    Ok(())
+}
+
 /// Runs the script, and asserts what is written and how the run ends, where sizes are chosen so.
 fn check_by(
     rt: &impl Abort,

@@ -1,25 +1,23 @@
 //! Callers that know their rows: the contracts suffice for an exact answer.
 
-ghost use Rattle.std.specs.Prelude.{IfOk, map, string_bytes};
-ghost use Rattle.papergrid_text.specs.HeldRows.{column_count, rows_held};
-ghost use Rattle.papergrid_values.specs.declared.direction.Direction.TheVariants.{Columns};
-ghost use Rattle.papergrid_walk.specs.Looks.{spanned_look};
-ghost use Rattle.papergrid_walk.specs.Measures.{line_measure};
-ghost use Rattle.papergrid_axis.specs.Answers.{AreSizes};
-ghost use Rattle.papergrid_walk.specs.Cells.{problem_of};
+ghost use Rattle.std.specs.Prelude.{IfOk};
+ghost use Rattle.papergrid_axis.specs.Answers.{AreSizes, IsTotal};
+ghost use Rattle.papergrid_layout_tests.specs.Strings.{columns_of};
 
+use crate::tests::tables::{NESTED_COLUMNS, SMALL};
+use crate::tests::{answered, strings};
 use papergrid_config::SpannedConfig;
-use papergrid_layout::{IterGridDimension, LayoutError};
-use papergrid_text::VecRecords;
+use papergrid_layout::{Estimate, IterGridDimension, LayoutError, total_width};
+use papergrid_text::{Records, VecRecords};
 use std::alloc::Global;
+use std::test::Fail;
 
 pub fn of_held(
     alloc: Global,
     records: VecRecords<String>,
     config: &SpannedConfig,
 ) -> Result<Vec<usize>, LayoutError>
-    ensures { IfOk result (λ widths. AreSizes (problem_of (spanned_look config.now) (line_measure string_bytes)
-        (column_count records) (map (λ row. row.items) (rows_held records).items) Columns) widths.items) }
+    ensures { IfOk result (λ widths. AreSizes (columns_of config.now records) widths.items) }
 {
     match IterGridDimension::width(alloc, records, config) {
         Ok(widths) => Ok(widths),
@@ -32,11 +30,35 @@ pub fn of_lent(
     records: &VecRecords<String>,
     config: &SpannedConfig,
 ) -> Result<Vec<usize>, LayoutError>
-    ensures { IfOk result (λ widths. AreSizes (problem_of (spanned_look config.now) (line_measure string_bytes)
-        (column_count records.now) (map (λ row. row.items) (rows_held records.now).items) Columns) widths.items) }
+    ensures { IfOk result (λ widths. AreSizes (columns_of config.now records.now) widths.items) }
 {
     match IterGridDimension::width(alloc, records, config) {
         Ok(widths) => Ok(widths),
         Err(error) => Err(error),
     }
+}
+
+/// The width of a table by the sizes of an estimate.
+pub fn width_by_estimate(
+    alloc: Global,
+    records: VecRecords<String>,
+    config: &SpannedConfig,
+) -> Result<usize, LayoutError>
+    ensures { IfOk result (λ width. IsTotal (columns_of config.now records) width) }
+{
+    let columns = records.count_columns();
+    let mut dimension = IterGridDimension::new(alloc);
+    match dimension.estimate(records, config) {
+        Ok(()) => total_width(&dimension, config, columns),
+        Err(error) => Err(error),
+    }
+}
+
+// No span is set, so the columns are as wide as their longest texts: 10, 8 and 1.
+#[test]
+fn width_of_estimated(rt: HostRuntime) -> Result<(), Fail> {
+    let alloc = rt.alloc();
+    let records = strings(alloc, NESTED_COLUMNS)?;
+    assert_eq!(rt; answered(alloc, SMALL, records, width_by_estimate), Ok(19));
+    Ok(())
 }

@@ -1,17 +1,15 @@
 //! The places of all cells of a table, and the cells at points of it.
 
-use crate::tests::places::{Taken, at};
-use crate::tests::{HIDDEN_ANCHOR, NESTED_COLUMNS, PICTURE, Table, set_all};
+use crate::tests::answered;
+use crate::tests::places::{Placed, Taken, at, picture};
+use crate::tests::tables::{HIDDEN_ANCHOR, NESTED_COLUMNS, PICTURE, Table};
 use papergrid_config::SpannedConfig;
 use papergrid_layout::{LayoutError, Place, PlaceError, cell_at, places};
 use papergrid_values::{Borders, Position};
 use std::alloc::Global;
 
-/// A row and a column, and what is answered for them.
-type Placed = (usize, usize, Result<Place, PlaceError>);
-
-/// A column of the terminal, a line, and the row and the column of the cell there.
-type Found = (usize, usize, Option<(usize, usize)>);
+/// The row and the column of a cell, if any, and columns of the terminal in lines where it is found.
+type Found<'a> = (Option<(usize, usize)>, &'a [(usize, usize)]);
 
 const PICTURE_SIZES: Taken<'static> = Taken {
     widths: &[17, 12, 16, 1],
@@ -34,53 +32,46 @@ fn all_of(
 }
 
 /// Whether a table with these widths and heights has these cells, by row and then by column.
-fn has_all(alloc: Global, table: Table, taken: Taken<'_>, cells: &[Placed]) -> bool {
-    let mut config = SpannedConfig::new(alloc);
-    let is_set = set_all(&mut config, table).is_ok();
-    let are_there = match all_of(alloc, taken, &config) {
-        Ok(list) => {
-            list.len() == cells.len()
-                && list.iter().zip(cells).all(|(found, cell)| {
-                    found.0 == Position::new(cell.0, cell.1) && Ok(found.1) == cell.2
-                })
-        }
-        Err(_) => false,
-    };
-    drop(config);
-    is_set && are_there
+fn has_all(
+    alloc: Global,
+    table: Table<'_>,
+    taken: Taken<'_>,
+    cells: &[Placed],
+) -> Result<bool, LayoutError> {
+    let list = answered(alloc, table, taken, all_of)?;
+    Ok(
+        list.len() == cells.len()
+            && list.iter().zip(cells).all(|(found, cell)| {
+                found.0 == Position::new(cell.0, cell.1) && Ok(found.1) == cell.2
+            }),
+    )
 }
 
-/// Whether a table with these widths and heights is refused so.
-fn is_refused(alloc: Global, table: Table, taken: Taken<'_>, error: LayoutError) -> bool {
-    let mut config = SpannedConfig::new(alloc);
-    let is_set = set_all(&mut config, table).is_ok();
-    let found = all_of(alloc, taken, &config).err();
-    drop(config);
-    is_set && found == Some(error)
+/// Whether this cell, or none, is found at these points of a table with these widths and heights.
+fn is_at(taken: Taken<'_>, config: &SpannedConfig, found: Found<'_>) -> bool {
+    let shape = (taken.heights.len(), taken.widths.len());
+    let cell = found.0.map(Position::from);
+    found.1.iter().all(|(column, line)| cell_at(&taken, config, shape, *column, *line) == cell)
 }
 
 /// Whether these cells are at these points of a table with these widths and heights.
-fn has_at(alloc: Global, table: Table, taken: Taken<'_>, points: &[Found]) -> bool {
-    let mut config = SpannedConfig::new(alloc);
-    let is_set = set_all(&mut config, table).is_ok();
-    let shape = (taken.heights.len(), taken.widths.len());
-    let are_there = points.iter().all(|(column, line, answer)| {
-        cell_at(&taken, &config, shape, *column, *line) == answer.map(Position::from)
-    });
-    drop(config);
-    is_set && are_there
+fn has_at(
+    alloc: Global,
+    table: Table<'_>,
+    taken: Taken<'_>,
+    points: &[Found<'_>],
+) -> Result<bool, LayoutError> {
+    answered(alloc, table, taken, |_, taken, config| {
+        Ok(points.iter().all(|found| is_at(taken, config, *found)))
+    })
 }
 
 #[test]
 fn all_of_readme_picture(rt: HostRuntime) {
-    let cells = [
-        (0, 0, at(1, 1, 17, 3)),
-        (0, 1, at(19, 1, 12, 1)),
-        (0, 2, at(32, 1, 16, 1)),
-        (0, 3, at(49, 1, 1, 1)),
-        (1, 1, at(19, 3, 31, 1)),
-    ];
-    assert!(rt; has_all(rt.alloc(), PICTURE, PICTURE_SIZES, &cells));
+    assert_eq!(rt;
+        has_all(rt.alloc(), PICTURE, PICTURE_SIZES, &picture()),
+        Ok(true)
+    );
 }
 
 #[test]
@@ -93,7 +84,10 @@ fn all_under_nested_spans(rt: HostRuntime) {
         (2, 0, at(0, 2, 2, 1)),
         (2, 1, at(2, 2, 8, 1)),
     ];
-    assert!(rt; has_all(rt.alloc(), NESTED_COLUMNS, NESTED_SIZES, &cells));
+    assert_eq!(rt;
+        has_all(rt.alloc(), NESTED_COLUMNS, NESTED_SIZES, &cells),
+        Ok(true)
+    );
 }
 
 // The hidden anchor hides the last cell.
@@ -103,9 +97,10 @@ fn all_beside_a_hidden_anchor(rt: HostRuntime) {
         widths: &[2, 2, 3],
         heights: &[1],
     };
-    assert!(rt; has_all(rt.alloc(), HIDDEN_ANCHOR, taken, &[(0, 0, at(0, 0, 4, 1))]));
-    let points = [(3, 0, Some((0, 0))), (4, 0, None)];
-    assert!(rt; has_at(rt.alloc(), HIDDEN_ANCHOR, taken, &points));
+    let cells = [(0, 0, at(0, 0, 4, 1))];
+    assert_eq!(rt; has_all(rt.alloc(), HIDDEN_ANCHOR, taken, &cells), Ok(true));
+    let points: [Found<'_>; 2] = [(Some((0, 0)), &[(3, 0)]), (None, &[(4, 0)])];
+    assert_eq!(rt; has_at(rt.alloc(), HIDDEN_ANCHOR, taken, &points), Ok(true));
 }
 
 // Without its last column the cell of three reaches out, and so does the first cell without the last row.
@@ -121,8 +116,14 @@ fn all_refused(rt: HostRuntime) {
     };
     let cell = LayoutError::OutOfTable(Position::new(1, 1));
     let first = LayoutError::OutOfTable(Position::new(0, 0));
-    assert!(rt; is_refused(rt.alloc(), PICTURE, narrow, cell));
-    assert!(rt; is_refused(rt.alloc(), PICTURE, low, first));
+    assert_eq!(rt;
+        answered(rt.alloc(), PICTURE, narrow, all_of).err(),
+        Some(cell)
+    );
+    assert_eq!(rt;
+        answered(rt.alloc(), PICTURE, low, all_of).err(),
+        Some(first)
+    );
 }
 
 // A table without rows, or without columns, has no cell, however large its other total is.
@@ -136,8 +137,8 @@ fn none_of_no_cells(rt: HostRuntime) {
         widths: &[],
         heights: &[1, usize::MAX],
     };
-    assert!(rt; has_all(rt.alloc(), PICTURE, no_rows, &[]));
-    assert!(rt; has_all(rt.alloc(), PICTURE, no_columns, &[]));
+    assert_eq!(rt; has_all(rt.alloc(), PICTURE, no_rows, &[]), Ok(true));
+    assert_eq!(rt; has_all(rt.alloc(), PICTURE, no_columns, &[]), Ok(true));
 }
 
 /// Whether the one cell of a table that is too large with a frame is refused so, and is out of the
@@ -166,36 +167,35 @@ fn all_too_large(rt: HostRuntime) {
 // Points inside of cells, on lines, on lines and hidden positions that a cell goes over, and outside.
 #[test]
 fn cells_at_points_of_readme_picture(rt: HostRuntime) {
-    let points = [
-        (1, 1, Some((0, 0))),
-        (17, 3, Some((0, 0))),
-        (9, 2, Some((0, 0))),
-        (19, 1, Some((0, 1))),
-        (30, 1, Some((0, 1))),
-        (49, 1, Some((0, 3))),
-        (31, 3, Some((1, 1))),
-        (49, 3, Some((1, 1))),
-        (0, 0, None),
-        (18, 1, None),
-        (31, 1, None),
-        (19, 2, None),
-        (50, 1, None),
-        (51, 1, None),
-        (1, 4, None),
-        (1, 5, None),
+    let inside: [Found<'_>; 4] = [
+        (Some((0, 0)), &[(1, 1), (17, 3), (9, 2)]),
+        (Some((0, 1)), &[(19, 1), (30, 1)]),
+        (Some((0, 3)), &[(49, 1)]),
+        (Some((1, 1)), &[(31, 3), (49, 3)]),
     ];
-    assert!(rt; has_at(rt.alloc(), PICTURE, PICTURE_SIZES, &points));
+    assert_eq!(rt;
+        has_at(rt.alloc(), PICTURE, PICTURE_SIZES, &inside),
+        Ok(true)
+    );
+    let lines: Found<'_> = (None, &[(0, 0), (18, 1), (31, 1), (19, 2)]);
+    let outside: Found<'_> = (None, &[(50, 1), (51, 1), (1, 4), (1, 5)]);
+    assert_eq!(rt;
+        has_at(rt.alloc(), PICTURE, PICTURE_SIZES, &[lines, outside]),
+        Ok(true)
+    );
 }
 
 #[test]
 fn cells_at_points_under_nested_spans(rt: HostRuntime) {
-    let points = [
-        (0, 0, Some((0, 0))),
-        (6, 0, Some((0, 2))),
-        (9, 1, Some((1, 0))),
-        (9, 2, Some((2, 1))),
-        (10, 1, None),
-        (0, 3, None),
+    let points: [Found<'_>; 5] = [
+        (Some((0, 0)), &[(0, 0)]),
+        (Some((0, 2)), &[(6, 0)]),
+        (Some((1, 0)), &[(9, 1)]),
+        (Some((2, 1)), &[(9, 2)]),
+        (None, &[(10, 1), (0, 3)]),
     ];
-    assert!(rt; has_at(rt.alloc(), NESTED_COLUMNS, NESTED_SIZES, &points));
+    assert_eq!(rt;
+        has_at(rt.alloc(), NESTED_COLUMNS, NESTED_SIZES, &points),
+        Ok(true)
+    );
 }

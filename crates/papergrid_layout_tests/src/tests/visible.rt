@@ -1,8 +1,9 @@
 //! Cells hidden by spans in and out of the table.
 
-use crate::tests::{MAX, SMALL, Table, has_sizes, is_refused, out_at};
+use crate::tests::tables::{MAX, SMALL, Table};
+use crate::tests::{has_sizes, is_refused, out_at};
 
-const HIDDEN_FAR: Table = Table {
+const HIDDEN_FAR: Table<'static> = Table {
     columns: 2,
     rows: &[&["a", "b"], &["c", "d", "zzz", "zzz", "zzz", "zzz", "zzz"]],
     column_spans: &[(0, 2, 5)],
@@ -11,12 +12,12 @@ const HIDDEN_FAR: Table = Table {
     has_lines: false,
 };
 
-const LAST_NOT_HIDDEN: Table = Table {
+const LAST_NOT_HIDDEN: Table<'static> = Table {
     column_spans: &[(0, 2, 4)],
     ..HIDDEN_FAR
 };
 
-const HIDDEN_WITHOUT_END: Table = Table {
+const HIDDEN_WITHOUT_END: Table<'static> = Table {
     column_spans: &[(0, 2, MAX)],
     row_spans: &[(0, 2, MAX)],
     ..HIDDEN_FAR
@@ -31,7 +32,7 @@ fn long_row_hidden_past_the_columns(rt: HostRuntime) {
     assert!(rt; is_refused(alloc, LAST_NOT_HIDDEN, out_at(1, 6), out_at(1, 6), None));
 }
 
-const HIDDEN_IN_ROW: Table = Table {
+const HIDDEN_IN_ROW: Table<'static> = Table {
     columns: 7,
     rows: &[&["a", "b", "zzz", "zzz", "c", "d", "zzz"]],
     column_spans: &[(0, 1, 3), (0, 5, 2)],
@@ -53,7 +54,7 @@ fn hidden_right_of_anchors(rt: HostRuntime) {
     );
 }
 
-const ANCHORS_OUTSIDE: Table = Table {
+const ANCHORS_OUTSIDE: Table<'static> = Table {
     columns: 2,
     rows: &[&["a", "b"], &["c", "d"]],
     column_spans: &[(0, 9, MAX), (5, 0, 2), (MAX, MAX, MAX)],
@@ -67,12 +68,12 @@ fn anchors_out_of_the_table(rt: HostRuntime) {
     assert!(rt; has_sizes(rt.alloc(), ANCHORS_OUTSIDE, &[1, 1], &[1, 1], (2, 2)));
 }
 
-const WIDEST: Table = Table {
+const WIDEST: Table<'static> = Table {
     column_spans: &[(0, 0, MAX)],
     ..SMALL
 };
 
-const HIGHEST: Table = Table {
+const HIGHEST: Table<'static> = Table {
     row_spans: &[(0, 0, MAX)],
     ..SMALL
 };

@@ -1,6 +1,6 @@
 //! Worked scripts.
 
-use super::{check, check_apart, check_by};
+use super::{check, check_apart, check_by, check_each};
 use papergrid::{RunEnd, Sizing};
 use std::alloc::Global;
 use std::process::Abort;
@@ -52,51 +52,51 @@ fn row_pin_over_column(rt: HostRuntime) -> Result<(), Fail> {
 
 #[test]
 fn greatest_size(rt: HostRuntime) -> Result<(), Fail> {
-    check(
+    check_each(
         &rt,
         rt.alloc(),
-        b"columns 1\npad * 18446744073709551615 0 0 0\nrow\ncell\n",
-        "widths 18446744073709551615\nheights 1\ntotal 18446744073709551615 1\nwitness widths 0,0\nwitness heights 0,0\n",
-        RunEnd::Done,
-    )?;
-    check(
-        &rt,
-        rt.alloc(),
-        b"columns 1\npad * 18446744073709551615 0 0 0\nrow\ncell\nborder |\n",
-        "refused: too large\n",
-        RunEnd::Refused,
-    )?;
-    check(
-        &rt,
-        rt.alloc(),
-        b"columns 1\npad * 18446744073709551615 0 0 0\nrow\ncell a\n",
-        "refused: too large\n",
-        RunEnd::Refused,
+        &[
+            (
+                b"columns 1\npad * 18446744073709551615 0 0 0\nrow\ncell\n",
+                "widths 18446744073709551615\nheights 1\ntotal 18446744073709551615 1\nwitness widths 0,0\nwitness heights 0,0\n",
+                RunEnd::Done,
+            ),
+            (
+                b"columns 1\npad * 18446744073709551615 0 0 0\nrow\ncell\nborder |\n",
+                "refused: too large\n",
+                RunEnd::Refused,
+            ),
+            (
+                b"columns 1\npad * 18446744073709551615 0 0 0\nrow\ncell a\n",
+                "refused: too large\n",
+                RunEnd::Refused,
+            ),
+        ],
     )
 }
 
 #[test]
 fn out_of_table(rt: HostRuntime) -> Result<(), Fail> {
-    check(
+    check_each(
         &rt,
         rt.alloc(),
-        b"columns 2\ncolspan 0,0 3\nrow\ncell a\n",
-        "refused: out of table at 0,0\n",
-        RunEnd::Refused,
-    )?;
-    check(
-        &rt,
-        rt.alloc(),
-        b"columns 1\nrow\ncell a\ncell b\n",
-        "refused: out of table at 0,1\n",
-        RunEnd::Refused,
-    )?;
-    check(
-        &rt,
-        rt.alloc(),
-        b"columns 1\nrowspan 0,0 2\nrow\ncell a\n",
-        "refused: out of table at 0,0\n",
-        RunEnd::Refused,
+        &[
+            (
+                b"columns 2\ncolspan 0,0 3\nrow\ncell a\n",
+                "refused: out of table at 0,0\n",
+                RunEnd::Refused,
+            ),
+            (
+                b"columns 1\nrow\ncell a\ncell b\n",
+                "refused: out of table at 0,1\n",
+                RunEnd::Refused,
+            ),
+            (
+                b"columns 1\nrowspan 0,0 2\nrow\ncell a\n",
+                "refused: out of table at 0,0\n",
+                RunEnd::Refused,
+            ),
+        ],
     )
 }
 
@@ -282,44 +282,42 @@ fn empty_tables(rt: HostRuntime) -> Result<(), Fail> {
 
 #[test]
 fn script_lines(rt: HostRuntime) -> Result<(), Fail> {
-    check(
+    check_each(
         &rt,
         rt.alloc(),
-        b"columns 2\nvline 1 |\nhline 7 -\nrow\ncell ab\ncell c\n",
-        "widths 2 1\nheights 1\ntotal 4 1\nwitness widths 0,0 0,1\nwitness heights 0,0\n",
-        RunEnd::Done,
-    )?;
-    check(
-        &rt,
-        rt.alloc(),
-        b"columns 2\nvline 1 |\nhline 7 -\nrow\ncell ab\ncell c\nnovline 1\n",
-        "widths 2 1\nheights 1\ntotal 3 1\nwitness widths 0,0 0,1\nwitness heights 0,0\n",
-        RunEnd::Done,
-    )?;
-    check(
-        &rt,
-        rt.alloc(),
-        b"columns 2\nborder |\nrow\ncell ab\ncell c\n",
-        "widths 2 1\nheights 1\ntotal 6 3\nwitness widths 0,0 0,1\nwitness heights 0,0\n",
-        RunEnd::Done,
+        &[
+            (
+                b"columns 2\nvline 1 |\nhline 7 -\nrow\ncell ab\ncell c\n",
+                "widths 2 1\nheights 1\ntotal 4 1\nwitness widths 0,0 0,1\nwitness heights 0,0\n",
+                RunEnd::Done,
+            ),
+            (
+                b"columns 2\nvline 1 |\nhline 7 -\nrow\ncell ab\ncell c\nnovline 1\n",
+                "widths 2 1\nheights 1\ntotal 3 1\nwitness widths 0,0 0,1\nwitness heights 0,0\n",
+                RunEnd::Done,
+            ),
+            (
+                b"columns 2\nborder |\nrow\ncell ab\ncell c\n",
+                "widths 2 1\nheights 1\ntotal 6 3\nwitness widths 0,0 0,1\nwitness heights 0,0\n",
+                RunEnd::Done,
+            ),
+        ],
     )
 }
 
 #[test]
 fn bad_scripts(rt: HostRuntime) -> Result<(), Fail> {
-    check(
+    check_each(
         &rt,
         rt.alloc(),
-        b"cell a\n",
-        "bad script at line 1\n",
-        RunEnd::BadScript,
-    )?;
-    check(
-        &rt,
-        rt.alloc(),
-        b"columns 2\n\nrow\ncell a\\x\n",
-        "bad script at line 4\n",
-        RunEnd::BadScript,
+        &[
+            (b"cell a\n", "bad script at line 1\n", RunEnd::BadScript),
+            (
+                b"columns 2\n\nrow\ncell a\\x\n",
+                "bad script at line 4\n",
+                RunEnd::BadScript,
+            ),
+        ],
     )
 }
 

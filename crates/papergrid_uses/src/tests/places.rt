@@ -8,8 +8,11 @@ use papergrid::config::spanned::SpannedConfig;
 use papergrid::dimension::{Dimension, Place};
 use std::alloc::Global;
 
-/// Each column is three columns of a terminal wide, and each row one line high.
-struct Even;
+/// Columns that are all as wide, and rows that are all as high.
+struct Even {
+    width: usize,
+    height: usize,
+}
 
 impl Dimension for Even {
     ghost use Rattle.std.specs.Prelude.{⊤};
@@ -18,18 +21,24 @@ impl Dimension for Even {
 
     ghost has_row = { λ _ _. ⊤ };
 
-    ghost width_of = { λ _ _. 3 };
+    ghost width_of = { λ even _. even.width };
 
-    ghost height_of = { λ _ _. 1 };
+    ghost height_of = { λ even _. even.height };
 
     fn get_width(&self, _column: usize) -> usize {
-        3
+        self.width
     }
 
     fn get_height(&self, _row: usize) -> usize {
-        1
+        self.height
     }
 }
+
+/// Each column is three columns of a terminal wide, and each row one line high.
+const SIZES: Even = Even {
+    width: 3,
+    height: 1,
+};
 
 /// Columns of a terminal in lines, and the cells there: the first one spans two columns.
 const POINTS: [((usize, usize), Option<Position>); 8] = [
@@ -45,7 +54,7 @@ const POINTS: [((usize, usize), Option<Position>); 8] = [
 
 fn are_clicked(config: &SpannedConfig) -> bool {
     let shape = (2, 3);
-    POINTS.iter().all(|(point, cell)| clicked(&Even, config, shape, point.0, point.1) == *cell)
+    POINTS.iter().all(|(point, cell)| clicked(&SIZES, config, shape, point.0, point.1) == *cell)
 }
 
 /// The first cell goes over two columns and the line between them, and hides the second one.
@@ -56,17 +65,17 @@ fn are_placed(config: &SpannedConfig) -> bool {
         width: 7,
         height: 1,
     };
-    place_of(&Even, config, (2, 3), Position::new(0, 0)) == Ok(first)
-        && is_hidden(place_of(&Even, config, (2, 3), Position::new(0, 1)))
+    place_of(&SIZES, config, (2, 3), Position::new(0, 0)) == Ok(first)
+        && is_hidden(place_of(&SIZES, config, (2, 3), Position::new(0, 1)))
 }
 
 /// Five cells of six are visible; in a table of one column the first one reaches out.
 fn are_all_placed(alloc: Global, config: &SpannedConfig) -> bool {
-    let all = match all_places(alloc, &Even, config, (2, 3)) {
+    let all = match all_places(alloc, &SIZES, config, (2, 3)) {
         Ok(list) => list.len(),
         Err(_) => 0,
     };
-    let refused = match all_places(alloc, &Even, config, (2, 1)) {
+    let refused = match all_places(alloc, &SIZES, config, (2, 1)) {
         Ok(_) => None,
         Err(error) => out_of_table(error),
     };

@@ -9,7 +9,7 @@ use Rattle.papergrid_walk.specs.Looks.{spanned_look}
 use Rattle.papergrid_walk.specs.Measures.{line_measure}
 use Rattle.papergrid_layout.specs.Places.{IsTotalOf, total}
 use Rattle.papergrid_layout.proofs.PlaceLaws.{totals}
-use Rattle.papergrid_layout_tests.proofs.tests.places.width_by_estimate.Goals as goal
+use Rattle.papergrid_layout_tests.proofs.tests.callers.width_by_estimate.Goals as goal
 
 answered : (r : Result ℕ LayoutError) (t : ℕ) (P : ℕ → Type 0) → ((n : ℕ) → n ≡ t → P n) → IsTotalOf t r → IfOk r P
 answered (Ok n) t P f h = f n h
