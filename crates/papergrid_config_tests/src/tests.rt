@@ -122,29 +122,39 @@ fn spans(rt: HostRuntime) -> Result<(), Fail> {
     Ok(())
 }
 
-#[test]
-fn line_flags(rt: HostRuntime) {
-    let mut config = SpannedConfig::new(rt.alloc());
-    let line = HorizontalLine::new(Some('-'), None, Some('+'), None);
-    assert!(rt; config.insert_horizontal_line(1, line).is_ok());
-    assert!(rt; config.has_vertical(0, 3) && config.has_horizontal(1, 2));
-    assert_eq!(rt; config.get_horizontal_line(1), Some(&line));
-    config.remove_horizontal_line(1, 2);
-    assert!(rt; !config.has_vertical(0, 3) && !config.has_horizontal(1, 2));
-    drop(config);
+// A line of dashes, which a plus begins.
+fn dashes() -> HorizontalLine<char> {
+    HorizontalLine::new(Some('-'), None, Some('+'), None)
+}
+
+// A configuration whose second line is of dashes.
+fn dashed(alloc: Global) -> Result<SpannedConfig, AllocError> {
+    let mut config = SpannedConfig::new(alloc);
+    config.insert_horizontal_line(1, dashes())?;
+    Ok(config)
 }
 
 #[test]
-fn overwritten_line(rt: HostRuntime) {
-    let mut config = SpannedConfig::new(rt.alloc());
-    let line = HorizontalLine::new(Some('-'), None, Some('+'), None);
-    assert!(rt; config.insert_horizontal_line(1, line).is_ok());
+fn line_flags(rt: HostRuntime) -> Result<(), Fail> {
+    let mut config = dashed(rt.alloc())?;
+    assert!(rt; config.has_vertical(0, 3) && config.has_horizontal(1, 2));
+    assert_eq!(rt; config.get_horizontal_line(1), Some(&dashes()));
+    config.remove_horizontal_line(1, 2);
+    assert!(rt; !config.has_vertical(0, 3) && !config.has_horizontal(1, 2));
+    drop(config);
+    Ok(())
+}
+
+#[test]
+fn overwritten_line(rt: HostRuntime) -> Result<(), Fail> {
+    let mut config = dashed(rt.alloc())?;
     let line = HorizontalLine::new(None, None, None, None);
     assert!(rt; config.insert_horizontal_line(1, line).is_ok());
     config.remove_horizontal_line(2, 2);
     assert!(rt; !config.has_vertical(0, 3) && config.has_horizontal(1, 2));
     assert!(rt; config.count_vertical(3) == 0 && config.count_horizontal(2) == 1);
     drop(config);
+    Ok(())
 }
 
 #[test]

@@ -2,6 +2,7 @@
 
 use super::{clones, color, reads, says};
 use papergrid_values::{ANSIBuf, Border, Borders, HorizontalLine, Sides, VerticalLine};
+use std::process::Abort;
 use std::test::Fail;
 
 #[test]
@@ -33,10 +34,22 @@ fn cloned(rt: HostRuntime) -> Result<(), Fail> {
     )
 }
 
+/// What a test ends with that clones what is made of two colours.
+fn clones_two<T: Clone + PartialEq + Drop, F>(
+    rt: &(impl Abort + AllocGlobal),
+    make: F,
+) -> Result<(), Fail>
+where
+    F: FnOnce(Option<ANSIBuf>, Option<ANSIBuf>) -> T,
+    requires { F.IsAlwaysCallable make }
+{
+    let (first, second) = (color(rt.alloc())?, color(rt.alloc())?);
+    clones(rt, make(Some(first), Some(second)))
+}
+
 #[test]
 fn clone_of_sides(rt: HostRuntime) -> Result<(), Fail> {
-    let (left, top) = (Some(color(rt.alloc())?), Some(color(rt.alloc())?));
-    clones(&rt, Sides::new(left, None, top, None))
+    clones_two(&rt, |left, top| Sides::new(left, None, top, None))
 }
 
 #[test]
@@ -55,12 +68,14 @@ fn clone_of_borders(rt: HostRuntime) -> Result<(), Fail> {
 
 #[test]
 fn clone_of_horizontal_line(rt: HostRuntime) -> Result<(), Fail> {
-    let (main, right) = (Some(color(rt.alloc())?), Some(color(rt.alloc())?));
-    clones(&rt, HorizontalLine::new(main, None, None, right))
+    clones_two(&rt, |main, right| {
+        HorizontalLine::new(main, None, None, right)
+    })
 }
 
 #[test]
 fn clone_of_vertical_line(rt: HostRuntime) -> Result<(), Fail> {
-    let (main, bottom) = (Some(color(rt.alloc())?), Some(color(rt.alloc())?));
-    clones(&rt, VerticalLine::new(main, None, None, bottom))
+    clones_two(&rt, |main, bottom| {
+        VerticalLine::new(main, None, None, bottom)
+    })
 }

@@ -17,22 +17,6 @@ fn apply_one(rt: HostRuntime) -> Result<(), Fail> {
     )
 }
 
-/// What a test ends with where memory was refused to the next of the settings that are given.
-fn stops(
-    rt: &impl Abort,
-    alloc: Global,
-    config: SpannedConfig,
-    given: Vec<Setting>,
-) -> Result<(), Fail> {
-    match told(alloc, given) {
-        Ok(like) => keeps(rt, config, like, Err::<(), AllocError>(AllocError)),
-        Err(error) => {
-            drop(config);
-            Err(Fail::from(error))
-        }
-    }
-}
-
 /// Applies settings one by one, up to one that is refused: how many were done.
 fn done_of(config: &mut SpannedConfig, settings: Vec<Setting>) -> usize {
     let mut done: usize = 0;
@@ -45,17 +29,38 @@ fn done_of(config: &mut SpannedConfig, settings: Vec<Setting>) -> usize {
     done
 }
 
-#[test]
-fn apply_each(rt: HostRuntime) -> Result<(), Fail> {
-    let (settings, mut again) = (each(rt.alloc())?, each(rt.alloc())?);
+/// What a test ends with that applies settings, which are given twice: where one is refused, those before it tell the
+/// configuration.
+fn applies<F>(
+    rt: &(impl Abort + AllocGlobal),
+    settings: Vec<Setting>,
+    mut again: Vec<Setting>,
+    apply: F,
+) -> Result<(), Fail>
+where
+    F: FnOnce(&mut SpannedConfig, Vec<Setting>) -> usize,
+    requires { F.IsAlwaysCallable apply }
+{
     let mut config = SpannedConfig::new(rt.alloc());
-    let done = done_of(&mut config, settings);
+    let done = apply(&mut config, settings);
     if done == again.len() {
         drop(config);
         return Ok(());
     }
     again.truncate(done);
-    stops(&rt, rt.alloc(), config, again)
+    match told(rt.alloc(), again) {
+        Ok(like) => keeps(rt, config, like, Err::<(), AllocError>(AllocError)),
+        Err(error) => {
+            drop(config);
+            Err(Fail::from(error))
+        }
+    }
+}
+
+#[test]
+fn apply_each(rt: HostRuntime) -> Result<(), Fail> {
+    let (settings, again) = (each(rt.alloc())?, each(rt.alloc())?);
+    applies(&rt, settings, again, done_of)
 }
 
 /// Applies settings that are in range at once, up to one that is refused: how many were done.
@@ -72,15 +77,8 @@ fn done_at_once(config: &mut SpannedConfig, settings: Vec<Setting>) -> usize {
 
 #[test]
 fn apply_all(rt: HostRuntime) -> Result<(), Fail> {
-    let (settings, mut again) = (ten(rt.alloc())?, ten(rt.alloc())?);
-    let mut config = SpannedConfig::new(rt.alloc());
-    let done = done_at_once(&mut config, settings);
-    if done == again.len() {
-        drop(config);
-        return Ok(());
-    }
-    again.truncate(done);
-    stops(&rt, rt.alloc(), config, again)
+    let (settings, again) = (ten(rt.alloc())?, ten(rt.alloc())?);
+    applies(&rt, settings, again, done_at_once)
 }
 
 #[test]
@@ -106,37 +104,38 @@ fn clone_of_settings(rt: HostRuntime) -> Result<(), Fail> {
 }
 
 /// What a test ends with that reads a configuration that holds two lines and two spans of each direction.
-fn reads_two<A: Drop, F>(rt: &impl Abort, alloc: Global, read: F) -> Result<(), Fail>
+fn reads_two<A: Drop, F>(rt: &(impl Abort + AllocGlobal), read: F) -> Result<(), Fail>
 where
     F: FnOnce(&SpannedConfig) -> Result<A, AllocError>,
     requires { F.IsAlwaysCallable read }
 {
-    reads(rt, told(alloc, two_of_each(alloc)?)?, read)
+    let settings = two_of_each(rt.alloc())?;
+    reads(rt, told(rt.alloc(), settings)?, read)
 }
 
 #[test]
 fn get_horizontal_lines(rt: HostRuntime) -> Result<(), Fail> {
-    reads_two(&rt, rt.alloc(), SpannedConfig::get_horizontal_lines)
+    reads_two(&rt, SpannedConfig::get_horizontal_lines)
 }
 
 #[test]
 fn get_vertical_lines(rt: HostRuntime) -> Result<(), Fail> {
-    reads_two(&rt, rt.alloc(), SpannedConfig::get_vertical_lines)
+    reads_two(&rt, SpannedConfig::get_vertical_lines)
 }
 
 #[test]
 fn get_column_spans(rt: HostRuntime) -> Result<(), Fail> {
-    reads_two(&rt, rt.alloc(), SpannedConfig::get_column_spans)
+    reads_two(&rt, SpannedConfig::get_column_spans)
 }
 
 #[test]
 fn get_row_spans(rt: HostRuntime) -> Result<(), Fail> {
-    reads_two(&rt, rt.alloc(), SpannedConfig::get_row_spans)
+    reads_two(&rt, SpannedConfig::get_row_spans)
 }
 
 #[test]
 fn anchors(rt: HostRuntime) -> Result<(), Fail> {
-    reads_two(&rt, rt.alloc(), SpannedConfig::anchors)
+    reads_two(&rt, SpannedConfig::anchors)
 }
 
 /// A configuration that holds a padding for one cell.

@@ -4,6 +4,7 @@ use super::{changes, clones, keeps, reads, says};
 use papergrid_maps::{EntityMap, MapCall, Stopped};
 use papergrid_values::Entity;
 use std::alloc::{AllocError, Global};
+use std::process::Abort;
 use std::test::Fail;
 
 fn three_rows(alloc: Global) -> Result<EntityMap<char>, AllocError> {
@@ -15,22 +16,19 @@ fn three_rows(alloc: Global) -> Result<EntityMap<char>, AllocError> {
     Ok(map)
 }
 
+/// What a test ends with that sets one more value.
+fn inserts(rt: &(impl Abort + AllocGlobal), entity: Entity) -> Result<(), Fail> {
+    changes(rt, three_rows(rt.alloc())?, |map| map.insert(entity, 'n'))
+}
+
 #[test]
 fn insert_column(rt: HostRuntime) -> Result<(), Fail> {
-    changes(
-        &rt,
-        three_rows(rt.alloc())?,
-        |map| map.insert(Entity::Column(1), 'n'),
-    )
+    inserts(&rt, Entity::Column(1))
 }
 
 #[test]
 fn insert_row(rt: HostRuntime) -> Result<(), Fail> {
-    changes(
-        &rt,
-        three_rows(rt.alloc())?,
-        |map| map.insert(Entity::Row(1), 'n'),
-    )
+    inserts(&rt, Entity::Row(1))
 }
 
 #[test]

@@ -36,13 +36,6 @@ pub fn settings(alloc: Global) -> Result<Vec<Setting>, AllocError> {
     ]?)
 }
 
-type Picture = (VecRecords<&'static str>, SpannedConfig);
-
-fn picture(alloc: Global) -> Result<Picture, AllocError> {
-    let records = VecRecords::new(rows(alloc)?);
-    Ok((records, told(alloc, settings(alloc)?)?))
-}
-
 /// An answer that can be no other error than refused memory.
 pub fn in_table<A>(rt: &impl Abort, answer: Result<A, LayoutError>) -> Result<A, AllocError> {
     match answer {
@@ -52,121 +45,129 @@ pub fn in_table<A>(rt: &impl Abort, answer: Result<A, LayoutError>) -> Result<A,
     }
 }
 
-/// What a test ends with that asks for something of the picture.
-fn answers<'a, A: Drop, F>(rt: &impl Abort, alloc: Global, ask: F) -> Result<(), Fail>
+/// What a test ends with that asks for something of the picture's texts.
+fn answers<'a, C, A: Drop, F>(
+    rt: &(impl Abort + AllocGlobal),
+    config: &C,
+    ask: F,
+) -> Result<(), Fail>
+where
+    F: FnOnce(Global, VecRecords<&'a str>, &C) -> Result<A, LayoutError>,
+    requires { F.IsAlwaysCallable ask }
+{
+    let records = VecRecords::new(rows(rt.alloc())?);
+    says(in_table(rt, ask(rt.alloc(), records, config)))
+}
+
+/// The same by the settings of the picture.
+fn answers_picture<'a, A: Drop, F>(rt: &(impl Abort + AllocGlobal), ask: F) -> Result<(), Fail>
 where
     F: FnOnce(Global, VecRecords<&'a str>, &SpannedConfig) -> Result<A, LayoutError>,
     requires { F.IsAlwaysCallable ask }
 {
-    let (records, config) = picture(alloc)?;
-    let answer = ask(alloc, records, &config);
+    let config = told(rt.alloc(), settings(rt.alloc())?)?;
+    let end = answers(rt, &config, ask);
     drop(config);
-    says(in_table(rt, answer))
+    end
 }
 
 #[test]
 fn iter_width(rt: HostRuntime) -> Result<(), Fail> {
-    answers(&rt, rt.alloc(), IterGridDimension::width)
+    answers_picture(&rt, IterGridDimension::width)
 }
 
 #[test]
 fn iter_height(rt: HostRuntime) -> Result<(), Fail> {
-    answers(&rt, rt.alloc(), IterGridDimension::height)
+    answers_picture(&rt, IterGridDimension::height)
 }
 
 #[test]
 fn iter_width_total(rt: HostRuntime) -> Result<(), Fail> {
-    answers(&rt, rt.alloc(), IterGridDimension::width_total)
+    answers_picture(&rt, IterGridDimension::width_total)
 }
 
 #[test]
 fn iter_height_total(rt: HostRuntime) -> Result<(), Fail> {
-    answers(&rt, rt.alloc(), IterGridDimension::height_total)
+    answers_picture(&rt, IterGridDimension::height_total)
 }
 
 #[test]
 fn least_width(rt: HostRuntime) -> Result<(), Fail> {
-    answers(&rt, rt.alloc(), LeastGridDimension::width)
+    answers_picture(&rt, LeastGridDimension::width)
 }
 
 #[test]
 fn least_height(rt: HostRuntime) -> Result<(), Fail> {
-    answers(&rt, rt.alloc(), LeastGridDimension::height)
+    answers_picture(&rt, LeastGridDimension::height)
 }
 
 #[test]
 fn least_width_total(rt: HostRuntime) -> Result<(), Fail> {
-    answers(&rt, rt.alloc(), LeastGridDimension::width_total)
+    answers_picture(&rt, LeastGridDimension::width_total)
 }
 
 #[test]
 fn least_height_total(rt: HostRuntime) -> Result<(), Fail> {
-    answers(&rt, rt.alloc(), LeastGridDimension::height_total)
+    answers_picture(&rt, LeastGridDimension::height_total)
 }
 
 #[test]
 fn peekable_width(rt: HostRuntime) -> Result<(), Fail> {
-    answers(&rt, rt.alloc(), PeekableGridDimension::width)
+    answers_picture(&rt, PeekableGridDimension::width)
 }
 
 #[test]
 fn peekable_height(rt: HostRuntime) -> Result<(), Fail> {
-    answers(&rt, rt.alloc(), PeekableGridDimension::height)
+    answers_picture(&rt, PeekableGridDimension::height)
 }
 
 #[test]
 fn peekable_dimension(rt: HostRuntime) -> Result<(), Fail> {
-    answers(&rt, rt.alloc(), PeekableGridDimension::dimension)
+    answers_picture(&rt, PeekableGridDimension::dimension)
 }
 
 #[test]
 fn compact_width(rt: HostRuntime) -> Result<(), Fail> {
-    let records = VecRecords::new(rows(rt.alloc())?);
-    let answer = CompactGridDimension::width(rt.alloc(), records, &CompactConfig::new());
-    says(in_table(&rt, answer))
+    answers(&rt, &CompactConfig::new(), CompactGridDimension::width)
 }
 
 #[test]
 fn compact_height(rt: HostRuntime) -> Result<(), Fail> {
-    let records = VecRecords::new(rows(rt.alloc())?);
-    let answer = CompactGridDimension::height(rt.alloc(), records, &CompactConfig::new());
-    says(in_table(&rt, answer))
+    answers(&rt, &CompactConfig::new(), CompactGridDimension::height)
 }
 
 #[test]
 fn compact_dimension(rt: HostRuntime) -> Result<(), Fail> {
-    let records = VecRecords::new(rows(rt.alloc())?);
-    let answer = CompactGridDimension::dimension(rt.alloc(), records, &CompactConfig::new());
-    says(in_table(&rt, answer))
+    answers(&rt, &CompactConfig::new(), CompactGridDimension::dimension)
 }
 
 #[test]
 fn by_width_witness(rt: HostRuntime) -> Result<(), Fail> {
-    answers(&rt, rt.alloc(), |alloc, records, config| {
+    answers_picture(&rt, |alloc, records, config| {
         width_witness(alloc, records, config)
     })
 }
 
 #[test]
 fn by_height_witness(rt: HostRuntime) -> Result<(), Fail> {
-    answers(&rt, rt.alloc(), |alloc, records, config| {
+    answers_picture(&rt, |alloc, records, config| {
         height_witness(alloc, records, config)
     })
 }
 
 #[test]
 fn by_width_certificate(rt: HostRuntime) -> Result<(), Fail> {
-    answers(&rt, rt.alloc(), width_certificate)
+    answers_picture(&rt, width_certificate)
 }
 
 #[test]
 fn by_height_certificate(rt: HostRuntime) -> Result<(), Fail> {
-    answers(&rt, rt.alloc(), height_certificate)
+    answers_picture(&rt, height_certificate)
 }
 
 #[test]
 fn by_certified_sizes(rt: HostRuntime) -> Result<(), Fail> {
-    answers(&rt, rt.alloc(), certified_sizes)
+    answers_picture(&rt, certified_sizes)
 }
 
 fn short_rows(alloc: Global) -> Result<Vec<Vec<&'static str>>, AllocError> {
@@ -175,100 +176,97 @@ fn short_rows(alloc: Global) -> Result<Vec<Vec<&'static str>>, AllocError> {
     Ok(vec![in alloc; first, second]?)
 }
 
+/// A dimension that has the sizes of short texts.
+fn sized<C, D: Estimate<VecRecords<&'static str>, C> + Drop>(
+    rt: &(impl Abort + AllocGlobal),
+    mut dimension: D,
+    config: &C,
+) -> Result<D, AllocError>
+    requires { (records : VecRecords (Bor (List ℕ))) → D.accepts records }
+{
+    let records = VecRecords::new(short_rows(rt.alloc())?);
+    in_table(rt, dimension.estimate(records, config))?;
+    Ok(dimension)
+}
+
 /// What a test ends with that estimates the picture after short texts.
 fn estimates<C, D: Estimate<VecRecords<&'static str>, C> + Clone + PartialEq + Drop>(
-    rt: &impl Abort,
-    alloc: Global,
-    mut dimension: D,
+    rt: &(impl Abort + AllocGlobal),
+    dimension: D,
     config: &C,
 ) -> Result<(), Fail>
     requires { (records : VecRecords (Bor (List ℕ))) → D.accepts records }
 {
-    let (short, records) = (short_rows(alloc)?, rows(alloc)?);
-    in_table(rt, dimension.estimate(VecRecords::new(short), config))?;
-    let (mut dimension, before) = with_clone(dimension)?;
-    let answer = dimension.estimate(VecRecords::new(records), config);
+    let records = VecRecords::new(rows(rt.alloc())?);
+    let (mut dimension, before) = with_clone(sized(rt, dimension, config)?)?;
+    let answer = dimension.estimate(records, config);
     keeps(rt, dimension, before, in_table(rt, answer))
 }
 
 /// The same by the settings of the picture.
-fn estimates_picture<D>(rt: &impl Abort, alloc: Global, dimension: D) -> Result<(), Fail>
+fn estimates_picture<D>(rt: &(impl Abort + AllocGlobal), dimension: D) -> Result<(), Fail>
 where
     D: Estimate<VecRecords<&'static str>, SpannedConfig> + Clone + PartialEq + Drop,
     requires { (records : VecRecords (Bor (List ℕ))) → D.accepts records }
 {
-    let config = told(alloc, settings(alloc)?)?;
-    let end = estimates(rt, alloc, dimension, &config);
+    let config = told(rt.alloc(), settings(rt.alloc())?)?;
+    let end = estimates(rt, dimension, &config);
     drop(config);
     end
 }
 
 #[test]
 fn iter_estimate(rt: HostRuntime) -> Result<(), Fail> {
-    estimates_picture(&rt, rt.alloc(), IterGridDimension::new(rt.alloc()))
+    estimates_picture(&rt, IterGridDimension::new(rt.alloc()))
 }
 
 #[test]
 fn least_estimate(rt: HostRuntime) -> Result<(), Fail> {
-    estimates_picture(&rt, rt.alloc(), LeastGridDimension::new(rt.alloc()))
+    estimates_picture(&rt, LeastGridDimension::new(rt.alloc()))
 }
 
 #[test]
 fn peekable_estimate(rt: HostRuntime) -> Result<(), Fail> {
-    estimates_picture(&rt, rt.alloc(), PeekableGridDimension::new(rt.alloc()))
+    estimates_picture(&rt, PeekableGridDimension::new(rt.alloc()))
 }
 
 #[test]
 fn compact_estimate(rt: HostRuntime) -> Result<(), Fail> {
     let dimension = CompactGridDimension::new(rt.alloc());
-    estimates(&rt, rt.alloc(), dimension, &CompactConfig::new())
-}
-
-/// What a test ends with that clones a dimension that has the sizes of short texts.
-fn clones_sized<C, D: Estimate<VecRecords<&'static str>, C> + Clone + PartialEq + Drop>(
-    rt: &impl Abort,
-    alloc: Global,
-    mut dimension: D,
-    config: &C,
-) -> Result<(), Fail>
-    requires { (records : VecRecords (Bor (List ℕ))) → D.accepts records }
-{
-    let short = short_rows(alloc)?;
-    in_table(rt, dimension.estimate(VecRecords::new(short), config))?;
-    clones(rt, dimension)
-}
-
-/// The same without settings.
-fn clones_plain<D>(rt: &impl Abort, alloc: Global, dimension: D) -> Result<(), Fail>
-where
-    D: Estimate<VecRecords<&'static str>, SpannedConfig> + Clone + PartialEq + Drop,
-    requires { (records : VecRecords (Bor (List ℕ))) → D.accepts records }
-{
-    let config = SpannedConfig::new(alloc);
-    let end = clones_sized(rt, alloc, dimension, &config);
-    drop(config);
-    end
+    estimates(&rt, dimension, &CompactConfig::new())
 }
 
 #[test]
 fn compact_clone(rt: HostRuntime) -> Result<(), Fail> {
     let dimension = CompactGridDimension::new(rt.alloc());
-    clones_sized(&rt, rt.alloc(), dimension, &CompactConfig::new())
+    clones(&rt, sized(&rt, dimension, &CompactConfig::new())?)
+}
+
+/// A dimension that has the sizes of short texts without settings.
+fn plain<D>(rt: &(impl Abort + AllocGlobal), dimension: D) -> Result<D, AllocError>
+where
+    D: Estimate<VecRecords<&'static str>, SpannedConfig> + Drop,
+    requires { (records : VecRecords (Bor (List ℕ))) → D.accepts records }
+{
+    let config = SpannedConfig::new(rt.alloc());
+    let dimension = sized(rt, dimension, &config);
+    drop(config);
+    dimension
 }
 
 #[test]
 fn iter_clone(rt: HostRuntime) -> Result<(), Fail> {
-    clones_plain(&rt, rt.alloc(), IterGridDimension::new(rt.alloc()))
+    clones(&rt, plain(&rt, IterGridDimension::new(rt.alloc()))?)
 }
 
 #[test]
 fn least_clone(rt: HostRuntime) -> Result<(), Fail> {
-    clones_plain(&rt, rt.alloc(), LeastGridDimension::new(rt.alloc()))
+    clones(&rt, plain(&rt, LeastGridDimension::new(rt.alloc()))?)
 }
 
 #[test]
 fn peekable_clone(rt: HostRuntime) -> Result<(), Fail> {
-    clones_plain(&rt, rt.alloc(), PeekableGridDimension::new(rt.alloc()))
+    clones(&rt, plain(&rt, PeekableGridDimension::new(rt.alloc()))?)
 }
 
 /// A width and a height of one for each column and row.

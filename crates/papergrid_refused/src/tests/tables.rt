@@ -4,6 +4,7 @@ use super::{at, changes, clones, reads};
 use papergrid_maps::{BorderTable, OffsetTable, SpanTable};
 use papergrid_values::{Border, HorizontalLine, Offset, VerticalLine};
 use std::alloc::{AllocError, Global};
+use std::process::Abort;
 use std::test::Fail;
 
 fn borders(alloc: Global) -> Result<BorderTable<char>, AllocError> {
@@ -57,19 +58,28 @@ fn clone_of_spans(rt: HostRuntime) -> Result<(), Fail> {
     clones(&rt, spans(rt.alloc())?)
 }
 
+/// What a test ends with that reads spans.
+fn reads_spans<A: Drop, F>(rt: &(impl Abort + AllocGlobal), read: F) -> Result<(), Fail>
+where
+    F: FnOnce(&SpanTable) -> Result<A, AllocError>,
+    requires { F.IsAlwaysCallable read }
+{
+    reads(rt, spans(rt.alloc())?, read)
+}
+
 #[test]
 fn columns(rt: HostRuntime) -> Result<(), Fail> {
-    reads(&rt, spans(rt.alloc())?, SpanTable::columns)
+    reads_spans(&rt, SpanTable::columns)
 }
 
 #[test]
 fn rows(rt: HostRuntime) -> Result<(), Fail> {
-    reads(&rt, spans(rt.alloc())?, SpanTable::rows)
+    reads_spans(&rt, SpanTable::rows)
 }
 
 #[test]
 fn anchors(rt: HostRuntime) -> Result<(), Fail> {
-    reads(&rt, spans(rt.alloc())?, SpanTable::anchors)
+    reads_spans(&rt, SpanTable::anchors)
 }
 
 /// A first border needs room for its parts and for each count of them.
