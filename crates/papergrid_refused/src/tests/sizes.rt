@@ -7,9 +7,9 @@ ghost use Rattle.papergrid_text.specs.declared.vec_records.VecRecords.{VecRecord
 use super::settings::told;
 use super::{at, clones, keeps, says, with_clone};
 use papergrid_config::{CompactConfig, Setting, SpannedConfig};
-use papergrid_layout::certified::certified_sizes;
-use papergrid_layout::iterable::{height_witness, width_witness};
-use papergrid_layout::least::{height_certificate, width_certificate};
+use papergrid_layout::certificates::{
+    certified_sizes, height_certificate, height_witness, width_certificate, width_witness,
+};
 use papergrid_layout::{
     CompactGridDimension, Dimension, Estimate, IterGridDimension, LayoutError, LeastGridDimension,
     PeekableGridDimension, places,
