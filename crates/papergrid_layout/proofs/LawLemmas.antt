@@ -29,7 +29,7 @@ use Rattle.papergrid_config.specs.Told.{IsTold, all_sides, no_room}
 use Rattle.papergrid_config.specs.declared.setting.Setting.{Setting}
 use Rattle.papergrid_config.specs.declared.spanned.SpannedConfig.{SpannedConfig}
 use Rattle.papergrid_walk.specs.Cells.{asked_by, demands_of, placed_from, placed_row, side}
-use Rattle.papergrid_walk.specs.Looks.{Look, line_along, size_after, size_before, span_along, spanned_look}
+use Rattle.papergrid_walk.specs.Looks.{Look, spanned_look}
 use Rattle.papergrid_walk.specs.Measures.{cell_measure, line_measure}
 use Rattle.papergrid_walk.specs.ForProofs.Visits.{asked_by-append}
 use Rattle.papergrid_walk.proofs.LookLemmas.{same_look_by}

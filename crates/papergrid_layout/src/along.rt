@@ -60,7 +60,8 @@ where
     <<R as Records>::Iter as IntoRecords>::Cell: Drop,
     requires { R.is_lawful records }
     ensures { UnlessMemory result ((cells : List (List R.Iter.Cell)) × R.tells records cells
-        × AnswersWhere T.too_large T.solves (problem_of (S.look settings.now) M.measured (R.columns records) cells direction) result) }
+        × AnswersWhere T.too_large T.solves (problem_of (S.look settings.now) M.measured
+        (R.columns records) cells direction) result) }
 {
     let columns = records.count_columns();
     let (seen, rows) = gather::<M, R, S>(alloc, records, settings, direction)?;

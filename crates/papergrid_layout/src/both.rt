@@ -93,7 +93,8 @@ where
     <<R as Records>::Iter as IntoRecords>::Cell: Drop,
     requires { R.is_lawful records }
     ensures { UnlessMemory result ((cells : List (List R.Iter.Cell)) × R.tells records cells
-        × AnswersBothWhere (S.look settings.now) M.measured (R.columns records) cells T.too_large T.solves result) }
+        × AnswersBothWhere (S.look settings.now) M.measured
+        (R.columns records) cells T.too_large T.solves result) }
 {
     let columns = records.count_columns();
     let (both, rows) = gather_both::<M, R, S>(alloc, records, settings)?;

@@ -204,7 +204,8 @@ where
     <<R as Records>::Iter as IntoRecords>::Cell: AsStr + Drop,
     requires { R.is_lawful records }
     ensures { UnlessMemory result ((cells : List (List R.Iter.Cell)) × R.tells records cells
-        × IsCertified (spanned_look config.now) (line_measure R.Iter.Cell.text) (R.columns records) cells result) }
+        × IsCertified (spanned_look config.now) (line_measure R.Iter.Cell.text)
+        (R.columns records) cells result) }
 {
     let (across, down) = solve_both::<CertifiedSizes, ByLines, _, _>(alloc, records, config)?;
     Ok(Certified {
@@ -233,7 +234,8 @@ where
     <<R as Records>::Iter as IntoRecords>::Cell: AsStr + Drop,
     requires { R.is_lawful records }
     ensures { UnlessMemory result ((cells : List (List R.Iter.Cell)) × R.tells records cells
-        × IsCertifiedLeast (spanned_look config.now) (line_measure R.Iter.Cell.text) (R.columns records) cells result) }
+        × IsCertifiedLeast (spanned_look config.now) (line_measure R.Iter.Cell.text)
+        (R.columns records) cells result) }
 {
     let (across, down) = solve_both::<CertifiedLeast, ByLines, _, _>(alloc, records, config)?;
     Ok(Certified {

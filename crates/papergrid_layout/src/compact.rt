@@ -107,7 +107,8 @@ impl CompactGridDimension {
         <<R as Records>::Iter as IntoRecords>::Cell: AsStr + Drop,
         requires { R.is_lawful records }
         ensures { UnlessMemory result ((cells : List (List R.Iter.Cell)) × R.tells records cells
-            × AreBothSized (compact_look config.now) (std_line_measure R.Iter.Cell.text) (R.columns records) cells result) }
+            × AreBothSized (compact_look config.now) (std_line_measure R.Iter.Cell.text)
+            (R.columns records) cells result) }
     {
         solve_both::<Vec<usize>, ByStdLines, _, _>(alloc, records, config)
     }
@@ -154,7 +155,8 @@ where
         × AreSizes (problem_of (compact_look config) (std_line_measure R.Iter.Cell.text)
         (R.columns records) cells Columns) d.widths };
 
-    ghost is_refused = { λ _ records config error. UnlessMemoryError error ((cells : List (List R.Iter.Cell)) × R.tells records cells
+    ghost is_refused = { λ _ records config error. UnlessMemoryError error
+        ((cells : List (List R.Iter.Cell)) × R.tells records cells
         × IsRefused (problem_of (compact_look config) (std_line_measure R.Iter.Cell.text)
         (R.columns records) cells Columns) error) };
 

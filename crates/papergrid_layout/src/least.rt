@@ -225,10 +225,13 @@ where
     ghost accepts = { R.is_lawful };
 
     ghost is_estimate = { λ d records config. (cells : List (List R.Iter.Cell)) × R.tells records cells
-        × AreBothLeast (spanned_look config) (line_measure R.Iter.Cell.text) (R.columns records) cells d.widths d.heights };
+        × AreBothLeast (spanned_look config) (line_measure R.Iter.Cell.text)
+        (R.columns records) cells d.widths d.heights };
 
-    ghost is_refused = { λ d records config error. UnlessMemoryError error ((cells : List (List R.Iter.Cell)) × R.tells records cells
-        × HaveNoLeast (spanned_look config) (line_measure R.Iter.Cell.text) (R.columns records) cells error) };
+    ghost is_refused = { λ d records config error. UnlessMemoryError error
+        ((cells : List (List R.Iter.Cell)) × R.tells records cells
+        × HaveNoLeast (spanned_look config) (line_measure R.Iter.Cell.text)
+        (R.columns records) cells error) };
 
     fn estimate(&mut self, records: R, config: &SpannedConfig) -> Result<(), LayoutError> {
         let both = solve_both::<LeastSizes, ByLines, _, _>(self.alloc, records, config)?;

@@ -59,8 +59,8 @@ impl PeekableGridDimension {
         <<R as Records>::Iter as IntoRecords>::Cell: Cell + Drop,
         requires { R.is_lawful records }
         ensures { UnlessMemory result ((cells : List (List R.Iter.Cell)) × R.tells records cells
-            × IsSized (problem_of (spanned_look config.now) (cell_measure R.Iter.Cell.width R.Iter.Cell.lines)
-            (R.columns records) cells Columns) result) }
+            × IsSized (problem_of (spanned_look config.now)
+            (cell_measure R.Iter.Cell.width R.Iter.Cell.lines) (R.columns records) cells Columns) result) }
     {
         solve_along::<Vec<usize>, ByCell, _, _>(alloc, records, config, Direction::Columns)
     }
@@ -82,8 +82,8 @@ impl PeekableGridDimension {
         <<R as Records>::Iter as IntoRecords>::Cell: Cell + Drop,
         requires { R.is_lawful records }
         ensures { UnlessMemory result ((cells : List (List R.Iter.Cell)) × R.tells records cells
-            × IsSized (problem_of (spanned_look config.now) (cell_measure R.Iter.Cell.width R.Iter.Cell.lines)
-            (R.columns records) cells Rows) result) }
+            × IsSized (problem_of (spanned_look config.now)
+            (cell_measure R.Iter.Cell.width R.Iter.Cell.lines) (R.columns records) cells Rows) result) }
     {
         solve_along::<Vec<usize>, ByCell, _, _>(alloc, records, config, Direction::Rows)
     }
@@ -108,7 +108,8 @@ impl PeekableGridDimension {
         <<R as Records>::Iter as IntoRecords>::Cell: Cell + Drop,
         requires { R.is_lawful records }
         ensures { UnlessMemory result ((cells : List (List R.Iter.Cell)) × R.tells records cells
-            × AreBothSized (spanned_look config.now) (cell_measure R.Iter.Cell.width R.Iter.Cell.lines) (R.columns records) cells result) }
+            × AreBothSized (spanned_look config.now)
+            (cell_measure R.Iter.Cell.width R.Iter.Cell.lines) (R.columns records) cells result) }
     {
         solve_both::<Vec<usize>, ByCell, _, _>(alloc, records, config)
     }
@@ -159,10 +160,13 @@ where
     ghost accepts = { R.is_lawful };
 
     ghost is_estimate = { λ d records config. (cells : List (List R.Iter.Cell)) × R.tells records cells
-        × AreBothSizes (spanned_look config) (cell_measure R.Iter.Cell.width R.Iter.Cell.lines) (R.columns records) cells d.widths d.heights };
+        × AreBothSizes (spanned_look config) (cell_measure R.Iter.Cell.width R.Iter.Cell.lines)
+        (R.columns records) cells d.widths d.heights };
 
-    ghost is_refused = { λ d records config error. UnlessMemoryError error ((cells : List (List R.Iter.Cell)) × R.tells records cells
-        × IsBothRefused (spanned_look config) (cell_measure R.Iter.Cell.width R.Iter.Cell.lines) (R.columns records) cells error) };
+    ghost is_refused = { λ d records config error. UnlessMemoryError error
+        ((cells : List (List R.Iter.Cell)) × R.tells records cells
+        × IsBothRefused (spanned_look config) (cell_measure R.Iter.Cell.width R.Iter.Cell.lines)
+        (R.columns records) cells error) };
 
     fn estimate(&mut self, records: R, config: &SpannedConfig) -> Result<(), LayoutError> {
         let both = solve_both::<Vec<usize>, ByCell, _, _>(self.alloc, records, config)?;
