@@ -19,7 +19,7 @@ use Rattle.papergrid_config.specs.Parts.{character_calls, span_calls}
 use Rattle.papergrid_config.specs.Told.{IsTold}
 use Rattle.papergrid_config.specs.declared.setting.Setting.{Setting}
 use Rattle.papergrid_config.specs.declared.spanned.SpannedConfig.{SpannedConfig}
-use Rattle.papergrid_walk.specs.Looks.{Look, line_along, span_along, spanned_look}
+use Rattle.papergrid_walk.specs.Looks.{Look, line_along, size_after, size_before, span_along, spanned_look}
 use Rattle.papergrid_walk.proofs.LookLemmas.{same_look_by}
 use Rattle.papergrid_layout.specs.Answers.{UnlessMemory, UnlessMemoryError}
 use Rattle.papergrid.specs.Looks.{look_of}

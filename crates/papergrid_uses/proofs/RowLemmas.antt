@@ -1,13 +1,16 @@
 -- What a caller that holds its rows reads of an answer: the cells told are seen through a view, and are those of the rows.
-use Rattle.std.proofs.Common.{◌≡◌, ◌∙◌, ℕ, inl, inr, List, map, sym, subst}
+use Rattle.std.proofs.Common.{◌≡◌, ◌∙◌, ℕ, ◌+◌, ◌||◌, inl, inr, List, [], ◌∷◌, length, map, nat_lt, refl, ap, sym, subst}
 use Rattle.std.specs.Prelude.{Err, IsErrAnd, Ok, Result}
+use Rattle.std.proofs.lemmas.List.{length-map}
+use Rattle.papergrid_values.specs.declared.position.Position.{Position}
 use Rattle.papergrid_values.specs.declared.direction.Direction.{Direction}
 use Rattle.papergrid_values.specs.declared.direction.Direction.TheVariants.{Columns, Rows}
 use Rattle.papergrid_axis.specs.declared.error.LayoutError.{LayoutError}
 use Rattle.papergrid_axis.specs.declared.error.LayoutError.TheVariants.{OutOfTable, TooLarge, Memory}
 use Rattle.papergrid_axis.specs.Answers.{AnswersWhere, IsRefusedWhere, NoneHolds}
 use Rattle.papergrid_axis.specs.Problem.{Problem}
-use Rattle.papergrid_walk.specs.Cells.{problem_of}
+use Rattle.papergrid_axis.specs.Ranges.{place_of}
+use Rattle.papergrid_walk.specs.Cells.{asked, demands_of, problem_of, visible_cells}
 use Rattle.papergrid_walk.specs.Looks.{Look}
 use Rattle.papergrid_layout.specs.Answers.{AnswersBothWhere, HoldAlong, IsBothRefusedWhere, UnlessMemory, UnlessMemoryError}
 use Rattle.papergrid_layout.specs.declared.iterable.IterGridDimension.{IterGridDimension}

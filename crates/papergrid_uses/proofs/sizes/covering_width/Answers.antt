@@ -1,3 +1,5 @@
+use Rattle.std.specs.Prelude.{Err, Ok}
+use Rattle.papergrid_axis.specs.Answers.{Answers, IsTotal}
 use Rattle.papergrid_values.specs.declared.direction.Direction.TheVariants.{Columns}
 use Rattle.papergrid_walk.specs.Cells.{problem_of}
 use Rattle.papergrid_walk.specs.Looks.{spanned_look}
