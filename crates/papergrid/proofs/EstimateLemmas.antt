@@ -11,7 +11,7 @@ use Rattle.papergrid_axis.specs.declared.error.LayoutError.TheVariants as layout
 use Rattle.papergrid_axis.specs.Problem.{Problem, total_of}
 use Rattle.papergrid_axis.specs.Ranges.{first_out, place_of}
 use Rattle.papergrid_walk.specs.Cells.{asked, demands_of, problem_of, visible_cells}
-use Rattle.papergrid_walk.specs.Looks.{Look}
+use Rattle.papergrid_walk.specs.Grids.{Grid}
 use Rattle.papergrid_layout.specs.Answers.{IsBothRefusedWhere, UnlessMemoryError, first_out_of_table, reaches_out}
 use Rattle.papergrid_layout.specs.Witnesses.{AreCertifiedWhere}
 use Rattle.papergrid_layout.specs.declared.certificates.Certified.{Certified}
@@ -66,77 +66,77 @@ found_witness ByShares problem found is = witness_is problem found is
 found_witness Least problem None is = absurd is
 found_witness Least problem (Some places) longest = ap Some longest.exact
 
-module _ {C : Type 0} (look : Look) (measure : C → ℕ × ℕ) (columns : ℕ) (cells : List (List C)) where
+module _ {C : Type 0} (grid : Grid) (measure : C → ℕ × ℕ) (columns : ℕ) (cells : List (List C)) where
   module _ (sizing : Sizing) where
     -- ---- the answers
 
     abbrev pub across : Problem
-    across = problem_of look measure columns cells Columns
+    across = problem_of grid measure columns cells Columns
 
     abbrev pub down : Problem
-    down = problem_of look measure columns cells Rows
+    down = problem_of grid measure columns cells Rows
 
-    pub estimate_out : (place : Position) → first_out_of_table look measure columns cells ≡ Some place → estimate_by sizing look measure columns cells ≡ OutOfTable place
+    pub estimate_out : (place : Position) → first_out_of_table grid measure columns cells ≡ Some place → estimate_by sizing grid measure columns cells ≡ OutOfTable place
     unfolding estimate_by
     estimate_out place first = ap (λ o. unless_out o (totalled sizing across down)) first
 
-    estimate_inside : first_out_of_table look measure columns cells ≡ None → estimate_by sizing look measure columns cells ≡ totalled sizing across down
+    estimate_inside : first_out_of_table grid measure columns cells ≡ None → estimate_by sizing grid measure columns cells ≡ totalled sizing across down
     unfolding estimate_by
     estimate_inside none = ap (λ o. unless_out o (totalled sizing across down)) none
 
-    pub estimate_large : first_out_of_table look measure columns cells ≡ None → (2 ^ 64 ≤ total_of across (sizes_by sizing across)) ⊎ (2 ^ 64 ≤ total_of down (sizes_by sizing down))
-        → estimate_by sizing look measure columns cells ≡ TooLarge
+    pub estimate_large : first_out_of_table grid measure columns cells ≡ None → (2 ^ 64 ≤ total_of across (sizes_by sizing across)) ⊎ (2 ^ 64 ≤ total_of down (sizes_by sizing down))
+        → estimate_by sizing grid measure columns cells ≡ TooLarge
     estimate_large none past =
         estimate_inside none
         ∙ large (sizes_by sizing across) (sizes_by sizing down) (total_of across (sizes_by sizing across)) (total_of down (sizes_by sizing down)) (witness_by sizing across) (witness_by sizing down) past
 
-    pub estimate_none : first_out_of_table look measure columns cells ≡ None → HasNone sizing across ⊎ HasNone sizing down → estimate_by sizing look measure columns cells ≡ TooLarge
+    pub estimate_none : first_out_of_table grid measure columns cells ≡ None → HasNone sizing across ⊎ HasNone sizing down → estimate_by sizing grid measure columns cells ≡ TooLarge
     estimate_none none too_large = estimate_large none (elim too_large [ inl wide ↦ inl (none_large sizing across wide) | inr high ↦ inr (none_large sizing down high) ])
 
-    module _ (certified : Certified) (are : AreCertifiedWhere look measure columns cells (AreSizesBy sizing) (IsFoundWitness sizing) certified) where
+    module _ (certified : Certified) (are : AreCertifiedWhere grid measure columns cells (AreSizesBy sizing) (IsFoundWitness sizing) certified) where
       wide : AreFound sizing across certified.widths.items
       wide = are_found sizing across certified.widths.items are.widths.0
 
       high : AreFound sizing down certified.heights.items
       high = are_found sizing down certified.heights.items are.heights.0
 
-      pub width_fits : total_along Columns look (length certified.widths.items) certified.widths.items < 2 ^ 64
-      width_fits = subst (λ n. total_along Columns look n certified.widths.items < 2 ^ 64) (sym wide.one_each) wide.total
+      pub width_fits : total_along Columns grid (length certified.widths.items) certified.widths.items < 2 ^ 64
+      width_fits = subst (λ n. total_along Columns grid n certified.widths.items < 2 ^ 64) (sym wide.one_each) wide.total
 
-      pub height_fits : total_along Rows look (length certified.heights.items) certified.heights.items < 2 ^ 64
-      height_fits = subst (λ n. total_along Rows look n certified.heights.items < 2 ^ 64) (sym high.one_each) high.total
+      pub height_fits : total_along Rows grid (length certified.heights.items) certified.heights.items < 2 ^ 64
+      height_fits = subst (λ n. total_along Rows grid n certified.heights.items < 2 ^ 64) (sym high.one_each) high.total
 
       -- sizes with what certifies them are what is estimated
-      pub estimate_certified : estimate_by sizing look measure columns cells
-          ≡ Sized certified.widths.items certified.heights.items (total_along Columns look (length certified.widths.items) certified.widths.items)
-          (total_along Rows look (length certified.heights.items) certified.heights.items) (places_seen certified.width_witness) (places_seen certified.height_witness)
+      pub estimate_certified : estimate_by sizing grid measure columns cells
+          ≡ Sized certified.widths.items certified.heights.items (total_along Columns grid (length certified.widths.items) certified.widths.items)
+          (total_along Rows grid (length certified.heights.items) certified.heights.items) (places_seen certified.width_witness) (places_seen certified.height_witness)
       estimate_certified =
-          estimate_inside ((none_reaches_out look measure columns cells).1 (wide.none_out, high.none_out))
+          estimate_inside ((none_reaches_out grid measure columns cells).1 (wide.none_out, high.none_out))
           ∙ (λ i. unless_large (sym wide.exact i) (sym high.exact i)
-          (total_along Columns look (sym wide.one_each i) (sym wide.exact i)) (total_along Rows look (sym high.one_each i) (sym high.exact i))
+          (total_along Columns grid (sym wide.one_each i) (sym wide.exact i)) (total_along Rows grid (sym high.one_each i) (sym high.exact i))
           (sym (found_witness sizing across certified.width_witness are.widths.1) i) (sym (found_witness sizing down certified.height_witness are.heights.1) i))
-          ∙ sized certified.widths.items certified.heights.items (total_along Columns look (length certified.widths.items) certified.widths.items)
-          (total_along Rows look (length certified.heights.items) certified.heights.items) (places_seen certified.width_witness) (places_seen certified.height_witness) width_fits height_fits
+          ∙ sized certified.widths.items certified.heights.items (total_along Columns grid (length certified.widths.items) certified.widths.items)
+          (total_along Rows grid (length certified.heights.items) certified.heights.items) (places_seen certified.width_witness) (places_seen certified.height_witness) width_fits height_fits
 
 -- cells that are seen through a view
-module _ {A B : Type 0} (look : Look) (v : A → B) (f : B → ℕ × ℕ) (columns : ℕ) (cells : List (List A)) (rows : List (List B)) (same : map (map v) cells ≡ rows) where
-  pub estimate_told : (sizing : Sizing) → estimate_by sizing look (λ x. f (v x)) columns cells ≡ estimate_by sizing look f columns rows
+module _ {A B : Type 0} (grid : Grid) (v : A → B) (f : B → ℕ × ℕ) (columns : ℕ) (cells : List (List A)) (rows : List (List B)) (same : map (map v) cells ≡ rows) where
+  pub estimate_told : (sizing : Sizing) → estimate_by sizing grid (λ x. f (v x)) columns cells ≡ estimate_by sizing grid f columns rows
   unfolding estimate_by
   estimate_told sizing =
-      let wide = problem_told look v f cells rows same Columns columns in
-      let high = problem_told look v f cells rows same Rows columns in
-      let first = first_told look v f cells rows same columns in
+      let wide = problem_told grid v f cells rows same Columns columns in
+      let high = problem_told grid v f cells rows same Rows columns in
+      let first = first_told grid v f cells rows same columns in
       λ i. unless_out (first i) (totalled sizing (wide i) (high i))
 
 -- ---- results
 
 -- why there are no certified sizes of the cells told is why these have no estimate
-pub refused : {C : Type 0} (Tells : List (List C) → Type 0) (sizing : Sizing) (look : Look) (measure : C → ℕ × ℕ) (columns : ℕ) (e : LayoutError)
-    → UnlessMemoryError e ((cells : List (List C)) × Tells cells × IsBothRefusedWhere look measure columns cells (HasNone sizing) e)
-    → GivesEstimate (Err e) (λ answer. (cells : List (List C)) × Tells cells × (answer ≡ estimate_by sizing look measure columns cells))
-refused Tells sizing look measure columns (layout_errors.OutOfTable place) is = (is.0, is.1, sym (estimate_out look measure columns is.0 sizing place is.2))
-refused Tells sizing look measure columns layout_errors.TooLarge is = (is.0, is.1, sym (estimate_none look measure columns is.0 sizing is.2.0 is.2.1))
-refused Tells sizing look measure columns (layout_errors.Memory e) is = tt
+pub refused : {C : Type 0} (Tells : List (List C) → Type 0) (sizing : Sizing) (grid : Grid) (measure : C → ℕ × ℕ) (columns : ℕ) (e : LayoutError)
+    → UnlessMemoryError e ((cells : List (List C)) × Tells cells × IsBothRefusedWhere grid measure columns cells (HasNone sizing) e)
+    → GivesEstimate (Err e) (λ answer. (cells : List (List C)) × Tells cells × (answer ≡ estimate_by sizing grid measure columns cells))
+refused Tells sizing grid measure columns (layout_errors.OutOfTable place) is = (is.0, is.1, sym (estimate_out grid measure columns is.0 sizing place is.2))
+refused Tells sizing grid measure columns layout_errors.TooLarge is = (is.0, is.1, sym (estimate_none grid measure columns is.0 sizing is.2.0 is.2.1))
+refused Tells sizing grid measure columns (layout_errors.Memory e) is = tt
 
 -- an estimate that is so is also what follows from it
 pub gives_also : (result : Result Sizes LayoutError) (IsSo IsAlso : Estimate → Type 0) → ((e : Estimate) → IsSo e → IsAlso e) → GivesEstimate result IsSo → GivesEstimate result IsAlso

@@ -19,18 +19,18 @@ use Rattle.papergrid_least.specs.Least.{least_of}
 use Rattle.papergrid_least.proofs.LeastLemmas.{AreLeastSizes-least_of, AreLongest-longest, IsLeast-least_of, NoneFits-least_of}
 use Rattle.papergrid_values.specs.Lines.{all_lines}
 use Rattle.papergrid_walk.specs.Cells.{asked, visible_cells}
-use Rattle.papergrid_walk.specs.Looks.{Look}
+use Rattle.papergrid_walk.specs.Grids.{Grid}
 use Rattle.papergrid_layout.specs.Answers.{first_out_of_table}
 use Rattle.papergrid_layout.specs.Witnesses.{witness_of}
 use Rattle.papergrid_layout.proofs.PairLemmas.{none_reaches_out}
 use Rattle.papergrid.specs.declared.estimate.Sizing.{Sizing}
 use Rattle.papergrid.specs.declared.estimate.Sizing.TheVariants.{ByShares, Least}
 use Rattle.papergrid.specs.Estimates.{Estimate, OutOfTable, TooLarge, Sized, unless_large, unless_out, text_measure, sizes_by, witness_by, estimate_by, estimate_of}
-use Rattle.papergrid.specs.Looks.{look_of}
+use Rattle.papergrid.specs.Grids.{grid_of}
 use Rattle.papergrid_script.specs.Scripts.{Table}
 use Rattle.papergrid.specs.Totals.{AreSized, AreSizesBy, HasNone, IsTooLarge, IsWitnessOf, problem_of_table}
 use Rattle.papergrid.proofs.EstimateLemmas.{estimate_large, estimate_out}
-use Rattle.papergrid.proofs.LookLemmas.{look_covers, look_draws}
+use Rattle.papergrid.proofs.GridLemmas.{grid_covers, grid_draws}
 
 -- ---- along a direction
 
@@ -86,17 +86,17 @@ estimate_cases None w h m n a b e is = elim (by_test (nat_le (2 ^ 64) m) (nat_le
         inr (sym is ∙ rw (wide, high) refl, narrow, low)
 
 module _ (table : Table) where
-  abbrev look : Look
-  look = look_of table.settings
+  abbrev grid : Grid
+  grid = grid_of table.settings
 
   abbrev first : Option Position
-  first = first_out_of_table look text_measure table.columns table.rows
+  first = first_out_of_table grid text_measure table.columns table.rows
 
   in_table : (direction : Direction) → first_out (problem_of_table table direction).count (problem_of_table table direction).demands ≡ None
       → All (IsInTable (problem_of_table table direction).count) (problem_of_table table direction).demands
   in_table direction inside =
       out_lemmas.none_out (problem_of_table table direction).count (problem_of_table table direction).demands inside
-      (All-map (λ (d : Demand). 1 ≤ d.span) (asked direction look text_measure) (visible_cells look table.rows) (λ k x l. look_covers table.settings direction _))
+      (All-map (λ (d : Demand). 1 ≤ d.span) (asked direction grid text_measure) (visible_cells grid table.rows) (λ k x l. grid_covers table.settings direction _))
 
   module _ (sizing : Sizing) where
     abbrev sizes : Direction → List ℕ
@@ -117,14 +117,14 @@ module _ (table : Table) where
 
     are_sized : first ≡ None → total Columns < 2 ^ 64 → total Rows < 2 ^ 64 → AreSized sizing table (sizes Columns) (sizes Rows) (total Columns) (total Rows) (witness Columns) (witness Rows)
     are_sized none narrow low =
-        let inside = (none_reaches_out look text_measure table.columns table.rows).0 none in
+        let inside = (none_reaches_out grid text_measure table.columns table.rows).0 none in
         record {
           sizes = record {
             widths = sizes_are (problem_of_table table Columns) (in_table Columns inside.0) inside.0 sizing narrow;
             heights = sizes_are (problem_of_table table Rows) (in_table Rows inside.1) inside.1 sizing low;
           };
-          is_width = ap (λ draws. sum (sizes Columns) + all_lines (draws table.columns) table.columns) (look_draws table.settings Columns);
-          is_height = ap (λ draws. sum (sizes Rows) + all_lines (draws (length table.rows)) (length table.rows)) (look_draws table.settings Rows);
+          is_width = ap (λ draws. sum (sizes Columns) + all_lines (draws table.columns) table.columns) (grid_draws table.settings Columns);
+          is_height = ap (λ draws. sum (sizes Rows) + all_lines (draws (length table.rows)) (length table.rows)) (grid_draws table.settings Rows);
           width_fits = narrow;
           height_fits = low;
           certifies_widths = is_witness (problem_of_table table Columns) (in_table Columns inside.0) inside.0 sizing narrow;
@@ -133,7 +133,7 @@ module _ (table : Table) where
 
     are_large : first ≡ None → (2 ^ 64 ≤ total Columns) ⊎ (2 ^ 64 ≤ total Rows) → IsTooLarge sizing table
     are_large none past =
-        let inside = (none_reaches_out look text_measure table.columns table.rows).0 none in
+        let inside = (none_reaches_out grid text_measure table.columns table.rows).0 none in
         record {
           inside = none;
           too_large = elim past [
@@ -148,7 +148,7 @@ module _ (table : Table) where
         | inl out ↦ let same : out.0 ≡ place = cc out.2 in out.1 ∙ ap (λ p. Some p) same
         | inr other ↦ elim other [ inl large ↦ cc large.1 | inr sized ↦ cc sized.1 ]
       ],
-      estimate_out look text_measure table.columns table.rows sizing place,
+      estimate_out grid text_measure table.columns table.rows sizing place,
     )
 
     named_large : estimate_of sizing table ≡ TooLarge → (first ≡ None) × ((2 ^ 64 ≤ total Columns) ⊎ (2 ^ 64 ≤ total Rows))
@@ -181,8 +181,8 @@ module _ (table : Table) where
   pub least_too_large : estimate_of Least table ≡ TooLarge → estimate_of ByShares table ≡ TooLarge
   least_too_large is =
       let named = named_large Least is in
-      let inside = (none_reaches_out look text_measure table.columns table.rows).0 named.0 in
-      estimate_large look text_measure table.columns table.rows ByShares named.0 (elim named.1 [
+      let inside = (none_reaches_out grid text_measure table.columns table.rows).0 named.0 in
+      estimate_large grid text_measure table.columns table.rows ByShares named.0 (elim named.1 [
         | inl wide ↦ inl (least_past (problem_of_table table Columns) (in_table Columns inside.0) inside.0 wide)
         | inr high ↦ inr (least_past (problem_of_table table Rows) (in_table Rows inside.1) inside.1 high)
       ])

@@ -2,5 +2,5 @@ mod EstimateLemmas
 mod KnownLemmas
 mod LawLemmas
 mod ListedLemmas
-mod LookLemmas
+mod GridLemmas
 mod SeenLemmas

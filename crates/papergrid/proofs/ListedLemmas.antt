@@ -27,11 +27,11 @@ use Rattle.papergrid_keys.proofs.KeyLemmas.{position_total}
 use Rattle.papergrid_config.specs.Decided as decided
 use Rattle.papergrid_config.specs.Parts.{character_calls, span_calls}
 use Rattle.papergrid_config.specs.declared.setting.Setting.{Setting}
-use Rattle.papergrid_walk.specs.Looks.{Look, line_along, size_after, size_before, span_along}
+use Rattle.papergrid_walk.specs.Grids.{Grid, line_along, size_after, size_before, span_along}
 use Rattle.papergrid.specs.declared.estimate.Sizing.{Sizing}
 use Rattle.papergrid.specs.declared.running.RunEnd.{RunEnd}
 use Rattle.papergrid.specs.Estimates.{Estimate, estimate_by, estimate_of, text_measure}
-use Rattle.papergrid.specs.Looks.{look_of}
+use Rattle.papergrid.specs.Grids.{grid_of}
 use Rattle.papergrid.specs.Outputs.{estimate_end, estimate_text, script_end, script_text, output_by, end_by}
 use Rattle.papergrid.specs.Rows.{GivesBy}
 use Rattle.papergrid_script.specs.Scripts.{Table, table_of}
@@ -191,8 +191,8 @@ made_lines : (calls : List (BorderCall ℕ)) (direction : Direction) (count plac
 made_lines calls Columns count place = made_vertical calls place count
 made_lines calls Rows count place = made_horizontal calls place count
 
-abbrev pub look_by : (Position → Sides Indent) → List (Position × ℕ) → List (Position × ℕ) → List (BorderCall ℕ) → Look
-look_by padding columns rows lines = record {
+abbrev pub grid_by : (Position → Sides Indent) → List (Position × ℕ) → List (Position × ℕ) → List (BorderCall ℕ) → Grid
+grid_by padding columns rows lines = record {
   shows = shows_by columns rows;
   span = spans_by columns rows;
   before = λ direction p. size_before direction (padding p);
@@ -200,14 +200,14 @@ look_by padding columns rows lines = record {
   draws = lines_listed lines;
 }
 
-abbrev pub listed_look : List Setting → Look
-listed_look settings =
+abbrev pub listed_grid : List Setting → Grid
+listed_grid settings =
     let calls = flat_map span_calls settings in
-    look_by (decided.padding settings) (column_spans_listed calls) (row_spans_listed calls) (flat_map character_calls settings)
+    grid_by (decided.padding settings) (column_spans_listed calls) (row_spans_listed calls) (flat_map character_calls settings)
 
-look_listed : (settings : List Setting) → look_of settings ≡ listed_look settings
-unfolding look_of
-look_listed settings =
+grid_listed : (settings : List Setting) → grid_of settings ≡ listed_grid settings
+unfolding grid_of
+grid_listed settings =
     let calls = flat_map span_calls settings in
     let lines = flat_map character_calls settings in
     λ i. record {
@@ -221,10 +221,10 @@ look_listed settings =
 -- ---- what is written
 
 abbrev pub listed_estimate : Sizing → Table → Estimate
-listed_estimate sizing table = estimate_by sizing (listed_look table.settings) text_measure table.columns table.rows
+listed_estimate sizing table = estimate_by sizing (listed_grid table.settings) text_measure table.columns table.rows
 
 estimate_listed : (sizing : Sizing) (table : Table) → estimate_of sizing table ≡ listed_estimate sizing table
-estimate_listed sizing table = ap (λ look. estimate_by sizing look text_measure table.columns table.rows) (look_listed table.settings)
+estimate_listed sizing table = ap (λ grid. estimate_by sizing grid text_measure table.columns table.rows) (grid_listed table.settings)
 
 abbrev pub listed_text : Sizing → Result Table ℕ → List ℕ
 listed_text sizing (Err number) = script_text sizing (Err number)

@@ -6,10 +6,10 @@ use Rattle.papergrid_text.proofs.RowSteps.{told_by}
 use Rattle.papergrid_axis.specs.declared.error.LayoutError.{LayoutError}
 use Rattle.papergrid_config.specs.Told.{IsTold}
 use Rattle.papergrid_config.specs.declared.spanned.SpannedConfig.{SpannedConfig}
-use Rattle.papergrid_walk.specs.Looks.{spanned_look}
+use Rattle.papergrid_walk.specs.Grids.{spanned_grid}
 use Rattle.papergrid_walk.specs.Measures.{line_measure}
 use Rattle.papergrid.specs.Estimates.{Estimate, estimate_by, estimate_of, text_measure}
-use Rattle.papergrid.specs.Looks.{look_of}
+use Rattle.papergrid.specs.Grids.{grid_of}
 use Rattle.papergrid_script.specs.ForProofs.Seen.{rows_seen, table_seen}
 use Rattle.papergrid_script.specs.ForProofs.Settings.{setting_told}
 use Rattle.papergrid.specs.ForProofs.Seen.{GivesEstimate}
@@ -17,22 +17,22 @@ use Rattle.papergrid.specs.declared.estimate.Sizes.{Sizes}
 use Rattle.papergrid.specs.declared.estimate.Sizing.{Sizing}
 use Rattle.papergrid_script.specs.declared.script.Script.{Script}
 use Rattle.papergrid.proofs.EstimateLemmas.{estimate_told, gives_also}
-use Rattle.papergrid.proofs.LookLemmas.{look_told}
+use Rattle.papergrid.proofs.GridLemmas.{grid_told}
 
 -- what is estimated of the cells that the records tell, by the configuration, is estimated of the script's table
 seen : {A : Type 0} (view : A → Bor (List ℕ)) (script : Script) (config : SpannedConfig) (cells : List (List A)) (rows : List (Bor (List (Bor (List ℕ))))) (columns : ℕ) (sizing : Sizing) (e : Estimate)
     → IsTold (map setting_told script.settings.items) config → map (map view) cells ≡ map (λ row. row.now) rows → rows ≡ script.rows.items → columns ≡ script.columns
-    → e ≡ estimate_by sizing (spanned_look config) (line_measure (λ cell. (view cell).now)) columns cells → e ≡ estimate_of sizing (table_seen script)
+    → e ≡ estimate_by sizing (spanned_grid config) (line_measure (λ cell. (view cell).now)) columns cells → e ≡ estimate_of sizing (table_seen script)
 seen view script config cells rows columns sizing e told tells same_rows same_columns is =
     let texts = told_by view (λ text. text.now) (λ row. row.now) cells script.rows.items (tells ∙ ap (map (λ row. row.now)) same_rows) in
     is
-    ∙ (λ i. estimate_by sizing (look_told (map setting_told script.settings.items) config told i) (line_measure (λ cell. (view cell).now)) (same_columns i) cells)
-    ∙ estimate_told (look_of (map setting_told script.settings.items)) (λ cell. (view cell).now) text_measure script.columns cells (rows_seen script.rows.items) texts sizing
+    ∙ (λ i. estimate_by sizing (grid_told (map setting_told script.settings.items) config told i) (line_measure (λ cell. (view cell).now)) (same_columns i) cells)
+    ∙ estimate_told (grid_of (map setting_told script.settings.items)) (λ cell. (view cell).now) text_measure script.columns cells (rows_seen script.rows.items) texts sizing
 
 -- so whatever is estimated of records whose cells are the script's is estimated of its table
 pub gives_seen : {A : Type 0} (view : A → Bor (List ℕ)) (script : Script) (config : SpannedConfig) (rows : List (Bor (List (Bor (List ℕ))))) (columns : ℕ) (sizing : Sizing) (result : Result Sizes LayoutError)
     → IsTold (map setting_told script.settings.items) config → rows ≡ script.rows.items → columns ≡ script.columns
-    → GivesEstimate result (λ e. (cells : List (List A)) × (map (map view) cells ≡ map (λ row. row.now) rows) × (e ≡ estimate_by sizing (spanned_look config) (line_measure (λ cell. (view cell).now)) columns cells))
+    → GivesEstimate result (λ e. (cells : List (List A)) × (map (map view) cells ≡ map (λ row. row.now) rows) × (e ≡ estimate_by sizing (spanned_grid config) (line_measure (λ cell. (view cell).now)) columns cells))
     → GivesEstimate result (λ e. e ≡ estimate_of sizing (table_seen script))
 gives_seen view script config rows columns sizing result told same_rows same_columns gave =
     gives_also result _ _ (λ e so. seen view script config so.0 rows columns sizing e told so.1 same_rows same_columns so.2) gave

@@ -11,13 +11,13 @@ use Rattle.papergrid_axis.specs.Sizes.{sizes_of}
 use Rattle.papergrid_least.specs.Least.{least_of}
 use Rattle.papergrid_least.specs.Longest.{longest}
 use Rattle.papergrid_walk.specs.Cells.{problem_of}
-use Rattle.papergrid_walk.specs.Looks.{Look}
+use Rattle.papergrid_walk.specs.Grids.{Grid}
 use Rattle.papergrid_walk.specs.Measures.{line_measure}
 use Rattle.papergrid_layout.specs.Answers.{first_out_of_table}
 use Rattle.papergrid_layout.specs.Witnesses.{witness_of}
 use Rattle.papergrid.specs.declared.estimate.Sizing.{Sizing}
 use Rattle.papergrid.specs.declared.estimate.Sizing.TheVariants.{ByShares, Least}
-use Rattle.papergrid.specs.Looks.{look_of}
+use Rattle.papergrid.specs.Grids.{grid_of}
 use Rattle.papergrid_script.specs.Scripts.{Table}
 
 -- the sizes are the widths, the heights, the totals of both with the lines, and the witnesses of both: the places of cells
@@ -54,10 +54,10 @@ totalled sizing across down =
     (witness_by sizing across) (witness_by sizing down)
 
 -- of rows of cells that are measured so, by what is read of settings
-unfoldable pub estimate_by : {C : Type 0} → Sizing → Look → (C → ℕ × ℕ) → ℕ → List (List C) → Estimate
-estimate_by sizing look measure columns rows =
-    unless_out (first_out_of_table look measure columns rows)
-    (totalled sizing (problem_of look measure columns rows Columns) (problem_of look measure columns rows Rows))
+unfoldable pub estimate_by : {C : Type 0} → Sizing → Grid → (C → ℕ × ℕ) → ℕ → List (List C) → Estimate
+estimate_by sizing grid measure columns rows =
+    unless_out (first_out_of_table grid measure columns rows)
+    (totalled sizing (problem_of grid measure columns rows Columns) (problem_of grid measure columns rows Rows))
 
 -- a cell of a script is its text
 abbrev pub text_measure : List ℕ → ℕ × ℕ
@@ -65,4 +65,4 @@ text_measure = line_measure (λ text. text)
 
 -- of the table that a script tells
 abbrev pub estimate_of : Sizing → Table → Estimate
-estimate_of sizing table = estimate_by sizing (look_of table.settings) text_measure table.columns table.rows
+estimate_of sizing table = estimate_by sizing (grid_of table.settings) text_measure table.columns table.rows

@@ -1,6 +1,6 @@
 pub mod Estimates
 pub mod Layouts
-pub mod Looks
+pub mod Grids
 pub mod Outputs
 pub mod Reasons
 pub mod Rows

@@ -10,12 +10,12 @@ use Rattle.papergrid_values.specs.Lines.{all_lines}
 use Rattle.papergrid_config.specs.Made.{characters_of}
 use Rattle.papergrid_config.specs.declared.setting.Setting.{Setting}
 use Rattle.papergrid_walk.specs.Cells.{problem_of}
-use Rattle.papergrid_walk.specs.Looks.{line_along}
+use Rattle.papergrid_walk.specs.Grids.{line_along}
 use Rattle.papergrid_layout.specs.Answers.{HoldAlong, first_out_of_table}
 use Rattle.papergrid.specs.declared.estimate.Sizing.{Sizing}
 use Rattle.papergrid.specs.declared.estimate.Sizing.TheVariants.{ByShares, Least}
 use Rattle.papergrid.specs.Estimates.{text_measure}
-use Rattle.papergrid.specs.Looks.{look_of}
+use Rattle.papergrid.specs.Grids.{grid_of}
 use Rattle.papergrid_script.specs.Scripts.{Table}
 
 -- how many lines the settings make along a direction of so many columns (rows)
@@ -24,7 +24,7 @@ lines_along direction settings count = all_lines (line_along (characters_of sett
 
 -- what the sizes of a table along a direction are found for
 abbrev pub problem_of_table : Table → Direction → Problem
-problem_of_table table = problem_of (look_of table.settings) text_measure table.columns table.rows
+problem_of_table table = problem_of (grid_of table.settings) text_measure table.columns table.rows
 
 -- by shares the sizes are too large along a direction; of least sizes, so is every list that fits
 abbrev pub HasNone : Sizing → Problem → Type 0
@@ -33,7 +33,7 @@ HasNone Least = NoneFits
 
 -- no visible cell reaches out, and the sizes along one direction with its lines do not fit 64 bits
 pub record IsTooLarge (sizing : Sizing) (table : Table) : Type 0 where
-  pub inside : first_out_of_table (look_of table.settings) text_measure table.columns table.rows ≡ None
+  pub inside : first_out_of_table (grid_of table.settings) text_measure table.columns table.rows ≡ None
   pub too_large : HasNone sizing (problem_of_table table Columns) ⊎ HasNone sizing (problem_of_table table Rows)
 
 -- exactly the sizes by shares, or the least sizes, and what holds of them
@@ -51,7 +51,7 @@ IsWitnessOf Least problem (Some places) = AreLongest problem places
 
 -- exactly the sizes, with what holds of them, their totals with the lines, which fit 64 bits, and what certifies them
 pub record AreSized (sizing : Sizing) (table : Table) (widths heights : List ℕ) (total_width total_height : ℕ) (width_witness height_witness : Option (List Position)) : Type 0 where
-  pub sizes : HoldAlong (look_of table.settings) text_measure table.columns table.rows (AreSizesBy sizing) widths heights
+  pub sizes : HoldAlong (grid_of table.settings) text_measure table.columns table.rows (AreSizesBy sizing) widths heights
   pub is_width : total_width ≡ sum widths + lines_along Columns table.settings table.columns
   pub is_height : total_height ≡ sum heights + lines_along Rows table.settings (length table.rows)
   pub width_fits : total_width < 2 ^ 64

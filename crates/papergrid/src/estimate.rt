@@ -2,7 +2,7 @@
 
 ghost use Rattle.std.specs.Prelude.{◌≡◌, ◌+◌, ◌<◌, ◌^◌, List, length, sum};
 ghost use Rattle.papergrid_values.specs.declared.direction.Direction.TheVariants.{Columns, Rows};
-ghost use Rattle.papergrid_walk.specs.Looks.{spanned_look};
+ghost use Rattle.papergrid_walk.specs.Grids.{spanned_grid};
 ghost use Rattle.papergrid_walk.specs.Measures.{line_measure};
 ghost use Rattle.papergrid_layout.specs.Answers.{UnlessMemory};
 ghost use Rattle.papergrid.specs.Estimates.{estimate_by};
@@ -47,7 +47,7 @@ where
     <<R as Records>::Iter as IntoRecords>::Cell: AsStr + Drop,
     requires { R.is_lawful records }
     ensures { GivesEstimate result (λ answer. (cells : List (List R.Iter.Cell)) × R.tells records cells
-        × (answer ≡ estimate_by sizing (spanned_look cfg.now) (line_measure R.Iter.Cell.text) (R.columns records) cells)) }
+        × (answer ≡ estimate_by sizing (spanned_grid cfg.now) (line_measure R.Iter.Cell.text) (R.columns records) cells)) }
 {
     match certify(alloc, sizing, records, cfg) {
         Ok(certified) => Ok(with_totals(certified, cfg)),
@@ -62,7 +62,7 @@ where
     <<R as Records>::Iter as IntoRecords>::Cell: AsStr + Drop,
     requires { R.is_lawful records }
     ensures { UnlessMemory result ((cells : List (List R.Iter.Cell)) × R.tells records cells
-        × IsCertifiedBy sizing (spanned_look cfg.now) (line_measure R.Iter.Cell.text) (R.columns records) cells result) }
+        × IsCertifiedBy sizing (spanned_grid cfg.now) (line_measure R.Iter.Cell.text) (R.columns records) cells result) }
 {
     match sizing {
         Sizing::ByShares => certified_sizes(alloc, records, cfg),
@@ -72,11 +72,11 @@ where
 
 /// The sizes, with the totals by the lines of the configuration.
 fn with_totals(certified: Certified, cfg: &SpannedConfig) -> Sizes
-    requires width { total_along Columns (spanned_look cfg.now) (length certified.widths.items) certified.widths.items < 2 ^ 64 }
-    requires height { total_along Rows (spanned_look cfg.now) (length certified.heights.items) certified.heights.items < 2 ^ 64 }
+    requires width { total_along Columns (spanned_grid cfg.now) (length certified.widths.items) certified.widths.items < 2 ^ 64 }
+    requires height { total_along Rows (spanned_grid cfg.now) (length certified.heights.items) certified.heights.items < 2 ^ 64 }
     ensures certified { result.certified ≡ certified }
-    ensures total_width { result.total_width ≡ total_along Columns (spanned_look cfg.now) (length certified.widths.items) certified.widths.items }
-    ensures total_height { result.total_height ≡ total_along Rows (spanned_look cfg.now) (length certified.heights.items) certified.heights.items }
+    ensures total_width { result.total_width ≡ total_along Columns (spanned_grid cfg.now) (length certified.widths.items) certified.widths.items }
+    ensures total_height { result.total_height ≡ total_along Rows (spanned_grid cfg.now) (length certified.heights.items) certified.heights.items }
 {
     let vertical = cfg.count_vertical(certified.widths.len());
     let horizontal = cfg.count_horizontal(certified.heights.len());

@@ -5,12 +5,12 @@ ghost use Rattle.papergrid_values.specs.declared.position.Position.{Position};
 ghost use Rattle.papergrid_config.specs.Told.{IsTold};
 ghost use Rattle.papergrid_config.specs.declared.spanned.SpannedConfig.{SpannedConfig};
 ghost use Rattle.papergrid_config.specs.declared.setting.Setting.{Setting};
-ghost use Rattle.papergrid_walk.specs.Looks.{spanned_look};
+ghost use Rattle.papergrid_walk.specs.Grids.{spanned_grid};
 ghost use Rattle.papergrid_layout.specs.Answers.{first_out_of_table};
 ghost use Rattle.papergrid.specs.declared.estimate.Sizing.{Sizing};
 ghost use Rattle.papergrid.specs.declared.estimate.Sizing.TheVariants.{ByShares, Least};
 ghost use Rattle.papergrid.specs.Estimates.{OutOfTable, Sized, TooLarge, estimate_of, text_measure};
-ghost use Rattle.papergrid.specs.Looks.{look_of};
+ghost use Rattle.papergrid.specs.Grids.{grid_of};
 ghost use Rattle.papergrid.specs.Rows.{WorkedRows};
 ghost use Rattle.papergrid_script.specs.Scripts.{Table};
 ghost use Rattle.papergrid.specs.Totals.{AreSized, IsTooLarge};
@@ -27,8 +27,8 @@ pub fn worked_rows()
 
 /// What an estimate reads of a configuration that settings tell, which is which positions are visible and the spans,
 /// the paddings and the lines, is what the settings decide.
-pub fn look_by_settings()
-    ensures { (settings : List Setting) (config : SpannedConfig) → IsTold settings config → spanned_look config ≡ look_of settings }
+pub fn grid_by_settings()
+    ensures { (settings : List Setting) (config : SpannedConfig) → IsTold settings config → spanned_grid config ≡ grid_of settings }
 {}
 
 /// A table is refused exactly for its first visible cell that reaches out of it, and else only where the sizes
@@ -38,9 +38,9 @@ pub fn look_by_settings()
 /// along a direction is none exactly where two ranges are neither nested nor disjoint, else the places of cells that certify
 /// that the sizes are least. Of least sizes all this holds whatever ranges cross, and there always is a witness; so they
 /// are too large only where those by shares are.
-pub fn estimate_by_look()
+pub fn estimate_by_grid()
     ensures out { (sizing : Sizing) (table : Table) (place : Position) → (estimate_of sizing table ≡ OutOfTable place)
-        ↔ (first_out_of_table (look_of table.settings) text_measure table.columns table.rows ≡ Some place) }
+        ↔ (first_out_of_table (grid_of table.settings) text_measure table.columns table.rows ≡ Some place) }
     ensures too_large { (sizing : Sizing) (table : Table) → estimate_of sizing table ≡ TooLarge → IsTooLarge sizing table }
     ensures sized { (sizing : Sizing) (table : Table) (widths heights : List ℕ) (total_width total_height : ℕ) (width_witness height_witness : Option (List Position)) →
         estimate_of sizing table ≡ Sized widths heights total_width total_height width_witness height_witness →

@@ -6,7 +6,7 @@ ghost use Rattle.papergrid_config.specs.Told.{IsTold};
 ghost use Rattle.papergrid_walk.specs.Measures.{line_measure};
 ghost use Rattle.papergrid_layout.specs.Answers.{UnlessMemory};
 ghost use Rattle.papergrid.specs.Layouts.{IsLaidOut, IsLaidOutLeast};
-ghost use Rattle.papergrid.specs.Looks.{look_of};
+ghost use Rattle.papergrid.specs.Grids.{grid_of};
 
 use papergrid_config::{Setting, SpannedConfig};
 use papergrid_layout::{Estimate, IterGridDimension, LayoutError, LeastGridDimension};
@@ -36,7 +36,7 @@ where
     requires lawful { R.is_lawful records }
     requires in_range { All (λ setting. is_in_range setting ≡ true) settings.items }
     ensures { UnlessMemory result ((cells : List (List R.Iter.Cell)) × R.tells records cells
-        × IsLaidOut (look_of settings.items) (line_measure R.Iter.Cell.text) (R.columns records) cells result) }
+        × IsLaidOut (grid_of settings.items) (line_measure R.Iter.Cell.text) (R.columns records) cells result) }
 {
     let config = configuration(alloc, settings)?;
     laid_out(IterGridDimension::new(alloc), records, &config)
@@ -62,7 +62,7 @@ where
     requires lawful { R.is_lawful records }
     requires in_range { All (λ setting. is_in_range setting ≡ true) settings.items }
     ensures { UnlessMemory result ((cells : List (List R.Iter.Cell)) × R.tells records cells
-        × IsLaidOutLeast (look_of settings.items) (line_measure R.Iter.Cell.text) (R.columns records) cells result) }
+        × IsLaidOutLeast (grid_of settings.items) (line_measure R.Iter.Cell.text) (R.columns records) cells result) }
 {
     let config = configuration(alloc, settings)?;
     laid_out(LeastGridDimension::new(alloc), records, &config)

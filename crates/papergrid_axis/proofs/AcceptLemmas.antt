@@ -14,12 +14,12 @@ use Rattle.papergrid_axis.specs.declared.checked.Checked.{Checked}
 use Rattle.papergrid_axis.specs.declared.demand.Demand.{Demand}
 use Rattle.papergrid_values.specs.declared.direction.Direction.{Direction}
 use Rattle.papergrid_axis.specs.Answers.{IsAccepted}
-use Rattle.papergrid_axis.specs.ForProofs.Checks.{AreApartAt, AreDistinct, Checks, SumsAgree, all_listed, times_listed}
+use Rattle.papergrid_axis.specs.ForProofs.Checks.{AreDisjointAt, AreDistinct, Checks, SumsAgree, all_listed, times_listed}
 use Rattle.papergrid_axis.specs.Fits.{IsLeast}
 use Rattle.papergrid_axis.specs.Ranges.{AreDisjoint, IsInTable, demand_of, end_of, inner_lines, place_of}
 use Rattle.papergrid_axis.proofs.Duality.{IsLeast-from_certificate}
 use Rattle.papergrid_axis.proofs.OutLemmas.{none_out}
-use Rattle.papergrid_axis.proofs.RangeLemmas.{Apart-from_AllPairs, outside, partition}
+use Rattle.papergrid_axis.proofs.RangeLemmas.{ArePairwiseDisjoint-from_AllPairs, outside, partition}
 use Rattle.papergrid_axis.proofs.Theorems.{first_out-none}
 use Rattle.papergrid_axis.proofs.Upto.{upto, within}
 
@@ -182,26 +182,26 @@ module _ (direction : Direction) (span_of : Position → ℕ) where
   abbrev IsRanged : Demand → Type 0
   IsRanged d = d ≡ demand_of direction (place_of d) (span_of (place_of d)) d.need
 
-  apart-from_cells : (a b : Demand) → IsRanged a → IsRanged b → AreDisjoint a b → AreApartAt direction span_of (place_of a) (place_of b)
-  apart-from_cells a b ra rb = subst₂ AreDisjoint ra rb
+  disjoint-from_cells : (a b : Demand) → IsRanged a → IsRanged b → AreDisjoint a b → AreDisjointAt direction span_of (place_of a) (place_of b)
+  disjoint-from_cells a b ra rb = subst₂ AreDisjoint ra rb
 
-  apart-from_places : (a b : Demand) → IsRanged a → IsRanged b → AreApartAt direction span_of (place_of a) (place_of b) → AreDisjoint a b
-  apart-from_places a b ra rb = subst₂ AreDisjoint (sym ra) (sym rb)
+  disjoint-from_places : (a b : Demand) → IsRanged a → IsRanged b → AreDisjointAt direction span_of (place_of a) (place_of b) → AreDisjoint a b
+  disjoint-from_places a b ra rb = subst₂ AreDisjoint (sym ra) (sym rb)
 
-  pairs-from_places : (cells : List Demand) → All IsRanged cells → AllPairs (AreApartAt direction span_of) (map place_of cells) → AllPairs AreDisjoint cells
+  pairs-from_places : (cells : List Demand) → All IsRanged cells → AllPairs (AreDisjointAt direction span_of) (map place_of cells) → AllPairs AreDisjoint cells
   pairs-from_places cells ranged pairs i j e l l' =
       let many : length (map place_of cells) ≡ length cells = length-map cells place_of in
-      apart-from_places (get_or cells i e) (get_or cells j e) (ranged i e (omega arith)) (ranged j e l')
-      (subst₂ (AreApartAt direction span_of) (get_or-map place_of cells i e) (get_or-map place_of cells j e) (pairs i j (place_of e) l (omega arith)))
+      disjoint-from_places (get_or cells i e) (get_or cells j e) (ranged i e (omega arith)) (ranged j e l')
+      (subst₂ (AreDisjointAt direction span_of) (get_or-map place_of cells i e) (get_or-map place_of cells j e) (pairs i j (place_of e) l (omega arith)))
 
-  pairs-from_cells : (cells : List Demand) → All IsRanged cells → AllPairs AreDisjoint cells → AllPairs (AreApartAt direction span_of) (map place_of cells)
+  pairs-from_cells : (cells : List Demand) → All IsRanged cells → AllPairs AreDisjoint cells → AllPairs (AreDisjointAt direction span_of) (map place_of cells)
   pairs-from_cells [] ranged pairs i j p l l' = absurd (omega arith)
   pairs-from_cells (c ∷ cells) ranged pairs i j p l l' =
       let many : length (map place_of (c ∷ cells)) ≡ length (c ∷ cells) = length-map (c ∷ cells) place_of in
-      let here : AreApartAt direction span_of (get_or (map place_of (c ∷ cells)) i (place_of c)) (get_or (map place_of (c ∷ cells)) j (place_of c)) =
-      subst₂ (AreApartAt direction span_of) (sym (get_or-map place_of (c ∷ cells) i c)) (sym (get_or-map place_of (c ∷ cells) j c))
-      (apart-from_cells (get_or (c ∷ cells) i c) (get_or (c ∷ cells) j c) (ranged i c (omega arith)) (ranged j c (omega arith)) (pairs i j c l (omega arith))) in
-      subst₂ (AreApartAt direction span_of) (get_or_default (map place_of (c ∷ cells)) i (place_of c) p (omega arith)) (get_or_default (map place_of (c ∷ cells)) j (place_of c) p l') here
+      let here : AreDisjointAt direction span_of (get_or (map place_of (c ∷ cells)) i (place_of c)) (get_or (map place_of (c ∷ cells)) j (place_of c)) =
+      subst₂ (AreDisjointAt direction span_of) (sym (get_or-map place_of (c ∷ cells) i c)) (sym (get_or-map place_of (c ∷ cells) j c))
+      (disjoint-from_cells (get_or (c ∷ cells) i c) (get_or (c ∷ cells) j c) (ranged i c (omega arith)) (ranged j c (omega arith)) (pairs i j c l (omega arith))) in
+      subst₂ (AreDisjointAt direction span_of) (get_or_default (map place_of (c ∷ cells)) i (place_of c) p (omega arith)) (get_or_default (map place_of (c ∷ cells)) j (place_of c) p l') here
 
 module _ (line : ℕ → Bool) (sizes : List ℕ) (places : List Position) (direction : Direction) (span_of : Position → ℕ) (checked : Checked) (ds : List Demand)
     (h : Checks line sizes places direction span_of checked ds) (are_distinct : AreDistinct ds) where
@@ -214,8 +214,8 @@ module _ (line : ℕ → Bool) (sizes : List ℕ) (places : List Position) (dire
   listed-at : (f : Demand → ℕ) (cells : List Demand) → map place_of cells ≡ places → AllByRecursion (Contains ds) cells → all_listed f places ds ≡ sum_by f cells
   listed-at f cells at all = ap (λ ps. all_listed f ps ds) (sym at) ∙ all_listed-cells f ds distinct cells all
 
-  pub accepted-from : SumsAgree checked sizes places → AllPairs (AreApartAt direction span_of) places → IsAccepted (given line (length sizes) ds) sizes places
-  accepted-from agree apart =
+  pub accepted-from : SumsAgree checked sizes places → AllPairs (AreDisjointAt direction span_of) places → IsAccepted (given line (length sizes) ds) sizes places
+  accepted-from agree disjoint =
       let all = h.holds agree.holds in
       let table : All (IsInTable (length sizes)) ds = λ k e l. record { covers_one = h.spans k e l; ends_within = all.table k e l } in
       let listed : (cells : List Demand) × (map place_of cells ≡ places) × AllByRecursion (Contains ds) cells = listed_cells places ds distinct (sym all.found ∙ agree.found) in
@@ -230,7 +230,7 @@ module _ (line : ℕ → Bool) (sizes : List ℕ) (places : List Position) (dire
         at_places = listed.1;
         certificate = record {
           visible = visible;
-          apart = pairs-from_places direction span_of listed.0 (ranged_cells listed.0 visible) (subst (AllPairs (AreApartAt direction span_of)) (sym listed.1) apart);
+          disjoint = pairs-from_places direction span_of listed.0 (ranged_cells listed.0 visible) (subst (AllPairs (AreDisjointAt direction span_of)) (sym listed.1) disjoint);
           adds_up = omega arith;
         };
       }
@@ -254,10 +254,10 @@ module _ (line : ℕ → Bool) (sizes : List ℕ) (places : List Position) (dire
         adds_up = omega arith;
       }
 
-  pub apart-from_accepted : IsAccepted (given line (length sizes) ds) sizes places → AllPairs (AreApartAt direction span_of) places
-  apart-from_accepted a =
-      subst (AllPairs (AreApartAt direction span_of)) a.at_places
-      (pairs-from_cells direction span_of a.cells (ranged_cells a.cells a.certificate.visible) a.certificate.apart)
+  pub disjoint-from_accepted : IsAccepted (given line (length sizes) ds) sizes places → AllPairs (AreDisjointAt direction span_of) places
+  disjoint-from_accepted a =
+      subst (AllPairs (AreDisjointAt direction span_of)) a.at_places
+      (pairs-from_cells direction span_of a.cells (ranged_cells a.cells a.certificate.visible) a.certificate.disjoint)
 
 -- accepted sizes are least
 pub IsLeast-accepted : (line : ℕ → Bool) (n : ℕ) (ds : List Demand) (sizes : List ℕ) (places : List Position) → All (λ d. 1 ≤ d.span) ds → IsAccepted (given line n ds) sizes places → IsLeast (given line n ds) sizes
@@ -286,7 +286,7 @@ few_places line n ds sizes places spans a =
     let cells : All (IsInTable n) a.cells = All-weaker (Contains ds) (IsInTable n) (λ d m. All-contains (IsInTable n) ds d table m) a.cells a.certificate.visible in
     let inside : AllByRecursion (λ d. end_of d ≤ n) a.cells = recursion_from_All (λ d. end_of d ≤ n) a.cells (All-weaker (IsInTable n) (λ d. end_of d ≤ n) (λ d h. h.ends_within) a.cells cells) in
     let long : AllByRecursion (λ d. 1 ≤ d.span) a.cells = recursion_from_All (λ d. 1 ≤ d.span) a.cells (All-weaker (IsInTable n) (λ d. 1 ≤ d.span) (λ d h. h.covers_one) a.cells cells) in
-    let p : upto (λ _. 1) n ≡ sum_by (within (λ _. 1)) a.cells + upto (outside a.cells (λ _. 1)) n = partition (λ _. 1) n a.cells inside (Apart-from_AllPairs a.cells a.certificate.apart) in
+    let p : upto (λ _. 1) n ≡ sum_by (within (λ _. 1)) a.cells + upto (outside a.cells (λ _. 1)) n = partition (λ _. 1) n a.cells inside (ArePairwiseDisjoint-from_AllPairs a.cells a.certificate.disjoint) in
     let few : length a.cells ≤ sum_by (within (λ _. 1)) a.cells = ones_below a.cells long in
     let all : upto (λ _. 1) n ≡ n = upto_ones n in
     let many : length (map place_of a.cells) ≡ length a.cells = length-map a.cells place_of in

@@ -12,12 +12,12 @@ use Rattle.papergrid_axis.specs.Fits.{range_sum, IsCertificate, IsLeast}
 use Rattle.papergrid_axis.specs.Sizes.{base_size, base_sizes}
 use Rattle.papergrid_axis.specs.Chosen.{growing, outermost, single_at, or_else, chosen}
 use Rattle.papergrid_axis.proofs.Upto.{upto, upto-ext, upto-add, upto-zero, sum-upto, within, range_sum-within, holds_cases}
-use Rattle.papergrid_axis.proofs.RangeLemmas.{Apart, AllPairs-from_Apart, covered, outside, partition}
+use Rattle.papergrid_axis.proofs.RangeLemmas.{ArePairwiseDisjoint, AllPairs-from_pairwise, covered, outside, partition}
 use Rattle.papergrid_axis.proofs.Duality.{IsLeast-from_certificate}
 use Rattle.papergrid_axis.proofs.Greatest.{holds_alone, get_or-base_sizes, length-base_sizes}
 use Rattle.papergrid_axis.proofs.FitBound.{TakesAll, sizes_after, table_of_taken, Fits-sizes_after, length-taken, ByRecursion-weaker}
-use Rattle.papergrid_axis.proofs.GrowLemmas.{IsLaminar, IsTight, growing-all, outermost-all, size-not_covered, Apart-outermost, tight-outermost, covered-outermost}
-use Rattle.papergrid_axis.proofs.Counting.{weight, sum_by-filter_map, filter_map-all, Apart-filter_map, find-all, sum-by_start, find-greatest}
+use Rattle.papergrid_axis.proofs.GrowLemmas.{IsLaminar, IsTight, growing-all, outermost-all, size-not_covered, ArePairwiseDisjoint-outermost, tight-outermost, covered-outermost}
+use Rattle.papergrid_axis.proofs.Counting.{weight, sum_by-filter_map, filter_map-all, ArePairwiseDisjoint-filter_map, find-all, sum-by_start, find-greatest}
 
 pub AreDisjoint-sym : (a b : Demand) → AreDisjoint a b → AreDisjoint b a
 AreDisjoint-sym a b (inl l) = inr l
@@ -56,33 +56,33 @@ not_covered-each [] i f = tt
 not_covered-each (d ∷ ds) i f = let p : (holds d i ≡ false) × (covered ds i ≡ false) = or_parts (holds d i) (covered ds i) f in (p.0, not_covered-each ds i p.1)
 
 -- two of the disjoint cells that start at different numbers
-two_found : (ds : List Demand) (i j : ℕ) (a b : Demand) → Apart ds → i ≢ j → find (λ e. e.start == i) ds ≡ Some a → find (λ e. e.start == j) ds ≡ Some b → AreDisjoint a b
-two_found [] i j a b apart ne e e' = absurd (none_some e)
-two_found (c ∷ ds) i j a b apart ne e e' = elim (cases_Bool (eqb c.start i)) [
+two_found : (ds : List Demand) (i j : ℕ) (a b : Demand) → ArePairwiseDisjoint ds → i ≢ j → find (λ e. e.start == i) ds ≡ Some a → find (λ e. e.start == j) ds ≡ Some b → AreDisjoint a b
+two_found [] i j a b disjoint ne e e' = absurd (none_some e)
+two_found (c ∷ ds) i j a b disjoint ne e e' = elim (cases_Bool (eqb c.start i)) [
   | inl t ↦
       let at_i : c.start ≡ i = eqb-true c.start i t in
       let not_j : c.start ≢ j = λ at_j. ne (sym at_i ∙ at_j) in
       let same : c ≡ a = some_same (rw t at e) in
       let later : find (λ e. e.start == j) ds ≡ Some b = rw (ne_eqb c.start j not_j) at e' in
-      subst (λ y. AreDisjoint y b) same (find-all (AreDisjoint c) (λ e. e.start == j) ds b apart.0 later).1
+      subst (λ y. AreDisjoint y b) same (find-all (AreDisjoint c) (λ e. e.start == j) ds b disjoint.0 later).1
   | inr f ↦ elim (cases_Bool (eqb c.start j)) [
     | inl t ↦
         let same : c ≡ b = some_same (rw t at e') in
-        subst (λ y. AreDisjoint a y) same (AreDisjoint-sym c a (find-all (AreDisjoint c) (λ e. e.start == i) ds a apart.0 (rw f at e)).1)
-    | inr f' ↦ two_found ds i j a b apart.1 ne (rw f at e) (rw f' at e')
+        subst (λ y. AreDisjoint a y) same (AreDisjoint-sym c a (find-all (AreDisjoint c) (λ e. e.start == i) ds a disjoint.0 (rw f at e)).1)
+    | inr f' ↦ two_found ds i j a b disjoint.1 ne (rw f at e) (rw f' at e')
   ]
 ]
 
 -- what a single cell is
-record IsSingle (demands growers : List Demand) (sizes : List ℕ) (i : ℕ) (d : Demand) : Type 0 where
-  free : covered growers i ≡ false
+record IsSingle (demands growing_cells : List Demand) (sizes : List ℕ) (i : ℕ) (d : Demand) : Type 0 where
+  free : covered growing_cells i ≡ false
   one : d.span ≡ 1
   at : d.start ≡ i
   size : d.need ≡ get_or sizes i 0
   cell : Contains demands d
 
-single_is : (demands growers : List Demand) (sizes : List ℕ) (i : ℕ) (d : Demand) → single_at demands growers sizes i ≡ Some d → IsSingle demands growers sizes i d
-single_is demands growers sizes i d e = elim (cases_Bool (covered growers i)) [
+single_is : (demands growing_cells : List Demand) (sizes : List ℕ) (i : ℕ) (d : Demand) → single_at demands growing_cells sizes i ≡ Some d → IsSingle demands growing_cells sizes i d
+single_is demands growing_cells sizes i d e = elim (cases_Bool (covered growing_cells i)) [
   | inl t ↦ absurd (none_some {d = d} (rw t at e))
   | inr f ↦ elim (cases_Bool (eqb (get_or sizes i 0) 0)) [
     | inl z ↦ absurd (none_some {d = d} (rw (f, z) at e))
@@ -97,8 +97,8 @@ single_is demands growers sizes i d e = elim (cases_Bool (covered growers i)) [
   ]
 ]
 
-single-none : (demands growers : List Demand) (sizes : List ℕ) (i : ℕ) → covered growers i ≡ true → single_at demands growers sizes i ≡ None
-single-none demands growers sizes i t = rw t refl
+single-none : (demands growing_cells : List Demand) (sizes : List ℕ) (i : ℕ) → covered growing_cells i ≡ true → single_at demands growing_cells sizes i ≡ None
+single-none demands growing_cells sizes i t = rw t refl
 
 sum-tight : (line : ℕ → Bool) (sizes : List ℕ) (ds : List Demand) → AllByRecursion (IsTight line sizes) ds →
     sum_by (λ d. d.need) ds ≡ sum_by (within (λ i. get_or sizes i 0)) ds + sum_by (inner_lines line) ds
@@ -114,22 +114,22 @@ sum-tight line sizes (d ∷ ds) all =
     omega arith
 
 -- the facts on the growing cells that the rest stands on
-pub record GrowersAre (line : ℕ → Bool) (n : ℕ) (demands growers : List Demand) (sizes : List ℕ) : Type 0 where
+pub record GrowingCellsAre (line : ℕ → Bool) (n : ℕ) (demands growing_cells : List Demand) (sizes : List ℕ) : Type 0 where
   pub many : length sizes ≡ n
-  pub cells : AllByRecursion (Contains demands) (outermost growers)
-  pub table : AllByRecursion (IsInTable n) (outermost growers)
-  pub apart : Apart (outermost growers)
-  pub tight : AllByRecursion (IsTight line sizes) (outermost growers)
-  pub base : (i : ℕ) → i < n → covered growers i ≡ false → get_or sizes i 0 ≡ base_size demands i
+  pub cells : AllByRecursion (Contains demands) (outermost growing_cells)
+  pub table : AllByRecursion (IsInTable n) (outermost growing_cells)
+  pub disjoint : ArePairwiseDisjoint (outermost growing_cells)
+  pub tight : AllByRecursion (IsTight line sizes) (outermost growing_cells)
+  pub base : (i : ℕ) → i < n → covered growing_cells i ≡ false → get_or sizes i 0 ≡ base_size demands i
 
-module _ (line : ℕ → Bool) (n : ℕ) (demands growers : List Demand) (sizes : List ℕ) (g : GrowersAre line n demands growers sizes) where
-  spans : AllByRecursion (λ d. 1 ≤ d.span) (outermost growers)
-  spans = ByRecursion-weaker (IsInTable n) (λ d. 1 ≤ d.span) (λ d t. t.covers_one) (outermost growers) g.table
+module _ (line : ℕ → Bool) (n : ℕ) (demands growing_cells : List Demand) (sizes : List ℕ) (g : GrowingCellsAre line n demands growing_cells sizes) where
+  spans : AllByRecursion (λ d. 1 ≤ d.span) (outermost growing_cells)
+  spans = ByRecursion-weaker (IsInTable n) (λ d. 1 ≤ d.span) (λ d t. t.covers_one) (outermost growing_cells) g.table
 
-  found_single : (i j : ℕ) (d e : Demand) → find (λ d. d.start == i) (outermost growers) ≡ Some d → IsSingle demands growers sizes j e → AreDisjoint d e
+  found_single : (i j : ℕ) (d e : Demand) → find (λ d. d.start == i) (outermost growing_cells) ≡ Some d → IsSingle demands growing_cells sizes j e → AreDisjoint d e
   found_single i j d e f s =
-      let free : covered (outermost growers) j ≡ false = covered-outermost growers j ∙ s.free in
-      let out : holds d j ≡ false = (find-all (λ c. holds c j ≡ false) (λ c. c.start == i) (outermost growers) d (not_covered-each (outermost growers) j free) f).1 in
+      let free : covered (outermost growing_cells) j ≡ false = covered-outermost growing_cells j ∙ s.free in
+      let out : holds d j ≡ false = (find-all (λ c. holds c j ≡ false) (λ c. c.start == i) (outermost growing_cells) d (not_covered-each (outermost growing_cells) j free) f).1 in
       let one : e.span ≡ 1 = s.one in
       let at : e.start ≡ j = s.at in
       elim (holds_cases d j) [
@@ -138,20 +138,20 @@ module _ (line : ℕ → Bool) (n : ℕ) (demands growers : List Demand) (sizes 
       ]
 
   pair_apart : (i j : ℕ) (d e : Demand) → i < j →
-      or_else (find (λ d. d.start == i) (outermost growers)) (single_at demands growers sizes i) ≡ Some d →
-      or_else (find (λ d. d.start == j) (outermost growers)) (single_at demands growers sizes j) ≡ Some e → AreDisjoint d e
+      or_else (find (λ d. d.start == i) (outermost growing_cells)) (single_at demands growing_cells sizes i) ≡ Some d →
+      or_else (find (λ d. d.start == j) (outermost growing_cells)) (single_at demands growing_cells sizes j) ≡ Some e → AreDisjoint d e
   pair_apart i j d e l p q =
       let ne : i ≢ j = omega arith in
-      elim (or_else_cases (find (λ d. d.start == i) (outermost growers)) (single_at demands growers sizes i) d p) [
-        | inl x ↦ elim (or_else_cases (find (λ d. d.start == j) (outermost growers)) (single_at demands growers sizes j) e q) [
-          | inl y ↦ two_found (outermost growers) i j d e g.apart ne x y
-          | inr y ↦ found_single i j d e x (single_is demands growers sizes j e y)
+      elim (or_else_cases (find (λ d. d.start == i) (outermost growing_cells)) (single_at demands growing_cells sizes i) d p) [
+        | inl x ↦ elim (or_else_cases (find (λ d. d.start == j) (outermost growing_cells)) (single_at demands growing_cells sizes j) e q) [
+          | inl y ↦ two_found (outermost growing_cells) i j d e g.disjoint ne x y
+          | inr y ↦ found_single i j d e x (single_is demands growing_cells sizes j e y)
         ]
-        | inr x ↦ elim (or_else_cases (find (λ d. d.start == j) (outermost growers)) (single_at demands growers sizes j) e q) [
-          | inl y ↦ AreDisjoint-sym e d (found_single j i e d y (single_is demands growers sizes i d x))
+        | inr x ↦ elim (or_else_cases (find (λ d. d.start == j) (outermost growing_cells)) (single_at demands growing_cells sizes j) e q) [
+          | inl y ↦ AreDisjoint-sym e d (found_single j i e d y (single_is demands growing_cells sizes i d x))
           | inr y ↦
-              let s : IsSingle demands growers sizes i d = single_is demands growers sizes i d x in
-              let s' : IsSingle demands growers sizes j e = single_is demands growers sizes j e y in
+              let s : IsSingle demands growing_cells sizes i d = single_is demands growing_cells sizes i d x in
+              let s' : IsSingle demands growing_cells sizes j e = single_is demands growing_cells sizes j e y in
               let a : d.start ≡ i = s.at in
               let b : d.span ≡ 1 = s.one in
               let c : e.start ≡ j = s'.at in
@@ -159,46 +159,46 @@ module _ (line : ℕ → Bool) (n : ℕ) (demands growers : List Demand) (sizes 
         ]
       ]
 
-  chosen-apart : Apart (chosen n demands growers sizes)
-  chosen-apart =
-      Apart-filter_map (λ i. or_else (find (λ d. d.start == i) (outermost growers)) (single_at demands growers sizes i)) 0 n pair_apart
+  chosen-disjoint : ArePairwiseDisjoint (chosen n demands growing_cells sizes)
+  chosen-disjoint =
+      ArePairwiseDisjoint-filter_map (λ i. or_else (find (λ d. d.start == i) (outermost growing_cells)) (single_at demands growing_cells sizes i)) 0 n pair_apart
 
-  chosen-cells : AllByRecursion (Contains demands) (chosen n demands growers sizes)
+  chosen-cells : AllByRecursion (Contains demands) (chosen n demands growing_cells sizes)
   chosen-cells =
-      filter_map-all (Contains demands) (λ i. or_else (find (λ d. d.start == i) (outermost growers)) (single_at demands growers sizes i)) (range_with_len 0 n)
-      (λ i d e. elim (or_else_cases (find (λ d. d.start == i) (outermost growers)) (single_at demands growers sizes i) d e) [
-        | inl x ↦ (find-all (Contains demands) (λ d. d.start == i) (outermost growers) d g.cells x).1
-        | inr x ↦ (single_is demands growers sizes i d x).cell
+      filter_map-all (Contains demands) (λ i. or_else (find (λ d. d.start == i) (outermost growing_cells)) (single_at demands growing_cells sizes i)) (range_with_len 0 n)
+      (λ i d e. elim (or_else_cases (find (λ d. d.start == i) (outermost growing_cells)) (single_at demands growing_cells sizes i) d e) [
+        | inl x ↦ (find-all (Contains demands) (λ d. d.start == i) (outermost growing_cells) d g.cells x).1
+        | inr x ↦ (single_is demands growing_cells sizes i d x).cell
       ])
 
   -- a sum over the chosen cells is one over the outermost growing cells and one over the single cells
-  sum-chosen : (w : Demand → ℕ) → sum_by w (chosen n demands growers sizes) ≡ sum_by w (outermost growers) + upto (λ i. weight w (single_at demands growers sizes i)) n
+  sum-chosen : (w : Demand → ℕ) → sum_by w (chosen n demands growing_cells sizes) ≡ sum_by w (outermost growing_cells) + upto (λ i. weight w (single_at demands growing_cells sizes i)) n
   sum-chosen w =
-      let a : sum_by w (chosen n demands growers sizes) ≡ upto (λ i. weight w (or_else (find (λ d. d.start == i) (outermost growers)) (single_at demands growers sizes i))) n =
-      sum_by-filter_map w (λ i. or_else (find (λ d. d.start == i) (outermost growers)) (single_at demands growers sizes i)) n in
-      let b : upto (λ i. weight w (or_else (find (λ d. d.start == i) (outermost growers)) (single_at demands growers sizes i))) n
-      ≡ upto (λ i. weight w (find (λ d. d.start == i) (outermost growers)) + weight w (single_at demands growers sizes i)) n =
-      upto-ext (λ i. weight w (or_else (find (λ d. d.start == i) (outermost growers)) (single_at demands growers sizes i)))
-      (λ i. weight w (find (λ d. d.start == i) (outermost growers)) + weight w (single_at demands growers sizes i)) n
-      (λ i l. weight-or_else w (find (λ d. d.start == i) (outermost growers)) (single_at demands growers sizes i)
-      (λ d e. single-none demands growers sizes i (sym (covered-outermost growers i) ∙ covered-found (outermost growers) i d spans e))) in
-      let c : upto (λ i. weight w (find (λ d. d.start == i) (outermost growers)) + weight w (single_at demands growers sizes i)) n
-      ≡ upto (λ i. weight w (find (λ d. d.start == i) (outermost growers))) n + upto (λ i. weight w (single_at demands growers sizes i)) n =
-      upto-add (λ i. weight w (find (λ d. d.start == i) (outermost growers))) (λ i. weight w (single_at demands growers sizes i)) n in
-      let starts : AllByRecursion (λ d. d.start < n) (outermost growers) =
-      ByRecursion-weaker (IsInTable n) (λ d. d.start < n) (λ d t. let one : 1 ≤ d.span = t.covers_one in let le : end_of d ≤ n = t.ends_within in omega arith) (outermost growers) g.table in
-      let s : upto (λ i. weight w (find (λ d. d.start == i) (outermost growers))) n ≡ sum_by w (outermost growers) =
-      sum-by_start w n (outermost growers) spans starts g.apart in
+      let a : sum_by w (chosen n demands growing_cells sizes) ≡ upto (λ i. weight w (or_else (find (λ d. d.start == i) (outermost growing_cells)) (single_at demands growing_cells sizes i))) n =
+      sum_by-filter_map w (λ i. or_else (find (λ d. d.start == i) (outermost growing_cells)) (single_at demands growing_cells sizes i)) n in
+      let b : upto (λ i. weight w (or_else (find (λ d. d.start == i) (outermost growing_cells)) (single_at demands growing_cells sizes i))) n
+      ≡ upto (λ i. weight w (find (λ d. d.start == i) (outermost growing_cells)) + weight w (single_at demands growing_cells sizes i)) n =
+      upto-ext (λ i. weight w (or_else (find (λ d. d.start == i) (outermost growing_cells)) (single_at demands growing_cells sizes i)))
+      (λ i. weight w (find (λ d. d.start == i) (outermost growing_cells)) + weight w (single_at demands growing_cells sizes i)) n
+      (λ i l. weight-or_else w (find (λ d. d.start == i) (outermost growing_cells)) (single_at demands growing_cells sizes i)
+      (λ d e. single-none demands growing_cells sizes i (sym (covered-outermost growing_cells i) ∙ covered-found (outermost growing_cells) i d spans e))) in
+      let c : upto (λ i. weight w (find (λ d. d.start == i) (outermost growing_cells)) + weight w (single_at demands growing_cells sizes i)) n
+      ≡ upto (λ i. weight w (find (λ d. d.start == i) (outermost growing_cells))) n + upto (λ i. weight w (single_at demands growing_cells sizes i)) n =
+      upto-add (λ i. weight w (find (λ d. d.start == i) (outermost growing_cells))) (λ i. weight w (single_at demands growing_cells sizes i)) n in
+      let starts : AllByRecursion (λ d. d.start < n) (outermost growing_cells) =
+      ByRecursion-weaker (IsInTable n) (λ d. d.start < n) (λ d t. let one : 1 ≤ d.span = t.covers_one in let le : end_of d ≤ n = t.ends_within in omega arith) (outermost growing_cells) g.table in
+      let s : upto (λ i. weight w (find (λ d. d.start == i) (outermost growing_cells))) n ≡ sum_by w (outermost growing_cells) =
+      sum-by_start w n (outermost growing_cells) spans starts g.disjoint in
       omega arith
 
   -- a single cell needs what lies outside of the growing cells there
-  single-need : (i : ℕ) → i < n → weight (λ d. d.need) (single_at demands growers sizes i) ≡ outside (outermost growers) (λ i. get_or sizes i 0) i
-  single-need i l = elim (cases_Bool (covered growers i)) [
+  single-need : (i : ℕ) → i < n → weight (λ d. d.need) (single_at demands growing_cells sizes i) ≡ outside (outermost growing_cells) (λ i. get_or sizes i 0) i
+  single-need i l = elim (cases_Bool (covered growing_cells i)) [
     | inl t ↦
-        let t' : covered (outermost growers) i ≡ true = covered-outermost growers i ∙ t in
+        let t' : covered (outermost growing_cells) i ≡ true = covered-outermost growing_cells i ∙ t in
         rw (t, t') refl
     | inr f ↦
-        let f' : covered (outermost growers) i ≡ false = covered-outermost growers i ∙ f in
+        let f' : covered (outermost growing_cells) i ≡ false = covered-outermost growing_cells i ∙ f in
         rw f' (elim (cases_Bool (eqb (get_or sizes i 0) 0)) [
           | inl z ↦ rw (f, z) (sym (eqb-true (get_or sizes i 0) 0 z))
           | inr nz ↦
@@ -206,41 +206,41 @@ module _ (line : ℕ → Bool) (n : ℕ) (demands growers : List Demand) (sizes 
               let b : base_size demands i ≡ get_or sizes i 0 = sym (g.base i l f) in
               let found : (d : Demand) × (find (λ e. (e.span == 1 && e.start == i) && e.need == get_or sizes i 0) demands ≡ Some d) =
               find-greatest (λ e. e.span == 1 && e.start == i) demands (get_or sizes i 0) (omega arith) b in
-              let e : single_at demands growers sizes i ≡ Some found.0 = rw (f, nz) found.1 in
-              ap (weight (λ d. d.need)) e ∙ (single_is demands growers sizes i found.0 e).size
+              let e : single_at demands growing_cells sizes i ≡ Some found.0 = rw (f, nz) found.1 in
+              ap (weight (λ d. d.need)) e ∙ (single_is demands growing_cells sizes i found.0 e).size
         ])
   ]
 
-  single-inner : (i : ℕ) → weight (inner_lines line) (single_at demands growers sizes i) ≡ 0
-  single-inner i = step (single_at demands growers sizes i) refl
+  single-inner : (i : ℕ) → weight (inner_lines line) (single_at demands growing_cells sizes i) ≡ 0
+  single-inner i = step (single_at demands growing_cells sizes i) refl
     where
-      step : (o : Option Demand) → single_at demands growers sizes i ≡ o → weight (inner_lines line) o ≡ 0
+      step : (o : Option Demand) → single_at demands growing_cells sizes i ≡ o → weight (inner_lines line) o ≡ 0
       step None e = refl
       step (Some d) e =
-          let one : d.span ≡ 1 = (single_is demands growers sizes i d e).one in
+          let one : d.span ≡ 1 = (single_is demands growing_cells sizes i d e).one in
           let z : d.span - 1 ≡ 0 = omega arith in
           ap (λ k. count_by line (range_with_len (d.start + 1) k)) z
 
-  chosen-adds_up : sum_by (λ d. d.need) (chosen n demands growers sizes) ≡ sum sizes + sum_by (inner_lines line) (chosen n demands growers sizes)
+  chosen-adds_up : sum_by (λ d. d.need) (chosen n demands growing_cells sizes) ≡ sum sizes + sum_by (inner_lines line) (chosen n demands growing_cells sizes)
   chosen-adds_up =
-      let a : sum_by (λ d. d.need) (chosen n demands growers sizes) ≡ sum_by (λ d. d.need) (outermost growers) + upto (λ i. weight (λ d. d.need) (single_at demands growers sizes i)) n = sum-chosen (λ d. d.need) in
-      let b : sum_by (inner_lines line) (chosen n demands growers sizes) ≡ sum_by (inner_lines line) (outermost growers) + upto (λ i. weight (inner_lines line) (single_at demands growers sizes i)) n = sum-chosen (inner_lines line) in
-      let z : upto (λ i. weight (inner_lines line) (single_at demands growers sizes i)) n ≡ 0 = upto-zero (λ i. weight (inner_lines line) (single_at demands growers sizes i)) n (λ i l. single-inner i) in
-      let o : upto (λ i. weight (λ d. d.need) (single_at demands growers sizes i)) n ≡ upto (outside (outermost growers) (λ i. get_or sizes i 0)) n =
-      upto-ext (λ i. weight (λ d. d.need) (single_at demands growers sizes i)) (outside (outermost growers) (λ i. get_or sizes i 0)) n single-need in
-      let inside : AllByRecursion (λ d. end_of d ≤ n) (outermost growers) = ByRecursion-weaker (IsInTable n) (λ d. end_of d ≤ n) (λ d t. t.ends_within) (outermost growers) g.table in
-      let p : upto (λ i. get_or sizes i 0) n ≡ sum_by (within (λ i. get_or sizes i 0)) (outermost growers) + upto (outside (outermost growers) (λ i. get_or sizes i 0)) n =
-      partition (λ i. get_or sizes i 0) n (outermost growers) inside g.apart in
-      let t : sum_by (λ d. d.need) (outermost growers) ≡ sum_by (within (λ i. get_or sizes i 0)) (outermost growers) + sum_by (inner_lines line) (outermost growers) =
-      sum-tight line sizes (outermost growers) g.tight in
+      let a : sum_by (λ d. d.need) (chosen n demands growing_cells sizes) ≡ sum_by (λ d. d.need) (outermost growing_cells) + upto (λ i. weight (λ d. d.need) (single_at demands growing_cells sizes i)) n = sum-chosen (λ d. d.need) in
+      let b : sum_by (inner_lines line) (chosen n demands growing_cells sizes) ≡ sum_by (inner_lines line) (outermost growing_cells) + upto (λ i. weight (inner_lines line) (single_at demands growing_cells sizes i)) n = sum-chosen (inner_lines line) in
+      let z : upto (λ i. weight (inner_lines line) (single_at demands growing_cells sizes i)) n ≡ 0 = upto-zero (λ i. weight (inner_lines line) (single_at demands growing_cells sizes i)) n (λ i l. single-inner i) in
+      let o : upto (λ i. weight (λ d. d.need) (single_at demands growing_cells sizes i)) n ≡ upto (outside (outermost growing_cells) (λ i. get_or sizes i 0)) n =
+      upto-ext (λ i. weight (λ d. d.need) (single_at demands growing_cells sizes i)) (outside (outermost growing_cells) (λ i. get_or sizes i 0)) n single-need in
+      let inside : AllByRecursion (λ d. end_of d ≤ n) (outermost growing_cells) = ByRecursion-weaker (IsInTable n) (λ d. end_of d ≤ n) (λ d t. t.ends_within) (outermost growing_cells) g.table in
+      let p : upto (λ i. get_or sizes i 0) n ≡ sum_by (within (λ i. get_or sizes i 0)) (outermost growing_cells) + upto (outside (outermost growing_cells) (λ i. get_or sizes i 0)) n =
+      partition (λ i. get_or sizes i 0) n (outermost growing_cells) inside g.disjoint in
+      let t : sum_by (λ d. d.need) (outermost growing_cells) ≡ sum_by (within (λ i. get_or sizes i 0)) (outermost growing_cells) + sum_by (inner_lines line) (outermost growing_cells) =
+      sum-tight line sizes (outermost growing_cells) g.tight in
       let s : sum sizes ≡ upto (λ i. get_or sizes i 0) (length sizes) = sum-upto sizes in
       let s' : upto (λ i. get_or sizes i 0) (length sizes) ≡ upto (λ i. get_or sizes i 0) n = ap (upto (λ i. get_or sizes i 0)) g.many in
       omega arith
 
-  pub certificate_of_growers : IsCertificate (given line n demands) sizes (chosen n demands growers sizes)
-  certificate_of_growers = record {
-    visible = All-from_recursion (Contains demands) (chosen n demands growers sizes) chosen-cells;
-    apart = AllPairs-from_Apart (chosen n demands growers sizes) chosen-apart;
+  pub certificate_of_growing_cells : IsCertificate (given line n demands) sizes (chosen n demands growing_cells sizes)
+  certificate_of_growing_cells = record {
+    visible = All-from_recursion (Contains demands) (chosen n demands growing_cells sizes) chosen-cells;
+    disjoint = AllPairs-from_pairwise (chosen n demands growing_cells sizes) chosen-disjoint;
     adds_up = chosen-adds_up;
   }
 
@@ -255,9 +255,9 @@ base-not_covered line n demands taken table takes i l f =
     ByRecursion-weaker (IsInTable (length (base_sizes n demands))) (λ d. 1 ≤ d.span) (λ d t. t.covers_one) taken table' in
     size-not_covered line (base_sizes n demands) taken i ones (omega arith) f ∙ get_or-base_sizes n demands i l
 
-growers_are : (line : ℕ → Bool) (n : ℕ) (demands taken : List Demand) → All (IsInTable n) demands → TakesAll demands taken → IsLaminar taken →
-    GrowersAre line n demands (growing line (base_sizes n demands) taken) (sizes_after line n demands taken)
-growers_are line n demands taken table takes laminar =
+growing_cells_are : (line : ℕ → Bool) (n : ℕ) (demands taken : List Demand) → All (IsInTable n) demands → TakesAll demands taken → IsLaminar taken →
+    GrowingCellsAre line n demands (growing line (base_sizes n demands) taken) (sizes_after line n demands taken)
+growing_cells_are line n demands taken table takes laminar =
     let many : length (base_sizes n demands) ≡ n = length-base_sizes n demands in
     let cells : AllByRecursion (Contains demands) taken = recursion_from_All (Contains demands) taken takes.cells in
     let table' : AllByRecursion (IsInTable (length (base_sizes n demands))) taken =
@@ -267,7 +267,7 @@ growers_are line n demands taken table takes laminar =
       many = length-taken line (base_sizes n demands) taken ∙ many;
       cells = outermost-all (Contains demands) (growing line (base_sizes n demands) taken) (growing-all (Contains demands) line (base_sizes n demands) taken cells);
       table = outermost-all (IsInTable n) (growing line (base_sizes n demands) taken) (growing-all (IsInTable n) line (base_sizes n demands) taken table'');
-      apart = Apart-outermost line (base_sizes n demands) taken laminar;
+      disjoint = ArePairwiseDisjoint-outermost line (base_sizes n demands) taken laminar;
       tight = tight-outermost line (base_sizes n demands) taken table' laminar;
       base = base-not_covered line n demands taken table takes;
     }
@@ -276,7 +276,7 @@ growers_are line n demands taken table takes laminar =
 pub certificate_of : (line : ℕ → Bool) (n : ℕ) (demands taken : List Demand) → All (IsInTable n) demands → TakesAll demands taken → IsLaminar taken →
     IsCertificate (given line n demands) (sizes_after line n demands taken) (chosen n demands (growing line (base_sizes n demands) taken) (sizes_after line n demands taken))
 certificate_of line n demands taken table takes laminar =
-    certificate_of_growers line n demands (growing line (base_sizes n demands) taken) (sizes_after line n demands taken) (growers_are line n demands taken table takes laminar)
+    certificate_of_growing_cells line n demands (growing line (base_sizes n demands) taken) (sizes_after line n demands taken) (growing_cells_are line n demands taken table takes laminar)
 
 -- so the sizes are least
 pub IsLeast-sizes_after : (line : ℕ → Bool) (n : ℕ) (demands taken : List Demand) → All (IsInTable n) demands → TakesAll demands taken → IsLaminar taken →

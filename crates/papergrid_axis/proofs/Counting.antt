@@ -8,7 +8,7 @@ use Rattle.papergrid_axis.specs.declared.demand.Demand.{Demand}
 use Rattle.papergrid_axis.specs.Ranges.{AreDisjoint}
 use Rattle.papergrid_axis.specs.Fits.{greatest_need}
 use Rattle.papergrid_axis.proofs.Upto.{upto, upto-ext, upto-zero, upto-add, upto-front}
-use Rattle.papergrid_axis.proofs.RangeLemmas.{Apart}
+use Rattle.papergrid_axis.proofs.RangeLemmas.{ArePairwiseDisjoint}
 
 -- the weight of a cell, 0 where there is none
 abbrev pub weight : (Demand → ℕ) → Option Demand → ℕ
@@ -56,12 +56,12 @@ filter_map-all_from P h a (suc n) each = step (filter_map-all_from P h (a + 1) n
     step rest (Some d) e = (each a d (omega arith) e, rest)
 
 -- cells found at different numbers are disjoint, so all are
-pub Apart-filter_map : (h : ℕ → Option Demand) (a n : ℕ) → ((i j : ℕ) (d e : Demand) → i < j → h i ≡ Some d → h j ≡ Some e → AreDisjoint d e) →
-    Apart (filter_map h (range_with_len a n))
-Apart-filter_map h a zero each = tt
-Apart-filter_map h a (suc n) each = step (Apart-filter_map h (a + 1) n each) (h a) refl
+pub ArePairwiseDisjoint-filter_map : (h : ℕ → Option Demand) (a n : ℕ) → ((i j : ℕ) (d e : Demand) → i < j → h i ≡ Some d → h j ≡ Some e → AreDisjoint d e) →
+    ArePairwiseDisjoint (filter_map h (range_with_len a n))
+ArePairwiseDisjoint-filter_map h a zero each = tt
+ArePairwiseDisjoint-filter_map h a (suc n) each = step (ArePairwiseDisjoint-filter_map h (a + 1) n each) (h a) refl
   where
-    step : Apart (filter_map h (range_with_len (a + 1) n)) → (o : Option Demand) → h a ≡ o → Apart (cons_option o (filter_map h (range_with_len (a + 1) n)))
+    step : ArePairwiseDisjoint (filter_map h (range_with_len (a + 1) n)) → (o : Option Demand) → h a ≡ o → ArePairwiseDisjoint (cons_option o (filter_map h (range_with_len (a + 1) n)))
     step rest None e = rest
     step rest (Some d) e = (filter_map-all_from (AreDisjoint d) h (a + 1) n (λ j f l e'. each a j d f (omega arith) e e'), rest)
 
@@ -100,31 +100,31 @@ upto-single s v (suc n) l = elim (cases_eq s n) [
 -- disjoint cells that cover something start at different numbers
 starts_differ : (d : Demand) (ds : List Demand) (i : ℕ) → 1 ≤ d.span → AllByRecursion (λ e. 1 ≤ e.span) ds → AllByRecursion (AreDisjoint d) ds → d.start ≡ i →
     AllByRecursion (λ e. eqb e.start i ≡ false) ds
-starts_differ d [] i one ones apart e = tt
-starts_differ d (c ∷ ds) i one ones apart e =
+starts_differ d [] i one ones disjoint e = tt
+starts_differ d (c ∷ ds) i one ones disjoint e =
     let one' : 1 ≤ c.span = ones.0 in
-    let ne : c.start ≢ i = elim apart.0 [ inl x ↦ omega arith | inr x ↦ omega arith ] in
-    (ne_eqb c.start i ne, starts_differ d ds i one ones.1 apart.1 e)
+    let ne : c.start ≢ i = elim disjoint.0 [ inl x ↦ omega arith | inr x ↦ omega arith ] in
+    (ne_eqb c.start i ne, starts_differ d ds i one ones.1 disjoint.1 e)
 
 -- each of the cells is found at its start
-pub sum-by_start : (w : Demand → ℕ) (n : ℕ) (ds : List Demand) → AllByRecursion (λ d. 1 ≤ d.span) ds → AllByRecursion (λ d. d.start < n) ds → Apart ds →
+pub sum-by_start : (w : Demand → ℕ) (n : ℕ) (ds : List Demand) → AllByRecursion (λ d. 1 ≤ d.span) ds → AllByRecursion (λ d. d.start < n) ds → ArePairwiseDisjoint ds →
     upto (λ i. weight w (find (λ d. d.start == i) ds)) n ≡ sum_by w ds
-sum-by_start w n [] ones inside apart = upto-zero (λ i. 0) n (λ i l. refl)
-sum-by_start w n (d ∷ ds) ones inside apart =
+sum-by_start w n [] ones inside disjoint = upto-zero (λ i. 0) n (λ i l. refl)
+sum-by_start w n (d ∷ ds) ones inside disjoint =
     let each : (i : ℕ) → i < n → weight w (find (λ e. e.start == i) (d ∷ ds)) ≡ cond (eqb d.start i) (w d) 0 + weight w (find (λ e. e.start == i) ds) = λ i l. at i in
     let a : upto (λ i. weight w (find (λ e. e.start == i) (d ∷ ds))) n ≡ upto (λ i. cond (eqb d.start i) (w d) 0 + weight w (find (λ e. e.start == i) ds)) n =
     upto-ext (λ i. weight w (find (λ e. e.start == i) (d ∷ ds))) (λ i. cond (eqb d.start i) (w d) 0 + weight w (find (λ e. e.start == i) ds)) n each in
     let b : upto (λ i. cond (eqb d.start i) (w d) 0 + weight w (find (λ e. e.start == i) ds)) n ≡ upto (λ i. cond (eqb d.start i) (w d) 0) n + upto (λ i. weight w (find (λ e. e.start == i) ds)) n =
     upto-add (λ i. cond (eqb d.start i) (w d) 0) (λ i. weight w (find (λ e. e.start == i) ds)) n in
     let c : upto (λ i. cond (eqb d.start i) (w d) 0) n ≡ w d = upto-single d.start (w d) n inside.0 in
-    let ih : upto (λ i. weight w (find (λ e. e.start == i) ds)) n ≡ sum_by w ds = sum-by_start w n ds ones.1 inside.1 apart.1 in
+    let ih : upto (λ i. weight w (find (λ e. e.start == i) ds)) n ≡ sum_by w ds = sum-by_start w n ds ones.1 inside.1 disjoint.1 in
     let s : sum_by w (d ∷ ds) ≡ w d + sum_by w ds = sum_by-cons w d ds in
     omega arith
   where
     at : (i : ℕ) → weight w (find (λ e. e.start == i) (d ∷ ds)) ≡ cond (eqb d.start i) (w d) 0 + weight w (find (λ e. e.start == i) ds)
     at i = elim (cases_eq d.start i) [
       | inl e ↦
-          let none : find (λ c. c.start == i) ds ≡ None = find-none (λ c. c.start == i) ds (starts_differ d ds i ones.0 ones.1 apart.0 e) in
+          let none : find (λ c. c.start == i) ds ≡ None = find-none (λ c. c.start == i) ds (starts_differ d ds i ones.0 ones.1 disjoint.0 e) in
           rw (eq-eqb d.start i e, none) (omega arith)
       | inr ne ↦ rw (ne_eqb d.start i ne) (omega arith)
     ]

@@ -4,7 +4,7 @@ use Rattle.std.specs.Prelude.{All, if◌then◌else◌, nat_lt}
 use Rattle.std.specs.List.{AllByRecursion}
 use Rattle.std.proofs.lemmas.List.Elements.{recursion_from_All}
 use Rattle.papergrid_axis.specs.declared.demand.Demand.{Demand}
-use Rattle.papergrid_axis.specs.Chosen.{growers_of, growing}
+use Rattle.papergrid_axis.specs.Chosen.{growing_cells_of, growing}
 use Rattle.papergrid_axis.specs.Fits.{range_sum}
 use Rattle.papergrid_axis.specs.Problem.{given}
 use Rattle.papergrid_values.specs.Lines.{all_lines}
@@ -45,5 +45,5 @@ module _ (drawn line : ℕ → Bool) (n : ℕ) (agree : (i : ℕ) → i ≤ n �
     pub sizes-drawn : fold (grown drawn) (base_sizes n demands) (taken n demands) ≡ sizes_of (given line n demands)
     sizes-drawn = taken-drawn (base_sizes n demands) (taken n demands) table-cells
 
-    pub growers-drawn : growing drawn (base_sizes n demands) (taken n demands) ≡ growers_of (given line n demands)
-    growers-drawn = growing-drawn (base_sizes n demands) (taken n demands) table-cells
+    pub growing_cells-drawn : growing drawn (base_sizes n demands) (taken n demands) ≡ growing_cells_of (given line n demands)
+    growing_cells-drawn = growing-drawn (base_sizes n demands) (taken n demands) table-cells

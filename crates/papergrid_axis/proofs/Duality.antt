@@ -9,7 +9,7 @@ use Rattle.papergrid_axis.specs.declared.demand.Demand.{Demand}
 use Rattle.papergrid_axis.specs.Ranges.{end_of, inner_lines, IsInTable}
 use Rattle.papergrid_axis.specs.Fits.{range_sum, HasRoom, Fits, IsLeast, IsCertificate}
 use Rattle.papergrid_axis.proofs.Upto.{upto, sum-upto, within, range_sum-within}
-use Rattle.papergrid_axis.proofs.RangeLemmas.{Apart-from_AllPairs, partition, outside}
+use Rattle.papergrid_axis.proofs.RangeLemmas.{ArePairwiseDisjoint-from_AllPairs, partition, outside}
 
 needs_below : (line : ℕ → Bool) (sizes : List ℕ) (ds : List Demand) → AllByRecursion (HasRoom line sizes) ds →
     sum_by (λ d. d.need) ds ≤ sum_by (within (λ i. get_or sizes i 0)) ds + sum_by (inner_lines line) ds
@@ -36,7 +36,7 @@ total_bounds line n demands chosen sizes other table certificate fits =
     recursion_from_All (HasRoom line other) chosen
     (All-weaker (Contains demands) (HasRoom line other) (λ d m. All-contains (HasRoom line other) demands d fits.room m) chosen certificate.visible) in
     let p : upto (λ i. get_or other i 0) n ≡ sum_by (within (λ i. get_or other i 0)) chosen + upto (outside chosen (λ i. get_or other i 0)) n =
-    partition (λ i. get_or other i 0) n chosen inside (Apart-from_AllPairs chosen certificate.apart) in
+    partition (λ i. get_or other i 0) n chosen inside (ArePairwiseDisjoint-from_AllPairs chosen certificate.disjoint) in
     let b : sum_by (λ d. d.need) chosen ≤ sum_by (within (λ i. get_or other i 0)) chosen + sum_by (inner_lines line) chosen =
     needs_below line other chosen room in
     let s : sum other ≡ upto (λ i. get_or other i 0) (length other) = sum-upto other in

@@ -9,7 +9,7 @@ use Rattle.papergrid_axis.specs.Sizes.{lack, grown, share}
 pub use Rattle.papergrid_axis.specs.ForProofs.LastCells.{Precedes, IsLaminar}
 use Rattle.papergrid_axis.specs.Chosen.{growing, lies_in, outermost}
 use Rattle.papergrid_axis.proofs.Upto.{upto-ext, range_sum-within, holds_cases}
-use Rattle.papergrid_axis.proofs.RangeLemmas.{Apart, covered, not_covered}
+use Rattle.papergrid_axis.proofs.RangeLemmas.{ArePairwiseDisjoint, covered, not_covered}
 use Rattle.papergrid_axis.proofs.Steps.{get_or-grown, share-out, tight-grown}
 use Rattle.papergrid_axis.proofs.FitBound.{length-grown, grown_same, ByRecursion-weaker}
 
@@ -53,12 +53,12 @@ size-not_covered line sizes (d ∷ rest) i ones l out =
     ]
 
 -- a range that is disjoint from all growing cells keeps its sum
-pub range_sum-apart : (line : ℕ → Bool) (sizes : List ℕ) (taken : List Demand) (e : Demand) → AllByRecursion (λ d. 1 ≤ d.span) taken → end_of e ≤ length sizes →
+pub range_sum-disjoint : (line : ℕ → Bool) (sizes : List ℕ) (taken : List Demand) (e : Demand) → AllByRecursion (λ d. 1 ≤ d.span) taken → end_of e ≤ length sizes →
     AllByRecursion (AreDisjoint e) (growing line sizes taken) → range_sum (fold (grown line) sizes taken) e ≡ range_sum sizes e
-range_sum-apart line sizes taken e ones le apart =
+range_sum-disjoint line sizes taken e ones le disjoint =
     range_sum-within (fold (grown line) sizes taken) e
     ∙ upto-ext (λ i. get_or (fold (grown line) sizes taken) (e.start + i) 0) (λ i. get_or sizes (e.start + i) 0) e.span
-    (λ i l. size-not_covered line sizes taken (e.start + i) ones (omega arith) (not_covered e (growing line sizes taken) (e.start + i) apart (inside i l)))
+    (λ i l. size-not_covered line sizes taken (e.start + i) ones (omega arith) (not_covered e (growing line sizes taken) (e.start + i) disjoint (inside i l)))
     ∙ sym (range_sum-within sizes e)
   where
     inside : (i : ℕ) → i < e.span → holds e (e.start + i) ≡ true
@@ -71,11 +71,11 @@ range_sum-apart line sizes taken e ones le apart =
 lies_in-false : (a b : Demand) → lies_in a b ≡ false → LiesIn a b → ⊥
 lies_in-false a b f h = true≢false (sym (and_from (leb b.start a.start) (leb (end_of a) (end_of b)) (le-leb b.start a.start h.0) (le-leb (end_of a) (end_of b) h.1)) ∙ f)
 
-pub apart-from_outer : (d : Demand) (later : List Demand) → AllByRecursion (Precedes d) later → list_any (lies_in d) later ≡ false → AllByRecursion (AreDisjoint d) later
-apart-from_outer d [] all f = tt
-apart-from_outer d (e ∷ later) all f =
+pub disjoint-from_outer : (d : Demand) (later : List Demand) → AllByRecursion (Precedes d) later → list_any (lies_in d) later ≡ false → AllByRecursion (AreDisjoint d) later
+disjoint-from_outer d [] all f = tt
+disjoint-from_outer d (e ∷ later) all f =
     let parts : (lies_in d e ≡ false) × (list_any (lies_in d) later ≡ false) = or_parts (lies_in d e) (list_any (lies_in d) later) f in
-    (elim all.0 [ inl x ↦ x | inr x ↦ absurd (lies_in-false d e parts.0 x) ], apart-from_outer d later all.1 parts.1)
+    (elim all.0 [ inl x ↦ x | inr x ↦ absurd (lies_in-false d e parts.0 x) ], disjoint-from_outer d later all.1 parts.1)
 
 pub IsLaminar-growing : (line : ℕ → Bool) (sizes : List ℕ) (taken : List Demand) → IsLaminar taken → IsLaminar (growing line sizes taken)
 IsLaminar-growing line sizes [] laminar = tt
@@ -84,16 +84,16 @@ IsLaminar-growing line sizes (d ∷ rest) laminar = elim (cases_Bool (ltb 0 (lac
   | inr f ↦ rw f (IsLaminar-growing line (grown line sizes d) rest laminar.1)
 ]
 
-Apart-outermost_laminar : (ds : List Demand) → IsLaminar ds → Apart (outermost ds)
-Apart-outermost_laminar [] laminar = tt
-Apart-outermost_laminar (d ∷ later) laminar = elim (cases_Bool (list_any (lies_in d) later)) [
-  | inl t ↦ rw t (Apart-outermost_laminar later laminar.1)
-  | inr f ↦ rw f (outermost-all (AreDisjoint d) later (apart-from_outer d later laminar.0 f), Apart-outermost_laminar later laminar.1)
+ArePairwiseDisjoint-outermost_laminar : (ds : List Demand) → IsLaminar ds → ArePairwiseDisjoint (outermost ds)
+ArePairwiseDisjoint-outermost_laminar [] laminar = tt
+ArePairwiseDisjoint-outermost_laminar (d ∷ later) laminar = elim (cases_Bool (list_any (lies_in d) later)) [
+  | inl t ↦ rw t (ArePairwiseDisjoint-outermost_laminar later laminar.1)
+  | inr f ↦ rw f (outermost-all (AreDisjoint d) later (disjoint-from_outer d later laminar.0 f), ArePairwiseDisjoint-outermost_laminar later laminar.1)
 ]
 
 -- the outermost growing cells are pairwise disjoint
-pub Apart-outermost : (line : ℕ → Bool) (sizes : List ℕ) (taken : List Demand) → IsLaminar taken → Apart (outermost (growing line sizes taken))
-Apart-outermost line sizes taken laminar = Apart-outermost_laminar (growing line sizes taken) (IsLaminar-growing line sizes taken laminar)
+pub ArePairwiseDisjoint-outermost : (line : ℕ → Bool) (sizes : List ℕ) (taken : List Demand) → IsLaminar taken → ArePairwiseDisjoint (outermost (growing line sizes taken))
+ArePairwiseDisjoint-outermost line sizes taken laminar = ArePairwiseDisjoint-outermost_laminar (growing line sizes taken) (IsLaminar-growing line sizes taken laminar)
 
 -- a cell has exactly its need
 abbrev pub IsTight : (ℕ → Bool) → List ℕ → Demand → Type 0
@@ -116,10 +116,10 @@ tight-outermost line sizes (d ∷ rest) table laminar =
       | inl t ↦ rw t (elim (cases_Bool (list_any (lies_in d) (growing line (grown line sizes d) rest))) [
         | inl inner ↦ rw inner ih
         | inr outer ↦
-            let apart : AllByRecursion (AreDisjoint d) (growing line (grown line sizes d) rest) =
-            apart-from_outer d (growing line (grown line sizes d) rest) (growing-all (Precedes d) line (grown line sizes d) rest laminar.0) outer in
+            let disjoint : AllByRecursion (AreDisjoint d) (growing line (grown line sizes d) rest) =
+            disjoint-from_outer d (growing line (grown line sizes d) rest) (growing-all (Precedes d) line (grown line sizes d) rest laminar.0) outer in
             let kept : range_sum (fold (grown line) (grown line sizes d) rest) d ≡ range_sum (grown line sizes d) d =
-            range_sum-apart line (grown line sizes d) rest d ones (omega arith) apart in
+            range_sum-disjoint line (grown line sizes d) rest d ones (omega arith) disjoint in
             let tight : d.need ≡ range_sum (grown line sizes d) d + inner_lines line d = tight-grown line sizes d one le (ltb-true 0 (lack line sizes d) t) in
             rw outer ((omega arith), ih)
       ])

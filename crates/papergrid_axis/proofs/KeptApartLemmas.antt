@@ -62,12 +62,12 @@ module _ (demands : List Demand) where
           (All-contains (λ a. All (AreCompatible a) (longer demands)) (longer demands) a all (long a ma la)) (long b mb lb)
 
       from : IsKeptApart demands → All (λ a. All (AreCompatible a) (longer demands)) (longer demands)
-      from apart j e l k e' l' =
+      from kept_apart j e l k e' l' =
           let p = cells j e l in
           let q = cells k e' l' in
           let two : 1 < (get_or (longer demands) j e).span = ltb-true 1 (get_or (longer demands) j e).span p.0 in
           let also : 1 < (get_or (longer demands) k e').span = ltb-true 1 (get_or (longer demands) k e').span q.0 in
-          apart (get_or (longer demands) j e) (get_or (longer demands) k e') p.1 q.1 (omega arith) (omega arith)
+          kept_apart (get_or (longer demands) j e) (get_or (longer demands) k e') p.1 q.1 (omega arith) (omega arith)
 
   -- where the test fails, two ranges cross
   pub SomeCross-from_test : is_kept_apart demands ≡ false → SomeCross demands
@@ -90,8 +90,8 @@ module _ (demands : List Demand) where
 
   -- ranges that cross are not kept apart
   pub not_kept_apart : SomeCross demands → IsKeptApart demands → ⊥
-  not_kept_apart cross apart =
-      elim (apart cross.one cross.other cross.are_visible.0 cross.are_visible.1 cross.are_long.0 cross.are_long.1) [
+  not_kept_apart cross kept_apart =
+      elim (kept_apart cross.one cross.other cross.are_visible.0 cross.are_visible.1 cross.are_long.0 cross.are_long.1) [
         | inl x ↦ cross.not_nested x
         | inr x ↦ cross.not_disjoint x
       ]

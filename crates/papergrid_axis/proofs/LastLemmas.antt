@@ -13,7 +13,7 @@ use Rattle.papergrid_axis.specs.Chosen.{lies_in, outermost, or_else, single_at}
 use Rattle.papergrid_axis.proofs.Upto.{holds_cases}
 use Rattle.papergrid_axis.proofs.RangeLemmas.{covered, not_covered, not_both}
 use Rattle.papergrid_axis.proofs.Orders.{TakesAll-taken}
-use Rattle.papergrid_axis.proofs.GrowLemmas.{apart-from_outer, covered_by_later}
+use Rattle.papergrid_axis.proofs.GrowLemmas.{disjoint-from_outer, covered_by_later}
 use Rattle.papergrid_axis.proofs.Certified.{AreDisjoint-sym, holds_start, none_some, some_same}
 
 -- one more cell overwrites the table on its range
@@ -73,20 +73,20 @@ find-outermost (d ∷ rest) i laminar ones =
         ]
       ])
       | inr outer ↦
-          let apart : AllByRecursion (AreDisjoint d) rest = apart-from_outer d rest laminar.0 outer in
+          let disjoint : AllByRecursion (AreDisjoint d) rest = disjoint-from_outer d rest laminar.0 outer in
           rw outer (elim (cases_eq d.start i) [
             | inl e ↦
                 let h : holds d i ≡ true = holds_start d i ones.0 e in
-                let none : last_holding rest i ≡ None = last_holding-none rest i (not_covered d rest i apart h) in
+                let none : last_holding rest i ≡ None = last_holding-none rest i (not_covered d rest i disjoint h) in
                 rw (eq-eqb d.start i e, none, h) (rw (eq-eqb d.start i e) refl)
             | inr ne ↦ rw (ne_eqb d.start i ne) (ih ∙ starting_at-other d i (last_holding rest i) (ne_eqb d.start i ne))
           ])
     ]
 
 -- the chosen cell at i, by one look at the table
-pub chosen-at : (demands growers : List Demand) (sizes : List ℕ) (i : ℕ) → IsLaminar growers → AllByRecursion (λ d. 1 ≤ d.span) growers →
-    or_else (find (λ d. d.start == i) (outermost growers)) (single_at demands growers sizes i) ≡ or_else (starting_at i (last_holding growers i)) (single_at demands growers sizes i)
-chosen-at demands growers sizes i laminar ones = ap (λ o. or_else o (single_at demands growers sizes i)) (find-outermost growers i laminar ones)
+pub chosen-at : (demands growing_cells : List Demand) (sizes : List ℕ) (i : ℕ) → IsLaminar growing_cells → AllByRecursion (λ d. 1 ≤ d.span) growing_cells →
+    or_else (find (λ d. d.start == i) (outermost growing_cells)) (single_at demands growing_cells sizes i) ≡ or_else (starting_at i (last_holding growing_cells i)) (single_at demands growing_cells sizes i)
+chosen-at demands growing_cells sizes i laminar ones = ap (λ o. or_else o (single_at demands growing_cells sizes i)) (find-outermost growing_cells i laminar ones)
 
 -- the last cell that holds i is one of the cells, and holds i
 pub last_holding-all : (P : Demand → Type 0) (ds : List Demand) (i : ℕ) (o : Demand) → AllByRecursion P ds → last_holding ds i ≡ Some o → (holds o i ≡ true) × P o
@@ -123,7 +123,7 @@ meet c d one one' = elim (cases_lt c.start (end_of d)) [
 
 -- two ranges that hold the same number are not disjoint
 pub together : (a b : Demand) (i : ℕ) → holds a i ≡ true → holds b i ≡ true → AreDisjoint a b → ⊥
-together a b i h h' apart = true≢false (sym h' ∙ not_both a b i apart h)
+together a b i h h' disjoint = true≢false (sym h' ∙ not_both a b i disjoint h)
 
 -- where each cell precedes all later ones, one more cell comes after all of them if the last one at each number of its range lies in it
 pub precedes-from_last : (ds : List Demand) (d : Demand) → IsLaminar ds → 1 ≤ d.span → AllByRecursion (λ c. 1 ≤ c.span) ds →
@@ -146,7 +146,7 @@ precedes-from_last (c ∷ rest) d laminar one ones each =
 
     first : Precedes c d
     first = elim (meet c d ones.0 one) [
-      | inl apart ↦ inl apart
+      | inl disjoint ↦ inl disjoint
       | inr both ↦ inr (through both.0 both.1 both.2 (last_holding rest both.0) refl)
     ]
 

@@ -11,7 +11,7 @@ use Rattle.papergrid_axis.specs.Chosen.{or_else, exact_single, single_at, outerm
 use Rattle.papergrid_axis.proofs.RangeLemmas.{covered}
 use Rattle.papergrid_axis.proofs.LoopLemmas.{range_with_len-append}
 use Rattle.papergrid_axis.specs.ForProofs.LastCells.{AreExact, IsLaminar, last_holding, slot_of, chosen_slot}
-use Rattle.papergrid_axis.specs.ForProofs.Seen.{no_demand}
+use Rattle.papergrid_axis.specs.ForProofs.Kept.{no_demand}
 use Rattle.papergrid_axis.proofs.Upto.{holds_cases}
 use Rattle.papergrid_axis.proofs.FitBound.{ByRecursion-weaker}
 use Rattle.papergrid_axis.proofs.Certified.{none_some}
@@ -87,34 +87,34 @@ or_else-none None = refl
 or_else-none (Some d) = refl
 
 -- the cell in the slot is the chosen one
-slot-chosen : (demands growers : List Demand) (sizes : List ℕ) (i : ℕ) → IsLaminar growers → AllByRecursion (λ d. 1 ≤ d.span) growers →
-    slot_of (last_holding growers i) (exact_single demands sizes i) (get_or sizes i 0) i
-    ≡ or_else (find (λ d. d.start == i) (outermost growers)) (single_at demands growers sizes i)
-slot-chosen demands growers sizes i laminar ones =
-    sym (chosen-at demands growers sizes i laminar ones
-    ∙ elim (cases_Bool (covered growers i)) [
+slot-chosen : (demands growing_cells : List Demand) (sizes : List ℕ) (i : ℕ) → IsLaminar growing_cells → AllByRecursion (λ d. 1 ≤ d.span) growing_cells →
+    slot_of (last_holding growing_cells i) (exact_single demands sizes i) (get_or sizes i 0) i
+    ≡ or_else (find (λ d. d.start == i) (outermost growing_cells)) (single_at demands growing_cells sizes i)
+slot-chosen demands growing_cells sizes i laminar ones =
+    sym (chosen-at demands growing_cells sizes i laminar ones
+    ∙ elim (cases_Bool (covered growing_cells i)) [
       | inl t ↦
-          let found : (d : Demand) × (last_holding growers i ≡ Some d) = last_holding-some growers i t in
+          let found : (d : Demand) × (last_holding growing_cells i ≡ Some d) = last_holding-some growing_cells i t in
           rw (found.1, t) (or_else-none (starting_at i (Some found.0)))
-      | inr f ↦ rw (last_holding-none growers i f, f) refl
+      | inr f ↦ rw (last_holding-none growing_cells i f, f) refl
     ])
 
 -- where the cell kept at i is exact, it is the one in the slot
-slot-kept : (demands growers : List Demand) (sizes : List ℕ) (singles : List Demand) (i : ℕ) → i < length sizes → AreExact demands growers sizes singles →
-    slot_of (last_holding growers i) (Some (get_or singles i no_demand)) (get_or sizes i 0) i ≡ slot_of (last_holding growers i) (exact_single demands sizes i) (get_or sizes i 0) i
-slot-kept demands growers sizes singles i l exact = elim (cases_Bool (covered growers i)) [
-  | inl t ↦ let found : (d : Demand) × (last_holding growers i ≡ Some d) = last_holding-some growers i t in rw found.1 refl
+slot-kept : (demands growing_cells : List Demand) (sizes : List ℕ) (single_span : List Demand) (i : ℕ) → i < length sizes → AreExact demands growing_cells sizes single_span →
+    slot_of (last_holding growing_cells i) (Some (get_or single_span i no_demand)) (get_or sizes i 0) i ≡ slot_of (last_holding growing_cells i) (exact_single demands sizes i) (get_or sizes i 0) i
+slot-kept demands growing_cells sizes single_span i l exact = elim (cases_Bool (covered growing_cells i)) [
+  | inl t ↦ let found : (d : Demand) × (last_holding growing_cells i ≡ Some d) = last_holding-some growing_cells i t in rw found.1 refl
   | inr f ↦ elim (cases_eq (get_or sizes i 0) 0) [
-    | inl none ↦ rw (last_holding-none growers i f, none) refl
-    | inr some ↦ rw (last_holding-none growers i f) (ap (λ o. slot_of None o (get_or sizes i 0) i) (sym (exact i l f some)))
+    | inl none ↦ rw (last_holding-none growing_cells i f, none) refl
+    | inr some ↦ rw (last_holding-none growing_cells i f) (ap (λ o. slot_of None o (get_or sizes i 0) i) (sym (exact i l f some)))
   ]
 ]
 
 -- the cells by one look at each number are the chosen ones
-pub chosen-by_slots : (demands growers : List Demand) (sizes : List ℕ) (last : List (Option Demand)) (singles : List Demand) → IsLaminar growers → AllByRecursion (λ d. 1 ≤ d.span) growers →
-    ((i : ℕ) → i < length sizes → get_or last i None ≡ last_holding growers i) → AreExact demands growers sizes singles →
-    filter_map (chosen_slot last singles sizes) (range_with_len 0 (length sizes)) ≡ chosen (length sizes) demands growers sizes
-chosen-by_slots demands growers sizes last singles laminar each lasts exact =
-    filter_map-agree (chosen_slot last singles sizes) (λ i. or_else (find (λ d. d.start == i) (outermost growers)) (single_at demands growers sizes i)) 0 (length sizes)
-    (λ i l l'. ap (λ o. slot_of o (Some (get_or singles i no_demand)) (get_or sizes i 0) i) (lasts i (omega arith))
-    ∙ slot-kept demands growers sizes singles i (omega arith) exact ∙ slot-chosen demands growers sizes i laminar each)
+pub chosen-by_slots : (demands growing_cells : List Demand) (sizes : List ℕ) (last : List (Option Demand)) (single_span : List Demand) → IsLaminar growing_cells → AllByRecursion (λ d. 1 ≤ d.span) growing_cells →
+    ((i : ℕ) → i < length sizes → get_or last i None ≡ last_holding growing_cells i) → AreExact demands growing_cells sizes single_span →
+    filter_map (chosen_slot last single_span sizes) (range_with_len 0 (length sizes)) ≡ chosen (length sizes) demands growing_cells sizes
+chosen-by_slots demands growing_cells sizes last single_span laminar each lasts exact =
+    filter_map-agree (chosen_slot last single_span sizes) (λ i. or_else (find (λ d. d.start == i) (outermost growing_cells)) (single_at demands growing_cells sizes i)) 0 (length sizes)
+    (λ i l l'. ap (λ o. slot_of o (Some (get_or single_span i no_demand)) (get_or sizes i 0) i) (lasts i (omega arith))
+    ∙ slot-kept demands growing_cells sizes single_span i (omega arith) exact ∙ slot-chosen demands growing_cells sizes i laminar each)

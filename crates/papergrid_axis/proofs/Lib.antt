@@ -1,7 +1,7 @@
 pub mod AcceptLemmas
 pub mod Certified
 pub mod CheckLemmas
-pub mod ClaimLemmas
+pub mod CandidateLemmas
 pub mod Counting
 pub mod DrawnLemmas
 pub mod Duality
@@ -17,7 +17,7 @@ pub mod Orders
 pub mod OutLemmas
 pub mod PairLemmas
 pub mod RangeLemmas
-pub mod SeenLemmas
+pub mod KeptLemmas
 mod SettleLemmas
 pub mod ShareLemmas
 pub mod Steps

@@ -8,17 +8,17 @@ use Rattle.std.proofs.lemmas.List.Elements.{All-nil, All-cons, All-head, All-tai
 use Rattle.papergrid_axis.specs.Problem.{Problem, given}
 use Rattle.papergrid_values.specs.Lines.{all_lines}
 use Rattle.papergrid_axis.specs.declared.demand.Demand.{Demand}
-use Rattle.papergrid_axis.specs.declared.seen.Seen.{Seen}
+use Rattle.papergrid_axis.specs.declared.kept.Kept.{Kept}
 use Rattle.papergrid_axis.specs.declared.error.LayoutError.{LayoutError}
 use Rattle.papergrid_axis.specs.declared.error.LayoutError.TheVariants.{OutOfTable, TooLarge, Memory}
 use Rattle.papergrid_axis.specs.Answers.{IsRefusedWhere, NoneHolds}
 use Rattle.papergrid_axis.specs.ForProofs.Settled.{IsLargeInside}
 use Rattle.papergrid_axis.specs.Ranges.{IsInTable, end_of, first_out, place_of}
 use Rattle.papergrid_axis.specs.Fits.{HasRoom}
-use Rattle.papergrid_axis.specs.ForProofs.Seen.{IsSeen, is_large, others, without_need}
+use Rattle.papergrid_axis.specs.ForProofs.Kept.{IsKept, is_large, rest_of, without_need}
 use Rattle.papergrid_axis.specs.Sizes.{sizes_of}
 use Rattle.papergrid_axis.proofs.LoopLemmas.{large_need}
-use Rattle.papergrid_axis.proofs.SeenLemmas.{first_out-others}
+use Rattle.papergrid_axis.proofs.KeptLemmas.{first_out-rest_of}
 use Rattle.papergrid_axis.proofs.Theorems.{Fits-sizes_of}
 
 pub out_at : (n : ℕ) (ds : List Demand) (i : ℕ) (d : Demand) → i < length ds →
@@ -63,20 +63,20 @@ IsRefusedWhere-weaker problem f (OutOfTable place) r = r
 IsRefusedWhere-weaker problem f TooLarge r = f r
 IsRefusedWhere-weaker problem f (Memory e) r = tt
 
-module _ (n : ℕ) (seen : Seen) (demands : List Demand) (is : IsSeen n seen demands) where
-  pub out_seen : first_out n demands ≡ first_out n seen.others.items
-  out_seen = sym (first_out-others n is.limit demands is.below) ∙ same_out n (others is.limit demands) seen.others.items (sym is.held.ranges)
+module _ (n : ℕ) (kept : Kept) (demands : List Demand) (is : IsKept n kept demands) where
+  pub out_kept : first_out n demands ≡ first_out n kept.rest.items
+  out_kept = sym (first_out-rest_of n is.limit demands is.below) ∙ same_out n (rest_of is.limit demands) kept.rest.items (sym is.held.ranges)
 
-  pub table_demands : first_out n seen.others.items ≡ None → All (IsInTable n) demands
-  table_demands none = none_out n demands (out_seen ∙ none) is.held.spans
+  pub table_demands : first_out n kept.rest.items ≡ None → All (IsInTable n) demands
+  table_demands none = none_out n demands (out_kept ∙ none) is.held.spans
 
-  pub NoneHolds-large : (line : ℕ → Bool) → IsLargeInside n seen → NoneHolds (given line n demands)
+  pub NoneHolds-large : (line : ℕ → Bool) → IsLargeInside n kept → NoneHolds (given line n demands)
   NoneHolds-large line large =
       let table = table_demands large.inside in
       let any = sym is.held.large ∙ large.is_large in
       let problem = given line n demands in
       record {
-        none_out = out_seen ∙ large.inside;
+        none_out = out_kept ∙ large.inside;
         too_large = large_any line n (sizes_of problem) demands any table (Fits-sizes_of (given line n demands) table).room;
-        none_holds = λ apart other fits. large_any line n other demands any table fits.room;
+        none_holds = λ kept_apart other fits. large_any line n other demands any table fits.room;
       }

@@ -41,23 +41,23 @@ masked_sum f d n le =
     rw e (omega arith)
 
 -- pairwise disjoint, by recursion
-abbrev pub Apart : List Demand → Type 0
-Apart [] = ⊤
-Apart (d ∷ ds) = AllByRecursion (AreDisjoint d) ds × Apart ds
+abbrev pub ArePairwiseDisjoint : List Demand → Type 0
+ArePairwiseDisjoint [] = ⊤
+ArePairwiseDisjoint (d ∷ ds) = AllByRecursion (AreDisjoint d) ds × ArePairwiseDisjoint ds
 
-pub Apart-from_AllPairs : (ds : List Demand) → AllPairs AreDisjoint ds → Apart ds
-Apart-from_AllPairs [] h = tt
-Apart-from_AllPairs (d ∷ ds) h = (
+pub ArePairwiseDisjoint-from_AllPairs : (ds : List Demand) → AllPairs AreDisjoint ds → ArePairwiseDisjoint ds
+ArePairwiseDisjoint-from_AllPairs [] h = tt
+ArePairwiseDisjoint-from_AllPairs (d ∷ ds) h = (
   recursion_from_All (AreDisjoint d) ds (λ k e l. h 0 (suc k) e (omega arith) (omega arith)),
-  Apart-from_AllPairs ds (λ i j e l l'. h (suc i) (suc j) e (omega arith) (omega arith)),
+  ArePairwiseDisjoint-from_AllPairs ds (λ i j e l l'. h (suc i) (suc j) e (omega arith) (omega arith)),
 )
 
-pub AllPairs-from_Apart : (ds : List Demand) → Apart ds → AllPairs AreDisjoint ds
-AllPairs-from_Apart [] h i j e l l' = absurd (omega arith)
-AllPairs-from_Apart (d ∷ ds) h zero zero e l l' = absurd (omega arith)
-AllPairs-from_Apart (d ∷ ds) h zero (suc j) e l l' = All-from_recursion (AreDisjoint d) ds h.0 j e (omega arith)
-AllPairs-from_Apart (d ∷ ds) h (suc i) zero e l l' = absurd (omega arith)
-AllPairs-from_Apart (d ∷ ds) h (suc i) (suc j) e l l' = AllPairs-from_Apart ds h.1 i j e (omega arith) (omega arith)
+pub AllPairs-from_pairwise : (ds : List Demand) → ArePairwiseDisjoint ds → AllPairs AreDisjoint ds
+AllPairs-from_pairwise [] h i j e l l' = absurd (omega arith)
+AllPairs-from_pairwise (d ∷ ds) h zero zero e l l' = absurd (omega arith)
+AllPairs-from_pairwise (d ∷ ds) h zero (suc j) e l l' = All-from_recursion (AreDisjoint d) ds h.0 j e (omega arith)
+AllPairs-from_pairwise (d ∷ ds) h (suc i) zero e l l' = absurd (omega arith)
+AllPairs-from_pairwise (d ∷ ds) h (suc i) (suc j) e l l' = AllPairs-from_pairwise ds h.1 i j e (omega arith) (omega arith)
 
 -- whether some range of the list holds i
 abbrev pub covered : List Demand → ℕ → Bool
@@ -68,33 +68,33 @@ abbrev pub outside : List Demand → (ℕ → ℕ) → ℕ → ℕ
 outside ds f i = cond (covered ds i) 0 (f i)
 
 pub not_both : (a b : Demand) (i : ℕ) → AreDisjoint a b → holds a i ≡ true → holds b i ≡ false
-not_both a b i apart h = elim (holds_cases b i) [
+not_both a b i disjoint h = elim (holds_cases b i) [
   | inr y ↦ y.0
   | inl y ↦ elim (holds_cases a i) [
     | inr x ↦ absurd (false≢true (sym x.0 ∙ h))
-    | inl x ↦ absurd (elim apart [ inl l ↦ omega arith | inr l ↦ omega arith ])
+    | inl x ↦ absurd (elim disjoint [ inl l ↦ omega arith | inr l ↦ omega arith ])
   ]
 ]
 
 pub not_covered : (a : Demand) (ds : List Demand) (i : ℕ) → AllByRecursion (AreDisjoint a) ds → holds a i ≡ true → covered ds i ≡ false
-not_covered a [] i apart h = refl
-not_covered a (d ∷ ds) i apart h = or_from (holds d i) (covered ds i) (not_both a d i apart.0 h) (not_covered a ds i apart.1 h)
+not_covered a [] i disjoint h = refl
+not_covered a (d ∷ ds) i disjoint h = or_from (holds d i) (covered ds i) (not_both a d i disjoint.0 h) (not_covered a ds i disjoint.1 h)
 
 outside-cons : (f : ℕ → ℕ) (d : Demand) (ds : List Demand) (i : ℕ) → AllByRecursion (AreDisjoint d) ds → outside ds f i ≡ masked f d i + outside (d ∷ ds) f i
-outside-cons f d ds i apart = elim (holds_cases d i) [
+outside-cons f d ds i disjoint = elim (holds_cases d i) [
   | inl h ↦
-      let c : covered ds i ≡ false = not_covered d ds i apart h.0 in
+      let c : covered ds i ≡ false = not_covered d ds i disjoint h.0 in
       rw (c, h.0) (omega arith)
   | inr h ↦ rw h.0 (omega arith)
 ]
 
 -- the total is the sums of disjoint ranges and what lies outside
-pub partition : (f : ℕ → ℕ) (n : ℕ) (ds : List Demand) → AllByRecursion (λ d. end_of d ≤ n) ds → Apart ds → upto f n ≡ sum_by (within f) ds + upto (outside ds f) n
-partition f n [] inside apart = omega arith
-partition f n (d ∷ ds) inside apart =
-    let e : upto f n ≡ sum_by (within f) ds + upto (outside ds f) n = partition f n ds inside.1 apart.1 in
+pub partition : (f : ℕ → ℕ) (n : ℕ) (ds : List Demand) → AllByRecursion (λ d. end_of d ≤ n) ds → ArePairwiseDisjoint ds → upto f n ≡ sum_by (within f) ds + upto (outside ds f) n
+partition f n [] inside disjoint = omega arith
+partition f n (d ∷ ds) inside disjoint =
+    let e : upto f n ≡ sum_by (within f) ds + upto (outside ds f) n = partition f n ds inside.1 disjoint.1 in
     let a : upto (outside ds f) n ≡ upto (λ i. masked f d i + outside (d ∷ ds) f i) n =
-    upto-ext (outside ds f) (λ i. masked f d i + outside (d ∷ ds) f i) n (λ i l. outside-cons f d ds i apart.0) in
+    upto-ext (outside ds f) (λ i. masked f d i + outside (d ∷ ds) f i) n (λ i l. outside-cons f d ds i disjoint.0) in
     let b : upto (λ i. masked f d i + outside (d ∷ ds) f i) n ≡ upto (masked f d) n + upto (outside (d ∷ ds) f) n =
     upto-add (masked f d) (outside (d ∷ ds) f) n in
     let c : upto (masked f d) n ≡ within f d = masked_sum f d n inside.0 in

@@ -11,7 +11,7 @@ use Rattle.papergrid_values.specs.Lines.{all_lines}
 use Rattle.papergrid_axis.specs.Ranges.{IsInTable, IsKeptApart, end_of, first_out}
 use Rattle.papergrid_axis.specs.Fits.{Fits, IsLeast, IsTooLarge, IsCertificate, top_need}
 use Rattle.papergrid_axis.specs.Sizes.{base_sizes, taken, sizes_of}
-use Rattle.papergrid_axis.specs.Chosen.{growers_of, chosen_of}
+use Rattle.papergrid_axis.specs.Chosen.{growing_cells_of, chosen_of}
 use Rattle.papergrid_axis.proofs.FitBound.{Fits-sizes_after, bound-sizes_after}
 use Rattle.papergrid_axis.proofs.Orders.{TakesAll-taken, IsLaminar-taken}
 use Rattle.papergrid_axis.proofs.Certified.{certificate_of, IsLeast-sizes_after}
@@ -30,20 +30,20 @@ module _ (problem : Problem) (table : All (IsInTable problem.count) problem.dema
   bound-sizes_of = bound-sizes_after problem.line problem.count problem.demands (taken problem.count problem.demands) table (TakesAll-taken problem.count problem.demands table)
 
   pub IsCertificate-chosen_of : IsKeptApart problem.demands → IsCertificate problem (sizes_of problem) (chosen_of problem)
-  IsCertificate-chosen_of apart =
+  IsCertificate-chosen_of disjoint =
       certificate_of problem.line problem.count problem.demands (taken problem.count problem.demands) table (TakesAll-taken problem.count problem.demands table)
-      (IsLaminar-taken problem.count problem.demands apart)
+      (IsLaminar-taken problem.count problem.demands disjoint)
 
   pub IsLeast-sizes_of : IsKeptApart problem.demands → IsLeast problem (sizes_of problem)
-  IsLeast-sizes_of apart =
+  IsLeast-sizes_of disjoint =
       IsLeast-sizes_after problem.line problem.count problem.demands (taken problem.count problem.demands) table (TakesAll-taken problem.count problem.demands table)
-      (IsLaminar-taken problem.count problem.demands apart)
+      (IsLaminar-taken problem.count problem.demands disjoint)
 
   -- no table was refused that another choice of sizes could have held
   pub none_holds-sizes_of : IsKeptApart problem.demands → IsTooLarge problem (sizes_of problem) →
       (other : List ℕ) → Fits problem other → IsTooLarge problem other
-  none_holds-sizes_of apart large other fits =
-      let le : sum (sizes_of problem) ≤ sum other = (IsLeast-sizes_of apart).least other fits in
+  none_holds-sizes_of disjoint large other fits =
+      let le : sum (sizes_of problem) ≤ sum other = (IsLeast-sizes_of disjoint).least other fits in
       let past : 18446744073709551616 ≤ total_of problem (sizes_of problem) = large in
       let all : 18446744073709551616 ≤ sum other + all_lines problem.line problem.count = omega arith in
       all
@@ -54,9 +54,9 @@ module _ (problem : Problem) (table : All (IsInTable problem.count) problem.dema
       All-weaker (Contains problem.demands) (IsInTable problem.count) (λ d m. All-contains (IsInTable problem.count) problem.demands d table m) (taken problem.count problem.demands) (TakesAll-taken problem.count problem.demands table).cells
 
   -- and so are those that grow
-  pub table-growing : All (IsInTable problem.count) (growers_of problem)
+  pub table-growing : All (IsInTable problem.count) (growing_cells_of problem)
   table-growing =
-      All-from_recursion (IsInTable problem.count) (growers_of problem)
+      All-from_recursion (IsInTable problem.count) (growing_cells_of problem)
       (growing-all (IsInTable problem.count) problem.line (base_sizes problem.count problem.demands) (taken problem.count problem.demands) (recursion_from_All (IsInTable problem.count) (taken problem.count problem.demands) table-taken))
 
   -- ---- the answers
@@ -84,5 +84,5 @@ module _ (problem : Problem) (table : All (IsInTable problem.count) problem.dema
       record {
         none_out = none_out;
         too_large = large;
-        none_holds = λ apart other fits. none_holds-sizes_of apart large other fits;
+        none_holds = λ disjoint other fits. none_holds-sizes_of disjoint large other fits;
       }

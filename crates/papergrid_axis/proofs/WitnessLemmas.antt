@@ -8,17 +8,17 @@ use Rattle.papergrid_axis.specs.Answers.{AreChosen, NoneChosen}
 use Rattle.papergrid_axis.specs.Problem.{Problem, total_of}
 use Rattle.papergrid_axis.specs.Ranges.{IsInTable, place_of}
 use Rattle.papergrid_axis.specs.Sizes.{base_sizes, sizes_of, taken}
-use Rattle.papergrid_axis.specs.Chosen.{chosen_of, growers_of}
+use Rattle.papergrid_axis.specs.Chosen.{chosen_of, growing_cells_of}
 use Rattle.papergrid_axis.specs.ForProofs.LastCells.{AreExact, IsLaminar}
-use Rattle.papergrid_axis.specs.declared.seen.Seen.{Seen}
-use Rattle.papergrid_axis.specs.ForProofs.Seen.{IsSeen}
+use Rattle.papergrid_axis.specs.declared.kept.Kept.{Kept}
+use Rattle.papergrid_axis.specs.ForProofs.Kept.{IsKept}
 use Rattle.papergrid_axis.proofs.Certified.{base-not_covered}
 use Rattle.papergrid_axis.proofs.GrowLemmas.{IsLaminar-growing}
 use Rattle.papergrid_axis.proofs.KeptApartLemmas.{SomeCross-unless}
 use Rattle.papergrid_axis.proofs.LastLemmas.{IsKeptApart-from_laminar}
 use Rattle.papergrid_axis.proofs.Orders.{IsLaminar-taken, TakesAll-taken}
-use Rattle.papergrid_axis.proofs.OutLemmas.{NoneHolds-large, out_seen}
-use Rattle.papergrid_axis.proofs.SeenLemmas.{exact_single-first}
+use Rattle.papergrid_axis.proofs.OutLemmas.{NoneHolds-large, out_kept}
+use Rattle.papergrid_axis.proofs.KeptLemmas.{exact_single-first}
 use Rattle.papergrid_axis.proofs.Theorems.{Fits-sizes_of, first_out-none, IsCertificate-chosen_of}
 
 module _ (problem : Problem) (table : All (IsInTable problem.count) problem.demands)
@@ -26,45 +26,45 @@ module _ (problem : Problem) (table : All (IsInTable problem.count) problem.dema
   pub AreChosen-from_laminar : (places : List Position) → places ≡ map place_of (chosen_of problem) → IsLaminar (taken problem.count problem.demands) →
       AreChosen problem places
   AreChosen-from_laminar places e laminar =
-      let apart = IsKeptApart-from_laminar problem.count problem.demands table laminar in
+      let disjoint = IsKeptApart-from_laminar problem.count problem.demands table laminar in
       subst (AreChosen problem) (sym e) record {
         none_out = first_out-none problem.count problem.demands (recursion_from_All (IsInTable problem.count) problem.demands table);
         total = total;
-        kept_apart = apart;
+        kept_apart = disjoint;
         exact = refl;
-        certificate = IsCertificate-chosen_of problem table apart;
+        certificate = IsCertificate-chosen_of problem table disjoint;
       }
 
   pub NoneChosen-unless_laminar : (IsLaminar (taken problem.count problem.demands) → ⊥) → NoneChosen problem
   NoneChosen-unless_laminar none = record {
     none_out = first_out-none problem.count problem.demands (recursion_from_All (IsInTable problem.count) problem.demands table);
     total = total;
-    not_kept_apart = SomeCross-unless problem.demands (λ apart. none (IsLaminar-taken problem.count problem.demands apart));
+    not_kept_apart = SomeCross-unless problem.demands (λ disjoint. none (IsLaminar-taken problem.count problem.demands disjoint));
   }
 
 -- of laminar cells the growing ones are laminar
-pub IsLaminar-growers : (problem : Problem) → IsLaminar (taken problem.count problem.demands) → IsLaminar (growers_of problem)
-IsLaminar-growers problem laminar =
+pub IsLaminar-growing_cells : (problem : Problem) → IsLaminar (taken problem.count problem.demands) → IsLaminar (growing_cells_of problem)
+IsLaminar-growing_cells problem laminar =
     IsLaminar-growing problem.line (base_sizes problem.count problem.demands) (taken problem.count problem.demands) laminar
 
-module _ (problem : Problem) (seen : Seen) (is : IsSeen problem.count seen problem.demands) (table : All (IsInTable problem.count) problem.demands)
+module _ (problem : Problem) (kept : Kept) (is : IsKept problem.count kept problem.demands) (table : All (IsInTable problem.count) problem.demands)
     (total : total_of problem (sizes_of problem) < 18446744073709551616) where
   -- where there are sizes, no need was large
-  small-settled : seen.is_large ≡ false
-  small-settled = elim (cases_Bool seen.is_large) [
+  small-settled : kept.is_large ≡ false
+  small-settled = elim (cases_Bool kept.is_large) [
     | inl large ↦
-        let inside = sym (out_seen problem.count seen problem.demands is) ∙ first_out-none problem.count problem.demands (recursion_from_All (IsInTable problem.count) problem.demands table) in
-        let past = (NoneHolds-large problem.count seen problem.demands is problem.line record { inside = inside; is_large = large }).too_large in
+        let inside = sym (out_kept problem.count kept problem.demands is) ∙ first_out-none problem.count problem.demands (recursion_from_All (IsInTable problem.count) problem.demands table) in
+        let past = (NoneHolds-large problem.count kept problem.demands is problem.line record { inside = inside; is_large = large }).too_large in
         absurd (omega (arith, past, total))
     | inr small ↦ small
   ]
 
   -- what is kept by number is exact
-  pub AreExact-settled : AreExact problem.demands (growers_of problem) (sizes_of problem) seen.singles.items
+  pub AreExact-settled : AreExact problem.demands (growing_cells_of problem) (sizes_of problem) kept.single_span.items
   AreExact-settled i l out some =
       let many : length (sizes_of problem) ≡ problem.count = (Fits-sizes_of problem table).one_each in
       let inside : i < problem.count = omega (arith, l, many) in
       let le : problem.count ≤ is.limit = is.from_limit in
       exact_single-first i problem.demands (sizes_of problem)
       (base-not_covered problem.line problem.count problem.demands (taken problem.count problem.demands) table (TakesAll-taken problem.count problem.demands table) i inside out) some
-      ∙ ap Some (sym (is.held.singles small-settled i (omega (arith, inside, le))))
+      ∙ ap Some (sym (is.held.single_span small-settled i (omega (arith, inside, le))))

@@ -27,8 +27,8 @@ exact_single demands sizes i = find (λ d. d.span == 1 && d.start == i && d.need
 
 -- the same, where i is in no growing cell's range and its size is above 0
 abbrev pub single_at : List Demand → List Demand → List ℕ → ℕ → Option Demand
-single_at demands growers sizes i =
-    if list_any (λ d. holds d i) growers then None
+single_at demands growing_cells sizes i =
+    if list_any (λ d. holds d i) growing_cells then None
     else (if slice_index sizes i == 0 then None else exact_single demands sizes i)
 
 abbrev pub or_else : Option Demand → Option Demand → Option Demand
@@ -37,15 +37,15 @@ or_else (Some d) other = Some d
 
 -- the outermost growing cells and the single ones, by the start of their ranges
 abbrev pub chosen : ℕ → List Demand → List Demand → List ℕ → List Demand
-chosen n demands growers sizes =
-    filter_map (λ i. or_else (find (λ d. d.start == i) (outermost growers)) (single_at demands growers sizes i))
+chosen n demands growing_cells sizes =
+    filter_map (λ i. or_else (find (λ d. d.start == i) (outermost growing_cells)) (single_at demands growing_cells sizes i))
     (range_with_len 0 n)
 
 -- the cells that grow of a problem
-abbrev pub growers_of : Problem → List Demand
-growers_of problem =
+abbrev pub growing_cells_of : Problem → List Demand
+growing_cells_of problem =
     growing problem.line (base_sizes problem.count problem.demands) (taken problem.count problem.demands)
 
 -- the chosen cells
 abbrev pub chosen_of : Problem → List Demand
-chosen_of problem = chosen problem.count problem.demands (growers_of problem) (sizes_of problem)
+chosen_of problem = chosen problem.count problem.demands (growing_cells_of problem) (sizes_of problem)

@@ -42,5 +42,5 @@ top_need demands i = greatest_need (λ d. holds d i) demands
 -- visible cells of pairwise disjoint ranges, whose needs less their inner lines add up to the total
 pub record IsCertificate (problem : Problem) (sizes : List ℕ) (cells : List Demand) : Type 0 where
   pub visible : All (Contains problem.demands) cells
-  pub apart : AllPairs AreDisjoint cells
+  pub disjoint : AllPairs AreDisjoint cells
   pub adds_up : sum_by (λ d. d.need) cells ≡ sum sizes + sum_by (inner_lines problem.line) cells

@@ -5,13 +5,13 @@ ghost use Rattle.papergrid_values.specs.declared.position.Position.{Position};
 ghost use Rattle.papergrid_axis.specs.Problem.{given};
 ghost use Rattle.papergrid_axis.specs.declared.demand.Demand.{Demand};
 ghost use Rattle.papergrid_values.specs.declared.direction.Direction.{Direction};
-ghost use Rattle.papergrid_axis.specs.ForProofs.Checks.{AreBounded, AreDistinct, Checks, IsClaim, SumsAgree, range_of};
+ghost use Rattle.papergrid_axis.specs.ForProofs.Checks.{AreBounded, AreDistinct, Checks, IsCandidate, SumsAgree, range_of};
 ghost use Rattle.papergrid_axis.specs.Answers.{IsAccepted};
 ghost use Rattle.papergrid_axis.specs.Fits.{HasRoom, IsLeast};
 ghost use Rattle.papergrid_axis.specs.Ranges.{demand_of, inner_lines};
 
 use crate::axis::Axis;
-use crate::claim::{Claim, are_disjoint, count_listed};
+use crate::candidate::{Candidate, are_disjoint, count_listed};
 use papergrid_values::Position;
 
 /// What is kept of the visible cells met so far: whether all of them have room in the table, and of
@@ -131,11 +131,11 @@ fn with_cell(checked: Checked, times: usize, need: u128, inner: usize) -> Checke
 
 /// Whether a range that begins at a number has room for the need whatever its span is, since the size
 /// of that number has.
-fn has_room_alone(claim: &Claim<'_>, start: usize, need: u128) -> bool
-    ensures { IsTrue result → (claim.now.ends_within ≡ true) × (start < length claim.now.sizes.now)
-        × (need ≤ slice_index claim.now.sizes.now start) }
+fn has_room_alone(candidate: &Candidate<'_>, start: usize, need: u128) -> bool
+    ensures { IsTrue result → (candidate.now.ends_within ≡ true) × (start < length candidate.now.sizes.now)
+        × (need ≤ slice_index candidate.now.sizes.now start) }
 {
-    claim.ends_within && start < claim.sizes.len() && need <= claim.sizes[start] as u128
+    candidate.ends_within && start < candidate.sizes.len() && need <= candidate.sizes[start] as u128
 }
 
 /// What is kept of the cells met and of one more, the visible cell at a position with its need.
@@ -143,31 +143,31 @@ fn has_room_alone(claim: &Claim<'_>, start: usize, need: u128) -> bool
 /// size of its range is room enough, its span is not looked up.
 pub fn visit<A: Axis>(
     checked: Checked,
-    claim: &Claim<'_>,
+    candidate: &Candidate<'_>,
     axis: &A,
     place: Position,
     need: u128,
 ) -> Checked
-    requires bounded { AreBounded claim.now.places.now checked }
-    requires ordered { IsClaim (A.span_of axis.now) claim.now }
+    requires bounded { AreBounded candidate.now.places.now checked }
+    requires ordered { IsCandidate (A.span_of axis.now) candidate.now }
     requires need { need ≤ 2 ^ 66 }
-    ensures bounded { AreBounded claim.now.places.now result }
-    ensures checks { let checks = Checks (A.line axis.now) claim.now.sizes.now claim.now.places.now claim.now.direction (A.span_of axis.now) in
+    ensures bounded { AreBounded candidate.now.places.now result }
+    ensures checks { let checks = Checks (A.line axis.now) candidate.now.sizes.now candidate.now.places.now candidate.now.direction (A.span_of axis.now) in
         (demands : List Demand) → checks checked demands →
-        checks result (demands ++ demand_of claim.now.direction place (A.span_of axis.now place) need ∷ []) }
+        checks result (demands ++ demand_of candidate.now.direction place (A.span_of axis.now place) need ∷ []) }
 {
-    let start = claim.direction.number_of(place);
-    let times = count_listed(claim, place);
-    if checked.holds && times == 0 && has_room_alone(claim, start, need) {
+    let start = candidate.direction.number_of(place);
+    let times = count_listed(candidate, place);
+    if checked.holds && times == 0 && has_room_alone(candidate, start, need) {
         return checked;
     }
     let span = axis.span(place);
     if !checked.holds {
         return failed(checked);
     }
-    match room(axis, claim.sizes, start, span, need) {
+    match room(axis, candidate.sizes, start, span, need) {
         Some(inner) => {
-            if times <= claim.places.len() - checked.found {
+            if times <= candidate.places.len() - checked.found {
                 with_cell(checked, times, need, inner)
             } else {
                 failed(checked)
@@ -205,21 +205,21 @@ fn sums_agree(checked: Checked, sizes: &[usize], places: &[Position]) -> bool
 /// Whether the sizes of `count` columns (rows) fit the visible cells met, of which none reaches out,
 /// and the positions are those of visible cells of disjoint ranges, whose needs less their inner
 /// lines add up to the sizes. Then no other choice of sizes has a smaller total.
-pub fn accepts<A: Axis>(checked: Checked, claim: &Claim<'_>, axis: &A, count: usize) -> bool
-    requires bounded { AreBounded claim.now.places.now checked }
-    requires ordered { IsClaim (A.span_of axis.now) claim.now }
-    ensures exact { let checks = Checks (A.line axis.now) claim.now.sizes.now claim.now.places.now claim.now.direction (A.span_of axis.now) in
+pub fn accepts<A: Axis>(checked: Checked, candidate: &Candidate<'_>, axis: &A, count: usize) -> bool
+    requires bounded { AreBounded candidate.now.places.now checked }
+    requires ordered { IsCandidate (A.span_of axis.now) candidate.now }
+    ensures exact { let checks = Checks (A.line axis.now) candidate.now.sizes.now candidate.now.places.now candidate.now.direction (A.span_of axis.now) in
         (demands : List Demand) → AreDistinct demands → checks checked demands → IsTrue result ↔
-        IsAccepted (given (A.line axis.now) count demands) claim.now.sizes.now claim.now.places.now }
-    ensures least { let checks = Checks (A.line axis.now) claim.now.sizes.now claim.now.places.now claim.now.direction (A.span_of axis.now) in
+        IsAccepted (given (A.line axis.now) count demands) candidate.now.sizes.now candidate.now.places.now }
+    ensures least { let checks = Checks (A.line axis.now) candidate.now.sizes.now candidate.now.places.now candidate.now.direction (A.span_of axis.now) in
         (demands : List Demand) → AreDistinct demands → checks checked demands → IsTrue result →
-        IsLeast (given (A.line axis.now) count demands) claim.now.sizes.now }
+        IsLeast (given (A.line axis.now) count demands) candidate.now.sizes.now }
 {
-    if claim.sizes.len() != count {
+    if candidate.sizes.len() != count {
         return false;
     }
-    if !sums_agree(checked, claim.sizes, claim.places) {
+    if !sums_agree(checked, candidate.sizes, candidate.places) {
         return false;
     }
-    are_disjoint(claim, axis)
+    are_disjoint(candidate, axis)
 }

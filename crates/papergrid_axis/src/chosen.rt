@@ -8,8 +8,8 @@ ghost use Rattle.papergrid_axis.specs.ForProofs.LastCells.{AreExact, IsLaminar, 
 ghost use Rattle.papergrid_axis.specs.Ranges.{IsInTable, place_of};
 
 use crate::demand::Demand;
+use crate::kept::single_at;
 use crate::last_cells::write_all;
-use crate::seen::single_at;
 use papergrid_values::Position;
 use std::alloc::{AllocError, Global};
 
@@ -44,15 +44,15 @@ fn cell_at(last: &[Option<Demand>], i: usize) -> Option<Demand>
 fn chosen_cells(
     alloc: Global,
     last: &[Option<Demand>],
-    singles: &[Demand],
+    single_span: &[Demand],
     sizes: &[usize],
 ) -> Result<Vec<Demand>, AllocError>
-    ensures { let slots = chosen_slot last.now singles.now sizes.now in
+    ensures { let slots = chosen_slot last.now single_span.now sizes.now in
         IfOk result (λ cells. cells.items ≡ filter_map slots (range_with_len 0 (length sizes.now))) }
 {
     let mut cells = Vec::new(alloc);
     for i in 0..sizes.len() {
-        if let Some(demand) = slot(cell_at(last, i), single_at(singles, i), sizes[i], i) {
+        if let Some(demand) = slot(cell_at(last, i), single_at(single_span, i), sizes[i], i) {
             cells.push(demand)?;
         }
     }
@@ -83,16 +83,16 @@ fn places(alloc: Global, cells: &[Demand]) -> Result<Vec<Position>, AllocError>
 /// that were kept for each number.
 pub fn chosen_places(
     alloc: Global,
-    singles: &[Demand],
-    growers: &[Demand],
+    single_span: &[Demand],
+    growing_cells: &[Demand],
     sizes: &[usize],
 ) -> Result<Vec<Position>, AllocError>
-    requires growers { All (IsInTable (length sizes.now)) growers.now }
-    requires laminar { IsLaminar growers.now }
-    ensures { (demands : List Demand) → AreExact demands growers.now sizes.now singles.now →
-        IfOk result (λ places. places.items ≡ map place_of (chosen (length sizes.now) demands growers.now sizes.now)) }
+    requires growing_cells { All (IsInTable (length sizes.now)) growing_cells.now }
+    requires laminar { IsLaminar growing_cells.now }
+    ensures { (demands : List Demand) → AreExact demands growing_cells.now sizes.now single_span.now →
+        IfOk result (λ places. places.items ≡ map place_of (chosen (length sizes.now) demands growing_cells.now sizes.now)) }
 {
-    let last = last_of(alloc, sizes.len(), growers)?;
-    let cells = chosen_cells(alloc, &last, singles, sizes)?;
+    let last = last_of(alloc, sizes.len(), growing_cells)?;
+    let cells = chosen_cells(alloc, &last, single_span, sizes)?;
     places(alloc, &cells)
 }

@@ -2,27 +2,27 @@
 //! or heights of rows, where some cells span several.
 #![tactic(auto)]
 
-mod apart;
 pub mod axis;
+pub mod candidate;
 pub mod checked;
 mod chosen;
-pub mod claim;
 pub mod demand;
+mod disjoint;
 pub mod error;
-pub mod growers;
+pub mod growing_cells;
+pub mod kept;
 mod last_cells;
 pub mod laws;
-pub mod seen;
 pub mod settled;
 pub mod solution;
 mod witness;
 
 pub use axis::Axis;
+pub use candidate::Candidate;
 pub use checked::Checked;
-pub use claim::Claim;
 pub use demand::Demand;
 pub use error::{Found, LayoutError};
-pub use seen::Seen;
+pub use kept::Kept;
 pub use solution::{CertifiedSizes, Solution};
 
 #[cfg(test)]

@@ -3,7 +3,7 @@
 ghost use Rattle.std.specs.Prelude.{All, Bool, EachIndex, IfNone, IfOk, IfSome, List, None, false, length, nat_lt, replicate, slice_index, slice_index_or, ℕ, ◌+◌, ◌≤◌, ◌≡◌};
 ghost use Rattle.papergrid_axis.specs.Problem.{given};
 ghost use Rattle.papergrid_axis.specs.Ranges.{IsInTable, end_of, first_out};
-ghost use Rattle.papergrid_axis.specs.ForProofs.Seen.{IsSeen, no_demand};
+ghost use Rattle.papergrid_axis.specs.ForProofs.Kept.{IsKept, no_demand};
 ghost use Rattle.papergrid_axis.specs.KeptApart.{longer};
 ghost use Rattle.papergrid_axis.specs.Sizes.{taken};
 ghost use Rattle.papergrid_axis.specs.declared.demand.Demand.{Demand};
@@ -13,8 +13,8 @@ ghost use Rattle.papergrid_axis.specs.ForProofs.Settled.{IsLargeInside, IsSettle
 use crate::axis::Axis;
 use crate::demand::Demand;
 use crate::error::{Found, LayoutError};
-use crate::growers::grow_to_total;
-use crate::seen::{Seen, single_at};
+use crate::growing_cells::grow_to_total;
+use crate::kept::{Kept, single_at};
 use papergrid_values::Position;
 use std::alloc::{AllocError, Global};
 
@@ -40,12 +40,12 @@ pub fn lines_of<A: Axis>(alloc: Global, axis: &A, count: usize) -> Result<Vec<bo
 }
 
 /// Writes for each number what the cell needs that is kept there.
-pub fn write_base(sizes: &mut [usize], singles: &[Demand])
+pub fn write_base(sizes: &mut [usize], single_span: &[Demand])
     ensures length { length sizes.new ≡ length sizes.old }
-    ensures base { EachIndex sizes.new (λ k. slice_index sizes.new k ≡ (slice_index_or singles.now k no_demand).need) }
+    ensures base { EachIndex sizes.new (λ k. slice_index sizes.new k ≡ (slice_index_or single_span.now k no_demand).need) }
 {
     for i in 0..sizes.len() {
-        sizes[i] = single_at(singles, i).need;
+        sizes[i] = single_at(single_span, i).need;
     }
 }
 
@@ -92,19 +92,19 @@ pub fn find_out(count: usize, demands: &[Demand]) -> Option<Position>
     None
 }
 
-/// Why the seen cells have no sizes, where one of them reaches out or has a large need.
-pub fn refusal(count: usize, seen: &Seen) -> Option<LayoutError>
-    requires { (demands : List Demand) × IsSeen count seen.now demands }
+/// Why the kept cells have no sizes, where one of them reaches out or has a large need.
+pub fn refusal(count: usize, kept: &Kept) -> Option<LayoutError>
+    requires { (demands : List Demand) × IsKept count kept.now demands }
     ensures refused { IfSome result (λ error.
-        (line : ℕ → Bool) (demands : List Demand) → IsSeen count seen.now demands →
-        IsRefusedWhere (given line count demands) (IsLargeInside count seen.now) error) }
-    ensures inside { IfNone result (first_out count seen.now.others.items ≡ None) }
-    ensures small { IfNone result (seen.now.is_large ≡ false) }
+        (line : ℕ → Bool) (demands : List Demand) → IsKept count kept.now demands →
+        IsRefusedWhere (given line count demands) (IsLargeInside count kept.now) error) }
+    ensures inside { IfNone result (first_out count kept.now.rest.items ≡ None) }
+    ensures small { IfNone result (kept.now.is_large ≡ false) }
 {
-    if let Some(position) = find_out(count, &seen.others) {
+    if let Some(position) = find_out(count, &kept.rest) {
         return Some(LayoutError::OutOfTable(position));
     }
-    if seen.is_large {
+    if kept.is_large {
         return Some(LayoutError::TooLarge);
     }
     None
@@ -116,34 +116,34 @@ pub fn refusal(count: usize, seen: &Seen) -> Option<LayoutError>
 pub struct Settled {
     pub sizes: Vec<usize>,
     pub cells: Vec<Demand>,
-    pub growers: Vec<Demand>,
+    pub growing_cells: Vec<Demand>,
 }
 
-/// What the seen cells of a table of `count` columns (rows) come to, with the lines of the axis.
+/// What the kept cells of a table of `count` columns (rows) come to, with the lines of the axis.
 ///
 /// # Errors
 ///
 /// `OutOfTable` with the position of the first cell that reaches out, else `TooLarge` where the
 /// sizes with all lines come to more than the greatest `usize`.
-pub fn settle<A: Axis>(alloc: Global, count: usize, seen: &Seen, axis: &A) -> Found<Settled>
-    requires { (demands : List Demand) × IsSeen count seen.now demands }
-    ensures { (demands : List Demand) → IsSeen count seen.now demands →
+pub fn settle<A: Axis>(alloc: Global, count: usize, kept: &Kept, axis: &A) -> Found<Settled>
+    requires { (demands : List Demand) × IsKept count kept.now demands }
+    ensures { (demands : List Demand) → IsKept count kept.now demands →
         IsSettled (given (A.line axis.now) count demands) result }
 {
     // A count that no memory holds is refused before it is counted up to.
     let mut sizes = vec![in alloc; 0; count]?;
     let lines = lines_of(alloc, axis, count)?;
-    if let Some(error) = refusal(count, seen) {
+    if let Some(error) = refusal(count, kept) {
         return Err(error);
     }
-    write_base(&mut sizes, &seen.singles);
-    let cells = taken(alloc, count, &seen.others)?;
+    write_base(&mut sizes, &kept.single_span);
+    let cells = taken(alloc, count, &kept.rest)?;
     match grow_to_total(alloc, &mut sizes, &lines, &cells)? {
         None => Err(LayoutError::TooLarge),
-        Some(growers) => Ok(Settled {
+        Some(growing_cells) => Ok(Settled {
             sizes,
             cells,
-            growers,
+            growing_cells,
         }),
     }
 }

@@ -1,14 +1,14 @@
-//! The answer for a direction of a configuration, once all cells are seen.
+//! The answer for a direction of a configuration, once all cells are kept.
 
 ghost use Rattle.std.specs.Prelude.{List};
 ghost use Rattle.papergrid_axis.specs.Answers.{AnswersWhere};
 ghost use Rattle.papergrid_axis.specs.Problem.{Problem, given};
 ghost use Rattle.papergrid_axis.specs.declared.demand.Demand.{Demand};
-ghost use Rattle.papergrid_axis.specs.ForProofs.Seen.{IsSeen};
+ghost use Rattle.papergrid_axis.specs.ForProofs.Kept.{IsKept};
 
 use crate::axis::Axis;
 use crate::error::Found;
-use crate::seen::Seen;
+use crate::kept::Kept;
 use crate::settled::settle;
 use crate::witness::settled_witness;
 use papergrid_values::Position;
@@ -22,15 +22,15 @@ pub trait Solution {
     // What holds of a problem for which it is refused as too large.
     ghost too_large: { Problem → Type 0 };
 
-    /// What the seen cells of a table of `count` columns (rows) come to, with the lines of the axis.
+    /// What the kept cells of a table of `count` columns (rows) come to, with the lines of the axis.
     ///
     /// # Errors
     ///
     /// `OutOfTable` with the position of the first cell that reaches out, else `TooLarge` where the
     /// sizes that are looked for come, with all lines, to more than the greatest `usize`.
-    fn solve<A: Axis>(alloc: Global, count: usize, seen: &Seen, axis: &A) -> Found<Self>
-        requires { (demands : List Demand) × IsSeen count seen.now demands }
-        ensures { (demands : List Demand) → IsSeen count seen.now demands →
+    fn solve<A: Axis>(alloc: Global, count: usize, kept: &Kept, axis: &A) -> Found<Self>
+        requires { (demands : List Demand) × IsKept count kept.now demands }
+        ensures { (demands : List Demand) → IsKept count kept.now demands →
             AnswersWhere too_large solves (given (A.line axis.now) count demands) result };
 }
 
@@ -42,8 +42,8 @@ impl Solution for Vec<usize> {
 
     ghost too_large = { NoneHolds };
 
-    fn solve<A: Axis>(alloc: Global, count: usize, seen: &Seen, axis: &A) -> Found<Vec<usize>> {
-        let settled = settle(alloc, count, seen, axis)?;
+    fn solve<A: Axis>(alloc: Global, count: usize, kept: &Kept, axis: &A) -> Found<Vec<usize>> {
+        let settled = settle(alloc, count, kept, axis)?;
         Ok(settled.sizes)
     }
 }
@@ -63,9 +63,9 @@ impl Solution for CertifiedSizes {
 
     ghost too_large = { NoneHolds };
 
-    fn solve<A: Axis>(alloc: Global, count: usize, seen: &Seen, axis: &A) -> Found<CertifiedSizes> {
-        let settled = settle(alloc, count, seen, axis)?;
-        let witness = settled_witness(alloc, count, seen, &settled)?;
+    fn solve<A: Axis>(alloc: Global, count: usize, kept: &Kept, axis: &A) -> Found<CertifiedSizes> {
+        let settled = settle(alloc, count, kept, axis)?;
+        let witness = settled_witness(alloc, count, kept, &settled)?;
         Ok(CertifiedSizes {
             sizes: settled.sizes,
             witness,

@@ -2,15 +2,15 @@
 
 ghost use Rattle.std.specs.Prelude.{◌+◌, ◌<◌, IfOk, List};
 ghost use Rattle.papergrid_axis.specs.declared.demand.Demand.{Demand};
-ghost use Rattle.papergrid_axis.specs.ForProofs.Seen.{IsSeen};
+ghost use Rattle.papergrid_axis.specs.ForProofs.Kept.{IsKept};
 
 use crate::LayoutError;
 use crate::LayoutError::{OutOfTable, TooLarge};
 use crate::axis::Axis;
+use crate::candidate::{Candidate, are_in_order};
 use crate::checked::{Checked, accepts, visit, wide_need};
-use crate::claim::{Claim, are_in_order};
+use crate::kept::{Kept, keep};
 use crate::laws::{certified_are_least, sizes_by_needs, worked_rows};
-use crate::seen::{Seen, keep};
 use crate::solution::{CertifiedSizes, Solution};
 use papergrid_values::Direction::{Columns, Rows};
 use papergrid_values::{Direction, Position};
@@ -142,15 +142,15 @@ fn at(row: usize, col: usize) -> Position {
     Position::new(row, col)
 }
 
-fn seen(alloc: Global, table: Table<'_>, count: usize) -> Result<Seen, AllocError>
-    ensures { IfOk result (λ seen. (demands : List Demand) × IsSeen count seen demands) }
+fn kept(alloc: Global, table: Table<'_>, count: usize) -> Result<Kept, AllocError>
+    ensures { IfOk result (λ kept. (demands : List Demand) × IsKept count kept demands) }
 {
-    let mut seen = Seen::new(alloc, count);
+    let mut kept = Kept::new(alloc, count);
     for (row, cells) in table.rows.iter().enumerate() {
         for (col, span, measure, padding) in *cells {
             let (position, span) = (at(row, *col), (*span).max(1));
             keep(
-                &mut seen,
+                &mut kept,
                 table.direction,
                 position,
                 span,
@@ -160,13 +160,13 @@ fn seen(alloc: Global, table: Table<'_>, count: usize) -> Result<Seen, AllocErro
             )?;
         }
     }
-    Ok(seen)
+    Ok(kept)
 }
 
 /// What a table of so many columns (rows) comes to.
 fn solved<S: Solution>(alloc: Global, table: Table<'_>, count: usize) -> Result<S, LayoutError> {
-    let seen = seen(alloc, table, count)?;
-    S::solve(alloc, count, &seen, &table.axis)
+    let kept = kept(alloc, table, count)?;
+    S::solve(alloc, count, &kept, &table.axis)
 }
 
 /// Whether these are the sizes, alone and with their places, and these the places.
@@ -193,7 +193,7 @@ fn refuses(alloc: Global, table: Table<'_>, count: usize, reason: LayoutError) -
 
 /// Whether sizes and places are accepted for cells whose spans are those of the axis.
 fn check(table: Table<'_>, count: usize, sizes: &[usize], places: &[Position]) -> bool {
-    let claim = Claim {
+    let candidate = Candidate {
         direction: table.direction,
         sizes,
         places,
@@ -204,10 +204,10 @@ fn check(table: Table<'_>, count: usize, sizes: &[usize], places: &[Position]) -
     for (row, cells) in table.rows.iter().enumerate() {
         for (col, _, measure, padding) in *cells {
             let need = wide_need(*measure, *padding, 0);
-            checked = visit(checked, &claim, &table.axis, at(row, *col), need);
+            checked = visit(checked, &candidate, &table.axis, at(row, *col), need);
         }
     }
-    accepts(checked, &claim, &table.axis, count)
+    accepts(checked, &candidate, &table.axis, count)
 }
 
 #[test]

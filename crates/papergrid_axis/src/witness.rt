@@ -6,13 +6,13 @@ ghost use Rattle.papergrid_axis.specs.declared.demand.Demand.{Demand};
 ghost use Rattle.papergrid_axis.specs.Answers.{IsWitness};
 ghost use Rattle.papergrid_axis.specs.ForProofs.LastCells.{IsLaminar};
 ghost use Rattle.papergrid_axis.specs.Ranges.{IsInTable};
-ghost use Rattle.papergrid_axis.specs.ForProofs.Seen.{IsSeen};
+ghost use Rattle.papergrid_axis.specs.ForProofs.Kept.{IsKept};
 ghost use Rattle.papergrid_axis.specs.ForProofs.Settled.{AreSettled};
 
 use crate::chosen::chosen_places;
 use crate::demand::Demand;
+use crate::kept::Kept;
 use crate::last_cells::are_laminar;
-use crate::seen::Seen;
 use crate::settled::Settled;
 use papergrid_values::Position;
 use std::alloc::{AllocError, Global};
@@ -35,18 +35,23 @@ fn is_laminar(alloc: Global, count: usize, cells: &[Demand]) -> Result<bool, All
 pub fn settled_witness(
     alloc: Global,
     count: usize,
-    seen: &Seen,
+    kept: &Kept,
     settled: &Settled,
 ) -> Result<Option<Vec<Position>>, AllocError>
-    requires { (line : ℕ → Bool) × (demands : List Demand) × IsSeen count seen.now demands
+    requires { (line : ℕ → Bool) × (demands : List Demand) × IsKept count kept.now demands
         × AreSettled (given line count demands) settled.now }
-    ensures { (line : ℕ → Bool) (demands : List Demand) → IsSeen count seen.now demands →
+    ensures { (line : ℕ → Bool) (demands : List Demand) → IsKept count kept.now demands →
         AreSettled (given line count demands) settled.now →
         IfOk result (IsWitness (given line count demands)) }
 {
     if !is_laminar(alloc, count, &settled.cells)? {
         return Ok(None);
     }
-    let places = chosen_places(alloc, &seen.singles, &settled.growers, &settled.sizes)?;
+    let places = chosen_places(
+        alloc,
+        &kept.single_span,
+        &settled.growing_cells,
+        &settled.sizes,
+    )?;
     Ok(Some(places))
 }

@@ -10,7 +10,7 @@ use Rattle.papergrid_axis.specs.Answers.{IsRefusedWhere}
 use Rattle.papergrid_axis.specs.Problem.{Problem}
 use Rattle.papergrid_axis.specs.Ranges.{first_out}
 use Rattle.papergrid_walk.specs.Cells.{problem_of}
-use Rattle.papergrid_walk.specs.Looks.{Look}
+use Rattle.papergrid_walk.specs.Grids.{Grid}
 use Rattle.papergrid_layout.specs.Answers.{IsBothRefusedWhere, UnlessMemory, UnlessMemoryError, first_out_of_table}
 
 -- what holds anyway holds unless memory was refused
@@ -26,14 +26,14 @@ unless (Err e) P p = unless_memory_error e P p
 some_is_not_none : {A : Type 0} (x : A) (r : Option A) → r ≡ Some x → r ≡ None → ⊥
 some_is_not_none x r e n = false≢true (ap is_some (sym n ∙ e))
 
-module _ {C : Type 0} (look : Look) (measure : C → ℕ × ℕ) (columns : ℕ) (cells : List (List C)) (too_large : Problem → Type 0) where
+module _ {C : Type 0} (grid : Grid) (measure : C → ℕ × ℕ) (columns : ℕ) (cells : List (List C)) (too_large : Problem → Type 0) where
   -- where no cell reaches out along either direction, one direction's refusal is that of both
-  pub refused_along : (direction : Direction) → first_out_of_table look measure columns cells ≡ None →
-      first_out (problem_of look measure columns cells direction).count (problem_of look measure columns cells direction).demands ≡ None →
-      (e : LayoutError) → IsRefusedWhere (problem_of look measure columns cells direction) (too_large (problem_of look measure columns cells direction)) e →
-      IsBothRefusedWhere look measure columns cells too_large e
+  pub refused_along : (direction : Direction) → first_out_of_table grid measure columns cells ≡ None →
+      first_out (problem_of grid measure columns cells direction).count (problem_of grid measure columns cells direction).demands ≡ None →
+      (e : LayoutError) → IsRefusedWhere (problem_of grid measure columns cells direction) (too_large (problem_of grid measure columns cells direction)) e →
+      IsBothRefusedWhere grid measure columns cells too_large e
   refused_along direction none inside (OutOfTable p) out =
-      absurd (some_is_not_none p (first_out (problem_of look measure columns cells direction).count (problem_of look measure columns cells direction).demands) out inside)
+      absurd (some_is_not_none p (first_out (problem_of grid measure columns cells direction).count (problem_of grid measure columns cells direction).demands) out inside)
   refused_along Columns none inside TooLarge large = (none, inl large)
   refused_along Rows none inside TooLarge large = (none, inr large)
   refused_along direction none inside (Memory e) any = tt

@@ -5,42 +5,42 @@ use Rattle.std.proofs.lemmas.Bool.{and_parts, cases_Bool, eqb-true, false≢true
 use Rattle.std.proofs.lemmas.List.Elements.{All-contains, All-map, All-weaker, filter_passes}
 use Rattle.papergrid_values.specs.declared.position.Position.{Position}
 use Rattle.papergrid_axis.specs.declared.checked.Checked.{Checked}
-use Rattle.papergrid_axis.specs.declared.claim.Claim.{Claim}
+use Rattle.papergrid_axis.specs.declared.candidate.Candidate.{Candidate}
 use Rattle.papergrid_values.specs.declared.direction.Direction.{Direction}
 use Rattle.papergrid_axis.specs.Answers.{IsAccepted}
 use Rattle.papergrid_axis.specs.Fits.{Fits, IsLeast}
 use Rattle.papergrid_axis.specs.Problem.{Problem}
 use Rattle.papergrid_axis.specs.Ranges.{demand_of, place_of}
 use Rattle.papergrid_axis.proofs.AcceptLemmas.{few_places}
-use Rattle.papergrid_axis.proofs.ClaimLemmas.{count_by-none, is_same}
+use Rattle.papergrid_axis.proofs.CandidateLemmas.{count_by-none, is_same}
 use Rattle.papergrid_walk.specs.Cells.{asked, asked_by, demands_of, placed, problem_of, side, visible_of}
-use Rattle.papergrid_walk.specs.Looks.{Look}
+use Rattle.papergrid_walk.specs.Grids.{Grid}
 use Rattle.papergrid_layout.specs.Witnesses.{IsChecked}
 use Rattle.papergrid_layout.specs.ForProofs.Checking.{AreShown, ChecksMore, check_none}
 
-module _ (look : Look) (claim : Claim) where
+module _ (grid : Grid) (candidate : Candidate) where
   module _ {C : Type 0} (measure : C → ℕ × ℕ) where
     -- a hidden cell is passed over
-    pub check_hidden : (checked : Checked) (pos : Position) (cell : C) → look.shows pos ≡ false →
-        ChecksMore look claim checked checked (asked_by claim.direction look measure ((pos, cell) ∷ []))
-    check_hidden checked pos cell f = rw f (check_none look claim checked)
+    pub check_hidden : (checked : Checked) (pos : Position) (cell : C) → grid.shows pos ≡ false →
+        ChecksMore grid candidate checked checked (asked_by candidate.direction grid measure ((pos, cell) ∷ []))
+    check_hidden checked pos cell f = rw f (check_none grid candidate checked)
 
     -- a visible one is not
-    pub check_shown : (old new : Checked) (pos : Position) (cell : C) (size need : ℕ) → look.shows pos ≡ true →
-        size ≡ side claim.direction (measure cell) → need ≡ size + look.before claim.direction pos + look.after claim.direction pos →
-        ChecksMore look claim old new (demand_of claim.direction pos (look.span claim.direction pos) need ∷ []) →
-        ChecksMore look claim old new (asked_by claim.direction look measure ((pos, cell) ∷ []))
+    pub check_shown : (old new : Checked) (pos : Position) (cell : C) (size need : ℕ) → grid.shows pos ≡ true →
+        size ≡ side candidate.direction (measure cell) → need ≡ size + grid.before candidate.direction pos + grid.after candidate.direction pos →
+        ChecksMore grid candidate old new (demand_of candidate.direction pos (grid.span candidate.direction pos) need ∷ []) →
+        ChecksMore grid candidate old new (asked_by candidate.direction grid measure ((pos, cell) ∷ []))
     check_shown old new pos cell size need t measured same more =
-        let whole = same ∙ ap (λ n. n + look.before claim.direction pos + look.after claim.direction pos) measured in
-        rw t (subst (λ n. ChecksMore look claim old new (demand_of claim.direction pos (look.span claim.direction pos) n ∷ [])) whole more)
+        let whole = same ∙ ap (λ n. n + grid.before candidate.direction pos + grid.after candidate.direction pos) measured in
+        rw t (subst (λ n. ChecksMore grid candidate old new (demand_of candidate.direction pos (grid.span candidate.direction pos) n ∷ [])) whole more)
 
     -- one that changes nothing may be either
     pub check_same : (old new : Checked) (pos : Position) (cell : C) (size need : ℕ) → new ≡ old →
-        size ≡ side claim.direction (measure cell) → need ≡ size + look.before claim.direction pos + look.after claim.direction pos →
-        ChecksMore look claim old new (demand_of claim.direction pos (look.span claim.direction pos) need ∷ []) →
-        ChecksMore look claim old old (asked_by claim.direction look measure ((pos, cell) ∷ []))
-    check_same old new pos cell size need unchanged measured same more = elim (cases_Bool (look.shows pos)) [
-      | inl t ↦ check_shown old old pos cell size need t measured same (subst (λ kept. ChecksMore look claim old kept (demand_of claim.direction pos (look.span claim.direction pos) need ∷ [])) unchanged more)
+        size ≡ side candidate.direction (measure cell) → need ≡ size + grid.before candidate.direction pos + grid.after candidate.direction pos →
+        ChecksMore grid candidate old new (demand_of candidate.direction pos (grid.span candidate.direction pos) need ∷ []) →
+        ChecksMore grid candidate old old (asked_by candidate.direction grid measure ((pos, cell) ∷ []))
+    check_same old new pos cell size need unchanged measured same more = elim (cases_Bool (grid.shows pos)) [
+      | inl t ↦ check_shown old old pos cell size need t measured same (subst (λ kept. ChecksMore grid candidate old kept (demand_of candidate.direction pos (grid.span candidate.direction pos) need ∷ [])) unchanged more)
       | inr f ↦ check_hidden old pos cell f
     ]
 
@@ -58,22 +58,22 @@ checked-of problem sizes places answer count counts exact least =
     }
 
 -- the places of a certificate are those of visible cells
-shown_places : {C : Type 0} (look : Look) (measure : C → ℕ × ℕ) (columns : ℕ) (cells : List (List C)) (direction : Direction) (sizes : List ℕ) (places : List Position) →
-    IsAccepted (problem_of look measure columns cells direction) sizes places → AreShown look places
-shown_places look measure columns cells direction sizes places accepted =
-    let demands = demands_of direction look measure cells in
-    let visible : All (λ d. IsTrue (look.shows (place_of d))) demands =
-    All-map (λ d. IsTrue (look.shows (place_of d))) (asked direction look measure) (visible_of look (placed cells)) (filter_passes (λ cell. look.shows cell.0) (placed cells)) in
-    subst (AreShown look) accepted.at_places
-    (All-map (λ p. IsTrue (look.shows p)) place_of accepted.cells
-    (All-weaker (Contains demands) (λ d. IsTrue (look.shows (place_of d))) (λ d m. All-contains (λ d. IsTrue (look.shows (place_of d))) demands d visible m) accepted.cells accepted.certificate.visible))
+shown_places : {C : Type 0} (grid : Grid) (measure : C → ℕ × ℕ) (columns : ℕ) (cells : List (List C)) (direction : Direction) (sizes : List ℕ) (places : List Position) →
+    IsAccepted (problem_of grid measure columns cells direction) sizes places → AreShown grid places
+shown_places grid measure columns cells direction sizes places accepted =
+    let demands = demands_of direction grid measure cells in
+    let visible : All (λ d. IsTrue (grid.shows (place_of d))) demands =
+    All-map (λ d. IsTrue (grid.shows (place_of d))) (asked direction grid measure) (visible_of grid (placed cells)) (filter_passes (λ cell. grid.shows cell.0) (placed cells)) in
+    subst (AreShown grid) accepted.at_places
+    (All-map (λ p. IsTrue (grid.shows p)) place_of accepted.cells
+    (All-weaker (Contains demands) (λ d. IsTrue (grid.shows (place_of d))) (λ d m. All-contains (λ d. IsTrue (grid.shows (place_of d))) demands d visible m) accepted.cells accepted.certificate.visible))
 
 -- a list that is longer than the sizes, or has a hidden cell, is never that of a certificate
-pub refused-of : {C : Type 0} (look : Look) (measure : C → ℕ × ℕ) (columns : ℕ) (cells : List (List C)) (direction : Direction) (sizes : List ℕ) (places : List Position) →
-    All (λ d. 1 ≤ d.span) (demands_of direction look measure cells) → (length sizes < length places) ⊎ (AreShown look places → ⊥) →
-    IsChecked (problem_of look measure columns cells direction) sizes places false
-refused-of look measure columns cells direction sizes places spans reason =
-    let problem = problem_of look measure columns cells direction in
+pub refused-of : {C : Type 0} (grid : Grid) (measure : C → ℕ × ℕ) (columns : ℕ) (cells : List (List C)) (direction : Direction) (sizes : List ℕ) (places : List Position) →
+    All (λ d. 1 ≤ d.span) (demands_of direction grid measure cells) → (length sizes < length places) ⊎ (AreShown grid places → ⊥) →
+    IsChecked (problem_of grid measure columns cells direction) sizes places false
+refused-of grid measure columns cells direction sizes places spans reason =
+    let problem = problem_of grid measure columns cells direction in
     record {
       exact = (
         λ t. absurd (false≢true t),
@@ -82,19 +82,19 @@ refused-of look measure columns cells direction sizes places spans reason =
               let few : length places ≤ problem.count = few_places problem.line problem.count problem.demands sizes places spans accepted in
               let many : length sizes ≡ problem.count = accepted.fits.one_each in
               absurd (omega (arith, few, many, long))
-          | inr hidden ↦ absurd (hidden (shown_places look measure columns cells direction sizes places accepted))
+          | inr hidden ↦ absurd (hidden (shown_places grid measure columns cells direction sizes places accepted))
         ],
       );
       least = λ t. absurd (false≢true t);
     }
 
 -- a place that is listed is one of the places
-pub listed_shown : (look : Look) (places : List Position) (place : Position) → AreShown look places → 0 < count_by (λ p. place.row == p.row && place.col == p.col) places → look.shows place ≡ true
-listed_shown look places place shown listed = elim (cases_Bool (look.shows place)) [
+pub listed_shown : (grid : Grid) (places : List Position) (place : Position) → AreShown grid places → 0 < count_by (λ p. place.row == p.row && place.col == p.col) places → grid.shows place ≡ true
+listed_shown grid places place shown listed = elim (cases_Bool (grid.shows place)) [
   | inl t ↦ t
   | inr f ↦
       let other : (k : ℕ) (p : Position) → k < length places → is_same place (get_or places k p) ≡ false = λ k p l. elim (cases_Bool (is_same place (get_or places k p))) [
-        | inl same ↦ absurd (true≢false (sym (subst (λ q. look.shows q ≡ true) (sym (same_place place (get_or places k p) same)) (shown k p l)) ∙ f))
+        | inl same ↦ absurd (true≢false (sym (subst (λ q. grid.shows q ≡ true) (sym (same_place place (get_or places k p) same)) (shown k p l)) ∙ f))
         | inr apart ↦ apart
       ] in
       let none : count_by (is_same place) places ≡ 0 = count_by-none (is_same place) places other in

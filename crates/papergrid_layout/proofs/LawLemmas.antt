@@ -29,37 +29,37 @@ use Rattle.papergrid_config.specs.Told.{IsTold, all_sides, no_room}
 use Rattle.papergrid_config.specs.declared.setting.Setting.{Setting}
 use Rattle.papergrid_config.specs.declared.spanned.SpannedConfig.{SpannedConfig}
 use Rattle.papergrid_walk.specs.Cells.{asked_by, demands_of, placed_from, placed_row, side}
-use Rattle.papergrid_walk.specs.Looks.{Look, spanned_look}
+use Rattle.papergrid_walk.specs.Grids.{Grid, spanned_grid}
 use Rattle.papergrid_walk.specs.Measures.{cell_measure, line_measure}
 use Rattle.papergrid_walk.specs.ForProofs.Visits.{asked_by-append}
-use Rattle.papergrid_walk.proofs.LookLemmas.{same_look_by}
+use Rattle.papergrid_walk.proofs.GridLemmas.{same_grid_by}
 use Rattle.papergrid_layout.specs.Laws.{AreReordered, AreSwapped, IsNewText, TellTheSame, concerns, set_span}
 
 -- ---- measures
 
-module _ {C : Type 0} (direction : Direction) (look : Look) (f g : C → ℕ × ℕ) (P : C → Type 0) (same : (x : C) → P x → f x ≡ g x) where
-  same_row : (r c : ℕ) (cells : List C) → All P cells → asked_by direction look f (placed_row r c cells) ≡ asked_by direction look g (placed_row r c cells)
+module _ {C : Type 0} (direction : Direction) (grid : Grid) (f g : C → ℕ × ℕ) (P : C → Type 0) (same : (x : C) → P x → f x ≡ g x) where
+  same_row : (r c : ℕ) (cells : List C) → All P cells → asked_by direction grid f (placed_row r c cells) ≡ asked_by direction grid g (placed_row r c cells)
   same_row r c [] all = refl
   same_row r c (x ∷ cells) all =
       let one = same x (All-head P x cells all) in
       let rest = same_row r (c + 1) cells (All-tail P x cells all) in
       let p : Position = record { row = r; col = c } in
-      elim (cases_Bool (look.shows p)) [
-        | inl t ↦ rw t (λ k. demand_of direction p (look.span direction p) (side direction (one k) + look.before direction p + look.after direction p) ∷ rest k)
+      elim (cases_Bool (grid.shows p)) [
+        | inl t ↦ rw t (λ k. demand_of direction p (grid.span direction p) (side direction (one k) + grid.before direction p + grid.after direction p) ∷ rest k)
         | inr t ↦ rw t rest
       ]
 
-  same_from : (r : ℕ) (rows : List (List C)) → All (All P) rows → asked_by direction look f (placed_from r rows) ≡ asked_by direction look g (placed_from r rows)
+  same_from : (r : ℕ) (rows : List (List C)) → All (All P) rows → asked_by direction grid f (placed_from r rows) ≡ asked_by direction grid g (placed_from r rows)
   same_from r [] all = refl
   same_from r (row ∷ rows) all =
       let one = same_row r 0 row (All-head (All P) row rows all) in
       let rest = same_from (r + 1) rows (All-tail (All P) row rows all) in
-      asked_by-append f direction look (placed_row r 0 row) (placed_from (r + 1) rows)
+      asked_by-append f direction grid (placed_row r 0 row) (placed_from (r + 1) rows)
       ∙ (λ k. one k ++ rest k)
-      ∙ sym (asked_by-append g direction look (placed_row r 0 row) (placed_from (r + 1) rows))
+      ∙ sym (asked_by-append g direction grid (placed_row r 0 row) (placed_from (r + 1) rows))
 
   -- where two measures agree on each cell, the cells ask for the same
-  pub same_measures : (rows : List (List C)) → All (All P) rows → demands_of direction look f rows ≡ demands_of direction look g rows
+  pub same_measures : (rows : List (List C)) → All (All P) rows → demands_of direction grid f rows ≡ demands_of direction grid g rows
   same_measures rows all = same_from 0 rows all
 
 pub new_text_measures : {S : Type 0} (text : S → List ℕ) (t : Measured S) → IsNewText text t →
@@ -72,8 +72,8 @@ new_text_measures text t is =
 -- ---- spans
 
 -- what is read of two configurations that are told the same
-pub same_look : (settings other : List Setting) → TellTheSame settings other → (x y : SpannedConfig) → IsTold settings x → IsTold other y → spanned_look x ≡ spanned_look y
-same_look settings other same x y told also =
+pub same_grid : (settings other : List Setting) → TellTheSame settings other → (x y : SpannedConfig) → IsTold settings x → IsTold other y → spanned_grid x ≡ spanned_grid y
+same_grid settings other same x y told also =
     let calls = flat_map span_calls settings in
     let spans_same = told_spans calls x.spans told.spans ∙ sym (told_spans calls y.spans (λ d p. also.spans d p ∙ ap from_two (sym (same.spans d p)))) in
     let lines_same =
@@ -81,7 +81,7 @@ same_look settings other same x y told also =
     ∙ sym (told_borders (flat_map character_calls other) y.characters also.characters) in
     let padding_same : (p : Position) → held_value x.padding p ≡ held_value y.padding p
     = λ p. held_decided _ _ _ told.padding p ∙ same.padding p ∙ sym (held_decided _ _ _ also.padding p) in
-    same_look_by spans_same padding_same lines_same
+    same_grid_by spans_same padding_same lines_same
 
 around : {A : Type 0} (f : Setting → List A) (before after : List Setting) (a b : Setting) →
     flat_map f (before ++ a ∷ b ∷ after) ≡ flat_map f before ++ (f a ++ (f b ++ flat_map f after))

@@ -14,7 +14,7 @@ use Rattle.papergrid_least.specs.Answers.{AreLeastSizes, AreLongest}
 use Rattle.papergrid_least.specs.Longest.{longest}
 use Rattle.papergrid_least.proofs.LeastLemmas.{least_of-shares, same-least_of}
 use Rattle.papergrid_walk.specs.Cells.{asked, problem_of, visible_cells}
-use Rattle.papergrid_walk.specs.Looks.{Look}
+use Rattle.papergrid_walk.specs.Grids.{Grid}
 
 -- the certificate of least sizes is one that a checker accepts
 pub accepted : (problem : Problem) (sizes : List ℕ) (places : List Position) → AreLeastSizes problem sizes → AreLongest problem places → IsAccepted problem sizes places
@@ -26,15 +26,15 @@ accepted problem sizes places are longest_are = record {
   certificate = subst (λ xs. IsCertificate problem xs (longest problem)) (sym are.exact) longest_are.certificate;
 }
 
-module _ {C : Type 0} (look : Look) (measure : C → ℕ × ℕ) (columns : ℕ) (rows : List (List C)) (direction : Direction) (from_one : (p : Position) → 1 ≤ look.span direction p)
-    (sizes least : List ℕ) (are : AreSizes (problem_of look measure columns rows direction) sizes) (are_least : AreLeastSizes (problem_of look measure columns rows direction) least) where
+module _ {C : Type 0} (grid : Grid) (measure : C → ℕ × ℕ) (columns : ℕ) (rows : List (List C)) (direction : Direction) (from_one : (p : Position) → 1 ≤ grid.span direction p)
+    (sizes least : List ℕ) (are : AreSizes (problem_of grid measure columns rows direction) sizes) (are_least : AreLeastSizes (problem_of grid measure columns rows direction) least) where
   abbrev problem : Problem
-  problem = problem_of look measure columns rows direction
+  problem = problem_of grid measure columns rows direction
 
   in_table : All (IsInTable problem.count) problem.demands
   in_table =
       none_out problem.count problem.demands are.none_out
-      (All-map (λ (d : Demand). 1 ≤ d.span) (asked direction look measure) (visible_cells look rows) (λ k x l. from_one _))
+      (All-map (λ (d : Demand). 1 ≤ d.span) (asked direction grid measure) (visible_cells grid rows) (λ k x l. from_one _))
 
   pub same-least : IsLeast problem sizes → least ≡ sizes
   same-least is_least = are_least.exact ∙ least_of-shares problem in_table (subst (IsLeast problem) are.exact is_least) ∙ sym are.exact

@@ -8,12 +8,12 @@ use Rattle.papergrid_values.specs.Positions.{IsBefore}
 use Rattle.papergrid_values.specs.declared.direction.Direction.{Direction}
 use Rattle.papergrid_values.specs.declared.direction.Direction.TheVariants.{Columns, Rows}
 use Rattle.papergrid_axis.specs.Ranges.{end_of, first_out}
-use Rattle.papergrid_axis.specs.ForProofs.Seen.{IsSeen}
-use Rattle.papergrid_axis.proofs.OutLemmas.{out_seen}
-use Rattle.papergrid_walk.specs.declared.needs.Both.{Both}
+use Rattle.papergrid_axis.specs.ForProofs.Kept.{IsKept}
+use Rattle.papergrid_axis.proofs.OutLemmas.{out_kept}
+use Rattle.papergrid_walk.specs.declared.needs.KeptBoth.{KeptBoth}
 use Rattle.papergrid_walk.specs.Cells.{asked, demands_of, visible_cells}
-use Rattle.papergrid_walk.specs.Looks.{Look}
-use Rattle.papergrid_walk.specs.ForProofs.Pairs.{AreBothSeen}
+use Rattle.papergrid_walk.specs.Grids.{Grid}
+use Rattle.papergrid_walk.specs.ForProofs.Pairs.{AreBothKept}
 use Rattle.papergrid_walk.proofs.Distinct.{AllPairs-visible, Precedes}
 use Rattle.papergrid_layout.specs.Answers.{first_out_of_table, reaches_out}
 use Rattle.papergrid_layout.specs.ForProofs.Earlier.{earlier, earlier_of}
@@ -51,65 +51,65 @@ second-stays : (p : Position) (q : Option Position) → ((y : Position) → q �
 second-stays p None later = refl
 second-stays p (Some q) later = ap Some (before-second p q (later q refl))
 
-module _ {C : Type 0} (look : Look) (measure : C → ℕ × ℕ) (columns : ℕ) (cells : List (List C)) where
+module _ {C : Type 0} (grid : Grid) (measure : C → ℕ × ℕ) (columns : ℕ) (cells : List (List C)) where
   -- the first cell that reaches out is one of the cells
   first_out-from : (P : Position → Type 0) (direction : Direction) (n : ℕ) (xs : List (Position × C)) → All (λ x. P x.0) xs →
-      (y : Position) → first_out n (map (asked direction look measure) xs) ≡ Some y → P y
+      (y : Position) → first_out n (map (asked direction grid measure) xs) ≡ Some y → P y
   first_out-from P direction n [] all y e = absurd (false≢true (ap is_some e))
-  first_out-from P direction n (x ∷ xs) all y e = elim (cases_Bool (nat_lt n (end_of (asked direction look measure x)))) [
+  first_out-from P direction n (x ∷ xs) all y e = elim (cases_Bool (nat_lt n (end_of (asked direction grid measure x)))) [
     | inl t ↦
         let e' : Some x.0 ≡ Some y = rw t at e in
         subst P (ap (λ o. unwrap_or o y) e') (All-head (λ x. P x.0) x xs all)
     | inr f ↦
-        let e' : first_out n (map (asked direction look measure) xs) ≡ Some y = rw f at e in
+        let e' : first_out n (map (asked direction grid measure) xs) ≡ Some y = rw f at e in
         first_out-from P direction n xs (All-tail (λ x. P x.0) x xs all) y e'
   ]
 
   -- of cells in their order, the first that reaches out along a direction is the earlier of the first along columns and the
   -- first along rows
   earlier-out : (xs : List (Position × C)) → AllPairs Precedes xs →
-      earlier (first_out columns (map (asked Columns look measure) xs)) (first_out (length cells) (map (asked Rows look measure) xs)) ≡ find (reaches_out look measure columns cells) (map (λ cell. cell.0) xs)
+      earlier (first_out columns (map (asked Columns grid measure) xs)) (first_out (length cells) (map (asked Rows grid measure) xs)) ≡ find (reaches_out grid measure columns cells) (map (λ cell. cell.0) xs)
   earlier-out [] precede = refl
   earlier-out (x ∷ xs) precede =
       let rest = earlier-out xs (λ i j d l l'. precede (suc i) (suc j) d (omega arith) (omega arith)) in
       let later : All (λ y. IsBefore x.0 y.0) xs = λ k d l. precede 0 (suc k) d (omega arith) (omega arith) in
-      elim (cases_Bool (nat_lt columns (x.0.col + look.span Columns x.0))) [
-        | inl wide ↦ elim (cases_Bool (nat_lt (length cells) (x.0.row + look.span Rows x.0))) [
+      elim (cases_Bool (nat_lt columns (x.0.col + grid.span Columns x.0))) [
+        | inl wide ↦ elim (cases_Bool (nat_lt (length cells) (x.0.row + grid.span Rows x.0))) [
           | inl high ↦ rw (wide, high) (ap Some (same-first x.0))
-          | inr high ↦ rw (wide, high) (first-stays x.0 (first_out (length cells) (map (asked Rows look measure) xs)) (first_out-from (IsBefore x.0) Rows (length cells) xs later))
+          | inr high ↦ rw (wide, high) (first-stays x.0 (first_out (length cells) (map (asked Rows grid measure) xs)) (first_out-from (IsBefore x.0) Rows (length cells) xs later))
         ]
-        | inr wide ↦ elim (cases_Bool (nat_lt (length cells) (x.0.row + look.span Rows x.0))) [
-          | inl high ↦ rw (wide, high) (second-stays x.0 (first_out columns (map (asked Columns look measure) xs)) (first_out-from (IsBefore x.0) Columns columns xs later))
+        | inr wide ↦ elim (cases_Bool (nat_lt (length cells) (x.0.row + grid.span Rows x.0))) [
+          | inl high ↦ rw (wide, high) (second-stays x.0 (first_out columns (map (asked Columns grid measure) xs)) (first_out-from (IsBefore x.0) Columns columns xs later))
           | inr high ↦ rw (wide, high) rest
         ]
       ]
 
   -- no cell reaches out exactly where none does along columns, and none along rows
-  pub none_reaches_out : (first_out_of_table look measure columns cells ≡ None)
-      ↔ ((first_out columns (demands_of Columns look measure cells) ≡ None) × (first_out (length cells) (demands_of Rows look measure cells) ≡ None))
+  pub none_reaches_out : (first_out_of_table grid measure columns cells ≡ None)
+      ↔ ((first_out columns (demands_of Columns grid measure cells) ≡ None) × (first_out (length cells) (demands_of Rows grid measure cells) ≡ None))
   none_reaches_out =
-      let either = earlier-out (visible_cells look cells) (AllPairs-visible look cells) in (
-        (λ none. neither (first_out columns (demands_of Columns look measure cells)) (first_out (length cells) (demands_of Rows look measure cells)) (either ∙ none)),
+      let either = earlier-out (visible_cells grid cells) (AllPairs-visible grid cells) in (
+        (λ none. neither (first_out columns (demands_of Columns grid measure cells)) (first_out (length cells) (demands_of Rows grid measure cells)) (either ∙ none)),
         λ none. sym either ∙ ap₂ earlier none.0 none.1,
       )
 
-  module _ (both : Both) (seen : AreBothSeen look measure columns cells both) (rows : ℕ) (many : rows ≡ length cells) where
+  module _ (both : KeptBoth) (kept : AreBothKept grid measure columns cells both) (rows : ℕ) (many : rows ≡ length cells) where
     -- the same of what is kept
-    pub out_of_both : earlier (first_out columns both.columns.others.items) (first_out rows both.rows.others.items) ≡ first_out_of_table look measure columns cells
+    pub out_of_both : earlier (first_out columns both.columns.rest.items) (first_out rows both.rows.rest.items) ≡ first_out_of_table grid measure columns cells
     out_of_both =
-        ap (λ n. earlier (first_out columns both.columns.others.items) (first_out n both.rows.others.items)) many
-        ∙ ap₂ earlier (sym (out_seen columns both.columns (demands_of Columns look measure cells) seen.wide)) (sym (out_seen (length cells) both.rows (demands_of Rows look measure cells) seen.high))
-        ∙ earlier-out (visible_cells look cells) (AllPairs-visible look cells)
+        ap (λ n. earlier (first_out columns both.columns.rest.items) (first_out n both.rows.rest.items)) many
+        ∙ ap₂ earlier (sym (out_kept columns both.columns (demands_of Columns grid measure cells) kept.wide)) (sym (out_kept (length cells) both.rows (demands_of Rows grid measure cells) kept.high))
+        ∙ earlier-out (visible_cells grid cells) (AllPairs-visible grid cells)
 
     -- where no cell reaches out, none does along columns, and none along rows
-    pub none_out : earlier (first_out columns both.columns.others.items) (first_out rows both.rows.others.items) ≡ None →
-        (first_out_of_table look measure columns cells ≡ None) × (first_out columns (demands_of Columns look measure cells) ≡ None) × (first_out (length cells) (demands_of Rows look measure cells) ≡ None)
+    pub none_out : earlier (first_out columns both.columns.rest.items) (first_out rows both.rows.rest.items) ≡ None →
+        (first_out_of_table grid measure columns cells ≡ None) × (first_out columns (demands_of Columns grid measure cells) ≡ None) × (first_out (length cells) (demands_of Rows grid measure cells) ≡ None)
     none_out none =
-        let each = neither (first_out columns both.columns.others.items) (first_out rows both.rows.others.items) none in (
+        let each = neither (first_out columns both.columns.rest.items) (first_out rows both.rows.rest.items) none in (
           sym out_of_both ∙ none,
-          out_seen columns both.columns (demands_of Columns look measure cells) seen.wide ∙ each.0,
-          out_seen (length cells) both.rows (demands_of Rows look measure cells) seen.high ∙ ap (λ n. first_out n both.rows.others.items) (sym many) ∙ each.1,
+          out_kept columns both.columns (demands_of Columns grid measure cells) kept.wide ∙ each.0,
+          out_kept (length cells) both.rows (demands_of Rows grid measure cells) kept.high ∙ ap (λ n. first_out n both.rows.rest.items) (sym many) ∙ each.1,
         )
 
-    pub seen_high : IsSeen rows both.rows (demands_of Rows look measure cells)
-    seen_high = subst (λ n. IsSeen n both.rows (demands_of Rows look measure cells)) (sym many) seen.high
+    pub seen_high : IsKept rows both.rows (demands_of Rows grid measure cells)
+    seen_high = subst (λ n. IsKept n both.rows (demands_of Rows grid measure cells)) (sym many) kept.high

@@ -18,9 +18,9 @@ use Rattle.papergrid_axis.specs.Ranges.{end_of, first_out, inner_lines, place_of
 use Rattle.papergrid_axis.proofs.OutLemmas.{if_none}
 use Rattle.papergrid_walk.proofs.HiddenLemmas.{position-same}
 use Rattle.papergrid_walk.specs.Cells.{asked, placed, problem_of, side, visible_cells}
-use Rattle.papergrid_walk.specs.Looks.{Look}
+use Rattle.papergrid_walk.specs.Grids.{Grid}
 use Rattle.papergrid_layout.specs.Answers.{AreBothSizes}
-use Rattle.papergrid_layout.specs.Places.{AreApart, HasRoomAtPlace, HaveNoneInCommon, IsInside, IsPlaced, StandsOver, extent, offset, place_at, sum_from, total, total_along}
+use Rattle.papergrid_layout.specs.Places.{DoNotMeet, HasRoomAtPlace, HaveNoneInCommon, IsInside, IsPlaced, StandsOver, extent, offset, place_at, sum_from, total, total_along}
 use Rattle.papergrid_layout.specs.declared.placement.PlaceError.TheVariants.{TooLarge}
 use Rattle.papergrid_layout.proofs.PlaceSums.{extent-before}
 
@@ -65,12 +65,12 @@ module _ (size : ℕ → ℕ) (line : ℕ → Bool) where
         | inr ge ↦ record { number = s; in_one = ((omega arith), (omega arith)); in_other = ((omega arith), (omega arith)) }
       ]
 
-pub apart : (look : Look) (widths heights : ℕ → ℕ) (shape : ℕ × ℕ) (p q : Position) → HaveNoneInCommon look p q →
-    AreApart (place_at look widths heights shape p) (place_at look widths heights shape q)
-apart look widths heights shape p q none x y in_p in_q =
-    let across = meets widths (look.draws Columns shape.1) p.col (look.span Columns p) q.col (look.span Columns q) x
+pub apart : (grid : Grid) (widths heights : ℕ → ℕ) (shape : ℕ × ℕ) (p q : Position) → HaveNoneInCommon grid p q →
+    DoNotMeet (place_at grid widths heights shape p) (place_at grid widths heights shape q)
+apart grid widths heights shape p q none x y in_p in_q =
+    let across = meets widths (grid.draws Columns shape.1) p.col (grid.span Columns p) q.col (grid.span Columns q) x
     (in_p.after_left, in_p.before_right) (in_q.after_left, in_q.before_right) in
-    let down = meets heights (look.draws Rows shape.0) p.row (look.span Rows p) q.row (look.span Rows q) y
+    let down = meets heights (grid.draws Rows shape.0) p.row (grid.span Rows p) q.row (grid.span Rows q) y
     (in_p.below_top, in_p.above_bottom) (in_q.below_top, in_q.above_bottom) in
     none (record { row = down.number; col = across.number })
     (record { below_top = down.in_one.0; above_bottom = down.in_one.1; after_left = across.in_one.0; before_right = across.in_one.1 })
@@ -92,12 +92,12 @@ same-or-other p q = elim (cases_lt p.row q.row) [
   ]
 ]
 
-pub one-over : (look : Look) (widths heights : ℕ → ℕ) (shape : ℕ × ℕ) (x y : ℕ) (p : Position) → StandsOver look widths heights shape x y p →
-    ((q : Position) → IsInside look widths heights shape q → q ≢ p → HaveNoneInCommon look p q) →
-    (q : Position) → StandsOver look widths heights shape x y q → q ≡ p
-one-over look widths heights shape x y p over alone q other = elim (same-or-other q p) [
+pub one-over : (grid : Grid) (widths heights : ℕ → ℕ) (shape : ℕ × ℕ) (x y : ℕ) (p : Position) → StandsOver grid widths heights shape x y p →
+    ((q : Position) → IsInside grid widths heights shape q → q ≢ p → HaveNoneInCommon grid p q) →
+    (q : Position) → StandsOver grid widths heights shape x y q → q ≡ p
+one-over grid widths heights shape x y p over alone q other = elim (same-or-other q p) [
   | inl same ↦ same
-  | inr differ ↦ absurd (apart look widths heights shape p q (alone q other.placed.inside differ) x y over.covers other.covers)
+  | inr differ ↦ absurd (apart grid widths heights shape p q (alone q other.placed.inside differ) x y over.covers other.covers)
 ]
 
 -- ---- sizes as lists
@@ -148,10 +148,10 @@ extent-room line sizes d le room =
     let need : d.need ≤ range_sum sizes d + inner_lines line d = room in
     omega arith
 
-module _ {C : Type 0} (look : Look) (measure : C → ℕ × ℕ) (columns : ℕ) (cells : List (List C)) (widths heights : List ℕ)
-    (are : AreBothSizes look measure columns cells widths heights) where
+module _ {C : Type 0} (grid : Grid) (measure : C → ℕ × ℕ) (columns : ℕ) (cells : List (List C)) (widths heights : List ℕ)
+    (are : AreBothSizes grid measure columns cells widths heights) where
   abbrev problem : Direction → Problem
-  problem = problem_of look measure columns cells
+  problem = problem_of grid measure columns cells
 
   abbrev size : Direction → List ℕ
   size Columns = widths
@@ -161,25 +161,25 @@ module _ {C : Type 0} (look : Look) (measure : C → ℕ × ℕ) (columns : ℕ)
   sized Columns = are.widths
   sized Rows = are.heights
 
-  pub both-fit : (direction : Direction) → total_along look (slice_index widths) (slice_index heights) (length cells, columns) direction < 2 ^ 64
+  pub both-fit : (direction : Direction) → total_along grid (slice_index widths) (slice_index heights) (length cells, columns) direction < 2 ^ 64
   both-fit Columns = fits-told (problem Columns) widths are.widths
   both-fit Rows = fits-told (problem Rows) heights are.heights
 
   abbrev HasRoomIn : Position × C → Type 0
-  HasRoomIn = HasRoomAtPlace look measure (length cells, columns) widths heights
+  HasRoomIn = HasRoomAtPlace grid measure (length cells, columns) widths heights
 
   -- the cell's range lies in the table, and has room for it
   record IsGood (direction : Direction) (x : Position × C) : Type 0 where
-    ends : along direction x.0 + look.span direction x.0 ≤ (problem direction).count
-    room : side direction (measure x.1) + look.before direction x.0 + look.after direction x.0
-        ≤ extent (slice_index (size direction)) (problem direction).line (along direction x.0) (look.span direction x.0)
+    ends : along direction x.0 + grid.span direction x.0 ≤ (problem direction).count
+    room : side direction (measure x.1) + grid.before direction x.0 + grid.after direction x.0
+        ≤ extent (slice_index (size direction)) (problem direction).line (along direction x.0) (grid.span direction x.0)
 
-  good : (direction : Direction) (xs : List (Position × C)) → first_out (problem direction).count (map (asked direction look measure) xs) ≡ None →
-      All (HasRoom (problem direction).line (size direction)) (map (asked direction look measure) xs) → All (IsGood direction) xs
+  good : (direction : Direction) (xs : List (Position × C)) → first_out (problem direction).count (map (asked direction grid measure) xs) ≡ None →
+      All (HasRoom (problem direction).line (size direction)) (map (asked direction grid measure) xs) → All (IsGood direction) xs
   good direction [] none room = All-nil (IsGood direction)
   good direction (x ∷ xs) none room =
-      let d = asked direction look measure x in
-      let ds = map (asked direction look measure) xs in
+      let d = asked direction grid measure x in
+      let ds = map (asked direction grid measure) xs in
       let inside = if_none (nat_lt (problem direction).count (end_of d)) (place_of d) (first_out (problem direction).count ds) none in
       let ends : end_of d ≤ (problem direction).count = ltb-false (problem direction).count (end_of d) inside.0 in
       let many : length (size direction) ≡ (problem direction).count = (sized direction).fits.one_each in
@@ -191,12 +191,12 @@ module _ {C : Type 0} (look : Look) (measure : C → ℕ × ℕ) (columns : ℕ)
       (good direction xs inside.1 (All-tail (HasRoom (problem direction).line (size direction)) d ds room))
 
   abbrev IsShown : Position × C → Type 0
-  IsShown x = look.shows x.0 ≡ true
+  IsShown x = grid.shows x.0 ≡ true
 
-  shown : (xs : List (Position × C)) → All IsShown (filter (λ x. look.shows x.0) xs)
+  shown : (xs : List (Position × C)) → All IsShown (filter (λ x. grid.shows x.0) xs)
   shown [] = All-nil IsShown
-  shown (x ∷ xs) = elim (cases_Bool (look.shows x.0)) [
-    | inl t ↦ rw t (All-cons IsShown x (filter (λ y. look.shows y.0) xs) t (shown xs))
+  shown (x ∷ xs) = elim (cases_Bool (grid.shows x.0)) [
+    | inl t ↦ rw t (All-cons IsShown x (filter (λ y. grid.shows y.0) xs) t (shown xs))
     | inr f ↦ rw f (shown xs)
   ]
 
@@ -207,7 +207,7 @@ module _ {C : Type 0} (look : Look) (measure : C → ℕ × ℕ) (columns : ℕ)
       let high = All-head (IsGood Rows) x xs down in
       All-cons HasRoomIn x xs
       (record {
-        place = place_at look (slice_index widths) (slice_index heights) (length cells, columns) x.0;
+        place = place_at grid (slice_index widths) (slice_index heights) (length cells, columns) x.0;
         is_placed = record {
           inside = record { visible = All-head IsShown x xs visible; across = wide.ends; down = high.ends };
           fit = both-fit;
@@ -218,13 +218,13 @@ module _ {C : Type 0} (look : Look) (measure : C → ℕ × ℕ) (columns : ℕ)
       })
       (each xs (All-tail IsShown x xs visible) (All-tail (IsGood Columns) x xs across) (All-tail (IsGood Rows) x xs down))
 
-  pub all-have-room : All HasRoomIn (visible_cells look cells)
+  pub all-have-room : All HasRoomIn (visible_cells grid cells)
   all-have-room =
-      each (visible_cells look cells) (shown (placed cells))
-      (good Columns (visible_cells look cells) are.widths.none_out are.widths.fits.room)
-      (good Rows (visible_cells look cells) are.heights.none_out are.heights.fits.room)
+      each (visible_cells grid cells) (shown (placed cells))
+      (good Columns (visible_cells grid cells) are.widths.none_out are.widths.fits.room)
+      (good Rows (visible_cells grid cells) are.heights.none_out are.heights.fits.room)
 
-  pub never-too-large : (p : Position) → IsPlaced look (slice_index widths) (slice_index heights) (length cells, columns) p (Err TooLarge) → ⊥
+  pub never-too-large : (p : Position) → IsPlaced grid (slice_index widths) (slice_index heights) (length cells, columns) p (Err TooLarge) → ⊥
   never-too-large p refused =
       let across = both-fit Columns in
       let down = both-fit Rows in
@@ -234,6 +234,6 @@ module _ {C : Type 0} (look : Look) (measure : C → ℕ × ℕ) (columns : ℕ)
       ]
 
   pub totals : (direction : Direction) (answer : ℕ) → IsTotal (problem direction) answer
-      ↔ (answer ≡ total_along look (slice_index widths) (slice_index heights) (length cells, columns) direction)
+      ↔ (answer ≡ total_along grid (slice_index widths) (slice_index heights) (length cells, columns) direction)
   totals Columns answer = (total-is (problem Columns) widths are.widths answer, is-total (problem Columns) widths are.widths answer)
   totals Rows answer = (total-is (problem Rows) heights are.heights answer, is-total (problem Rows) heights are.heights answer)

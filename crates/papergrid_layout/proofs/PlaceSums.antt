@@ -11,7 +11,7 @@ use Rattle.papergrid_axis.proofs.LoopLemmas.{range_with_len-append}
 use Rattle.papergrid_values.specs.declared.direction.Direction.{Direction}
 use Rattle.papergrid_values.specs.declared.direction.Direction.TheVariants.{Columns, Rows}
 use Rattle.papergrid_values.specs.declared.position.Position.{Position}
-use Rattle.papergrid_walk.specs.Looks.{Look}
+use Rattle.papergrid_walk.specs.Grids.{Grid}
 use Rattle.papergrid_layout.specs.Places.{HasPlace, IsInside, IsTotalOf, extent, offset, sum_from, total, total_along}
 
 -- numbers in a row, cut in two
@@ -121,28 +121,28 @@ total-or None whole h = (refl, too-large None whole whole refl h)
 total-or (Some n) whole h = h.1
 
 -- a visible cell that does not reach out lies in the table
-pub is-inside : (look : Look) (widths heights : ℕ → ℕ) (shape : ℕ × ℕ) (p : Position) → look.shows p ≡ true →
-    false ≡ nat_lt shape.1 (p.col + look.span Columns p) → false ≡ nat_lt shape.0 (p.row + look.span Rows p) → IsInside look widths heights shape p
-is-inside look widths heights shape p visible across down = record {
+pub is-inside : (grid : Grid) (widths heights : ℕ → ℕ) (shape : ℕ × ℕ) (p : Position) → grid.shows p ≡ true →
+    false ≡ nat_lt shape.1 (p.col + grid.span Columns p) → false ≡ nat_lt shape.0 (p.row + grid.span Rows p) → IsInside grid widths heights shape p
+is-inside grid widths heights shape p visible across down = record {
   visible = visible;
-  across = ltb-false shape.1 (p.col + look.span Columns p) (sym across);
-  down = ltb-false shape.0 (p.row + look.span Rows p) (sym down);
+  across = ltb-false shape.1 (p.col + grid.span Columns p) (sym across);
+  down = ltb-false shape.0 (p.row + grid.span Rows p) (sym down);
 }
 
 -- the place of a cell by what is found along both directions
-pub has-place : (look : Look) (widths heights : ℕ → ℕ) (shape : ℕ × ℕ) (p : Position) (left top width height : ℕ) → look.shows p ≡ true →
-    false ≡ nat_lt shape.1 (p.col + look.span Columns p) → false ≡ nat_lt shape.0 (p.row + look.span Rows p) →
-    (total widths (look.draws Columns shape.1) shape.1 < 2 ^ 64)
-    × ◌≡◌ {A = ℕ × ℕ} (left, width) (offset widths (look.draws Columns shape.1) p.col, extent widths (look.draws Columns shape.1) p.col (look.span Columns p)) →
-    (total heights (look.draws Rows shape.0) shape.0 < 2 ^ 64)
-    × ◌≡◌ {A = ℕ × ℕ} (top, height) (offset heights (look.draws Rows shape.0) p.row, extent heights (look.draws Rows shape.0) p.row (look.span Rows p)) →
-    HasPlace look widths heights shape p (record { left = left; top = top; width = width; height = height })
-has-place look widths heights shape p left top width height visible across down wide high = record {
-  inside = is-inside look widths heights shape p visible across down;
+pub has-place : (grid : Grid) (widths heights : ℕ → ℕ) (shape : ℕ × ℕ) (p : Position) (left top width height : ℕ) → grid.shows p ≡ true →
+    false ≡ nat_lt shape.1 (p.col + grid.span Columns p) → false ≡ nat_lt shape.0 (p.row + grid.span Rows p) →
+    (total widths (grid.draws Columns shape.1) shape.1 < 2 ^ 64)
+    × ◌≡◌ {A = ℕ × ℕ} (left, width) (offset widths (grid.draws Columns shape.1) p.col, extent widths (grid.draws Columns shape.1) p.col (grid.span Columns p)) →
+    (total heights (grid.draws Rows shape.0) shape.0 < 2 ^ 64)
+    × ◌≡◌ {A = ℕ × ℕ} (top, height) (offset heights (grid.draws Rows shape.0) p.row, extent heights (grid.draws Rows shape.0) p.row (grid.span Rows p)) →
+    HasPlace grid widths heights shape p (record { left = left; top = top; width = width; height = height })
+has-place grid widths heights shape p left top width height visible across down wide high = record {
+  inside = is-inside grid widths heights shape p visible across down;
   fit = fit;
   exact = (λ k. record { left = (wide.1 k).0; top = (high.1 k).0; width = (wide.1 k).1; height = (high.1 k).1 });
 }
   where
-    fit : (direction : Direction) → total_along look widths heights shape direction < 2 ^ 64
+    fit : (direction : Direction) → total_along grid widths heights shape direction < 2 ^ 64
     fit Columns = wide.0
     fit Rows = high.0

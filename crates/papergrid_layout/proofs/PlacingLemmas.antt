@@ -14,7 +14,7 @@ use Rattle.papergrid_maps.specs.declared.anchors.Anchor.{Anchor}
 use Rattle.papergrid_maps.proofs.SpanVisible.{visible_test}
 use Rattle.papergrid_walk.specs.ForProofs.Shown.{anchor_in}
 use Rattle.papergrid_walk.specs.ForProofs.Visits.{shows_turn}
-use Rattle.papergrid_walk.specs.Looks.{Look, spanned_look}
+use Rattle.papergrid_walk.specs.Grids.{Grid, spanned_grid}
 use Rattle.papergrid_walk.proofs.HiddenLemmas.{position-same}
 use Rattle.papergrid_layout.specs.Places.{HasPlace, HaveAllPlaces, IsFirstRefused, IsPlaced, IsVisibleCell, extent, offset, place_at, total_along}
 use Rattle.papergrid_layout.specs.declared.placement.Place.{Place}
@@ -34,44 +34,44 @@ found-hidden true x e = absurd (none-some x e)
 found-hidden false x e = refl
 
 -- the place by what is found along both directions
-pub place-found : (table : Table) (anchor : Anchor) (left top width height : ℕ) → anchor ≡ anchor_in table.look anchor.position →
+pub place-found : (table : Table) (anchor : Anchor) (left top width height : ℕ) → anchor ≡ anchor_in table.grid anchor.position →
     ◌≡◌ {A = ℕ × ℕ} (left, width)
-    (offset table.widths (table.look.draws Columns table.shape.1) anchor.position.col, extent table.widths (table.look.draws Columns table.shape.1) anchor.position.col anchor.cols) →
+    (offset table.widths (table.grid.draws Columns table.shape.1) anchor.position.col, extent table.widths (table.grid.draws Columns table.shape.1) anchor.position.col anchor.cols) →
     ◌≡◌ {A = ℕ × ℕ} (top, height)
-    (offset table.heights (table.look.draws Rows table.shape.0) anchor.position.row, extent table.heights (table.look.draws Rows table.shape.0) anchor.position.row anchor.rows) →
-    ◌≡◌ {A = Place} (record { left = left; top = top; width = width; height = height }) (place_at table.look table.widths table.heights table.shape anchor.position)
+    (offset table.heights (table.grid.draws Rows table.shape.0) anchor.position.row, extent table.heights (table.grid.draws Rows table.shape.0) anchor.position.row anchor.rows) →
+    ◌≡◌ {A = Place} (record { left = left; top = top; width = width; height = height }) (place_at table.grid table.widths table.heights table.shape anchor.position)
 place-found table anchor left top width height e wide high =
     let p = anchor.position in
-    let long = ap (λ x. x.1) wide ∙ ap (extent table.widths (table.look.draws Columns table.shape.1) p.col) (ap (λ (a : Anchor). a.cols) e) in
-    let tall = ap (λ x. x.1) high ∙ ap (extent table.heights (table.look.draws Rows table.shape.0) p.row) (ap (λ (a : Anchor). a.rows) e) in
+    let long = ap (λ x. x.1) wide ∙ ap (extent table.widths (table.grid.draws Columns table.shape.1) p.col) (ap (λ (a : Anchor). a.cols) e) in
+    let tall = ap (λ x. x.1) high ∙ ap (extent table.heights (table.grid.draws Rows table.shape.0) p.row) (ap (λ (a : Anchor). a.rows) e) in
     λ k. record { left = (wide k).0; top = (high k).0; width = long k; height = tall k }
 
 -- its spans at its own position
-pub anchor-own : (look : Look) (p : Position) (anchor : Anchor) → anchor ≡ anchor_in look p → anchor ≡ anchor_in look anchor.position
-anchor-own look p anchor e = e ∙ ap (anchor_in look) (sym (ap (λ (a : Anchor). a.position) e))
+pub anchor-own : (grid : Grid) (p : Position) (anchor : Anchor) → anchor ≡ anchor_in grid p → anchor ≡ anchor_in grid anchor.position
+anchor-own grid p anchor e = e ∙ ap (anchor_in grid) (sym (ap (λ (a : Anchor). a.position) e))
 
 -- the position has the place that was found for it
 pub has-found : (table : Table) (p : Position) (anchor : Anchor) (place : Place) →
-    ((direction : Direction) → total_along table.look table.widths table.heights table.shape direction < 2 ^ 64) →
-    table.look.shows p ≡ true → anchor ≡ anchor_in table.look p →
+    ((direction : Direction) → total_along table.grid table.widths table.heights table.shape direction < 2 ^ 64) →
+    table.grid.shows p ≡ true → anchor ≡ anchor_in table.grid p →
     (((anchor.position.col + anchor.cols ≤ table.shape.1) × (anchor.position.row + anchor.rows ≤ table.shape.0))
-    × (place ≡ place_at table.look table.widths table.heights table.shape anchor.position)) →
-    HasPlace table.look table.widths table.heights table.shape p place
+    × (place ≡ place_at table.grid table.widths table.heights table.shape anchor.position)) →
+    HasPlace table.grid table.widths table.heights table.shape p place
 has-found table p anchor place fit visible e found =
     let told = subst (λ (a : Anchor). ((a.position.col + a.cols ≤ table.shape.1) × (a.position.row + a.rows ≤ table.shape.0))
-    × (place ≡ place_at table.look table.widths table.heights table.shape a.position)) e found in
+    × (place ≡ place_at table.grid table.widths table.heights table.shape a.position)) e found in
     record { inside = record { visible = visible; across = told.0.0; down = told.0.1 }; fit = fit; exact = told.1 }
 
 -- where no place was found for it, it reaches out
-pub is-out : (table : Table) (p : Position) (anchor : Anchor) → table.look.shows p ≡ true → anchor ≡ anchor_in table.look p →
+pub is-out : (table : Table) (p : Position) (anchor : Anchor) → table.grid.shows p ≡ true → anchor ≡ anchor_in table.grid p →
     ((anchor.position.col + anchor.cols ≤ table.shape.1) × (anchor.position.row + anchor.rows ≤ table.shape.0) → ⊥) →
-    IsPlaced table.look table.widths table.heights table.shape p (Err OutOfTable)
+    IsPlaced table.grid table.widths table.heights table.shape p (Err OutOfTable)
 is-out table p anchor visible e none =
     let told = subst (λ (a : Anchor). (a.position.col + a.cols ≤ table.shape.1) × (a.position.row + a.rows ≤ table.shape.0) → ⊥) e none in (
       visible,
-      elim (cases_lt table.shape.1 (p.col + table.look.span Columns p)) [
+      elim (cases_lt table.shape.1 (p.col + table.grid.span Columns p)) [
         | inl wide ↦ inl wide
-        | inr narrow ↦ elim (cases_lt table.shape.0 (p.row + table.look.span Rows p)) [
+        | inr narrow ↦ elim (cases_lt table.shape.0 (p.row + table.grid.span Rows p)) [
           | inl high ↦ inr high
           | inr low ↦ absurd (told (narrow, low))
         ]
@@ -103,7 +103,7 @@ before-turn p r c in_row (inl above) = elim (cases_lt p.row r) [
 before-turn p r c in_row (inr left) = let l : p.col < 0 = left.1 in absurd (omega arith)
 
 -- the first position is hidden by none
-pub first-shown : (config : SpannedConfig) → (spanned_look config).shows (position_of (0, 0)) ≡ true
+pub first-shown : (config : SpannedConfig) → (spanned_grid config).shows (position_of (0, 0)) ≡ true
 first-shown config =
     (visible_test config.spans (position_of (0, 0))).1
     (λ anchor other within. other (position-same anchor (position_of (0, 0)) (omega (arith, within.below_top)) (omega (arith, within.after_left))))
@@ -115,13 +115,13 @@ none-before p before = elim before [ inl l ↦ omega (arith, l) | inr l ↦ let 
 
 module _ (table : Table) where
   abbrev Has : Position × Place → Type 0
-  Has x = HasPlace table.look table.widths table.heights table.shape x.0 x.1
+  Has x = HasPlace table.grid table.widths table.heights table.shape x.0 x.1
 
   abbrev Before : ℕ → ℕ → Position × Place → Type 0
   Before r c x = IsBefore x.0 (position_of (r, c))
 
   abbrev IsCell : Position → Type 0
-  IsCell = IsVisibleCell table.look table.widths table.heights table.shape
+  IsCell = IsVisibleCell table.grid table.widths table.heights table.shape
 
   pub placed-none : ArePlacedBefore table 0 0 []
   placed-none = record {
@@ -132,7 +132,7 @@ module _ (table : Table) where
   }
 
   -- past a hidden position
-  pub placed-hidden : (r c : ℕ) (list : List (Position × Place)) → table.look.shows (position_of (r, c)) ≡ false → ArePlacedBefore table r c list →
+  pub placed-hidden : (r c : ℕ) (list : List (Position × Place)) → table.grid.shows (position_of (r, c)) ≡ false → ArePlacedBefore table r c list →
       ArePlacedBefore table r (c + 1) list
   placed-hidden r c list hidden are = record {
     in_order = are.in_order;
@@ -140,7 +140,7 @@ module _ (table : Table) where
     before = All-weaker (Before r c) (Before r (c + 1)) (λ x h. before-step x.0 r c h) list are.before;
     complete = λ p cell before. elim (before-next p r c before) [
       | inl earlier ↦ are.complete p cell earlier
-      | inr same ↦ absurd (false≢true (sym hidden ∙ ap table.look.shows (sym same) ∙ cell.visible))
+      | inr same ↦ absurd (false≢true (sym hidden ∙ ap table.grid.shows (sym same) ∙ cell.visible))
     ];
   }
 
@@ -169,7 +169,7 @@ module _ (table : Table) where
   }
 
   pub all-placed : (list : List (Position × Place)) → ArePlacedBefore table table.shape.0 0 list →
-      HaveAllPlaces table.look table.widths table.heights table.shape list
+      HaveAllPlaces table.grid table.widths table.heights table.shape list
   all-placed list are = record {
     in_order = are.in_order;
     placed = are.placed;
@@ -177,8 +177,8 @@ module _ (table : Table) where
   }
 
   pub first-refused : (r c : ℕ) (list : List (Position × Place)) (error : PlaceError) → IsCell (position_of (r, c)) →
-      IsPlaced table.look table.widths table.heights table.shape (position_of (r, c)) (Err error) → ArePlacedBefore table r c list →
-      IsFirstRefused table.look table.widths table.heights table.shape (position_of (r, c)) error
+      IsPlaced table.grid table.widths table.heights table.shape (position_of (r, c)) (Err error) → ArePlacedBefore table r c list →
+      IsFirstRefused table.grid table.widths table.heights table.shape (position_of (r, c)) error
   first-refused r c list error cell refused are = record {
     is_cell = cell;
     refused = refused;
@@ -190,6 +190,6 @@ module _ (table : Table) where
   has-turned r c placing end has = record {
     fit = has.fit;
     marked = has.marked;
-    shows = shows_turn table.look placing.sweep r c has.shows;
+    shows = shows_turn table.grid placing.sweep r c has.shows;
     list = placed-turn r placing.places.items (subst (λ k. ArePlacedBefore table r k placing.places.items) end has.list);
   }

@@ -13,7 +13,7 @@ use Rattle.papergrid_axis.specs.Problem.{Problem, given}
 use Rattle.papergrid_axis.proofs.KeptApartLemmas.{Decides-is_kept_apart, not_kept_apart}
 use Rattle.papergrid_axis.specs.Ranges.{place_of}
 use Rattle.papergrid_walk.specs.Cells.{asked, asked_by, count_along, demands_of, placed_from, placed_row, problem_of, visible_cells}
-use Rattle.papergrid_walk.specs.Looks.{Look}
+use Rattle.papergrid_walk.specs.Grids.{Grid}
 use Rattle.papergrid_walk.specs.ForProofs.Visits.{asked_by-append}
 use Rattle.papergrid_layout.specs.Answers.{first_out_of_table, reaches_out}
 use Rattle.papergrid_layout.specs.Witnesses.{witness_of}
@@ -29,49 +29,49 @@ witness_is problem (Some places) chosen =
     let t : is_kept_apart problem.demands ≡ true = (Decides-is_kept_apart problem.demands).1 chosen.kept_apart in
     rw t (ap Some chosen.exact)
 
-module _ {C : Type 0} (look : Look) (measure : C → ℕ × ℕ) (columns : ℕ) (cells : List (List C)) where
-  places_among : (xs : List (Position × C)) → map (λ x. x.0) xs ≡ map place_of (map (asked Columns look measure) xs)
+module _ {C : Type 0} (grid : Grid) (measure : C → ℕ × ℕ) (columns : ℕ) (cells : List (List C)) where
+  places_among : (xs : List (Position × C)) → map (λ x. x.0) xs ≡ map place_of (map (asked Columns grid measure) xs)
   places_among [] = refl
   places_among (x ∷ xs) = ap (λ ps. x.0 ∷ ps) (places_among xs)
 
   -- the first cell out of the table, by what the cells ask for alone
-  first_by_demands : first_out_of_table look measure columns cells ≡ find (reaches_out look measure columns cells) (map place_of (demands_of Columns look measure cells))
-  first_by_demands = ap (find (reaches_out look measure columns cells)) (places_among (visible_cells look cells))
+  first_by_demands : first_out_of_table grid measure columns cells ≡ find (reaches_out grid measure columns cells) (map place_of (demands_of Columns grid measure cells))
+  first_by_demands = ap (find (reaches_out grid measure columns cells)) (places_among (visible_cells grid cells))
 
-module _ {A B : Type 0} (look : Look) (v : A → B) (f : B → ℕ × ℕ) where
-  told_row : (direction : Direction) (r c : ℕ) (cells : List A) → asked_by direction look (λ x. f (v x)) (placed_row r c cells) ≡ asked_by direction look f (placed_row r c (map v cells))
+module _ {A B : Type 0} (grid : Grid) (v : A → B) (f : B → ℕ × ℕ) where
+  told_row : (direction : Direction) (r c : ℕ) (cells : List A) → asked_by direction grid (λ x. f (v x)) (placed_row r c cells) ≡ asked_by direction grid f (placed_row r c (map v cells))
   told_row direction r c [] = refl
   told_row direction r c (x ∷ cells) =
       let rest = told_row direction r (c + 1) cells in
-      elim (cases_Bool (look.shows (record { row = r; col = c }))) [
-        | inl t ↦ rw t (ap (λ ds. asked direction look f (record { row = r; col = c }, v x) ∷ ds) rest)
+      elim (cases_Bool (grid.shows (record { row = r; col = c }))) [
+        | inl t ↦ rw t (ap (λ ds. asked direction grid f (record { row = r; col = c }, v x) ∷ ds) rest)
         | inr t ↦ rw t rest
       ]
 
-  told_from : (direction : Direction) (r : ℕ) (rows : List (List A)) → asked_by direction look (λ x. f (v x)) (placed_from r rows) ≡ asked_by direction look f (placed_from r (map (map v) rows))
+  told_from : (direction : Direction) (r : ℕ) (rows : List (List A)) → asked_by direction grid (λ x. f (v x)) (placed_from r rows) ≡ asked_by direction grid f (placed_from r (map (map v) rows))
   told_from direction r [] = refl
   told_from direction r (row ∷ rows) =
       let one = told_row direction r 0 row in
       let rest = told_from direction (r + 1) rows in
-      asked_by-append (λ x. f (v x)) direction look (placed_row r 0 row) (placed_from (r + 1) rows)
+      asked_by-append (λ x. f (v x)) direction grid (placed_row r 0 row) (placed_from (r + 1) rows)
       ∙ (λ k. one k ++ rest k)
-      ∙ sym (asked_by-append f direction look (placed_row r 0 (map v row)) (placed_from (r + 1) (map (map v) rows)))
+      ∙ sym (asked_by-append f direction grid (placed_row r 0 (map v row)) (placed_from (r + 1) (map (map v) rows)))
 
   module _ (cells : List (List A)) (rows : List (List B)) (same : map (map v) cells ≡ rows) where
-    pub demands_told : (direction : Direction) → demands_of direction look (λ x. f (v x)) cells ≡ demands_of direction look f rows
-    demands_told direction = told_from direction 0 cells ∙ ap (demands_of direction look f) same
+    pub demands_told : (direction : Direction) → demands_of direction grid (λ x. f (v x)) cells ≡ demands_of direction grid f rows
+    demands_told direction = told_from direction 0 cells ∙ ap (demands_of direction grid f) same
 
     pub as_many : length cells ≡ length rows
     as_many = sym (length-map cells (map v)) ∙ ap length same
 
-    pub problem_told : (direction : Direction) (columns : ℕ) → problem_of look (λ x. f (v x)) columns cells direction ≡ problem_of look f columns rows direction
+    pub problem_told : (direction : Direction) (columns : ℕ) → problem_of grid (λ x. f (v x)) columns cells direction ≡ problem_of grid f columns rows direction
     problem_told direction columns =
-        λ i. given (look.draws direction (count_along direction columns (as_many i))) (count_along direction columns (as_many i)) (demands_told direction i)
+        λ i. given (grid.draws direction (count_along direction columns (as_many i))) (count_along direction columns (as_many i)) (demands_told direction i)
 
     -- the same cell is the first out of the table
-    pub first_told : (columns : ℕ) → first_out_of_table look (λ x. f (v x)) columns cells ≡ first_out_of_table look f columns rows
+    pub first_told : (columns : ℕ) → first_out_of_table grid (λ x. f (v x)) columns cells ≡ first_out_of_table grid f columns rows
     first_told columns =
         let wide = demands_told Columns in
-        first_by_demands look (λ x. f (v x)) columns cells
-        ∙ (λ i. find (λ p. nat_lt columns (p.col + look.span Columns p) || nat_lt (as_many i) (p.row + look.span Rows p)) (map place_of (wide i)))
-        ∙ sym (first_by_demands look f columns rows)
+        first_by_demands grid (λ x. f (v x)) columns cells
+        ∙ (λ i. find (λ p. nat_lt columns (p.col + grid.span Columns p) || nat_lt (as_many i) (p.row + grid.span Rows p)) (map place_of (wide i)))
+        ∙ sym (first_by_demands grid f columns rows)

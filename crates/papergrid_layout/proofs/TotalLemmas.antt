@@ -13,7 +13,7 @@ use Rattle.papergrid_axis.specs.Ranges.{end_of, first_out, place_of}
 use Rattle.papergrid_axis.proofs.LoopLemmas.{need_within_total}
 use Rattle.papergrid_axis.proofs.OutLemmas.{if_none}
 use Rattle.papergrid_walk.specs.Cells.{asked, problem_of, side, visible_cells}
-use Rattle.papergrid_walk.specs.Looks.{Look}
+use Rattle.papergrid_walk.specs.Grids.{Grid}
 
 -- sizes, one for each column (row) of a problem whose lines are drawn so
 module _ (draws : ℕ → ℕ → Bool) (problem : Problem) (drawn : problem.line ≡ draws problem.count) (sizes : List ℕ) (one_each : length sizes ≡ problem.count) where
@@ -31,25 +31,25 @@ module _ (draws : ℕ → ℕ → Bool) (problem : Problem) (drawn : problem.lin
   is_total holds total are_sizes adds_up = record { sizes = sizes; are_sizes = are_sizes; adds_up = adds_up ∙ as_total }
 
 -- no visible cell needs more than the total with its lines
-module _ {C : Type 0} (look : Look) (measure : C → ℕ × ℕ) (columns : ℕ) (cells : List (List C)) (direction : Direction) where
+module _ {C : Type 0} (grid : Grid) (measure : C → ℕ × ℕ) (columns : ℕ) (cells : List (List C)) (direction : Direction) where
   abbrev problem : Problem
-  problem = problem_of look measure columns cells direction
+  problem = problem_of grid measure columns cells direction
 
   abbrev NeedsAtMost : ℕ → Position × C → Type 0
-  NeedsAtMost total cell = side direction (measure cell.1) + look.before direction cell.0 + look.after direction cell.0 ≤ total
+  NeedsAtMost total cell = side direction (measure cell.1) + grid.before direction cell.0 + grid.after direction cell.0 ≤ total
 
   each_within : (sizes : List ℕ) (total : ℕ) → total_of problem sizes ≤ total → (xs : List (Position × C)) →
-      first_out problem.count (map (asked direction look measure) xs) ≡ None → All (HasRoom problem.line sizes) (map (asked direction look measure) xs) → All (NeedsAtMost total) xs
+      first_out problem.count (map (asked direction grid measure) xs) ≡ None → All (HasRoom problem.line sizes) (map (asked direction grid measure) xs) → All (NeedsAtMost total) xs
   each_within sizes total le [] none room = All-nil (NeedsAtMost total)
   each_within sizes total le (x ∷ xs) none room =
-      let d = asked direction look measure x in
-      let ds = map (asked direction look measure) xs in
+      let d = asked direction grid measure x in
+      let ds = map (asked direction grid measure) xs in
       let inside = if_none (nat_lt problem.count (end_of d)) (place_of d) (first_out problem.count ds) none in
       let ends : end_of d ≤ problem.count = ltb-false problem.count (end_of d) inside.0 in
       let need : d.need ≤ sum sizes + all_lines problem.line problem.count = need_within_total problem.line problem.count sizes d ends (All-head (HasRoom problem.line sizes) d ds room) in
       All-cons (NeedsAtMost total) x xs (omega arith) (each_within sizes total le xs inside.1 (All-tail (HasRoom problem.line sizes) d ds room))
 
-  pub total_covers : (total : ℕ) → IsTotal problem total → All (NeedsAtMost total) (visible_cells look cells)
+  pub total_covers : (total : ℕ) → IsTotal problem total → All (NeedsAtMost total) (visible_cells grid cells)
   total_covers total is =
       let adds : total ≡ sum is.sizes + all_lines problem.line problem.count = is.adds_up in
-      each_within is.sizes total (omega arith) (visible_cells look cells) is.are_sizes.none_out is.are_sizes.fits.room
+      each_within is.sizes total (omega arith) (visible_cells grid cells) is.are_sizes.none_out is.are_sizes.fits.room

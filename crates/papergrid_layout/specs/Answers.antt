@@ -8,7 +8,7 @@ use Rattle.papergrid_axis.specs.Answers.{AreSizes, NoneHolds}
 use Rattle.papergrid_axis.specs.Problem.{Problem}
 use Rattle.papergrid_least.specs.Answers.{AreLeastSizes, NoneFits}
 use Rattle.papergrid_walk.specs.Cells.{problem_of, visible_cells}
-use Rattle.papergrid_walk.specs.Looks.{Look}
+use Rattle.papergrid_walk.specs.Grids.{Grid}
 
 -- P, unless it is out of memory
 abbrev pub UnlessMemoryError : LayoutError → Type 0 → Type 0
@@ -21,19 +21,19 @@ abbrev pub UnlessMemory : {A : Type 0} → Result A LayoutError → Type 0 → T
 UnlessMemory (Ok x) P = P
 UnlessMemory (Err e) P = UnlessMemoryError e P
 
-module _ {C : Type 0} (look : Look) (measure : C → ℕ × ℕ) (columns : ℕ) (cells : List (List C)) where
+module _ {C : Type 0} (grid : Grid) (measure : C → ℕ × ℕ) (columns : ℕ) (cells : List (List C)) where
   -- the cell at a position reaches out of the table, along columns or along rows
   abbrev pub reaches_out : Position → Bool
-  reaches_out p = nat_lt columns (p.col + look.span Columns p) || nat_lt (length cells) (p.row + look.span Rows p)
+  reaches_out p = nat_lt columns (p.col + grid.span Columns p) || nat_lt (length cells) (p.row + grid.span Rows p)
 
   -- the first visible cell that does, by row and then by column
   abbrev pub first_out_of_table : Option Position
-  first_out_of_table = find reaches_out (map (λ cell. cell.0) (visible_cells look cells))
+  first_out_of_table = find reaches_out (map (λ cell. cell.0) (visible_cells grid cells))
 
   -- this holds of what is found along columns, and of what is found along rows
   pub record HoldAlong {A : Type 0} (holds : Problem → A → Type 0) (across down : A) : Type 0 where
-    pub widths : holds (problem_of look measure columns cells Columns) across
-    pub heights : holds (problem_of look measure columns cells Rows) down
+    pub widths : holds (problem_of grid measure columns cells Columns) across
+    pub heights : holds (problem_of grid measure columns cells Rows) down
 
   -- exactly the widths and the heights, and what holds of them
   abbrev pub AreBothSizes : List ℕ → List ℕ → Type 0
@@ -48,7 +48,7 @@ module _ {C : Type 0} (look : Look) (measure : C → ℕ × ℕ) (columns : ℕ)
   abbrev pub IsBothRefusedWhere : (Problem → Type 0) → LayoutError → Type 0
   IsBothRefusedWhere too_large (OutOfTable p) = first_out_of_table ≡ Some p
   IsBothRefusedWhere too_large TooLarge = (first_out_of_table ≡ None)
-      × (too_large (problem_of look measure columns cells Columns) ⊎ too_large (problem_of look measure columns cells Rows))
+      × (too_large (problem_of grid measure columns cells Columns) ⊎ too_large (problem_of grid measure columns cells Rows))
   IsBothRefusedWhere too_large (Memory e) = ⊤
 
   -- the same, where the sizes along that direction are too large

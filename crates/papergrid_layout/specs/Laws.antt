@@ -16,7 +16,7 @@ use Rattle.papergrid_config.specs.Parts.{character_calls, padding_calls, span_ca
 use Rattle.papergrid_config.specs.declared.setting.Setting.{Setting}
 use Rattle.papergrid_config.specs.declared.setting.Setting.TheVariants.{SetColumnSpan, SetRowSpan}
 use Rattle.papergrid_walk.specs.Cells.{problem_with}
-use Rattle.papergrid_walk.specs.Looks.{Look}
+use Rattle.papergrid_walk.specs.Grids.{Grid}
 
 -- a text as `Text::new` keeps it
 abbrev pub IsNewText : {S : Type 0} → (S → List ℕ) → Measured S → Type 0
@@ -32,8 +32,8 @@ abbrev pub IsCellAt : {C : Type 0} → List (List C) → Position → C → Type
 IsCellAt rows p cell = (p.row < length rows) × HasCell (slice_index_or rows p.row []) p.col cell
 
 -- the sizes along a direction, of so many columns (rows), that told rows have
-abbrev pub sizes_told : {C : Type 0} → Direction → Look → (C → ℕ × ℕ) → ℕ → List (List C) → List ℕ
-sizes_told direction look measure n rows = sizes_of (problem_with look measure direction n rows)
+abbrev pub sizes_told : {C : Type 0} → Direction → Grid → (C → ℕ × ℕ) → ℕ → List (List C) → List ℕ
+sizes_told direction grid measure n rows = sizes_of (problem_with grid measure direction n rows)
 
 -- the same spans, paddings and lines
 pub record TellTheSame (settings other : List Setting) : Type 0 where

@@ -10,7 +10,7 @@ use Rattle.papergrid_axis.specs.declared.error.LayoutError.TheVariants as layout
 use Rattle.papergrid_values.specs.Lines.{all_lines}
 use Rattle.papergrid_maps.specs.Spans.{IsInRectangle}
 use Rattle.papergrid_walk.specs.Cells.{count_along, side}
-use Rattle.papergrid_walk.specs.Looks.{Look}
+use Rattle.papergrid_walk.specs.Grids.{Grid}
 use Rattle.papergrid_layout.specs.declared.placement.Place.{Place}
 use Rattle.papergrid_layout.specs.declared.placement.PlaceError.{PlaceError}
 use Rattle.papergrid_layout.specs.declared.placement.PlaceError.TheVariants.{Hidden, OutOfTable, TooLarge}
@@ -50,23 +50,23 @@ pub record Covers (place : Place) (x y : ℕ) : Type 0 where
   pub above_bottom : y < place.top + place.height
 
 -- a table: what is read of its configuration, its widths and heights, and its shape (rows, columns)
-module _ (look : Look) (widths heights : ℕ → ℕ) (shape : ℕ × ℕ) where
+module _ (grid : Grid) (widths heights : ℕ → ℕ) (shape : ℕ × ℕ) where
   -- how many columns (rows) it has
   abbrev pub count_of : Direction → ℕ
   count_of direction = count_along direction shape.1 shape.0
 
   -- its total along a direction
   abbrev pub total_along : Direction → ℕ
-  total_along direction = total (size_along widths heights direction) (look.draws direction (count_of direction)) (count_of direction)
+  total_along direction = total (size_along widths heights direction) (grid.draws direction (count_of direction)) (count_of direction)
 
   -- where the cell at a position begins along a direction
   abbrev pub begin_along : Direction → Position → ℕ
-  begin_along direction p = offset (size_along widths heights direction) (look.draws direction (count_of direction)) (along direction p)
+  begin_along direction p = offset (size_along widths heights direction) (grid.draws direction (count_of direction)) (along direction p)
 
   -- how long it is
   abbrev pub length_along : Direction → Position → ℕ
   length_along direction p =
-      extent (size_along widths heights direction) (look.draws direction (count_of direction)) (along direction p) (look.span direction p)
+      extent (size_along widths heights direction) (grid.draws direction (count_of direction)) (along direction p) (grid.span direction p)
 
   -- its place
   abbrev pub place_at : Position → Place
@@ -79,13 +79,13 @@ module _ (look : Look) (widths heights : ℕ → ℕ) (shape : ℕ × ℕ) where
 
   -- its range ends past the last column (row)
   abbrev pub ReachesOut : Position → Direction → Type 0
-  ReachesOut p direction = count_of direction < along direction p + look.span direction p
+  ReachesOut p direction = count_of direction < along direction p + grid.span direction p
 
   -- it is visible, and reaches out in neither direction
   pub record IsInside (p : Position) : Type 0 where
-    pub visible : look.shows p ≡ true
-    pub across : p.col + look.span Columns p ≤ shape.1
-    pub down : p.row + look.span Rows p ≤ shape.0
+    pub visible : grid.shows p ≡ true
+    pub across : p.col + grid.span Columns p ≤ shape.1
+    pub down : p.row + grid.span Rows p ≤ shape.0
 
   -- it has this place, in a table whose totals fit
   pub record HasPlace (p : Position) (place : Place) : Type 0 where
@@ -96,13 +96,13 @@ module _ (look : Look) (widths heights : ℕ → ℕ) (shape : ℕ × ℕ) where
   -- its place, or why it has none: it is hidden, else it reaches out, else a total is past the greatest `usize`
   abbrev pub IsPlaced : Position → Result Place PlaceError → Type 0
   IsPlaced p (Ok place) = HasPlace p place
-  IsPlaced p (Err Hidden) = look.shows p ≡ false
-  IsPlaced p (Err OutOfTable) = (look.shows p ≡ true) × (ReachesOut p Columns ⊎ ReachesOut p Rows)
+  IsPlaced p (Err Hidden) = grid.shows p ≡ false
+  IsPlaced p (Err OutOfTable) = (grid.shows p ≡ true) × (ReachesOut p Columns ⊎ ReachesOut p Rows)
   IsPlaced p (Err TooLarge) = IsInside p × ((2 ^ 64 ≤ total_along Columns) ⊎ (2 ^ 64 ≤ total_along Rows))
 
   -- a visible position of the table
   pub record IsVisibleCell (p : Position) : Type 0 where
-    pub visible : look.shows p ≡ true
+    pub visible : grid.shows p ≡ true
     pub row_in : p.row < shape.0
     pub col_in : p.col < shape.1
 
@@ -135,18 +135,18 @@ module _ (look : Look) (widths heights : ℕ → ℕ) (shape : ℕ × ℕ) where
   IsFirstOver x y (Some p) = StandsOver x y p × ((q : Position) → StandsOver x y q → IsBefore q p → ⊥)
 
 -- no column of the terminal in a line is covered by both
-abbrev pub AreApart : Place → Place → Type 0
-AreApart a b = (x y : ℕ) → Covers a x y → Covers b x y → ⊥
+abbrev pub DoNotMeet : Place → Place → Type 0
+DoNotMeet a b = (x y : ℕ) → Covers a x y → Covers b x y → ⊥
 
 -- no position lies in the rectangles of both cells
-abbrev pub HaveNoneInCommon : Look → Position → Position → Type 0
-HaveNoneInCommon look p q =
-    (r : Position) → IsInRectangle (look.span Columns) (look.span Rows) p r → IsInRectangle (look.span Columns) (look.span Rows) q r → ⊥
+abbrev pub HaveNoneInCommon : Grid → Position → Position → Type 0
+HaveNoneInCommon grid p q =
+    (r : Position) → IsInRectangle (grid.span Columns) (grid.span Rows) p r → IsInRectangle (grid.span Columns) (grid.span Rows) q r → ⊥
 
-module _ {C : Type 0} (look : Look) (measure : C → ℕ × ℕ) (shape : ℕ × ℕ) (widths heights : List ℕ) where
+module _ {C : Type 0} (grid : Grid) (measure : C → ℕ × ℕ) (shape : ℕ × ℕ) (widths heights : List ℕ) where
   -- the cell has a place, which is at least as wide and as high as its measure with its paddings
   pub record HasRoomAtPlace (cell : Position × C) : Type 0 where
     pub place : Place
-    pub is_placed : IsPlaced look (slice_index widths) (slice_index heights) shape cell.0 (Ok place)
-    pub wide_enough : side Columns (measure cell.1) + look.before Columns cell.0 + look.after Columns cell.0 ≤ place.width
-    pub high_enough : side Rows (measure cell.1) + look.before Rows cell.0 + look.after Rows cell.0 ≤ place.height
+    pub is_placed : IsPlaced grid (slice_index widths) (slice_index heights) shape cell.0 (Ok place)
+    pub wide_enough : side Columns (measure cell.1) + grid.before Columns cell.0 + grid.after Columns cell.0 ≤ place.width
+    pub high_enough : side Rows (measure cell.1) + grid.before Rows cell.0 + grid.after Rows cell.0 ≤ place.height

@@ -12,7 +12,7 @@ use Rattle.papergrid_axis.specs.Problem.{Problem}
 use Rattle.papergrid_axis.specs.Ranges.{place_of}
 use Rattle.papergrid_least.specs.Answers.{AreLeastSizes, AreLongest, NoneFits}
 use Rattle.papergrid_walk.specs.Cells.{problem_of}
-use Rattle.papergrid_walk.specs.Looks.{Look}
+use Rattle.papergrid_walk.specs.Grids.{Grid}
 use Rattle.papergrid_layout.specs.Answers.{IsBothRefusedWhere}
 use Rattle.papergrid_layout.specs.declared.certificates.Certified.{Certified}
 
@@ -30,18 +30,18 @@ abbrev pub IsLongest : {Z : Type 0} → Problem → Option (Vec Position Z) → 
 IsLongest problem None = ⊥
 IsLongest problem (Some places) = AreLongest problem places.items
 
-module _ {C : Type 0} (look : Look) (measure : C → ℕ × ℕ) (columns : ℕ) (cells : List (List C)) where
+module _ {C : Type 0} (grid : Grid) (measure : C → ℕ × ℕ) (columns : ℕ) (cells : List (List C)) where
   -- along columns and along rows this holds of the sizes, and this of what certifies them
   pub record AreCertifiedWhere (are_sizes : Problem → List ℕ → Type 0) (is_witness : Problem → Option (Vec Position Global) → Type 0) (certified : Certified) : Type 0 where
-    pub widths : are_sizes (problem_of look measure columns cells Columns) certified.widths.items
-        × is_witness (problem_of look measure columns cells Columns) certified.width_witness
-    pub heights : are_sizes (problem_of look measure columns cells Rows) certified.heights.items
-        × is_witness (problem_of look measure columns cells Rows) certified.height_witness
+    pub widths : are_sizes (problem_of grid measure columns cells Columns) certified.widths.items
+        × is_witness (problem_of grid measure columns cells Columns) certified.width_witness
+    pub heights : are_sizes (problem_of grid measure columns cells Rows) certified.heights.items
+        × is_witness (problem_of grid measure columns cells Rows) certified.height_witness
 
   -- such sizes, or why there are none
   abbrev pub IsCertifiedWhere : (Problem → Type 0) → (Problem → List ℕ → Type 0) → (Problem → Option (Vec Position Global) → Type 0) → Result Certified LayoutError → Type 0
   IsCertifiedWhere too_large are_sizes is_witness (Ok certified) = AreCertifiedWhere are_sizes is_witness certified
-  IsCertifiedWhere too_large are_sizes is_witness (Err e) = IsBothRefusedWhere look measure columns cells too_large e
+  IsCertifiedWhere too_large are_sizes is_witness (Err e) = IsBothRefusedWhere grid measure columns cells too_large e
 
   -- exactly the sizes by shares with their witnesses, or why there are none
   abbrev pub IsCertified : Result Certified LayoutError → Type 0

@@ -20,9 +20,9 @@ pub struct Along<'a, S> {
 }
 
 impl<'a, S: Settings> Axis for Along<'a, S> {
-    ghost span_of = { λ s p. (S.look s.settings.now).span s.direction p };
+    ghost span_of = { λ s p. (S.grid s.settings.now).span s.direction p };
 
-    ghost line = { λ s i. (S.look s.settings.now).draws s.direction s.count i };
+    ghost line = { λ s i. (S.grid s.settings.now).draws s.direction s.count i };
 
     fn span(&self, position: Position) -> usize {
         self.settings.span(self.direction, position)
@@ -60,16 +60,16 @@ where
     <<R as Records>::Iter as IntoRecords>::Cell: Drop,
     requires { R.is_lawful records }
     ensures { UnlessMemory result ((cells : List (List R.Iter.Cell)) × R.tells records cells
-        × AnswersWhere T.too_large T.solves (problem_of (S.look settings.now) M.measured
+        × AnswersWhere T.too_large T.solves (problem_of (S.grid settings.now) M.measured
         (R.columns records) cells direction) result) }
 {
     let columns = records.count_columns();
-    let (seen, rows) = gather::<M, R, S>(alloc, records, settings, direction)?;
+    let (kept, rows) = gather::<M, R, S>(alloc, records, settings, direction)?;
     let count = count_of(direction, columns, rows);
     let axis = Along {
         settings,
         direction,
         count,
     };
-    T::solve(alloc, count, &seen, &axis)
+    T::solve(alloc, count, &kept, &axis)
 }

@@ -2,7 +2,7 @@
 
 ghost use Rattle.std.specs.Prelude.{◌≡◌, List, length};
 ghost use Rattle.papergrid_axis.specs.Ranges.{first_out};
-ghost use Rattle.papergrid_walk.specs.ForProofs.Pairs.{AreBothSeen};
+ghost use Rattle.papergrid_walk.specs.ForProofs.Pairs.{AreBothKept};
 ghost use Rattle.papergrid_layout.specs.Answers.{AnswersBothWhere, UnlessMemory};
 ghost use Rattle.papergrid_layout.specs.ForProofs.Earlier.{earlier, earlier_of};
 
@@ -11,7 +11,7 @@ use papergrid_axis::settled::find_out;
 use papergrid_axis::{Found, LayoutError, Solution};
 use papergrid_text::{IntoRecords, Records};
 use papergrid_values::{Direction, Position};
-use papergrid_walk::{Both, Measure, Settings, gather_both};
+use papergrid_walk::{KeptBoth, Measure, Settings, gather_both};
 use std::alloc::Global;
 
 /// Of two positions the one that is earlier by row and then by column.
@@ -34,26 +34,26 @@ fn earlier(p: Option<Position>, q: Option<Position>) -> Option<Position>
 
 /// The position of the first cell that reaches out of the table, by its range along columns or by
 /// that along rows.
-fn find_out_of_both(columns: usize, rows: usize, both: &Both) -> Option<Position>
-    ensures { result ≡ earlier (first_out columns both.now.columns.others.items) (first_out rows both.now.rows.others.items) }
+fn find_out_of_both(columns: usize, rows: usize, both: &KeptBoth) -> Option<Position>
+    ensures { result ≡ earlier (first_out columns both.now.columns.rest.items) (first_out rows both.now.rows.rest.items) }
 {
     earlier(
-        find_out(columns, &both.columns.others),
-        find_out(rows, &both.rows.others),
+        find_out(columns, &both.columns.rest),
+        find_out(rows, &both.rows.rest),
     )
 }
 
-/// What the cells come to along both directions which were seen of a table of so many columns and rows.
+/// What the kept cells of a table of so many columns and rows come to along both directions.
 fn conclude<T: Solution + Drop, M: Measure<C>, C, S: Settings>(
     alloc: Global,
     columns: usize,
     rows: usize,
-    both: &Both,
+    both: &KeptBoth,
     settings: &S,
 ) -> Found<(T, T)>
-    requires { (cells : List (List C)) × (rows ≡ length cells) × AreBothSeen (S.look settings.now) M.measured columns cells both.now }
-    ensures { (cells : List (List C)) → rows ≡ length cells → AreBothSeen (S.look settings.now) M.measured columns cells both.now →
-        AnswersBothWhere (S.look settings.now) M.measured columns cells T.too_large T.solves result }
+    requires { (cells : List (List C)) × (rows ≡ length cells) × AreBothKept (S.grid settings.now) M.measured columns cells both.now }
+    ensures { (cells : List (List C)) → rows ≡ length cells → AreBothKept (S.grid settings.now) M.measured columns cells both.now →
+        AnswersBothWhere (S.grid settings.now) M.measured columns cells T.too_large T.solves result }
 {
     if let Some(pos) = find_out_of_both(columns, rows, both) {
         return Err(LayoutError::OutOfTable(pos));
@@ -93,7 +93,7 @@ where
     <<R as Records>::Iter as IntoRecords>::Cell: Drop,
     requires { R.is_lawful records }
     ensures { UnlessMemory result ((cells : List (List R.Iter.Cell)) × R.tells records cells
-        × AnswersBothWhere (S.look settings.now) M.measured
+        × AnswersBothWhere (S.grid settings.now) M.measured
         (R.columns records) cells T.too_large T.solves result) }
 {
     let columns = records.count_columns();

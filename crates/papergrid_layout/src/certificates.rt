@@ -6,7 +6,7 @@ ghost use Rattle.papergrid_values.specs.declared.direction.Direction.TheVariants
 ghost use Rattle.papergrid_axis.specs.Answers.{Answers, IsWitness};
 ghost use Rattle.papergrid_least.specs.Answers.{IsLeastCertified};
 ghost use Rattle.papergrid_walk.specs.Cells.{problem_of};
-ghost use Rattle.papergrid_walk.specs.Looks.{spanned_look};
+ghost use Rattle.papergrid_walk.specs.Grids.{spanned_grid};
 ghost use Rattle.papergrid_walk.specs.Measures.{line_measure};
 ghost use Rattle.papergrid_layout.specs.Answers.{UnlessMemory};
 ghost use Rattle.papergrid_layout.specs.Witnesses.{IsCertified, IsCertifiedLeast, IsChecked};
@@ -42,7 +42,7 @@ where
     <<R as Records>::Iter as IntoRecords>::Cell: AsStr + Drop,
     requires { R.is_lawful records }
     ensures { UnlessMemory result ((cells : List (List R.Iter.Cell)) × R.tells records cells
-        × Answers IsWitness (problem_of (spanned_look config.now) (line_measure R.Iter.Cell.text)
+        × Answers IsWitness (problem_of (spanned_grid config.now) (line_measure R.Iter.Cell.text)
         (R.columns records) cells Columns) result) }
 {
     solve_along::<CertifiedSizes, ByLines, _, _>(alloc, records, config, Direction::Columns).map(
@@ -68,7 +68,7 @@ where
     <<R as Records>::Iter as IntoRecords>::Cell: AsStr + Drop,
     requires { R.is_lawful records }
     ensures { UnlessMemory result ((cells : List (List R.Iter.Cell)) × R.tells records cells
-        × Answers IsWitness (problem_of (spanned_look config.now) (line_measure R.Iter.Cell.text)
+        × Answers IsWitness (problem_of (spanned_grid config.now) (line_measure R.Iter.Cell.text)
         (R.columns records) cells Rows) result) }
 {
     solve_along::<CertifiedSizes, ByLines, _, _>(alloc, records, config, Direction::Rows).map(
@@ -93,7 +93,7 @@ where
     <<R as Records>::Iter as IntoRecords>::Cell: AsStr + Drop,
     requires { R.is_lawful records }
     ensures { (cells : List (List R.Iter.Cell)) × R.tells records cells
-        × IsChecked (problem_of (spanned_look config.now) (line_measure R.Iter.Cell.text)
+        × IsChecked (problem_of (spanned_grid config.now) (line_measure R.Iter.Cell.text)
         (R.columns records) cells Columns) widths.now list.now result }
 {
     check::<ByLines, R, SpannedConfig>(records, config, Direction::Columns, widths, list)
@@ -116,7 +116,7 @@ where
     <<R as Records>::Iter as IntoRecords>::Cell: AsStr + Drop,
     requires { R.is_lawful records }
     ensures { (cells : List (List R.Iter.Cell)) × R.tells records cells
-        × IsChecked (problem_of (spanned_look config.now) (line_measure R.Iter.Cell.text)
+        × IsChecked (problem_of (spanned_grid config.now) (line_measure R.Iter.Cell.text)
         (R.columns records) cells Rows) heights.now list.now result }
 {
     check::<ByLines, R, SpannedConfig>(records, config, Direction::Rows, heights, list)
@@ -141,7 +141,7 @@ where
     <<R as Records>::Iter as IntoRecords>::Cell: AsStr + Drop,
     requires { R.is_lawful records }
     ensures { UnlessMemory result ((cells : List (List R.Iter.Cell)) × R.tells records cells
-        × IsLeastCertified (problem_of (spanned_look config.now) (line_measure R.Iter.Cell.text)
+        × IsLeastCertified (problem_of (spanned_grid config.now) (line_measure R.Iter.Cell.text)
         (R.columns records) cells Columns) result) }
 {
     solve_along::<CertifiedLeast, ByLines, _, _>(alloc, records, config, Direction::Columns).map(
@@ -167,7 +167,7 @@ where
     <<R as Records>::Iter as IntoRecords>::Cell: AsStr + Drop,
     requires { R.is_lawful records }
     ensures { UnlessMemory result ((cells : List (List R.Iter.Cell)) × R.tells records cells
-        × IsLeastCertified (problem_of (spanned_look config.now) (line_measure R.Iter.Cell.text)
+        × IsLeastCertified (problem_of (spanned_grid config.now) (line_measure R.Iter.Cell.text)
         (R.columns records) cells Rows) result) }
 {
     solve_along::<CertifiedLeast, ByLines, _, _>(alloc, records, config, Direction::Rows).map(
@@ -204,7 +204,7 @@ where
     <<R as Records>::Iter as IntoRecords>::Cell: AsStr + Drop,
     requires { R.is_lawful records }
     ensures { UnlessMemory result ((cells : List (List R.Iter.Cell)) × R.tells records cells
-        × IsCertified (spanned_look config.now) (line_measure R.Iter.Cell.text)
+        × IsCertified (spanned_grid config.now) (line_measure R.Iter.Cell.text)
         (R.columns records) cells result) }
 {
     let (across, down) = solve_both::<CertifiedSizes, ByLines, _, _>(alloc, records, config)?;
@@ -234,7 +234,7 @@ where
     <<R as Records>::Iter as IntoRecords>::Cell: AsStr + Drop,
     requires { R.is_lawful records }
     ensures { UnlessMemory result ((cells : List (List R.Iter.Cell)) × R.tells records cells
-        × IsCertifiedLeast (spanned_look config.now) (line_measure R.Iter.Cell.text)
+        × IsCertifiedLeast (spanned_grid config.now) (line_measure R.Iter.Cell.text)
         (R.columns records) cells result) }
 {
     let (across, down) = solve_both::<CertifiedLeast, ByLines, _, _>(alloc, records, config)?;

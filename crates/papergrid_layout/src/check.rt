@@ -1,16 +1,16 @@
 //! The check that sizes along one direction are least, by a list of positions.
 
 ghost use Rattle.std.specs.Prelude.{◌≡◌, ◌+◌, ◌^◌, ◌<◌, ◌≤◌, ◌⊎◌, ◌∷◌, [], ⊤, List, length};
-ghost use Rattle.papergrid_axis.specs.ForProofs.Checks.{AreBounded, IsClaim};
+ghost use Rattle.papergrid_axis.specs.ForProofs.Checks.{AreBounded, IsCandidate};
 ghost use Rattle.papergrid_walk.specs.Cells.{asked_by, demands_of, problem_of};
 ghost use Rattle.papergrid_layout.specs.Witnesses.{IsChecked};
-ghost use Rattle.papergrid_layout.specs.ForProofs.Checking.{AreShown, ChecksBy, ChecksMore, IsShownClaim, check_more, check_none};
+ghost use Rattle.papergrid_layout.specs.ForProofs.Checking.{AreShown, ChecksBy, ChecksMore, IsShownCandidate, check_more, check_none};
 ghost use Rattle.std.proofs.Common.{◌∙◌, ap, refl};
 
 use crate::along::{Along, count_of};
+use papergrid_axis::candidate::{are_in_order, count_listed};
 use papergrid_axis::checked::{accepts, is_unchanged, visit, wide_need};
-use papergrid_axis::claim::{are_in_order, count_listed};
-use papergrid_axis::{Checked, Claim};
+use papergrid_axis::{Candidate, Checked};
 use papergrid_text::{IntoRecords, Records};
 use papergrid_values::{Direction, Position};
 use papergrid_walk::{Measure, Settings, Visitor, walk};
@@ -19,8 +19,8 @@ use std::marker::PhantomData;
 
 /// What the cell at a position needs along a direction, by its width (height).
 fn need_along<S: Settings>(settings: &S, direction: Direction, pos: Position, size: usize) -> u128
-    ensures sum { let look = S.look settings.now in
-        result ≡ size + look.before direction pos + look.after direction pos }
+    ensures sum { let grid = S.grid settings.now in
+        result ≡ size + grid.before direction pos + grid.after direction pos }
     ensures small { result ≤ 2 ^ 66 }
 {
     let before = settings.padding_before(direction, pos);
@@ -30,12 +30,12 @@ fn need_along<S: Settings>(settings: &S, direction: Direction, pos: Position, si
 
 /// Whether the cell at a position is visible. Where the list is in order this is known of the listed
 /// cells, and no span is looked at.
-fn is_shown<S: Settings>(settings: &S, claim: &Claim<'_>, pos: Position) -> bool
-    requires ordered { IsClaim ((S.look settings.now).span claim.now.direction) claim.now }
-    requires shown { IsShownClaim (S.look settings.now) claim.now }
-    ensures { result ≡ (S.look settings.now).shows pos }
+fn is_shown<S: Settings>(settings: &S, candidate: &Candidate<'_>, pos: Position) -> bool
+    requires ordered { IsCandidate ((S.grid settings.now).span candidate.now.direction) candidate.now }
+    requires shown { IsShownCandidate (S.grid settings.now) candidate.now }
+    ensures { result ≡ (S.grid settings.now).shows pos }
 {
-    if claim.is_ordered && count_listed(claim, pos) > 0 {
+    if candidate.is_ordered && count_listed(candidate, pos) > 0 {
         return true;
     }
     settings.is_visible(pos)
@@ -46,30 +46,30 @@ fn is_shown<S: Settings>(settings: &S, claim: &Claim<'_>, pos: Position) -> bool
 fn check_cell<M: Measure<C>, C, S: Settings>(
     checked: Checked,
     settings: &S,
-    claim: &Claim<'_>,
+    candidate: &Candidate<'_>,
     pos: Position,
     cell: &C,
 ) -> Checked
-    requires bounded { AreBounded claim.now.places.now checked }
-    requires ordered { IsClaim ((S.look settings.now).span claim.now.direction) claim.now }
-    requires shown { IsShownClaim (S.look settings.now) claim.now }
-    ensures bounded { AreBounded claim.now.places.now result }
-    ensures checks { let look = S.look settings.now in
-        ChecksMore look claim.now checked result
-        (asked_by claim.now.direction look M.measured ((pos, cell.now) ∷ [])) }
+    requires bounded { AreBounded candidate.now.places.now checked }
+    requires ordered { IsCandidate ((S.grid settings.now).span candidate.now.direction) candidate.now }
+    requires shown { IsShownCandidate (S.grid settings.now) candidate.now }
+    ensures bounded { AreBounded candidate.now.places.now result }
+    ensures checks { let grid = S.grid settings.now in
+        ChecksMore grid candidate.now checked result
+        (asked_by candidate.now.direction grid M.measured ((pos, cell.now) ∷ [])) }
 {
     let axis = Along {
         settings,
-        direction: claim.direction,
-        count: claim.sizes.len(),
+        direction: candidate.direction,
+        count: candidate.sizes.len(),
     };
-    let size = M::measure_along(claim.direction, cell);
-    let need = need_along(settings, claim.direction, pos, size);
-    let visited = visit(checked, claim, &axis, pos, need);
+    let size = M::measure_along(candidate.direction, cell);
+    let need = need_along(settings, candidate.direction, pos, size);
+    let visited = visit(checked, candidate, &axis, pos, need);
     if is_unchanged(checked, visited) {
         return checked;
     }
-    if is_shown(settings, claim, pos) {
+    if is_shown(settings, candidate, pos) {
         visited
     } else {
         checked
@@ -80,18 +80,18 @@ fn check_cell<M: Measure<C>, C, S: Settings>(
 #[derive(Drop)]
 struct Checker<'a, M, S> {
     settings: &'a S,
-    claim: &'a Claim<'a>,
+    candidate: &'a Candidate<'a>,
     checked: Checked,
     measure: PhantomData<M>,
 }
 
 impl<'a, M: Measure<C>, C, S: Settings> Visitor<C> for Checker<'a, M, S> {
-    ghost stands = { λ v row column. AreBounded v.claim.now.places.now v.checked
-        × IsClaim ((S.look v.settings.now).span v.claim.now.direction) v.claim.now
-        × IsShownClaim (S.look v.settings.now) v.claim.now };
+    ghost stands = { λ v row column. AreBounded v.candidate.now.places.now v.checked
+        × IsCandidate ((S.grid v.settings.now).span v.candidate.now.direction) v.candidate.now
+        × IsShownCandidate (S.grid v.settings.now) v.candidate.now };
 
-    ghost visits = { λ v w cells. (w.settings ≡ v.settings) × (w.claim ≡ v.claim)
-        × ChecksMore (S.look v.settings.now) v.claim.now v.checked w.checked (asked_by v.claim.now.direction (S.look v.settings.now) M.measured cells) };
+    ghost visits = { λ v w cells. (w.settings ≡ v.settings) × (w.candidate ≡ v.candidate)
+        × ChecksMore (S.grid v.settings.now) v.candidate.now v.checked w.checked (asked_by v.candidate.now.direction (S.grid v.settings.now) M.measured cells) };
 
     // It takes no memory.
     ghost may_fail = { ⊥ };
@@ -100,20 +100,20 @@ impl<'a, M: Measure<C>, C, S: Settings> Visitor<C> for Checker<'a, M, S> {
         self.checked = check_cell::<M, C, S>(
             self.checked,
             self.settings,
-            self.claim,
+            self.candidate,
             position,
             cell,
         );
         Ok(())
     }
 
-    ghost none = { λ v. (refl, refl, check_none (S.look v.settings.now) v.claim.now v.checked) };
+    ghost none = { λ v. (refl, refl, check_none (S.grid v.settings.now) v.candidate.now v.checked) };
 
     ghost more = { λ u v w cells further first second. (
       second.0 ∙ first.0,
       second.1 ∙ first.1,
-      check_more M.measured (S.look u.settings.now) (S.look v.settings.now) u.claim.now v.claim.now
-          (ap (λ s. S.look s.now) first.0) (ap (λ c. c.now) first.1) u.checked v.checked w.checked cells further first.2 second.2,
+      check_more M.measured (S.grid u.settings.now) (S.grid v.settings.now) u.candidate.now v.candidate.now
+          (ap (λ s. S.grid s.now) first.0) (ap (λ c. c.now) first.1) u.checked v.checked w.checked cells further first.2 second.2,
     ) };
 
     ghost turns = { λ v row column so_far. so_far };
@@ -123,23 +123,23 @@ impl<'a, M: Measure<C>, C, S: Settings> Visitor<C> for Checker<'a, M, S> {
 fn check_rows<M, R: Records + Drop, S: Settings>(
     records: R,
     settings: &S,
-    claim: &Claim<'_>,
+    candidate: &Candidate<'_>,
 ) -> (Checked, usize)
 where
     M: Measure<<<R as Records>::Iter as IntoRecords>::Cell>,
     <<R as Records>::Iter as IntoRecords>::Cell: Drop,
     requires lawful { R.is_lawful records }
-    requires ordered { IsClaim ((S.look settings.now).span claim.now.direction) claim.now }
-    requires shown { IsShownClaim (S.look settings.now) claim.now }
-    ensures bounded { AreBounded claim.now.places.now result.0 }
-    ensures checks { let look = S.look settings.now in
+    requires ordered { IsCandidate ((S.grid settings.now).span candidate.now.direction) candidate.now }
+    requires shown { IsShownCandidate (S.grid settings.now) candidate.now }
+    ensures bounded { AreBounded candidate.now.places.now result.0 }
+    ensures checks { let grid = S.grid settings.now in
         (cells : List (List R.Iter.Cell)) × R.tells records cells
-        × ChecksBy look claim.now result.0 (demands_of claim.now.direction look M.measured cells)
+        × ChecksBy grid candidate.now result.0 (demands_of candidate.now.direction grid M.measured cells)
         × (result.1 ≡ length cells) }
 {
     let mut checker = Checker::<M, S> {
         settings,
-        claim,
+        candidate,
         checked: Checked::new(),
         measure: PhantomData,
     };
@@ -150,30 +150,30 @@ where
 }
 
 /// The check where it is known whether the ranges at the positions are in order.
-fn check_claim<M, R: Records + Drop, S: Settings>(
+fn check_candidate<M, R: Records + Drop, S: Settings>(
     records: R,
     settings: &S,
-    claim: &Claim<'_>,
+    candidate: &Candidate<'_>,
 ) -> bool
 where
     M: Measure<<<R as Records>::Iter as IntoRecords>::Cell>,
     <<R as Records>::Iter as IntoRecords>::Cell: Drop,
     requires lawful { R.is_lawful records }
-    requires ordered { IsClaim ((S.look settings.now).span claim.now.direction) claim.now }
-    requires shown { IsShownClaim (S.look settings.now) claim.now }
+    requires ordered { IsCandidate ((S.grid settings.now).span candidate.now.direction) candidate.now }
+    requires shown { IsShownCandidate (S.grid settings.now) candidate.now }
     ensures { (cells : List (List R.Iter.Cell)) × R.tells records cells
-        × IsChecked (problem_of (S.look settings.now) M.measured
-        (R.columns records) cells claim.now.direction) claim.now.sizes.now claim.now.places.now result }
+        × IsChecked (problem_of (S.grid settings.now) M.measured
+        (R.columns records) cells candidate.now.direction) candidate.now.sizes.now candidate.now.places.now result }
 {
     let columns = records.count_columns();
     let axis = Along {
         settings,
-        direction: claim.direction,
-        count: claim.sizes.len(),
+        direction: candidate.direction,
+        count: candidate.sizes.len(),
     };
-    let (checked, rows) = check_rows::<M, R, S>(records, settings, claim);
-    let count = count_of(claim.direction, columns, rows);
-    accepts(checked, claim, &axis, count)
+    let (checked, rows) = check_rows::<M, R, S>(records, settings, candidate);
+    let count = count_of(candidate.direction, columns, rows);
+    accepts(checked, candidate, &axis, count)
 }
 
 /// The check where more positions are listed than there are sizes, since ranges that have no number
@@ -189,19 +189,19 @@ where
     M: Measure<<<R as Records>::Iter as IntoRecords>::Cell>,
     <<R as Records>::Iter as IntoRecords>::Cell: Drop,
     requires lawful { R.is_lawful records }
-    requires reason { (length sizes.now < length places.now) ⊎ (AreShown (S.look settings.now) places.now → ⊥) }
+    requires reason { (length sizes.now < length places.now) ⊎ (AreShown (S.grid settings.now) places.now → ⊥) }
     ensures { (cells : List (List R.Iter.Cell)) × R.tells records cells
-        × IsChecked (problem_of (S.look settings.now) M.measured
+        × IsChecked (problem_of (S.grid settings.now) M.measured
         (R.columns records) cells direction) sizes.now places.now result }
 {
-    let claim = Claim {
+    let candidate = Candidate {
         direction,
         sizes,
         places: &places[..0],
         is_ordered: false,
         ends_within: false,
     };
-    let _ = check_rows::<M, R, S>(records, settings, &claim);
+    let _ = check_rows::<M, R, S>(records, settings, &candidate);
     false
 }
 
@@ -221,7 +221,7 @@ where
     <<R as Records>::Iter as IntoRecords>::Cell: Drop,
     requires { R.is_lawful records }
     ensures { (cells : List (List R.Iter.Cell)) × R.tells records cells
-        × IsChecked (problem_of (S.look settings.now) M.measured
+        × IsChecked (problem_of (S.grid settings.now) M.measured
         (R.columns records) cells direction) sizes.now places.now result }
 {
     if places.len() > sizes.len() {
@@ -236,12 +236,12 @@ where
     if is_ordered && !settings.are_visible(direction, places) {
         return refuse::<M, R, S>(records, settings, direction, sizes, places);
     }
-    let claim = Claim {
+    let candidate = Candidate {
         direction,
         sizes,
         places,
         is_ordered,
         ends_within: settings.spans_end_within(direction, sizes.len()),
     };
-    check_claim::<M, R, S>(records, settings, &claim)
+    check_candidate::<M, R, S>(records, settings, &candidate)
 }

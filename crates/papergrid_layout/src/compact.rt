@@ -3,7 +3,7 @@
 
 ghost use Rattle.std.specs.Prelude.{◌≡◌, [], List};
 ghost use Rattle.papergrid_values.specs.declared.direction.Direction.TheVariants.{Columns, Rows};
-ghost use Rattle.papergrid_walk.specs.Looks.{compact_look};
+ghost use Rattle.papergrid_walk.specs.Grids.{compact_grid};
 ghost use Rattle.papergrid_walk.specs.Measures.{std_line_measure};
 ghost use Rattle.papergrid_axis.specs.Answers.{IsSized};
 ghost use Rattle.papergrid_walk.specs.Cells.{problem_of};
@@ -58,7 +58,7 @@ impl CompactGridDimension {
         <<R as Records>::Iter as IntoRecords>::Cell: AsStr + Drop,
         requires { R.is_lawful records }
         ensures { UnlessMemory result ((cells : List (List R.Iter.Cell)) × R.tells records cells
-            × IsSized (problem_of (compact_look config.now) (std_line_measure R.Iter.Cell.text)
+            × IsSized (problem_of (compact_grid config.now) (std_line_measure R.Iter.Cell.text)
             (R.columns records) cells Columns) result) }
     {
         solve_along::<Vec<usize>, ByStdLines, _, _>(alloc, records, config, Direction::Columns)
@@ -82,7 +82,7 @@ impl CompactGridDimension {
         <<R as Records>::Iter as IntoRecords>::Cell: AsStr + Drop,
         requires { R.is_lawful records }
         ensures { UnlessMemory result ((cells : List (List R.Iter.Cell)) × R.tells records cells
-            × IsSized (problem_of (compact_look config.now) (std_line_measure R.Iter.Cell.text)
+            × IsSized (problem_of (compact_grid config.now) (std_line_measure R.Iter.Cell.text)
             (R.columns records) cells Rows) result) }
     {
         solve_along::<Vec<usize>, ByStdLines, _, _>(alloc, records, config, Direction::Rows)
@@ -107,7 +107,7 @@ impl CompactGridDimension {
         <<R as Records>::Iter as IntoRecords>::Cell: AsStr + Drop,
         requires { R.is_lawful records }
         ensures { UnlessMemory result ((cells : List (List R.Iter.Cell)) × R.tells records cells
-            × AreBothSized (compact_look config.now) (std_line_measure R.Iter.Cell.text)
+            × AreBothSized (compact_grid config.now) (std_line_measure R.Iter.Cell.text)
             (R.columns records) cells result) }
     {
         solve_both::<Vec<usize>, ByStdLines, _, _>(alloc, records, config)
@@ -143,7 +143,7 @@ where
 {
     ghost use Rattle.std.specs.Prelude.{List};
     ghost use Rattle.papergrid_values.specs.declared.direction.Direction.TheVariants.{Columns};
-    ghost use Rattle.papergrid_walk.specs.Looks.{compact_look};
+    ghost use Rattle.papergrid_walk.specs.Grids.{compact_grid};
     ghost use Rattle.papergrid_walk.specs.Measures.{std_line_measure};
     ghost use Rattle.papergrid_axis.specs.Answers.{AreSizes, IsRefused};
     ghost use Rattle.papergrid_walk.specs.Cells.{problem_of};
@@ -152,12 +152,12 @@ where
     ghost accepts = { R.is_lawful };
 
     ghost is_estimate = { λ d records config. (cells : List (List R.Iter.Cell)) × R.tells records cells
-        × AreSizes (problem_of (compact_look config) (std_line_measure R.Iter.Cell.text)
+        × AreSizes (problem_of (compact_grid config) (std_line_measure R.Iter.Cell.text)
         (R.columns records) cells Columns) d.widths };
 
     ghost is_refused = { λ _ records config error. UnlessMemoryError error
         ((cells : List (List R.Iter.Cell)) × R.tells records cells
-        × IsRefused (problem_of (compact_look config) (std_line_measure R.Iter.Cell.text)
+        × IsRefused (problem_of (compact_grid config) (std_line_measure R.Iter.Cell.text)
         (R.columns records) cells Columns) error) };
 
     fn estimate(&mut self, records: R, config: &CompactConfig) -> Result<(), LayoutError> {

@@ -2,7 +2,7 @@
 
 ghost use Rattle.std.specs.Prelude.{◌≡◌, [], List};
 ghost use Rattle.papergrid_values.specs.declared.direction.Direction.TheVariants.{Columns, Rows};
-ghost use Rattle.papergrid_walk.specs.Looks.{spanned_look};
+ghost use Rattle.papergrid_walk.specs.Grids.{spanned_grid};
 ghost use Rattle.papergrid_walk.specs.Measures.{line_measure};
 ghost use Rattle.papergrid_axis.specs.Answers.{Answers, IsSized, IsTotal};
 ghost use Rattle.papergrid_walk.specs.Cells.{problem_of};
@@ -65,7 +65,7 @@ impl IterGridDimension {
         <<R as Records>::Iter as IntoRecords>::Cell: AsStr + Drop,
         requires { R.is_lawful records }
         ensures { UnlessMemory result ((cells : List (List R.Iter.Cell)) × R.tells records cells
-            × IsSized (problem_of (spanned_look config.now) (line_measure R.Iter.Cell.text)
+            × IsSized (problem_of (spanned_grid config.now) (line_measure R.Iter.Cell.text)
             (R.columns records) cells Columns) result) }
     {
         solve_along::<Vec<usize>, ByLines, _, _>(alloc, records, config, Direction::Columns)
@@ -88,7 +88,7 @@ impl IterGridDimension {
         <<R as Records>::Iter as IntoRecords>::Cell: AsStr + Drop,
         requires { R.is_lawful records }
         ensures { UnlessMemory result ((cells : List (List R.Iter.Cell)) × R.tells records cells
-            × IsSized (problem_of (spanned_look config.now) (line_measure R.Iter.Cell.text)
+            × IsSized (problem_of (spanned_grid config.now) (line_measure R.Iter.Cell.text)
             (R.columns records) cells Rows) result) }
     {
         solve_along::<Vec<usize>, ByLines, _, _>(alloc, records, config, Direction::Rows)
@@ -111,7 +111,7 @@ impl IterGridDimension {
         <<R as Records>::Iter as IntoRecords>::Cell: AsStr + Drop,
         requires { R.is_lawful records }
         ensures { UnlessMemory result ((cells : List (List R.Iter.Cell)) × R.tells records cells
-            × Answers IsTotal (problem_of (spanned_look config.now) (line_measure R.Iter.Cell.text)
+            × Answers IsTotal (problem_of (spanned_grid config.now) (line_measure R.Iter.Cell.text)
             (R.columns records) cells Columns) result) }
     {
         total_along(alloc, records, config, Direction::Columns)
@@ -134,7 +134,7 @@ impl IterGridDimension {
         <<R as Records>::Iter as IntoRecords>::Cell: AsStr + Drop,
         requires { R.is_lawful records }
         ensures { UnlessMemory result ((cells : List (List R.Iter.Cell)) × R.tells records cells
-            × Answers IsTotal (problem_of (spanned_look config.now) (line_measure R.Iter.Cell.text)
+            × Answers IsTotal (problem_of (spanned_grid config.now) (line_measure R.Iter.Cell.text)
             (R.columns records) cells Rows) result) }
     {
         total_along(alloc, records, config, Direction::Rows)
@@ -165,7 +165,7 @@ where
     <<R as Records>::Iter as IntoRecords>::Cell: AsStr + Drop,
     requires { R.is_lawful records }
     ensures { UnlessMemory result ((cells : List (List R.Iter.Cell)) × R.tells records cells
-        × Answers IsTotal (problem_of (spanned_look config.now) (line_measure R.Iter.Cell.text)
+        × Answers IsTotal (problem_of (spanned_grid config.now) (line_measure R.Iter.Cell.text)
         (R.columns records) cells direction) result) }
 {
     let sizes = solve_along::<Vec<usize>, ByLines, _, _>(alloc, records, config, direction)?;
@@ -197,19 +197,19 @@ where
     <<R as Records>::Iter as IntoRecords>::Cell: AsStr + Drop,
 {
     ghost use Rattle.std.specs.Prelude.{List};
-    ghost use Rattle.papergrid_walk.specs.Looks.{spanned_look};
+    ghost use Rattle.papergrid_walk.specs.Grids.{spanned_grid};
     ghost use Rattle.papergrid_walk.specs.Measures.{line_measure};
     ghost use Rattle.papergrid_layout.specs.Answers.{AreBothSizes, IsBothRefused, UnlessMemoryError};
 
     ghost accepts = { R.is_lawful };
 
     ghost is_estimate = { λ d records config. (cells : List (List R.Iter.Cell)) × R.tells records cells
-        × AreBothSizes (spanned_look config) (line_measure R.Iter.Cell.text)
+        × AreBothSizes (spanned_grid config) (line_measure R.Iter.Cell.text)
         (R.columns records) cells d.widths d.heights };
 
     ghost is_refused = { λ d records config error. UnlessMemoryError error
         ((cells : List (List R.Iter.Cell)) × R.tells records cells
-        × IsBothRefused (spanned_look config) (line_measure R.Iter.Cell.text)
+        × IsBothRefused (spanned_grid config) (line_measure R.Iter.Cell.text)
         (R.columns records) cells error) };
 
     fn estimate(&mut self, records: R, config: &SpannedConfig) -> Result<(), LayoutError> {

@@ -16,11 +16,11 @@ ghost use Rattle.papergrid_config.specs.Told.{IsTold};
 ghost use Rattle.papergrid_config.specs.declared.setting.Setting.{Setting};
 ghost use Rattle.papergrid_config.specs.declared.spanned.SpannedConfig.{SpannedConfig};
 ghost use Rattle.papergrid_walk.specs.Cells.{demands_of, placed, problem_of, side, visible_cells};
-ghost use Rattle.papergrid_walk.specs.Looks.{Look, spanned_look};
+ghost use Rattle.papergrid_walk.specs.Grids.{Grid, spanned_grid};
 ghost use Rattle.papergrid_walk.specs.Measures.{cell_measure, line_measure};
 ghost use Rattle.papergrid_layout.specs.Answers.{AreBothSizes, first_out_of_table};
 ghost use Rattle.papergrid_layout.specs.Laws.{AreReordered, AreSwapped, IsCellAt, IsNewText, TellTheSame, sizes_told};
-ghost use Rattle.papergrid_layout.specs.Places.{AreApart, HasRoomAtPlace, HaveNoneInCommon, IsInside, IsPlaced, StandsOver, place_at, total_along};
+ghost use Rattle.papergrid_layout.specs.Places.{DoNotMeet, HasRoomAtPlace, HaveNoneInCommon, IsInside, IsPlaced, StandsOver, place_at, total_along};
 ghost use Rattle.papergrid_layout.specs.declared.placement.PlaceError.TheVariants.{TooLarge};
 ghost use Rattle.papergrid_layout.specs.declared.compact.CompactGridDimension.{CompactGridDimension};
 ghost use Rattle.papergrid_layout.specs.declared.iterable.IterGridDimension.{IterGridDimension};
@@ -38,9 +38,9 @@ use std::convert::AsStr;
 /// `PeekableGridDimension` does it or as `IterGridDimension` does.
 pub fn equal_text_measures<S: AsStr>()
     ensures { (rows : List (List (Measured S))) → All (All (IsNewText S.text)) rows →
-        (direction : Direction) (look : Look) →
-        demands_of direction look (cell_measure ⟦<Text<S> as Cell>⟧.width ⟦<Text<S> as Cell>⟧.lines) rows
-        ≡ demands_of direction look (line_measure ⟦<Text<S> as AsStr>⟧.text) rows }
+        (direction : Direction) (grid : Grid) →
+        demands_of direction grid (cell_measure ⟦<Text<S> as Cell>⟧.width ⟦<Text<S> as Cell>⟧.lines) rows
+        ≡ demands_of direction grid (line_measure ⟦<Text<S> as AsStr>⟧.text) rows }
 {}
 
 /// The cells with their positions are those that the rows have there, by row and then by column.
@@ -55,56 +55,56 @@ pub fn order_of_spans<C>()
     ensures sizes { (settings other : List Setting) → AreSwapped settings other →
         (x y : SpannedConfig) → IsTold settings x → IsTold other y →
         (direction : Direction) (measure : C → ℕ × ℕ) (n : ℕ) (rows : List (List C)) →
-        sizes_told direction (spanned_look x) measure n rows ≡ sizes_told direction (spanned_look y) measure n rows }
+        sizes_told direction (spanned_grid x) measure n rows ≡ sizes_told direction (spanned_grid y) measure n rows }
     ensures swapped { (settings other : List Setting) → AreSwapped settings other → TellTheSame settings other }
     ensures reordered { (settings other : List Setting) → AreReordered settings other → TellTheSame settings other }
     ensures read { (settings other : List Setting) → TellTheSame settings other →
-        (x y : SpannedConfig) → IsTold settings x → IsTold other y → spanned_look x ≡ spanned_look y }
+        (x y : SpannedConfig) → IsTold settings x → IsTold other y → spanned_grid x ≡ spanned_grid y }
 {}
 
 /// What lent cells ask for is what the cells held ask for, whether each is measured through the loan
 /// or taken through it first; lent texts as `Text::new` keeps them are measured alike in both ways.
 pub fn lent_cells<C, D, S: AsStr>()
-    ensures lent { (lend : C → D) (measure : D → ℕ × ℕ) (rows : List (List C)) (direction : Direction) (look : Look) →
-        demands_of direction look (λ cell. measure (lend cell)) rows
-        ≡ demands_of direction look measure (map (map lend) rows) }
+    ensures lent { (lend : C → D) (measure : D → ℕ × ℕ) (rows : List (List C)) (direction : Direction) (grid : Grid) →
+        demands_of direction grid (λ cell. measure (lend cell)) rows
+        ≡ demands_of direction grid measure (map (map lend) rows) }
     ensures texts { (rows : List (List (Bor (Measured S)))) → All (All (λ t. IsNewText S.text t.now)) rows →
-        (direction : Direction) (look : Look) →
-        demands_of direction look (cell_measure ⟦<&'static Text<S> as Cell>⟧.width ⟦<&'static Text<S> as Cell>⟧.lines) rows
-        ≡ demands_of direction look (line_measure ⟦<&'static Text<S> as AsStr>⟧.text) rows }
+        (direction : Direction) (grid : Grid) →
+        demands_of direction grid (cell_measure ⟦<&'static Text<S> as Cell>⟧.width ⟦<&'static Text<S> as Cell>⟧.lines) rows
+        ≡ demands_of direction grid (line_measure ⟦<&'static Text<S> as AsStr>⟧.text) rows }
 {}
 
 /// No visible cell reaches out along columns, and none along rows, exactly where there is no first
 /// one that does.
 pub fn none_reaches_out<C>()
-    ensures { (look : Look) (measure : C → ℕ × ℕ) (columns : ℕ) (rows : List (List C)) →
-        (first_out_of_table look measure columns rows ≡ None)
-        ↔ ((first_out columns (demands_of Columns look measure rows) ≡ None)
-        × (first_out (length rows) (demands_of Rows look measure rows) ≡ None)) }
+    ensures { (grid : Grid) (measure : C → ℕ × ℕ) (columns : ℕ) (rows : List (List C)) →
+        (first_out_of_table grid measure columns rows ≡ None)
+        ↔ ((first_out columns (demands_of Columns grid measure rows) ≡ None)
+        × (first_out (length rows) (demands_of Rows grid measure rows) ≡ None)) }
 {}
 
 /// No visible cell needs more than the total with its lines: none is wider, or higher, than the table.
 pub fn total_covers_cells<C>()
-    ensures { (look : Look) (measure : C → ℕ × ℕ) (columns : ℕ) (rows : List (List C)) (direction : Direction) (total : ℕ) →
-        IsTotal (problem_of look measure columns rows direction) total →
-        All (λ cell. side direction (measure cell.1) + look.before direction cell.0 + look.after direction cell.0 ≤ total)
-        (visible_cells look rows) }
+    ensures { (grid : Grid) (measure : C → ℕ × ℕ) (columns : ℕ) (rows : List (List C)) (direction : Direction) (total : ℕ) →
+        IsTotal (problem_of grid measure columns rows direction) total →
+        All (λ cell. side direction (measure cell.1) + grid.before direction cell.0 + grid.after direction cell.0 ≤ total)
+        (visible_cells grid rows) }
 {}
 
 /// Where each span is at least 1, as those of a configuration are, the least sizes along a direction are
 /// those by shares wherever these are least, and so where ranges are kept apart. What certifies least sizes is
 /// a certificate that the checkers accept.
 pub fn least_as_by_shares<C>()
-    ensures same { (look : Look) (measure : C → ℕ × ℕ) (columns : ℕ) (rows : List (List C)) (direction : Direction) →
-        ((p : Position) → 1 ≤ look.span direction p) → (sizes least : List ℕ) →
-        AreSizes (problem_of look measure columns rows direction) sizes →
-        AreLeastSizes (problem_of look measure columns rows direction) least →
-        IsLeast (problem_of look measure columns rows direction) sizes → least ≡ sizes }
-    ensures kept_apart { (look : Look) (measure : C → ℕ × ℕ) (columns : ℕ) (rows : List (List C)) (direction : Direction) →
-        ((p : Position) → 1 ≤ look.span direction p) → (sizes least : List ℕ) →
-        AreSizes (problem_of look measure columns rows direction) sizes →
-        AreLeastSizes (problem_of look measure columns rows direction) least →
-        IsKeptApart (demands_of direction look measure rows) → least ≡ sizes }
+    ensures same { (grid : Grid) (measure : C → ℕ × ℕ) (columns : ℕ) (rows : List (List C)) (direction : Direction) →
+        ((p : Position) → 1 ≤ grid.span direction p) → (sizes least : List ℕ) →
+        AreSizes (problem_of grid measure columns rows direction) sizes →
+        AreLeastSizes (problem_of grid measure columns rows direction) least →
+        IsLeast (problem_of grid measure columns rows direction) sizes → least ≡ sizes }
+    ensures kept_apart { (grid : Grid) (measure : C → ℕ × ℕ) (columns : ℕ) (rows : List (List C)) (direction : Direction) →
+        ((p : Position) → 1 ≤ grid.span direction p) → (sizes least : List ℕ) →
+        AreSizes (problem_of grid measure columns rows direction) sizes →
+        AreLeastSizes (problem_of grid measure columns rows direction) least →
+        IsKeptApart (demands_of direction grid measure rows) → least ≡ sizes }
     ensures accepted { (problem : Problem) (sizes : List ℕ) (places : List Position) →
         AreLeastSizes problem sizes → AreLongest problem places → IsAccepted problem sizes places }
 {}
@@ -119,32 +119,32 @@ pub fn equal_clones()
 
 /// The places of two cells of one table whose rectangles have no position in common do not meet.
 pub fn places_apart()
-    ensures { (look : Look) (widths heights : ℕ → ℕ) (shape : ℕ × ℕ) (p q : Position) →
-        HaveNoneInCommon look p q → AreApart (place_at look widths heights shape p) (place_at look widths heights shape q) }
+    ensures { (grid : Grid) (widths heights : ℕ → ℕ) (shape : ℕ × ℕ) (p q : Position) →
+        HaveNoneInCommon grid p q → DoNotMeet (place_at grid widths heights shape p) (place_at grid widths heights shape q) }
 {}
 
 /// A point stands under one cell alone where that cell shares no position with any other one that lies in
 /// the table.
 pub fn points_in_one_cell()
-    ensures { (look : Look) (widths heights : ℕ → ℕ) (shape : ℕ × ℕ) (x y : ℕ) (p : Position) → StandsOver look widths heights shape x y p →
-        ((q : Position) → IsInside look widths heights shape q → q ≢ p → HaveNoneInCommon look p q) →
-        (q : Position) → StandsOver look widths heights shape x y q → q ≡ p }
+    ensures { (grid : Grid) (widths heights : ℕ → ℕ) (shape : ℕ × ℕ) (x y : ℕ) (p : Position) → StandsOver grid widths heights shape x y p →
+        ((q : Position) → IsInside grid widths heights shape q → q ≢ p → HaveNoneInCommon grid p q) →
+        (q : Position) → StandsOver grid widths heights shape x y q → q ≡ p }
 {}
 
 /// With the sizes that records have, each visible cell has a place, and room in it, and none is refused
 /// as too large. The totals fit, and are those of the records' table.
 pub fn places_have_room<C>()
-    ensures room { (look : Look) (measure : C → ℕ × ℕ) (columns : ℕ) (rows : List (List C)) (widths heights : List ℕ) →
-        AreBothSizes look measure columns rows widths heights →
-        All (HasRoomAtPlace look measure (length rows, columns) widths heights) (visible_cells look rows) }
-    ensures never_too_large { (look : Look) (measure : C → ℕ × ℕ) (columns : ℕ) (rows : List (List C)) (widths heights : List ℕ) →
-        AreBothSizes look measure columns rows widths heights → (p : Position) →
-        IsPlaced look (slice_index widths) (slice_index heights) (length rows, columns) p (Err TooLarge) → ⊥ }
-    ensures fit { (look : Look) (measure : C → ℕ × ℕ) (columns : ℕ) (rows : List (List C)) (widths heights : List ℕ) →
-        AreBothSizes look measure columns rows widths heights → (direction : Direction) →
-        total_along look (slice_index widths) (slice_index heights) (length rows, columns) direction < 2 ^ 64 }
-    ensures totals { (look : Look) (measure : C → ℕ × ℕ) (columns : ℕ) (rows : List (List C)) (widths heights : List ℕ) →
-        AreBothSizes look measure columns rows widths heights → (direction : Direction) (total : ℕ) →
-        IsTotal (problem_of look measure columns rows direction) total
-        ↔ (total ≡ total_along look (slice_index widths) (slice_index heights) (length rows, columns) direction) }
+    ensures room { (grid : Grid) (measure : C → ℕ × ℕ) (columns : ℕ) (rows : List (List C)) (widths heights : List ℕ) →
+        AreBothSizes grid measure columns rows widths heights →
+        All (HasRoomAtPlace grid measure (length rows, columns) widths heights) (visible_cells grid rows) }
+    ensures never_too_large { (grid : Grid) (measure : C → ℕ × ℕ) (columns : ℕ) (rows : List (List C)) (widths heights : List ℕ) →
+        AreBothSizes grid measure columns rows widths heights → (p : Position) →
+        IsPlaced grid (slice_index widths) (slice_index heights) (length rows, columns) p (Err TooLarge) → ⊥ }
+    ensures fit { (grid : Grid) (measure : C → ℕ × ℕ) (columns : ℕ) (rows : List (List C)) (widths heights : List ℕ) →
+        AreBothSizes grid measure columns rows widths heights → (direction : Direction) →
+        total_along grid (slice_index widths) (slice_index heights) (length rows, columns) direction < 2 ^ 64 }
+    ensures totals { (grid : Grid) (measure : C → ℕ × ℕ) (columns : ℕ) (rows : List (List C)) (widths heights : List ℕ) →
+        AreBothSizes grid measure columns rows widths heights → (direction : Direction) (total : ℕ) →
+        IsTotal (problem_of grid measure columns rows direction) total
+        ↔ (total ≡ total_along grid (slice_index widths) (slice_index heights) (length rows, columns) direction) }
 {}

@@ -2,7 +2,7 @@
 
 ghost use Rattle.std.specs.Prelude.{◌≡◌, [], List};
 ghost use Rattle.papergrid_values.specs.declared.direction.Direction.TheVariants.{Columns, Rows};
-ghost use Rattle.papergrid_walk.specs.Looks.{spanned_look};
+ghost use Rattle.papergrid_walk.specs.Grids.{spanned_grid};
 ghost use Rattle.papergrid_walk.specs.Measures.{line_measure};
 ghost use Rattle.papergrid_least.specs.Answers.{IsLeastSized, IsLeastTotal, LeastAnswers};
 ghost use Rattle.papergrid_walk.specs.Cells.{problem_of};
@@ -66,7 +66,7 @@ impl LeastGridDimension {
         <<R as Records>::Iter as IntoRecords>::Cell: AsStr + Drop,
         requires { R.is_lawful records }
         ensures { UnlessMemory result ((cells : List (List R.Iter.Cell)) × R.tells records cells
-            × IsLeastSized (problem_of (spanned_look config.now) (line_measure R.Iter.Cell.text)
+            × IsLeastSized (problem_of (spanned_grid config.now) (line_measure R.Iter.Cell.text)
             (R.columns records) cells Columns) result) }
     {
         sizes_along(alloc, records, config, Direction::Columns)
@@ -90,7 +90,7 @@ impl LeastGridDimension {
         <<R as Records>::Iter as IntoRecords>::Cell: AsStr + Drop,
         requires { R.is_lawful records }
         ensures { UnlessMemory result ((cells : List (List R.Iter.Cell)) × R.tells records cells
-            × IsLeastSized (problem_of (spanned_look config.now) (line_measure R.Iter.Cell.text)
+            × IsLeastSized (problem_of (spanned_grid config.now) (line_measure R.Iter.Cell.text)
             (R.columns records) cells Rows) result) }
     {
         sizes_along(alloc, records, config, Direction::Rows)
@@ -113,7 +113,7 @@ impl LeastGridDimension {
         <<R as Records>::Iter as IntoRecords>::Cell: AsStr + Drop,
         requires { R.is_lawful records }
         ensures { UnlessMemory result ((cells : List (List R.Iter.Cell)) × R.tells records cells
-            × LeastAnswers IsLeastTotal (problem_of (spanned_look config.now) (line_measure R.Iter.Cell.text)
+            × LeastAnswers IsLeastTotal (problem_of (spanned_grid config.now) (line_measure R.Iter.Cell.text)
             (R.columns records) cells Columns) result) }
     {
         total_along(alloc, records, config, Direction::Columns)
@@ -136,7 +136,7 @@ impl LeastGridDimension {
         <<R as Records>::Iter as IntoRecords>::Cell: AsStr + Drop,
         requires { R.is_lawful records }
         ensures { UnlessMemory result ((cells : List (List R.Iter.Cell)) × R.tells records cells
-            × LeastAnswers IsLeastTotal (problem_of (spanned_look config.now) (line_measure R.Iter.Cell.text)
+            × LeastAnswers IsLeastTotal (problem_of (spanned_grid config.now) (line_measure R.Iter.Cell.text)
             (R.columns records) cells Rows) result) }
     {
         total_along(alloc, records, config, Direction::Rows)
@@ -167,7 +167,7 @@ where
     <<R as Records>::Iter as IntoRecords>::Cell: AsStr + Drop,
     requires { R.is_lawful records }
     ensures { UnlessMemory result ((cells : List (List R.Iter.Cell)) × R.tells records cells
-        × IsLeastSized (problem_of (spanned_look config.now) (line_measure R.Iter.Cell.text)
+        × IsLeastSized (problem_of (spanned_grid config.now) (line_measure R.Iter.Cell.text)
         (R.columns records) cells direction) result) }
 {
     solve_along::<LeastSizes, ByLines, _, _>(alloc, records, config, direction).map(
@@ -186,7 +186,7 @@ where
     <<R as Records>::Iter as IntoRecords>::Cell: AsStr + Drop,
     requires { R.is_lawful records }
     ensures { UnlessMemory result ((cells : List (List R.Iter.Cell)) × R.tells records cells
-        × LeastAnswers IsLeastTotal (problem_of (spanned_look config.now) (line_measure R.Iter.Cell.text)
+        × LeastAnswers IsLeastTotal (problem_of (spanned_grid config.now) (line_measure R.Iter.Cell.text)
         (R.columns records) cells direction) result) }
 {
     let sizes = sizes_along(alloc, records, config, direction)?;
@@ -218,19 +218,19 @@ where
     <<R as Records>::Iter as IntoRecords>::Cell: AsStr + Drop,
 {
     ghost use Rattle.std.specs.Prelude.{List};
-    ghost use Rattle.papergrid_walk.specs.Looks.{spanned_look};
+    ghost use Rattle.papergrid_walk.specs.Grids.{spanned_grid};
     ghost use Rattle.papergrid_walk.specs.Measures.{line_measure};
     ghost use Rattle.papergrid_layout.specs.Answers.{AreBothLeast, HaveNoLeast, UnlessMemoryError};
 
     ghost accepts = { R.is_lawful };
 
     ghost is_estimate = { λ d records config. (cells : List (List R.Iter.Cell)) × R.tells records cells
-        × AreBothLeast (spanned_look config) (line_measure R.Iter.Cell.text)
+        × AreBothLeast (spanned_grid config) (line_measure R.Iter.Cell.text)
         (R.columns records) cells d.widths d.heights };
 
     ghost is_refused = { λ d records config error. UnlessMemoryError error
         ((cells : List (List R.Iter.Cell)) × R.tells records cells
-        × HaveNoLeast (spanned_look config) (line_measure R.Iter.Cell.text)
+        × HaveNoLeast (spanned_grid config) (line_measure R.Iter.Cell.text)
         (R.columns records) cells error) };
 
     fn estimate(&mut self, records: R, config: &SpannedConfig) -> Result<(), LayoutError> {

@@ -2,7 +2,7 @@
 
 ghost use Rattle.std.specs.Prelude.{◌≡◌, [], List, length};
 ghost use Rattle.papergrid_values.specs.declared.direction.Direction.TheVariants.{Columns, Rows};
-ghost use Rattle.papergrid_walk.specs.Looks.{spanned_look};
+ghost use Rattle.papergrid_walk.specs.Grids.{spanned_grid};
 ghost use Rattle.papergrid_walk.specs.Measures.{cell_measure};
 ghost use Rattle.papergrid_axis.specs.Answers.{IsSized};
 ghost use Rattle.papergrid_walk.specs.Cells.{problem_of};
@@ -59,7 +59,7 @@ impl PeekableGridDimension {
         <<R as Records>::Iter as IntoRecords>::Cell: Cell + Drop,
         requires { R.is_lawful records }
         ensures { UnlessMemory result ((cells : List (List R.Iter.Cell)) × R.tells records cells
-            × IsSized (problem_of (spanned_look config.now)
+            × IsSized (problem_of (spanned_grid config.now)
             (cell_measure R.Iter.Cell.width R.Iter.Cell.lines) (R.columns records) cells Columns) result) }
     {
         solve_along::<Vec<usize>, ByCell, _, _>(alloc, records, config, Direction::Columns)
@@ -82,7 +82,7 @@ impl PeekableGridDimension {
         <<R as Records>::Iter as IntoRecords>::Cell: Cell + Drop,
         requires { R.is_lawful records }
         ensures { UnlessMemory result ((cells : List (List R.Iter.Cell)) × R.tells records cells
-            × IsSized (problem_of (spanned_look config.now)
+            × IsSized (problem_of (spanned_grid config.now)
             (cell_measure R.Iter.Cell.width R.Iter.Cell.lines) (R.columns records) cells Rows) result) }
     {
         solve_along::<Vec<usize>, ByCell, _, _>(alloc, records, config, Direction::Rows)
@@ -108,7 +108,7 @@ impl PeekableGridDimension {
         <<R as Records>::Iter as IntoRecords>::Cell: Cell + Drop,
         requires { R.is_lawful records }
         ensures { UnlessMemory result ((cells : List (List R.Iter.Cell)) × R.tells records cells
-            × AreBothSized (spanned_look config.now)
+            × AreBothSized (spanned_grid config.now)
             (cell_measure R.Iter.Cell.width R.Iter.Cell.lines) (R.columns records) cells result) }
     {
         solve_both::<Vec<usize>, ByCell, _, _>(alloc, records, config)
@@ -153,19 +153,19 @@ where
     <<R as Records>::Iter as IntoRecords>::Cell: Cell + Drop,
 {
     ghost use Rattle.std.specs.Prelude.{List};
-    ghost use Rattle.papergrid_walk.specs.Looks.{spanned_look};
+    ghost use Rattle.papergrid_walk.specs.Grids.{spanned_grid};
     ghost use Rattle.papergrid_walk.specs.Measures.{cell_measure};
     ghost use Rattle.papergrid_layout.specs.Answers.{AreBothSizes, IsBothRefused, UnlessMemoryError};
 
     ghost accepts = { R.is_lawful };
 
     ghost is_estimate = { λ d records config. (cells : List (List R.Iter.Cell)) × R.tells records cells
-        × AreBothSizes (spanned_look config) (cell_measure R.Iter.Cell.width R.Iter.Cell.lines)
+        × AreBothSizes (spanned_grid config) (cell_measure R.Iter.Cell.width R.Iter.Cell.lines)
         (R.columns records) cells d.widths d.heights };
 
     ghost is_refused = { λ d records config error. UnlessMemoryError error
         ((cells : List (List R.Iter.Cell)) × R.tells records cells
-        × IsBothRefused (spanned_look config) (cell_measure R.Iter.Cell.width R.Iter.Cell.lines)
+        × IsBothRefused (spanned_grid config) (cell_measure R.Iter.Cell.width R.Iter.Cell.lines)
         (R.columns records) cells error) };
 
     fn estimate(&mut self, records: R, config: &SpannedConfig) -> Result<(), LayoutError> {

@@ -2,7 +2,7 @@
 
 ghost use Rattle.std.specs.Prelude.{◌≡◌, ◌+◌, ◌<◌, ◌≤◌, ℕ, IfOk};
 ghost use Rattle.papergrid_values.specs.declared.direction.Direction.TheVariants.{Columns, Rows};
-ghost use Rattle.papergrid_walk.specs.Looks.{spanned_look};
+ghost use Rattle.papergrid_walk.specs.Grids.{spanned_grid};
 ghost use Rattle.papergrid_layout.specs.Places.{IsPlaced, total_along};
 
 use crate::dimension::Dimension;
@@ -30,8 +30,8 @@ pub fn place<D: Dimension>(
 ) -> Result<Place, PlaceError>
     requires columns { (column : ℕ) → column < shape.1 → D.has_column dim.now column }
     requires rows { (row : ℕ) → row < shape.0 → D.has_row dim.now row }
-    ensures exact { IsPlaced (spanned_look cfg.now) (D.width_of dim.now) (D.height_of dim.now) shape pos result }
-    ensures within { let total = total_along (spanned_look cfg.now) (D.width_of dim.now) (D.height_of dim.now) shape in
+    ensures exact { IsPlaced (spanned_grid cfg.now) (D.width_of dim.now) (D.height_of dim.now) shape pos result }
+    ensures within { let total = total_along (spanned_grid cfg.now) (D.width_of dim.now) (D.height_of dim.now) shape in
         IfOk result (λ place. (place.left + place.width ≤ total Columns) × (place.top + place.height ≤ total Rows)) }
 {
     let (rows, columns) = shape;

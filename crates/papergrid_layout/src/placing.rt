@@ -3,7 +3,7 @@
 ghost use Rattle.std.specs.Prelude.{◌≡◌, ◌+◌, ◌-◌, ◌<◌, ◌≤◌, ◌^◌, ℕ, IfErr, IfOk};
 ghost use Rattle.std.specs.Option.{SomeIff};
 ghost use Rattle.papergrid_values.specs.declared.direction.Direction.{Direction};
-ghost use Rattle.papergrid_walk.specs.Looks.{spanned_look};
+ghost use Rattle.papergrid_walk.specs.Grids.{spanned_grid};
 ghost use Rattle.papergrid_walk.specs.ForProofs.Shown.{anchor_in};
 ghost use Rattle.papergrid_layout.specs.Places.{ArePlacesRefused, HaveAllPlaces, place_at, total_along};
 ghost use Rattle.papergrid_layout.specs.ForProofs.Placing.{AreMarked, HasPlaced, Table, table_of};
@@ -41,8 +41,8 @@ impl Placing {
     ) -> Result<Placing, AllocError>
         requires columns { (column : ℕ) → column < shape.1 → D.has_column dim.now column }
         requires rows { (row : ℕ) → row < shape.0 → D.has_row dim.now row }
-        requires fit { (direction : Direction) → total_along (spanned_look cfg.now) (D.width_of dim.now) (D.height_of dim.now) shape direction < 2 ^ 64 }
-        ensures { IfOk result (HasPlaced (table_of (spanned_look cfg.now) (D.width_of dim.now) (D.height_of dim.now) shape) 0 0) }
+        requires fit { (direction : Direction) → total_along (spanned_grid cfg.now) (D.width_of dim.now) (D.height_of dim.now) shape direction < 2 ^ 64 }
+        ensures { IfOk result (HasPlaced (table_of (spanned_grid cfg.now) (D.width_of dim.now) (D.height_of dim.now) shape) 0 0) }
     {
         let (rows, columns) = shape;
         let across = Ruler::new(dim, cfg, Direction::Columns, columns);
@@ -59,9 +59,9 @@ impl Placing {
     fn place_of(&self, anchor: Anchor) -> Option<Place>
         requires spans { (1 ≤ anchor.cols) × (1 ≤ anchor.rows) }
         requires marked { (table : Table) × AreMarked table self.now.across self.now.down }
-        ensures { (table : Table) → AreMarked table self.now.across self.now.down → anchor ≡ anchor_in table.look anchor.position →
+        ensures { (table : Table) → AreMarked table self.now.across self.now.down → anchor ≡ anchor_in table.grid anchor.position →
             SomeIff result ((anchor.position.col + anchor.cols ≤ table.shape.1) × (anchor.position.row + anchor.rows ≤ table.shape.0))
-            (place_at table.look table.widths table.heights table.shape anchor.position) }
+            (place_at table.grid table.widths table.heights table.shape anchor.position) }
     {
         let (left, width) = self.across.part(anchor.position.col, anchor.cols)?;
         let (top, height) = self.down.part(anchor.position.row, anchor.rows)?;
@@ -81,7 +81,7 @@ impl Placing {
         ensures ok { IfOk result (λ _. (table : Table) → HasPlaced table pos.row pos.col self.old →
             HasPlaced table pos.row (pos.col + 1) self.new) }
         ensures err { IfErr result (λ error. (table : Table) → pos.row < table.shape.0 → pos.col < table.shape.1 →
-            HasPlaced table pos.row pos.col self.old → ArePlacesRefused table.look table.widths table.heights table.shape error) }
+            HasPlaced table pos.row pos.col self.old → ArePlacesRefused table.grid table.widths table.heights table.shape error) }
     {
         let Some(anchor) = visible_anchor(&mut self.sweep, alloc, pos)? else {
             return Ok(());
@@ -102,7 +102,7 @@ impl Placing {
         ensures ok { IfOk result (λ _. (table : Table) → columns ≡ table.shape.1 → HasPlaced table row 0 self.old →
             HasPlaced table (row + 1) 0 self.new) }
         ensures err { IfErr result (λ error. (table : Table) → row < table.shape.0 → columns ≡ table.shape.1 →
-            HasPlaced table row 0 self.old → ArePlacesRefused table.look table.widths table.heights table.shape error) }
+            HasPlaced table row 0 self.old → ArePlacesRefused table.grid table.widths table.heights table.shape error) }
     {
         for col in 0..columns {
             self.visit(alloc, Position { row, col })?;
@@ -114,9 +114,9 @@ impl Placing {
     fn visit_rows(&mut self, alloc: Global, shape: (usize, usize)) -> Result<(), LayoutError>
         requires placed { (table : Table) × (shape ≡ table.shape) × HasPlaced table 0 0 self.old }
         ensures ok { IfOk result (λ _. (table : Table) → shape ≡ table.shape → HasPlaced table 0 0 self.old →
-            HaveAllPlaces table.look table.widths table.heights table.shape self.new.places.items) }
+            HaveAllPlaces table.grid table.widths table.heights table.shape self.new.places.items) }
         ensures err { IfErr result (λ error. (table : Table) → shape ≡ table.shape → HasPlaced table 0 0 self.old →
-            ArePlacesRefused table.look table.widths table.heights table.shape error) }
+            ArePlacesRefused table.grid table.widths table.heights table.shape error) }
     {
         let (rows, columns) = shape;
         for row in 0..rows {
@@ -144,8 +144,8 @@ pub fn places<D: Dimension>(
 ) -> Result<Vec<(Position, Place)>, LayoutError>
     requires columns { (column : ℕ) → column < shape.1 → D.has_column dim.now column }
     requires rows { (row : ℕ) → row < shape.0 → D.has_row dim.now row }
-    ensures ok { IfOk result (λ places. HaveAllPlaces (spanned_look cfg.now) (D.width_of dim.now) (D.height_of dim.now) shape places.items) }
-    ensures err { IfErr result (ArePlacesRefused (spanned_look cfg.now) (D.width_of dim.now) (D.height_of dim.now) shape) }
+    ensures ok { IfOk result (λ places. HaveAllPlaces (spanned_grid cfg.now) (D.width_of dim.now) (D.height_of dim.now) shape places.items) }
+    ensures err { IfErr result (ArePlacesRefused (spanned_grid cfg.now) (D.width_of dim.now) (D.height_of dim.now) shape) }
 {
     let (rows, columns) = shape;
     if rows == 0 || columns == 0 {

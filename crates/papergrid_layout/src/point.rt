@@ -2,7 +2,7 @@
 
 ghost use Rattle.std.specs.Prelude.{◌≡◌, ◌<◌, ◌≤◌, ◌↔◌, ℕ, IsTrue, MatchOption};
 ghost use Rattle.papergrid_values.specs.declared.position.Position.{Position};
-ghost use Rattle.papergrid_walk.specs.Looks.{spanned_look};
+ghost use Rattle.papergrid_walk.specs.Grids.{spanned_grid};
 ghost use Rattle.papergrid_layout.specs.Places.{IsFirstOver, StandsOver};
 ghost use Rattle.papergrid_layout.specs.ForProofs.Points.{LiesInEach};
 
@@ -32,9 +32,9 @@ impl<'a, D: Dimension> Point<'a, D> {
         requires columns { (column : ℕ) → column < self.now.shape.1 → D.has_column self.now.dim.now column }
         requires rows { (row : ℕ) → row < self.now.shape.0 → D.has_row self.now.dim.now row }
         requires before { (pos.row ≤ self.now.within.row) × (pos.col ≤ self.now.within.col) }
-        requires reach { LiesInEach (spanned_look self.now.cfg.now) (D.width_of self.now.dim.now) (D.height_of self.now.dim.now)
+        requires reach { LiesInEach (spanned_grid self.now.cfg.now) (D.width_of self.now.dim.now) (D.height_of self.now.dim.now)
             self.now.shape self.now.column self.now.line self.now.within }
-        ensures { IsTrue result ↔ StandsOver (spanned_look self.now.cfg.now) (D.width_of self.now.dim.now) (D.height_of self.now.dim.now)
+        ensures { IsTrue result ↔ StandsOver (spanned_grid self.now.cfg.now) (D.width_of self.now.dim.now) (D.height_of self.now.dim.now)
             self.now.shape self.now.column self.now.line pos }
     {
         if self.within.col - pos.col >= self.cfg.span(Direction::Columns, pos) {
@@ -54,9 +54,9 @@ impl<'a, D: Dimension> Point<'a, D> {
         requires columns { (column : ℕ) → column < self.now.shape.1 → D.has_column self.now.dim.now column }
         requires rows { (row : ℕ) → row < self.now.shape.0 → D.has_row self.now.dim.now row }
         requires before { row ≤ self.now.within.row }
-        requires reach { LiesInEach (spanned_look self.now.cfg.now) (D.width_of self.now.dim.now) (D.height_of self.now.dim.now)
+        requires reach { LiesInEach (spanned_grid self.now.cfg.now) (D.width_of self.now.dim.now) (D.height_of self.now.dim.now)
             self.now.shape self.now.column self.now.line self.now.within }
-        ensures { let IsUnder = StandsOver (spanned_look self.now.cfg.now) (D.width_of self.now.dim.now) (D.height_of self.now.dim.now)
+        ensures { let IsUnder = StandsOver (spanned_grid self.now.cfg.now) (D.width_of self.now.dim.now) (D.height_of self.now.dim.now)
             self.now.shape self.now.column self.now.line in
             MatchOption result ((q : Position) → q.row ≡ row → IsUnder q → ⊥)
             (λ p. (p.row ≡ row) × IsUnder p × ((q : Position) → q.row ≡ row → q.col < p.col → IsUnder q → ⊥)) }
@@ -74,9 +74,9 @@ impl<'a, D: Dimension> Point<'a, D> {
     fn first(&self) -> Option<Position>
         requires columns { (column : ℕ) → column < self.now.shape.1 → D.has_column self.now.dim.now column }
         requires rows { (row : ℕ) → row < self.now.shape.0 → D.has_row self.now.dim.now row }
-        requires reach { LiesInEach (spanned_look self.now.cfg.now) (D.width_of self.now.dim.now) (D.height_of self.now.dim.now)
+        requires reach { LiesInEach (spanned_grid self.now.cfg.now) (D.width_of self.now.dim.now) (D.height_of self.now.dim.now)
             self.now.shape self.now.column self.now.line self.now.within }
-        ensures { IsFirstOver (spanned_look self.now.cfg.now) (D.width_of self.now.dim.now) (D.height_of self.now.dim.now)
+        ensures { IsFirstOver (spanned_grid self.now.cfg.now) (D.width_of self.now.dim.now) (D.height_of self.now.dim.now)
             self.now.shape self.now.column self.now.line result }
     {
         for row in 0..=self.within.row {
@@ -105,7 +105,7 @@ pub fn cell_at<D: Dimension>(
 ) -> Option<Position>
     requires columns { (column : ℕ) → column < shape.1 → D.has_column dim.now column }
     requires rows { (row : ℕ) → row < shape.0 → D.has_row dim.now row }
-    ensures { IsFirstOver (spanned_look cfg.now) (D.width_of dim.now) (D.height_of dim.now) shape column line result }
+    ensures { IsFirstOver (spanned_grid cfg.now) (D.width_of dim.now) (D.height_of dim.now) shape column line result }
 {
     let (rows, columns) = shape;
     let across = Ruler::new(dim, cfg, Direction::Columns, columns);

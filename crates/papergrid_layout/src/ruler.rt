@@ -49,7 +49,7 @@ impl<'a, D: Dimension, S: Settings> Ruler<'a, D, S> {
 
     /// What the line at `i` takes: 1 where it is drawn.
     fn line(&self, i: usize) -> usize
-        ensures { result ≡ cond ((S.look self.now.settings.now).draws self.now.direction self.now.count i) 1 0 }
+        ensures { result ≡ cond ((S.grid self.now.settings.now).draws self.now.direction self.now.count i) 1 0 }
     {
         if self.settings.has_line(self.direction, self.count, i) {
             1
@@ -64,9 +64,9 @@ impl<'a, D: Dimension, S: Settings> Ruler<'a, D, S> {
         requires sizes { (i : ℕ) → i < end →
             has_along (D.has_column self.now.dim.now) (D.has_row self.now.dim.now) self.now.direction i }
         requires from { let size = size_along (D.width_of self.now.dim.now) (D.height_of self.now.dim.now) self.now.direction in
-            from ≡ offset size ((S.look self.now.settings.now).draws self.now.direction self.now.count) start }
+            from ≡ offset size ((S.grid self.now.settings.now).draws self.now.direction self.now.count) start }
         ensures { let size = size_along (D.width_of self.now.dim.now) (D.height_of self.now.dim.now) self.now.direction in
-            let found = offset size ((S.look self.now.settings.now).draws self.now.direction self.now.count) end in
+            let found = offset size ((S.grid self.now.settings.now).draws self.now.direction self.now.count) end in
             SomeIff result (found < 2 ^ 64) found }
     {
         let mut offset = from;
@@ -79,7 +79,7 @@ impl<'a, D: Dimension, S: Settings> Ruler<'a, D, S> {
 
     /// Whether the range of the cell at a position ends past the last column (row).
     pub fn reaches_out(&self, pos: Position) -> bool
-        ensures { result ≡ nat_lt self.now.count (along self.now.direction pos + (S.look self.now.settings.now).span self.now.direction pos) }
+        ensures { result ≡ nat_lt self.now.count (along self.now.direction pos + (S.grid self.now.settings.now).span self.now.direction pos) }
     {
         let start = self.direction.number_of(pos);
         let span = self.settings.span(self.direction, pos);
@@ -88,14 +88,14 @@ impl<'a, D: Dimension, S: Settings> Ruler<'a, D, S> {
 
     /// Where the cell at a position begins and how long it is, if the total of all sizes and lines fits.
     pub fn part(&self, pos: Position) -> Option<(usize, usize)>
-        requires inside { along self.now.direction pos + (S.look self.now.settings.now).span self.now.direction pos ≤ self.now.count }
+        requires inside { along self.now.direction pos + (S.grid self.now.settings.now).span self.now.direction pos ≤ self.now.count }
         requires sizes { (i : ℕ) → i < self.now.count →
             has_along (D.has_column self.now.dim.now) (D.has_row self.now.dim.now) self.now.direction i }
         ensures { let size = size_along (D.width_of self.now.dim.now) (D.height_of self.now.dim.now) self.now.direction in
-            let line = (S.look self.now.settings.now).draws self.now.direction self.now.count in
+            let line = (S.grid self.now.settings.now).draws self.now.direction self.now.count in
             let start = along self.now.direction pos in
             SomeIff result (total size line self.now.count < 2 ^ 64)
-            (offset size line start, extent size line start ((S.look self.now.settings.now).span self.now.direction pos)) }
+            (offset size line start, extent size line start ((S.grid self.now.settings.now).span self.now.direction pos)) }
     {
         let count = self.count;
         let start = self.direction.number_of(pos);
@@ -111,7 +111,7 @@ impl<'a, D: Dimension, S: Settings> Ruler<'a, D, S> {
         requires { (i : ℕ) → i < self.now.count →
             has_along (D.has_column self.now.dim.now) (D.has_row self.now.dim.now) self.now.direction i }
         ensures { let size = size_along (D.width_of self.now.dim.now) (D.height_of self.now.dim.now) self.now.direction in
-            let found = total size ((S.look self.now.settings.now).draws self.now.direction self.now.count) self.now.count in
+            let found = total size ((S.grid self.now.settings.now).draws self.now.direction self.now.count) self.now.count in
             SomeIff result (found < 2 ^ 64) found }
     {
         self.offset_from(0, self.line(0), self.count)
@@ -122,9 +122,9 @@ impl<'a, D: Dimension, S: Settings> Ruler<'a, D, S> {
         requires sizes { (i : ℕ) → i < self.now.count →
             has_along (D.has_column self.now.dim.now) (D.has_row self.now.dim.now) self.now.direction i }
         requires fits { let size = size_along (D.width_of self.now.dim.now) (D.height_of self.now.dim.now) self.now.direction in
-            total size ((S.look self.now.settings.now).draws self.now.direction self.now.count) self.now.count < 2 ^ 64 }
+            total size ((S.grid self.now.settings.now).draws self.now.direction self.now.count) self.now.count < 2 ^ 64 }
         ensures { let size = size_along (D.width_of self.now.dim.now) (D.height_of self.now.dim.now) self.now.direction in
-            IfOk result (AreMarks size ((S.look self.now.settings.now).draws self.now.direction self.now.count) self.now.count) }
+            IfOk result (AreMarks size ((S.grid self.now.settings.now).draws self.now.direction self.now.count) self.now.count) }
     {
         let mut begins = Vec::new(alloc);
         let mut ends = Vec::new(alloc);
@@ -144,9 +144,9 @@ impl<'a, D: Dimension, S: Settings> Ruler<'a, D, S> {
         requires sizes { (i : ℕ) → i < self.now.count →
             has_along (D.has_column self.now.dim.now) (D.has_row self.now.dim.now) self.now.direction i }
         requires fits { let size = size_along (D.width_of self.now.dim.now) (D.height_of self.now.dim.now) self.now.direction in
-            total size ((S.look self.now.settings.now).draws self.now.direction self.now.count) self.now.count < 2 ^ 64 }
+            total size ((S.grid self.now.settings.now).draws self.now.direction self.now.count) self.now.count < 2 ^ 64 }
         ensures { let size = size_along (D.width_of self.now.dim.now) (D.height_of self.now.dim.now) self.now.direction in
-            let line = (S.look self.now.settings.now).draws self.now.direction self.now.count in
+            let line = (S.grid self.now.settings.now).draws self.now.direction self.now.count in
             MatchOption result ((point < offset size line 0) ⊎ (offset size line self.now.count ≤ point))
             (λ i. (i < self.now.count) × (offset size line i ≤ point) × (point < offset size line (i + 1))) }
     {

@@ -2,7 +2,7 @@
 
 ghost use Rattle.std.specs.Prelude.{◌≡◌, ◌+◌, ◌-◌, ◌<◌, ◌^◌, length, sum};
 ghost use Rattle.papergrid_values.specs.Lines.{all_lines};
-ghost use Rattle.papergrid_walk.specs.Looks.{spanned_look};
+ghost use Rattle.papergrid_walk.specs.Grids.{spanned_grid};
 
 use papergrid_config::SpannedConfig;
 use papergrid_values::Direction;
@@ -10,7 +10,7 @@ use papergrid_values::Direction;
 /// How many lines there are along a direction, of so many columns (rows).
 fn count_lines(config: &SpannedConfig, direction: Direction, count: usize) -> usize
     requires { count < 2 ^ 64 - 1 }
-    ensures { result ≡ all_lines ((spanned_look config.now).draws direction count) count }
+    ensures { result ≡ all_lines ((spanned_grid config.now).draws direction count) count }
 {
     match direction {
         Direction::Columns => config.count_vertical(count),
@@ -29,9 +29,9 @@ fn sum_of(sizes: &[usize]) -> usize
 /// The sum of the sizes along a direction and of all lines there.
 pub fn with_lines(config: &SpannedConfig, direction: Direction, sizes: &[usize]) -> usize
     requires { let count = length sizes.now in
-        sum sizes.now + all_lines ((spanned_look config.now).draws direction count) count < 2 ^ 64 }
+        sum sizes.now + all_lines ((spanned_grid config.now).draws direction count) count < 2 ^ 64 }
     ensures { let count = length sizes.now in
-        result ≡ sum sizes.now + all_lines ((spanned_look config.now).draws direction count) count }
+        result ≡ sum sizes.now + all_lines ((spanned_grid config.now).draws direction count) count }
 {
     sum_of(sizes) + count_lines(config, direction, sizes.len())
 }

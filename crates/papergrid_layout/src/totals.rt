@@ -2,7 +2,7 @@
 
 ghost use Rattle.std.specs.Prelude.{◌<◌, ℕ};
 ghost use Rattle.papergrid_values.specs.declared.direction.Direction.TheVariants.{Columns, Rows};
-ghost use Rattle.papergrid_walk.specs.Looks.{spanned_look};
+ghost use Rattle.papergrid_walk.specs.Grids.{spanned_grid};
 ghost use Rattle.papergrid_layout.specs.Places.{IsTotalOf, size_along, total};
 ghost use Rattle.papergrid_layout.specs.ForProofs.Rulers.{has_along};
 
@@ -21,7 +21,7 @@ fn total_along<D: Dimension>(
 ) -> Result<usize, LayoutError>
     requires { (i : ℕ) → i < count → has_along (D.has_column dim.now) (D.has_row dim.now) direction i }
     ensures { let size = size_along (D.width_of dim.now) (D.height_of dim.now) direction in
-        IsTotalOf (total size ((spanned_look cfg.now).draws direction count) count) result }
+        IsTotalOf (total size ((spanned_grid cfg.now).draws direction count) count) result }
 {
     let ruler = Ruler::new(dim, cfg, direction, count);
     ruler.total().ok_or(LayoutError::TooLarge)
@@ -41,7 +41,7 @@ pub fn total_width<D: Dimension>(
     columns: usize,
 ) -> Result<usize, LayoutError>
     requires { (column : ℕ) → column < columns → D.has_column dim.now column }
-    ensures { IsTotalOf (total (D.width_of dim.now) ((spanned_look cfg.now).draws Columns columns) columns) result }
+    ensures { IsTotalOf (total (D.width_of dim.now) ((spanned_grid cfg.now).draws Columns columns) columns) result }
 {
     total_along(dim, cfg, Direction::Columns, columns)
 }
@@ -60,7 +60,7 @@ pub fn total_height<D: Dimension>(
     rows: usize,
 ) -> Result<usize, LayoutError>
     requires { (row : ℕ) → row < rows → D.has_row dim.now row }
-    ensures { IsTotalOf (total (D.height_of dim.now) ((spanned_look cfg.now).draws Rows rows) rows) result }
+    ensures { IsTotalOf (total (D.height_of dim.now) ((spanned_grid cfg.now).draws Rows rows) rows) result }
 {
     total_along(dim, cfg, Direction::Rows, rows)
 }

@@ -7,9 +7,9 @@ use Rattle.papergrid_values.specs.declared.direction.Direction.TheVariants.{Colu
 use Rattle.papergrid_axis.specs.Problem.{Problem}
 use Rattle.papergrid_config.specs.declared.spanned.SpannedConfig.{SpannedConfig}
 use Rattle.papergrid_walk.specs.Cells.{problem_of}
-use Rattle.papergrid_walk.specs.Looks.{spanned_look}
+use Rattle.papergrid_walk.specs.Grids.{spanned_grid}
 use Rattle.papergrid_walk.specs.Measures.{line_measure}
 
 -- what the widths of the columns are found for
 abbrev pub columns_of : SpannedConfig → VecRecords (String Global) → Problem
-columns_of config records = problem_of (spanned_look config) (line_measure string_bytes) (column_count records) (map (λ row. row.items) (rows_held records).items) Columns
+columns_of config records = problem_of (spanned_grid config) (line_measure string_bytes) (column_count records) (map (λ row. row.items) (rows_held records).items) Columns

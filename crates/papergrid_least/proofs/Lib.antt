@@ -11,5 +11,5 @@ pub mod LeastLemmas
 pub mod LongestLemmas
 pub mod PermutedLemmas
 pub mod PusherLemmas
-pub mod SeenLemmas
+pub mod KeptLemmas
 pub mod WayLemmas

@@ -11,7 +11,7 @@ use Rattle.papergrid_axis.specs.declared.demand.Demand.{Demand}
 use Rattle.papergrid_axis.specs.Problem.{given}
 use Rattle.papergrid_axis.specs.Ranges.{end_of, inner_lines, AreDisjoint, IsInTable}
 use Rattle.papergrid_axis.specs.Fits.{IsCertificate}
-use Rattle.papergrid_axis.proofs.RangeLemmas.{Apart, AllPairs-from_Apart}
+use Rattle.papergrid_axis.proofs.RangeLemmas.{ArePairwiseDisjoint, AllPairs-from_pairwise}
 use Rattle.papergrid_axis.proofs.Counting.{find-all}
 use Rattle.papergrid_axis.proofs.FitBound.{ByRecursion-weaker}
 use Rattle.papergrid_least.specs.Edges.{asked}
@@ -32,7 +32,7 @@ find-nothing test (d ∷ ds) e = elim (cases_Bool (test d)) [
 record Reaches (asks : Demand → ℕ) (ds : List Demand) (i : ℕ) (cells : List Demand) : Type 0 where
   adds_up : sum_by asks cells ≡ earliest asks ds i
   before : AllByRecursion (λ d. end_of d ≤ i) cells
-  apart : Apart cells
+  disjoint : ArePairwiseDisjoint cells
   visible : AllByRecursion (Contains ds) cells
   asking : AllByRecursion (λ d. 1 ≤ asks d) cells
 
@@ -116,7 +116,7 @@ module _ (asks : Demand → ℕ) (ds : List Demand) (n : ℕ) (table : All (IsIn
       record {
         adds_up = omega arith;
         before = (omega arith, ByRecursion-weaker (λ c. end_of c ≤ d.start) (λ c. end_of c ≤ suc i) (λ c before. let before' : end_of c ≤ d.start = before in omega arith) cells reaches.before);
-        apart = (ByRecursion-weaker (λ c. end_of c ≤ d.start) (AreDisjoint d) (λ c before. inr before) cells reaches.before, reaches.apart);
+        disjoint = (ByRecursion-weaker (λ c. end_of c ≤ d.start) (AreDisjoint d) (λ c before. inr before) cells reaches.before, reaches.disjoint);
         visible = (pushes.listed, reaches.visible);
         asking = (omega arith, reaches.asking);
       }
@@ -125,13 +125,13 @@ module _ (asks : Demand → ℕ) (ds : List Demand) (n : ℕ) (table : All (IsIn
   Reaches-same i cells same reaches = record {
     adds_up = reaches.adds_up ∙ sym same;
     before = ByRecursion-weaker (λ c. end_of c ≤ i) (λ c. end_of c ≤ suc i) (λ c before. let before' : end_of c ≤ i = before in omega arith) cells reaches.before;
-    apart = reaches.apart;
+    disjoint = reaches.disjoint;
     visible = reaches.visible;
     asking = reaches.asking;
   }
 
   Reaches-none : Reaches asks ds 0 []
-  Reaches-none = record { adds_up = refl; before = tt; apart = tt; visible = tt; asking = tt }
+  Reaches-none = record { adds_up = refl; before = tt; disjoint = tt; visible = tt; asking = tt }
 
   Reaches-pusher : (i : ℕ) (earlier : ℕ → List Demand) → earliest asks ds i < earliest asks ds (suc i) → ((j : ℕ) → j ≤ i → Reaches asks ds j (earlier j)) →
       (found : Option Demand) → pusher asks ds (suc i) ≡ found → Reaches asks ds (suc i) (with_earlier found earlier)
@@ -171,12 +171,12 @@ needs-add_up line (d ∷ ds) asking =
     omega arith
 
 disjoint-reversed : (cells : List Demand) → AllPairs AreDisjoint cells → AllPairs AreDisjoint (reverse cells)
-disjoint-reversed cells apart i j d l l' =
+disjoint-reversed cells disjoint i j d l l' =
     let many : length (reverse cells) ≡ length cells = length-reverse cells in
-    rw (get_or-reverse cells i d (omega arith), get_or-reverse cells j d (omega arith)) (swapped (get_or cells (length cells - 1 - j) d) (get_or cells (length cells - 1 - i) d) (apart (length cells - 1 - j) (length cells - 1 - i) d (omega arith) (omega arith)))
+    rw (get_or-reverse cells i d (omega arith), get_or-reverse cells j d (omega arith)) (swapped (get_or cells (length cells - 1 - j) d) (get_or cells (length cells - 1 - i) d) (disjoint (length cells - 1 - j) (length cells - 1 - i) d (omega arith) (omega arith)))
   where
     swapped : (a b : Demand) → AreDisjoint a b → AreDisjoint b a
-    swapped a b apart' = elim apart' [
+    swapped a b disjoint' = elim disjoint' [
       | inl before ↦ inr before
       | inr after ↦ inl after
     ]
@@ -195,6 +195,6 @@ IsCertificate-longest line n demands sizes table total =
     sum_by-IsPermutation (inner_lines line) (pushers (asked line) demands n n) (longest (given line n demands)) moved in
     record {
       visible = All-permutation (Contains demands) (pushers (asked line) demands n n) (longest (given line n demands)) moved (All-from_recursion (Contains demands) (pushers (asked line) demands n n) reaches.visible);
-      apart = disjoint-reversed (pushers (asked line) demands n n) (AllPairs-from_Apart (pushers (asked line) demands n n) reaches.apart);
+      disjoint = disjoint-reversed (pushers (asked line) demands n n) (AllPairs-from_pairwise (pushers (asked line) demands n n) reaches.disjoint);
       adds_up = omega arith;
     }

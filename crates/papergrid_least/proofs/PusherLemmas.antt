@@ -4,14 +4,14 @@ use Rattle.std.specs.Prelude.{All, Contains, filter, find, nat_lt}
 use Rattle.std.proofs.lemmas.Bool.{and_from, and_parts, cases_Bool, cases_eq, true≢false}
 use Rattle.std.proofs.lemmas.List.Elements.{All-from_recursion, All-head, All-tail, Contains-get_or, recursion_from_All}
 use Rattle.papergrid_axis.specs.declared.demand.Demand.{Demand}
-use Rattle.papergrid_axis.specs.ForProofs.Seen.{first_greatest, is_single, others}
+use Rattle.papergrid_axis.specs.ForProofs.Kept.{first_greatest, is_single, rest_of}
 use Rattle.papergrid_axis.specs.Ranges.{IsInTable, end_of, inner_lines}
 use Rattle.papergrid_axis.specs.Sizes.{base_size, base_sizes}
 use Rattle.papergrid_axis.proofs.Counting.{find-none}
 use Rattle.papergrid_axis.proofs.DrawnLemmas.{inner-drawn}
 use Rattle.papergrid_axis.proofs.Greatest.{get_or-base_sizes, length-base_sizes, need-below_greatest}
 use Rattle.papergrid_axis.proofs.Orders.{filter-all}
-use Rattle.papergrid_axis.proofs.SeenLemmas.{exact_single-first, need-first_greatest}
+use Rattle.papergrid_axis.proofs.KeptLemmas.{exact_single-first, need-first_greatest}
 use Rattle.papergrid_least.specs.Edges.{asked}
 use Rattle.papergrid_least.specs.Earliest.{earliest}
 use Rattle.papergrid_least.specs.Longest.{earlier_cell, longer_pusher, pusher, pushers, pushes, single_pusher, with_earlier}
@@ -20,7 +20,7 @@ use Rattle.papergrid_least.specs.ForProofs.Laid.{AreLaid}
 use Rattle.papergrid_least.proofs.EarliestLemmas.{AreEdges-earliest, earliest-rises}
 use Rattle.papergrid_least.proofs.FollowedLemmas.{followed-even, followed-past}
 use Rattle.papergrid_least.proofs.LongestLemmas.{pusher-pushes}
-use Rattle.papergrid_least.proofs.SeenLemmas.{AreLaid-from_edges, inner-alone, longer_asking}
+use Rattle.papergrid_least.proofs.KeptLemmas.{AreLaid-from_edges, inner-alone, longer_asking}
 
 -- two tests that agree find the same
 find-agree : (p q : Demand → Bool) (ds : List Demand) → All (λ d. p d ≡ q d) ds → find p ds ≡ find q ds
@@ -143,11 +143,11 @@ module _ (line drawn : ℕ → Bool) (n limit : ℕ) (demands : List Demand) (ag
           rw (eq-eqb (end_of d) i ends, sum, b) refl
     ]
 
-    among_others : (i : ℕ) → i ≤ n → longer_pusher (asked line) demands i ≡ find (pushes_by (asked drawn) edge i) (others limit demands)
+    among_others : (i : ℕ) → i ≤ n → longer_pusher (asked line) demands i ≡ find (pushes_by (asked drawn) edge i) (rest_of limit demands)
     among_others i l =
         find-kept (λ d. nat_lt 1 d.span && pushes (asked line) demands i d) (λ d. not (is_single limit d)) demands (λ k d l'. kept (get_or demands k d))
-        ∙ find-agree (λ d. nat_lt 1 d.span && pushes (asked line) demands i d) (pushes_by (asked drawn) edge i) (others limit demands)
-        (λ k d l'. listed (get_or (others limit demands) k d) (All-from_recursion (λ d. (not (is_single limit d) ≡ true) × IsInTable n d) (others limit demands)
+        ∙ find-agree (λ d. nat_lt 1 d.span && pushes (asked line) demands i d) (pushes_by (asked drawn) edge i) (rest_of limit demands)
+        (λ k d l'. listed (get_or (rest_of limit demands) k d) (All-from_recursion (λ d. (not (is_single limit d) ≡ true) × IsInTable n d) (rest_of limit demands)
         (filter-all (IsInTable n) (λ d. not (is_single limit d)) demands (recursion_from_All (IsInTable n) demands table)) k d l'))
       where
         kept : (d : Demand) → (nat_lt 1 d.span && pushes (asked line) demands i d) ≡ true → not (is_single limit d) ≡ true
@@ -173,8 +173,8 @@ module _ (line drawn : ℕ → Bool) (n limit : ℕ) (demands : List Demand) (ag
         listed : (d : Demand) → (not (is_single limit d) ≡ true) × IsInTable n d → (nat_lt 1 d.span && pushes (asked line) demands i d) ≡ pushes_by (asked drawn) edge i d
         listed d known = at d known.1 known.0
 
-    module _ (singles : ℕ → Demand) (singles_are : (i : ℕ) → i < limit → singles i ≡ first_greatest i demands)
-        (longer : ℕ → Option Demand) (longer_are : (i : ℕ) → i ≤ n → longer i ≡ find (pushes_by (asked drawn) edge i) (others limit demands)) where
+    module _ (single_span : ℕ → Demand) (single_span_are : (i : ℕ) → i < limit → single_span i ≡ first_greatest i demands)
+        (longer : ℕ → Option Demand) (longer_are : (i : ℕ) → i ≤ n → longer i ≡ find (pushes_by (asked drawn) edge i) (rest_of limit demands)) where
       pushers-even : (steps j : ℕ) → top (suc j) ≡ top j → pushers (asked line) demands (suc steps) (suc j) ≡ pushers (asked line) demands steps j
       pushers-even steps j same =
           let e : suc j - 1 ≡ j = omega arith in
@@ -186,33 +186,33 @@ module _ (line drawn : ℕ → Bool) (n limit : ℕ) (demands : List Demand) (ag
           rw (e, ne_eqb (top (suc j)) (top j) ne) refl
 
       -- of each kind what is kept is the first that pushes the edge
-      single-kept : (j : ℕ) → j < n → top j < top (suc j) → needing (edge (suc j) - edge (suc j - 1)) (singles (suc j - 1)) ≡ single_pusher (asked line) demands (suc j)
+      single-kept : (j : ℕ) → j < n → top j < top (suc j) → needing (edge (suc j) - edge (suc j - 1)) (single_span (suc j - 1)) ≡ single_pusher (asked line) demands (suc j)
       single-kept j l past =
           let e : suc j - 1 ≡ j = omega arith in
           let a : edge (suc j) ≡ top (suc j) = edges_are (suc j) l in
           let b : edge j ≡ top j = edges_are j (omega arith) in
           let b' : edge (suc j - 1) ≡ edge j = ap edge e in
           let fits : top j + base_size demands j ≤ top (suc j) = base-fits j l in
-          let kept : singles (suc j - 1) ≡ first_greatest j demands = ap singles e ∙ singles_are j (omega arith) in
-          let need : (singles (suc j - 1)).need ≡ base_size demands j = ap (λ (d : Demand). d.need) kept ∙ need-first_greatest j demands in
+          let kept : single_span (suc j - 1) ≡ first_greatest j demands = ap single_span e ∙ single_span_are j (omega arith) in
+          let need : (single_span (suc j - 1)).need ≡ base_size demands j = ap (λ (d : Demand). d.need) kept ∙ need-first_greatest j demands in
           elim (cases_eq (top j + base_size demands j) (top (suc j))) [
             | inl most ↦
-                let step : (singles (suc j - 1)).need ≡ edge (suc j) - edge (suc j - 1) = omega arith in
-                let found : needing (edge (suc j) - edge (suc j - 1)) (singles (suc j - 1)) ≡ Some (singles (suc j - 1)) = rw (eq-eqb (singles (suc j - 1)).need (edge (suc j) - edge (suc j - 1)) step) refl in
+                let step : (single_span (suc j - 1)).need ≡ edge (suc j) - edge (suc j - 1) = omega arith in
+                let found : needing (edge (suc j) - edge (suc j - 1)) (single_span (suc j - 1)) ≡ Some (single_span (suc j - 1)) = rw (eq-eqb (single_span (suc j - 1)).need (edge (suc j) - edge (suc j - 1)) step) refl in
                 found ∙ ap Some kept ∙ sym (single j l past most)
             | inr less ↦
-                let step : (singles (suc j - 1)).need ≢ edge (suc j) - edge (suc j - 1) = omega arith in
-                let found : needing (edge (suc j) - edge (suc j - 1)) (singles (suc j - 1)) ≡ None = rw (ne_eqb (singles (suc j - 1)).need (edge (suc j) - edge (suc j - 1)) step) refl in
+                let step : (single_span (suc j - 1)).need ≢ edge (suc j) - edge (suc j - 1) = omega arith in
+                let found : needing (edge (suc j) - edge (suc j - 1)) (single_span (suc j - 1)) ≡ None = rw (ne_eqb (single_span (suc j - 1)).need (edge (suc j) - edge (suc j - 1)) step) refl in
                 found ∙ sym (no_single j l less)
           ]
 
-      pusher-kept : (j : ℕ) → j < n → top j < top (suc j) → earlier_cell (needing (edge (suc j) - edge (suc j - 1)) (singles (suc j - 1))) (longer (suc j)) ≡ pusher (asked line) demands (suc j)
+      pusher-kept : (j : ℕ) → j < n → top j < top (suc j) → earlier_cell (needing (edge (suc j) - edge (suc j - 1)) (single_span (suc j - 1))) (longer (suc j)) ≡ pusher (asked line) demands (suc j)
       pusher-kept j l past = ap₂ earlier_cell (single-kept j l past) (longer_are (suc j) l ∙ sym (among_others (suc j) l))
 
-      pub followed-is : (steps i : ℕ) → i ≤ n → followed edge singles longer steps i ≡ pushers (asked line) demands steps i
+      pub followed-is : (steps i : ℕ) → i ≤ n → followed edge single_span longer steps i ≡ pushers (asked line) demands steps i
       followed-is zero i l = refl
       followed-is (suc steps) zero l =
-          followed-even edge singles longer steps 0 (omega arith) ∙ followed-is steps 0 (omega arith)
+          followed-even edge single_span longer steps 0 (omega arith) ∙ followed-is steps 0 (omega arith)
       followed-is (suc steps) (suc j) l =
           let e : suc j - 1 ≡ j = omega arith in
           let a : edge (suc j) ≡ top (suc j) = edges_are (suc j) l in
@@ -221,14 +221,14 @@ module _ (line drawn : ℕ → Bool) (n limit : ℕ) (demands : List Demand) (ag
           let rises : top j ≤ top (suc j) = earliest-rises (asked line) demands j in
           elim (cases_eq (top (suc j)) (top j)) [
             | inl same ↦
-                followed-even edge singles longer steps (suc j) (omega arith)
-                ∙ ap (followed edge singles longer steps) e
+                followed-even edge single_span longer steps (suc j) (omega arith)
+                ∙ ap (followed edge single_span longer steps) e
                 ∙ followed-is steps j (omega arith)
                 ∙ sym (pushers-even steps j same)
             | inr ne ↦
-                followed-past edge singles longer steps (suc j) (omega arith)
-                ∙ ap (λ found. with_earlier found (followed edge singles longer steps)) (pusher-kept j l (omega arith))
-                ∙ with_earlier-agree (pusher (asked line) demands (suc j)) (followed edge singles longer steps) (pushers (asked line) demands steps)
+                followed-past edge single_span longer steps (suc j) (omega arith)
+                ∙ ap (λ found. with_earlier found (followed edge single_span longer steps)) (pusher-kept j l (omega arith))
+                ∙ with_earlier-agree (pusher (asked line) demands (suc j)) (followed edge single_span longer steps) (pushers (asked line) demands steps)
                 (λ d found. followed-is steps d.start (start_within j d l found))
                 ∙ sym (pushers-past steps j ne)
           ]

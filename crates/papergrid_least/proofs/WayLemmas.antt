@@ -5,8 +5,8 @@ use Rattle.std.proofs.lemmas.Bool.{and_parts, cases_eq, cases_lt}
 use Rattle.std.proofs.lemmas.List.{get_or_past, map-append, reverse-append}
 use Rattle.std.proofs.lemmas.List.Elements.{All-contains, All-contains_itself, All-filter, recursion_from_All}
 use Rattle.papergrid_axis.specs.declared.demand.Demand.{Demand}
-use Rattle.papergrid_axis.specs.declared.seen.Seen.{Seen}
-use Rattle.papergrid_axis.specs.ForProofs.Seen.{IsSeen, first_greatest, is_single, no_demand, others}
+use Rattle.papergrid_axis.specs.declared.kept.Kept.{Kept}
+use Rattle.papergrid_axis.specs.ForProofs.Kept.{IsKept, first_greatest, is_single, no_demand, rest_of}
 use Rattle.papergrid_axis.specs.ForProofs.Settled.{line_at}
 use Rattle.papergrid_axis.specs.Problem.{Problem}
 use Rattle.papergrid_axis.specs.Ranges.{IsInTable, end_of, inner_lines, place_of}
@@ -14,7 +14,7 @@ use Rattle.papergrid_axis.specs.Sizes.{base_size}
 use Rattle.papergrid_axis.proofs.Counting.{find-all}
 use Rattle.papergrid_axis.proofs.DrawnLemmas.{inner-drawn}
 use Rattle.papergrid_axis.proofs.Greatest.{holds_alone}
-use Rattle.papergrid_axis.proofs.SeenLemmas.{table-seen}
+use Rattle.papergrid_axis.proofs.KeptLemmas.{table-kept}
 use Rattle.papergrid_least.specs.declared.settled.Settled.{Settled}
 use Rattle.papergrid_least.specs.Earliest.{earliest}
 use Rattle.papergrid_least.specs.Edges.{AreEdges, asked}
@@ -53,7 +53,7 @@ reverse-places (d ∷ ds) =
 none_some : (d : Demand) → None ≡ Some d → ⊥
 none_some d e = cc
 
-module _ (problem : Problem) (seen : Seen) (is : IsSeen problem.count seen problem.demands) (small : seen.is_large ≡ false) (settled : Settled) (are : AreSettled problem settled) where
+module _ (problem : Problem) (kept : Kept) (is : IsKept problem.count kept problem.demands) (small : kept.is_large ≡ false) (settled : Settled) (are : AreSettled problem settled) where
   -- the lines as they were read, and the earliest edges
   abbrev drawn : ℕ → Bool
   drawn = line_at settled.lines
@@ -61,22 +61,22 @@ module _ (problem : Problem) (seen : Seen) (is : IsSeen problem.count seen probl
   abbrev edge : ℕ → ℕ
   edge i = get_or settled.limits.earliest.items i 0
 
-  exact : seen.others.items ≡ others is.limit problem.demands
+  exact : kept.rest.items ≡ rest_of is.limit problem.demands
   exact = is.held.exact small
 
-  pub table-longer : All (IsInTable problem.count) seen.others.items
-  table-longer = table-seen problem.count seen problem.demands is small are.table
+  pub table-longer : All (IsInTable problem.count) kept.rest.items
+  table-longer = table-kept problem.count kept problem.demands is small are.table
 
-  pub table-lines : All (IsInTable (length settled.lines)) seen.others.items
-  table-lines = table-wider problem.count (length settled.lines) seen.others.items (let e : length settled.lines ≡ problem.count + 1 = are.lined in omega arith) table-longer
+  pub table-lines : All (IsInTable (length settled.lines)) kept.rest.items
+  table-lines = table-wider problem.count (length settled.lines) kept.rest.items (let e : length settled.lines ≡ problem.count + 1 = are.lined in omega arith) table-longer
 
-  pub ends-edges : All (λ d. end_of d < length settled.limits.earliest.items) seen.others.items
+  pub ends-edges : All (λ d. end_of d < length settled.limits.earliest.items) kept.rest.items
   ends-edges k d l =
-      let le : end_of (get_or seen.others.items k d) ≤ problem.count = (table-longer k d l).ends_within in
+      let le : end_of (get_or kept.rest.items k d) ≤ problem.count = (table-longer k d l).ends_within in
       let many : length settled.limits.earliest.items ≡ problem.count + 1 = are.many in
       omega arith
 
-  pub apart-edges : All (λ d. edge d.start + asked drawn d ≤ edge (end_of d)) seen.others.items
+  pub apart-edges : All (λ d. edge d.start + asked drawn d ≤ edge (end_of d)) kept.rest.items
   apart-edges =
       subst (All (λ d. edge d.start + asked drawn d ≤ edge (end_of d))) (sym exact)
       (All-filter (λ d. not (is_single is.limit d)) (λ d. edge d.start + asked drawn d ≤ edge (end_of d)) problem.demands (λ k d l. at (get_or problem.demands k d) (are.table k d l) (top.apart k d l)))
@@ -93,35 +93,35 @@ module _ (problem : Problem) (seen : Seen) (is : IsSeen problem.count seen probl
           let b : edge (end_of d) ≡ earliest (asked problem.line) problem.demands (end_of d) = are.earliest (end_of d) within in
           omega arith
 
-  pub alone-edges : (i : ℕ) → i + 1 < length settled.limits.earliest.items → (kept_single seen.singles.items i).start ≤ i
+  pub alone-edges : (i : ℕ) → i + 1 < length settled.limits.earliest.items → (kept_single kept.single_span.items i).start ≤ i
   alone-edges i l =
       let many : length settled.limits.earliest.items ≡ problem.count + 1 = are.many in
       let from : problem.count ≤ is.limit = is.from_limit in
-      let kept : (kept_single seen.singles.items i).start ≡ (first_greatest i problem.demands).start = ap (λ (d : Demand). d.start) (is.held.singles small i (omega arith)) in
+      let same_start : (kept_single kept.single_span.items i).start ≡ (first_greatest i problem.demands).start = ap (λ (d : Demand). d.start) (is.held.single_span small i (omega arith)) in
       let starts : (first_greatest i problem.demands).start ≤ i = starts-first_greatest i problem.demands in
       omega arith
 
   module _ (pushers : List (Option Demand)) (same : length pushers ≡ length settled.limits.earliest.items)
-      (first : (i : ℕ) → i < length pushers → get_or pushers i None ≡ find (pushes_by (asked drawn) edge i) seen.others.items) where
+      (first : (i : ℕ) → i < length pushers → get_or pushers i None ≡ find (pushes_by (asked drawn) edge i) kept.rest.items) where
     pub starts-edges : (i : ℕ) (d : Demand) → get_or pushers i None ≡ Some d → d.start < length settled.limits.earliest.items
     starts-edges i d found = elim (cases_lt i (length pushers)) [
-      | inl l ↦ within (find-all (Contains seen.others.items) (pushes_by (asked drawn) edge i) seen.others.items d (recursion_from_All (Contains seen.others.items) seen.others.items (All-contains_itself seen.others.items)) (sym (first i l) ∙ found)).1
+      | inl l ↦ within (find-all (Contains kept.rest.items) (pushes_by (asked drawn) edge i) kept.rest.items d (recursion_from_All (Contains kept.rest.items) kept.rest.items (All-contains_itself kept.rest.items)) (sym (first i l) ∙ found)).1
       | inr past ↦ absurd (none_some d (sym (get_or_past pushers i None past) ∙ found))
     ]
       where
-        within : Contains seen.others.items d → d.start < length settled.limits.earliest.items
+        within : Contains kept.rest.items d → d.start < length settled.limits.earliest.items
         within listed =
-            let cell : IsInTable problem.count d = All-contains (IsInTable problem.count) seen.others.items d table-longer listed in
+            let cell : IsInTable problem.count d = All-contains (IsInTable problem.count) kept.rest.items d table-longer listed in
             let le : end_of d ≤ problem.count = cell.ends_within in
             let many : length settled.limits.earliest.items ≡ problem.count + 1 = are.many in
             omega arith
 
-    pub longest-met : reverse (map place_of (followed edge (kept_single seen.singles.items) (kept_longer pushers) (length settled.limits.earliest.items - 1) (length settled.limits.earliest.items - 1))) ≡ map place_of (longest problem)
+    pub longest-met : reverse (map place_of (followed edge (kept_single kept.single_span.items) (kept_longer pushers) (length settled.limits.earliest.items - 1) (length settled.limits.earliest.items - 1))) ≡ map place_of (longest problem)
     longest-met =
         let many : length settled.limits.earliest.items ≡ problem.count + 1 = are.many in
         let last : length settled.limits.earliest.items - 1 ≡ problem.count = omega arith in
-        ap (λ k. reverse (map place_of (followed edge (kept_single seen.singles.items) (kept_longer pushers) k k))) last
+        ap (λ k. reverse (map place_of (followed edge (kept_single kept.single_span.items) (kept_longer pushers) k k))) last
         ∙ ap (λ ds. reverse (map place_of ds))
-        (followed-is problem.line drawn problem.count is.limit problem.demands are.drawn are.table is.below is.from_limit edge are.earliest (kept_single seen.singles.items) (is.held.singles small)
+        (followed-is problem.line drawn problem.count is.limit problem.demands are.drawn are.table is.below is.from_limit edge are.earliest (kept_single kept.single_span.items) (is.held.single_span small)
         (kept_longer pushers) (λ i l. first i (omega arith) ∙ ap (find (pushes_by (asked drawn) edge i)) exact) problem.count problem.count (omega arith))
         ∙ reverse-places (way (asked problem.line) problem.demands problem.count problem.count)

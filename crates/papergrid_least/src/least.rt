@@ -1,7 +1,7 @@
 //! The least sizes of the columns (rows) of a table, alone or with the cells that certify them.
 
 ghost use Rattle.std.specs.Prelude.{IfOk, false, map, ◌≡◌};
-ghost use Rattle.papergrid_axis.specs.ForProofs.Seen.{IsSeen};
+ghost use Rattle.papergrid_axis.specs.ForProofs.Kept.{IsKept};
 ghost use Rattle.papergrid_axis.specs.Problem.{Problem};
 ghost use Rattle.papergrid_axis.specs.Ranges.{place_of};
 ghost use Rattle.papergrid_least.specs.ForProofs.Settled.{AreSettled};
@@ -10,7 +10,7 @@ ghost use Rattle.papergrid_least.specs.Longest.{longest};
 use crate::longest::{follow, mark_pushers};
 use crate::settled::{Settled, settle};
 use papergrid_axis::axis::Axis;
-use papergrid_axis::{Found, Seen, Solution};
+use papergrid_axis::{Found, Kept, Solution};
 use papergrid_values::Position;
 use std::alloc::{AllocError, Global};
 
@@ -28,8 +28,8 @@ impl Solution for LeastSizes {
 
     ghost too_large = { NoneFits };
 
-    fn solve<A: Axis>(alloc: Global, count: usize, seen: &Seen, axis: &A) -> Found<LeastSizes> {
-        let settled = settle(alloc, count, seen, axis)?;
+    fn solve<A: Axis>(alloc: Global, count: usize, kept: &Kept, axis: &A) -> Found<LeastSizes> {
+        let settled = settle(alloc, count, kept, axis)?;
         Ok(LeastSizes {
             sizes: settled.sizes,
         })
@@ -39,18 +39,18 @@ impl Solution for LeastSizes {
 /// The places of the cells of the longest way, by the starts of their ranges.
 fn longest_places(
     alloc: Global,
-    seen: &Seen,
+    kept: &Kept,
     settled: &Settled,
 ) -> Result<Vec<Position>, AllocError>
-    requires small { seen.now.is_large ≡ false }
-    requires settled { (problem : Problem) × IsSeen problem.count seen.now problem.demands × AreSettled problem settled.now }
-    ensures { (problem : Problem) → IsSeen problem.count seen.now problem.demands → AreSettled problem settled.now →
+    requires small { kept.now.is_large ≡ false }
+    requires settled { (problem : Problem) × IsKept problem.count kept.now problem.demands × AreSettled problem settled.now }
+    ensures { (problem : Problem) → IsKept problem.count kept.now problem.demands → AreSettled problem settled.now →
         IfOk result (λ places. places.items ≡ map place_of (longest problem)) }
 {
     let edges = &settled.limits.earliest;
     let mut pushers = vec![in alloc; None; edges.len()]?;
-    mark_pushers(&mut pushers, edges, &settled.lines, &seen.others);
-    let mut places = follow(alloc, edges, &seen.singles, &pushers)?;
+    mark_pushers(&mut pushers, edges, &settled.lines, &kept.rest);
+    let mut places = follow(alloc, edges, &kept.single_span, &pushers)?;
     places.reverse();
     Ok(places)
 }
@@ -70,9 +70,9 @@ impl Solution for CertifiedLeast {
 
     ghost too_large = { NoneFits };
 
-    fn solve<A: Axis>(alloc: Global, count: usize, seen: &Seen, axis: &A) -> Found<CertifiedLeast> {
-        let settled = settle(alloc, count, seen, axis)?;
-        let places = longest_places(alloc, seen, &settled)?;
+    fn solve<A: Axis>(alloc: Global, count: usize, kept: &Kept, axis: &A) -> Found<CertifiedLeast> {
+        let settled = settle(alloc, count, kept, axis)?;
+        let places = longest_places(alloc, kept, &settled)?;
         Ok(CertifiedLeast {
             sizes: settled.sizes,
             places,

@@ -11,7 +11,7 @@ ghost use Rattle.papergrid_least.specs.Longest.{earlier_cell};
 use crate::cells::asking;
 use crate::lines::Lines;
 use papergrid_axis::Demand;
-use papergrid_axis::seen::single_at;
+use papergrid_axis::kept::single_at;
 use papergrid_values::Position;
 use std::alloc::{AllocError, Global};
 
@@ -54,10 +54,10 @@ pub fn mark_pushers(
 }
 
 /// The cell that is kept for a number alone, where it needs so much.
-fn needing(singles: &[Demand], number: usize, step: usize) -> Option<Demand>
-    ensures { result ≡ needing step (kept_single singles.now number) }
+fn needing(single_span: &[Demand], number: usize, step: usize) -> Option<Demand>
+    ensures { result ≡ needing step (kept_single single_span.now number) }
 {
-    let single = single_at(singles, number);
+    let single = single_at(single_span, number);
     if single.need == step {
         Some(single)
     } else {
@@ -86,19 +86,19 @@ fn earlier_cell(cell: Option<Demand>, other: Option<Demand>) -> Option<Demand>
 pub fn follow(
     alloc: Global,
     earliest: &[usize],
-    singles: &[Demand],
+    single_span: &[Demand],
     pushers: &[Option<Demand>],
 ) -> Result<Vec<Position>, AllocError>
     requires edges { length earliest.now ≡ length pushers.now }
     requires one { 1 ≤ length earliest.now }
     requires rise { (i : ℕ) → i + 1 < length earliest.now →
         slice_index earliest.now i ≤ slice_index earliest.now (i + 1) }
-    requires alone { (i : ℕ) → i + 1 < length earliest.now → (kept_single singles.now i).start ≤ i }
+    requires alone { (i : ℕ) → i + 1 < length earliest.now → (kept_single single_span.now i).start ≤ i }
     requires starts { (i : ℕ) (d : Demand) → slice_index_or pushers.now i None ≡ Some d →
         d.start < length earliest.now }
     ensures { let count = length earliest.now - 1 in
         IfOk result (λ places. places.items ≡ map place_of
-        (followed (slice_index earliest.now) (kept_single singles.now) (kept_longer pushers.now) count count)) }
+        (followed (slice_index earliest.now) (kept_single single_span.now) (kept_longer pushers.now) count count)) }
 {
     let mut places = Vec::new(alloc);
     let mut number = earliest.len() - 1;
@@ -108,7 +108,7 @@ pub fn follow(
         if step == 0 {
             number = before;
         } else {
-            let single = needing(singles, before, step);
+            let single = needing(single_span, before, step);
             let Some(cell) = earlier_cell(single, pushers[number]) else {
                 return Ok(places);
             };

@@ -1,7 +1,7 @@
-//! The least sizes and the edges between which theirs lie, from what was seen of the cells.
+//! The least sizes and the edges between which theirs lie, from what was kept of the cells.
 
 ghost use Rattle.std.specs.Prelude.{All, IfErr, IfOk, List, false, fold, length, map, min, slice_index, ℕ, ◌+◌, ◌^◌, ◌≡◌, ◌≤◌};
-ghost use Rattle.papergrid_axis.specs.ForProofs.Seen.{IsSeen};
+ghost use Rattle.papergrid_axis.specs.ForProofs.Kept.{IsKept};
 ghost use Rattle.papergrid_axis.specs.ForProofs.Settled.{line_at};
 ghost use Rattle.papergrid_axis.specs.Problem.{given};
 ghost use Rattle.papergrid_axis.specs.Ranges.{IsInTable};
@@ -18,9 +18,9 @@ use crate::limits::{Limits, limits_of};
 use crate::lines::Lines;
 use crate::lower::lower_edges;
 use papergrid_axis::axis::Axis;
-use papergrid_axis::growers::grow_all;
+use papergrid_axis::growing_cells::grow_all;
 use papergrid_axis::settled::{refusal, taken, write_base};
-use papergrid_axis::{Demand, Found, Seen};
+use papergrid_axis::{Demand, Found, Kept};
 use std::alloc::Global;
 
 /// Makes of what each number needs alone the sizes by shares, and of these the least ones; gives the
@@ -55,21 +55,21 @@ pub struct Settled {
     pub limits: Limits,
 }
 
-/// What the seen cells of a table of `count` columns (rows) come to, with the lines of the axis.
-pub fn settle<A: Axis>(alloc: Global, count: usize, seen: &Seen, axis: &A) -> Found<Settled>
-    requires { (demands : List Demand) × IsSeen count seen.now demands }
-    ensures small { IfOk result (λ settled. seen.now.is_large ≡ false) }
-    ensures settled { (demands : List Demand) → IsSeen count seen.now demands →
+/// What the kept cells of a table of `count` columns (rows) come to, with the lines of the axis.
+pub fn settle<A: Axis>(alloc: Global, count: usize, kept: &Kept, axis: &A) -> Found<Settled>
+    requires { (demands : List Demand) × IsKept count kept.now demands }
+    ensures small { IfOk result (λ settled. kept.now.is_large ≡ false) }
+    ensures settled { (demands : List Demand) → IsKept count kept.now demands →
         LeastAnswers AreSettled (given (A.line axis.now) count demands) result }
 {
     // A count that no memory holds is refused before it is counted up to.
     let mut sizes = vec![in alloc; 0; count]?;
     let lines = Lines::of(alloc, axis, count)?;
-    if let Some(error) = refusal(count, seen) {
+    if let Some(error) = refusal(count, kept) {
         return Err(error);
     }
-    write_base(&mut sizes, &seen.singles);
-    let limits = make_least(alloc, &lines, &mut sizes, &seen.others)?;
+    write_base(&mut sizes, &kept.single_span);
+    let limits = make_least(alloc, &lines, &mut sizes, &kept.rest)?;
     Ok(Settled {
         lines,
         sizes,

@@ -1,14 +1,14 @@
 //! Worked tables, as the demands of their cells.
 
 ghost use Rattle.std.specs.Prelude.{IfOk, List};
-ghost use Rattle.papergrid_axis.specs.ForProofs.Seen.{IsSeen};
+ghost use Rattle.papergrid_axis.specs.ForProofs.Kept.{IsKept};
 ghost use Rattle.papergrid_axis.specs.declared.demand.Demand.{Demand};
 
 use crate::{CertifiedLeast, LeastSizes};
 use papergrid_axis::axis::Axis;
 use papergrid_axis::error::LayoutError::{OutOfTable, TooLarge};
-use papergrid_axis::seen::keep;
-use papergrid_axis::{LayoutError, Seen, Solution};
+use papergrid_axis::kept::keep;
+use papergrid_axis::{Kept, LayoutError, Solution};
 use papergrid_values::Direction::Columns;
 use papergrid_values::Position;
 use std::alloc::{AllocError, Global};
@@ -46,15 +46,15 @@ fn at(row: usize, col: usize) -> Position {
     Position::new(row, col)
 }
 
-fn seen(alloc: Global, count: usize, cells: &[Cell]) -> Result<Seen, AllocError>
-    ensures { IfOk result (λ seen. (demands : List Demand) × IsSeen count seen demands) }
+fn kept(alloc: Global, count: usize, cells: &[Cell]) -> Result<Kept, AllocError>
+    ensures { IfOk result (λ kept. (demands : List Demand) × IsKept count kept demands) }
 {
-    let mut seen = Seen::new(alloc, count);
+    let mut kept = Kept::new(alloc, count);
     for (row, col, span, measure, padding) in cells {
         let (position, span) = (at(*row, *col), (*span).max(1));
-        keep(&mut seen, Columns, position, span, *measure, *padding, 0)?;
+        keep(&mut kept, Columns, position, span, *measure, *padding, 0)?;
     }
-    Ok(seen)
+    Ok(kept)
 }
 
 /// What the cells of a table of so many columns come to.
@@ -64,8 +64,8 @@ fn solved<S: Solution>(
     count: usize,
     cells: &[Cell],
 ) -> Result<S, LayoutError> {
-    let seen = seen(alloc, count, cells)?;
-    S::solve(alloc, count, &seen, &axis)
+    let kept = kept(alloc, count, cells)?;
+    S::solve(alloc, count, &kept, &axis)
 }
 
 /// Whether these are the least sizes, alone and with their places, and these the places.

@@ -9,7 +9,7 @@ use Rattle.papergrid_axis.specs.Fits.{IsCertificate}
 use Rattle.papergrid_axis.specs.Problem.{Problem}
 use Rattle.papergrid_axis.specs.Ranges.{IsKeptApart}
 use Rattle.papergrid_walk.specs.Cells.{problem_of}
-use Rattle.papergrid_walk.specs.Looks.{Look}
+use Rattle.papergrid_walk.specs.Grids.{Grid}
 use Rattle.papergrid_layout.specs.Witnesses.{IsChecked}
 use Rattle.papergrid_uses.proofs.RowLemmas.{one_told}
 
@@ -37,20 +37,20 @@ none_where problem none =
       ]),
     )
 
-module _ {A B : Type 0} (look : Look) (v : A → B) (f : B → ℕ × ℕ) (columns : ℕ) (rows : List (List B)) (direction : Direction) where
+module _ {A B : Type 0} (grid : Grid) (v : A → B) (f : B → ℕ × ℕ) (columns : ℕ) (rows : List (List B)) (direction : Direction) where
   abbrev Told : (Problem → Type 0) → Type 0
-  Told holds = (cells : List (List A)) × (map (map v) cells ≡ rows) × holds (problem_of look (λ x. f (v x)) columns cells direction)
+  Told holds = (cells : List (List A)) × (map (map v) cells ≡ rows) × holds (problem_of grid (λ x. f (v x)) columns cells direction)
 
-  of_rows : (holds : Problem → Type 0) → Told holds → holds (problem_of look f columns rows direction)
-  of_rows holds told = subst holds (one_told look v f columns rows told.0 told.1 direction) told.2
+  of_rows : (holds : Problem → Type 0) → Told holds → holds (problem_of grid f columns rows direction)
+  of_rows holds told = subst holds (one_told grid v f columns rows told.0 told.1 direction) told.2
 
   -- the same of what three walks over the records told
   pub certified_told : (sizes : List ℕ) (places : List Position) (answer : Bool)
       → Told (λ problem. AreSizes problem sizes) → Told (λ problem. AreChosen problem places) → Told (λ problem. IsChecked problem sizes places answer)
-      → IsTrue answer ↔ IsKeptApart (problem_of look f columns rows direction).demands
+      → IsTrue answer ↔ IsKeptApart (problem_of grid f columns rows direction).demands
   certified_told sizes places answer are chosen checked =
-      accepted_where (problem_of look f columns rows direction) sizes places answer (of_rows (λ problem. AreSizes problem sizes) are)
+      accepted_where (problem_of grid f columns rows direction) sizes places answer (of_rows (λ problem. AreSizes problem sizes) are)
       (of_rows (λ problem. AreChosen problem places) chosen) (of_rows (λ problem. IsChecked problem sizes places answer) checked)
 
-  pub none_told : Told NoneChosen → IsTrue false ↔ IsKeptApart (problem_of look f columns rows direction).demands
-  none_told none = none_where (problem_of look f columns rows direction) (of_rows NoneChosen none)
+  pub none_told : Told NoneChosen → IsTrue false ↔ IsKeptApart (problem_of grid f columns rows direction).demands
+  none_told none = none_where (problem_of grid f columns rows direction) (of_rows NoneChosen none)

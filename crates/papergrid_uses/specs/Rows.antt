@@ -8,7 +8,7 @@ use Rattle.papergrid_config.specs.declared.spanned.SpannedConfig.{SpannedConfig}
 use Rattle.papergrid_text.specs.Kept.{answered_lines}
 use Rattle.papergrid_text.specs.Measured.{Measured}
 use Rattle.papergrid_walk.specs.Cells.{problem_of}
-use Rattle.papergrid_walk.specs.Looks.{spanned_look}
+use Rattle.papergrid_walk.specs.Grids.{spanned_grid}
 use Rattle.papergrid_walk.specs.Measures.{line_measure}
 
 -- the cells of rows that are vectors
@@ -21,7 +21,7 @@ text_measure text = line_measure (λ (t : Bor (List ℕ)). t.now) text
 
 -- what the widths, or the heights, of rows of texts are found for, of so many columns and by a configuration
 abbrev pub texts_problem : SpannedConfig → ℕ → List (Vec (Bor (List ℕ)) Global) → Direction → Problem
-texts_problem config columns rows direction = problem_of (spanned_look config) text_measure columns (cells_of rows) direction
+texts_problem config columns rows direction = problem_of (spanned_grid config) text_measure columns (cells_of rows) direction
 
 -- the width and the number of lines that a text keeps
 abbrev pub kept_measure : Measured (Bor (List ℕ)) → ℕ × ℕ

@@ -6,7 +6,7 @@ ghost use Rattle.papergrid_axis.specs.Fits.{IsLeast};
 ghost use Rattle.papergrid_axis.specs.Ranges.{IsKeptApart};
 ghost use Rattle.papergrid_values.specs.declared.direction.Direction.TheVariants.{Columns};
 ghost use Rattle.papergrid_walk.specs.Cells.{problem_of};
-ghost use Rattle.papergrid_walk.specs.Looks.{spanned_look};
+ghost use Rattle.papergrid_walk.specs.Grids.{spanned_grid};
 ghost use Rattle.papergrid_walk.specs.Measures.{line_measure};
 ghost use Rattle.papergrid_uses.specs.Rows.{texts_problem};
 
@@ -43,7 +43,7 @@ where
     <<R as Records>::Iter as IntoRecords>::Cell: AsStr + Drop,
     requires { R.is_lawful records }
     ensures { (rows : List (List R.Iter.Cell)) × R.tells records rows
-        × (let problem = problem_of (spanned_look config.now) (line_measure R.Iter.Cell.text) (R.columns records) rows Columns in
+        × (let problem = problem_of (spanned_grid config.now) (line_measure R.Iter.Cell.text) (R.columns records) rows Columns in
         (IsTrue result ↔ IsAccepted problem widths.now cells.now) × (IsTrue result → IsLeast problem widths.now)) }
 {
     check_width_witness(records, config, widths, cells)

@@ -8,7 +8,7 @@ ghost use Rattle.papergrid_least.specs.Answers.{AreLeastSizes, NoneFits};
 ghost use Rattle.papergrid_text.specs.HeldRows.{column_count, rows_held};
 ghost use Rattle.papergrid_values.specs.declared.direction.Direction.TheVariants.{Columns};
 ghost use Rattle.papergrid_walk.specs.Cells.{problem_of};
-ghost use Rattle.papergrid_walk.specs.Looks.{compact_look, spanned_look};
+ghost use Rattle.papergrid_walk.specs.Grids.{compact_grid, spanned_grid};
 ghost use Rattle.papergrid_walk.specs.Measures.{std_line_measure};
 ghost use Rattle.papergrid_uses.specs.Rows.{cells_of, kept_measure, text_measure};
 
@@ -28,7 +28,7 @@ pub fn of_measured(
     records: &VecRecords<Text<&str>>,
     config: &SpannedConfig,
 ) -> Result<(Vec<usize>, Vec<usize>), LayoutError>
-    ensures { AreBothSized (spanned_look config.now) kept_measure (column_count records.now)
+    ensures { AreBothSized (spanned_grid config.now) kept_measure (column_count records.now)
         (cells_of (rows_held records.now).items) result }
 {
     let mut dimension = PeekableGridDimension::new(alloc);
@@ -42,7 +42,7 @@ pub fn of_compact(
     rows: &[Vec<String>],
     config: &CompactConfig,
 ) -> Result<usize, LayoutError>
-    ensures { let problem = problem_of (compact_look config.now) (std_line_measure string_bytes) 3
+    ensures { let problem = problem_of (compact_grid config.now) (std_line_measure string_bytes) 3
         (cells_of rows.now) Columns in
         MatchResult result (λ width. width ≡ slice_index (sizes_of problem) 0) (IsRefused problem) }
 {
@@ -57,7 +57,7 @@ pub fn of_crossing(
     rows: &[Vec<&str>],
     config: &SpannedConfig,
 ) -> Result<(Vec<usize>, Vec<usize>), LayoutError>
-    ensures { AnswersBothWhere (spanned_look config.now) text_measure 3 (cells_of rows.now)
+    ensures { AnswersBothWhere (spanned_grid config.now) text_measure 3 (cells_of rows.now)
         NoneFits (λ problem sizes. AreLeastSizes problem sizes.items) result }
 {
     let mut dimension = LeastGridDimension::new(alloc);

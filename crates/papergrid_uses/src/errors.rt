@@ -1,11 +1,11 @@
 //! Errors of the library as an `anyhow::Error`, by `?`.
 
 ghost use Rattle.std.specs.Prelude.{◌≡◌, All, IfOk, List, length, slice_index, true, ℕ};
-ghost use Rattle.papergrid.specs.Looks.{look_of};
+ghost use Rattle.papergrid.specs.Grids.{grid_of};
 ghost use Rattle.papergrid_config.specs.Applied.{is_in_range};
 ghost use Rattle.papergrid_layout.specs.Answers.{AreBothSizes};
 ghost use Rattle.papergrid_layout.specs.Places.{HasPlace};
-ghost use Rattle.papergrid_walk.specs.Looks.{spanned_look};
+ghost use Rattle.papergrid_walk.specs.Grids.{spanned_grid};
 ghost use Rattle.papergrid_uses.specs.Rows.{cells_of, text_measure};
 
 use crate::settings::told;
@@ -14,7 +14,7 @@ use papergrid::config::Position;
 use papergrid::config::spanned::{Setting, SpannedConfig};
 use papergrid::dimension::iterable::IterGridDimension;
 use papergrid::dimension::{Estimate, Place, place};
-use papergrid::laws::look_by_settings;
+use papergrid::laws::grid_by_settings;
 use papergrid::records::IterRecords;
 use std::alloc::Global;
 
@@ -25,10 +25,10 @@ pub fn place_in(
     config: &SpannedConfig,
     position: Position,
 ) -> Result<Place>
-    ensures { let look = spanned_look config.now in
+    ensures { let grid = spanned_grid config.now in
         IfOk result (λ place. (widths : List ℕ) × (heights : List ℕ)
-        × AreBothSizes look text_measure 3 (cells_of rows.now) widths heights
-        × HasPlace look (slice_index widths) (slice_index heights) (length rows.now, 3) position place) }
+        × AreBothSizes grid text_measure 3 (cells_of rows.now) widths heights
+        × HasPlace grid (slice_index widths) (slice_index heights) (length rows.now, 3) position place) }
 {
     let mut sizes = IterGridDimension::new(alloc);
     sizes
@@ -40,12 +40,12 @@ pub fn place_in(
 /// The same of the first cell, by a list of settings. Condition: each setting is in range.
 pub fn first_place(alloc: Global, settings: Vec<Setting>, rows: &[Vec<&str>]) -> Result<Place>
     requires { All (λ setting. is_in_range setting ≡ true) settings.items }
-    ensures { let look = look_of settings.items in
+    ensures { let grid = grid_of settings.items in
         IfOk result (λ place. (widths : List ℕ) × (heights : List ℕ)
-        × AreBothSizes look text_measure 3 (cells_of rows.now) widths heights
-        × HasPlace look (slice_index widths) (slice_index heights) (length rows.now, 3) (record { row = 0; col = 0 }) place) }
+        × AreBothSizes grid text_measure 3 (cells_of rows.now) widths heights
+        × HasPlace grid (slice_index widths) (slice_index heights) (length rows.now, 3) (record { row = 0; col = 0 }) place) }
 {
-    look_by_settings();
+    grid_by_settings();
     let config = told(alloc, settings)?;
     place_in(alloc, rows, &config, Position::new(0, 0))
 }

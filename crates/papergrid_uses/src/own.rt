@@ -3,7 +3,7 @@
 ghost use Rattle.std.specs.Prelude.{◌<◌, string_bytes};
 ghost use Rattle.papergrid_layout.specs.Answers.{AreBothSized};
 ghost use Rattle.papergrid_text.specs.Cut.{cut_rows};
-ghost use Rattle.papergrid_walk.specs.Looks.{spanned_look};
+ghost use Rattle.papergrid_walk.specs.Grids.{spanned_grid};
 ghost use Rattle.papergrid_walk.specs.Measures.{line_measure};
 
 use papergrid::config::spanned::SpannedConfig;
@@ -75,7 +75,7 @@ pub fn of_flat(
     flat: &Flat,
     config: &SpannedConfig,
 ) -> Result<(Vec<usize>, Vec<usize>), LayoutError>
-    ensures { AreBothSized (spanned_look config.now) (line_measure string_bytes) flat.now.columns
+    ensures { AreBothSized (spanned_grid config.now) (line_measure string_bytes) flat.now.columns
         (cut_rows flat.now.columns flat.now.texts.items) result }
 {
     let mut dimension = IterGridDimension::new(alloc);

@@ -2,7 +2,7 @@
 
 ghost use Rattle.std.specs.Prelude.{◌≡◌, ◌<◌, ℕ, IfErr, IfOk};
 ghost use Rattle.papergrid_layout.specs.Places.{ArePlacesRefused, HaveAllPlaces, IsFirstOver, IsPlaced};
-ghost use Rattle.papergrid_walk.specs.Looks.{spanned_look};
+ghost use Rattle.papergrid_walk.specs.Grids.{spanned_grid};
 
 use papergrid::config::Position;
 use papergrid::config::spanned::SpannedConfig;
@@ -18,7 +18,7 @@ pub fn place_of<D: Dimension>(
 ) -> Result<Place, PlaceError>
     requires columns { (column : ℕ) → column < shape.1 → D.has_column sizes.now column }
     requires rows { (row : ℕ) → row < shape.0 → D.has_row sizes.now row }
-    ensures { IsPlaced (spanned_look config.now) (D.width_of sizes.now) (D.height_of sizes.now) shape position result }
+    ensures { IsPlaced (spanned_grid config.now) (D.width_of sizes.now) (D.height_of sizes.now) shape position result }
 {
     place(sizes, config, shape, position)
 }
@@ -33,9 +33,9 @@ pub fn all_places<D: Dimension>(
     requires columns { (column : ℕ) → column < shape.1 → D.has_column sizes.now column }
     requires rows { (row : ℕ) → row < shape.0 → D.has_row sizes.now row }
     ensures ok { IfOk result (λ list.
-        HaveAllPlaces (spanned_look config.now) (D.width_of sizes.now) (D.height_of sizes.now) shape list.items) }
+        HaveAllPlaces (spanned_grid config.now) (D.width_of sizes.now) (D.height_of sizes.now) shape list.items) }
     ensures err { IfErr result
-        (ArePlacesRefused (spanned_look config.now) (D.width_of sizes.now) (D.height_of sizes.now) shape) }
+        (ArePlacesRefused (spanned_grid config.now) (D.width_of sizes.now) (D.height_of sizes.now) shape) }
 {
     places(alloc, sizes, config, shape)
 }
@@ -50,7 +50,7 @@ pub fn clicked<D: Dimension>(
 ) -> Option<Position>
     requires columns { (column : ℕ) → column < shape.1 → D.has_column sizes.now column }
     requires rows { (row : ℕ) → row < shape.0 → D.has_row sizes.now row }
-    ensures { IsFirstOver (spanned_look config.now) (D.width_of sizes.now) (D.height_of sizes.now) shape column line result }
+    ensures { IsFirstOver (spanned_grid config.now) (D.width_of sizes.now) (D.height_of sizes.now) shape column line result }
 {
     cell_at(sizes, config, shape, column, line)
 }

@@ -2,7 +2,7 @@
 
 ghost use Rattle.std.specs.Prelude.{◌≡◌, All, IfOk, true};
 ghost use Rattle.papergrid.specs.Layouts.{IsLaidOut};
-ghost use Rattle.papergrid.specs.Looks.{look_of};
+ghost use Rattle.papergrid.specs.Grids.{grid_of};
 ghost use Rattle.papergrid_config.specs.Applied.{is_in_range};
 ghost use Rattle.papergrid_config.specs.Told.{IsTold};
 ghost use Rattle.papergrid_maps.specs.MapHeld.{held_value};
@@ -59,7 +59,7 @@ pub fn laid_out(
     rows: &[Vec<&str>],
 ) -> Result<IterGridDimension, LayoutError>
     requires { All (λ setting. is_in_range setting ≡ true) settings.items }
-    ensures { IsLaidOut (look_of settings.items) text_measure 3 (cells_of rows.now) result }
+    ensures { IsLaidOut (grid_of settings.items) text_measure 3 (cells_of rows.now) result }
 {
     layout(alloc, settings, IterRecords::new(rows, 3, None))
 }

@@ -7,7 +7,7 @@ ghost use Rattle.papergrid_axis.specs.Sizes.{sizes_of};
 ghost use Rattle.papergrid_layout.specs.Answers.{AreBothSized, IsBothRefused, UnlessMemory};
 ghost use Rattle.papergrid_values.specs.declared.direction.Direction.TheVariants.{Columns};
 ghost use Rattle.papergrid_walk.specs.Cells.{problem_of, side, visible_cells};
-ghost use Rattle.papergrid_walk.specs.Looks.{spanned_look};
+ghost use Rattle.papergrid_walk.specs.Grids.{spanned_grid};
 ghost use Rattle.papergrid_walk.specs.Measures.{line_measure};
 ghost use Rattle.papergrid_uses.specs.Rows.{cells_of, text_measure, texts_problem};
 
@@ -25,7 +25,7 @@ pub fn sizes(
     rows: &[Vec<&str>],
     config: &SpannedConfig,
 ) -> Result<(Vec<usize>, Vec<usize>), LayoutError>
-    ensures { AreBothSized (spanned_look config.now) text_measure 3 (cells_of rows.now) result }
+    ensures { AreBothSized (spanned_grid config.now) text_measure 3 (cells_of rows.now) result }
 {
     let mut dimension = IterGridDimension::new(alloc);
     dimension.estimate(IterRecords::new(rows, 3, None), config)?;
@@ -39,7 +39,7 @@ pub fn first_width(
     config: &SpannedConfig,
 ) -> Result<usize, LayoutError>
     ensures { MatchResult result (λ width. width ≡ slice_index (sizes_of (texts_problem config.now 3 rows.now Columns)) 0)
-        (IsBothRefused (spanned_look config.now) text_measure 3 (cells_of rows.now)) }
+        (IsBothRefused (spanned_grid config.now) text_measure 3 (cells_of rows.now)) }
 {
     let mut dimension = IterGridDimension::new(alloc);
     dimension.estimate(IterRecords::new(rows, 3, None), config)?;
@@ -72,12 +72,12 @@ where
     requires { R.is_lawful records }
     ensures fits { UnlessMemory result ((cells : List (List R.Iter.Cell)) × R.tells records cells
         × Answers (λ problem total. (widths : List ℕ) × (sum widths ≤ total) × Fits problem widths)
-        (problem_of (spanned_look config.now) (line_measure R.Iter.Cell.text) (R.columns records) cells Columns) result) }
-    ensures covers { let look = spanned_look config.now in
+        (problem_of (spanned_grid config.now) (line_measure R.Iter.Cell.text) (R.columns records) cells Columns) result) }
+    ensures covers { let grid = spanned_grid config.now in
         let measure = line_measure R.Iter.Cell.text in
         UnlessMemory result ((cells : List (List R.Iter.Cell)) × R.tells records cells × MatchResult result
-        (λ total. All (λ cell. side Columns (measure cell.1) + look.before Columns cell.0 + look.after Columns cell.0 ≤ total)
-        (visible_cells look cells)) (IsRefused (problem_of look measure (R.columns records) cells Columns))) }
+        (λ total. All (λ cell. side Columns (measure cell.1) + grid.before Columns cell.0 + grid.after Columns cell.0 ≤ total)
+        (visible_cells grid cells)) (IsRefused (problem_of grid measure (R.columns records) cells Columns))) }
 {
     total_covers_cells::<<<R as Records>::Iter as IntoRecords>::Cell>();
     IterGridDimension::width_total(alloc, records, config)

@@ -6,15 +6,15 @@ use Rattle.std.proofs.lemmas.List.Kept.{AllPairs-cons, AllPairs-filter}
 use Rattle.papergrid_values.specs.declared.position.Position.{Position}
 use Rattle.papergrid_values.specs.declared.direction.Direction.{Direction}
 use Rattle.papergrid_values.specs.declared.direction.Direction.TheVariants.{Columns, Rows}
-use Rattle.papergrid_axis.specs.declared.seen.Seen.{Seen}
+use Rattle.papergrid_axis.specs.declared.kept.Kept.{Kept}
 use Rattle.papergrid_axis.specs.ForProofs.Checks.{AreDistinct}
 use Rattle.papergrid_axis.specs.Ranges.{place_of}
-use Rattle.papergrid_axis.specs.ForProofs.Seen.{Holds, IsSeen, is_single}
-use Rattle.papergrid_axis.proofs.SeenLemmas.{below-own_limit}
+use Rattle.papergrid_axis.specs.ForProofs.Kept.{Holds, IsKept, is_single}
+use Rattle.papergrid_axis.proofs.KeptLemmas.{below-own_limit}
 use Rattle.papergrid_values.specs.Positions.{IsBefore}
 use Rattle.papergrid_walk.specs.Cells.{asked, count_along, demands_of, placed, placed_from, placed_row, visible_cells}
 use Rattle.papergrid_walk.specs.ForProofs.Limits.{limit_along}
-use Rattle.papergrid_walk.specs.Looks.{Look}
+use Rattle.papergrid_walk.specs.Grids.{Grid}
 
 pub count-le : (direction : Direction) (columns n : ℕ) → n < 18446744073709551616 → count_along direction columns n ≤ limit_along direction columns
 count-le Columns columns n l = omega arith
@@ -72,28 +72,28 @@ module _ {C : Type 0} where
       (from-above n (r + 1) rows (omega arith))
 
   -- the limit of a walk tells which of the single cells are in the table
-  pub below-limit : (direction : Direction) (look : Look) (measure : C → ℕ × ℕ) (columns : ℕ) (rows : List (List C)) →
-      All (λ d. is_single (limit_along direction columns) d ≡ true → d.start < count_along direction columns (length rows)) (demands_of direction look measure rows)
-  below-limit Columns look measure columns rows = below-own_limit columns (demands_of Columns look measure rows)
-  below-limit Rows look measure columns rows =
-      All-map (λ d. is_single (limit_along Rows columns) d ≡ true → d.start < length rows) (asked Rows look measure) (visible_cells look rows)
-      (All-weaker (λ x. x.0.row < length rows) (λ x. is_single (limit_along Rows columns) (asked Rows look measure x) ≡ true → x.0.row < length rows) (λ x l t. l) (visible_cells look rows)
-      (All-filter (λ cell. look.shows cell.0) (λ x. x.0.row < length rows) (placed rows) (from-above (length rows) 0 rows (omega arith))))
+  pub below-limit : (direction : Direction) (grid : Grid) (measure : C → ℕ × ℕ) (columns : ℕ) (rows : List (List C)) →
+      All (λ d. is_single (limit_along direction columns) d ≡ true → d.start < count_along direction columns (length rows)) (demands_of direction grid measure rows)
+  below-limit Columns grid measure columns rows = below-own_limit columns (demands_of Columns grid measure rows)
+  below-limit Rows grid measure columns rows =
+      All-map (λ d. is_single (limit_along Rows columns) d ≡ true → d.start < length rows) (asked Rows grid measure) (visible_cells grid rows)
+      (All-weaker (λ x. x.0.row < length rows) (λ x. is_single (limit_along Rows columns) (asked Rows grid measure x) ≡ true → x.0.row < length rows) (λ x l t. l) (visible_cells grid rows)
+      (All-filter (λ cell. grid.shows cell.0) (λ x. x.0.row < length rows) (placed rows) (from-above (length rows) 0 rows (omega arith))))
 
   -- what a walk kept of told rows is what the table asks for
-  pub IsSeen-demands : (direction : Direction) (look : Look) (measure : C → ℕ × ℕ) (columns : ℕ) (rows : List (List C)) (seen : Seen) →
-      count_along direction columns (length rows) ≤ limit_along direction columns → Holds (limit_along direction columns) seen (demands_of direction look measure rows) →
-      IsSeen (count_along direction columns (length rows)) seen (demands_of direction look measure rows)
-  IsSeen-demands direction look measure columns rows seen le held = record {
+  pub IsKept-demands : (direction : Direction) (grid : Grid) (measure : C → ℕ × ℕ) (columns : ℕ) (rows : List (List C)) (kept : Kept) →
+      count_along direction columns (length rows) ≤ limit_along direction columns → Holds (limit_along direction columns) kept (demands_of direction grid measure rows) →
+      IsKept (count_along direction columns (length rows)) kept (demands_of direction grid measure rows)
+  IsKept-demands direction grid measure columns rows kept le held = record {
     limit = limit_along direction columns;
     held = held;
     from_limit = le;
-    below = below-limit direction look measure columns rows;
+    below = below-limit direction grid measure columns rows;
   }
 
   -- the visible cells stand in their order
-  pub AllPairs-visible : (look : Look) (rows : List (List C)) → AllPairs Precedes (visible_cells look rows)
-  AllPairs-visible look rows = AllPairs-filter Precedes (λ cell. look.shows cell.0) (placed rows) (from-precede 0 rows)
+  pub AllPairs-visible : (grid : Grid) (rows : List (List C)) → AllPairs Precedes (visible_cells grid rows)
+  AllPairs-visible grid rows = AllPairs-filter Precedes (λ cell. grid.shows cell.0) (placed rows) (from-precede 0 rows)
 
   differ : (x y : Position × C) → Precedes x y → x.0 ≢ y.0
   differ x y precedes e =
@@ -101,13 +101,13 @@ module _ {C : Type 0} where
       let col : x.0.col ≡ y.0.col = ap (λ (p : Position). p.col) e in
       elim precedes [ inl l ↦ absurd (omega (arith, l, row)) | inr l ↦ let l' = l.1 in absurd (omega (arith, l', col)) ]
 
-  module _ (direction : Direction) (look : Look) (measure : C → ℕ × ℕ) where
-    asked-distinct : (xs : List (Position × C)) → AllPairs Precedes xs → AreDistinct (map (asked direction look measure) xs)
+  module _ (direction : Direction) (grid : Grid) (measure : C → ℕ × ℕ) where
+    asked-distinct : (xs : List (Position × C)) → AllPairs Precedes xs → AreDistinct (map (asked direction grid measure) xs)
     asked-distinct [] precede = λ i j d l l'. absurd (omega arith)
     asked-distinct (x ∷ xs) precede =
-        AllPairs-cons (λ a b. place_of a ≢ place_of b) (asked direction look measure x) (map (asked direction look measure) xs)
-        (All-map (λ b. place_of (asked direction look measure x) ≢ place_of b) (asked direction look measure) xs (λ k d l. differ x (get_or xs k d) (precede 0 (suc k) d (omega arith) (omega arith))))
+        AllPairs-cons (λ a b. place_of a ≢ place_of b) (asked direction grid measure x) (map (asked direction grid measure) xs)
+        (All-map (λ b. place_of (asked direction grid measure x) ≢ place_of b) (asked direction grid measure) xs (λ k d l. differ x (get_or xs k d) (precede 0 (suc k) d (omega arith) (omega arith))))
         (asked-distinct xs (λ i j d l l'. precede (suc i) (suc j) d (omega arith) (omega arith)))
 
-    pub AreDistinct-demands : (rows : List (List C)) → AreDistinct (demands_of direction look measure rows)
-    AreDistinct-demands rows = asked-distinct (visible_cells look rows) (AllPairs-visible look rows)
+    pub AreDistinct-demands : (rows : List (List C)) → AreDistinct (demands_of direction grid measure rows)
+    AreDistinct-demands rows = asked-distinct (visible_cells grid rows) (AllPairs-visible grid rows)

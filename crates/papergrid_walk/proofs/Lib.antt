@@ -1,5 +1,5 @@
 pub mod LevelLemmas
-pub mod LookLemmas
+pub mod GridLemmas
 pub mod PassLemmas
 pub mod HiddenLemmas
 pub mod SpanLemmas

@@ -3,7 +3,7 @@ use Rattle.std.proofs.Common.{◌≡◌, ◌+◌, ◌≤◌, ℕ, true, List, []
 use Rattle.std.proofs.lemmas.Bool.{cases_lt}
 use Rattle.papergrid_values.specs.declared.direction.Direction.TheVariants.{Columns, Rows}
 use Rattle.papergrid_maps.specs.Anchors.{HasAnchor}
-use Rattle.papergrid_walk.specs.Looks.{Look}
+use Rattle.papergrid_walk.specs.Grids.{Grid}
 use Rattle.std.proofs.lemmas.Option.{none-some}
 use Rattle.papergrid_values.specs.declared.position.Position.{Position}
 use Rattle.papergrid_maps.specs.declared.anchors.Anchor.{Anchor}
@@ -13,42 +13,42 @@ use Rattle.papergrid_walk.proofs.HiddenLemmas.{before-from}
 use Rattle.papergrid_walk.specs.ForProofs.Shown.{AreAnchorsOf, Shows, anchor_in}
 
 -- the start of a walk
-pub shows_first : (look : Look) (anchors : List Anchor) (columns : ℕ) → AreAnchorsOf look anchors →
-    Shows look record { anchors = anchors; columns = columns; passed = 0 } 0 0
-shows_first look anchors columns are = record { anchors = are; ahead = λ q below right k a passed is. absurd (omega (arith, passed)) }
+pub shows_first : (grid : Grid) (anchors : List Anchor) (columns : ℕ) → AreAnchorsOf grid anchors →
+    Shows grid record { anchors = anchors; columns = columns; passed = 0 } 0 0
+shows_first grid anchors columns are = record { anchors = are; ahead = λ q below right k a passed is. absurd (omega (arith, passed)) }
 
 -- one position on
-pub shows_later : (look : Look) (old new : Walk) (p : Position) → new.anchors ≡ old.anchors →
-    ((q : Position) → IsBefore p q → IsAhead new q) → Shows look old p.row p.col → Shows look new p.row (p.col + 1)
-shows_later look old new p same later so_far = record {
-  anchors = subst (AreAnchorsOf look) (sym same) so_far.anchors;
+pub shows_later : (grid : Grid) (old new : Walk) (p : Position) → new.anchors ≡ old.anchors →
+    ((q : Position) → IsBefore p q → IsAhead new q) → Shows grid old p.row p.col → Shows grid new p.row (p.col + 1)
+shows_later grid old new p same later so_far = record {
+  anchors = subst (AreAnchorsOf grid) (sym same) so_far.anchors;
   ahead = λ q below right. later q (before-from p q below (λ e. let k = right e in omega (arith, k)));
 }
 
 -- where there are no anchors, all cells are visible
-pub shown_everywhere : (look : Look) → AreAnchorsOf look [] → (p : Position) → look.shows p ≡ true
-shown_everywhere look are p = (are.hide p).1 (λ hidden. none-some hidden.anchor hidden.is_anchor)
+pub shown_everywhere : (grid : Grid) → AreAnchorsOf grid [] → (p : Position) → grid.shows p ≡ true
+shown_everywhere grid are p = (are.hide p).1 (λ hidden. none-some hidden.anchor hidden.is_anchor)
 
 span_one : (n : ℕ) → 1 ≤ n → (2 ≤ n → ⊥) → n ≡ 1
 span_one n from low = elim (cases_lt n 2) [ inl below ↦ omega arith | inr big ↦ absurd (low big) ]
 
 -- without an anchor a position has no span of two or more
-pub single_in : (look : Look) (anchors : List Anchor) (p : Position) → AreAnchorsOf look anchors → (HasAnchor anchors p → ⊥) →
-    record { position = p; rows = 1; cols = 1 } ≡ anchor_in look p
-single_in look anchors p are none =
-    let tall = span_one (look.span Rows p) (are.from_one Rows p) (λ big. none (are.spans.tall p big)) in
-    let wide = span_one (look.span Columns p) (are.from_one Columns p) (λ big. none (are.spans.wide p big)) in
+pub single_in : (grid : Grid) (anchors : List Anchor) (p : Position) → AreAnchorsOf grid anchors → (HasAnchor anchors p → ⊥) →
+    record { position = p; rows = 1; cols = 1 } ≡ anchor_in grid p
+single_in grid anchors p are none =
+    let tall = span_one (grid.span Rows p) (are.from_one Rows p) (λ big. none (are.spans.tall p big)) in
+    let wide = span_one (grid.span Columns p) (are.from_one Columns p) (λ big. none (are.spans.wide p big)) in
     λ i. record { position = p; rows = sym tall i; cols = sym wide i }
 
 -- the spans of an anchor are those of its position
-pub anchor_of : (look : Look) (anchors : List Anchor) (k : ℕ) (a : Anchor) → AreAnchorsOf look anchors → slice_get anchors k ≡ Some a →
-    a ≡ anchor_in look a.position
-anchor_of look anchors k a are is = λ i. record { position = a.position; rows = are.spans.has_rows k a is i; cols = are.spans.has_cols k a is i }
+pub anchor_of : (grid : Grid) (anchors : List Anchor) (k : ℕ) (a : Anchor) → AreAnchorsOf grid anchors → slice_get anchors k ≡ Some a →
+    a ≡ anchor_in grid a.position
+anchor_of grid anchors k a are is = λ i. record { position = a.position; rows = are.spans.has_rows k a is i; cols = are.spans.has_cols k a is i }
 
 -- the anchor of a position has its spans
-pub anchor_found : (look : Look) (anchors : List Anchor) (p : Position) (found : Anchor) → AreAnchorsOf look anchors → IsAnchorAt anchors p found →
-    found ≡ anchor_in look p
-anchor_found look anchors p found are is = elim is [
-  | inl has ↦ anchor_of look anchors has.0 found are has.1 ∙ ap (anchor_in look) has.2
-  | inr none ↦ none.1 ∙ single_in look anchors p are none.0
+pub anchor_found : (grid : Grid) (anchors : List Anchor) (p : Position) (found : Anchor) → AreAnchorsOf grid anchors → IsAnchorAt anchors p found →
+    found ≡ anchor_in grid p
+anchor_found grid anchors p found are is = elim is [
+  | inl has ↦ anchor_of grid anchors has.0 found are has.1 ∙ ap (anchor_in grid) has.2
+  | inr none ↦ none.1 ∙ single_in grid anchors p are none.0
 ]

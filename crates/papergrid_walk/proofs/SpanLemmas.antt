@@ -10,7 +10,7 @@ use Rattle.papergrid_values.specs.declared.direction.Direction.TheVariants.{Colu
 use Rattle.papergrid_axis.specs.ForProofs.Checks.{StayWithin}
 use Rattle.papergrid_maps.specs.declared.compact.CompactConfig.{CompactConfig}
 use Rattle.papergrid_config.specs.declared.spanned.SpannedConfig.{SpannedConfig}
-use Rattle.papergrid_walk.specs.Looks.{compact_look, span_along, spanned_look}
+use Rattle.papergrid_walk.specs.Grids.{compact_grid, span_along, spanned_grid}
 use Rattle.papergrid_walk.specs.ForProofs.Shown.{AreAnchorsOf}
 use Rattle.papergrid_values.specs.declared.position.Position.{Position}
 use Rattle.papergrid_maps.specs.declared.anchors.Anchor.{Anchor}
@@ -87,15 +87,15 @@ test-by-hidden spans anchors p are =
 
 -- the anchors of spans are what a walk by them takes
 pub anchors_of_config : (config : SpannedConfig) (anchors : List Anchor) → AreAnchors (column_span config.spans) (row_span config.spans) anchors →
-    ((p : Position) → (1 ≤ column_span config.spans p) × (1 ≤ row_span config.spans p)) → AreAnchorsOf (spanned_look config) anchors
+    ((p : Position) → (1 ≤ column_span config.spans p) × (1 ≤ row_span config.spans p)) → AreAnchorsOf (spanned_grid config) anchors
 anchors_of_config config anchors are from_one = record {
   hide = λ p. test-by-hidden config.spans anchors p are;
   spans = are;
-  from_one = λ direction p. elim direction as (λ d. 1 ≤ (spanned_look config).span d p) [ Columns ↦ (from_one p).0 | Rows ↦ (from_one p).1 ];
+  from_one = λ direction p. elim direction as (λ d. 1 ≤ (spanned_grid config).span d p) [ Columns ↦ (from_one p).0 | Rows ↦ (from_one p).1 ];
 }
 
 -- where all cells are visible and of span 1 there are no anchors
-pub none_hidden : (config : CompactConfig) → AreAnchorsOf (compact_look config) []
+pub none_hidden : (config : CompactConfig) → AreAnchorsOf (compact_grid config) []
 none_hidden config = record {
   hide = λ p. (λ shown hidden. none-some hidden.anchor hidden.is_anchor, λ shown. refl);
   spans = record {

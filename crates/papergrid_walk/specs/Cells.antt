@@ -6,7 +6,7 @@ use Rattle.papergrid_values.specs.declared.direction.Direction.{Direction}
 use Rattle.papergrid_values.specs.declared.direction.Direction.TheVariants.{Columns, Rows}
 use Rattle.papergrid_axis.specs.Problem.{Problem}
 use Rattle.papergrid_axis.specs.Ranges.{demand_of}
-use Rattle.papergrid_walk.specs.Looks.{Look}
+use Rattle.papergrid_walk.specs.Grids.{Grid}
 
 -- the width, or the height, of a measure (width, height)
 abbrev pub side : Direction → ℕ × ℕ → ℕ
@@ -28,35 +28,35 @@ module _ {C : Type 0} where
   abbrev pub placed : List (List C) → List (Position × C)
   placed rows = placed_from 0 rows
 
-  abbrev pub visible_of : Look → List (Position × C) → List (Position × C)
-  visible_of look cells = filter (λ cell. look.shows cell.0) cells
+  abbrev pub visible_of : Grid → List (Position × C) → List (Position × C)
+  visible_of grid cells = filter (λ cell. grid.shows cell.0) cells
 
-  abbrev pub visible_cells : Look → List (List C) → List (Position × C)
-  visible_cells look rows = visible_of look (placed rows)
+  abbrev pub visible_cells : Grid → List (List C) → List (Position × C)
+  visible_cells grid rows = visible_of grid (placed rows)
 
   -- what a cell asks for: its measure and the paddings before and after it, over its span
-  abbrev pub asked : Direction → Look → (C → ℕ × ℕ) → Position × C → Demand
-  asked direction look measure cell =
-      demand_of direction cell.0 (look.span direction cell.0)
-      (side direction (measure cell.1) + look.before direction cell.0 + look.after direction cell.0)
+  abbrev pub asked : Direction → Grid → (C → ℕ × ℕ) → Position × C → Demand
+  asked direction grid measure cell =
+      demand_of direction cell.0 (grid.span direction cell.0)
+      (side direction (measure cell.1) + grid.before direction cell.0 + grid.after direction cell.0)
 
-  abbrev pub asked_by : Direction → Look → (C → ℕ × ℕ) → List (Position × C) → List Demand
-  asked_by direction look measure cells = map (asked direction look measure) (visible_of look cells)
+  abbrev pub asked_by : Direction → Grid → (C → ℕ × ℕ) → List (Position × C) → List Demand
+  asked_by direction grid measure cells = map (asked direction grid measure) (visible_of grid cells)
 
   -- what the visible cells of the rows ask for, by row and then by column
-  abbrev pub demands_of : Direction → Look → (C → ℕ × ℕ) → List (List C) → List Demand
-  demands_of direction look measure rows = asked_by direction look measure (placed rows)
+  abbrev pub demands_of : Direction → Grid → (C → ℕ × ℕ) → List (List C) → List Demand
+  demands_of direction grid measure rows = asked_by direction grid measure (placed rows)
 
 -- the number of columns, or of rows
 abbrev pub count_along : Direction → ℕ → ℕ → ℕ
 count_along Columns columns rows = columns
 count_along Rows columns rows = rows
 
-module _ {C : Type 0} (look : Look) (measure : C → ℕ × ℕ) where
+module _ {C : Type 0} (grid : Grid) (measure : C → ℕ × ℕ) where
   -- what the sizes along a direction, of so many columns (rows), are found for
   abbrev pub problem_with : Direction → ℕ → List (List C) → Problem
   problem_with direction count rows =
-      record { count = count; line = look.draws direction count; demands = demands_of direction look measure rows }
+      record { count = count; line = grid.draws direction count; demands = demands_of direction grid measure rows }
 
   -- the same, of rows of so many columns
   abbrev pub problem_of : ℕ → List (List C) → Direction → Problem

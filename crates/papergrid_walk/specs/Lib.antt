@@ -1,6 +1,6 @@
 -- The definitions that the contracts cite.
 pub mod Cells
 pub mod Hidden
-pub mod Looks
+pub mod Grids
 pub mod Measures
 pub mod ForProofs

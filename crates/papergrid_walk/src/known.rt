@@ -37,7 +37,7 @@ const NO_PADDINGS: Paddings = Paddings {
 impl KnownPaddings {
     /// What is known before the first cell. Where all cells are alike it takes no memory.
     pub fn new<S: Settings>(alloc: Global, settings: &S) -> Result<KnownPaddings, AllocError>
-        ensures { IfOk result (λ known. Knows (S.look settings.now) (S.set_for settings.now) known) }
+        ensures { IfOk result (λ known. Knows (S.grid settings.now) (S.set_for settings.now) known) }
     {
         let common = settings.common_paddings();
         let own = match common {
@@ -62,9 +62,9 @@ impl KnownPaddings {
         settings: &S,
         position: Position,
     ) -> Result<Paddings, AllocError>
-        requires { Knows (S.look settings.now) (S.set_for settings.now) self.old }
-        ensures value { IfOk result (λ paddings. paddings ≡ paddings_at (S.look settings.now) position) }
-        ensures knows { IfOk result (λ _. Knows (S.look settings.now) (S.set_for settings.now) self.new) }
+        requires { Knows (S.grid settings.now) (S.set_for settings.now) self.old }
+        ensures value { IfOk result (λ paddings. paddings ≡ paddings_at (S.grid settings.now) position) }
+        ensures knows { IfOk result (λ _. Knows (S.grid settings.now) (S.set_for settings.now) self.new) }
     {
         if !self.are_common {
             self.decide(settings, position)?;
@@ -77,9 +77,9 @@ impl KnownPaddings {
     #[inline(never)]
     fn decide<S: Settings>(&mut self, settings: &S, position: Position) -> Result<(), AllocError>
         requires apart { self.old.are_common ≡ false }
-        requires knows { Knows (S.look settings.now) (S.set_for settings.now) self.old }
-        ensures value { OnOk result (self.new.last ≡ paddings_at (S.look settings.now) position) }
-        ensures knows { OnOk result (Knows (S.look settings.now) (S.set_for settings.now) self.new) }
+        requires knows { Knows (S.grid settings.now) (S.set_for settings.now) self.old }
+        ensures value { OnOk result (self.new.last ≡ paddings_at (S.grid settings.now) position) }
+        ensures knows { OnOk result (Knows (S.grid settings.now) (S.set_for settings.now) self.new) }
     {
         let Position { row, col } = position;
         if let Some(paddings) = self.of_cell(settings, position) {
@@ -101,7 +101,7 @@ impl KnownPaddings {
     /// What is set for a cell. Most cells have nothing, and are not looked up.
     fn of_cell<S: Settings>(&self, settings: &S, position: Position) -> Option<Paddings>
         requires apart { self.now.are_common ≡ false }
-        requires knows { Knows (S.look settings.now) (S.set_for settings.now) self.now }
+        requires knows { Knows (S.grid settings.now) (S.set_for settings.now) self.now }
         ensures { result ≡ S.set_for settings.now (Cell position.row position.col) }
     {
         if !self.own.passes(position) {
@@ -116,9 +116,9 @@ impl KnownPaddings {
         settings: &S,
         col: usize,
     ) -> Result<Option<Paddings>, AllocError>
-        requires { Knows (S.look settings.now) (S.set_for settings.now) self.old }
+        requires { Knows (S.grid settings.now) (S.set_for settings.now) self.old }
         ensures value { IfOk result (λ found. found ≡ S.set_for settings.now (Column col)) }
-        ensures knows { IfOk result (λ _. Knows (S.look settings.now) (S.set_for settings.now) self.new) }
+        ensures knows { IfOk result (λ _. Knows (S.grid settings.now) (S.set_for settings.now) self.new) }
     {
         if col < self.columns.len() {
             return Ok(self.columns[col]);

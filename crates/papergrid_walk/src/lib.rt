@@ -21,7 +21,7 @@ pub mod sweep;
 pub mod visitor;
 
 pub use measure::Measure;
-pub use needs::{Both, gather, gather_both};
+pub use needs::{KeptBoth, gather, gather_both};
 pub use settings::{Paddings, Settings};
 pub use sweep::Sweep;
 pub use visitor::{Visitor, walk};

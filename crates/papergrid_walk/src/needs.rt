@@ -2,13 +2,13 @@
 
 ghost use Rattle.std.specs.Prelude.{◌≡◌, ℕ, ◌+◌, ◌-◌, ◌<◌, ◌≤◌, ◌^◌, ◌∷◌, [], ⊤, if◌then◌else◌, IfOk, IfSome, List, None, OnOk, Some, length};
 ghost use Rattle.papergrid_values.specs.declared.direction.Direction.TheVariants.{Columns, Rows};
-ghost use Rattle.papergrid_axis.specs.ForProofs.Seen.{Adds, IsSeen};
+ghost use Rattle.papergrid_axis.specs.ForProofs.Kept.{Adds, IsKept};
 ghost use Rattle.papergrid_walk.specs.Cells.{asked_by, count_along, demands_of};
 ghost use Rattle.papergrid_walk.specs.ForProofs.Limits.{limit_along};
 ghost use Rattle.papergrid_axis.specs.Ranges.{demand_of};
-ghost use Rattle.papergrid_walk.specs.Looks.{Look};
+ghost use Rattle.papergrid_walk.specs.Grids.{Grid};
 ghost use Rattle.papergrid_walk.specs.ForProofs.Paddings.{Knows, paddings_at};
-ghost use Rattle.papergrid_walk.specs.ForProofs.Pairs.{AddsBoth, AreBothSeen, StandsAt};
+ghost use Rattle.papergrid_walk.specs.ForProofs.Pairs.{AddsBoth, AreBothKept, StandsAt};
 ghost use Rattle.papergrid_walk.specs.ForProofs.Shown.{Shows, anchor_in};
 ghost use Rattle.papergrid_walk.specs.ForProofs.Visits.{adds_more, adds_none, shows_turn};
 ghost use Rattle.std.proofs.Common.{◌∙◌, ap, refl};
@@ -19,8 +19,8 @@ use crate::measure::Measure;
 use crate::settings::{Paddings, Settings};
 use crate::shown::{sweep_of, visible_anchor};
 use crate::visitor::{Visitor, walk};
-use papergrid_axis::Seen;
-use papergrid_axis::seen::keep;
+use papergrid_axis::Kept;
+use papergrid_axis::kept::keep;
 use papergrid_maps::Anchor;
 use papergrid_text::{IntoRecords, Records};
 use papergrid_values::{Direction, Position};
@@ -42,16 +42,16 @@ fn limit_of(direction: Direction, columns: usize) -> usize
 /// paddings.
 #[inline(always)]
 fn keep_along(
-    seen: &mut Seen,
+    kept: &mut Kept,
     direction: Direction,
     anchor: Anchor,
     size: usize,
     paddings: Paddings,
 ) -> Result<(), AllocError>
     requires { (1 ≤ anchor.cols) × (1 ≤ anchor.rows) }
-    ensures { (look : Look) → anchor ≡ anchor_in look anchor.position → paddings ≡ paddings_at look anchor.position →
-        let need = size + look.before direction anchor.position + look.after direction anchor.position in
-        OnOk result (Adds seen.old seen.new (demand_of direction anchor.position (look.span direction anchor.position) need ∷ [])) }
+    ensures { (grid : Grid) → anchor ≡ anchor_in grid anchor.position → paddings ≡ paddings_at grid anchor.position →
+        let need = size + grid.before direction anchor.position + grid.after direction anchor.position in
+        OnOk result (Adds kept.old kept.new (demand_of direction anchor.position (grid.span direction anchor.position) need ∷ [])) }
 {
     let Paddings {
         left,
@@ -63,7 +63,7 @@ fn keep_along(
         Direction::Columns => (anchor.cols, left, right),
         Direction::Rows => (anchor.rows, top, bottom),
     };
-    keep(seen, direction, anchor.position, span, size, before, after)
+    keep(kept, direction, anchor.position, span, size, before, after)
 }
 
 /// What a walk reads of settings: which cells are visible, their spans and their paddings.
@@ -79,7 +79,7 @@ impl<'a, S: Settings> View<'a, S> {
     /// Before the first cell.
     fn new(alloc: Global, settings: &'a S) -> Result<View<'a, S>, AllocError>
         ensures { IfOk result (λ view. (view.settings.now ≡ settings.now)
-            × Shows (S.look settings.now) view.sweep 0 0 × Knows (S.look settings.now) (S.set_for settings.now) view.known) }
+            × Shows (S.grid settings.now) view.sweep 0 0 × Knows (S.grid settings.now) (S.set_for settings.now) view.known) }
     {
         let sweep = sweep_of(alloc, settings)?;
         Ok(View {
@@ -93,15 +93,15 @@ impl<'a, S: Settings> View<'a, S> {
     /// The spans and the paddings of the cell at a position, where it is visible.
     #[inline(always)]
     fn read(&mut self, position: Position) -> Result<Option<(Anchor, Paddings)>, AllocError>
-        requires shows { Shows (S.look self.old.settings.now) self.old.sweep position.row position.col }
-        requires knows { Knows (S.look self.old.settings.now) (S.set_for self.old.settings.now) self.old.known }
+        requires shows { Shows (S.grid self.old.settings.now) self.old.sweep position.row position.col }
+        requires knows { Knows (S.grid self.old.settings.now) (S.set_for self.old.settings.now) self.old.known }
         requires row_in { position.row < 2 ^ 64 - 1 }
         requires col_in { position.col < 2 ^ 64 - 1 }
-        ensures read { let look = S.look self.old.settings.now in
-            IfOk result (λ found. found ≡ (if look.shows position then Some (anchor_in look position, paddings_at look position) else None)) }
-        ensures later { IfOk result (λ _. Shows (S.look self.old.settings.now) self.new.sweep position.row (position.col + 1)) }
+        ensures read { let grid = S.grid self.old.settings.now in
+            IfOk result (λ found. found ≡ (if grid.shows position then Some (anchor_in grid position, paddings_at grid position) else None)) }
+        ensures later { IfOk result (λ _. Shows (S.grid self.old.settings.now) self.new.sweep position.row (position.col + 1)) }
         ensures settings { IfOk result (λ _. self.new.settings ≡ self.old.settings) }
-        ensures knows { IfOk result (λ _. Knows (S.look self.old.settings.now) (S.set_for self.old.settings.now) self.new.known) }
+        ensures knows { IfOk result (λ _. Knows (S.grid self.old.settings.now) (S.set_for self.old.settings.now) self.new.known) }
     {
         let Some(anchor) = visible_anchor(&mut self.sweep, self.alloc, position)? else {
             return Ok(None);
@@ -116,15 +116,15 @@ impl<'a, S: Settings> View<'a, S> {
 pub struct Needs<'a, M, S> {
     view: View<'a, S>,
     direction: Direction,
-    seen: Seen,
+    kept: Kept,
     measure: PhantomData<M>,
 }
 
 impl<'a, M: Measure<C>, C, S: Settings> Visitor<C> for Needs<'a, M, S> {
-    ghost stands = { λ v row column. StandsAt (S.look v.view.settings.now) (S.set_for v.view.settings.now) v.view.sweep v.view.known row column };
+    ghost stands = { λ v row column. StandsAt (S.grid v.view.settings.now) (S.set_for v.view.settings.now) v.view.sweep v.view.known row column };
 
     ghost visits = { λ v w cells. (w.view.settings ≡ v.view.settings) × (w.direction ≡ v.direction)
-        × Adds v.seen w.seen (asked_by v.direction (S.look v.view.settings.now) M.measured cells) };
+        × Adds v.kept w.kept (asked_by v.direction (S.grid v.view.settings.now) M.measured cells) };
 
     ghost may_fail = { ⊤ };
 
@@ -132,7 +132,7 @@ impl<'a, M: Measure<C>, C, S: Settings> Visitor<C> for Needs<'a, M, S> {
     fn visit(&mut self, position: Position, cell: &C) -> Result<(), AllocError> {
         match self.view.read(position)? {
             Some((anchor, paddings)) => keep_along(
-                &mut self.seen,
+                &mut self.kept,
                 self.direction,
                 anchor,
                 M::measure_along(self.direction, cell),
@@ -142,31 +142,31 @@ impl<'a, M: Measure<C>, C, S: Settings> Visitor<C> for Needs<'a, M, S> {
         }
     }
 
-    ghost none = { λ v. (refl, refl, adds_none v.seen) };
+    ghost none = { λ v. (refl, refl, adds_none v.kept) };
 
     ghost more = { λ u v w cells further first second. (
       second.0 ∙ first.0,
       second.1 ∙ first.1,
-      adds_more M.measured u.direction v.direction (S.look u.view.settings.now) (S.look v.view.settings.now) first.1 (ap (λ s. S.look s.now) first.0)
-          u.seen v.seen w.seen cells further first.2 second.2,
+      adds_more M.measured u.direction v.direction (S.grid u.view.settings.now) (S.grid v.view.settings.now) first.1 (ap (λ s. S.grid s.now) first.0)
+          u.kept v.kept w.kept cells further first.2 second.2,
     ) };
 
-    ghost turns = { λ v row column so_far. (shows_turn (S.look v.view.settings.now) v.view.sweep row column so_far.0, so_far.1) };
+    ghost turns = { λ v row column so_far. (shows_turn (S.grid v.view.settings.now) v.view.sweep row column so_far.0, so_far.1) };
 }
 
 /// What the visible cells met so far need along both directions.
 #[derive(Drop)]
 pub struct BothNeeds<'a, M, S> {
     view: View<'a, S>,
-    both: Both,
+    both: KeptBoth,
     measure: PhantomData<M>,
 }
 
-/// What a walk keeps for both directions.
+/// What a walk gathers along both directions.
 #[derive(Drop)]
-pub struct Both {
-    pub columns: Seen,
-    pub rows: Seen,
+pub struct KeptBoth {
+    pub columns: Kept,
+    pub rows: Kept,
 }
 
 impl<'a, M, S: Settings> BothNeeds<'a, M, S> {
@@ -175,11 +175,11 @@ impl<'a, M, S: Settings> BothNeeds<'a, M, S> {
     fn keep_cell<C>(&mut self, position: Position, cell: &C) -> Result<(), AllocError>
     where
         M: Measure<C>,
-        requires stands { StandsAt (S.look self.old.view.settings.now) (S.set_for self.old.view.settings.now) self.old.view.sweep self.old.view.known position.row position.col }
+        requires stands { StandsAt (S.grid self.old.view.settings.now) (S.set_for self.old.view.settings.now) self.old.view.sweep self.old.view.known position.row position.col }
         requires row_in { position.row < 2 ^ 64 - 1 }
         requires col_in { position.col < 2 ^ 64 - 1 }
-        ensures adds { OnOk result (AddsBoth (S.look self.old.view.settings.now) M.measured self.old.both self.new.both ((position, cell.now) ∷ [])) }
-        ensures stands { OnOk result (StandsAt (S.look self.old.view.settings.now) (S.set_for self.old.view.settings.now) self.new.view.sweep self.new.view.known position.row (position.col + 1)) }
+        ensures adds { OnOk result (AddsBoth (S.grid self.old.view.settings.now) M.measured self.old.both self.new.both ((position, cell.now) ∷ [])) }
+        ensures stands { OnOk result (StandsAt (S.grid self.old.view.settings.now) (S.set_for self.old.view.settings.now) self.new.view.sweep self.new.view.known position.row (position.col + 1)) }
         ensures settings { OnOk result (self.new.view.settings ≡ self.old.view.settings) }
     {
         let Some((anchor, paddings)) = self.view.read(position)? else {
@@ -207,11 +207,11 @@ impl<'a, M, S: Settings> BothNeeds<'a, M, S> {
     fn keep_among_spans<C>(&mut self, position: Position, cell: &C) -> Result<(), AllocError>
     where
         M: Measure<C>,
-        requires stands { StandsAt (S.look self.old.view.settings.now) (S.set_for self.old.view.settings.now) self.old.view.sweep self.old.view.known position.row position.col }
+        requires stands { StandsAt (S.grid self.old.view.settings.now) (S.set_for self.old.view.settings.now) self.old.view.sweep self.old.view.known position.row position.col }
         requires row_in { position.row < 2 ^ 64 - 1 }
         requires col_in { position.col < 2 ^ 64 - 1 }
-        ensures adds { OnOk result (AddsBoth (S.look self.old.view.settings.now) M.measured self.old.both self.new.both ((position, cell.now) ∷ [])) }
-        ensures stands { OnOk result (StandsAt (S.look self.old.view.settings.now) (S.set_for self.old.view.settings.now) self.new.view.sweep self.new.view.known position.row (position.col + 1)) }
+        ensures adds { OnOk result (AddsBoth (S.grid self.old.view.settings.now) M.measured self.old.both self.new.both ((position, cell.now) ∷ [])) }
+        ensures stands { OnOk result (StandsAt (S.grid self.old.view.settings.now) (S.set_for self.old.view.settings.now) self.new.view.sweep self.new.view.known position.row (position.col + 1)) }
         ensures settings { OnOk result (self.new.view.settings ≡ self.old.view.settings) }
     {
         self.keep_cell(position, cell)
@@ -219,9 +219,9 @@ impl<'a, M, S: Settings> BothNeeds<'a, M, S> {
 }
 
 impl<'a, M: Measure<C>, C, S: Settings> Visitor<C> for BothNeeds<'a, M, S> {
-    ghost stands = { λ v row column. StandsAt (S.look v.view.settings.now) (S.set_for v.view.settings.now) v.view.sweep v.view.known row column };
+    ghost stands = { λ v row column. StandsAt (S.grid v.view.settings.now) (S.set_for v.view.settings.now) v.view.sweep v.view.known row column };
 
-    ghost visits = { λ v w cells. (w.view.settings ≡ v.view.settings) × AddsBoth (S.look v.view.settings.now) M.measured v.both w.both cells };
+    ghost visits = { λ v w cells. (w.view.settings ≡ v.view.settings) × AddsBoth (S.grid v.view.settings.now) M.measured v.both w.both cells };
 
     ghost may_fail = { ⊤ };
 
@@ -240,14 +240,14 @@ impl<'a, M: Measure<C>, C, S: Settings> Visitor<C> for BothNeeds<'a, M, S> {
     ghost more = { λ u v w cells further first second. (
       second.0 ∙ first.0,
       (
-        adds_more M.measured Columns Columns (S.look u.view.settings.now) (S.look v.view.settings.now) refl (ap (λ s. S.look s.now) first.0)
+        adds_more M.measured Columns Columns (S.grid u.view.settings.now) (S.grid v.view.settings.now) refl (ap (λ s. S.grid s.now) first.0)
             u.both.columns v.both.columns w.both.columns cells further first.1.0 second.1.0,
-        adds_more M.measured Rows Rows (S.look u.view.settings.now) (S.look v.view.settings.now) refl (ap (λ s. S.look s.now) first.0)
+        adds_more M.measured Rows Rows (S.grid u.view.settings.now) (S.grid v.view.settings.now) refl (ap (λ s. S.grid s.now) first.0)
             u.both.rows v.both.rows w.both.rows cells further first.1.1 second.1.1,
       ),
     ) };
 
-    ghost turns = { λ v row column so_far. (shows_turn (S.look v.view.settings.now) v.view.sweep row column so_far.0, so_far.1) };
+    ghost turns = { λ v row column so_far. (shows_turn (S.grid v.view.settings.now) v.view.sweep row column so_far.0, so_far.1) };
 }
 
 /// What the visible cells of the records ask for along one direction, and the number of rows.
@@ -256,24 +256,24 @@ pub fn gather<M, R: Records + Drop, S: Settings>(
     records: R,
     settings: &S,
     direction: Direction,
-) -> Result<(Seen, usize), AllocError>
+) -> Result<(Kept, usize), AllocError>
 where
     M: Measure<<<R as Records>::Iter as IntoRecords>::Cell>,
     <<R as Records>::Iter as IntoRecords>::Cell: Drop,
     requires { R.is_lawful records }
     ensures { IfOk result (λ found. (cells : List (List R.Iter.Cell)) × R.tells records cells
-        × IsSeen (count_along direction (R.columns records) (length cells)) found.0 (demands_of direction (S.look settings.now) M.measured cells)
+        × IsKept (count_along direction (R.columns records) (length cells)) found.0 (demands_of direction (S.grid settings.now) M.measured cells)
         × (found.1 ≡ length cells)) }
 {
     let limit = limit_of(direction, records.count_columns());
     let mut needs = Needs::<M, S> {
         view: View::new(alloc, settings)?,
         direction,
-        seen: Seen::new(alloc, limit),
+        kept: Kept::new(alloc, limit),
         measure: PhantomData,
     };
     let rows = walk(records, &mut needs)?;
-    Ok((needs.seen, rows))
+    Ok((needs.kept, rows))
 }
 
 /// What the visible cells of the records ask for along both directions, and the number of rows.
@@ -281,20 +281,20 @@ pub fn gather_both<M, R: Records + Drop, S: Settings>(
     alloc: Global,
     records: R,
     settings: &S,
-) -> Result<(Both, usize), AllocError>
+) -> Result<(KeptBoth, usize), AllocError>
 where
     M: Measure<<<R as Records>::Iter as IntoRecords>::Cell>,
     <<R as Records>::Iter as IntoRecords>::Cell: Drop,
     requires { R.is_lawful records }
     ensures { IfOk result (λ found. (cells : List (List R.Iter.Cell)) × R.tells records cells
-        × AreBothSeen (S.look settings.now) M.measured (R.columns records) cells found.0 × (found.1 ≡ length cells)) }
+        × AreBothKept (S.grid settings.now) M.measured (R.columns records) cells found.0 × (found.1 ≡ length cells)) }
 {
     let columns = records.count_columns();
     let mut needs = BothNeeds::<M, S> {
         view: View::new(alloc, settings)?,
-        both: Both {
-            columns: Seen::new(alloc, limit_of(Direction::Columns, columns)),
-            rows: Seen::new(alloc, limit_of(Direction::Rows, columns)),
+        both: KeptBoth {
+            columns: Kept::new(alloc, limit_of(Direction::Columns, columns)),
+            rows: Kept::new(alloc, limit_of(Direction::Rows, columns)),
         },
         measure: PhantomData,
     };

@@ -6,7 +6,7 @@ ghost use Rattle.papergrid_axis.specs.ForProofs.Checks.{StayWithin};
 ghost use Rattle.papergrid_maps.specs.Anchors.{IsSorted};
 ghost use Rattle.papergrid_maps.specs.MapHeld.{held_for};
 ghost use Rattle.papergrid_values.specs.declared.entity.Entity.{Entity};
-ghost use Rattle.papergrid_walk.specs.Looks.{Look, compact_look, size_after, size_before, spanned_look};
+ghost use Rattle.papergrid_walk.specs.Grids.{Grid, compact_grid, size_after, size_before, spanned_grid};
 ghost use Rattle.papergrid_walk.specs.ForProofs.Paddings.{AreCommon, AreDecided, ArePadded, for_all_cells, sizes};
 ghost use Rattle.papergrid_walk.specs.ForProofs.PaddingLaws.{held_decides};
 ghost use Rattle.papergrid_walk.specs.declared.settings.Paddings.{Paddings};
@@ -29,46 +29,46 @@ pub struct Paddings {
 /// The visible positions, the spans, the paddings and the lines.
 pub trait Settings {
     // What the settings say.
-    ghost look: { Self → Look };
+    ghost grid: { Self → Grid };
 
     /// Whether the cell at a position is visible.
     fn is_visible(&self, pos: Position) -> bool
-        ensures { result ≡ (look self.now).shows pos };
+        ensures { result ≡ (grid self.now).shows pos };
 
     /// Whether the cells at all of these positions are visible, of which the numbers along a direction
     /// rise.
     fn are_visible(&self, direction: Direction, places: &[Position]) -> bool
         requires { AllPairs (AreRising direction) places.now }
-        ensures { IsTrue result ↔ All (λ pos. IsTrue ((look self.now).shows pos)) places.now };
+        ensures { IsTrue result ↔ All (λ pos. IsTrue ((grid self.now).shows pos)) places.now };
 
     /// What hides cells: the anchors of all spans, by row and then by column.
     fn anchors(&self, alloc: Global) -> Result<Vec<Anchor>, AllocError>
         ensures sorted { IfOk result (λ anchors. IsSorted anchors.items) }
-        ensures shows { IfOk result (λ anchors. AreAnchorsOf (look self.now) anchors.items) };
+        ensures shows { IfOk result (λ anchors. AreAnchorsOf (grid self.now) anchors.items) };
 
     /// How many columns (rows) the cell at a position spans.
     fn span(&self, direction: Direction, pos: Position) -> usize
-        ensures value { result ≡ (look self.now).span direction pos }
+        ensures value { result ≡ (grid self.now).span direction pos }
         ensures positive { 1 ≤ result };
 
     /// Whether it is known of each position before column (row) `count` that its span ends there or
     /// before. It takes no memory.
     fn spans_end_within(&self, direction: Direction, count: usize) -> bool
-        ensures { IsTrue result → StayWithin direction ((look self.now).span direction) count };
+        ensures { IsTrue result → StayWithin direction ((grid self.now).span direction) count };
 
     /// The padding left of the text of the cell at a position (above it).
     fn padding_before(&self, direction: Direction, pos: Position) -> usize
-        ensures { result ≡ (look self.now).before direction pos };
+        ensures { result ≡ (grid self.now).before direction pos };
 
     /// The padding right of the text (below it).
     fn padding_after(&self, direction: Direction, pos: Position) -> usize
-        ensures { result ≡ (look self.now).after direction pos };
+        ensures { result ≡ (grid self.now).after direction pos };
 
     // The paddings that are set for an entity itself.
     ghost set_for: { Self → Entity → Option Paddings };
 
     // Those of a cell are its own, else its column's, else its row's, else the table's.
-    ghost decided: { (s : Self) → AreDecided (look s) (set_for s) };
+    ghost decided: { (s : Self) → AreDecided (grid s) (set_for s) };
 
     /// The paddings that are set for an entity itself: of a cell without those of its column and of its row.
     fn paddings_for(&self, entity: Entity) -> Option<Paddings>
@@ -80,11 +80,11 @@ pub trait Settings {
 
     /// The paddings of all cells, where it is known that they are alike.
     fn common_paddings(&self) -> Option<Paddings>
-        ensures { AreCommon (look self.now) result };
+        ensures { AreCommon (grid self.now) result };
 
     /// Whether there is a line before column (row) `i` of so many, or, at their count, after the last.
     fn has_line(&self, direction: Direction, count: usize, i: usize) -> bool
-        ensures { result ≡ (look self.now).draws direction count i };
+        ensures { result ≡ (grid self.now).draws direction count i };
 }
 
 /// The padding left of a text (above it).
@@ -120,7 +120,7 @@ fn sizes(padding: &Sides<Indent>) -> Paddings
 }
 
 impl Settings for SpannedConfig {
-    ghost look = { spanned_look };
+    ghost grid = { spanned_grid };
 
     // Each visible position is looked for in all spans.
     fn is_visible(&self, pos: Position) -> bool {
@@ -190,7 +190,7 @@ impl Settings for SpannedConfig {
 }
 
 impl Settings for CompactConfig {
-    ghost look = { compact_look };
+    ghost grid = { compact_grid };
 
     fn is_visible(&self, _pos: Position) -> bool {
         let _config = self;

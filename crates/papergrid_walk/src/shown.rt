@@ -3,7 +3,7 @@
 ghost use Rattle.std.specs.Prelude.{◌≡◌, ◌+◌, ◌-◌, ◌<◌, ◌^◌, IfOk, None, Some, if◌then◌else◌};
 ghost use Rattle.papergrid_values.specs.declared.position.Position.{Position};
 ghost use Rattle.papergrid_walk.specs.ForProofs.Swept.{IsAhead};
-ghost use Rattle.papergrid_walk.specs.Looks.{Look};
+ghost use Rattle.papergrid_walk.specs.Grids.{Grid};
 ghost use Rattle.papergrid_walk.specs.ForProofs.Shown.{Shows, anchor_in};
 
 use crate::Sweep;
@@ -15,7 +15,7 @@ use std::alloc::{AllocError, Global};
 /// A walk at its start, by the spans of the settings. It is made for no column: `visible_anchor` makes
 /// room for those that it meets.
 pub fn sweep_of<S: Settings>(alloc: Global, settings: &S) -> Result<Sweep, AllocError>
-    ensures { IfOk result (λ walk. Shows (S.look settings.now) walk 0 0) }
+    ensures { IfOk result (λ walk. Shows (S.grid settings.now) walk 0 0) }
 {
     let anchors = settings.anchors(alloc)?;
     Sweep::new(alloc, anchors, 0)
@@ -30,12 +30,12 @@ pub fn visible_anchor(
     alloc: Global,
     pos: Position,
 ) -> Result<Option<Anchor>, AllocError>
-    requires asked { (look : Look) × Shows look walk.old pos.row pos.col }
+    requires asked { (grid : Grid) × Shows grid walk.old pos.row pos.col }
     requires row_in { pos.row < 2 ^ 64 - 1 }
     requires col_in { pos.col < 2 ^ 64 - 1 }
-    ensures visible { IfOk result (λ found. (look : Look) → Shows look walk.old pos.row pos.col →
-        found ≡ (if look.shows pos then Some (anchor_in look pos) else None)) }
-    ensures later { IfOk result (λ _. (look : Look) → Shows look walk.old pos.row pos.col → Shows look walk.new pos.row (pos.col + 1)) }
+    ensures visible { IfOk result (λ found. (grid : Grid) → Shows grid walk.old pos.row pos.col →
+        found ≡ (if grid.shows pos then Some (anchor_in grid pos) else None)) }
+    ensures later { IfOk result (λ _. (grid : Grid) → Shows grid walk.old pos.row pos.col → Shows grid walk.new pos.row (pos.col + 1)) }
 {
     if walk.anchors().is_empty() {
         return Ok(Some(Anchor {

@@ -11,7 +11,7 @@ use Rattle.papergrid_axis.specs.declared.error.LayoutError.{LayoutError}
 use Rattle.papergrid_axis.specs.declared.error.LayoutError.TheVariants as layout_errors
 use Rattle.papergrid_axis.specs.Answers.{IsWitness}
 use Rattle.papergrid_axis.specs.Problem.{Problem}
-use Rattle.papergrid_walk.specs.Looks.{Look}
+use Rattle.papergrid_walk.specs.Grids.{Grid}
 use Rattle.papergrid_layout.specs.Witnesses.{IsCertifiedWhere, IsLongest}
 use Rattle.papergrid_layout.specs.declared.certificates.Certified.{Certified}
 use Rattle.papergrid.specs.Estimates.{Estimate, OutOfTable, TooLarge, Sized}
@@ -23,9 +23,9 @@ IsFoundWitness ByShares = IsWitness
 IsFoundWitness Least = IsLongest
 
 -- exactly the sizes that are chosen so, with what certifies them, or why there are none
-abbrev pub IsCertifiedBy : Sizing → {C : Type 0} → Look → (C → ℕ × ℕ) → ℕ → List (List C) → Result Certified LayoutError → Type 0
-IsCertifiedBy sizing look measure columns cells result =
-    IsCertifiedWhere look measure columns cells (HasNone sizing) (AreSizesBy sizing) (IsFoundWitness sizing) result
+abbrev pub IsCertifiedBy : Sizing → {C : Type 0} → Grid → (C → ℕ × ℕ) → ℕ → List (List C) → Result Certified LayoutError → Type 0
+IsCertifiedBy sizing grid measure columns cells result =
+    IsCertifiedWhere grid measure columns cells (HasNone sizing) (AreSizesBy sizing) (IsFoundWitness sizing) result
 
 abbrev pub places_seen : Option (Vec Position Global) → Option (List Position)
 places_seen witness = option_map (λ places. places.items) witness
@@ -43,5 +43,5 @@ GivesEstimate (Err layout_errors.TooLarge) IsSo = IsSo TooLarge
 GivesEstimate (Err (layout_errors.Memory e)) IsSo = Unit {0}
 
 -- the sum of sizes along a direction, with the lines between, before and after them
-abbrev pub total_along : Direction → Look → ℕ → List ℕ → ℕ
-total_along direction look count sizes = sum sizes + all_lines (look.draws direction count) count
+abbrev pub total_along : Direction → Grid → ℕ → List ℕ → ℕ
+total_along direction grid count sizes = sum sizes + all_lines (grid.draws direction count) count

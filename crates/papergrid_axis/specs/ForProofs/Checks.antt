@@ -2,7 +2,7 @@
 use Rattle.std.specs.Prelude.{◌≡◌, ℕ, ◌+◌, sum, ◌*◌, ◌^◌, ◌<◌, ◌≤◌, Bool, true, false, List, length, sum_by, ◌≢◌, All, AllPairs}
 use Rattle.papergrid_values.specs.declared.position.Position.{Position}
 use Rattle.papergrid_axis.specs.declared.checked.Checked.{Checked}
-use Rattle.papergrid_axis.specs.declared.claim.Claim.{Claim}
+use Rattle.papergrid_axis.specs.declared.candidate.Candidate.{Candidate}
 use Rattle.papergrid_axis.specs.declared.demand.Demand.{Demand}
 use Rattle.papergrid_values.specs.declared.direction.Direction.{Direction}
 use Rattle.papergrid_values.specs.Positions.{AreRising, along, count_of}
@@ -22,8 +22,8 @@ abbrev pub all_listed : (Demand → ℕ) → List Position → List Demand → �
 all_listed number places demands = sum_by (λ d. number d * times_listed places d) demands
 
 -- the ranges at two places have no number in common
-abbrev pub AreApartAt : Direction → (Position → ℕ) → Position → Position → Type 0
-AreApartAt direction span_of p q = AreDisjoint (demand_of direction p (span_of p) 0) (demand_of direction q (span_of q) 0)
+abbrev pub AreDisjointAt : Direction → (Position → ℕ) → Position → Position → Type 0
+AreDisjointAt direction span_of p q = AreDisjoint (demand_of direction p (span_of p) 0) (demand_of direction q (span_of q) 0)
 
 -- one place's number is below another's, and its range ends there or before
 abbrev pub AreInOrder : Direction → (Position → ℕ) → Position → Position → Type 0
@@ -34,10 +34,10 @@ abbrev pub StayWithin : Direction → (Position → ℕ) → ℕ → Type 0
 StayWithin direction span_of count =
     (p : Position) → along direction p < count → (1 ≤ span_of p) × (along direction p + span_of p ≤ count)
 
--- what a claim says of its ranges is so
-pub record IsClaim (span_of : Position → ℕ) (claim : Claim) : Type 0 where
-  pub ordered : claim.is_ordered ≡ true → AllPairs (AreInOrder claim.direction span_of) claim.places.now
-  pub within : claim.ends_within ≡ true → StayWithin claim.direction span_of (length claim.sizes.now)
+-- what a candidate says of its ranges is so
+pub record IsCandidate (span_of : Position → ℕ) (candidate : Candidate) : Type 0 where
+  pub ordered : candidate.is_ordered ≡ true → AllPairs (AreInOrder candidate.direction span_of) candidate.places.now
+  pub within : candidate.ends_within ≡ true → StayWithin candidate.direction span_of (length candidate.sizes.now)
 
 -- no two cells stand at one place
 abbrev pub AreDistinct : List Demand → Type 0

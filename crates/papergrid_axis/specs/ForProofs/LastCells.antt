@@ -5,7 +5,7 @@ use Rattle.std.specs.List.{AllByRecursion, list_any}
 use Rattle.papergrid_axis.specs.declared.demand.Demand.{Demand}
 use Rattle.papergrid_axis.specs.Ranges.{holds, AreDisjoint, LiesIn}
 use Rattle.papergrid_axis.specs.Chosen.{exact_single, or_else}
-use Rattle.papergrid_axis.specs.ForProofs.Seen.{no_demand}
+use Rattle.papergrid_axis.specs.ForProofs.Kept.{no_demand}
 
 -- a cell that is taken before another is disjoint from it or lies in its range
 abbrev pub Precedes : Demand → Demand → Type 0
@@ -27,11 +27,11 @@ slot_of (Some d) first size i = if d.start == i then Some d else None
 slot_of None first size i = if size == 0 then None else first
 
 abbrev pub chosen_slot : List (Option Demand) → List Demand → List ℕ → ℕ → Option Demand
-chosen_slot last singles sizes i = slot_of (slice_index_or last i None) (Some (slice_index_or singles i no_demand)) (slice_index sizes i) i
+chosen_slot last single_span sizes i = slot_of (slice_index_or last i None) (Some (slice_index_or single_span i no_demand)) (slice_index sizes i) i
 
 -- where no growing cell's range holds i and its size is above 0, the first cell that covers i alone and needs its size is kept
 -- at i
 abbrev pub AreExact : List Demand → List Demand → List ℕ → List Demand → Type 0
-AreExact demands growers sizes singles =
-    (i : ℕ) → i < length sizes → list_any (λ d. holds d i) growers ≡ false → slice_index sizes i ≢ 0 →
-    exact_single demands sizes i ≡ Some (slice_index_or singles i no_demand)
+AreExact demands growing_cells sizes single_span =
+    (i : ℕ) → i < length sizes → list_any (λ d. holds d i) growing_cells ≡ false → slice_index sizes i ≢ 0 →
+    exact_single demands sizes i ≡ Some (slice_index_or single_span i no_demand)

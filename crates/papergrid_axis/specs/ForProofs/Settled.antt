@@ -4,9 +4,9 @@ use Rattle.papergrid_axis.specs.declared.error.LayoutError.{LayoutError}
 use Rattle.papergrid_axis.specs.declared.settled.Settled.{Settled}
 use Rattle.papergrid_axis.specs.Problem.{Problem, total_of}
 use Rattle.papergrid_axis.specs.Answers.{IsRefused}
-use Rattle.papergrid_axis.specs.Chosen.{growers_of}
+use Rattle.papergrid_axis.specs.Chosen.{growing_cells_of}
 use Rattle.papergrid_axis.specs.Ranges.{IsInTable, first_out}
-use Rattle.papergrid_axis.specs.declared.seen.Seen.{Seen}
+use Rattle.papergrid_axis.specs.declared.kept.Kept.{Kept}
 use Rattle.papergrid_axis.specs.Sizes.{sizes_of, taken}
 
 -- whether a line is drawn, by a list that says so of each number; none past its end
@@ -14,9 +14,9 @@ abbrev pub line_at : List Bool → ℕ → Bool
 line_at lines i = slice_index_or lines i false
 
 -- no cell reaches out of so many numbers, and one has a large need
-pub record IsLargeInside (count : ℕ) (seen : Seen) : Type 0 where
-  pub inside : first_out count seen.others.items ≡ None
-  pub is_large : seen.is_large ≡ true
+pub record IsLargeInside (count : ℕ) (kept : Kept) : Type 0 where
+  pub inside : first_out count kept.rest.items ≡ None
+  pub is_large : kept.is_large ≡ true
 
 module _ (problem : Problem) where
   -- the sizes, the cells as they were taken and those that grew
@@ -24,7 +24,7 @@ module _ (problem : Problem) where
     pub table : All (IsInTable problem.count) problem.demands
     pub sizes : settled.sizes.items ≡ sizes_of problem
     pub cells : settled.cells.items ≡ taken problem.count problem.demands
-    pub growers : settled.growers.items ≡ growers_of problem
+    pub growing_cells : settled.growing_cells.items ≡ growing_cells_of problem
     pub total : total_of problem (sizes_of problem) < 2 ^ 64
 
   -- the same, or why there are no sizes

@@ -34,7 +34,7 @@ const EMPTY: Table<'static> = Table {
 };
 
 /// Sizes and a list of cells, and whether the cells certify the sizes.
-type Claim = (&'static [usize], Cells, bool);
+type Candidate = (&'static [usize], Cells, bool);
 
 /// What the checker along a direction says of sizes and a list.
 pub fn checked(
@@ -59,9 +59,9 @@ fn positions(alloc: Global, cells: Cells) -> Result<Vec<Position>, AllocError> {
         .collect(alloc)
 }
 
-/// Whether the checker along a direction answers each claim on a table so.
-fn checks(alloc: Global, direction: Direction, table: Table<'_>, claims: &[Claim]) -> bool {
-    claims.iter().all(|(sizes, cells, answer)| match positions(alloc, *cells) {
+/// Whether the checker along a direction answers each candidate on a table so.
+fn checks(alloc: Global, direction: Direction, table: Table<'_>, candidates: &[Candidate]) -> bool {
+    candidates.iter().all(|(sizes, cells, answer)| match positions(alloc, *cells) {
         Ok(list) => checked(alloc, direction, table, *sizes, &list) == Ok(*answer),
         Err(_) => false,
     })
@@ -69,20 +69,20 @@ fn checks(alloc: Global, direction: Direction, table: Table<'_>, claims: &[Claim
 
 #[test]
 fn width_checker(rt: HostRuntime) {
-    let claims: [Claim; 3] = [
+    let candidates: [Candidate; 3] = [
         (&[2, 4, 4], &[(1, 0)], true),
         (&[2, 4, 4], &[(0, 0), (2, 1)], false),
         (&[1, 4, 4], &[(0, 0), (2, 1)], false),
     ];
-    assert!(rt; checks(rt.alloc(), Direction::Columns, NESTED_COLUMNS, &claims));
-    let claim: Claim = (&[10, 10, 0], &[(0, 0), (1, 1)], false);
-    assert!(rt; checks(rt.alloc(), Direction::Columns, CROSSING, &[claim]));
+    assert!(rt; checks(rt.alloc(), Direction::Columns, NESTED_COLUMNS, &candidates));
+    let candidate: Candidate = (&[10, 10, 0], &[(0, 0), (1, 1)], false);
+    assert!(rt; checks(rt.alloc(), Direction::Columns, CROSSING, &[candidate]));
 }
 
 /// The order of the list says nothing, and a position that stands in it twice is not right.
 #[test]
 fn height_checker(rt: HostRuntime) {
-    let claims: [Claim; 6] = [
+    let candidates: [Candidate; 6] = [
         (&[3, 3, 1], &[(0, 0), (2, 0)], true),
         (&[3, 3], &[(0, 0), (2, 0)], false),
         (&[3, 3, 1], &[(0, 0), (1, 0)], false),
@@ -90,25 +90,25 @@ fn height_checker(rt: HostRuntime) {
         (&[3, 3, 1], &[(2, 0), (0, 0)], true),
         (&[3, 3, 1], &[(2, 0), (0, 0), (0, 0)], false),
     ];
-    assert!(rt; checks(rt.alloc(), Direction::Rows, EVEN, &claims));
+    assert!(rt; checks(rt.alloc(), Direction::Rows, EVEN, &candidates));
 }
 
 #[test]
 fn checker_on_empty_table(rt: HostRuntime) {
-    let claim: Claim = (&[], &[], true);
-    assert!(rt; checks(rt.alloc(), Direction::Columns, EMPTY, &[claim]));
-    assert!(rt; checks(rt.alloc(), Direction::Rows, EMPTY, &[claim]));
+    let candidate: Candidate = (&[], &[], true);
+    assert!(rt; checks(rt.alloc(), Direction::Columns, EMPTY, &[candidate]));
+    assert!(rt; checks(rt.alloc(), Direction::Rows, EMPTY, &[candidate]));
 }
 
 /// Hidden cells that would add up to the sizes, as visible ones of their column or row do.
 #[test]
 fn hidden_cells_listed(rt: HostRuntime) {
-    let columns: [Claim; 2] = [
+    let columns: [Candidate; 2] = [
         (&[1, 1, 1], &[(2, 0), (2, 1), (0, 2)], true),
         (&[1, 1, 1], &[(2, 0), (1, 1), (0, 2)], false),
     ];
     assert!(rt; checks(rt.alloc(), Direction::Columns, SQUARE, &columns));
-    let rows: [Claim; 4] = [
+    let rows: [Candidate; 4] = [
         (&[1, 1, 1], &[(0, 2), (1, 2), (2, 0)], true),
         (&[1, 1, 1], &[(0, 2), (1, 0), (2, 0)], false),
         (&[1, 1, 1], &[(0, 1), (1, 2), (2, 0)], false),
@@ -189,6 +189,6 @@ fn witnesses(rt: HostRuntime) {
 
 #[test]
 fn equal_ranges(rt: HostRuntime) {
-    let claim: Claim = (&[4, 2], &[(1, 0)], true);
-    assert!(rt; checks(rt.alloc(), Direction::Columns, EQUAL, &[claim]));
+    let candidate: Candidate = (&[4, 2], &[(1, 0)], true);
+    assert!(rt; checks(rt.alloc(), Direction::Columns, EQUAL, &[candidate]));
 }

@@ -2,7 +2,7 @@
 use Rattle.std.specs.Prelude.{ℕ, zero, suc, ◌+◌, ◌-◌, Bool, ◌&&◌, ◌==◌, if◌then◌else◌, List, [], Option, Some, None, slice_index_or}
 use Rattle.papergrid_axis.specs.declared.demand.Demand.{Demand}
 use Rattle.papergrid_axis.specs.Ranges.{end_of}
-use Rattle.papergrid_axis.specs.ForProofs.Seen.{no_demand}
+use Rattle.papergrid_axis.specs.ForProofs.Kept.{no_demand}
 use Rattle.papergrid_least.specs.Longest.{earlier_cell, with_earlier}
 
 -- whether the cell pushes the edge at i to where it is, by these edges
@@ -24,7 +24,7 @@ followed edge single longer (suc steps) i =
 
 -- what is kept for a number alone
 abbrev pub kept_single : List Demand → ℕ → Demand
-kept_single singles i = slice_index_or singles i no_demand
+kept_single single_span i = slice_index_or single_span i no_demand
 
 -- the cell of a longer range that is kept for an edge
 abbrev pub kept_longer : List (Option Demand) → ℕ → Option Demand

@@ -8,15 +8,15 @@ use Rattle.papergrid_values.specs.declared.entity.Entity.TheVariants.{Cell, Colu
 use Rattle.papergrid_values.specs.declared.indent.Indent.{Indent}
 use Rattle.papergrid_values.specs.declared.position.Position.{Position}
 use Rattle.papergrid_values.specs.declared.sides.Sides.{Sides}
-use Rattle.papergrid_walk.specs.Looks.{Look}
+use Rattle.papergrid_walk.specs.Grids.{Grid}
 use Rattle.papergrid_walk.specs.ForProofs.Filters.{passes}
 use Rattle.papergrid_walk.specs.declared.known.KnownPaddings.{KnownPaddings}
 use Rattle.papergrid_walk.specs.declared.position_filter.PositionFilter.{PositionFilter}
 use Rattle.papergrid_walk.specs.declared.settings.Paddings.{Paddings}
 
-abbrev pub paddings_at : Look → Position → Paddings
-paddings_at look p =
-    record { left = look.before Columns p; right = look.after Columns p; top = look.before Rows p; bottom = look.after Rows p }
+abbrev pub paddings_at : Grid → Position → Paddings
+paddings_at grid p =
+    record { left = grid.before Columns p; right = grid.after Columns p; top = grid.before Rows p; bottom = grid.after Rows p }
 
 -- the sizes of the four sides
 abbrev pub sizes : Sides Indent → Paddings
@@ -24,8 +24,8 @@ sizes padding =
     record { left = padding.left.size; right = padding.right.size; top = padding.top.size; bottom = padding.bottom.size }
 
 -- where some are given, all cells have them
-abbrev pub AreCommon : Look → Option Paddings → Type 0
-AreCommon look common = IfSome common (λ paddings. (p : Position) → paddings_at look p ≡ paddings)
+abbrev pub AreCommon : Grid → Option Paddings → Type 0
+AreCommon grid common = IfSome common (λ paddings. (p : Position) → paddings_at grid p ≡ paddings)
 
 -- no room on any side
 abbrev pub no_paddings : Paddings
@@ -51,13 +51,13 @@ abbrev pub set_in_row : (Entity → Option Paddings) → ℕ → Paddings
 set_in_row set r = unwrap_or (set (Row r)) (unwrap_or (set Global) no_paddings)
 
 -- the paddings of a cell are its own, else its column's, its row's or the table's
-abbrev pub AreDecided : Look → (Entity → Option Paddings) → Type 0
-AreDecided look set = (p : Position) →
-    paddings_at look p ≡ unwrap_or (set (Cell p.row p.col)) (unwrap_or (set (Column p.col)) (set_in_row set p.row))
+abbrev pub AreDecided : Grid → (Entity → Option Paddings) → Type 0
+AreDecided grid set = (p : Position) →
+    paddings_at grid p ≡ unwrap_or (set (Cell p.row p.col)) (unwrap_or (set (Column p.col)) (set_in_row set p.row))
 
 -- what is known of the paddings of all cells, else of which cells have none of their own, and of the first columns and of one row
-pub record Knows (look : Look) (set : Entity → Option Paddings) (known : KnownPaddings) : Type 0 where
-  pub common : known.are_common ≡ true → (p : Position) → paddings_at look p ≡ known.last
+pub record Knows (grid : Grid) (set : Entity → Option Paddings) (known : KnownPaddings) : Type 0 where
+  pub common : known.are_common ≡ true → (p : Position) → paddings_at grid p ≡ known.last
   pub own : known.are_common ≡ false → TellsOwn set known.own
   pub columns : (c : ℕ) → IfSome (slice_get known.columns.items c) (λ found. found ≡ set (Column c))
   pub in_row : known.in_row ≡ set_in_row set known.row

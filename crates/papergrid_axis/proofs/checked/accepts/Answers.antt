@@ -3,30 +3,30 @@ use Rattle.std.proofs.lemmas.Bool.{false≢true}
 use Rattle.papergrid_axis.specs.Answers.{IsAccepted}
 use Rattle.papergrid_axis.specs.Fits.{IsLeast}
 use Rattle.papergrid_axis.specs.Problem.{given}
-use Rattle.papergrid_axis.proofs.AcceptLemmas.{accepted-from, sums-from_accepted, apart-from_accepted, IsLeast-accepted}
+use Rattle.papergrid_axis.proofs.AcceptLemmas.{accepted-from, sums-from_accepted, disjoint-from_accepted, IsLeast-accepted}
 use Rattle.papergrid_axis.proofs.checked.accepts.Goals as goal
 
 pub returns-then-not-sums_agree-clause-exact : goal.returns-then-not-sums_agree-clause-exact
 returns-then-not-sums_agree-clause-exact g c = λ demands distinct checks. (
   (λ t. absurd (false≢true t)),
   λ accepted. c.if-not-sums_agree.ensures.1
-      (sums-from_accepted (g.A.Axis.line c.args.axis.now) c.args.claim.now.sizes.now c.args.claim.now.places.now c.args.claim.now.direction (g.A.Axis.span_of c.args.axis.now) c.args.checked demands checks distinct
-      (subst (λ n. IsAccepted (given (g.A.Axis.line c.args.axis.now) n demands) c.args.claim.now.sizes.now c.args.claim.now.places.now) (sym c.if-claim-count.false) accepted)),
+      (sums-from_accepted (g.A.Axis.line c.args.axis.now) c.args.candidate.now.sizes.now c.args.candidate.now.places.now c.args.candidate.now.direction (g.A.Axis.span_of c.args.axis.now) c.args.checked demands checks distinct
+      (subst (λ n. IsAccepted (given (g.A.Axis.line c.args.axis.now) n demands) c.args.candidate.now.sizes.now c.args.candidate.now.places.now) (sym c.if-candidate-count.false) accepted)),
 )
 
 pub returns-clause-exact : goal.returns-clause-exact
 returns-clause-exact g c = λ demands distinct checks. (
-  (λ t. subst (λ n. IsAccepted (given (g.A.Axis.line c.args.axis.now) n demands) c.args.claim.now.sizes.now c.args.claim.now.places.now) c.if-claim-count.false
-      (accepted-from (g.A.Axis.line c.args.axis.now) c.args.claim.now.sizes.now c.args.claim.now.places.now c.args.claim.now.direction (g.A.Axis.span_of c.args.axis.now) c.args.checked demands checks distinct
+  (λ t. subst (λ n. IsAccepted (given (g.A.Axis.line c.args.axis.now) n demands) c.args.candidate.now.sizes.now c.args.candidate.now.places.now) c.if-candidate-count.false
+      (accepted-from (g.A.Axis.line c.args.axis.now) c.args.candidate.now.sizes.now c.args.candidate.now.places.now c.args.candidate.now.direction (g.A.Axis.span_of c.args.axis.now) c.args.checked demands checks distinct
       (c.if-not-sums_agree.ensures.0 refl) (c.are_disjoint.ensures.0 t))),
   λ accepted. c.are_disjoint.ensures.1
-      (apart-from_accepted (g.A.Axis.line c.args.axis.now) c.args.claim.now.sizes.now c.args.claim.now.places.now c.args.claim.now.direction (g.A.Axis.span_of c.args.axis.now) c.args.checked demands checks distinct
-      (subst (λ n. IsAccepted (given (g.A.Axis.line c.args.axis.now) n demands) c.args.claim.now.sizes.now c.args.claim.now.places.now) (sym c.if-claim-count.false) accepted)),
+      (disjoint-from_accepted (g.A.Axis.line c.args.axis.now) c.args.candidate.now.sizes.now c.args.candidate.now.places.now c.args.candidate.now.direction (g.A.Axis.span_of c.args.axis.now) c.args.checked demands checks distinct
+      (subst (λ n. IsAccepted (given (g.A.Axis.line c.args.axis.now) n demands) c.args.candidate.now.sizes.now c.args.candidate.now.places.now) (sym c.if-candidate-count.false) accepted)),
 )
 
 pub returns-clause-least : goal.returns-clause-least
 returns-clause-least g c = λ demands distinct checks t.
-    subst (λ n. IsLeast (given (g.A.Axis.line c.args.axis.now) n demands) c.args.claim.now.sizes.now) c.if-claim-count.false
-    (IsLeast-accepted (g.A.Axis.line c.args.axis.now) (length c.args.claim.now.sizes.now) demands c.args.claim.now.sizes.now c.args.claim.now.places.now checks.spans
-    (accepted-from (g.A.Axis.line c.args.axis.now) c.args.claim.now.sizes.now c.args.claim.now.places.now c.args.claim.now.direction (g.A.Axis.span_of c.args.axis.now) c.args.checked demands checks distinct
+    subst (λ n. IsLeast (given (g.A.Axis.line c.args.axis.now) n demands) c.args.candidate.now.sizes.now) c.if-candidate-count.false
+    (IsLeast-accepted (g.A.Axis.line c.args.axis.now) (length c.args.candidate.now.sizes.now) demands c.args.candidate.now.sizes.now c.args.candidate.now.places.now checks.spans
+    (accepted-from (g.A.Axis.line c.args.axis.now) c.args.candidate.now.sizes.now c.args.candidate.now.places.now c.args.candidate.now.direction (g.A.Axis.span_of c.args.axis.now) c.args.checked demands checks distinct
     (c.if-not-sums_agree.ensures.0 refl) (c.are_disjoint.ensures.0 t)))

@@ -5,4 +5,4 @@ use Rattle.papergrid_axis.specs.ForProofs.LastCells.{chosen_slot}
 use Rattle.papergrid_axis.proofs.chosen.chosen_cells.Given as goal
 
 abbrev pub invariant-loop-i : goal.invariant-loop-i
-invariant-loop-i l = l.cells.items ≡ filter_map (chosen_slot l.last l.singles l.sizes) (range_with_len 0 l.i)
+invariant-loop-i l = l.cells.items ≡ filter_map (chosen_slot l.last l.single_span l.sizes) (range_with_len 0 l.i)

@@ -9,10 +9,10 @@ use Rattle.papergrid_axis.proofs.chosen.chosen_places.Goals as goal
 
 pub returns : goal.returns
 returns c = λ demands exact.
-    let cells : c.in_ok-cells.cells.items ≡ chosen (length c.args.sizes.now) demands c.args.growers.now c.args.sizes.now =
-    c.in_ok-cells.ensures ∙ chosen-by_slots demands c.args.growers.now c.args.sizes.now c.deref.result.now c.args.singles.now c.requires.laminar
-    (recursion_from_All (λ d. 1 ≤ d.span) c.args.growers.now
-    (All-weaker (IsInTable (length c.args.sizes.now)) (λ d. 1 ≤ d.span) (λ d t. t.covers_one) c.args.growers.now c.requires.growers))
+    let cells : c.in_ok-cells.cells.items ≡ chosen (length c.args.sizes.now) demands c.args.growing_cells.now c.args.sizes.now =
+    c.in_ok-cells.ensures ∙ chosen-by_slots demands c.args.growing_cells.now c.args.sizes.now c.deref.result.now c.args.single_span.now c.requires.laminar
+    (recursion_from_All (λ d. 1 ≤ d.span) c.args.growing_cells.now
+    (All-weaker (IsInTable (length c.args.sizes.now)) (λ d. 1 ≤ d.span) (λ d t. t.covers_one) c.args.growing_cells.now c.requires.growing_cells))
     (λ i l. ap (λ (xs : List (Option Demand)). get_or xs i None) c.deref.ensures.value ∙ c.in_ok-last.ensures i l)
     exact in
     IfOk-weaker c.places.result _ _ (λ v e. e ∙ ap (map place_of) (c.deref-2.ensures.value ∙ cells)) c.places.ensures

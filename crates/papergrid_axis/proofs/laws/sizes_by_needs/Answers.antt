@@ -8,4 +8,4 @@ pub returns-clause-bound : goal.returns-clause-bound
 returns-clause-bound c = λ problem table i l. bound-sizes_of problem table i l
 
 pub returns-clause-certified : goal.returns-clause-certified
-returns-clause-certified c = λ problem table apart. IsCertificate-chosen_of problem table apart
+returns-clause-certified c = λ problem table disjoint. IsCertificate-chosen_of problem table disjoint

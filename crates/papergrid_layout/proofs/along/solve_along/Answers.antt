@@ -1,17 +1,17 @@
 use Rattle.std.proofs.Common.{◌∙◌, subst, sym}
 use Rattle.papergrid_axis.specs.Answers.{AnswersWhere}
-use Rattle.papergrid_axis.specs.ForProofs.Seen.{IsSeen}
+use Rattle.papergrid_axis.specs.ForProofs.Kept.{IsKept}
 use Rattle.papergrid_walk.specs.Cells.{count_along, demands_of, problem_with}
 use Rattle.papergrid_layout.proofs.AnswerLemmas.{unless}
 use Rattle.papergrid_layout.proofs.along.solve_along.Goals as goal
 
 pub returns : goal.returns
 returns g c =
-    let look = g.S.Settings.look c.args.settings.now in
+    let grid = g.S.Settings.grid c.args.settings.now in
     let measured = g.M.Measure.measured in
-    let found = c.in_ok-seen.ensures in
-    let demands = demands_of c.args.direction look measured found.0 in
+    let found = c.in_ok-kept.ensures in
+    let demands = demands_of c.args.direction grid measured found.0 in
     let same = c.count_of-count.ensures ∙ (λ k. count_along c.args.direction (c.count_columns-columns.ensures k) (found.3 k)) in
-    let solved = c.solve.ensures demands (subst (λ n. IsSeen n c.in_ok-seen.seen demands) (sym same) found.2) in
+    let solved = c.solve.ensures demands (subst (λ n. IsKept n c.in_ok-kept.kept demands) (sym same) found.2) in
     unless c.solve.result _
-    (found.0, found.1, subst (λ n. AnswersWhere g.T.Solution.too_large g.T.Solution.solves (problem_with look measured c.args.direction n found.0) c.solve.result) same solved)
+    (found.0, found.1, subst (λ n. AnswersWhere g.T.Solution.too_large g.T.Solution.solves (problem_with grid measured c.args.direction n found.0) c.solve.result) same solved)

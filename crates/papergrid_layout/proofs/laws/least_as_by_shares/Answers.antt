@@ -2,10 +2,10 @@ use Rattle.papergrid_layout.proofs.LeastLaws.{accepted, same-apart, same-least}
 use Rattle.papergrid_layout.proofs.laws.least_as_by_shares.Goals as goal
 
 pub returns-clause-same : goal.returns-clause-same
-returns-clause-same g c = λ look measure columns rows direction from_one sizes least are are_least. same-least look measure columns rows direction from_one sizes least are are_least
+returns-clause-same g c = λ grid measure columns rows direction from_one sizes least are are_least. same-least grid measure columns rows direction from_one sizes least are are_least
 
 pub returns-clause-kept_apart : goal.returns-clause-kept_apart
-returns-clause-kept_apart g c = λ look measure columns rows direction from_one sizes least are are_least. same-apart look measure columns rows direction from_one sizes least are are_least
+returns-clause-kept_apart g c = λ grid measure columns rows direction from_one sizes least are are_least. same-apart grid measure columns rows direction from_one sizes least are are_least
 
 pub returns-clause-accepted : goal.returns-clause-accepted
 returns-clause-accepted g c = accepted

@@ -5,8 +5,8 @@ use Rattle.papergrid_layout.proofs.Told.{demands_told}
 use Rattle.papergrid_layout.proofs.laws.lent_cells.Goals as goal
 
 pub returns-clause-lent : goal.returns-clause-lent
-returns-clause-lent g c = λ lend measure rows direction look. demands_told look lend measure rows _ refl direction
+returns-clause-lent g c = λ lend measure rows direction grid. demands_told grid lend measure rows _ refl direction
 
 pub returns-clause-texts : goal.returns-clause-texts
-returns-clause-texts g c = λ rows all direction look.
-    same_measures direction look _ _ (λ t. IsNewText g.S.AsStr.text t.now) (λ t. new_text_measures g.S.AsStr.text t.now) rows all
+returns-clause-texts g c = λ rows all direction grid.
+    same_measures direction grid _ _ (λ t. IsNewText g.S.AsStr.text t.now) (λ t. new_text_measures g.S.AsStr.text t.now) rows all

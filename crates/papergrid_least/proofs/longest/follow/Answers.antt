@@ -10,7 +10,7 @@ use Rattle.papergrid_least.proofs.longest.follow.Goals.{then-step-eq0, else-step
 
 pub returns-in_default : goal.returns-in_default
 returns-in_default c =
-    met-none (λ i. get_or c.args.earliest.now i 0) (kept_single c.args.singles.now) (kept_longer c.args.pushers.now) (length c.args.earliest.now) c.loop.counter c.loop.number c.saturating_sub-before.result
+    met-none (λ i. get_or c.args.earliest.now i 0) (kept_single c.args.single_span.now) (kept_longer c.args.pushers.now) (length c.args.earliest.now) c.loop.counter c.loop.number c.saturating_sub-before.result
     c.loop.places.items _ (omega arith) (omega arith) c.loop.invariant.places c.if-step-eq0.false
     (ap (λ one. earlier_cell one (kept_longer c.args.pushers.now c.loop.number)) (sym c.needing-single.ensures) ∙ sym c.earlier_cell.ensures ∙ none-from _ c.in_default.not-Some)
 
@@ -18,21 +18,21 @@ pub loop-preserved : goal.loop-preserved
 loop-preserved c = elim c.if-step-eq0.branch [
   | then-step-eq0 w ↦ record {
     number = omega (arith, w.number-is);
-    places = ap₂ (λ (v : Vec Position Global) (k : ℕ). v.items ++ map place_of (followed (λ i. get_or c.args.earliest.now i 0) (kept_single c.args.singles.now) (kept_longer c.args.pushers.now) (length c.args.earliest.now - (c.loop.counter + 1)) k)) w.places-is w.number-is
-        ∙ met-even (λ i. get_or c.args.earliest.now i 0) (kept_single c.args.singles.now) (kept_longer c.args.pushers.now) (length c.args.earliest.now) c.loop.counter c.loop.number c.saturating_sub-before.result
+    places = ap₂ (λ (v : Vec Position Global) (k : ℕ). v.items ++ map place_of (followed (λ i. get_or c.args.earliest.now i 0) (kept_single c.args.single_span.now) (kept_longer c.args.pushers.now) (length c.args.earliest.now - (c.loop.counter + 1)) k)) w.places-is w.number-is
+        ∙ met-even (λ i. get_or c.args.earliest.now i 0) (kept_single c.args.single_span.now) (kept_longer c.args.pushers.now) (length c.args.earliest.now) c.loop.counter c.loop.number c.saturating_sub-before.result
         c.loop.places.items _ (omega arith) (omega arith) c.loop.invariant.places w.if-step-eq0.true;
   }
   | else-step-eq0+in-Some+in_ok-push w ↦
-      let found : earlier_cell (needing (get_or c.args.earliest.now c.loop.number 0 - get_or c.args.earliest.now c.saturating_sub-before.result 0) (kept_single c.args.singles.now c.saturating_sub-before.result))
+      let found : earlier_cell (needing (get_or c.args.earliest.now c.loop.number 0 - get_or c.args.earliest.now c.saturating_sub-before.result 0) (kept_single c.args.single_span.now c.saturating_sub-before.result))
       (kept_longer c.args.pushers.now c.loop.number) ≡ Some w.in-Some.cell =
       ap (λ one. earlier_cell one (kept_longer c.args.pushers.now c.loop.number)) (sym w.needing-single.ensures) ∙ sym w.earlier_cell.ensures ∙ w.in-Some.is in
       record {
-        number = let l = starts-within (λ i. get_or c.args.earliest.now i 0) (kept_single c.args.singles.now) (kept_longer c.args.pushers.now) (length c.args.earliest.now) c.loop.number c.saturating_sub-before.result
+        number = let l = starts-within (λ i. get_or c.args.earliest.now i 0) (kept_single c.args.single_span.now) (kept_longer c.args.pushers.now) (length c.args.earliest.now) c.loop.number c.saturating_sub-before.result
             (omega arith) (omega arith) w.if-step-eq0.false c.requires.alone c.requires.starts w.in-Some.cell found in
             omega (arith, w.number-is, l);
-        places = ap₂ (λ (v : Vec Position Global) (k : ℕ). v.items ++ map place_of (followed (λ i. get_or c.args.earliest.now i 0) (kept_single c.args.singles.now) (kept_longer c.args.pushers.now) (length c.args.earliest.now - (c.loop.counter + 1)) k)) w.places-is w.number-is
-            ∙ ap (λ (xs : List Position). xs ++ map place_of (followed (λ i. get_or c.args.earliest.now i 0) (kept_single c.args.singles.now) (kept_longer c.args.pushers.now) (length c.args.earliest.now - (c.loop.counter + 1)) w.in-Some.cell.start)) w.in_ok-push.ensures.items
-            ∙ met-cell (λ i. get_or c.args.earliest.now i 0) (kept_single c.args.singles.now) (kept_longer c.args.pushers.now) (length c.args.earliest.now) c.loop.counter c.loop.number c.saturating_sub-before.result
+        places = ap₂ (λ (v : Vec Position Global) (k : ℕ). v.items ++ map place_of (followed (λ i. get_or c.args.earliest.now i 0) (kept_single c.args.single_span.now) (kept_longer c.args.pushers.now) (length c.args.earliest.now - (c.loop.counter + 1)) k)) w.places-is w.number-is
+            ∙ ap (λ (xs : List Position). xs ++ map place_of (followed (λ i. get_or c.args.earliest.now i 0) (kept_single c.args.single_span.now) (kept_longer c.args.pushers.now) (length c.args.earliest.now - (c.loop.counter + 1)) w.in-Some.cell.start)) w.in_ok-push.ensures.items
+            ∙ met-cell (λ i. get_or c.args.earliest.now i 0) (kept_single c.args.single_span.now) (kept_longer c.args.pushers.now) (length c.args.earliest.now) c.loop.counter c.loop.number c.saturating_sub-before.result
             c.loop.places.items _ (omega arith) (omega arith) c.loop.invariant.places w.if-step-eq0.false w.in-Some.cell found w.place.result w.place.ensures;
       }
 ]

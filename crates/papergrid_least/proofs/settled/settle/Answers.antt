@@ -2,31 +2,31 @@ use Rattle.std.proofs.Common.{◌≡◌, ◌∙◌, rules, arith, ap, get_or, le
 use Rattle.std.specs.Vec.{with_items}
 use Rattle.std.proofs.lemmas.List.{with_items_is}
 use Rattle.papergrid_axis.specs.ForProofs.Settled.{line_at}
-use Rattle.papergrid_axis.specs.ForProofs.Seen.{no_demand}
+use Rattle.papergrid_axis.specs.ForProofs.Kept.{no_demand}
 use Rattle.papergrid_axis.specs.Answers.{IsRefusedWhere}
 use Rattle.papergrid_axis.specs.Problem.{given}
 use Rattle.papergrid_axis.proofs.OutLemmas.{IsRefusedWhere-weaker, table_demands}
-use Rattle.papergrid_axis.proofs.SeenLemmas.{table-seen}
+use Rattle.papergrid_axis.proofs.KeptLemmas.{table-kept}
 use Rattle.papergrid_least.specs.Answers.{NoneFits}
 use Rattle.papergrid_least.proofs.AnswerLemmas.{AreLeastSizes-made, IsRefusedWhere-refuses, NoneFits-large, earliest-made, many-made}
 use Rattle.papergrid_least.proofs.settled.settle.Goals as goal
 
 pub returns-in-Some-clause-settled : goal.returns-in-Some-clause-settled
-returns-in-Some-clause-settled g c = λ demands seen.
+returns-in-Some-clause-settled g c = λ demands kept.
     let line = g.A.Axis.line c.args.axis.now in
-    IsRefusedWhere-weaker (given line c.args.count demands) (NoneFits-large c.args.count c.args.seen.now demands seen line) c.in-Some.error (c.in-Some.ensures.refused line demands seen)
+    IsRefusedWhere-weaker (given line c.args.count demands) (NoneFits-large c.args.count c.args.kept.now demands kept line) c.in-Some.error (c.in-Some.ensures.refused line demands kept)
 
 pub make_least-requires-clause-table : goal.make_least-requires-clause-table
 make_least-requires-clause-table g c =
-    let table = table_demands c.args.count c.args.seen.now c.requires.0 c.requires.1 c.in_default.ensures.inside in
+    let table = table_demands c.args.count c.args.kept.now c.requires.0 c.requires.1 c.in_default.ensures.inside in
     let many : length c.deref_mut-2.result.now ≡ c.args.count = omega (arith, c.in_ok-sizes.ensures.len, c.deref_mut.ensures.len, c.write_base.ensures.length, c.deref_mut-2.ensures.len) in
-    rw (many, c.deref-2.ensures.value) (table-seen c.args.count c.args.seen.now c.requires.0 c.requires.1 c.in_default.ensures.small table)
+    rw (many, c.deref-2.ensures.value) (table-kept c.args.count c.args.kept.now c.requires.0 c.requires.1 c.in_default.ensures.small table)
 
 pub returns-in_err-limits-clause-settled : goal.returns-in_err-limits-clause-settled
-returns-in_err-limits-clause-settled g c = λ demands seen.
+returns-in_err-limits-clause-settled g c = λ demands kept.
     let problem = given (g.A.Axis.line c.args.axis.now) c.args.count demands in
     let refused : IsRefusedWhere problem (NoneFits problem) c.in_err-limits.field-0.0 =
-    IsRefusedWhere-refuses (g.A.Axis.line c.args.axis.now) c.args.count c.args.seen.now demands seen c.in_default.ensures.inside c.in_default.ensures.small
+    IsRefusedWhere-refuses (g.A.Axis.line c.args.axis.now) c.args.count c.args.kept.now demands kept c.in_default.ensures.inside c.in_default.ensures.small
     (line_at c.in_ok-lines.lines) c.in_ok-lines.ensures.drawn
     c.deref_mut-2.result.now (omega (arith, c.in_ok-sizes.ensures.len, c.deref_mut.ensures.len, c.write_base.ensures.length, c.deref_mut-2.ensures.len))
     (rw (c.deref_mut-2.ensures.value ∙ with_items_is c.in_ok-sizes.sizes c.write_base.new.sizes (omega arith)) (λ k l. c.write_base.ensures.base k l ∙ ap (λ ds. (get_or ds k no_demand).need) c.deref.ensures.value))
@@ -34,12 +34,12 @@ returns-in_err-limits-clause-settled g c = λ demands seen.
     search rules
 
 pub returns-clause-settled : goal.returns-clause-settled
-returns-clause-settled g c = λ demands seen.
+returns-clause-settled g c = λ demands kept.
     let limits = rw c.deref-2.ensures.value at c.in_ok-limits.ensures.limits in
     let sizes = rw c.deref-2.ensures.value at c.in_ok-limits.ensures.sizes in
     record {
-      table = table_demands c.args.count c.args.seen.now demands seen c.in_default.ensures.inside;
-      sizes = AreLeastSizes-made (g.A.Axis.line c.args.axis.now) c.args.count c.args.seen.now demands seen c.in_default.ensures.inside c.in_default.ensures.small
+      table = table_demands c.args.count c.args.kept.now demands kept c.in_default.ensures.inside;
+      sizes = AreLeastSizes-made (g.A.Axis.line c.args.axis.now) c.args.count c.args.kept.now demands kept c.in_default.ensures.inside c.in_default.ensures.small
           (line_at c.in_ok-lines.lines) c.in_ok-lines.ensures.drawn
           c.deref_mut-2.result.now (omega (arith, c.in_ok-sizes.ensures.len, c.deref_mut.ensures.len, c.write_base.ensures.length, c.deref_mut-2.ensures.len))
           (rw (c.deref_mut-2.ensures.value ∙ with_items_is c.in_ok-sizes.sizes c.write_base.new.sizes (omega arith)) (λ k l. c.write_base.ensures.base k l ∙ ap (λ ds. (get_or ds k no_demand).need) c.deref.ensures.value))
@@ -47,12 +47,12 @@ returns-clause-settled g c = λ demands seen.
           (with_items_is (with_items c.in_ok-sizes.sizes c.write_base.new.sizes) c.make_least.new.sizes (omega arith) ∙ sizes);
       lined = c.in_ok-lines.ensures.length;
       drawn = c.in_ok-lines.ensures.drawn;
-      many = many-made (g.A.Axis.line c.args.axis.now) c.args.count c.args.seen.now demands seen c.in_default.ensures.inside c.in_default.ensures.small
+      many = many-made (g.A.Axis.line c.args.axis.now) c.args.count c.args.kept.now demands kept c.in_default.ensures.inside c.in_default.ensures.small
           (line_at c.in_ok-lines.lines) c.in_ok-lines.ensures.drawn
           c.deref_mut-2.result.now (omega (arith, c.in_ok-sizes.ensures.len, c.deref_mut.ensures.len, c.write_base.ensures.length, c.deref_mut-2.ensures.len))
           (rw (c.deref_mut-2.ensures.value ∙ with_items_is c.in_ok-sizes.sizes c.write_base.new.sizes (omega arith)) (λ k l. c.write_base.ensures.base k l ∙ ap (λ ds. (get_or ds k no_demand).need) c.deref.ensures.value))
           c.in_ok-limits.limits limits;
-      earliest = earliest-made (g.A.Axis.line c.args.axis.now) c.args.count c.args.seen.now demands seen c.in_default.ensures.inside c.in_default.ensures.small
+      earliest = earliest-made (g.A.Axis.line c.args.axis.now) c.args.count c.args.kept.now demands kept c.in_default.ensures.inside c.in_default.ensures.small
           (line_at c.in_ok-lines.lines) c.in_ok-lines.ensures.drawn
           c.deref_mut-2.result.now (omega (arith, c.in_ok-sizes.ensures.len, c.deref_mut.ensures.len, c.write_base.ensures.length, c.deref_mut-2.ensures.len))
           (rw (c.deref_mut-2.ensures.value ∙ with_items_is c.in_ok-sizes.sizes c.write_base.new.sizes (omega arith)) (λ k l. c.write_base.ensures.base k l ∙ ap (λ ds. (get_or ds k no_demand).need) c.deref.ensures.value))

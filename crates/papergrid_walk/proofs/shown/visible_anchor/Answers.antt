@@ -9,8 +9,8 @@ pub is_hidden-requires-clause-ahead : goal.is_hidden-requires-clause-ahead
 is_hidden-requires-clause-ahead c = c.in_ok-make_room.ensures.asked c.args.pos (c.requires.asked.1.ahead c.args.pos (omega arith) (λ e. omega arith))
 
 pub returns-clause-visible : goal.returns-clause-visible
-returns-clause-visible c = λ look so_far.
-    let are = subst (AreAnchorsOf look) (sym (c.is_hidden.ensures.anchors ∙ c.in_ok-make_room.ensures.anchors)) so_far.anchors in
+returns-clause-visible c = λ grid so_far.
+    let are = subst (AreAnchorsOf grid) (sym (c.is_hidden.ensures.anchors ∙ c.in_ok-make_room.ensures.anchors)) so_far.anchors in
     let shown = (so_far.anchors.hide c.args.pos).1 (λ hidden.
     false≢true (sym c.if-is_hidden.false ∙ c.is_hidden.ensures.hidden.1 (subst (λ anchors. IsHidden anchors c.args.pos) (sym c.in_ok-make_room.ensures.anchors) hidden))) in
-    rw shown (ap (λ a. Some a) (anchor_found look c.is_hidden.new.self.anchors c.args.pos c.anchor_at.result are c.anchor_at.ensures))
+    rw shown (ap (λ a. Some a) (anchor_found grid c.is_hidden.new.self.anchors c.args.pos c.anchor_at.result are c.anchor_at.ensures))

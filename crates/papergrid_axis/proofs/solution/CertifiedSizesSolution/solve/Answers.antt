@@ -7,11 +7,11 @@ pub settled_witness-requires : goal.settled_witness-requires
 settled_witness-requires g c = (g.A.Axis.line c.args.axis.now, c.requires.0, c.requires.1, c.in_ok-settled.ensures c.requires.0 c.requires.1)
 
 pub returns-in_err-settled : goal.returns-in_err-settled
-returns-in_err-settled g c = λ demands seen. let p = err_from_is_err_and c.from_residual.result c.from_residual.ensures.1 in rw (p.1, p.2) (c.in_err-settled.ensures demands seen)
+returns-in_err-settled g c = λ demands kept. let p = err_from_is_err_and c.from_residual.result c.from_residual.ensures.1 in rw (p.1, p.2) (c.in_err-settled.ensures demands kept)
 
 pub returns : goal.returns
-returns g c = λ demands seen.
-    let settled = c.in_ok-settled.ensures demands seen in (
+returns g c = λ demands kept.
+    let settled = c.in_ok-settled.ensures demands kept in (
       AreSizes-sizes_of (given (g.A.Axis.line c.args.axis.now) c.args.count demands) settled.table c.in_ok-settled.settled.sizes.items settled.sizes settled.total,
-      c.in_ok-witness.ensures (g.A.Axis.line c.args.axis.now) demands seen settled,
+      c.in_ok-witness.ensures (g.A.Axis.line c.args.axis.now) demands kept settled,
     )

@@ -10,20 +10,20 @@ place_of-requires-clause-marked c = (c.requires.placed.0, c.requires.placed.1.ma
 pub returns-in_default-place_of-clause-err : goal.returns-in_default-place_of-clause-err
 returns-in_default-place_of-clause-err c = λ table row_in col_in has.
     let p = c.args.pos in
-    let found = found-shown (table.look.shows p) (anchor_in table.look p) c.in-Some.anchor (sym c.in-Some.is ∙ c.in_ok-anchor.ensures.visible table.look has.shows) in
+    let found = found-shown (table.grid.shows p) (anchor_in table.grid p) c.in-Some.anchor (sym c.in-Some.is ∙ c.in_ok-anchor.ensures.visible table.grid has.shows) in
     first-refused table p.row p.col c.args.self.now.places.items OutOfTable (record { visible = found.0; row_in = row_in; col_in = col_in })
-    (is-out table p c.in-Some.anchor found.0 found.1 (c.in_default-place_of.ensures table has.marked (anchor-own table.look p c.in-Some.anchor found.1)))
+    (is-out table p c.in-Some.anchor found.0 found.1 (c.in_default-place_of.ensures table has.marked (anchor-own table.grid p c.in-Some.anchor found.1)))
     has.list
 
 pub returns-in-Ok-clause-ok : goal.returns-in-Ok-clause-ok
 returns-in-Ok-clause-ok c = λ table has.
     let p = c.args.pos in
-    let found = found-shown (table.look.shows p) (anchor_in table.look p) c.in-Some.anchor (sym c.in-Some.is ∙ c.in_ok-anchor.ensures.visible table.look has.shows) in
+    let found = found-shown (table.grid.shows p) (anchor_in table.grid p) c.in-Some.anchor (sym c.in-Some.is ∙ c.in_ok-anchor.ensures.visible table.grid has.shows) in
     let place = has-found table p c.in-Some.anchor c.in-Some-place_of.place has.fit found.0 found.1
-    (c.in-Some-place_of.ensures table has.marked (anchor-own table.look p c.in-Some.anchor found.1)) in
+    (c.in-Some-place_of.ensures table has.marked (anchor-own table.grid p c.in-Some.anchor found.1)) in
     record {
       fit = has.fit;
       marked = has.marked;
-      shows = c.in_ok-anchor.ensures.later table.look has.shows;
+      shows = c.in_ok-anchor.ensures.later table.grid has.shows;
       list = rw c.in-Ok.ensures.items (placed-more table p.row p.col c.args.self.now.places.items c.in-Some-place_of.place place has.list);
     }

@@ -5,7 +5,7 @@ use Rattle.papergrid_text.specs.HeldRows.{column_count}
 use Rattle.papergrid_axis.specs.Answers.{IsTotal}
 use Rattle.papergrid_axis.specs.declared.error.LayoutError.{LayoutError}
 use Rattle.papergrid_walk.specs.Cells.{problem_of}
-use Rattle.papergrid_walk.specs.Looks.{spanned_look}
+use Rattle.papergrid_walk.specs.Grids.{spanned_grid}
 use Rattle.papergrid_walk.specs.Measures.{line_measure}
 use Rattle.papergrid_layout.specs.Places.{IsTotalOf, total}
 use Rattle.papergrid_layout.proofs.PlaceLaws.{totals}
@@ -25,10 +25,10 @@ total_width-requires c =
 pub returns-in-Ok : goal.returns-in-Ok
 returns-in-Ok c =
     let told = c.in-Ok.ensures.ok in
-    let look = spanned_look c.args.config.now in
+    let grid = spanned_grid c.args.config.now in
     let columns = column_count c.args.records in
     let widths = c.estimate.new.self.widths in
-    let summed = subst (λ (k : ℕ). IsTotalOf (total (slice_index widths) (look.draws Columns k) k) c.total_width.result) c.count_columns-columns.ensures c.total_width.ensures in
-    answered c.total_width.result (total (slice_index widths) (look.draws Columns columns) columns) _
-    (λ n e. subst (λ cells. IsTotal (problem_of look (line_measure string_bytes) columns cells Columns) n) told.1
-    ((totals look (line_measure string_bytes) columns told.0 widths c.estimate.new.self.heights told.2 Columns n).1 e)) summed
+    let summed = subst (λ (k : ℕ). IsTotalOf (total (slice_index widths) (grid.draws Columns k) k) c.total_width.result) c.count_columns-columns.ensures c.total_width.ensures in
+    answered c.total_width.result (total (slice_index widths) (grid.draws Columns columns) columns) _
+    (λ n e. subst (λ cells. IsTotal (problem_of grid (line_measure string_bytes) columns cells Columns) n) told.1
+    ((totals grid (line_measure string_bytes) columns told.0 widths c.estimate.new.self.heights told.2 Columns n).1 e)) summed

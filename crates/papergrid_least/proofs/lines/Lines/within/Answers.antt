@@ -36,15 +36,15 @@ counted-within drawn counts d are inside =
 -- the same of the lines as they are seen, by what is read at the ends
 read-within : (drawn lines : List Bool) (counts : List ℕ) (d : Demand) (last first : ℕ) → drawn ≡ lines → AreCounts drawn counts → IsInTable (length lines) d →
     last ≡ get_or counts (end_of d) last → first ≡ get_or counts (d.start + 1) first → last ≡ first + inner_lines (line_at lines) d
-read-within drawn lines counts d last first seen are inside read_last read_first =
-    let inside' : IsInTable (length drawn) d = subst (λ xs. IsInTable (length xs) d) (sym seen) inside in
+read-within drawn lines counts d last first kept are inside read_last read_first =
+    let inside' : IsInTable (length drawn) d = subst (λ xs. IsInTable (length xs) d) (sym kept) inside in
     let one : 1 ≤ d.span = inside'.covers_one in
     let ends : end_of d ≤ length drawn = inside'.ends_within in
     let many : length counts ≡ length drawn + 1 = are.one_more in
     let last' : last ≡ get_or counts (end_of d) 0 = read_last ∙ get_or_default counts (end_of d) last 0 (omega arith) in
     let first' : first ≡ get_or counts (d.start + 1) 0 = read_first ∙ get_or_default counts (d.start + 1) first 0 (omega arith) in
     let within = counted-within drawn counts d are inside' in
-    subst (λ xs. last ≡ first + inner_lines (line_at xs) d) seen (omega (arith, within))
+    subst (λ xs. last ≡ first + inner_lines (line_at xs) d) kept (omega (arith, within))
 
 pub overflow_sub-result : goal.overflow_sub-result
 overflow_sub-result c =

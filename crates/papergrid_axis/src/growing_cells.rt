@@ -1,0 +1,145 @@
+//! The cells of longer ranges: each is given what it lacks, and those that grow are kept.
+
+ghost use Rattle.std.specs.Prelude.{All, IfNone, IfOk, IfSome, IsTrue, OnOk, count_by, fold, length, min, slice_index, sum, ℕ, ◌+◌, ◌-◌, ◌<◌, ◌^◌, ◌↔◌, ◌≡◌, ◌≤◌};
+ghost use Rattle.std.specs.Option.{SomeIff};
+ghost use Rattle.papergrid_axis.specs.ForProofs.Settled.{line_at};
+ghost use Rattle.papergrid_values.specs.Lines.{all_lines};
+ghost use Rattle.papergrid_axis.specs.Ranges.{IsInTable, end_of, inner_lines};
+ghost use Rattle.papergrid_axis.specs.Sizes.{grown, lack, with_shares};
+ghost use Rattle.papergrid_axis.specs.Chosen.{growing};
+
+use crate::demand::Demand;
+use std::alloc::{AllocError, Global};
+
+/// The total of the sizes, or the greatest `usize` where that is less.
+fn sum_of(sizes: &[usize]) -> usize
+    ensures { result ≡ min (sum sizes.now) (2 ^ 64 - 1) }
+{
+    let mut total = 0usize;
+    for size in sizes {
+        total = total.saturating_add(*size);
+    }
+    total
+}
+
+/// The total of the sizes, if it fits.
+fn checked_sum(sizes: &[usize]) -> Option<usize>
+    ensures { SomeIff result (sum sizes.now < 2 ^ 64) (sum sizes.now) }
+{
+    let mut total = 0usize;
+    for size in sizes {
+        total = total.checked_add(*size)?;
+    }
+    Some(total)
+}
+
+/// How many of the lines are drawn.
+pub fn count_drawn(lines: &[bool]) -> usize
+    ensures { result ≡ count_by (λ drawn. drawn) lines.now }
+{
+    lines.iter().filter(|drawn| **drawn).count()
+}
+
+/// The lines strictly inside of the range of a cell.
+pub fn lines_within(lines: &[bool], demand: Demand) -> usize
+    requires { IsInTable (length lines.now) demand }
+    ensures { result ≡ inner_lines (line_at lines.now) demand }
+{
+    count_drawn(&lines[demand.start + 1..demand.start + demand.span])
+}
+
+/// How much the sizes in the range of a cell, with the lines inside of it, fall short of its need.
+fn lack_of(sizes: &[usize], lines: &[bool], demand: Demand) -> usize
+    requires table { IsInTable (length sizes.now) demand }
+    requires lines { length sizes.now ≤ length lines.now }
+    ensures { result ≡ lack (line_at lines.now) sizes.now demand }
+{
+    let room = sum_of(&sizes[demand.start..demand.start + demand.span]);
+    let inner = lines_within(lines, demand);
+    demand.need.saturating_sub(room).saturating_sub(inner)
+}
+
+/// Adds to each size in the range of a cell its share of the amount, and to the first what is left
+/// over.
+fn add_shares(sizes: &mut [usize], demand: Demand, amount: usize)
+    requires table { IsInTable (length sizes.old) demand }
+    requires room { (i : ℕ) → demand.start ≤ i → i < end_of demand → slice_index sizes.old i + amount < 2 ^ 64 }
+    ensures { sizes.new ≡ with_shares amount demand 0 sizes.old }
+{
+    let each = amount / demand.span;
+    let mut share = each + amount % demand.span;
+    for i in demand.start..demand.start + demand.span {
+        sizes[i] += share;
+        share = each;
+    }
+}
+
+/// Takes a cell: its range grows by what the cell lacks. Whether it grew. No size overflows, since none is
+/// above a need.
+fn grow(sizes: &mut [usize], lines: &[bool], demand: Demand) -> bool
+    requires table { IsInTable (length sizes.old) demand }
+    requires lines { length sizes.old ≤ length lines.now }
+    ensures grown { sizes.new ≡ grown (line_at lines.now) sizes.old demand }
+    ensures grew { IsTrue result ↔ 0 < lack (line_at lines.now) sizes.old demand }
+{
+    let lack = lack_of(sizes, lines, demand);
+    if lack == 0 {
+        return false;
+    }
+    add_shares(sizes, demand, lack);
+    true
+}
+
+/// Takes the cells in their order, and gives those that grow. The total may be past `usize`.
+pub fn grow_all(
+    alloc: Global,
+    sizes: &mut [usize],
+    lines: &[bool],
+    cells: &[Demand],
+) -> Result<Vec<Demand>, AllocError>
+    requires cells { All (IsInTable (length sizes.old)) cells.now }
+    requires lines { length lines.now ≡ length sizes.old + 1 }
+    ensures growing_cells { IfOk result (λ growing_cells. growing_cells.items ≡ growing (line_at lines.now) sizes.old cells.now) }
+    ensures sizes { OnOk result (sizes.new ≡ fold (grown (line_at lines.now)) sizes.old cells.now) }
+{
+    let mut growing_cells = Vec::new(alloc);
+    for demand in cells {
+        if grow(sizes, lines, *demand) {
+            growing_cells.push(*demand)?;
+        }
+    }
+    Ok(growing_cells)
+}
+
+/// Takes the cells in their order, from the base sizes on, and gives those that grow; none where the
+/// total with all lines does not fit.
+pub fn grow_to_total(
+    alloc: Global,
+    sizes: &mut [usize],
+    lines: &[bool],
+    cells: &[Demand],
+) -> Result<Option<Vec<Demand>>, AllocError>
+    requires cells { All (IsInTable (length sizes.old)) cells.now }
+    requires lines { length lines.now ≡ length sizes.old + 1 }
+    ensures growing_cells { let line = line_at lines.now in
+        IfOk result (λ found. IfSome found (λ growing_cells.
+        growing_cells.items ≡ growing line sizes.old cells.now)) }
+    ensures sizes { let line = line_at lines.now in
+        IfOk result (λ found. IfSome found (λ growing_cells.
+        sizes.new ≡ fold (grown line) sizes.old cells.now)) }
+    ensures fits { let line = line_at lines.now in
+        IfOk result (λ found. IfSome found (λ growing_cells.
+        sum (fold (grown line) sizes.old cells.now) + all_lines line (length sizes.old) < 2 ^ 64)) }
+    ensures too_large { let line = line_at lines.now in
+        IfOk result (λ found. IfNone found (
+        2 ^ 64 ≤ sum (fold (grown line) sizes.old cells.now) + all_lines line (length sizes.old))) }
+{
+    let growing_cells = grow_all(alloc, sizes, lines, cells)?;
+    let Some(total) = checked_sum(sizes) else {
+        return Ok(None);
+    };
+    if total.checked_add(count_drawn(lines)).is_none() {
+        return Ok(None);
+    }
+    Ok(Some(growing_cells))
+}

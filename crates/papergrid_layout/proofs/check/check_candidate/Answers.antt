@@ -1,0 +1,23 @@
+use Rattle.std.proofs.Common.{◌∙◌, refl, subst}
+use Rattle.papergrid_axis.specs.Problem.{given}
+use Rattle.papergrid_walk.specs.Cells.{count_along, demands_of, problem_with}
+use Rattle.papergrid_walk.proofs.Distinct.{AreDistinct-demands}
+use Rattle.papergrid_layout.specs.Witnesses.{IsChecked}
+use Rattle.papergrid_layout.proofs.CheckSteps.{checked-of}
+use Rattle.papergrid_layout.proofs.check.check_candidate.Goals as goal
+
+pub returns : goal.returns
+returns g c =
+    let candidate = c.args.candidate.now in
+    let grid = g.S.Settings.grid c.args.settings.now in
+    let measured = g.M.Measure.measured in
+    let found = c.check_rows-rows.ensures.checks in
+    let demands = demands_of candidate.direction grid measured found.0 in
+    let distinct = AreDistinct-demands candidate.direction grid measured found.0 in
+    let same = c.count_of-count.ensures ∙ (λ k. count_along candidate.direction (c.count_columns-columns.ensures k) (found.3 k)) in (
+      found.0,
+      found.1,
+      subst (λ n. IsChecked (problem_with grid measured candidate.direction n found.0) candidate.sizes.now candidate.places.now c.accepts.result) same
+          (checked-of (λ n. given (grid.draws candidate.direction n) c.count_of-count.result demands) candidate.sizes.now candidate.places.now c.accepts.result c.count_of-count.result (λ n. refl)
+          (c.accepts.ensures.exact demands distinct found.2) (c.accepts.ensures.least demands distinct found.2)),
+    )
