@@ -18,7 +18,7 @@ use Rattle.papergrid_axis.proofs.Theorems.{AreSizes-sizes_of, Fits-sizes_of, IsC
 use Rattle.papergrid_least.specs.Least.{least_of}
 use Rattle.papergrid_least.proofs.LeastLemmas.{AreLeastSizes-least_of, AreLongest-longest, IsLeast-least_of, NoneFits-least_of}
 use Rattle.papergrid_values.specs.Lines.{all_lines}
-use Rattle.papergrid_walk.specs.Cells.{asked, visible_cells}
+use Rattle.papergrid_walk.specs.Cells.{demand_by, visible_cells}
 use Rattle.papergrid_walk.specs.Grids.{Grid}
 use Rattle.papergrid_layout.specs.Answers.{first_out_of_table}
 use Rattle.papergrid_layout.specs.Witnesses.{witness_of}
@@ -96,7 +96,7 @@ module _ (table : Table) where
       → All (IsInTable (problem_of_table table direction).count) (problem_of_table table direction).demands
   in_table direction inside =
       out_lemmas.none_out (problem_of_table table direction).count (problem_of_table table direction).demands inside
-      (All-map (λ (d : Demand). 1 ≤ d.span) (asked direction grid text_measure) (visible_cells grid table.rows) (λ k x l. grid_covers table.settings direction _))
+      (All-map (λ (d : Demand). 1 ≤ d.span) (demand_by direction grid text_measure) (visible_cells grid table.rows) (λ k x l. grid_covers table.settings direction _))
 
   module _ (sizing : Sizing) where
     abbrev sizes : Direction → List ℕ

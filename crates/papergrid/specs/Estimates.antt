@@ -27,11 +27,13 @@ pub data Estimate : Type 0 where
   TooLarge : Estimate
   Sized : List ℕ → List ℕ → ℕ → ℕ → Option (List Position) → Option (List Position) → Estimate
 
+-- the sizes with their totals and witnesses, or too large where a total is past the greatest `usize`
 abbrev pub unless_large : List ℕ → List ℕ → ℕ → ℕ → Option (List Position) → Option (List Position) → Estimate
 unless_large widths heights total_width total_height width_witness height_witness =
     if nat_le (2 ^ 64) total_width || nat_le (2 ^ 64) total_height then TooLarge
     else Sized widths heights total_width total_height width_witness height_witness
 
+-- out of the table at a place, where there is one, else what was found
 abbrev pub unless_out : Option Position → Estimate → Estimate
 unless_out (Some place) sized = OutOfTable place
 unless_out None sized = sized

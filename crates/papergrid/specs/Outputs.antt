@@ -14,6 +14,7 @@ use Rattle.papergrid_script.specs.Texts.{newline}
 abbrev pub spaced : List ℕ → List ℕ
 spaced numbers = flat_map (λ n. space ∷ decimal n) numbers
 
+-- a line of a word and numbers
 abbrev pub number_line : List ℕ → List ℕ → List ℕ
 number_line word numbers = word ++ spaced numbers ++ newline ∷ []
 
@@ -26,6 +27,7 @@ abbrev pub witness_line : List ℕ → Option (List Position) → List ℕ
 witness_line word None = word ++ codes " none" ++ newline ∷ []
 witness_line word (Some places) = word ++ spaced_places places ++ newline ∷ []
 
+-- the lines that are written of an estimate
 abbrev pub estimate_text : Estimate → List ℕ
 estimate_text (OutOfTable place) = codes "refused: out of table at " ++ (decimal place.row ++ (comma ∷ (decimal place.col ++ newline ∷ [])))
 estimate_text TooLarge = codes "refused: too large" ++ newline ∷ []
@@ -34,15 +36,18 @@ estimate_text (Sized widths heights total_width total_height width_witness heigh
     ++ number_line (codes "total") (total_width ∷ total_height ∷ [])
     ++ witness_line (codes "witness widths") width_witness ++ witness_line (codes "witness heights") height_witness
 
+-- the lines that are written of a script: its first bad line, or the estimate of its table
 abbrev pub script_text : Sizing → Result Table ℕ → List ℕ
 script_text sizing (Err number) = codes "bad script at line " ++ decimal number ++ newline ∷ []
 script_text sizing (Ok table) = estimate_text (estimate_of sizing table)
 
+-- how a run ends that writes an estimate
 abbrev pub estimate_end : Estimate → RunEnd
 estimate_end (OutOfTable place) = Refused
 estimate_end TooLarge = Refused
 estimate_end (Sized widths heights total_width total_height width_witness height_witness) = Done
 
+-- how a run ends on a script
 abbrev pub script_end : Sizing → Result Table ℕ → RunEnd
 script_end sizing (Err number) = BadScript
 script_end sizing (Ok table) = estimate_end (estimate_of sizing table)
@@ -59,6 +64,7 @@ end_by sizing input = script_end sizing (table_of input)
 abbrev pub output_of : List ℕ → List ℕ
 output_of input = output_by ByShares input
 
+-- how a run by shares ends
 abbrev pub end_of : List ℕ → RunEnd
 end_of input = end_by ByShares input
 
@@ -66,5 +72,6 @@ end_of input = end_by ByShares input
 abbrev pub least_output_of : List ℕ → List ℕ
 least_output_of input = output_by Least input
 
+-- how a run for the least sizes ends
 abbrev pub least_end_of : List ℕ → RunEnd
 least_end_of input = end_by Least input

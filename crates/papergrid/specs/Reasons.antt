@@ -15,6 +15,7 @@ estimate_reason table (OutOfTable place) =
 estimate_reason table TooLarge = Some reason.TooLarge
 estimate_reason table (Sized widths heights total_width total_height width_witness height_witness) = None
 
+-- why a script has no sizes: its first bad line, or why its table is refused
 abbrev pub script_reason : Result Table ℕ → Option Reason
 script_reason (Err number) = Some (reason.BadLine number)
 script_reason (Ok table) = estimate_reason table (estimate_of ByShares table)

@@ -11,12 +11,15 @@ pub record GivesBy (sizing : Sizing) (script output : List ℕ) (end : RunEnd) :
   pub written : output_by sizing script ≡ output
   pub ended : end_by sizing script ≡ end
 
+-- by shares
 abbrev pub Gives : List ℕ → List ℕ → RunEnd → Type 0
 Gives script output end = GivesBy ByShares script output end
 
+-- of the least sizes
 abbrev pub GivesLeast : List ℕ → List ℕ → RunEnd → Type 0
 GivesLeast script output end = GivesBy Least script output end
 
+-- the scripts that were worked by hand
 pub record WorkedRows : Type 0 where
   pub first_run : Gives (codes "columns 2\npad * 1 1 0 0\npad 0,1 0 3 1 0\nrow\ncell ab\ncell c\\nde\nrow\ncell\ncell xyz\n") (codes "widths 4 5\nheights 3 1\ntotal 9 4\nwitness widths 0,0 0,1\nwitness heights 0,1 1,0\n") Done
   pub short_row : Gives (codes "columns 3\nrow\ncell ab\nrow\n") (codes "widths 2 0 0\nheights 1 0\ntotal 2 1\nwitness widths 0,0\nwitness heights 0,0\n") Done

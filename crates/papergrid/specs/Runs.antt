@@ -28,6 +28,7 @@ module _ (unread_old unread_new written_old written_new : Option (List ℕ)) whe
   abbrev pub IsWholeRun : RunEnd → Type 0
   IsWholeRun end = IsWholeRunBy ByShares end
 
+  -- by shares
   abbrev pub IsBrokenRun : Type 0
   IsBrokenRun = IsBrokenRunBy ByShares
 
@@ -35,5 +36,6 @@ module _ (unread_old unread_new written_old written_new : Option (List ℕ)) whe
   abbrev pub IsWholeLeastRun : RunEnd → Type 0
   IsWholeLeastRun end = IsWholeRunBy Least end
 
+  -- the same of the least sizes
   abbrev pub IsBrokenLeastRun : Type 0
   IsBrokenLeastRun = IsBrokenRunBy Least

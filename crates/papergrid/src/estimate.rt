@@ -49,10 +49,8 @@ where
     ensures { GivesEstimate result (λ answer. (cells : List (List R.Iter.Cell)) × R.tells records cells
         × (answer ≡ estimate_by sizing (spanned_grid cfg.now) (line_measure R.Iter.Cell.text) (R.columns records) cells)) }
 {
-    match certify(alloc, sizing, records, cfg) {
-        Ok(certified) => Ok(with_totals(certified, cfg)),
-        Err(error) => Err(error),
-    }
+    let certified = certify(alloc, sizing, records, cfg)?;
+    Ok(with_totals(certified, cfg))
 }
 
 /// The sizes that are chosen so, with the cells that certify them.

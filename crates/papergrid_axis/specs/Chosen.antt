@@ -13,6 +13,7 @@ growing line sizes (d ∷ rest) =
     if nat_lt 0 (lack line sizes d) then d ∷ growing line (grown line sizes d) rest
     else growing line (grown line sizes d) rest
 
+-- whether one range is part of the other
 abbrev pub lies_in : Demand → Demand → Bool
 lies_in a b = nat_le b.start a.start && nat_le (end_of a) (end_of b)
 
@@ -31,6 +32,7 @@ single_at demands growing_cells sizes i =
     if list_any (λ d. holds d i) growing_cells then None
     else (if slice_index sizes i == 0 then None else exact_single demands sizes i)
 
+-- the first, if there is one, else the second
 abbrev pub or_else : Option Demand → Option Demand → Option Demand
 or_else None other = other
 or_else (Some d) other = Some d

@@ -5,9 +5,11 @@ use Rattle.papergrid_axis.specs.declared.demand.Demand.{Demand}
 use Rattle.papergrid_axis.specs.Ranges.{end_of}
 use Rattle.papergrid_axis.specs.Chosen.{lies_in}
 
+-- whether two ranges have no number in common
 abbrev pub are_disjoint : Demand → Demand → Bool
 are_disjoint a b = nat_le (end_of a) b.start || nat_le (end_of b) a.start
 
+-- whether one of two ranges is part of the other
 abbrev pub are_nested : Demand → Demand → Bool
 are_nested a b = lies_in a b || lies_in b a
 

@@ -62,6 +62,7 @@ pub record Gives (problem : Problem) (sizes : List ℕ) (cells : List Demand) : 
   pub sizes_are : sizes_of problem ≡ sizes
   pub cells_are : chosen_of problem ≡ cells
 
+-- the tables that were worked by hand
 pub record WorkedRows : Type 0 where
   pub readme_picture : Gives (given everywhere 4 picture_columns) (17 ∷ 12 ∷ 16 ∷ 1 ∷ []) (wide 0 0 1 17 ∷ wide 0 1 1 12 ∷ wide 0 2 1 16 ∷ wide 0 3 1 1 ∷ [])
   pub readme_picture_rows : Gives (given everywhere 2 picture_rows) (1 ∷ 1 ∷ []) (high 0 1 1 1 ∷ high 1 1 1 1 ∷ [])

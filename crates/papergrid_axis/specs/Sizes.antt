@@ -10,6 +10,7 @@ use Rattle.papergrid_axis.specs.Fits.{greatest_need, range_sum}
 abbrev pub base_size : List Demand → ℕ → ℕ
 base_size demands i = greatest_need (λ d. d.span == 1 && d.start == i) demands
 
+-- these needs for each of n numbers
 abbrev pub base_sizes : ℕ → List Demand → List ℕ
 base_sizes n demands = map (base_size demands) (range_with_len 0 n)
 

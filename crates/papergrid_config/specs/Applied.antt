@@ -45,6 +45,7 @@ may_grow (SetColumnSpan p n) = true
 may_grow (SetRowSpan p n) = true
 may_grow other = is_some (entity_of other)
 
+-- whether an entity is the whole table
 abbrev pub is_global : Entity → Bool
 is_global Global = true
 is_global other = false

@@ -15,33 +15,43 @@ use Rattle.papergrid_config.specs.Parts.{padding_calls, padding_color_calls, tri
 use Rattle.papergrid_config.specs.Told.{all_sides, no_room}
 use Rattle.papergrid_config.specs.declared.setting.Setting.{Setting}
 
+-- the paddings of a cell: no room where nothing is set
 abbrev pub padding : List Setting → Position → Sides Indent
 padding settings p = decided_value (all_sides no_room) (flat_map padding_calls settings) p
 
+-- the colours of its paddings: none where nothing is set
 abbrev pub padding_color : List Setting → Position → Sides (Option ANSIBuf)
 padding_color settings p = decided_value (all_sides None) (flat_map padding_color_calls settings) p
 
+-- whether its text is trimmed left and right: not where nothing is set
 abbrev pub trim_horizontal : List Setting → Position → Bool
 trim_horizontal settings p = decided_value false (flat_map trim_horizontal_calls settings) p
 
+-- whether empty lines of its text are trimmed: not where nothing is set
 abbrev pub trim_vertical : List Setting → Position → Bool
 trim_vertical settings p = decided_value false (flat_map trim_vertical_calls settings) p
 
+-- whether each line of its text is aligned by itself: not where nothing is set
 abbrev pub line_alignment : List Setting → Position → Bool
 line_alignment settings p = decided_value false (flat_map line_alignment_calls settings) p
 
+-- its alignment across: left where nothing is set
 abbrev pub alignment_horizontal : List Setting → Position → AlignmentHorizontal
 alignment_horizontal settings p = decided_value Left (flat_map alignment_horizontal_calls settings) p
 
+-- its alignment down: at the top where nothing is set
 abbrev pub alignment_vertical : List Setting → Position → AlignmentVertical
 alignment_vertical settings p = decided_value Top (flat_map alignment_vertical_calls settings) p
 
+-- the character that justifies its text: a space where nothing is set
 abbrev pub justification : List Setting → Position → ℕ
 justification settings p = decided_value 32 (flat_map justification_calls settings) p
 
+-- the colour of that character: none where nothing is set
 abbrev pub justification_color : List Setting → Position → Option ANSIBuf
 justification_color settings p = decided_value None (flat_map justification_color_calls settings) p
 
+-- its three flags
 abbrev pub formatting : List Setting → Position → Formatting
 formatting settings p = record {
   horizontal_trim = trim_horizontal settings p;

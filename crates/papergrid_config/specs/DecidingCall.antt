@@ -8,16 +8,16 @@ use Rattle.papergrid_maps.specs.declared.entity_map.MapCall.TheVariants.{Insert,
 
 module _ {T : Type 0} where
   -- a call for the whole table
-  abbrev pub is_global : MapCall T → Bool
-  is_global (Insert Global v) = true
-  is_global (Remove Global) = true
-  is_global call = false
+  abbrev pub is_for_all : MapCall T → Bool
+  is_for_all (Insert Global v) = true
+  is_for_all (Remove Global) = true
+  is_for_all call = false
 
   -- a call that sets this column (row), or is for the whole table
   abbrev pub concerns : Entity → MapCall T → Bool
   concerns entity (Insert Global v) = true
   concerns entity (Insert other v) = entity_eq other entity
-  concerns entity call = is_global call
+  concerns entity call = is_for_all call
 
   -- a call that sets the whole table
   abbrev pub sets_all : MapCall T → Bool
@@ -29,7 +29,7 @@ module _ {T : Type 0} where
   ends_pins r c (Remove (Cell i j)) = (i == r) && (j == c)
   ends_pins r c (Remove (Row i)) = i == r
   ends_pins r c (Remove (Column j)) = j == c
-  ends_pins r c call = is_global call
+  ends_pins r c call = is_for_all call
 
 module _ {T : Type 0} (calls : List (MapCall T)) where
   -- of the first n calls, the oldest being the 0-th, the i-th is this one, and none after it passes the test
@@ -65,9 +65,11 @@ module _ {T : Type 0} (calls : List (MapCall T)) where
   abbrev pub NoPin : ℕ → ℕ → ℕ → Type 0
   NoPin r c n = (w : T) → ¬ (PinStands r c n w)
 
+  -- no value of a column (row) stands
   abbrev pub NoEntity : Entity → ℕ → Type 0
   NoEntity entity n = (w : T) → ¬ (EntityStands entity n w)
 
+  -- no value of the whole table stands
   abbrev pub NoTable : ℕ → Type 0
   NoTable n = (w : T) → ¬ (TableStands n w)
 

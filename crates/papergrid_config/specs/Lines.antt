@@ -11,9 +11,11 @@ abbrev pub shown : Option ℕ → Bool → ℕ → Option ℕ
 shown found is_line missing = option_or found (if is_line then Some missing else None)
 
 module _ (characters : HeldBorders ℕ) (missing : ℕ) where
+  -- on a vertical line, at the edge of a position
   abbrev pub shown_vertical : Position → ℕ → Option ℕ
   shown_vertical p count = shown (found_vertical (places_of characters) p count) (vertical_line_at characters p.col count) missing
 
+  -- on a horizontal line, at the edge of a position
   abbrev pub shown_horizontal : Position → ℕ → Option ℕ
   shown_horizontal p count = shown (found_horizontal (places_of characters) p count) (horizontal_line_at characters p.row count) missing
 

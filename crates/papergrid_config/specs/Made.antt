@@ -24,6 +24,7 @@ characters_of settings = borders_made (flat_map character_calls settings)
 abbrev pub lines_left : List Setting → Places ℕ
 lines_left settings = places_from (reverse (flat_map character_calls settings))
 
+-- the spans
 abbrev pub spans_of : List Setting → Spans
 spans_of settings = spans_made (flat_map span_calls settings)
 

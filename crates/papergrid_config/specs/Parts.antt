@@ -17,44 +17,54 @@ use Rattle.papergrid_config.specs.declared.setting.Setting.TheVariants.{SetMargi
 
 -- ---- values by entity
 
+-- for the paddings
 abbrev pub padding_calls : Setting → List (MapCall (Sides Indent))
 padding_calls (SetPadding entity v) = Insert entity v ∷ []
 padding_calls other = []
 
+-- for the colours of paddings
 abbrev pub padding_color_calls : Setting → List (MapCall (Sides (Option ANSIBuf)))
 padding_color_calls (SetPaddingColor entity v) = Insert entity v ∷ []
 padding_color_calls other = []
 
+-- for trimming left and right
 abbrev pub trim_horizontal_calls : Setting → List (MapCall Bool)
 trim_horizontal_calls (SetTrimHorizontal entity v) = Insert entity v ∷ []
 trim_horizontal_calls other = []
 
+-- for trimming empty lines
 abbrev pub trim_vertical_calls : Setting → List (MapCall Bool)
 trim_vertical_calls (SetTrimVertical entity v) = Insert entity v ∷ []
 trim_vertical_calls other = []
 
+-- for the alignment line by line
 abbrev pub line_alignment_calls : Setting → List (MapCall Bool)
 line_alignment_calls (SetLineAlignment entity v) = Insert entity v ∷ []
 line_alignment_calls other = []
 
+-- for the alignment across
 abbrev pub alignment_horizontal_calls : Setting → List (MapCall AlignmentHorizontal)
 alignment_horizontal_calls (SetAlignmentHorizontal entity v) = Insert entity v ∷ []
 alignment_horizontal_calls other = []
 
+-- for the alignment down
 abbrev pub alignment_vertical_calls : Setting → List (MapCall AlignmentVertical)
 alignment_vertical_calls (SetAlignmentVertical entity v) = Insert entity v ∷ []
 alignment_vertical_calls other = []
 
+-- for the character that justifies
 abbrev pub justification_calls : Setting → List (MapCall ℕ)
 justification_calls (SetJustification entity v) = Insert entity v ∷ []
 justification_calls other = []
 
+-- for the colour of that character
 abbrev pub justification_color_calls : Setting → List (MapCall (Option ANSIBuf))
 justification_color_calls (SetJustificationColor entity v) = Insert entity v ∷ []
 justification_color_calls other = []
 
 -- ---- characters and colours of lines
 
+-- for the characters of borders and lines
 abbrev pub character_calls : Setting → List (lines.BorderCall ℕ)
 character_calls (SetBorder pos border) = lines.InsertBorder pos border ∷ []
 character_calls (RemoveBorder pos shape) = lines.RemoveBorder pos ∷ []
@@ -67,6 +77,7 @@ character_calls (SetBorderDefault c) = lines.SetGlobal c ∷ []
 character_calls RemoveBorders = lines.Clear ∷ []
 character_calls other = []
 
+-- for the colours of borders and lines
 abbrev pub color_calls : Setting → List (lines.BorderCall ANSIBuf)
 color_calls (SetBorderColor pos border) = lines.InsertBorder pos border ∷ []
 color_calls (RemoveBorderColor pos shape) = lines.RemoveBorder pos ∷ []
@@ -77,23 +88,27 @@ color_calls other = []
 
 -- ---- overrides
 
+-- for single characters on horizontal lines
 abbrev pub horizontal_char_calls : Setting → List (overrides.OffsetCall ℕ)
 horizontal_char_calls (SetHorizontalChar pos offset c) = overrides.SetAt pos offset c ∷ []
 horizontal_char_calls (RemoveOverriddenHorizontal pos) = overrides.RemoveAt pos ∷ []
 horizontal_char_calls RemoveHorizontalChars = overrides.RemoveAll ∷ []
 horizontal_char_calls other = []
 
+-- for single characters on vertical lines
 abbrev pub vertical_char_calls : Setting → List (overrides.OffsetCall ℕ)
 vertical_char_calls (SetVerticalChar pos offset c) = overrides.SetAt pos offset c ∷ []
 vertical_char_calls (RemoveOverriddenVertical pos) = overrides.RemoveAt pos ∷ []
 vertical_char_calls RemoveVerticalChars = overrides.RemoveAll ∷ []
 vertical_char_calls other = []
 
+-- for the colours of single characters on horizontal lines
 abbrev pub horizontal_color_calls : Setting → List (overrides.OffsetCall ANSIBuf)
 horizontal_color_calls (SetHorizontalCharColor pos offset color) = overrides.SetAt pos offset color ∷ []
 horizontal_color_calls RemoveColorLineHorizontal = overrides.RemoveAll ∷ []
 horizontal_color_calls other = []
 
+-- for the colours of single characters on vertical lines
 abbrev pub vertical_color_calls : Setting → List (overrides.OffsetCall ANSIBuf)
 vertical_color_calls (SetVerticalCharColor pos offset color) = overrides.SetAt pos offset color ∷ []
 vertical_color_calls RemoveColorLineVertical = overrides.RemoveAll ∷ []
@@ -101,6 +116,7 @@ vertical_color_calls other = []
 
 -- ---- spans
 
+-- for the spans
 abbrev pub span_calls : Setting → List spans.SpanCall
 span_calls (SetColumnSpan pos n) = spans.SetSpan Columns pos n ∷ []
 span_calls (SetRowSpan pos n) = spans.SetSpan Rows pos n ∷ []
@@ -110,18 +126,22 @@ span_calls other = []
 
 -- ---- values of the whole table
 
+-- the margins that a setting sets
 abbrev pub margins : Setting → List (Sides Indent)
 margins (SetMargin v) = v ∷ []
 margins other = []
 
+-- the colours of margins that it sets
 abbrev pub margin_colors : Setting → List (Sides (Option ANSIBuf))
 margin_colors (SetMarginColor v) = v ∷ []
 margin_colors other = []
 
+-- the offsets of margins that it sets
 abbrev pub margin_offsets : Setting → List (Sides Offset)
 margin_offsets (SetMarginOffset v) = v ∷ []
 margin_offsets other = []
 
+-- the character for missing parts of lines that it sets
 abbrev pub missing_characters : Setting → List ℕ
 missing_characters (SetBordersMissing c) = c ∷ []
 missing_characters other = []

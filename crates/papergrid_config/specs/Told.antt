@@ -28,6 +28,7 @@ abbrev pub newest_or : {T : Type 0} → T → List T → T
 newest_or default [] = default
 newest_or default (newest ∷ older) = newest
 
+-- the last value that settings set, or the default
 abbrev pub last_set : {T : Type 0} → T → (Setting → List T) → List Setting → T
 last_set default values settings = newest_or default (reverse (flat_map values settings))
 

@@ -6,8 +6,10 @@ use Rattle.std.specs.Ordering.{nat_cmp}
 use Rattle.papergrid_keys.specs.Keys.{position_cmp, position_eq}
 
 module _ {X : Type 0} (eq : X → X → Bool) where
+  -- of maps by number
   abbrev pub numbers_eq : FinMap nat_cmp X → FinMap nat_cmp X → Bool
   numbers_eq m n = entries_eq nat_eq (λ p q. eq p.1 q.1) (entries m) (entries n)
 
+  -- of maps by position
   abbrev pub places_eq : FinMap position_cmp X → FinMap position_cmp X → Bool
   places_eq m n = entries_eq position_eq (λ p q. eq p.1 q.1) (entries m) (entries n)

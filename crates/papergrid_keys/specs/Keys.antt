@@ -9,8 +9,10 @@ use Rattle.papergrid_values.specs.declared.position.Position.{Position}
 abbrev pub position_cmp : Position → Position → Ordering
 position_cmp p q = ordering_then (nat_cmp p.row q.row) (nat_cmp p.col q.col)
 
+-- whether row and column are equal
 abbrev pub position_eq : Position → Position → Bool
 position_eq p q = p.row == q.row && p.col == q.col
 
+-- a code of positions
 abbrev pub coded_position : Coded Position
 coded_position = code_by (ℕ × ℕ) (coded× coded_ℕ coded_ℕ) (λ p. (p.row, p.col)) (λ n. record { row = n.0; col = n.1 }) (λ _. refl)

@@ -28,17 +28,17 @@ use Rattle.papergrid_config.specs.Parts.{character_calls, padding_calls, span_ca
 use Rattle.papergrid_config.specs.Told.{IsTold, all_sides, no_room}
 use Rattle.papergrid_config.specs.declared.setting.Setting.{Setting}
 use Rattle.papergrid_config.specs.declared.spanned.SpannedConfig.{SpannedConfig}
-use Rattle.papergrid_walk.specs.Cells.{asked_by, demands_of, placed_from, placed_row, side}
+use Rattle.papergrid_walk.specs.Cells.{demands_by, demands_of, placed_from, placed_row, side}
 use Rattle.papergrid_walk.specs.Grids.{Grid, spanned_grid}
 use Rattle.papergrid_walk.specs.Measures.{cell_measure, line_measure}
-use Rattle.papergrid_walk.specs.ForProofs.Visits.{asked_by-append}
+use Rattle.papergrid_walk.specs.ForProofs.Visits.{demands_by-append}
 use Rattle.papergrid_walk.proofs.GridLemmas.{same_grid_by}
 use Rattle.papergrid_layout.specs.Laws.{AreReordered, AreSwapped, IsNewText, TellTheSame, concerns, set_span}
 
 -- ---- measures
 
 module _ {C : Type 0} (direction : Direction) (grid : Grid) (f g : C → ℕ × ℕ) (P : C → Type 0) (same : (x : C) → P x → f x ≡ g x) where
-  same_row : (r c : ℕ) (cells : List C) → All P cells → asked_by direction grid f (placed_row r c cells) ≡ asked_by direction grid g (placed_row r c cells)
+  same_row : (r c : ℕ) (cells : List C) → All P cells → demands_by direction grid f (placed_row r c cells) ≡ demands_by direction grid g (placed_row r c cells)
   same_row r c [] all = refl
   same_row r c (x ∷ cells) all =
       let one = same x (All-head P x cells all) in
@@ -49,14 +49,14 @@ module _ {C : Type 0} (direction : Direction) (grid : Grid) (f g : C → ℕ × 
         | inr t ↦ rw t rest
       ]
 
-  same_from : (r : ℕ) (rows : List (List C)) → All (All P) rows → asked_by direction grid f (placed_from r rows) ≡ asked_by direction grid g (placed_from r rows)
+  same_from : (r : ℕ) (rows : List (List C)) → All (All P) rows → demands_by direction grid f (placed_from r rows) ≡ demands_by direction grid g (placed_from r rows)
   same_from r [] all = refl
   same_from r (row ∷ rows) all =
       let one = same_row r 0 row (All-head (All P) row rows all) in
       let rest = same_from (r + 1) rows (All-tail (All P) row rows all) in
-      asked_by-append f direction grid (placed_row r 0 row) (placed_from (r + 1) rows)
+      demands_by-append f direction grid (placed_row r 0 row) (placed_from (r + 1) rows)
       ∙ (λ k. one k ++ rest k)
-      ∙ sym (asked_by-append g direction grid (placed_row r 0 row) (placed_from (r + 1) rows))
+      ∙ sym (demands_by-append g direction grid (placed_row r 0 row) (placed_from (r + 1) rows))
 
   -- where two measures agree on each cell, the cells ask for the same
   pub same_measures : (rows : List (List C)) → All (All P) rows → demands_of direction grid f rows ≡ demands_of direction grid g rows

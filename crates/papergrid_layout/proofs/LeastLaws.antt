@@ -13,7 +13,7 @@ use Rattle.papergrid_axis.proofs.OutLemmas.{none_out}
 use Rattle.papergrid_least.specs.Answers.{AreLeastSizes, AreLongest}
 use Rattle.papergrid_least.specs.Longest.{longest}
 use Rattle.papergrid_least.proofs.LeastLemmas.{least_of-shares, same-least_of}
-use Rattle.papergrid_walk.specs.Cells.{asked, problem_of, visible_cells}
+use Rattle.papergrid_walk.specs.Cells.{demand_by, problem_of, visible_cells}
 use Rattle.papergrid_walk.specs.Grids.{Grid}
 
 -- the certificate of least sizes is one that a checker accepts
@@ -34,7 +34,7 @@ module _ {C : Type 0} (grid : Grid) (measure : C → ℕ × ℕ) (columns : ℕ)
   in_table : All (IsInTable problem.count) problem.demands
   in_table =
       none_out problem.count problem.demands are.none_out
-      (All-map (λ (d : Demand). 1 ≤ d.span) (asked direction grid measure) (visible_cells grid rows) (λ k x l. from_one _))
+      (All-map (λ (d : Demand). 1 ≤ d.span) (demand_by direction grid measure) (visible_cells grid rows) (λ k x l. from_one _))
 
   pub same-least : IsLeast problem sizes → least ≡ sizes
   same-least is_least = are_least.exact ∙ least_of-shares problem in_table (subst (IsLeast problem) are.exact is_least) ∙ sym are.exact

@@ -11,7 +11,7 @@ use Rattle.papergrid_axis.specs.Ranges.{end_of, first_out}
 use Rattle.papergrid_axis.specs.ForProofs.Kept.{IsKept}
 use Rattle.papergrid_axis.proofs.OutLemmas.{out_kept}
 use Rattle.papergrid_walk.specs.declared.needs.KeptBoth.{KeptBoth}
-use Rattle.papergrid_walk.specs.Cells.{asked, demands_of, visible_cells}
+use Rattle.papergrid_walk.specs.Cells.{demand_by, demands_of, visible_cells}
 use Rattle.papergrid_walk.specs.Grids.{Grid}
 use Rattle.papergrid_walk.specs.ForProofs.Pairs.{AreBothKept}
 use Rattle.papergrid_walk.proofs.Distinct.{AllPairs-visible, Precedes}
@@ -54,21 +54,21 @@ second-stays p (Some q) later = ap Some (before-second p q (later q refl))
 module _ {C : Type 0} (grid : Grid) (measure : C → ℕ × ℕ) (columns : ℕ) (cells : List (List C)) where
   -- the first cell that reaches out is one of the cells
   first_out-from : (P : Position → Type 0) (direction : Direction) (n : ℕ) (xs : List (Position × C)) → All (λ x. P x.0) xs →
-      (y : Position) → first_out n (map (asked direction grid measure) xs) ≡ Some y → P y
+      (y : Position) → first_out n (map (demand_by direction grid measure) xs) ≡ Some y → P y
   first_out-from P direction n [] all y e = absurd (false≢true (ap is_some e))
-  first_out-from P direction n (x ∷ xs) all y e = elim (cases_Bool (nat_lt n (end_of (asked direction grid measure x)))) [
+  first_out-from P direction n (x ∷ xs) all y e = elim (cases_Bool (nat_lt n (end_of (demand_by direction grid measure x)))) [
     | inl t ↦
         let e' : Some x.0 ≡ Some y = rw t at e in
         subst P (ap (λ o. unwrap_or o y) e') (All-head (λ x. P x.0) x xs all)
     | inr f ↦
-        let e' : first_out n (map (asked direction grid measure) xs) ≡ Some y = rw f at e in
+        let e' : first_out n (map (demand_by direction grid measure) xs) ≡ Some y = rw f at e in
         first_out-from P direction n xs (All-tail (λ x. P x.0) x xs all) y e'
   ]
 
   -- of cells in their order, the first that reaches out along a direction is the earlier of the first along columns and the
   -- first along rows
   earlier-out : (xs : List (Position × C)) → AllPairs Precedes xs →
-      earlier (first_out columns (map (asked Columns grid measure) xs)) (first_out (length cells) (map (asked Rows grid measure) xs)) ≡ find (reaches_out grid measure columns cells) (map (λ cell. cell.0) xs)
+      earlier (first_out columns (map (demand_by Columns grid measure) xs)) (first_out (length cells) (map (demand_by Rows grid measure) xs)) ≡ find (reaches_out grid measure columns cells) (map (λ cell. cell.0) xs)
   earlier-out [] precede = refl
   earlier-out (x ∷ xs) precede =
       let rest = earlier-out xs (λ i j d l l'. precede (suc i) (suc j) d (omega arith) (omega arith)) in
@@ -76,10 +76,10 @@ module _ {C : Type 0} (grid : Grid) (measure : C → ℕ × ℕ) (columns : ℕ)
       elim (cases_Bool (nat_lt columns (x.0.col + grid.span Columns x.0))) [
         | inl wide ↦ elim (cases_Bool (nat_lt (length cells) (x.0.row + grid.span Rows x.0))) [
           | inl high ↦ rw (wide, high) (ap Some (same-first x.0))
-          | inr high ↦ rw (wide, high) (first-stays x.0 (first_out (length cells) (map (asked Rows grid measure) xs)) (first_out-from (IsBefore x.0) Rows (length cells) xs later))
+          | inr high ↦ rw (wide, high) (first-stays x.0 (first_out (length cells) (map (demand_by Rows grid measure) xs)) (first_out-from (IsBefore x.0) Rows (length cells) xs later))
         ]
         | inr wide ↦ elim (cases_Bool (nat_lt (length cells) (x.0.row + grid.span Rows x.0))) [
-          | inl high ↦ rw (wide, high) (second-stays x.0 (first_out columns (map (asked Columns grid measure) xs)) (first_out-from (IsBefore x.0) Columns columns xs later))
+          | inl high ↦ rw (wide, high) (second-stays x.0 (first_out columns (map (demand_by Columns grid measure) xs)) (first_out-from (IsBefore x.0) Columns columns xs later))
           | inr high ↦ rw (wide, high) rest
         ]
       ]

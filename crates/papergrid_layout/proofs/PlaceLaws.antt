@@ -17,7 +17,7 @@ use Rattle.papergrid_axis.specs.Problem.{Problem, total_of}
 use Rattle.papergrid_axis.specs.Ranges.{end_of, first_out, inner_lines, place_of}
 use Rattle.papergrid_axis.proofs.OutLemmas.{if_none}
 use Rattle.papergrid_walk.proofs.HiddenLemmas.{position-same}
-use Rattle.papergrid_walk.specs.Cells.{asked, placed, problem_of, side, visible_cells}
+use Rattle.papergrid_walk.specs.Cells.{demand_by, placed, problem_of, side, visible_cells}
 use Rattle.papergrid_walk.specs.Grids.{Grid}
 use Rattle.papergrid_layout.specs.Answers.{AreBothSizes}
 use Rattle.papergrid_layout.specs.Places.{DoNotMeet, HasRoomAtPlace, HaveNoneInCommon, IsInside, IsPlaced, StandsOver, extent, offset, place_at, sum_from, total, total_along}
@@ -174,12 +174,12 @@ module _ {C : Type 0} (grid : Grid) (measure : C → ℕ × ℕ) (columns : ℕ)
     room : side direction (measure x.1) + grid.before direction x.0 + grid.after direction x.0
         ≤ extent (slice_index (size direction)) (problem direction).line (along direction x.0) (grid.span direction x.0)
 
-  good : (direction : Direction) (xs : List (Position × C)) → first_out (problem direction).count (map (asked direction grid measure) xs) ≡ None →
-      All (HasRoom (problem direction).line (size direction)) (map (asked direction grid measure) xs) → All (IsGood direction) xs
+  good : (direction : Direction) (xs : List (Position × C)) → first_out (problem direction).count (map (demand_by direction grid measure) xs) ≡ None →
+      All (HasRoom (problem direction).line (size direction)) (map (demand_by direction grid measure) xs) → All (IsGood direction) xs
   good direction [] none room = All-nil (IsGood direction)
   good direction (x ∷ xs) none room =
-      let d = asked direction grid measure x in
-      let ds = map (asked direction grid measure) xs in
+      let d = demand_by direction grid measure x in
+      let ds = map (demand_by direction grid measure) xs in
       let inside = if_none (nat_lt (problem direction).count (end_of d)) (place_of d) (first_out (problem direction).count ds) none in
       let ends : end_of d ≤ (problem direction).count = ltb-false (problem direction).count (end_of d) inside.0 in
       let many : length (size direction) ≡ (problem direction).count = (sized direction).fits.one_each in

@@ -12,9 +12,9 @@ use Rattle.papergrid_axis.specs.KeptApart.{is_kept_apart}
 use Rattle.papergrid_axis.specs.Problem.{Problem, given}
 use Rattle.papergrid_axis.proofs.KeptApartLemmas.{Decides-is_kept_apart, not_kept_apart}
 use Rattle.papergrid_axis.specs.Ranges.{place_of}
-use Rattle.papergrid_walk.specs.Cells.{asked, asked_by, count_along, demands_of, placed_from, placed_row, problem_of, visible_cells}
+use Rattle.papergrid_walk.specs.Cells.{demand_by, demands_by, count_along, demands_of, placed_from, placed_row, problem_of, visible_cells}
 use Rattle.papergrid_walk.specs.Grids.{Grid}
-use Rattle.papergrid_walk.specs.ForProofs.Visits.{asked_by-append}
+use Rattle.papergrid_walk.specs.ForProofs.Visits.{demands_by-append}
 use Rattle.papergrid_layout.specs.Answers.{first_out_of_table, reaches_out}
 use Rattle.papergrid_layout.specs.Witnesses.{witness_of}
 
@@ -30,7 +30,7 @@ witness_is problem (Some places) chosen =
     rw t (ap Some chosen.exact)
 
 module _ {C : Type 0} (grid : Grid) (measure : C → ℕ × ℕ) (columns : ℕ) (cells : List (List C)) where
-  places_among : (xs : List (Position × C)) → map (λ x. x.0) xs ≡ map place_of (map (asked Columns grid measure) xs)
+  places_among : (xs : List (Position × C)) → map (λ x. x.0) xs ≡ map place_of (map (demand_by Columns grid measure) xs)
   places_among [] = refl
   places_among (x ∷ xs) = ap (λ ps. x.0 ∷ ps) (places_among xs)
 
@@ -39,23 +39,23 @@ module _ {C : Type 0} (grid : Grid) (measure : C → ℕ × ℕ) (columns : ℕ)
   first_by_demands = ap (find (reaches_out grid measure columns cells)) (places_among (visible_cells grid cells))
 
 module _ {A B : Type 0} (grid : Grid) (v : A → B) (f : B → ℕ × ℕ) where
-  told_row : (direction : Direction) (r c : ℕ) (cells : List A) → asked_by direction grid (λ x. f (v x)) (placed_row r c cells) ≡ asked_by direction grid f (placed_row r c (map v cells))
+  told_row : (direction : Direction) (r c : ℕ) (cells : List A) → demands_by direction grid (λ x. f (v x)) (placed_row r c cells) ≡ demands_by direction grid f (placed_row r c (map v cells))
   told_row direction r c [] = refl
   told_row direction r c (x ∷ cells) =
       let rest = told_row direction r (c + 1) cells in
       elim (cases_Bool (grid.shows (record { row = r; col = c }))) [
-        | inl t ↦ rw t (ap (λ ds. asked direction grid f (record { row = r; col = c }, v x) ∷ ds) rest)
+        | inl t ↦ rw t (ap (λ ds. demand_by direction grid f (record { row = r; col = c }, v x) ∷ ds) rest)
         | inr t ↦ rw t rest
       ]
 
-  told_from : (direction : Direction) (r : ℕ) (rows : List (List A)) → asked_by direction grid (λ x. f (v x)) (placed_from r rows) ≡ asked_by direction grid f (placed_from r (map (map v) rows))
+  told_from : (direction : Direction) (r : ℕ) (rows : List (List A)) → demands_by direction grid (λ x. f (v x)) (placed_from r rows) ≡ demands_by direction grid f (placed_from r (map (map v) rows))
   told_from direction r [] = refl
   told_from direction r (row ∷ rows) =
       let one = told_row direction r 0 row in
       let rest = told_from direction (r + 1) rows in
-      asked_by-append (λ x. f (v x)) direction grid (placed_row r 0 row) (placed_from (r + 1) rows)
+      demands_by-append (λ x. f (v x)) direction grid (placed_row r 0 row) (placed_from (r + 1) rows)
       ∙ (λ k. one k ++ rest k)
-      ∙ sym (asked_by-append f direction grid (placed_row r 0 (map v row)) (placed_from (r + 1) (map (map v) rows)))
+      ∙ sym (demands_by-append f direction grid (placed_row r 0 (map v row)) (placed_from (r + 1) (map (map v) rows)))
 
   module _ (cells : List (List A)) (rows : List (List B)) (same : map (map v) cells ≡ rows) where
     pub demands_told : (direction : Direction) → demands_of direction grid (λ x. f (v x)) cells ≡ demands_of direction grid f rows

@@ -12,7 +12,7 @@ use Rattle.papergrid_values.specs.Lines.{all_lines}
 use Rattle.papergrid_axis.specs.Ranges.{end_of, first_out, place_of}
 use Rattle.papergrid_axis.proofs.LoopLemmas.{need_within_total}
 use Rattle.papergrid_axis.proofs.OutLemmas.{if_none}
-use Rattle.papergrid_walk.specs.Cells.{asked, problem_of, side, visible_cells}
+use Rattle.papergrid_walk.specs.Cells.{demand_by, problem_of, side, visible_cells}
 use Rattle.papergrid_walk.specs.Grids.{Grid}
 
 -- sizes, one for each column (row) of a problem whose lines are drawn so
@@ -39,11 +39,11 @@ module _ {C : Type 0} (grid : Grid) (measure : C → ℕ × ℕ) (columns : ℕ)
   NeedsAtMost total cell = side direction (measure cell.1) + grid.before direction cell.0 + grid.after direction cell.0 ≤ total
 
   each_within : (sizes : List ℕ) (total : ℕ) → total_of problem sizes ≤ total → (xs : List (Position × C)) →
-      first_out problem.count (map (asked direction grid measure) xs) ≡ None → All (HasRoom problem.line sizes) (map (asked direction grid measure) xs) → All (NeedsAtMost total) xs
+      first_out problem.count (map (demand_by direction grid measure) xs) ≡ None → All (HasRoom problem.line sizes) (map (demand_by direction grid measure) xs) → All (NeedsAtMost total) xs
   each_within sizes total le [] none room = All-nil (NeedsAtMost total)
   each_within sizes total le (x ∷ xs) none room =
-      let d = asked direction grid measure x in
-      let ds = map (asked direction grid measure) xs in
+      let d = demand_by direction grid measure x in
+      let ds = map (demand_by direction grid measure) xs in
       let inside = if_none (nat_lt problem.count (end_of d)) (place_of d) (first_out problem.count ds) none in
       let ends : end_of d ≤ problem.count = ltb-false problem.count (end_of d) inside.0 in
       let need : d.need ≤ sum sizes + all_lines problem.line problem.count = need_within_total problem.line problem.count sizes d ends (All-head (HasRoom problem.line sizes) d ds room) in

@@ -52,21 +52,21 @@ pub record Covers (place : Place) (x y : ℕ) : Type 0 where
 -- a table: what is read of its configuration, its widths and heights, and its shape (rows, columns)
 module _ (grid : Grid) (widths heights : ℕ → ℕ) (shape : ℕ × ℕ) where
   -- how many columns (rows) it has
-  abbrev pub count_of : Direction → ℕ
-  count_of direction = count_along direction shape.1 shape.0
+  abbrev pub shape_along : Direction → ℕ
+  shape_along direction = count_along direction shape.1 shape.0
 
   -- its total along a direction
   abbrev pub total_along : Direction → ℕ
-  total_along direction = total (size_along widths heights direction) (grid.draws direction (count_of direction)) (count_of direction)
+  total_along direction = total (size_along widths heights direction) (grid.draws direction (shape_along direction)) (shape_along direction)
 
   -- where the cell at a position begins along a direction
   abbrev pub begin_along : Direction → Position → ℕ
-  begin_along direction p = offset (size_along widths heights direction) (grid.draws direction (count_of direction)) (along direction p)
+  begin_along direction p = offset (size_along widths heights direction) (grid.draws direction (shape_along direction)) (along direction p)
 
   -- how long it is
   abbrev pub length_along : Direction → Position → ℕ
   length_along direction p =
-      extent (size_along widths heights direction) (grid.draws direction (count_of direction)) (along direction p) (grid.span direction p)
+      extent (size_along widths heights direction) (grid.draws direction (shape_along direction)) (along direction p) (grid.span direction p)
 
   -- its place
   abbrev pub place_at : Position → Place
@@ -79,7 +79,7 @@ module _ (grid : Grid) (widths heights : ℕ → ℕ) (shape : ℕ × ℕ) where
 
   -- its range ends past the last column (row)
   abbrev pub ReachesOut : Position → Direction → Type 0
-  ReachesOut p direction = count_of direction < along direction p + grid.span direction p
+  ReachesOut p direction = shape_along direction < along direction p + grid.span direction p
 
   -- it is visible, and reaches out in neither direction
   pub record IsInside (p : Position) : Type 0 where

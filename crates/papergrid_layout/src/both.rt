@@ -68,13 +68,9 @@ fn conclude<T: Solution + Drop, M: Measure<C>, C, S: Settings>(
         direction: Direction::Rows,
         count: rows,
     };
-    match T::solve(alloc, columns, &both.columns, &across) {
-        Err(no_widths) => Err(no_widths),
-        Ok(widths) => match T::solve(alloc, rows, &both.rows, &down) {
-            Err(no_heights) => Err(no_heights),
-            Ok(heights) => Ok((widths, heights)),
-        },
-    }
+    let widths = T::solve(alloc, columns, &both.columns, &across)?;
+    let heights = T::solve(alloc, rows, &both.rows, &down)?;
+    Ok((widths, heights))
 }
 
 /// What the records come to along columns and along rows.

@@ -2,7 +2,7 @@
 
 ghost use Rattle.std.specs.Prelude.{◌≡◌, ◌+◌, ◌^◌, ◌<◌, ◌≤◌, ◌⊎◌, ◌∷◌, [], ⊤, List, length};
 ghost use Rattle.papergrid_axis.specs.ForProofs.Checks.{AreBounded, IsCandidate};
-ghost use Rattle.papergrid_walk.specs.Cells.{asked_by, demands_of, problem_of};
+ghost use Rattle.papergrid_walk.specs.Cells.{demands_by, demands_of, problem_of};
 ghost use Rattle.papergrid_layout.specs.Witnesses.{IsChecked};
 ghost use Rattle.papergrid_layout.specs.ForProofs.Checking.{AreShown, ChecksBy, ChecksMore, IsShownCandidate, check_more, check_none};
 ghost use Rattle.std.proofs.Common.{◌∙◌, ap, refl};
@@ -56,7 +56,7 @@ fn check_cell<M: Measure<C>, C, S: Settings>(
     ensures bounded { AreBounded candidate.now.places.now result }
     ensures checks { let grid = S.grid settings.now in
         ChecksMore grid candidate.now checked result
-        (asked_by candidate.now.direction grid M.measured ((pos, cell.now) ∷ [])) }
+        (demands_by candidate.now.direction grid M.measured ((pos, cell.now) ∷ [])) }
 {
     let axis = Along {
         settings,
@@ -91,7 +91,7 @@ impl<'a, M: Measure<C>, C, S: Settings> Visitor<C> for Checker<'a, M, S> {
         × IsShownCandidate (S.grid v.settings.now) v.candidate.now };
 
     ghost visits = { λ v w cells. (w.settings ≡ v.settings) × (w.candidate ≡ v.candidate)
-        × ChecksMore (S.grid v.settings.now) v.candidate.now v.checked w.checked (asked_by v.candidate.now.direction (S.grid v.settings.now) M.measured cells) };
+        × ChecksMore (S.grid v.settings.now) v.candidate.now v.checked w.checked (demands_by v.candidate.now.direction (S.grid v.settings.now) M.measured cells) };
 
     // It takes no memory.
     ghost may_fail = { ⊥ };

@@ -26,6 +26,7 @@ pub record AreEmptyColors (colors : Sides ANSIStr) : Type 0 where
   pub left : IsEmptyColor colors.left
   pub right : IsEmptyColor colors.right
 
+-- a new compact configuration: no lines and no colours, a space left and right of each text, and texts at the left
 pub record IsNew (config : CompactConfig) : Type 0 where
   pub borders : config.borders ≡ frame_with None
   pub border_colors : config.border_colors ≡ frame_with None

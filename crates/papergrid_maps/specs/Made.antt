@@ -5,10 +5,12 @@ use Rattle.papergrid_keys.specs.Tabulated.{tabulated}
 use Rattle.papergrid_values.specs.declared.direction.Direction.TheVariants.{Columns, Rows}
 use Rattle.papergrid_maps.specs.Spans.{SetSpan, SpanCall, Spans, decided_span, from_two}
 
+-- the position whose span a call sets
 abbrev pub named_anchors : SpanCall → List Position
 named_anchors (SetSpan d anchor n) = anchor ∷ []
 named_anchors call = []
 
+-- the spans that calls make
 abbrev pub spans_made : List SpanCall → Spans
 spans_made calls =
     let anchors = flat_map named_anchors (reverse calls) in

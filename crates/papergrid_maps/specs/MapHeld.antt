@@ -18,6 +18,7 @@ pub record Held (T : Type 0) : Type 0 where
   pub rows : FinMap nat_cmp T
   pub cells : FinMap position_cmp T
 
+-- a code of what a map holds
 abbrev pub held_code : {T : Type 0} → Coded T → Coded (Held T)
 held_code {T} c =
     code_by (T × (FinMap nat_cmp T × (FinMap nat_cmp T × FinMap position_cmp T)))

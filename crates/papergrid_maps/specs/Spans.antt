@@ -8,6 +8,7 @@ use Rattle.papergrid_values.specs.declared.direction.Direction.TheVariants.{Colu
 use Rattle.papergrid_values.specs.declared.position.Position.{Position}
 use Rattle.papergrid_keys.specs.Keys.{position_cmp, position_eq}
 
+-- whether two directions are the same
 abbrev pub is_same_direction : Direction → Direction → Bool
 is_same_direction Columns Columns = true
 is_same_direction Rows Rows = true
@@ -26,6 +27,7 @@ span_from d p (RemoveSpans e ∷ older) = if is_same_direction e d then 1 else s
 span_from d p (SetSpan e q n ∷ older) =
     if is_same_direction e d && (nat_le 1 n && position_eq q p) then n else span_from d p older
 
+-- the span that calls decide for a position, the oldest first
 abbrev pub decided_span : Direction → Position → List SpanCall → ℕ
 decided_span d p calls = span_from d p (reverse calls)
 
@@ -34,6 +36,7 @@ pub record Spans : Type 0 where
   pub columns : FinMap position_cmp ℕ
   pub rows : FinMap position_cmp ℕ
 
+-- the spans held along a direction
 abbrev pub spans_along : Direction → Spans → FinMap position_cmp ℕ
 spans_along Columns spans = spans.columns
 spans_along Rows spans = spans.rows
@@ -58,9 +61,11 @@ EndWithin direction spans count = (p : Position) (n : ℕ) → get spans p ≡ S
 abbrev pub span_at : FinMap position_cmp ℕ → Position → ℕ
 span_at spans p = unwrap_or (get spans p) 1
 
+-- how many columns the cell at a position spans
 abbrev pub column_span : Spans → Position → ℕ
 column_span spans p = span_at spans.columns p
 
+-- how many rows it spans
 abbrev pub row_span : Spans → Position → ℕ
 row_span spans p = span_at spans.rows p
 

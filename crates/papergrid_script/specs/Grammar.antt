@@ -16,16 +16,20 @@ use Rattle.papergrid_config.specs.declared.setting.Setting.TheVariants.{SetPaddi
 use Rattle.papergrid_script.specs.Texts.{newline, unescaped}
 
 infixl 10 ◌>>=◌
+-- the second step with what the first gave, where it gave something
 abbrev pub ◌>>=◌ : {A B : Type 0} → Option A → (A → Option B) → Option B
 None >>= f = None
 (Some x) >>= f = f x
 
+-- the byte of a space
 abbrev pub space : ℕ
 space = 32
 
+-- the byte of a comma
 abbrev pub comma : ℕ
 comma = 44
 
+-- the byte of a carriage return
 abbrev pub carriage_return : ℕ
 carriage_return = 13
 
@@ -51,6 +55,7 @@ position_of spelled = do
   col ← number_of parts.1
   Some (record { row = row; col = col })
 
+-- the cell at a position
 abbrev pub cell_at : Position → Entity
 cell_at place = entities.Cell place.row place.col
 
@@ -64,6 +69,7 @@ entity_of spelled =
 
 -- ---- paddings
 
+-- so many spaces
 abbrev pub spaces : ℕ → Indent
 spaces size = record { fill = space; size = size }
 
@@ -103,6 +109,7 @@ placed_span spelled = pair_of position_of number_of spelled
 
 -- ---- borders and lines
 
+-- the one number of a list that has exactly one
 abbrev pub one_alone : List ℕ → Option ℕ
 one_alone [] = None
 one_alone (c ∷ []) = Some c
@@ -120,6 +127,7 @@ placed_character spelled = pair_of number_of character_of spelled
 abbrev pub vertical_main : ℕ → VerticalLine ℕ
 vertical_main c = record { main = Some c; intersection = None; top = None; bottom = None }
 
+-- the same of a horizontal line
 abbrev pub horizontal_main : ℕ → HorizontalLine ℕ
 horizontal_main c = record { main = Some c; intersection = None; left = None; right = None }
 
@@ -155,6 +163,7 @@ keyword_says keyword rest =
     else if bytes_eq keyword (codes "columns") then option_map Columns (number_of rest)
     else option_map Set (setting_of keyword rest)
 
+-- what a line of text says: nothing, a row, a cell without a text, or by its keyword
 unfoldable pub text_says : List ℕ → Option Said
 text_says line =
     if bytes_eq line (codes "") then Some Nothing
@@ -178,5 +187,6 @@ without_empty_last [] = []
 without_empty_last (part ∷ []) = if length part == 0 then [] else part ∷ []
 without_empty_last (part ∷ next ∷ parts) = part ∷ without_empty_last (next ∷ parts)
 
+-- the lines of a script
 unfoldable pub script_lines : List ℕ → List (List ℕ)
 script_lines input = map without_cr (without_empty_last (slice_split (λ b. b == newline) input))

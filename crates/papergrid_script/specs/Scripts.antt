@@ -9,6 +9,7 @@ pub record Table : Type 0 where
   pub settings : List Setting
   pub rows : List (List (List ℕ))
 
+-- no columns, no settings and no rows
 abbrev pub empty_table : Table
 empty_table = record { columns = 0; settings = []; rows = [] }
 
@@ -25,6 +26,7 @@ with_line table (Set setting) = Some (record table { settings = table.settings +
 with_line table Row = Some (record table { rows = table.rows ++ [] ∷ [] })
 with_line table (Cell text) = option_map (λ rows. record table { rows = rows }) (onto_last table.rows text)
 
+-- on with the table after a line, or the number of the line where there is none
 abbrev pub or_bad : ℕ → Option Table → (Table → Result Table ℕ) → Result Table ℕ
 or_bad number None go_on = Err number
 or_bad number (Some table) go_on = go_on table
@@ -35,5 +37,6 @@ table_after number table [] = Ok table
 table_after number table (line ∷ lines) =
     or_bad number (option_and_then (with_line table) (said line)) (λ next. table_after (number + 1) next lines)
 
+-- the table that a script tells, or the number of its first bad line
 unfoldable pub table_of : List ℕ → Result Table ℕ
 table_of input = table_after 1 empty_table (script_lines input)

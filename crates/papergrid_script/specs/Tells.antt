@@ -16,16 +16,19 @@ abbrev pub IsBad : List (List ℕ) → ℕ → Type 0
 IsBad lines i =
     (line : List ℕ) × (slice_get lines i ≡ Some line) × ((said line ≡ None) ⊎ ((text : List ℕ) × (said line ≡ Some (Cell text)) × NoRowBefore lines i))
 
+-- the i-th line is bad, and none before it is
 pub record IsFirstBad (lines : List (List ℕ)) (i : ℕ) : Type 0 where
   pub bad : IsBad lines i
   pub first : (j : ℕ) → j < i → ¬ (IsBad lines j)
 
 -- ---- the table
 
+-- the column count that a line says
 abbrev pub columns_said : Said → Option ℕ
 columns_said (Columns n) = Some n
 columns_said s = None
 
+-- the setting that a line says
 abbrev pub setting_said : Said → Option Setting
 setting_said (Set setting) = Some setting
 setting_said s = None
@@ -36,6 +39,7 @@ is_of_rows Row = true
 is_of_rows (Cell text) = true
 is_of_rows s = false
 
+-- the last of some numbers, or the given one where there is none
 abbrev pub last_or : ℕ → List ℕ → ℕ
 last_or n [] = n
 last_or n (m ∷ ms) = last_or m ms

@@ -1,9 +1,11 @@
 -- The texts of cells as a script spells them. A text is the list of its bytes.
 use Rattle.std.specs.Prelude.{ℕ, List, [], ◌∷◌, Option, Some, None, option_map, ◌==◌, if◌then◌else◌}
 
+-- the byte of a newline
 abbrev pub newline : ℕ
 newline = 10
 
+-- the byte of a backslash
 abbrev pub backslash : ℕ
 backslash = 92
 
@@ -11,6 +13,7 @@ backslash = 92
 abbrev pub escape_of : ℕ → Option ℕ
 escape_of b = if b == 110 then Some newline else if b == 116 then Some 9 else if b == backslash then Some backslash else None
 
+-- a byte before the rest, where there are both
 abbrev pub put_first : Option ℕ → Option (List ℕ) → Option (List ℕ)
 put_first None rest = None
 put_first (Some b) rest = option_map (λ bs. b ∷ bs) rest

@@ -18,6 +18,7 @@ module _ {T : Type 0} where
   ends_at_column c count None = false
   ends_at_column c count (Some line) = has_end c count line.left line.right
 
+  -- whether a vertical line has an end set at the horizontal line r of count
   abbrev pub ends_at_row : ℕ → ℕ → Option (VerticalLine T) → Bool
   ends_at_row r count None = false
   ends_at_row r count (Some line) = has_end r count line.top line.bottom

@@ -7,18 +7,22 @@ use Rattle.papergrid_tables.specs.BorderHeld.{HeldBorders}
 use Rattle.papergrid_tables.specs.Places.{places_from}
 
 module _ {T : Type 0} where
+  -- the horizontal line that a call sets
   abbrev pub named_rows : BorderCall T → List ℕ
   named_rows (InsertHorizontalLine row line) = row ∷ []
   named_rows call = []
 
+  -- the vertical line that a call sets
   abbrev pub named_columns : BorderCall T → List ℕ
   named_columns (InsertVerticalLine col line) = col ∷ []
   named_columns call = []
 
+  -- the positions at which a call may set edges or corners
   abbrev pub named_places : BorderCall T → List Position
   named_places (InsertBorder cell border) = cell ∷ below cell ∷ right_of cell ∷ below (right_of cell) ∷ []
   named_places call = []
 
+  -- what a border table holds after the calls
   abbrev pub borders_made : List (BorderCall T) → HeldBorders T
   borders_made calls =
       let newest_first = reverse calls in

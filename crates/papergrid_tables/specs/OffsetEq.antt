@@ -13,9 +13,11 @@ use Rattle.papergrid_keys.specs.Keys.{position_cmp}
 use Rattle.papergrid_tables.specs.Overrides.{HeldOffsets, override_at}
 
 module _ {T : Type 0} where
+  -- no override
   abbrev pub no_offsets : HeldOffsets T
   no_offsets = record { from_start = empty; from_end = empty }
 
+  -- whether a map holds anything
   abbrev pub has_number : FinMap nat_cmp T → Bool
   has_number m = list_any (λ _. true) (keys m)
 
@@ -28,6 +30,7 @@ module _ {T : Type 0} where
   with_overrides held = retain_keys held (λ p. has_override (unwrap_or (get held p) no_offsets))
 
 module _ {T : Type 0} (eq : T → T → Bool) where
+  -- whether two positions have the same overrides
   abbrev pub offsets_eq : HeldOffsets T → HeldOffsets T → Bool
   offsets_eq s t = numbers_eq eq s.from_start t.from_start && numbers_eq eq s.from_end t.from_end
 

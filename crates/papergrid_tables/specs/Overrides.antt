@@ -15,6 +15,7 @@ pub data OffsetCall (T : Type 0) : Type 0 where
   RemoveAt : Position → OffsetCall T
   RemoveAll : OffsetCall T
 
+-- whether two offsets are the same
 abbrev pub is_same_offset : Offset → Offset → Bool
 is_same_offset (Start m) (Start n) = m == n
 is_same_offset (End m) (End n) = m == n
@@ -32,6 +33,7 @@ module _ {T : Type 0} where
   at_override p o (RemoveAt q) = if position_eq q p then Removes else Keeps
   at_override p o RemoveAll = Removes
 
+  -- the override at an offset
   abbrev pub at_offset : HeldOffsets T → Offset → Option T
   at_offset held (Start n) = get held.from_start n
   at_offset held (End n) = get held.from_end n

@@ -30,6 +30,7 @@ pub record Places (T : Type 0) : Type 0 where
   pub corner : Position → Option T
 
 module _ {T : Type 0} where
+  -- a frame without parts
   abbrev pub no_frame : Borders T
   no_frame = record {
     top = None;
@@ -77,6 +78,7 @@ module _ {T : Type 0} where
   abbrev pub frame_vertical : Borders T → ℕ → ℕ → Option T
   frame_vertical frame c count = if c == count then frame.right else (if c == 0 then frame.left else frame.vertical)
 
+  -- the part of the frame for the horizontal line r of count
   abbrev pub frame_horizontal : Borders T → ℕ → ℕ → Option T
   frame_horizontal frame r count = if r == 0 then frame.top else (if r == count then frame.bottom else frame.horizontal)
 
@@ -87,6 +89,7 @@ module _ {T : Type 0} where
       (option_or (option_and_then (λ line. line.main) (places.vertical_line p.col))
       (option_or (frame_vertical places.frame p.col count) places.global))
 
+  -- at a horizontal edge, likewise
   abbrev pub found_horizontal : Places T → Position → ℕ → Option T
   found_horizontal places p count =
       option_or (places.horizontal_edge p)
@@ -104,9 +107,11 @@ module _ {T : Type 0} where
       option_or (only_if (place == 0) first)
       (option_or (only_if (place == count) end) (only_if (not (place == 0) && not (place == count)) inner))
 
+  -- the part of a horizontal line at its crossing with the vertical line c
   abbrev pub of_horizontal_line : ℕ → ℕ → HorizontalLine T → Option T
   of_horizontal_line c cols line = crossed c cols line.left line.right line.intersection
 
+  -- the part of a vertical line at its crossing with the horizontal line r
   abbrev pub of_vertical_line : ℕ → ℕ → VerticalLine T → Option T
   of_vertical_line r rows line = crossed r rows line.top line.bottom line.intersection
 
@@ -122,6 +127,7 @@ module _ {T : Type 0} where
       (if p.col == 0 then frame.left_intersection else
       (if p.col == cols then frame.right_intersection else frame.intersection)))))))
 
+  -- at a crossing: the corner, a part of either line, the part of the frame, the global value
   abbrev pub found_intersection : Places T → Position → ℕ → ℕ → Option T
   found_intersection places p rows cols =
       option_or (places.corner p)
@@ -175,6 +181,7 @@ module _ {T : Type 0} where
   abbrev pub in_frame_vertical : Borders T → ℕ → ℕ → Bool
   in_frame_vertical frame c count = at_ends c count (has_left frame) (has_right frame) (has_vertical frame)
 
+  -- the same of the horizontal line r of count
   abbrev pub in_frame_horizontal : Borders T → ℕ → ℕ → Bool
   in_frame_horizontal frame r count = at_ends r count (has_top frame) (has_bottom frame) (has_horizontal frame)
 

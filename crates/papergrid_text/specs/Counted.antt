@@ -16,11 +16,14 @@ module _ {I : Type 0} where
   abbrev pub counted : I → ℕ → Option ℕ → IterRecords I
   counted rows columns hint = record { iter = rows; count_columns = columns; count_rows = hint }
 
+  -- what is walked for the rows
   abbrev pub counted_rows : IterRecords I → I
   counted_rows r = r.iter
 
+  -- the number of columns
   abbrev pub counted_columns : IterRecords I → ℕ
   counted_columns r = r.count_columns
 
+  -- the hint of the number of rows
   abbrev pub row_hint : IterRecords I → Option ℕ
   row_hint r = r.count_rows

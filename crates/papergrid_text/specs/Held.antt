@@ -8,11 +8,13 @@ abbrev pub first_length : {T Z : Type 0} → List (Vec T Z) → ℕ
 first_length [] = 0
 first_length (row ∷ rows) = length row.items
 
+-- the text of a cell, and the empty text where there is none
 abbrev pub text_of : {T : Type 0} → (T → List ℕ) → Option T → List ℕ
 text_of text None = []
 text_of text (Some cell) = text cell
 
 module _ {T Z : Type 0} where
+  -- the cell in a column of a row
   abbrev pub in_row : Option (Vec T Z) → ℕ → Option T
   in_row None col = None
   in_row (Some row) col = slice_get row.items col

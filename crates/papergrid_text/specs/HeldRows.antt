@@ -8,12 +8,15 @@ module _ {T : Type 0} where
   abbrev pub held : Vec (Vec T Global) Global → ℕ → ℕ → VecRecords T
   held rows row_count column_count = record { rows = rows; count_rows = row_count; count_cols = column_count }
 
+  -- the rows
   abbrev pub rows_held : VecRecords T → Vec (Vec T Global) Global
   rows_held r = r.rows
 
+  -- the number of rows that is told
   abbrev pub row_count : VecRecords T → ℕ
   row_count r = r.count_rows
 
+  -- the number of columns that is told
   abbrev pub column_count : VecRecords T → ℕ
   column_count r = r.count_cols
 

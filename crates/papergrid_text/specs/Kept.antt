@@ -14,6 +14,7 @@ pub record IsInside (text : List ℕ) (range : LineRange) : Type 0 where
   pub begins : IsCharBoundary text range.start
   pub ends : IsCharBoundary text range.end
 
+-- the ranges that are kept
 abbrev pub ranges_of : KeptLines → List LineRange
 ranges_of (Ranges v) = v.items
 ranges_of (Given v) = []
@@ -26,6 +27,7 @@ AreInside text kept = All (IsInside text) (ranges_of kept)
 abbrev pub line_of_range : List ℕ → LineRange → List ℕ × ℕ
 line_of_range text range = (slice_range text range.start range.end, range.width)
 
+-- a line that was given, with its width
 abbrev pub given_line : StrWithWidth → List ℕ × ℕ
 given_line line = (cow_str_bytes line.text, line.width)
 

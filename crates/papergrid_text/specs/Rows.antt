@@ -4,5 +4,6 @@ use Rattle.std.specs.contracts.alloc.Global as global
 use Rattle.std.specs.contracts.impls.GlobalAllocator.TheImpl.{ghosts}
 use Rattle.std.specs.contracts.vec.Vec as vec
 
+-- the code of that type
 abbrev pub rows_row : RattleType → RattleType
 rows_row T = vec.the_row (vec.the_row T global.the_row ghosts) global.the_row ghosts

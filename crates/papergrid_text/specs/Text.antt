@@ -8,6 +8,7 @@ use Rattle.unicode_width.specs.Width.{str_width}
 
 -- ---- lines
 
+-- no byte of the text is a newline
 abbrev pub HasNoNewline : List ℕ → Type 0
 HasNoNewline text = All (λ b. b ≢ 10) text
 

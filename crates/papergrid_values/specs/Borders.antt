@@ -41,12 +41,15 @@ border_map f b = record {
 abbrev pub has_border_top : {T : Type 0} → Border T → Bool
 has_border_top b = any_set (b.top ∷ b.left_top_corner ∷ b.right_top_corner ∷ [])
 
+-- at the bottom
 abbrev pub has_border_bottom : {T : Type 0} → Border T → Bool
 has_border_bottom b = any_set (b.bottom ∷ b.left_bottom_corner ∷ b.right_bottom_corner ∷ [])
 
+-- at the left
 abbrev pub has_border_left : {T : Type 0} → Border T → Bool
 has_border_left b = any_set (b.left ∷ b.left_top_corner ∷ b.left_bottom_corner ∷ [])
 
+-- at the right
 abbrev pub has_border_right : {T : Type 0} → Border T → Bool
 has_border_right b = any_set (b.right ∷ b.right_top_corner ∷ b.right_bottom_corner ∷ [])
 
@@ -82,12 +85,15 @@ frame_with part = record {
 abbrev pub has_left : {T : Type 0} → Borders T → Bool
 has_left f = any_set (f.left ∷ f.left_intersection ∷ f.top_left ∷ f.bottom_left ∷ [])
 
+-- at the right
 abbrev pub has_right : {T : Type 0} → Borders T → Bool
 has_right f = any_set (f.right ∷ f.right_intersection ∷ f.top_right ∷ f.bottom_right ∷ [])
 
+-- at the top
 abbrev pub has_top : {T : Type 0} → Borders T → Bool
 has_top f = any_set (f.top ∷ f.top_intersection ∷ f.top_left ∷ f.top_right ∷ [])
 
+-- at the bottom
 abbrev pub has_bottom : {T : Type 0} → Borders T → Bool
 has_bottom f = any_set (f.bottom ∷ f.bottom_intersection ∷ f.bottom_left ∷ f.bottom_right ∷ [])
 
@@ -96,6 +102,7 @@ abbrev pub has_horizontal : {T : Type 0} → Borders T → Bool
 has_horizontal f =
     any_set (f.horizontal ∷ f.left_intersection ∷ f.right_intersection ∷ f.intersection ∷ [])
 
+-- something between columns
 abbrev pub has_vertical : {T : Type 0} → Borders T → Bool
 has_vertical f =
     any_set (f.vertical ∷ f.top_intersection ∷ f.bottom_intersection ∷ f.intersection ∷ [])

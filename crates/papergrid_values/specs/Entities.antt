@@ -15,14 +15,14 @@ abbrev pub at : ℕ → ℕ → Position
 at row col = record { row = row; col = col }
 
 -- the numbers below n, upwards
-abbrev pub below : ℕ → List ℕ
-below n = range_with_len 0 n
+abbrev pub numbers_below : ℕ → List ℕ
+numbers_below n = range_with_len 0 n
 
 -- the positions of an entity where there are so many rows and columns, and neither number is 0
 abbrev pub positions_in : Entity → ℕ → ℕ → List Position
-positions_in Global rows cols = flat_map (λ row. map (λ col. at row col) (below cols)) (below rows)
-positions_in (Column col) rows cols = map (λ row. at row col) (below rows)
-positions_in (Row row) rows cols = map (λ col. at row col) (below cols)
+positions_in Global rows cols = flat_map (λ row. map (λ col. at row col) (numbers_below cols)) (numbers_below rows)
+positions_in (Column col) rows cols = map (λ row. at row col) (numbers_below rows)
+positions_in (Row row) rows cols = map (λ col. at row col) (numbers_below cols)
 positions_in (Cell row col) rows cols = at row col ∷ []
 
 -- the same, and none where a count is 0; an entity's own numbers are not compared with the counts

@@ -16,6 +16,7 @@ vertical_parts line = line.main ∷ line.intersection ∷ line.top ∷ line.bott
 abbrev pub horizontal_with : {T : Type 0} → Option T → HorizontalLine T
 horizontal_with part = record { main = part; intersection = part; left = part; right = part }
 
+-- the vertical line with the same part everywhere
 abbrev pub vertical_with : {T : Type 0} → Option T → VerticalLine T
 vertical_with part = record { main = part; intersection = part; top = part; bottom = part }
 

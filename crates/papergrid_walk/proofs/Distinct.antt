@@ -12,7 +12,7 @@ use Rattle.papergrid_axis.specs.Ranges.{place_of}
 use Rattle.papergrid_axis.specs.ForProofs.Kept.{Holds, IsKept, is_single}
 use Rattle.papergrid_axis.proofs.KeptLemmas.{below-own_limit}
 use Rattle.papergrid_values.specs.Positions.{IsBefore}
-use Rattle.papergrid_walk.specs.Cells.{asked, count_along, demands_of, placed, placed_from, placed_row, visible_cells}
+use Rattle.papergrid_walk.specs.Cells.{demand_by, count_along, demands_of, placed, placed_from, placed_row, visible_cells}
 use Rattle.papergrid_walk.specs.ForProofs.Limits.{limit_along}
 use Rattle.papergrid_walk.specs.Grids.{Grid}
 
@@ -76,8 +76,8 @@ module _ {C : Type 0} where
       All (λ d. is_single (limit_along direction columns) d ≡ true → d.start < count_along direction columns (length rows)) (demands_of direction grid measure rows)
   below-limit Columns grid measure columns rows = below-own_limit columns (demands_of Columns grid measure rows)
   below-limit Rows grid measure columns rows =
-      All-map (λ d. is_single (limit_along Rows columns) d ≡ true → d.start < length rows) (asked Rows grid measure) (visible_cells grid rows)
-      (All-weaker (λ x. x.0.row < length rows) (λ x. is_single (limit_along Rows columns) (asked Rows grid measure x) ≡ true → x.0.row < length rows) (λ x l t. l) (visible_cells grid rows)
+      All-map (λ d. is_single (limit_along Rows columns) d ≡ true → d.start < length rows) (demand_by Rows grid measure) (visible_cells grid rows)
+      (All-weaker (λ x. x.0.row < length rows) (λ x. is_single (limit_along Rows columns) (demand_by Rows grid measure x) ≡ true → x.0.row < length rows) (λ x l t. l) (visible_cells grid rows)
       (All-filter (λ cell. grid.shows cell.0) (λ x. x.0.row < length rows) (placed rows) (from-above (length rows) 0 rows (omega arith))))
 
   -- what a walk kept of told rows is what the table asks for
@@ -102,12 +102,12 @@ module _ {C : Type 0} where
       elim precedes [ inl l ↦ absurd (omega (arith, l, row)) | inr l ↦ let l' = l.1 in absurd (omega (arith, l', col)) ]
 
   module _ (direction : Direction) (grid : Grid) (measure : C → ℕ × ℕ) where
-    asked-distinct : (xs : List (Position × C)) → AllPairs Precedes xs → AreDistinct (map (asked direction grid measure) xs)
-    asked-distinct [] precede = λ i j d l l'. absurd (omega arith)
-    asked-distinct (x ∷ xs) precede =
-        AllPairs-cons (λ a b. place_of a ≢ place_of b) (asked direction grid measure x) (map (asked direction grid measure) xs)
-        (All-map (λ b. place_of (asked direction grid measure x) ≢ place_of b) (asked direction grid measure) xs (λ k d l. differ x (get_or xs k d) (precede 0 (suc k) d (omega arith) (omega arith))))
-        (asked-distinct xs (λ i j d l l'. precede (suc i) (suc j) d (omega arith) (omega arith)))
+    demand_by-distinct : (xs : List (Position × C)) → AllPairs Precedes xs → AreDistinct (map (demand_by direction grid measure) xs)
+    demand_by-distinct [] precede = λ i j d l l'. absurd (omega arith)
+    demand_by-distinct (x ∷ xs) precede =
+        AllPairs-cons (λ a b. place_of a ≢ place_of b) (demand_by direction grid measure x) (map (demand_by direction grid measure) xs)
+        (All-map (λ b. place_of (demand_by direction grid measure x) ≢ place_of b) (demand_by direction grid measure) xs (λ k d l. differ x (get_or xs k d) (precede 0 (suc k) d (omega arith) (omega arith))))
+        (demand_by-distinct xs (λ i j d l l'. precede (suc i) (suc j) d (omega arith) (omega arith)))
 
     pub AreDistinct-demands : (rows : List (List C)) → AreDistinct (demands_of direction grid measure rows)
-    AreDistinct-demands rows = asked-distinct (visible_cells grid rows) (AllPairs-visible grid rows)
+    AreDistinct-demands rows = demand_by-distinct (visible_cells grid rows) (AllPairs-visible grid rows)

@@ -28,24 +28,27 @@ module _ {C : Type 0} where
   abbrev pub placed : List (List C) → List (Position × C)
   placed rows = placed_from 0 rows
 
+  -- those of some cells that are visible
   abbrev pub visible_of : Grid → List (Position × C) → List (Position × C)
   visible_of grid cells = filter (λ cell. grid.shows cell.0) cells
 
+  -- the visible cells of rows, by row and then by column
   abbrev pub visible_cells : Grid → List (List C) → List (Position × C)
   visible_cells grid rows = visible_of grid (placed rows)
 
   -- what a cell asks for: its measure and the paddings before and after it, over its span
-  abbrev pub asked : Direction → Grid → (C → ℕ × ℕ) → Position × C → Demand
-  asked direction grid measure cell =
+  abbrev pub demand_by : Direction → Grid → (C → ℕ × ℕ) → Position × C → Demand
+  demand_by direction grid measure cell =
       demand_of direction cell.0 (grid.span direction cell.0)
       (side direction (measure cell.1) + grid.before direction cell.0 + grid.after direction cell.0)
 
-  abbrev pub asked_by : Direction → Grid → (C → ℕ × ℕ) → List (Position × C) → List Demand
-  asked_by direction grid measure cells = map (asked direction grid measure) (visible_of grid cells)
+  -- what the visible ones of some cells ask for
+  abbrev pub demands_by : Direction → Grid → (C → ℕ × ℕ) → List (Position × C) → List Demand
+  demands_by direction grid measure cells = map (demand_by direction grid measure) (visible_of grid cells)
 
   -- what the visible cells of the rows ask for, by row and then by column
   abbrev pub demands_of : Direction → Grid → (C → ℕ × ℕ) → List (List C) → List Demand
-  demands_of direction grid measure rows = asked_by direction grid measure (placed rows)
+  demands_of direction grid measure rows = demands_by direction grid measure (placed rows)
 
 -- the number of columns, or of rows
 abbrev pub count_along : Direction → ℕ → ℕ → ℕ

@@ -26,14 +26,17 @@ abbrev pub size_before : Direction → Sides Indent → ℕ
 size_before Columns padding = padding.left.size
 size_before Rows padding = padding.top.size
 
+-- the same after a text
 abbrev pub size_after : Direction → Sides Indent → ℕ
 size_after Columns padding = padding.right.size
 size_after Rows padding = padding.bottom.size
 
+-- how many columns (rows) the cell at a position spans
 abbrev pub span_along : Spans → Direction → Position → ℕ
 span_along spans Columns p = column_span spans p
 span_along spans Rows p = row_span spans p
 
+-- whether there is a line at i of count, along a direction
 abbrev pub line_along : HeldBorders ℕ → Direction → ℕ → ℕ → Bool
 line_along characters Columns count i = vertical_line_at characters i count
 line_along characters Rows count i = horizontal_line_at characters i count

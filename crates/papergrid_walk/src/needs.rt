@@ -3,7 +3,7 @@
 ghost use Rattle.std.specs.Prelude.{◌≡◌, ℕ, ◌+◌, ◌-◌, ◌<◌, ◌≤◌, ◌^◌, ◌∷◌, [], ⊤, if◌then◌else◌, IfOk, IfSome, List, None, OnOk, Some, length};
 ghost use Rattle.papergrid_values.specs.declared.direction.Direction.TheVariants.{Columns, Rows};
 ghost use Rattle.papergrid_axis.specs.ForProofs.Kept.{Adds, IsKept};
-ghost use Rattle.papergrid_walk.specs.Cells.{asked_by, count_along, demands_of};
+ghost use Rattle.papergrid_walk.specs.Cells.{demands_by, count_along, demands_of};
 ghost use Rattle.papergrid_walk.specs.ForProofs.Limits.{limit_along};
 ghost use Rattle.papergrid_axis.specs.Ranges.{demand_of};
 ghost use Rattle.papergrid_walk.specs.Grids.{Grid};
@@ -124,7 +124,7 @@ impl<'a, M: Measure<C>, C, S: Settings> Visitor<C> for Needs<'a, M, S> {
     ghost stands = { λ v row column. StandsAt (S.grid v.view.settings.now) (S.set_for v.view.settings.now) v.view.sweep v.view.known row column };
 
     ghost visits = { λ v w cells. (w.view.settings ≡ v.view.settings) × (w.direction ≡ v.direction)
-        × Adds v.kept w.kept (asked_by v.direction (S.grid v.view.settings.now) M.measured cells) };
+        × Adds v.kept w.kept (demands_by v.direction (S.grid v.view.settings.now) M.measured cells) };
 
     ghost may_fail = { ⊤ };
 

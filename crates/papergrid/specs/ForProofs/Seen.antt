@@ -27,9 +27,11 @@ abbrev pub IsCertifiedBy : Sizing → {C : Type 0} → Grid → (C → ℕ × �
 IsCertifiedBy sizing grid measure columns cells result =
     IsCertifiedWhere grid measure columns cells (HasNone sizing) (AreSizesBy sizing) (IsFoundWitness sizing) result
 
+-- the places of a witness that the program holds
 abbrev pub places_seen : Option (Vec Position Global) → Option (List Position)
 places_seen witness = option_map (λ places. places.items) witness
 
+-- the estimate that the sizes of the program are
 abbrev pub sizes_seen : Sizes → Estimate
 sizes_seen sizes =
     Sized sizes.certified.widths.items sizes.certified.heights.items sizes.total_width sizes.total_height

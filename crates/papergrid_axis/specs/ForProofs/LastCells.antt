@@ -26,6 +26,7 @@ abbrev pub slot_of : Option Demand → Option Demand → ℕ → ℕ → Option 
 slot_of (Some d) first size i = if d.start == i then Some d else None
 slot_of None first size i = if size == 0 then None else first
 
+-- the chosen cell at i, by lists of the last growing cells and of the single ones
 abbrev pub chosen_slot : List (Option Demand) → List Demand → List ℕ → ℕ → Option Demand
 chosen_slot last single_span sizes i = slot_of (slice_index_or last i None) (Some (slice_index_or single_span i no_demand)) (slice_index sizes i) i
 

@@ -7,9 +7,9 @@ use Rattle.papergrid_axis.specs.declared.checked.Checked.{Checked}
 use Rattle.papergrid_axis.specs.declared.candidate.Candidate.{Candidate}
 use Rattle.papergrid_axis.specs.declared.demand.Demand.{Demand}
 use Rattle.papergrid_axis.specs.ForProofs.Checks.{Checks}
-use Rattle.papergrid_walk.specs.Cells.{asked_by}
+use Rattle.papergrid_walk.specs.Cells.{demands_by}
 use Rattle.papergrid_walk.specs.Grids.{Grid}
-use Rattle.papergrid_walk.specs.ForProofs.Visits.{asked_by-append}
+use Rattle.papergrid_walk.specs.ForProofs.Visits.{demands_by-append}
 
 -- the cells at these places are visible
 abbrev pub AreShown : Grid → List Position → Type 0
@@ -36,15 +36,15 @@ check_none grid candidate checked = λ demands before. subst (ChecksBy grid cand
 -- what some cells ask for, and then what more of them do, by the same view and candidate
 pub check_more : {C : Type 0} (measure : C → ℕ × ℕ) (grid after : Grid) (candidate later : Candidate) → after ≡ grid → later ≡ candidate →
     (old mid new : Checked) (xs ys : List (Position × C)) →
-    ChecksMore grid candidate old mid (asked_by candidate.direction grid measure xs) →
-    ChecksMore after later mid new (asked_by later.direction after measure ys) →
-    ChecksMore grid candidate old new (asked_by candidate.direction grid measure (xs ++ ys))
+    ChecksMore grid candidate old mid (demands_by candidate.direction grid measure xs) →
+    ChecksMore after later mid new (demands_by later.direction after measure ys) →
+    ChecksMore grid candidate old new (demands_by candidate.direction grid measure (xs ++ ys))
 check_more measure grid after candidate later same_grid same_candidate old mid new xs ys first other = λ demands before.
-    let second : ChecksMore grid candidate mid new (asked_by candidate.direction grid measure ys) =
-    subst (λ l. ChecksMore l candidate mid new (asked_by candidate.direction l measure ys)) same_grid
-    (subst (λ c. ChecksMore after c mid new (asked_by c.direction after measure ys)) same_candidate other) in
-    let both : (demands ++ asked_by candidate.direction grid measure xs) ++ asked_by candidate.direction grid measure ys
-    ≡ demands ++ asked_by candidate.direction grid measure (xs ++ ys) =
-    append_assoc demands (asked_by candidate.direction grid measure xs) (asked_by candidate.direction grid measure ys)
-    ∙ ap (λ zs. demands ++ zs) (sym (asked_by-append measure candidate.direction grid xs ys)) in
+    let second : ChecksMore grid candidate mid new (demands_by candidate.direction grid measure ys) =
+    subst (λ l. ChecksMore l candidate mid new (demands_by candidate.direction l measure ys)) same_grid
+    (subst (λ c. ChecksMore after c mid new (demands_by c.direction after measure ys)) same_candidate other) in
+    let both : (demands ++ demands_by candidate.direction grid measure xs) ++ demands_by candidate.direction grid measure ys
+    ≡ demands ++ demands_by candidate.direction grid measure (xs ++ ys) =
+    append_assoc demands (demands_by candidate.direction grid measure xs) (demands_by candidate.direction grid measure ys)
+    ∙ ap (λ zs. demands ++ zs) (sym (demands_by-append measure candidate.direction grid xs ys)) in
     subst (ChecksBy grid candidate new) both (second _ (first demands before))

@@ -6,6 +6,7 @@ use Rattle.papergrid_values.specs.declared.position.Position.{Position}
 abbrev pub earlier_of : Position → Position → Position
 earlier_of p q = if nat_lt q.row p.row || (q.row == p.row && nat_lt q.col p.col) then q else p
 
+-- the same, where there are any
 abbrev pub earlier : Option Position → Option Position → Option Position
 earlier None q = q
 earlier (Some p) None = Some p

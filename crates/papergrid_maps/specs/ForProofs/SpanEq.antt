@@ -5,6 +5,7 @@ use Rattle.papergrid_keys.specs.Equal.{places_eq}
 use Rattle.papergrid_keys.specs.ForProofs.EqualLaws.{places_laws}
 use Rattle.papergrid_maps.specs.Spans.{Spans}
 
+-- whether two sets of spans hold the same
 abbrev pub spans_eq : Spans → Spans → Bool
 spans_eq s t = places_eq nat_eq s.columns t.columns && places_eq nat_eq s.rows t.rows
 

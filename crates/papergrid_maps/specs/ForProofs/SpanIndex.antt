@@ -28,10 +28,12 @@ pub record DirectedSpans : Type 0 where
   pub direction : Direction
   pub spans : FinMap position_cmp ℕ
 
+-- whether the direction is that of columns
 abbrev pub is_columns : Direction → Bool
 is_columns Columns = true
 is_columns Rows = false
 
+-- the direction for which that is so
 abbrev pub direction_by : Bool → Direction
 direction_by true = Columns
 direction_by false = Rows
@@ -40,12 +42,14 @@ pub same_direction : (d : Direction) → direction_by (is_columns d) ≡ d
 same_direction Columns = refl
 same_direction Rows = refl
 
+-- a code of the spans of a direction
 abbrev pub directed_code : Coded DirectedSpans
 directed_code =
     code_by (Bool × FinMap position_cmp ℕ) (coded× coded_bool (code coded_position coded_ℕ))
     (λ s. (is_columns s.direction, s.spans)) (λ p. record { direction = direction_by p.0; spans = p.1 })
     (λ s i. record { direction = same_direction s.direction i; spans = s.spans })
 
+-- a code of spans
 abbrev pub spans_code : Coded Spans
 spans_code =
     code_by (FinMap position_cmp ℕ × FinMap position_cmp ℕ) (coded× (code coded_position coded_ℕ) (code coded_position coded_ℕ))

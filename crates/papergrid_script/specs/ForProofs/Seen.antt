@@ -17,6 +17,7 @@ texts_of cells = map (λ text. text.now) cells
 abbrev pub rows_seen : List (Bor (List (Bor (List ℕ)))) → List (List (List ℕ))
 rows_seen rows = map (λ row. texts_of row.now) rows
 
+-- the table of a script that was read
 abbrev pub table_seen : Script → Table
 table_seen script = record { columns = script.columns; settings = map setting_told script.settings.items; rows = rows_seen script.rows.items }
 
@@ -24,6 +25,7 @@ table_seen script = record { columns = script.columns; settings = map setting_to
 abbrev pub with_last : List (List (List ℕ)) → List (List ℕ) → List (List (List ℕ))
 with_last rows cells = slice_set rows (length rows - 1) cells
 
+-- the table of the lines that were read so far
 abbrev pub table_so_far : Draft → Table
 table_so_far draft = record { columns = draft.columns; settings = map setting_told draft.settings.items; rows = with_last (rows_seen draft.rows.items) (texts_of draft.last.items) }
 

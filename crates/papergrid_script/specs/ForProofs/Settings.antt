@@ -13,6 +13,7 @@ use Rattle.papergrid_script.specs.Grammar.{horizontal_main, spaces, vertical_mai
 abbrev pub spaced_sides : Sides ℕ → Sides Indent
 spaced_sides sides = record { top = spaces sides.top; bottom = spaces sides.bottom; left = spaces sides.left; right = spaces sides.right }
 
+-- the setting of a configuration that a setting of a script is
 abbrev pub setting_told : ScriptSetting → Setting
 setting_told (Padding entity sides) = SetPadding entity (spaced_sides sides)
 setting_told (ColumnSpan place count) = SetColumnSpan place count

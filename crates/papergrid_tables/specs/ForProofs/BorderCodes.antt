@@ -9,6 +9,7 @@ use Rattle.papergrid_values.specs.declared.borders.Borders.{Borders}
 use Rattle.papergrid_values.specs.declared.horizontal_line.HorizontalLine.{HorizontalLine}
 use Rattle.papergrid_values.specs.declared.vertical_line.VerticalLine.{VerticalLine}
 
+-- a code of frames
 abbrev pub borders_code : {T : Type 0} → Coded T → Coded (Borders T)
 borders_code {T} c =
     code_by (Option T × (Option T × (Option T × (Option T × (Option T × (Option T × (Option T × (Option T × (Option T × (Option T × (Option T × (Option T × (Option T × (Option T × Option T))))))))))))))
@@ -24,14 +25,17 @@ LineParts T = Option T × (Option T × (Option T × Option T))
 abbrev line_parts_code : {T : Type 0} → Coded T → Coded (LineParts T)
 line_parts_code c = coded× (coded_option c) (coded× (coded_option c) (coded× (coded_option c) (coded_option c)))
 
+-- a code of horizontal lines
 abbrev pub horizontal_line_code : {T : Type 0} → Coded T → Coded (HorizontalLine T)
 horizontal_line_code {T} c = code_by (LineParts T) (line_parts_code c) (λ r. (r.main, (r.intersection, (r.left, r.right))))
     (λ p. record { main = p.0; intersection = p.1.0; left = p.1.1.0; right = p.1.1.1 }) (λ _. refl)
 
+-- a code of vertical lines
 abbrev pub vertical_line_code : {T : Type 0} → Coded T → Coded (VerticalLine T)
 vertical_line_code {T} c = code_by (LineParts T) (line_parts_code c) (λ r. (r.main, (r.intersection, (r.top, r.bottom))))
     (λ p. record { main = p.0; intersection = p.1.0; top = p.1.1.0; bottom = p.1.1.1 }) (λ _. refl)
 
+-- a code of what a border table holds
 abbrev pub held_borders_code : {T : Type 0} → Coded T → Coded (HeldBorders T)
 held_borders_code {T} c =
     code_by (Option T × (Borders T × (FinMap nat_cmp (HorizontalLine T) × (FinMap nat_cmp (VerticalLine T) × (FinMap position_cmp T × (FinMap position_cmp T × FinMap position_cmp T))))))

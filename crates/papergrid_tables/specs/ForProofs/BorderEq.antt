@@ -42,9 +42,11 @@ module _ {T : Type 0} (eq : T → T → Bool) where
   abbrev pub frame_eq : Borders T → Borders T → Bool
   frame_eq f g = parts_eq eq (frame_parts f) (frame_parts g)
 
+  -- whether two horizontal lines have equal parts
   abbrev pub horizontal_line_eq : HorizontalLine T → HorizontalLine T → Bool
   horizontal_line_eq l m = parts_eq eq (horizontal_parts l) (horizontal_parts m)
 
+  -- whether two vertical lines have equal parts
   abbrev pub vertical_line_eq : VerticalLine T → VerticalLine T → Bool
   vertical_line_eq l m = parts_eq eq (vertical_parts l) (vertical_parts m)
 

@@ -20,5 +20,6 @@ module _ {T : Type 0} where
   abbrev pub HasEdgeRoom : ℕ → Edges T → Type 0
   HasEdgeRoom n edges = (n ≤ spare edges.values) × (n ≤ spare edges.on_lines.counts)
 
+  -- there is room for n more corners
   abbrev pub HasCornerRoom : ℕ → Corners T → Type 0
   HasCornerRoom n corners = (n ≤ spare corners.values) × (n ≤ spare corners.in_rows.counts) × (n ≤ spare corners.in_columns.counts)

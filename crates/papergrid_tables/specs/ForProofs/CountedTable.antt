@@ -9,6 +9,7 @@ use Rattle.papergrid_tables.specs.declared.counted_lines.Lines.{Lines}
 use Rattle.papergrid_tables.specs.declared.counted_places.Corners.{Corners}
 use Rattle.papergrid_tables.specs.declared.counted_places.Edges.{Edges}
 
+-- all counts of a border table are those of what it holds
 pub record IsCounted {T : Type 0} (horizontal_lines : Lines (HorizontalLine T)) (vertical_lines : Lines (VerticalLine T)) (horizontal_edges vertical_edges : Edges T) (corners : Corners T) : Type 0 where
   pub ends_of_horizontal : AreEndsCounted (λ l. is_some l.left) (λ l. is_some l.right) horizontal_lines
   pub ends_of_vertical : AreEndsCounted (λ l. is_some l.top) (λ l. is_some l.bottom) vertical_lines

@@ -9,6 +9,7 @@ use Rattle.papergrid_values.specs.declared.position.Position.{Position}
 use Rattle.papergrid_keys.specs.Keys.{position_eq}
 use Rattle.papergrid_tables.specs.Overrides.{HeldOffsets, at_offset, is_same_offset}
 
+-- a code of the overrides of a position
 abbrev pub offsets_code : {T : Type 0} → Coded T → Coded (HeldOffsets T)
 offsets_code {T} c =
     code_by (FinMap nat_cmp T × FinMap nat_cmp T) (coded× (code coded_ℕ c) (code coded_ℕ c))

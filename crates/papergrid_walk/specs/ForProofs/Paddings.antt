@@ -14,6 +14,7 @@ use Rattle.papergrid_walk.specs.declared.known.KnownPaddings.{KnownPaddings}
 use Rattle.papergrid_walk.specs.declared.position_filter.PositionFilter.{PositionFilter}
 use Rattle.papergrid_walk.specs.declared.settings.Paddings.{Paddings}
 
+-- the paddings on all sides of a cell
 abbrev pub paddings_at : Grid → Position → Paddings
 paddings_at grid p =
     record { left = grid.before Columns p; right = grid.after Columns p; top = grid.before Rows p; bottom = grid.after Rows p }

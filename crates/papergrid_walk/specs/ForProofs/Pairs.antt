@@ -8,7 +8,7 @@ use Rattle.papergrid_walk.specs.declared.known.KnownPaddings.{KnownPaddings}
 use Rattle.papergrid_walk.specs.declared.needs.KeptBoth.{KeptBoth}
 use Rattle.papergrid_walk.specs.declared.settings.Paddings.{Paddings}
 use Rattle.papergrid_walk.specs.declared.sweep.Sweep.{Sweep}
-use Rattle.papergrid_walk.specs.Cells.{asked_by, demands_of}
+use Rattle.papergrid_walk.specs.Cells.{demands_by, demands_of}
 use Rattle.papergrid_walk.specs.ForProofs.Paddings.{Knows}
 use Rattle.papergrid_walk.specs.ForProofs.Shown.{Shows}
 use Rattle.papergrid_walk.specs.Grids.{Grid}
@@ -25,4 +25,4 @@ StandsAt grid set sweep known row column = Shows grid sweep row column × Knows 
 -- what these cells ask for along columns and along rows is kept besides
 abbrev pub AddsBoth : {C : Type 0} → Grid → (C → ℕ × ℕ) → KeptBoth → KeptBoth → List (Position × C) → Type 0
 AddsBoth grid measure old new cells =
-    Adds old.columns new.columns (asked_by Columns grid measure cells) × Adds old.rows new.rows (asked_by Rows grid measure cells)
+    Adds old.columns new.columns (demands_by Columns grid measure cells) × Adds old.rows new.rows (demands_by Rows grid measure cells)

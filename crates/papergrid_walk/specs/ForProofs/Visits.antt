@@ -6,7 +6,7 @@ use Rattle.papergrid_values.specs.declared.direction.Direction.{Direction}
 use Rattle.papergrid_values.specs.declared.position.Position.{Position}
 use Rattle.papergrid_axis.specs.declared.kept.Kept.{Kept}
 use Rattle.papergrid_axis.specs.ForProofs.Kept.{Adds, Holds}
-use Rattle.papergrid_walk.specs.Cells.{asked, asked_by, visible_of}
+use Rattle.papergrid_walk.specs.Cells.{demand_by, demands_by, visible_of}
 use Rattle.papergrid_walk.specs.ForProofs.Shown.{Shows}
 use Rattle.papergrid_walk.specs.ForProofs.Swept.{Walk}
 use Rattle.papergrid_walk.specs.Grids.{Grid}
@@ -23,23 +23,23 @@ pub adds_none : (kept : Kept) → Adds kept kept []
 adds_none kept = λ limit demands held. subst (Holds limit kept) (sym (append-nil demands)) held
 
 module _ {C : Type 0} (measure : C → ℕ × ℕ) where
-  pub asked_by-append : (direction : Direction) (grid : Grid) (xs ys : List (Position × C)) →
-      asked_by direction grid measure (xs ++ ys) ≡ asked_by direction grid measure xs ++ asked_by direction grid measure ys
-  asked_by-append direction grid xs ys =
-      ap (map (asked direction grid measure)) (filter-append (λ cell. grid.shows cell.0) xs ys)
-      ∙ map-append (asked direction grid measure) (visible_of grid xs) (visible_of grid ys)
+  pub demands_by-append : (direction : Direction) (grid : Grid) (xs ys : List (Position × C)) →
+      demands_by direction grid measure (xs ++ ys) ≡ demands_by direction grid measure xs ++ demands_by direction grid measure ys
+  demands_by-append direction grid xs ys =
+      ap (map (demand_by direction grid measure)) (filter-append (λ cell. grid.shows cell.0) xs ys)
+      ∙ map-append (demand_by direction grid measure) (visible_of grid xs) (visible_of grid ys)
 
   -- what some cells ask for, and then what more of them do, by the same view
   pub adds_more : (direction later : Direction) (grid after : Grid) → later ≡ direction → after ≡ grid →
       (u v w : Kept) (xs ys : List (Position × C)) →
-      Adds u v (asked_by direction grid measure xs) → Adds v w (asked_by later after measure ys) →
-      Adds u w (asked_by direction grid measure (xs ++ ys))
+      Adds u v (demands_by direction grid measure xs) → Adds v w (demands_by later after measure ys) →
+      Adds u w (demands_by direction grid measure (xs ++ ys))
   adds_more direction later grid after same_way same_grid u v w xs ys first second = λ limit demands held.
-      let ask : asked_by later after measure ys ≡ asked_by direction grid measure ys =
-      ap (λ d. asked_by d after measure ys) same_way ∙ ap (λ l. asked_by direction l measure ys) same_grid in
-      let both : (demands ++ asked_by direction grid measure xs) ++ asked_by later after measure ys
-      ≡ demands ++ asked_by direction grid measure (xs ++ ys) =
-      append_assoc demands (asked_by direction grid measure xs) (asked_by later after measure ys)
-      ∙ ap (λ zs. demands ++ (asked_by direction grid measure xs ++ zs)) ask
-      ∙ ap (λ zs. demands ++ zs) (sym (asked_by-append direction grid xs ys)) in
+      let ask : demands_by later after measure ys ≡ demands_by direction grid measure ys =
+      ap (λ d. demands_by d after measure ys) same_way ∙ ap (λ l. demands_by direction l measure ys) same_grid in
+      let both : (demands ++ demands_by direction grid measure xs) ++ demands_by later after measure ys
+      ≡ demands ++ demands_by direction grid measure (xs ++ ys) =
+      append_assoc demands (demands_by direction grid measure xs) (demands_by later after measure ys)
+      ∙ ap (λ zs. demands ++ (demands_by direction grid measure xs ++ zs)) ask
+      ∙ ap (λ zs. demands ++ zs) (sym (demands_by-append direction grid xs ys)) in
       subst (Holds limit w) both (second limit _ (first limit demands held))

@@ -16,6 +16,7 @@ is_pictograph c =
     is_in_range 0x1F337 0x1F37C c || is_in_range 0x1F400 0x1F43E c || is_in_range 0x1F442 0x1F4FC c || is_in_range 0x1F5FB 0x1F64F c
     || is_in_range 0x1F680 0x1F6C5 c || is_in_range 0x1F90C 0x1F93A c || is_in_range 0x1F947 0x1F9FF c
 
+-- the part of a text of emoji that a character is
 abbrev pub part_of : ℕ → Option Part
 part_of c =
     if is_in_range 0x20 0x7E c then Some parts.Printable
@@ -37,6 +38,7 @@ add_apart parts.Joiner = (0, afters.Other)
 add_apart parts.Selector = (0, afters.Selector)
 add_apart parts.Keycap = (0, afters.Other)
 
+-- the same of a part that may join what stands after it; none where that is left to `unicode_width`
 abbrev pub add_before : Part → After → Option (ℕ × After)
 add_before parts.Pictograph afters.Joiner = Some (0, afters.Emoji)
 add_before parts.Modifier afters.Joiner = Some (0, afters.Modifier)
@@ -54,5 +56,6 @@ add_before part after = Some (add_apart part)
 abbrev pub is_common_selected : ℕ → Bool
 is_common_selected c = is_in_range 0x30 0x39 c || is_in_range 0x2600 0x2604 c || is_in_range 0x2763 0x2764 c
 
+-- some bases of skin tones
 abbrev pub is_common_toned : ℕ → Bool
 is_common_toned c = is_in_range 0x1F446 0x1F450 c || is_in_range 0x1F466 0x1F478 c

@@ -78,6 +78,7 @@ pub record IsPiece (text : List ℕ) (columns count : ℕ) : Type 0 where
   pub bound : columns ≤ count
   pub reads : (n : ℕ) → ReadsQuietly (drop count text) n → ReadsQuietly text (columns + n)
 
+-- so many bytes at the front are printable ASCII
 pub record IsPrintableFront (text : List ℕ) (count : ℕ) : Type 0 where
   pub within : count ≤ length text
   pub printable : list_all (is_in_range 0x20 0x7E) (take count text) ≡ true

@@ -1,4 +1,5 @@
 use Rattle.std.proofs.Common.{◌∙◌, subst, sym}
+use Rattle.std.proofs.lemmas.Result.{err_from_is_err_and}
 use Rattle.papergrid_axis.specs.Answers.{IsRefusedWhere}
 use Rattle.papergrid_values.specs.declared.direction.Direction.TheVariants.{Columns, Rows}
 use Rattle.papergrid_walk.specs.Cells.{demands_of, problem_with}
@@ -10,27 +11,31 @@ pub returns-in-Some : goal.returns-in-Some
 returns-in-Some g c = λ cells many kept.
     sym (out_of_both (g.S.Settings.grid c.args.settings.now) g.M.Measure.measured c.args.columns cells c.args.both.now kept c.args.rows many) ∙ sym c.find_out_of_both.ensures ∙ c.in-Some.is
 
-pub returns-in-Err : goal.returns-in-Err
-returns-in-Err g c = λ cells many kept.
-    let grid = g.S.Settings.grid c.args.settings.now in
-    let none = none_out grid g.M.Measure.measured c.args.columns cells c.args.both.now kept c.args.rows many (sym c.find_out_of_both.ensures ∙ c.in_default.is) in
-    refused_along grid g.M.Measure.measured c.args.columns cells g.T.Solution.too_large Columns none.0 none.1 c.in-Err.no_widths (c.in-Err.ensures (demands_of Columns grid g.M.Measure.measured cells) kept.wide)
-
-pub returns-in-Err-solve : goal.returns-in-Err-solve
-returns-in-Err-solve g c = λ cells many kept.
+pub returns-in_err-widths : goal.returns-in_err-widths
+returns-in_err-widths g c = λ cells many kept.
     let grid = g.S.Settings.grid c.args.settings.now in
     let measured = g.M.Measure.measured in
     let none = none_out grid measured c.args.columns cells c.args.both.now kept c.args.rows many (sym c.find_out_of_both.ensures ∙ c.in_default.is) in
-    refused_along grid measured c.args.columns cells g.T.Solution.too_large Rows none.0 none.2 c.in-Err-solve.no_heights
-    (subst (λ n. IsRefusedWhere (problem_with grid measured Rows n cells) (g.T.Solution.too_large (problem_with grid measured Rows n cells)) c.in-Err-solve.no_heights) many
-    (c.in-Err-solve.ensures (demands_of Rows grid measured cells) (seen_high grid measured c.args.columns cells c.args.both.now kept c.args.rows many)))
+    let p = err_from_is_err_and c.from_residual.result c.from_residual.ensures.1 in
+    rw (p.1, p.2) (refused_along grid measured c.args.columns cells g.T.Solution.too_large Columns none.0 none.1 _
+    (c.in_err-widths.ensures (demands_of Columns grid measured cells) kept.wide))
 
-pub returns-in-Ok-solve : goal.returns-in-Ok-solve
-returns-in-Ok-solve g c = λ cells many kept.
+pub returns-in_err-heights : goal.returns-in_err-heights
+returns-in_err-heights g c = λ cells many kept.
     let grid = g.S.Settings.grid c.args.settings.now in
     let measured = g.M.Measure.measured in
-    let high = c.in-Ok-solve.ensures (demands_of Rows grid measured cells) (seen_high grid measured c.args.columns cells c.args.both.now kept c.args.rows many) in
+    let none = none_out grid measured c.args.columns cells c.args.both.now kept c.args.rows many (sym c.find_out_of_both.ensures ∙ c.in_default.is) in
+    let p = err_from_is_err_and c.from_residual-in_err-heights.result c.from_residual-in_err-heights.ensures.1 in
+    let refused = c.in_err-heights.ensures (demands_of Rows grid measured cells) (seen_high grid measured c.args.columns cells c.args.both.now kept c.args.rows many) in
+    rw (p.1, p.2) (refused_along grid measured c.args.columns cells g.T.Solution.too_large Rows none.0 none.2 _
+    (subst (λ n. IsRefusedWhere (problem_with grid measured Rows n cells) (g.T.Solution.too_large (problem_with grid measured Rows n cells)) _) many refused))
+
+pub returns : goal.returns
+returns g c = λ cells many kept.
+    let grid = g.S.Settings.grid c.args.settings.now in
+    let measured = g.M.Measure.measured in
+    let high = c.in_ok-heights.ensures (demands_of Rows grid measured cells) (seen_high grid measured c.args.columns cells c.args.both.now kept c.args.rows many) in
     record {
-      widths = c.in-Ok.ensures (demands_of Columns grid measured cells) kept.wide;
-      heights = subst (λ n. g.T.Solution.solves (problem_with grid measured Rows n cells) c.in-Ok-solve.heights) many high;
+      widths = c.in_ok-widths.ensures (demands_of Columns grid measured cells) kept.wide;
+      heights = subst (λ n. g.T.Solution.solves (problem_with grid measured Rows n cells) c.in_ok-heights.heights) many high;
     }
