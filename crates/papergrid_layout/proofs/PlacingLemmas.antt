@@ -29,10 +29,6 @@ pub found-shown : {A : Type 0} (shows : Bool) (x found : A) → Some found ≡ (
 found-shown true x found e = (refl, cc)
 found-shown false x found e = absurd (none-some found (sym e))
 
-pub found-hidden : {A : Type 0} (shows : Bool) (x : A) → None ≡ (if shows then Some x else None) → shows ≡ false
-found-hidden true x e = absurd (none-some x e)
-found-hidden false x e = refl
-
 -- the place by what is found along both directions
 pub place-found : (table : Table) (anchor : Anchor) (left top width height : ℕ) → anchor ≡ anchor_in table.grid anchor.position →
     ◌≡◌ {A = ℕ × ℕ} (left, width)
@@ -129,19 +125,6 @@ module _ (table : Table) where
     placed = All-nil Has;
     before = All-nil (Before 0 0);
     complete = λ p cell before. absurd (none-before p before);
-  }
-
-  -- past a hidden position
-  pub placed-hidden : (r c : ℕ) (list : List (Position × Place)) → table.grid.shows (position_of (r, c)) ≡ false → ArePlacedBefore table r c list →
-      ArePlacedBefore table r (c + 1) list
-  placed-hidden r c list hidden are = record {
-    in_order = are.in_order;
-    placed = are.placed;
-    before = All-weaker (Before r c) (Before r (c + 1)) (λ x h. before-step x.0 r c h) list are.before;
-    complete = λ p cell before. elim (before-next p r c before) [
-      | inl earlier ↦ are.complete p cell earlier
-      | inr same ↦ absurd (false≢true (sym hidden ∙ ap table.grid.shows (sym same) ∙ cell.visible))
-    ];
   }
 
   -- past a visible position that has a place

@@ -26,7 +26,7 @@ use Rattle.papergrid_keys.specs.Keys.{position_cmp, position_eq}
 use Rattle.papergrid_keys.proofs.KeyLemmas.{exact_position_eq, exact_positions, position_equiv, position_ties, position_total}
 use Rattle.papergrid_maps.specs.Anchors.{AreAnchors, HasAnchor, IsSorted}
 use Rattle.papergrid_maps.specs.Spans.{HasSpan, span_at}
-use Rattle.papergrid_maps.specs.ForProofs.SpanIndex.{AreAt, AreFromTwo, DirectedSpans, IsRising, anchor_along, anchor_at, entry_anchor, held_along, key_of}
+use Rattle.papergrid_maps.specs.ForProofs.SpanIndex.{AreAt, DirectedSpans, IsRising, anchor_along, anchor_at, entry_anchor, held_along, key_of}
 use Rattle.papergrid_maps.specs.declared.anchors.Anchor.{Anchor}
 use Rattle.papergrid_maps.proofs.IndexKeys.{held_at, key_key}
 
@@ -124,14 +124,6 @@ module _ (at : Position → Anchor) where
 held-above-one : (o : Option ℕ) → 2 ≤ unwrap_or o 1 → IsSome o
 held-above-one None h = absurd (omega (arith, h))
 held-above-one (Some n) h = refl
-
--- a span is 1 or more
-pub span_from_one : (spans : FinMap position_cmp ℕ) → AreFromTwo spans → (p : Position) → 1 ≤ span_at spans p
-span_from_one spans big p = by_held (get spans p) (λ n is. big p n is)
-  where
-    by_held : (o : Option ℕ) → ((n : ℕ) → o ≡ Some n → 2 ≤ n) → 1 ≤ unwrap_or o 1
-    by_held None h = omega arith
-    by_held (Some n) h = let two = h n refl in omega arith
 
 contains-got : {X : Type 0} (xs : List X) (k : ℕ) (x : X) → slice_get xs k ≡ Some x → Contains xs x
 contains-got xs k x is =

@@ -2,7 +2,7 @@
 use Rattle.std.proofs.Common.{◌≡◌, ℕ, ◌&&◌, List, [], ◌∷◌, ◌++◌, Option, Some, None, refl, sym, ap, subst, ◌∙◌}
 use Rattle.std.specs.Prelude.{◌==◌, if◌then◌else◌, is_some, reverse}
 use Rattle.std.proofs.Common.{append_assoc}
-use Rattle.std.proofs.lemmas.List.{reverse-append, append-nil}
+use Rattle.std.proofs.lemmas.List.{reverse-append}
 use Rattle.std.specs.FinMap.{get}
 use Rattle.papergrid_maps.specs.Keys.{entity_eq}
 use Rattle.papergrid_maps.specs.MapCalls.{global_value, pinned_value, standing_value}
@@ -75,9 +75,6 @@ module _ {T : Type 0} where
   pub told_from_step : {old held new : Held T} {call told_call : MapCall T} → held ≡ old → told_call ≡ call → IsStep held new call → Appends old new (told_call ∷ [])
   told_from_step {old = old} {held = held} {new = new} {call = call} {told_call = told_call} is same step =
       subst (λ (h : Held T). Appends h new (told_call ∷ [])) is (subst (λ (k : MapCall T). Appends held new (k ∷ [])) (sym same) (told_step held new call step))
-
-  pub appends_none : (held : Held T) → Appends held held []
-  appends_none held given calls told = subst (λ xs. IsTold given xs held) (sym (append-nil calls)) told
 
   pub appends_more : {old between new : Held T} (xs ys : List (MapCall T)) → Appends old between xs → Appends between new ys → Appends old new (xs ++ ys)
   appends_more {new = new} xs ys first next given calls told = subst (λ zs. IsTold given zs new) (append_assoc calls xs ys) (next given (calls ++ xs) (first given calls told))

@@ -1,6 +1,6 @@
 -- One more call on spans.
 use Rattle.std.proofs.Common.{◌≡◌, ℕ, suc, ◌≤◌, Bool, true, false, cond, ◌&&◌, List, [], ◌∷◌, ◌++◌, Option, Some, None, refl, sym, ap, subst, ◌∙◌, arith, leb}
-use Rattle.std.specs.Prelude.{reverse, ◌↔◌, IsTrue, IfSome, is_some, not, length, unwrap_or, Result, Ok, Err, OnOk, OnErr}
+use Rattle.std.specs.Prelude.{reverse, ◌↔◌, IsTrue, is_some, not, length, unwrap_or, Result, Ok, Err, OnOk, OnErr}
 use Rattle.std.proofs.lemmas.List.{reverse-append}
 use Rattle.std.proofs.lemmas.Bool.{false≢true, leb-true, le-leb}
 use Rattle.std.specs.BTreeMap.{is_at}
@@ -13,7 +13,7 @@ use Rattle.papergrid_keys.specs.Keys.{position_cmp, position_eq}
 use Rattle.papergrid_values.specs.declared.direction.Direction.{Direction}
 use Rattle.papergrid_values.specs.declared.direction.Direction.TheVariants.{Columns, Rows}
 use Rattle.papergrid_keys.specs.Told.{Appends}
-use Rattle.papergrid_maps.specs.Spans.{Spans, SpanCall, SetSpan, RemoveSpans, HasSpan, IsTold, spans_along, span_from, from_two}
+use Rattle.papergrid_maps.specs.Spans.{Spans, SpanCall, RemoveSpans, HasSpan, IsTold, spans_along, span_from, from_two}
 use Rattle.papergrid_maps.specs.ForProofs.SpanIndex.{AreFromTwo, held_along, key_of, span_set}
 use Rattle.papergrid_keys.proofs.KeyLemmas.{position_equiv, position_ties, position_total}
 use Rattle.papergrid_maps.proofs.IndexKeys.{held_at, key_key}
@@ -44,23 +44,6 @@ either true m n = refl
 either false m n = refl
 
 module _ (q : Position) (n : ℕ) (old new : FinMap position_cmp ℕ) (changed : (p : Position) → get new p ≡ span_set q n p (get old p)) where
-  set_step : (p : Position) (span : ℕ) → get old p ≡ from_two span → get new p ≡ from_two (cond (leb 1 n && position_eq q p) n span)
-  set_step p span held = changed p ∙ ap (span_set q n p) held ∙ either (leb 1 n && position_eq q p) n span
-
-  pub told_set_column : (rows : FinMap position_cmp ℕ) → Appends IsTold (record { columns = old; rows = rows }) (record { columns = new; rows = rows }) (SetSpan Columns q n ∷ [])
-  told_set_column rows = told_step _ _ (SetSpan Columns q n) (λ d p older.
-      elim d as (λ d. get (spans_along d (record { columns = old; rows = rows })) p ≡ from_two (span_from d p older) → get (spans_along d (record { columns = new; rows = rows })) p ≡ from_two (span_from d p (SetSpan Columns q n ∷ older))) [
-        | Columns ↦ set_step p (span_from Columns p older)
-        | Rows ↦ λ held. held
-      ])
-
-  pub told_set_row : (columns : FinMap position_cmp ℕ) → Appends IsTold (record { columns = columns; rows = old }) (record { columns = columns; rows = new }) (SetSpan Rows q n ∷ [])
-  told_set_row columns = told_step _ _ (SetSpan Rows q n) (λ d p older.
-      elim d as (λ d. get (spans_along d (record { columns = columns; rows = old })) p ≡ from_two (span_from d p older) → get (spans_along d (record { columns = columns; rows = new })) p ≡ from_two (span_from d p (SetSpan Rows q n ∷ older))) [
-        | Columns ↦ λ held. held
-        | Rows ↦ set_step p (span_from Rows p older)
-      ])
-
   -- no span below 2 comes to be held
   pub kept_from_two : AreFromTwo old → AreFromTwo new
   kept_from_two big p m is = by_test (leb 1 n && position_eq q p) m (sym (changed p) ∙ is)
@@ -112,11 +95,6 @@ told_remove_rows columns rows = told_step _ _ (RemoveSpans Rows) (λ d p older.
 -- an empty map holds no span
 pub none_from_two : AreFromTwo empty
 none_from_two p n is = absurd (none_is_not_some (sym (get-empty position_cmp p) ∙ is))
-
--- a span that is held is 2 or more
-pub held_from_two : (spans : FinMap position_cmp ℕ) → AreFromTwo spans → (p : Position) (o : Option ℕ) → o ≡ get spans p → IfSome o (λ n. 2 ≤ n)
-held_from_two spans big p None is = tt
-held_from_two spans big p (Some n) is = big p n (sym is)
 
 not_both : (b : Bool) → not b ≡ true → b ≡ true → ⊥
 not_both true h e = false≢true h

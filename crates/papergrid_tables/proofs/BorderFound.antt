@@ -77,12 +77,6 @@ key_scan es n b is = ((λ h. ap is_some (get_at_number es n) ∙ sym is ∙ h), 
 
 -- ---- the first of several tests that holds
 
-pub holds_first : {A B : Type 0} (a : Bool) → (IsTrue a ↔ A) → a ≡ true → IsTrue true ↔ (A ⊎ B)
-holds_first a first h = ((λ _. inl (first.0 h)), (λ _. refl))
-
-pub holds_second : {A B C : Type 0} (b : Bool) → (IsTrue b ↔ B) → b ≡ true → IsTrue true ↔ (A ⊎ (B ⊎ C))
-holds_second b second h = ((λ _. inr (inl (second.0 h))), (λ _. refl))
-
 pub decided_by_rest : {A B : Type 0} (a b : Bool) → (IsTrue a ↔ A) → (IsTrue b ↔ B) → a ≡ false → IsTrue b ↔ (A ⊎ B)
 decided_by_rest a b first second no_first = ((λ h. inr (second.0 h)), (λ h. ⊎_elim (λ x. absurd (false≢true (sym no_first ∙ first.1 x))) (λ y. second.1 y) h))
 

@@ -1,7 +1,6 @@
 -- The lines of a text.
-use Rattle.std.proofs.Common.{◌≡◌, ◌≢◌, ℕ, ◌<◌, List, [], ◌∷◌, ◌++◌, length, map, refl, ap, sym, ◌∙◌, arith, Bor, true, false, Bool, cond}
+use Rattle.std.proofs.Common.{◌≡◌, ◌≢◌, ℕ, ◌<◌, List, [], ◌∷◌, ◌++◌, length, refl, ap, sym, ◌∙◌, arith, true, false, Bool, cond}
 use Rattle.std.specs.Prelude.{◌==◌}
-use Rattle.std.specs.Iterator.{Yields, YieldsFirstRef}
 use Rattle.std.specs.List.{join_with_byte, position_or_len, before_first, after_first, onto_first, All}
 use Rattle.std.proofs.lemmas.List.Elements.{All-nil, All-cons, All-head, All-tail}
 use Rattle.std.proofs.lemmas.List.Splits.{slice_split_first, slice_split_none, slice_split_at, length-slice_split, join_with_byte-slice_split}
@@ -56,7 +55,3 @@ one_split text = record {
 }
 
 -- ---- what an iterator that shows its list gives
-
-pub shown_yields : {S A : Type 0} (rest : S → List A) (s t : S) (xs : List (Bor A)) → Yields (YieldsFirstRef rest) s xs t → rest s ≡ map (λ x. x.now) xs ++ rest t
-shown_yields rest s t [] e = ap rest e
-shown_yields rest s t (x ∷ xs) (j, step, others) = step ∙ ap (λ ys. x.now ∷ ys) (shown_yields rest j t xs others)

@@ -181,6 +181,3 @@ hidden-at levels columns slice anchors passed p end same sorted holds before res
       (λ hidden. lt-ltb p.row end (subst (λ n. p.row < n) (sym at)
           (above-hidden anchors passed p sorted (subst (λ s. (a : Anchor) → slice_get s passed ≡ Some a → IsBefore a.position p → ⊥) same rest) row hidden))),
     )
-
-pub all-before-later : (anchors : List Anchor) (passed : ℕ) (p q : Position) → AllBefore anchors passed p → IsBefore p q → AllBefore anchors passed q
-all-before-later anchors passed p q before later k a below is = before-trans a.position p q (before k a below is) later

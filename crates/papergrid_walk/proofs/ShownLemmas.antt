@@ -1,33 +1,18 @@
 -- What a walk knows of the visible positions, step by step.
-use Rattle.std.proofs.Common.{◌≡◌, ◌+◌, ◌≤◌, ℕ, true, List, [], Some, slice_get, ap, arith, inl, inr, subst, sym, ◌∙◌}
+use Rattle.std.proofs.Common.{◌≡◌, ◌+◌, ◌≤◌, ℕ, List, [], Some, slice_get, ap, arith, inl, inr, sym, ◌∙◌}
 use Rattle.std.proofs.lemmas.Bool.{cases_lt}
 use Rattle.papergrid_values.specs.declared.direction.Direction.TheVariants.{Columns, Rows}
 use Rattle.papergrid_maps.specs.Anchors.{HasAnchor}
 use Rattle.papergrid_walk.specs.Grids.{Grid}
-use Rattle.std.proofs.lemmas.Option.{none-some}
 use Rattle.papergrid_values.specs.declared.position.Position.{Position}
 use Rattle.papergrid_maps.specs.declared.anchors.Anchor.{Anchor}
-use Rattle.papergrid_values.specs.Positions.{IsBefore}
-use Rattle.papergrid_walk.specs.ForProofs.Swept.{IsAhead, IsAnchorAt, Walk}
-use Rattle.papergrid_walk.proofs.HiddenLemmas.{before-from}
+use Rattle.papergrid_walk.specs.ForProofs.Swept.{IsAnchorAt}
 use Rattle.papergrid_walk.specs.ForProofs.Shown.{AreAnchorsOf, Shows, anchor_in}
 
 -- the start of a walk
 pub shows_first : (grid : Grid) (anchors : List Anchor) (columns : ℕ) → AreAnchorsOf grid anchors →
     Shows grid record { anchors = anchors; columns = columns; passed = 0 } 0 0
 shows_first grid anchors columns are = record { anchors = are; ahead = λ q below right k a passed is. absurd (omega (arith, passed)) }
-
--- one position on
-pub shows_later : (grid : Grid) (old new : Walk) (p : Position) → new.anchors ≡ old.anchors →
-    ((q : Position) → IsBefore p q → IsAhead new q) → Shows grid old p.row p.col → Shows grid new p.row (p.col + 1)
-shows_later grid old new p same later so_far = record {
-  anchors = subst (AreAnchorsOf grid) (sym same) so_far.anchors;
-  ahead = λ q below right. later q (before-from p q below (λ e. let k = right e in omega (arith, k)));
-}
-
--- where there are no anchors, all cells are visible
-pub shown_everywhere : (grid : Grid) → AreAnchorsOf grid [] → (p : Position) → grid.shows p ≡ true
-shown_everywhere grid are p = (are.hide p).1 (λ hidden. none-some hidden.anchor hidden.is_anchor)
 
 span_one : (n : ℕ) → 1 ≤ n → (2 ≤ n → ⊥) → n ≡ 1
 span_one n from low = elim (cases_lt n 2) [ inl below ↦ omega arith | inr big ↦ absurd (low big) ]

@@ -3,14 +3,12 @@ use Rattle.std.proofs.Common.{arith, refl, sym, subst, inl, inr, ◌≡◌, ◌+
 use Rattle.std.specs.Prelude.{unwrap_or}
 use Rattle.std.specs.FinMap.{get}
 use Rattle.std.proofs.lemmas.Bool.{cases_lt}
-use Rattle.std.proofs.lemmas.Option.{none-some}
 use Rattle.papergrid_values.specs.Positions.{along}
 use Rattle.papergrid_values.specs.declared.direction.Direction.{Direction}
 use Rattle.papergrid_values.specs.declared.direction.Direction.TheVariants.{Columns, Rows}
 use Rattle.papergrid_axis.specs.ForProofs.Checks.{StayWithin}
-use Rattle.papergrid_maps.specs.declared.compact.CompactConfig.{CompactConfig}
 use Rattle.papergrid_config.specs.declared.spanned.SpannedConfig.{SpannedConfig}
-use Rattle.papergrid_walk.specs.Grids.{compact_grid, span_along, spanned_grid}
+use Rattle.papergrid_walk.specs.Grids.{span_along, spanned_grid}
 use Rattle.papergrid_walk.specs.ForProofs.Shown.{AreAnchorsOf}
 use Rattle.papergrid_values.specs.declared.position.Position.{Position}
 use Rattle.papergrid_maps.specs.declared.anchors.Anchor.{Anchor}
@@ -92,17 +90,4 @@ anchors_of_config config anchors are from_one = record {
   hide = λ p. test-by-hidden config.spans anchors p are;
   spans = are;
   from_one = λ direction p. elim direction as (λ d. 1 ≤ (spanned_grid config).span d p) [ Columns ↦ (from_one p).0 | Rows ↦ (from_one p).1 ];
-}
-
--- where all cells are visible and of span 1 there are no anchors
-pub none_hidden : (config : CompactConfig) → AreAnchorsOf (compact_grid config) []
-none_hidden config = record {
-  hide = λ p. (λ shown hidden. none-some hidden.anchor hidden.is_anchor, λ shown. refl);
-  spans = record {
-    has_rows = λ k a is. absurd (none-some a is);
-    has_cols = λ k a is. absurd (none-some a is);
-    wide = λ p big. absurd (omega (arith, big));
-    tall = λ p big. absurd (omega (arith, big));
-  };
-  from_one = λ direction p. omega arith;
 }
