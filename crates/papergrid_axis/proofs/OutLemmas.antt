@@ -1,8 +1,7 @@
 -- The first cell out of the table, and needs past the greatest `usize`.
-use Rattle.std.proofs.Common.{Bool, List, [], ap, arith, drop, false, get_or, inl, inr, length, map, nat_lt, refl, sum, sym, true, ℕ, ◌+◌, ◌<◌, ◌||◌, ◌∙◌, ◌∷◌, ◌≡◌, ◌≤◌}
+use Rattle.std.proofs.Common.{Bool, List, [], ap, arith, false, inl, inr, map, nat_lt, refl, sum, sym, true, ℕ, ◌+◌, ◌<◌, ◌||◌, ◌∙◌, ◌∷◌, ◌≡◌, ◌≤◌}
 use Rattle.std.specs.Prelude.{Option, Some, None, is_some, All, if◌then◌else◌}
 use Rattle.std.specs.List.{list_any}
-use Rattle.std.proofs.lemmas.List.{drop_more}
 use Rattle.std.proofs.lemmas.Bool.{false≢true, cases_Bool, ltb-false, leb-true}
 use Rattle.std.proofs.lemmas.List.Elements.{All-nil, All-cons, All-head, All-tail}
 use Rattle.papergrid_axis.specs.Problem.{Problem, given}
@@ -20,10 +19,6 @@ use Rattle.papergrid_axis.specs.Sizes.{sizes_of}
 use Rattle.papergrid_axis.proofs.LoopLemmas.{large_need}
 use Rattle.papergrid_axis.proofs.KeptLemmas.{first_out-rest_of}
 use Rattle.papergrid_axis.proofs.Theorems.{Fits-sizes_of}
-
-pub out_at : (n : ℕ) (ds : List Demand) (i : ℕ) (d : Demand) → i < length ds →
-    first_out n (drop i ds) ≡ (if nat_lt n (end_of (get_or ds i d)) then Some (place_of (get_or ds i d)) else first_out n (drop (i + 1) ds))
-out_at n ds i d lt = ap (first_out n) (drop_more ds i d lt)
 
 first_out-ranges : (n : ℕ) (ds : List Demand) → first_out n (map without_need ds) ≡ first_out n ds
 first_out-ranges n [] = refl

@@ -56,9 +56,6 @@ module _ (line drawn : ℕ → Bool) (n limit : ℕ) (demands : List Demand) (ag
   abbrev top : ℕ → ℕ
   top = earliest (asked line) demands
 
-  base : List ℕ
-  base = base_sizes n demands
-
   -- what the cells need that cover number j alone fits between its edges
   base-fits : (j : ℕ) → j < n → top j + base_size demands j ≤ top (suc j)
   base-fits j l =

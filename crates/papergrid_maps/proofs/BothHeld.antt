@@ -53,18 +53,6 @@ swapped_extent None (Some m) = refl
 swapped_extent (Some n) None = refl
 swapped_extent (Some n) (Some m) = refl
 
-turned : (index others : DirectedSpans) (both : BTreeMap Position Extent) → index.direction ≡ Columns → others.direction ≡ Rows → (p : Position)
-    → extent_held index.direction (get index.spans p) (get others.spans p) ≡ extent_held others.direction (get others.spans p) (get index.spans p)
-turned index others both columns rows p =
-    ap (λ d. extent_held d (get index.spans p) (get others.spans p)) columns ∙ sym (swapped_extent (get index.spans p) (get others.spans p))
-    ∙ ap (λ d. extent_held d (get others.spans p) (get index.spans p)) (sym rows)
-
-pub by_rows : (index others : DirectedSpans) (both : BTreeMap Position Extent) → index.direction ≡ Columns → others.direction ≡ Rows → HoldsBoth index others.spans both → HoldsBoth others index.spans both
-by_rows index others both columns rows holds p = holds p ∙ turned index others both columns rows p
-
-pub by_columns : (index others : DirectedSpans) (both : BTreeMap Position Extent) → index.direction ≡ Columns → others.direction ≡ Rows → HoldsBoth others index.spans both → HoldsBoth index others.spans both
-by_columns index others both columns rows holds p = holds p ∙ sym (turned index others both columns rows p)
-
 -- where the other span is held and both are not, the own one is not
 pub not_held : (d : Direction) (own : Option ℕ) (other : ℕ) → ◌≡◌ {A = Option Extent} None (extent_held d own (Some other)) → own ≡ None
 not_held d None other h = refl

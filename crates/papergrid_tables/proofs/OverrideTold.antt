@@ -70,9 +70,6 @@ module _ {T : Type 0} where
 
   -- ---- the table
 
-  of_held : Option (HeldOffsets T) → Offset → Option T
-  of_held held o = option_and_then (λ offsets. at_offset offsets o) held
-
   pub new_told : IsTold [] (from_entries {K = Position} {X = HeldOffsets T} [])
   new_told p o = ap (λ h. option_and_then (λ offsets. at_offset offsets o) h) (get_at_position [] p)
 

@@ -4,7 +4,6 @@ pub mod PassLemmas
 pub mod HiddenLemmas
 pub mod SpanLemmas
 pub mod Distinct
-pub mod PaddingLemmas
 pub mod ShownLemmas
 pub mod Steps
 pub mod FilterLemmas
