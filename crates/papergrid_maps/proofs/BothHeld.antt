@@ -11,7 +11,7 @@ use Rattle.std.specs.Ordering.{eq_by_cmp}
 use Rattle.std.specs.declared.ops.Bound.TheVariants.{Excluded, Unbounded}
 use Rattle.std.proofs.lemmas.Bool.{and_from, and_parts, false≢true, ltb-true, lt-ltb}
 use Rattle.papergrid_values.specs.declared.direction.Direction.{Direction}
-use Rattle.papergrid_values.specs.declared.direction.Direction.TheVariants.{Columns, Rows}
+use Rattle.papergrid_values.specs.declared.direction.Direction.TheVariants.{Columns}
 use Rattle.papergrid_values.specs.declared.position.Position.{Position}
 use Rattle.papergrid_keys.specs.Keys.{position_cmp}
 use Rattle.papergrid_keys.proofs.KeyLemmas.{exact_position_eq, exact_positions, position_ties, position_total}
@@ -45,13 +45,6 @@ pub none_beside : (index : DirectedSpans) (others : FinMap position_cmp ℕ) (bo
 none_beside index others both none nothing p =
     ap (lookup (is_at (position_cmp p))) nothing ∙ sym (no_other index.direction (get index.spans p))
     ∙ ap (extent_held index.direction (get index.spans p)) (sym (ap (λ m. get m p) none ∙ get-empty position_cmp p))
-
--- either direction may be named first
-pub swapped_extent : (own other : Option ℕ) → extent_held Rows other own ≡ extent_held Columns own other
-swapped_extent None None = refl
-swapped_extent None (Some m) = refl
-swapped_extent (Some n) None = refl
-swapped_extent (Some n) (Some m) = refl
 
 -- where the other span is held and both are not, the own one is not
 pub not_held : (d : Direction) (own : Option ℕ) (other : ℕ) → ◌≡◌ {A = Option Extent} None (extent_held d own (Some other)) → own ≡ None
