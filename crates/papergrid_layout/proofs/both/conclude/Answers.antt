@@ -27,8 +27,8 @@ returns-in_err-heights g c = λ cells many kept.
     let none = none_out grid measured c.args.columns cells c.args.both.now kept c.args.rows many (sym c.find_out_of_both.ensures ∙ c.in_default.is) in
     let p = err_from_is_err_and c.from_residual-in_err-heights.result c.from_residual-in_err-heights.ensures.1 in
     let refused = c.in_err-heights.ensures (demands_of Rows grid measured cells) (seen_high grid measured c.args.columns cells c.args.both.now kept c.args.rows many) in
-    rw (p.1, p.2) (refused_along grid measured c.args.columns cells g.T.Solution.too_large Rows none.0 none.2 _
-    (subst (λ n. IsRefusedWhere (problem_with grid measured Rows n cells) (g.T.Solution.too_large (problem_with grid measured Rows n cells)) _) many refused))
+    rw (p.1, p.2) (refused_along grid measured c.args.columns cells g.T.Solution.too_large Rows none.0 none.2 c.in_err-heights.field-0.0
+    (subst (λ n. IsRefusedWhere (problem_with grid measured Rows n cells) (g.T.Solution.too_large (problem_with grid measured Rows n cells)) c.in_err-heights.field-0.0) many refused))
 
 pub returns : goal.returns
 returns g c = λ cells many kept.
