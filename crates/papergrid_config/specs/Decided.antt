@@ -27,7 +27,7 @@ padding_color settings p = decided_value (all_sides None) (flat_map padding_colo
 abbrev pub trim_horizontal : List Setting → Position → Bool
 trim_horizontal settings p = decided_value false (flat_map trim_horizontal_calls settings) p
 
--- whether empty lines of its text are trimmed: not where nothing is set
+-- whether blank lines of its text are trimmed at the top and the bottom: not where nothing is set
 abbrev pub trim_vertical : List Setting → Position → Bool
 trim_vertical settings p = decided_value false (flat_map trim_vertical_calls settings) p
 

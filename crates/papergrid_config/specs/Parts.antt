@@ -32,7 +32,7 @@ abbrev pub trim_horizontal_calls : Setting → List (MapCall Bool)
 trim_horizontal_calls (SetTrimHorizontal entity v) = Insert entity v ∷ []
 trim_horizontal_calls other = []
 
--- for trimming empty lines
+-- for trimming blank lines at the top and the bottom
 abbrev pub trim_vertical_calls : Setting → List (MapCall Bool)
 trim_vertical_calls (SetTrimVertical entity v) = Insert entity v ∷ []
 trim_vertical_calls other = []

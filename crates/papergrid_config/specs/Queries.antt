@@ -20,7 +20,7 @@ abbrev pub HasSetSide : Held (Sides (Option ANSIBuf)) → Type 0
 HasSetSide held = (colors : Sides (Option ANSIBuf)) × Holds held colors × (none_set (sides_parts colors) ≡ false)
 
 module _ (config : SpannedConfig) where
-  -- some line, edge or corner has a colour
+  -- a colour is held for all lines, in the frame, or for a line, an edge or a corner
   abbrev pub HasBorderColors : Type 0
   HasBorderColors = IsBare (places_of config.colors) → ⊥
 
@@ -28,10 +28,10 @@ module _ (config : SpannedConfig) where
   abbrev pub HasOffsetChars : Type 0
   HasOffsetChars = IsClear config.horizontal_chars × IsClear config.vertical_chars → ⊥
 
-  -- a character that justifies, or a colour of one, is set for an entity
+  -- a character that justifies is held for a column, a row or a cell, or a colour of one for any entity
   abbrev pub HasJustification : Type 0
   HasJustification = HasNothing config.justification × IsUncolored config.justification_color → ⊥
 
-  -- a flag is set for an entity
+  -- a flag is held for a column, a row or a cell
   abbrev pub HasFormatting : Type 0
   HasFormatting = HasNothing config.trim_horizontal × (HasNothing config.trim_vertical × HasNothing config.line_alignment) → ⊥

@@ -21,12 +21,12 @@ pub record Grid : Type 0 where
   pub after : Direction → Position → ℕ
   pub draws : Direction → ℕ → ℕ → Bool
 
--- the paddings along a direction
+-- the padding before a text along a direction
 abbrev pub size_before : Direction → Sides Indent → ℕ
 size_before Columns padding = padding.left.size
 size_before Rows padding = padding.top.size
 
--- the same after a text
+-- the padding after it
 abbrev pub size_after : Direction → Sides Indent → ℕ
 size_after Columns padding = padding.right.size
 size_after Rows padding = padding.bottom.size
