@@ -11,7 +11,7 @@ use Rattle.papergrid_axis.specs.declared.error.LayoutError.TheVariants as layout
 use Rattle.papergrid_axis.specs.Problem.{Problem, total_of}
 use Rattle.papergrid_axis.specs.Ranges.{first_out, place_of}
 use Rattle.papergrid_walk.specs.Cells.{demand_by, demands_of, problem_of, visible_cells}
-use Rattle.papergrid_walk.specs.Grids.{Grid}
+use Rattle.papergrid_maps.specs.Grids.{Grid}
 use Rattle.papergrid_layout.specs.Answers.{IsBothRefusedWhere, UnlessMemoryError, first_out_of_table, reaches_out}
 use Rattle.papergrid_layout.specs.Witnesses.{AreCertifiedWhere}
 use Rattle.papergrid_layout.specs.declared.certificates.Certified.{Certified}

@@ -19,8 +19,9 @@ use Rattle.papergrid_config.specs.Parts.{character_calls, span_calls}
 use Rattle.papergrid_config.specs.Told.{IsTold}
 use Rattle.papergrid_config.specs.declared.setting.Setting.{Setting}
 use Rattle.papergrid_config.specs.declared.spanned.SpannedConfig.{SpannedConfig}
-use Rattle.papergrid_walk.specs.Grids.{Grid, line_along, size_after, size_before, span_along, spanned_grid}
-use Rattle.papergrid_walk.proofs.GridLemmas.{same_grid_by}
+use Rattle.papergrid_maps.specs.Grids.{Grid, size_after, size_before, span_along}
+use Rattle.papergrid_config.specs.Grids.{line_along, spanned_grid}
+use Rattle.papergrid_config.proofs.GridLemmas.{same_grid_by}
 use Rattle.papergrid_layout.specs.Answers.{UnlessMemory, UnlessMemoryError}
 use Rattle.papergrid.specs.Grids.{grid_of}
 

@@ -19,7 +19,7 @@ use Rattle.papergrid_least.specs.Least.{least_of}
 use Rattle.papergrid_least.proofs.LeastLemmas.{AreLeastSizes-least_of, AreLongest-longest, IsLeast-least_of, NoneFits-least_of}
 use Rattle.papergrid_values.specs.Lines.{all_lines}
 use Rattle.papergrid_walk.specs.Cells.{demand_by, visible_cells}
-use Rattle.papergrid_walk.specs.Grids.{Grid}
+use Rattle.papergrid_maps.specs.Grids.{Grid}
 use Rattle.papergrid_layout.specs.Answers.{first_out_of_table}
 use Rattle.papergrid_layout.specs.Witnesses.{witness_of}
 use Rattle.papergrid_layout.proofs.PairLemmas.{none_reaches_out}

@@ -27,7 +27,8 @@ use Rattle.papergrid_keys.proofs.KeyLemmas.{position_total}
 use Rattle.papergrid_config.specs.Decided as decided
 use Rattle.papergrid_config.specs.Parts.{character_calls, span_calls}
 use Rattle.papergrid_config.specs.declared.setting.Setting.{Setting}
-use Rattle.papergrid_walk.specs.Grids.{Grid, line_along, size_after, size_before, span_along}
+use Rattle.papergrid_maps.specs.Grids.{Grid, size_after, size_before, span_along}
+use Rattle.papergrid_config.specs.Grids.{line_along}
 use Rattle.papergrid.specs.declared.estimate.Sizing.{Sizing}
 use Rattle.papergrid.specs.declared.running.RunEnd.{RunEnd}
 use Rattle.papergrid.specs.Estimates.{Estimate, estimate_by, estimate_of, text_measure}

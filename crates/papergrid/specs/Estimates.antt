@@ -11,7 +11,7 @@ use Rattle.papergrid_axis.specs.Sizes.{sizes_of}
 use Rattle.papergrid_least.specs.Least.{least_of}
 use Rattle.papergrid_least.specs.Longest.{longest}
 use Rattle.papergrid_walk.specs.Cells.{problem_of}
-use Rattle.papergrid_walk.specs.Grids.{Grid}
+use Rattle.papergrid_maps.specs.Grids.{Grid}
 use Rattle.papergrid_walk.specs.Measures.{line_measure}
 use Rattle.papergrid_layout.specs.Answers.{first_out_of_table}
 use Rattle.papergrid_layout.specs.Witnesses.{witness_of}

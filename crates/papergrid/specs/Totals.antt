@@ -10,7 +10,7 @@ use Rattle.papergrid_values.specs.Lines.{all_lines}
 use Rattle.papergrid_config.specs.Made.{characters_of}
 use Rattle.papergrid_config.specs.declared.setting.Setting.{Setting}
 use Rattle.papergrid_walk.specs.Cells.{problem_of}
-use Rattle.papergrid_walk.specs.Grids.{line_along}
+use Rattle.papergrid_config.specs.Grids.{line_along}
 use Rattle.papergrid_layout.specs.Answers.{HoldAlong, first_out_of_table}
 use Rattle.papergrid.specs.declared.estimate.Sizing.{Sizing}
 use Rattle.papergrid.specs.declared.estimate.Sizing.TheVariants.{ByShares, Least}

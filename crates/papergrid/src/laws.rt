@@ -5,7 +5,7 @@ ghost use Rattle.papergrid_values.specs.declared.position.Position.{Position};
 ghost use Rattle.papergrid_config.specs.Told.{IsTold};
 ghost use Rattle.papergrid_config.specs.declared.spanned.SpannedConfig.{SpannedConfig};
 ghost use Rattle.papergrid_config.specs.declared.setting.Setting.{Setting};
-ghost use Rattle.papergrid_walk.specs.Grids.{spanned_grid};
+ghost use Rattle.papergrid_config.specs.Grids.{spanned_grid};
 ghost use Rattle.papergrid_layout.specs.Answers.{first_out_of_table};
 ghost use Rattle.papergrid.specs.declared.estimate.Sizing.{Sizing};
 ghost use Rattle.papergrid.specs.declared.estimate.Sizing.TheVariants.{ByShares, Least};

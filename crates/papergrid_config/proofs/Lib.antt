@@ -4,3 +4,5 @@ pub mod Closures
 pub mod DecidingCallLemmas
 pub mod EqualLemmas
 pub mod FoundLemmas
+pub mod GridLemmas
+pub mod ViewLemmas

@@ -2,6 +2,7 @@
 pub mod Applied
 pub mod Decided
 pub mod DecidingCall
+pub mod Grids
 pub mod Laws
 pub mod Lines
 pub mod Made

@@ -11,7 +11,7 @@ ghost use Rattle.papergrid_config.specs.Told.{Appends};
 ghost use Rattle.papergrid_config.specs.declared.setting.Setting.{Setting};
 
 use crate::spanned::SpannedConfig;
-use papergrid_maps::BorderTable;
+use papergrid_tables::BorderTable;
 use papergrid_values::{ANSIBuf, Border, Borders, HorizontalLine, Position, VerticalLine};
 use std::alloc::AllocError;
 use std::collections::HashMap;

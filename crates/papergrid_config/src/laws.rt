@@ -17,7 +17,8 @@ ghost use Rattle.papergrid_config.specs.declared.setting.Setting.{Setting};
 ghost use Rattle.papergrid_config.specs.declared.spanned.SpannedConfig.{SpannedConfig};
 
 use crate::spanned::SpannedConfig;
-use papergrid_maps::{BorderTable, EntityMap, OffsetTable, SpanTable};
+use papergrid_maps::{EntityMap, SpanTable};
+use papergrid_tables::{BorderTable, OffsetTable};
 use papergrid_values::{ANSIBuf, AlignmentHorizontal, AlignmentVertical, Indent, Offset, Sides};
 
 /// A configuration that is told by the settings has at each position what they decide, and the

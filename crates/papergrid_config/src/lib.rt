@@ -13,6 +13,7 @@ mod queries;
 pub mod setting;
 pub mod spanned;
 mod spans;
+mod view;
 
 pub use papergrid_maps::{Colors, CompactConfig, EntityMap, MapCall, NoColor, NoColors, Stopped};
 pub use setting::Setting;

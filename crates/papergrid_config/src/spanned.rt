@@ -3,7 +3,8 @@
 ghost use Rattle.std.specs.Prelude.{[]};
 ghost use Rattle.papergrid_config.specs.Told.{IsTold};
 
-use papergrid_maps::{BorderTable, EntityMap, OffsetTable, SpanTable};
+use papergrid_maps::{EntityMap, SpanTable};
+use papergrid_tables::{BorderTable, OffsetTable};
 use papergrid_values::{ANSIBuf, AlignmentHorizontal, AlignmentVertical, Indent, Offset, Sides};
 use std::alloc::Global;
 

@@ -10,7 +10,7 @@ use Rattle.papergrid_axis.specs.Answers.{IsRefusedWhere}
 use Rattle.papergrid_axis.specs.Problem.{Problem}
 use Rattle.papergrid_axis.specs.Ranges.{first_out}
 use Rattle.papergrid_walk.specs.Cells.{problem_of}
-use Rattle.papergrid_walk.specs.Grids.{Grid}
+use Rattle.papergrid_maps.specs.Grids.{Grid}
 use Rattle.papergrid_layout.specs.Answers.{IsBothRefusedWhere, UnlessMemory, UnlessMemoryError, first_out_of_table}
 
 -- what holds anyway holds unless memory was refused

@@ -14,7 +14,7 @@ use Rattle.papergrid_axis.specs.Ranges.{demand_of, place_of}
 use Rattle.papergrid_axis.proofs.AcceptLemmas.{few_places}
 use Rattle.papergrid_axis.proofs.CandidateLemmas.{count_by-none, is_same}
 use Rattle.papergrid_walk.specs.Cells.{demand_by, demands_by, demands_of, placed, problem_of, side, visible_of}
-use Rattle.papergrid_walk.specs.Grids.{Grid}
+use Rattle.papergrid_maps.specs.Grids.{Grid}
 use Rattle.papergrid_layout.specs.Witnesses.{IsChecked}
 use Rattle.papergrid_layout.specs.ForProofs.Checking.{AreShown, ChecksMore, check_none}
 

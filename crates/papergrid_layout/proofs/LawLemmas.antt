@@ -29,10 +29,11 @@ use Rattle.papergrid_config.specs.Told.{IsTold, all_sides, no_room}
 use Rattle.papergrid_config.specs.declared.setting.Setting.{Setting}
 use Rattle.papergrid_config.specs.declared.spanned.SpannedConfig.{SpannedConfig}
 use Rattle.papergrid_walk.specs.Cells.{demands_by, demands_of, placed_from, placed_row, side}
-use Rattle.papergrid_walk.specs.Grids.{Grid, spanned_grid}
+use Rattle.papergrid_maps.specs.Grids.{Grid}
+use Rattle.papergrid_config.specs.Grids.{spanned_grid}
 use Rattle.papergrid_walk.specs.Measures.{cell_measure, line_measure}
 use Rattle.papergrid_walk.specs.ForProofs.Visits.{demands_by-append}
-use Rattle.papergrid_walk.proofs.GridLemmas.{same_grid_by}
+use Rattle.papergrid_config.proofs.GridLemmas.{same_grid_by}
 use Rattle.papergrid_layout.specs.Laws.{AreReordered, AreSwapped, IsNewText, TellTheSame, concerns, set_span}
 
 -- ---- measures

@@ -14,7 +14,7 @@ use Rattle.papergrid_least.specs.Answers.{AreLeastSizes, AreLongest}
 use Rattle.papergrid_least.specs.Longest.{longest}
 use Rattle.papergrid_least.proofs.LeastLemmas.{least_of-shares, same-least_of}
 use Rattle.papergrid_walk.specs.Cells.{demand_by, problem_of, visible_cells}
-use Rattle.papergrid_walk.specs.Grids.{Grid}
+use Rattle.papergrid_maps.specs.Grids.{Grid}
 
 -- the certificate of least sizes is one that a checker accepts
 pub accepted : (problem : Problem) (sizes : List ℕ) (places : List Position) → AreLeastSizes problem sizes → AreLongest problem places → IsAccepted problem sizes places

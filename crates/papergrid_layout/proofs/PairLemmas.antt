@@ -12,7 +12,7 @@ use Rattle.papergrid_axis.specs.ForProofs.Kept.{IsKept}
 use Rattle.papergrid_axis.proofs.OutLemmas.{out_kept}
 use Rattle.papergrid_walk.specs.declared.needs.KeptBoth.{KeptBoth}
 use Rattle.papergrid_walk.specs.Cells.{demand_by, demands_of, visible_cells}
-use Rattle.papergrid_walk.specs.Grids.{Grid}
+use Rattle.papergrid_maps.specs.Grids.{Grid}
 use Rattle.papergrid_walk.specs.ForProofs.Pairs.{AreBothKept}
 use Rattle.papergrid_walk.proofs.Distinct.{AllPairs-visible, Precedes}
 use Rattle.papergrid_layout.specs.Answers.{first_out_of_table, reaches_out}

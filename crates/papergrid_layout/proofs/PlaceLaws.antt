@@ -16,9 +16,9 @@ use Rattle.papergrid_axis.specs.Fits.{HasRoom, range_sum}
 use Rattle.papergrid_axis.specs.Problem.{Problem, total_of}
 use Rattle.papergrid_axis.specs.Ranges.{end_of, first_out, inner_lines, place_of}
 use Rattle.papergrid_axis.proofs.OutLemmas.{if_none}
-use Rattle.papergrid_walk.proofs.HiddenLemmas.{position-same}
+use Rattle.papergrid_maps.proofs.HiddenLemmas.{position-same}
 use Rattle.papergrid_walk.specs.Cells.{demand_by, placed, problem_of, side, visible_cells}
-use Rattle.papergrid_walk.specs.Grids.{Grid}
+use Rattle.papergrid_maps.specs.Grids.{Grid}
 use Rattle.papergrid_layout.specs.Answers.{AreBothSizes}
 use Rattle.papergrid_layout.specs.Places.{DoNotMeet, HasRoomAtPlace, HaveNoneInCommon, IsInside, IsPlaced, StandsOver, extent, offset, place_at, sum_from, total, total_along}
 use Rattle.papergrid_layout.specs.declared.placement.PlaceError.TheVariants.{TooLarge}

@@ -11,7 +11,7 @@ use Rattle.papergrid_axis.proofs.LoopLemmas.{range_with_len-append}
 use Rattle.papergrid_values.specs.declared.direction.Direction.{Direction}
 use Rattle.papergrid_values.specs.declared.direction.Direction.TheVariants.{Columns, Rows}
 use Rattle.papergrid_values.specs.declared.position.Position.{Position}
-use Rattle.papergrid_walk.specs.Grids.{Grid}
+use Rattle.papergrid_maps.specs.Grids.{Grid}
 use Rattle.papergrid_layout.specs.Places.{HasPlace, IsInside, IsTotalOf, extent, offset, sum_from, total, total_along}
 
 -- numbers in a row, cut in two

@@ -14,8 +14,9 @@ use Rattle.papergrid_maps.specs.declared.anchors.Anchor.{Anchor}
 use Rattle.papergrid_maps.proofs.SpanVisible.{visible_test}
 use Rattle.papergrid_walk.specs.ForProofs.Shown.{anchor_in}
 use Rattle.papergrid_walk.specs.ForProofs.Visits.{shows_turn}
-use Rattle.papergrid_walk.specs.Grids.{Grid, spanned_grid}
-use Rattle.papergrid_walk.proofs.HiddenLemmas.{position-same}
+use Rattle.papergrid_maps.specs.Grids.{Grid}
+use Rattle.papergrid_config.specs.Grids.{spanned_grid}
+use Rattle.papergrid_maps.proofs.HiddenLemmas.{position-same}
 use Rattle.papergrid_layout.specs.Places.{HasPlace, HaveAllPlaces, IsFirstRefused, IsPlaced, IsVisibleCell, extent, offset, place_at, total_along}
 use Rattle.papergrid_layout.specs.declared.placement.Place.{Place}
 use Rattle.papergrid_layout.specs.declared.placement.PlaceError.{PlaceError}

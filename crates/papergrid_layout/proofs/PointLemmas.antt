@@ -9,7 +9,8 @@ use Rattle.papergrid_maps.specs.Spans.{IsInRectangle}
 use Rattle.papergrid_values.specs.declared.direction.Direction.TheVariants.{Columns, Rows}
 use Rattle.papergrid_values.specs.declared.position.Position.{Position}
 use Rattle.papergrid_values.specs.Positions.{IsBefore}
-use Rattle.papergrid_walk.specs.Grids.{Grid, spanned_grid}
+use Rattle.papergrid_maps.specs.Grids.{Grid}
+use Rattle.papergrid_config.specs.Grids.{spanned_grid}
 use Rattle.papergrid_layout.specs.Places.{HasPlace, IsFirstOver, IsPlaced, StandsOver, extent, offset}
 use Rattle.papergrid_layout.specs.declared.placement.Place.{Place}
 use Rattle.papergrid_layout.specs.declared.placement.PlaceError.{PlaceError}

@@ -13,7 +13,7 @@ use Rattle.papergrid_axis.specs.Problem.{Problem, given}
 use Rattle.papergrid_axis.proofs.KeptApartLemmas.{Decides-is_kept_apart, not_kept_apart}
 use Rattle.papergrid_axis.specs.Ranges.{place_of}
 use Rattle.papergrid_walk.specs.Cells.{demand_by, demands_by, count_along, demands_of, placed_from, placed_row, problem_of, visible_cells}
-use Rattle.papergrid_walk.specs.Grids.{Grid}
+use Rattle.papergrid_maps.specs.Grids.{Grid}
 use Rattle.papergrid_walk.specs.ForProofs.Visits.{demands_by-append}
 use Rattle.papergrid_layout.specs.Answers.{first_out_of_table, reaches_out}
 use Rattle.papergrid_layout.specs.Witnesses.{witness_of}

@@ -13,7 +13,7 @@ use Rattle.papergrid_axis.specs.Ranges.{end_of, first_out, place_of}
 use Rattle.papergrid_axis.proofs.LoopLemmas.{need_within_total}
 use Rattle.papergrid_axis.proofs.OutLemmas.{if_none}
 use Rattle.papergrid_walk.specs.Cells.{demand_by, problem_of, side, visible_cells}
-use Rattle.papergrid_walk.specs.Grids.{Grid}
+use Rattle.papergrid_maps.specs.Grids.{Grid}
 
 -- sizes, one for each column (row) of a problem whose lines are drawn so
 module _ (draws : ℕ → ℕ → Bool) (problem : Problem) (drawn : problem.line ≡ draws problem.count) (sizes : List ℕ) (one_each : length sizes ≡ problem.count) where

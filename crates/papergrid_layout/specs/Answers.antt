@@ -8,7 +8,7 @@ use Rattle.papergrid_axis.specs.Answers.{AreSizes, NoneHolds}
 use Rattle.papergrid_axis.specs.Problem.{Problem}
 use Rattle.papergrid_least.specs.Answers.{AreLeastSizes, NoneFits}
 use Rattle.papergrid_walk.specs.Cells.{problem_of, visible_cells}
-use Rattle.papergrid_walk.specs.Grids.{Grid}
+use Rattle.papergrid_maps.specs.Grids.{Grid}
 
 -- P, unless it is out of memory
 abbrev pub UnlessMemoryError : LayoutError → Type 0 → Type 0

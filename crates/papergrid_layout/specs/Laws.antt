@@ -16,7 +16,7 @@ use Rattle.papergrid_config.specs.Parts.{character_calls, padding_calls, span_ca
 use Rattle.papergrid_config.specs.declared.setting.Setting.{Setting}
 use Rattle.papergrid_config.specs.declared.setting.Setting.TheVariants.{SetColumnSpan, SetRowSpan}
 use Rattle.papergrid_walk.specs.Cells.{problem_with}
-use Rattle.papergrid_walk.specs.Grids.{Grid}
+use Rattle.papergrid_maps.specs.Grids.{Grid}
 
 -- a text as `Text::new` keeps it
 abbrev pub IsNewText : {S : Type 0} → (S → List ℕ) → Measured S → Type 0

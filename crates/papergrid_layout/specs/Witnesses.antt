@@ -12,7 +12,7 @@ use Rattle.papergrid_axis.specs.Problem.{Problem}
 use Rattle.papergrid_axis.specs.Ranges.{place_of}
 use Rattle.papergrid_least.specs.Answers.{AreLeastSizes, AreLongest, NoneFits}
 use Rattle.papergrid_walk.specs.Cells.{problem_of}
-use Rattle.papergrid_walk.specs.Grids.{Grid}
+use Rattle.papergrid_maps.specs.Grids.{Grid}
 use Rattle.papergrid_layout.specs.Answers.{IsBothRefusedWhere}
 use Rattle.papergrid_layout.specs.declared.certificates.Certified.{Certified}
 

@@ -8,7 +8,8 @@ ghost use Rattle.papergrid_layout.specs.Answers.{UnlessMemory};
 use papergrid_axis::{Axis, LayoutError, Solution};
 use papergrid_text::{IntoRecords, Records};
 use papergrid_values::{Direction, Position};
-use papergrid_walk::{Measure, Settings, gather};
+use papergrid_maps::ConfigView;
+use papergrid_walk::{Measure, gather};
 use std::alloc::Global;
 
 /// Settings along one direction of a table with so many columns (rows).
@@ -19,7 +20,7 @@ pub struct Along<'a, S> {
     pub count: usize,
 }
 
-impl<'a, S: Settings> Axis for Along<'a, S> {
+impl<'a, S: ConfigView> Axis for Along<'a, S> {
     ghost span_of = { λ s p. (S.grid s.settings.now).span s.direction p };
 
     ghost line = { λ s i. (S.grid s.settings.now).draws s.direction s.count i };
@@ -49,7 +50,7 @@ pub fn count_of(direction: Direction, columns: usize, rows: usize) -> usize
 ///
 /// `OutOfTable` with the first visible cell that reaches out, else `TooLarge` where the sizes that are
 /// looked for come, with all lines, to more than the greatest `usize`; `Memory` in place of any answer.
-pub fn solve_along<T: Solution, M, R: Records + Drop, S: Settings>(
+pub fn solve_along<T: Solution, M, R: Records + Drop, S: ConfigView>(
     alloc: Global,
     records: R,
     settings: &S,

@@ -11,7 +11,8 @@ use papergrid_axis::settled::find_out;
 use papergrid_axis::{Found, LayoutError, Solution};
 use papergrid_text::{IntoRecords, Records};
 use papergrid_values::{Direction, Position};
-use papergrid_walk::{KeptBoth, Measure, Settings, gather_both};
+use papergrid_maps::ConfigView;
+use papergrid_walk::{KeptBoth, Measure, gather_both};
 use std::alloc::Global;
 
 /// Of two positions the one that is earlier by row and then by column.
@@ -44,7 +45,7 @@ fn find_out_of_both(columns: usize, rows: usize, both: &KeptBoth) -> Option<Posi
 }
 
 /// What the kept cells of a table of so many columns and rows come to along both directions.
-fn conclude<T: Solution + Drop, M: Measure<C>, C, S: Settings>(
+fn conclude<T: Solution + Drop, M: Measure<C>, C, S: ConfigView>(
     alloc: Global,
     columns: usize,
     rows: usize,
@@ -84,7 +85,7 @@ pub fn solve_both<T, M, R, S>(alloc: Global, records: R, settings: &S) -> Found<
 where
     T: Solution + Drop,
     R: Records + Drop,
-    S: Settings,
+    S: ConfigView,
     M: Measure<<<R as Records>::Iter as IntoRecords>::Cell>,
     <<R as Records>::Iter as IntoRecords>::Cell: Drop,
     requires { R.is_lawful records }

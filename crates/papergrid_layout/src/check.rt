@@ -13,12 +13,13 @@ use papergrid_axis::checked::{accepts, is_unchanged, visit, wide_need};
 use papergrid_axis::{Candidate, Checked};
 use papergrid_text::{IntoRecords, Records};
 use papergrid_values::{Direction, Position};
-use papergrid_walk::{Measure, Settings, Visitor, walk};
+use papergrid_maps::ConfigView;
+use papergrid_walk::{Measure, Visitor, walk};
 use std::alloc::AllocError;
 use std::marker::PhantomData;
 
 /// What the cell at a position needs along a direction, by its width (height).
-fn need_along<S: Settings>(settings: &S, direction: Direction, pos: Position, size: usize) -> u128
+fn need_along<S: ConfigView>(settings: &S, direction: Direction, pos: Position, size: usize) -> u128
     ensures sum { let grid = S.grid settings.now in
         result ≡ size + grid.before direction pos + grid.after direction pos }
     ensures small { result ≤ 2 ^ 66 }
@@ -30,7 +31,7 @@ fn need_along<S: Settings>(settings: &S, direction: Direction, pos: Position, si
 
 /// Whether the cell at a position is visible. Where the list is in order this is known of the listed
 /// cells, and no span is looked at.
-fn is_shown<S: Settings>(settings: &S, candidate: &Candidate<'_>, pos: Position) -> bool
+fn is_shown<S: ConfigView>(settings: &S, candidate: &Candidate<'_>, pos: Position) -> bool
     requires ordered { IsCandidate ((S.grid settings.now).span candidate.now.direction) candidate.now }
     requires shown { IsShownCandidate (S.grid settings.now) candidate.now }
     ensures { result ≡ (S.grid settings.now).shows pos }
@@ -43,7 +44,7 @@ fn is_shown<S: Settings>(settings: &S, candidate: &Candidate<'_>, pos: Position)
 
 /// What is kept of the cells met and of one more, if that is visible. Whether it is may take a look at
 /// the spans, so this is asked only of a cell that would change what is kept.
-fn check_cell<M: Measure<C>, C, S: Settings>(
+fn check_cell<M: Measure<C>, C, S: ConfigView>(
     checked: Checked,
     settings: &S,
     candidate: &Candidate<'_>,
@@ -85,7 +86,7 @@ struct Checker<'a, M, S> {
     measure: PhantomData<M>,
 }
 
-impl<'a, M: Measure<C>, C, S: Settings> Visitor<C> for Checker<'a, M, S> {
+impl<'a, M: Measure<C>, C, S: ConfigView> Visitor<C> for Checker<'a, M, S> {
     ghost stands = { λ v row column. AreBounded v.candidate.now.places.now v.checked
         × IsCandidate ((S.grid v.settings.now).span v.candidate.now.direction) v.candidate.now
         × IsShownCandidate (S.grid v.settings.now) v.candidate.now };
@@ -120,7 +121,7 @@ impl<'a, M: Measure<C>, C, S: Settings> Visitor<C> for Checker<'a, M, S> {
 }
 
 /// What is kept of the visible cells of the records, and the number of rows.
-fn check_rows<M, R: Records + Drop, S: Settings>(
+fn check_rows<M, R: Records + Drop, S: ConfigView>(
     records: R,
     settings: &S,
     candidate: &Candidate<'_>,
@@ -150,7 +151,7 @@ where
 }
 
 /// The check where it is known whether the ranges at the positions are in order.
-fn check_candidate<M, R: Records + Drop, S: Settings>(
+fn check_candidate<M, R: Records + Drop, S: ConfigView>(
     records: R,
     settings: &S,
     candidate: &Candidate<'_>,
@@ -178,7 +179,7 @@ where
 
 /// The check where more positions are listed than there are sizes, since ranges that have no number
 /// in common are never so many, or where a listed cell is hidden. The records are walked as ever.
-fn refuse<M, R: Records + Drop, S: Settings>(
+fn refuse<M, R: Records + Drop, S: ConfigView>(
     records: R,
     settings: &S,
     direction: Direction,
@@ -209,7 +210,7 @@ where
 /// and give each visible cell room, and the places are those of visible cells of disjoint ranges,
 /// whose needs less the lines inside of them add up to the sizes. Then no other choice of sizes has
 /// a smaller total. It takes no memory.
-pub fn check<M, R: Records + Drop, S: Settings>(
+pub fn check<M, R: Records + Drop, S: ConfigView>(
     records: R,
     settings: &S,
     direction: Direction,

@@ -3,7 +3,7 @@
 
 ghost use Rattle.std.specs.Prelude.{◌≡◌, [], List};
 ghost use Rattle.papergrid_values.specs.declared.direction.Direction.TheVariants.{Columns, Rows};
-ghost use Rattle.papergrid_walk.specs.Grids.{compact_grid};
+ghost use Rattle.papergrid_maps.specs.Grids.{compact_grid};
 ghost use Rattle.papergrid_walk.specs.Measures.{std_line_measure};
 ghost use Rattle.papergrid_axis.specs.Answers.{IsSized};
 ghost use Rattle.papergrid_walk.specs.Cells.{problem_of};
@@ -143,7 +143,7 @@ where
 {
     ghost use Rattle.std.specs.Prelude.{List};
     ghost use Rattle.papergrid_values.specs.declared.direction.Direction.TheVariants.{Columns};
-    ghost use Rattle.papergrid_walk.specs.Grids.{compact_grid};
+    ghost use Rattle.papergrid_maps.specs.Grids.{compact_grid};
     ghost use Rattle.papergrid_walk.specs.Measures.{std_line_measure};
     ghost use Rattle.papergrid_axis.specs.Answers.{AreSizes, IsRefused};
     ghost use Rattle.papergrid_walk.specs.Cells.{problem_of};

@@ -2,7 +2,7 @@
 
 ghost use Rattle.std.specs.Prelude.{◌≡◌, [], List};
 ghost use Rattle.papergrid_values.specs.declared.direction.Direction.TheVariants.{Columns, Rows};
-ghost use Rattle.papergrid_walk.specs.Grids.{spanned_grid};
+ghost use Rattle.papergrid_config.specs.Grids.{spanned_grid};
 ghost use Rattle.papergrid_walk.specs.Measures.{line_measure};
 ghost use Rattle.papergrid_axis.specs.Answers.{Answers, IsSized, IsTotal};
 ghost use Rattle.papergrid_walk.specs.Cells.{problem_of};
@@ -197,7 +197,7 @@ where
     <<R as Records>::Iter as IntoRecords>::Cell: AsStr + Drop,
 {
     ghost use Rattle.std.specs.Prelude.{List};
-    ghost use Rattle.papergrid_walk.specs.Grids.{spanned_grid};
+    ghost use Rattle.papergrid_config.specs.Grids.{spanned_grid};
     ghost use Rattle.papergrid_walk.specs.Measures.{line_measure};
     ghost use Rattle.papergrid_layout.specs.Answers.{AreBothSizes, IsBothRefused, UnlessMemoryError};
 

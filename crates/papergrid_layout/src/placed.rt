@@ -2,7 +2,7 @@
 
 ghost use Rattle.std.specs.Prelude.{◌≡◌, ◌+◌, ◌<◌, ◌≤◌, ℕ, IfOk};
 ghost use Rattle.papergrid_values.specs.declared.direction.Direction.TheVariants.{Columns, Rows};
-ghost use Rattle.papergrid_walk.specs.Grids.{spanned_grid};
+ghost use Rattle.papergrid_config.specs.Grids.{spanned_grid};
 ghost use Rattle.papergrid_layout.specs.Places.{IsPlaced, total_along};
 
 use crate::dimension::Dimension;
@@ -10,7 +10,7 @@ use crate::placement::{Place, PlaceError};
 use crate::ruler::Ruler;
 use papergrid_config::SpannedConfig;
 use papergrid_values::{Direction, Position};
-use papergrid_walk::Settings;
+use papergrid_maps::ConfigView;
 
 /// The place of the cell at a position, in a table of the shape (rows, columns). It takes no memory,
 /// and time that grows with the rows and columns.

@@ -3,7 +3,7 @@
 ghost use Rattle.std.specs.Prelude.{◌≡◌, ◌+◌, ◌-◌, ◌<◌, ◌≤◌, ◌^◌, ℕ, IfErr, IfOk};
 ghost use Rattle.std.specs.Option.{SomeIff};
 ghost use Rattle.papergrid_values.specs.declared.direction.Direction.{Direction};
-ghost use Rattle.papergrid_walk.specs.Grids.{spanned_grid};
+ghost use Rattle.papergrid_config.specs.Grids.{spanned_grid};
 ghost use Rattle.papergrid_walk.specs.ForProofs.Shown.{anchor_in};
 ghost use Rattle.papergrid_layout.specs.Places.{ArePlacesRefused, HaveAllPlaces, place_at, total_along};
 ghost use Rattle.papergrid_layout.specs.ForProofs.Placing.{AreMarked, HasPlaced, Table, table_of};

@@ -2,7 +2,7 @@
 
 ghost use Rattle.std.specs.Prelude.{◌≡◌, ◌<◌, ◌≤◌, ◌↔◌, ℕ, IsTrue, MatchOption};
 ghost use Rattle.papergrid_values.specs.declared.position.Position.{Position};
-ghost use Rattle.papergrid_walk.specs.Grids.{spanned_grid};
+ghost use Rattle.papergrid_config.specs.Grids.{spanned_grid};
 ghost use Rattle.papergrid_layout.specs.Places.{IsFirstOver, StandsOver};
 ghost use Rattle.papergrid_layout.specs.ForProofs.Points.{LiesInEach};
 
@@ -11,7 +11,7 @@ use crate::placed::place;
 use crate::ruler::Ruler;
 use papergrid_config::SpannedConfig;
 use papergrid_values::{Direction, Position};
-use papergrid_walk::Settings;
+use papergrid_maps::ConfigView;
 
 /// A table of the shape (rows, columns), a column of the terminal in a line of it, and a position that lies in
 /// the rectangle of each cell that stands over these.

@@ -10,7 +10,7 @@ ghost use Rattle.papergrid_layout.specs.ForProofs.Rulers.{has_along};
 use crate::dimension::Dimension;
 use crate::marks::Marks;
 use papergrid_values::{Direction, Position};
-use papergrid_walk::Settings;
+use papergrid_maps::ConfigView;
 use std::alloc::{AllocError, Global};
 
 /// The sizes of a dimension, and the spans and the lines of settings, along a direction in which the
@@ -23,7 +23,7 @@ pub struct Ruler<'a, D, S> {
     pub count: usize,
 }
 
-impl<'a, D: Dimension, S: Settings> Ruler<'a, D, S> {
+impl<'a, D: Dimension, S: ConfigView> Ruler<'a, D, S> {
     /// Of so many columns (rows), by these sizes and settings.
     pub fn new(dim: &'a D, settings: &'a S, direction: Direction, count: usize) -> Ruler<'a, D, S>
         ensures { result ≡ record { dim = dim.entry; settings = settings.entry; direction = direction; count = count } }

@@ -2,7 +2,7 @@
 
 ghost use Rattle.std.specs.Prelude.{◌≡◌, ◌+◌, ◌-◌, ◌<◌, ◌^◌, length, sum};
 ghost use Rattle.papergrid_values.specs.Lines.{all_lines};
-ghost use Rattle.papergrid_walk.specs.Grids.{spanned_grid};
+ghost use Rattle.papergrid_config.specs.Grids.{spanned_grid};
 
 use papergrid_config::SpannedConfig;
 use papergrid_values::Direction;

@@ -3,6 +3,7 @@ pub mod AnyHeld
 pub mod Applied
 pub mod BothHeld
 pub mod CoverLemmas
+pub mod HiddenLemmas
 pub mod IndexCopies
 pub mod IndexEnds
 pub mod IndexKeys

@@ -1,3 +1,4 @@
 -- What no contract of the facade's calls reaches, and no law: only contracts of functions below them and proofs speak of it.
+pub mod PaddingLaws
 pub mod SpanEq
 pub mod SpanIndex

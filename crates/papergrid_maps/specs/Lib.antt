@@ -1,10 +1,13 @@
 pub mod Anchors
 pub mod ColorsHeld
 pub mod Compact
+pub mod Grids
+pub mod Hidden
 pub mod Keys
 pub mod Made
 pub mod MapCalls
 pub mod MapEq
 pub mod MapHeld
+pub mod Paddings
 pub mod Spans
 pub mod ForProofs

@@ -1,8 +1,11 @@
 //! Laws over the definitions that the contracts cite.
 
-ghost use Rattle.std.specs.Prelude.{◌≡◌, ◌↔◌, ◌∷◌, ◌++◌, [], IsTrue, List, None, true};
+ghost use Rattle.std.specs.Prelude.{◌≡◌, ◌↔◌, ◌∷◌, ◌++◌, ℕ, [], IsTrue, List, None, true};
 ghost use Rattle.std.specs.List.{list_all};
 ghost use Rattle.papergrid_values.specs.declared.position.Position.{Position};
+ghost use Rattle.papergrid_maps.specs.Anchors.{AreAnchors};
+ghost use Rattle.papergrid_maps.specs.Hidden.{IsHidden};
+ghost use Rattle.papergrid_maps.specs.declared.anchors.Anchor.{Anchor};
 ghost use Rattle.papergrid_maps.specs.declared.entity_map.MapCall.{MapCall};
 ghost use Rattle.papergrid_maps.specs.Compact.{IsNew, first_difference};
 ghost use Rattle.papergrid_maps.specs.declared.colors.NoColor.{NoColor};
@@ -15,7 +18,6 @@ ghost use Rattle.papergrid_maps.specs.Spans as spans;
 ghost use Rattle.papergrid_maps.specs.Spans.{IsVisible, SpanCall, Spans, column_span, is_visible, row_span};
 
 use crate::{Colors, CompactConfig, EntityMap, NoColor, NoColors, SpanTable};
-pub use papergrid_tables::laws::{equal_overrides, equal_told_tables, told_makes_borders};
 use papergrid_values::{ANSIStr, AlignmentHorizontal, Borders, Indent, Sides};
 use std::cmp::Ordering;
 use std::hash::Hash;
@@ -38,6 +40,14 @@ pub fn told_makes_spans()
 pub fn visible_by_rectangles()
     ensures { (held : Spans) (pos : Position) →
         IsTrue (is_visible held pos) ↔ IsVisible (column_span held) (row_span held) pos }
+{}
+
+/// A position is visible exactly where no anchor of the spans hides it.
+pub fn visible_where_not_hidden()
+    ensures rectangles { (columns rows : Position → ℕ) (anchors : List Anchor) (p : Position) →
+        AreAnchors columns rows anchors → (IsVisible columns rows p ↔ (IsHidden anchors p → ⊥)) }
+    ensures test { (spans : Spans) (anchors : List Anchor) (p : Position) →
+        AreAnchors (column_span spans) (row_span spans) anchors → (IsTrue (is_visible spans p) ↔ (IsHidden anchors p → ⊥)) }
 {}
 
 /// Two maps that were made with the same value and are told by the same calls are equal, and so

@@ -128,9 +128,6 @@ fn map_laws() {
     laws::told_decides::<char>();
     laws::told_makes_spans();
     laws::visible_by_rectangles();
-    laws::told_makes_borders::<char>();
-    laws::equal_overrides::<char>();
-    laws::equal_told_tables::<char>();
     laws::equal_told_maps::<char>();
     laws::plain_default();
     laws::one_value_each();

@@ -9,7 +9,7 @@ use Rattle.papergrid_axis.specs.Fits.{IsCertificate}
 use Rattle.papergrid_axis.specs.Problem.{Problem}
 use Rattle.papergrid_axis.specs.Ranges.{IsKeptApart}
 use Rattle.papergrid_walk.specs.Cells.{problem_of}
-use Rattle.papergrid_walk.specs.Grids.{Grid}
+use Rattle.papergrid_maps.specs.Grids.{Grid}
 use Rattle.papergrid_layout.specs.Witnesses.{IsChecked}
 use Rattle.papergrid_uses.proofs.RowLemmas.{one_told}
 

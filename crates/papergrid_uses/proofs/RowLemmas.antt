@@ -11,7 +11,7 @@ use Rattle.papergrid_axis.specs.Answers.{AnswersWhere, IsRefusedWhere, NoneHolds
 use Rattle.papergrid_axis.specs.Problem.{Problem}
 use Rattle.papergrid_axis.specs.Ranges.{place_of}
 use Rattle.papergrid_walk.specs.Cells.{demand_by, demands_of, problem_of, visible_cells}
-use Rattle.papergrid_walk.specs.Grids.{Grid}
+use Rattle.papergrid_maps.specs.Grids.{Grid}
 use Rattle.papergrid_layout.specs.Answers.{AnswersBothWhere, HoldAlong, IsBothRefusedWhere, UnlessMemory, UnlessMemoryError}
 use Rattle.papergrid_layout.specs.declared.iterable.IterGridDimension.{IterGridDimension}
 use Rattle.papergrid_layout.proofs.Told.{first_told, problem_told}

@@ -8,7 +8,7 @@ use Rattle.papergrid_config.specs.declared.spanned.SpannedConfig.{SpannedConfig}
 use Rattle.papergrid_text.specs.Kept.{answered_lines}
 use Rattle.papergrid_text.specs.Measured.{Measured}
 use Rattle.papergrid_walk.specs.Cells.{problem_of}
-use Rattle.papergrid_walk.specs.Grids.{spanned_grid}
+use Rattle.papergrid_config.specs.Grids.{spanned_grid}
 use Rattle.papergrid_walk.specs.Measures.{line_measure}
 
 -- the cells of rows that are vectors

@@ -6,7 +6,7 @@ ghost use Rattle.papergrid_axis.specs.Fits.{IsLeast};
 ghost use Rattle.papergrid_axis.specs.Ranges.{IsKeptApart};
 ghost use Rattle.papergrid_values.specs.declared.direction.Direction.TheVariants.{Columns};
 ghost use Rattle.papergrid_walk.specs.Cells.{problem_of};
-ghost use Rattle.papergrid_walk.specs.Grids.{spanned_grid};
+ghost use Rattle.papergrid_config.specs.Grids.{spanned_grid};
 ghost use Rattle.papergrid_walk.specs.Measures.{line_measure};
 ghost use Rattle.papergrid_uses.specs.Rows.{texts_problem};
 

@@ -8,7 +8,8 @@ ghost use Rattle.papergrid_least.specs.Answers.{AreLeastSizes, NoneFits};
 ghost use Rattle.papergrid_text.specs.HeldRows.{column_count, rows_held};
 ghost use Rattle.papergrid_values.specs.declared.direction.Direction.TheVariants.{Columns};
 ghost use Rattle.papergrid_walk.specs.Cells.{problem_of};
-ghost use Rattle.papergrid_walk.specs.Grids.{compact_grid, spanned_grid};
+ghost use Rattle.papergrid_maps.specs.Grids.{compact_grid};
+ghost use Rattle.papergrid_config.specs.Grids.{spanned_grid};
 ghost use Rattle.papergrid_walk.specs.Measures.{std_line_measure};
 ghost use Rattle.papergrid_uses.specs.Rows.{cells_of, kept_measure, text_measure};
 

@@ -5,7 +5,7 @@ ghost use Rattle.papergrid.specs.Grids.{grid_of};
 ghost use Rattle.papergrid_config.specs.Applied.{is_in_range};
 ghost use Rattle.papergrid_layout.specs.Answers.{AreBothSizes};
 ghost use Rattle.papergrid_layout.specs.Places.{HasPlace};
-ghost use Rattle.papergrid_walk.specs.Grids.{spanned_grid};
+ghost use Rattle.papergrid_config.specs.Grids.{spanned_grid};
 ghost use Rattle.papergrid_uses.specs.Rows.{cells_of, text_measure};
 
 use crate::settings::told;

@@ -2,7 +2,7 @@
 
 ghost use Rattle.std.specs.Prelude.{◌≡◌, ◌<◌, ℕ, IfErr, IfOk};
 ghost use Rattle.papergrid_layout.specs.Places.{ArePlacesRefused, HaveAllPlaces, IsFirstOver, IsPlaced};
-ghost use Rattle.papergrid_walk.specs.Grids.{spanned_grid};
+ghost use Rattle.papergrid_config.specs.Grids.{spanned_grid};
 
 use papergrid::config::Position;
 use papergrid::config::spanned::SpannedConfig;

@@ -7,7 +7,7 @@ ghost use Rattle.papergrid_axis.specs.Sizes.{sizes_of};
 ghost use Rattle.papergrid_layout.specs.Answers.{AreBothSized, IsBothRefused, UnlessMemory};
 ghost use Rattle.papergrid_values.specs.declared.direction.Direction.TheVariants.{Columns};
 ghost use Rattle.papergrid_walk.specs.Cells.{problem_of, side, visible_cells};
-ghost use Rattle.papergrid_walk.specs.Grids.{spanned_grid};
+ghost use Rattle.papergrid_config.specs.Grids.{spanned_grid};
 ghost use Rattle.papergrid_walk.specs.Measures.{line_measure};
 ghost use Rattle.papergrid_uses.specs.Rows.{cells_of, text_measure, texts_problem};
 

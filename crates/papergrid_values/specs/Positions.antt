@@ -37,6 +37,11 @@ along Rows p = p.row
 abbrev pub AreRising : Direction → Position → Position → Type 0
 AreRising direction p q = along direction p < along direction q
 
+-- by these spans, each range that begins below the number has a number itself, and ends there or before
+abbrev pub StayWithin : Direction → (Position → ℕ) → ℕ → Type 0
+StayWithin direction span_of count =
+    (p : Position) → along direction p < count → (1 ≤ span_of p) × (along direction p + span_of p ≤ count)
+
 -- how many times a list holds a position
 abbrev pub count_of : Position → List Position → ℕ
 count_of p = count_by (λ q. p.row == q.row && p.col == q.col)

@@ -14,7 +14,7 @@ use Rattle.papergrid_axis.proofs.KeptLemmas.{below-own_limit}
 use Rattle.papergrid_values.specs.Positions.{IsBefore}
 use Rattle.papergrid_walk.specs.Cells.{demand_by, count_along, demands_of, placed, placed_from, placed_row, visible_cells}
 use Rattle.papergrid_walk.specs.ForProofs.Limits.{limit_along}
-use Rattle.papergrid_walk.specs.Grids.{Grid}
+use Rattle.papergrid_maps.specs.Grids.{Grid}
 
 pub count-le : (direction : Direction) (columns n : ℕ) → n < 18446744073709551616 → count_along direction columns n ≤ limit_along direction columns
 count-le Columns columns n l = omega arith

@@ -1,6 +1,6 @@
 -- A filter of positions: a mark that is set stays set.
 use Rattle.std.proofs.Common.{◌≡◌, ℕ, ◌+◌, ◌<◌, zero, suc, Bool, true, false, List, [], ◌∷◌, ◌++◌, length, get_or, set, take, refl, sym, ap, subst, inl, inr, ◌∙◌, arith}
-use Rattle.std.specs.Prelude.{All, Option, Some, None, is_some, option_map}
+use Rattle.std.specs.Prelude.{All, Option, Some, None, is_some}
 use Rattle.std.specs.Set.{is_member}
 use Rattle.std.proofs.lemmas.Bool.{cases_Bool, false≢true, true≢false}
 use Rattle.std.proofs.Math.Seq.{take-suc}
@@ -12,9 +12,10 @@ use Rattle.papergrid_keys.proofs.KeyLemmas.{exact_position_eq}
 use Rattle.papergrid_values.specs.declared.entity.Entity.{Entity}
 use Rattle.papergrid_values.specs.declared.entity.Entity.TheVariants.{Cell}
 use Rattle.papergrid_walk.specs.ForProofs.Filters.{passes, slot}
-use Rattle.papergrid_walk.specs.ForProofs.Paddings.{ArePadded, TellsOwn}
+use Rattle.papergrid_maps.specs.Paddings.{ArePadded}
+use Rattle.papergrid_walk.specs.ForProofs.Paddings.{TellsOwn}
 use Rattle.papergrid_walk.specs.declared.position_filter.PositionFilter.{PositionFilter}
-use Rattle.papergrid_walk.specs.declared.settings.Paddings.{Paddings}
+use Rattle.papergrid_maps.specs.declared.view.Paddings.{Paddings}
 
 -- the mark of the position is set
 abbrev pub IsSet : List Bool → ℕ → Position → Type 0
@@ -51,10 +52,6 @@ member_holds P (q ∷ places) p all member = elim (cases_Bool (position_eq p q))
 has_none : {A : Type 0} (o : Option A) → is_some o ≡ false → o ≡ None
 has_none None h = refl
 has_none (Some a) h = absurd (true≢false h)
-
-pub is_some-map : {A B : Type 0} (f : A → B) (o : Option A) → is_some o ≡ is_some (option_map f o)
-is_some-map f None = refl
-is_some-map f (Some a) = refl
 
 -- a filter that all padded cells pass
 pub tells_own : (set : Entity → Option Paddings) (cells : List Position) (filter : PositionFilter) → ArePadded set cells → All (λ p. passes filter p ≡ true) cells → TellsOwn set filter

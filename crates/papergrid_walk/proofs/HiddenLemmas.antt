@@ -7,9 +7,10 @@ use Rattle.papergrid_values.specs.declared.position.Position.{Position}
 use Rattle.papergrid_walk.specs.declared.levels.Levels.{Levels}
 use Rattle.papergrid_walk.specs.ForProofs.Levels.{end_at, raised_end}
 use Rattle.papergrid_values.specs.Positions.{IsBefore}
-use Rattle.papergrid_walk.specs.Hidden.{IsWithin, IsHidden}
+use Rattle.papergrid_maps.specs.Hidden.{IsWithin, IsHidden}
 use Rattle.papergrid_walk.specs.ForProofs.Swept.{cut, end_with, end_of, AllBefore, Holds}
 use Rattle.papergrid_maps.specs.Anchors.{IsSorted}
+use Rattle.papergrid_maps.proofs.HiddenLemmas.{position-same}
 
 raised-first : (first last end old column row : ℕ) → row < raised_end first last end old column → old ≤ row → first ≤ column
 raised-first first last end old column row h k = grind (arith)
@@ -86,12 +87,6 @@ end-over anchors (suc passed) column row k is =
       | inr from ↦ (let e : is.index ≡ passed = omega (arith, is.below) in
           with-new (slice_get anchors passed) (end_of anchors passed column) column row k (subst (λ j. IsOver (slice_get anchors j) column row) e is.over))
     ]
-
-pub position-same : (p q : Position) → p.row ≡ q.row → p.col ≡ q.col → p ≡ q
-position-same p q e f =
-    let at_row : ℕ → Position = λ r. record { row = r; col = p.col } in
-    let at_col : ℕ → Position = λ c. record { row = q.row; col = c } in
-    ap at_row e ∙ ap at_col f
 
 -- an anchor whose rectangle has another position stands before it
 before-within : (a : Anchor) (p : Position) → a.position ≢ p → IsWithin a p → IsBefore a.position p

@@ -1,8 +1,6 @@
 pub mod LevelLemmas
-pub mod GridLemmas
 pub mod PassLemmas
 pub mod HiddenLemmas
-pub mod SpanLemmas
 pub mod Distinct
 pub mod ShownLemmas
 pub mod Steps

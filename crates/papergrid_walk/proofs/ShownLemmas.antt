@@ -3,11 +3,12 @@ use Rattle.std.proofs.Common.{◌≡◌, ◌+◌, ◌≤◌, ℕ, List, [], Some
 use Rattle.std.proofs.lemmas.Bool.{cases_lt}
 use Rattle.papergrid_values.specs.declared.direction.Direction.TheVariants.{Columns, Rows}
 use Rattle.papergrid_maps.specs.Anchors.{HasAnchor}
-use Rattle.papergrid_walk.specs.Grids.{Grid}
+use Rattle.papergrid_maps.specs.Grids.{Grid}
 use Rattle.papergrid_values.specs.declared.position.Position.{Position}
 use Rattle.papergrid_maps.specs.declared.anchors.Anchor.{Anchor}
 use Rattle.papergrid_walk.specs.ForProofs.Swept.{IsAnchorAt}
-use Rattle.papergrid_walk.specs.ForProofs.Shown.{AreAnchorsOf, Shows, anchor_in}
+use Rattle.papergrid_maps.specs.Hidden.{AreAnchorsOf}
+use Rattle.papergrid_walk.specs.ForProofs.Shown.{Shows, anchor_in}
 
 -- the start of a walk
 pub shows_first : (grid : Grid) (anchors : List Anchor) (columns : ℕ) → AreAnchorsOf grid anchors →

@@ -6,7 +6,7 @@ use Rattle.papergrid_values.specs.declared.direction.Direction.{Direction}
 use Rattle.papergrid_values.specs.declared.direction.Direction.TheVariants.{Columns, Rows}
 use Rattle.papergrid_axis.specs.Problem.{Problem}
 use Rattle.papergrid_axis.specs.Ranges.{demand_of}
-use Rattle.papergrid_walk.specs.Grids.{Grid}
+use Rattle.papergrid_maps.specs.Grids.{Grid}
 
 -- the width, or the height, of a measure (width, height)
 abbrev pub side : Direction → ℕ × ℕ → ℕ

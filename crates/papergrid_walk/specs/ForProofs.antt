@@ -2,7 +2,6 @@
 pub mod Filters
 pub mod Levels
 pub mod Limits
-pub mod PaddingLaws
 pub mod Paddings
 pub mod Pairs
 pub mod Shown

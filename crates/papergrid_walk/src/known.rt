@@ -3,10 +3,11 @@
 
 ghost use Rattle.std.specs.Prelude.{◌≡◌, IfOk, OnOk, false};
 ghost use Rattle.papergrid_values.specs.declared.entity.Entity.TheVariants.{Cell, Column};
-ghost use Rattle.papergrid_walk.specs.ForProofs.Paddings.{Knows, TellsOwn, paddings_at, set_in_row};
+ghost use Rattle.papergrid_walk.specs.ForProofs.Paddings.{Knows, TellsOwn};
+ghost use Rattle.papergrid_maps.specs.Paddings.{paddings_at, set_in_row};
 
 use crate::position_filter::PositionFilter;
-use crate::settings::{Paddings, Settings};
+use papergrid_maps::{ConfigView, Paddings};
 use papergrid_values::{Entity, Position};
 use std::alloc::{AllocError, Global};
 
@@ -36,7 +37,7 @@ const NO_PADDINGS: Paddings = Paddings {
 
 impl KnownPaddings {
     /// What is known before the first cell. Where all cells are alike it takes no memory.
-    pub fn new<S: Settings>(alloc: Global, settings: &S) -> Result<KnownPaddings, AllocError>
+    pub fn new<S: ConfigView>(alloc: Global, settings: &S) -> Result<KnownPaddings, AllocError>
         ensures { IfOk result (λ known. Knows (S.grid settings.now) (S.set_for settings.now) known) }
     {
         let common = settings.common_paddings();
@@ -57,7 +58,7 @@ impl KnownPaddings {
     /// The paddings of the cell at a position.
     // Each walk asks it for each of its cells.
     #[inline(always)]
-    pub fn at<S: Settings>(
+    pub fn at<S: ConfigView>(
         &mut self,
         settings: &S,
         position: Position,
@@ -75,7 +76,7 @@ impl KnownPaddings {
     /// Keeps the paddings that are set for the cell, else for its column, its row or the whole table.
     // Out of line, so that the code for cells that are alike stays small.
     #[inline(never)]
-    fn decide<S: Settings>(&mut self, settings: &S, position: Position) -> Result<(), AllocError>
+    fn decide<S: ConfigView>(&mut self, settings: &S, position: Position) -> Result<(), AllocError>
         requires apart { self.old.are_common ≡ false }
         requires knows { Knows (S.grid settings.now) (S.set_for settings.now) self.old }
         ensures value { OnOk result (self.new.last ≡ paddings_at (S.grid settings.now) position) }
@@ -99,7 +100,7 @@ impl KnownPaddings {
     }
 
     /// What is set for a cell. Most cells have nothing, and are not looked up.
-    fn of_cell<S: Settings>(&self, settings: &S, position: Position) -> Option<Paddings>
+    fn of_cell<S: ConfigView>(&self, settings: &S, position: Position) -> Option<Paddings>
         requires apart { self.now.are_common ≡ false }
         requires knows { Knows (S.grid settings.now) (S.set_for settings.now) self.now }
         ensures { result ≡ S.set_for settings.now (Cell position.row position.col) }
@@ -111,7 +112,7 @@ impl KnownPaddings {
     }
 
     /// What is set for a column. It is kept where all columns before are.
-    fn in_column<S: Settings>(
+    fn in_column<S: ConfigView>(
         &mut self,
         settings: &S,
         col: usize,
@@ -132,7 +133,7 @@ impl KnownPaddings {
 }
 
 /// The filter that cells with paddings of their own pass.
-fn filter_of<S: Settings>(alloc: Global, settings: &S) -> Result<PositionFilter, AllocError>
+fn filter_of<S: ConfigView>(alloc: Global, settings: &S) -> Result<PositionFilter, AllocError>
     ensures { IfOk result (λ filter. TellsOwn (S.set_for settings.now) filter) }
 {
     let padded = settings.padded_cells(alloc)?;
@@ -140,7 +141,7 @@ fn filter_of<S: Settings>(alloc: Global, settings: &S) -> Result<PositionFilter,
 }
 
 /// What is set for a row, or else for the whole table.
-fn set_in_row<S: Settings>(settings: &S, row: usize) -> Paddings
+fn set_in_row<S: ConfigView>(settings: &S, row: usize) -> Paddings
     ensures { result ≡ set_in_row (S.set_for settings.now) row }
 {
     if let Some(paddings) = settings.paddings_for(Entity::Row(row)) {

@@ -1,28 +1,25 @@
 //! The one walk over records, by a configuration: what each visible cell asks for along a direction, or
 //! along both.
 //!
-//! A `Measure` is a way to measure cells, and `Settings` are what is read of a configuration: spans,
-//! paddings and lines. `gather` walks records for one direction and `gather_both` for both at once.
-//! Rows are told one by one, and none is kept.
+//! A `Measure` is a way to measure cells. A walk reads the spans and the paddings of any `ConfigView`.
+//! `gather` walks records for one direction and `gather_both` for both at once. Rows are told one by one,
+//! and none is kept.
 //!
 //! Which cells are hidden by spans is told by a `Sweep` as the walk goes, by row and then by column: in
 //! time of the logarithm of the columns for each cell and for each anchor, whatever the spans are.
 #![tactic(auto)]
 
 pub mod known;
-pub mod laws;
 mod levels;
 pub mod measure;
 pub mod needs;
 pub mod position_filter;
-pub mod settings;
 pub mod shown;
 pub mod sweep;
 pub mod visitor;
 
 pub use measure::Measure;
 pub use needs::{KeptBoth, gather, gather_both};
-pub use settings::{Paddings, Settings};
 pub use sweep::Sweep;
 pub use visitor::{Visitor, walk};
 

@@ -6,8 +6,9 @@ ghost use Rattle.papergrid_axis.specs.ForProofs.Kept.{Adds, IsKept};
 ghost use Rattle.papergrid_walk.specs.Cells.{demands_by, count_along, demands_of};
 ghost use Rattle.papergrid_walk.specs.ForProofs.Limits.{limit_along};
 ghost use Rattle.papergrid_axis.specs.Ranges.{demand_of};
-ghost use Rattle.papergrid_walk.specs.Grids.{Grid};
-ghost use Rattle.papergrid_walk.specs.ForProofs.Paddings.{Knows, paddings_at};
+ghost use Rattle.papergrid_maps.specs.Grids.{Grid};
+ghost use Rattle.papergrid_walk.specs.ForProofs.Paddings.{Knows};
+ghost use Rattle.papergrid_maps.specs.Paddings.{paddings_at};
 ghost use Rattle.papergrid_walk.specs.ForProofs.Pairs.{AddsBoth, AreBothKept, StandsAt};
 ghost use Rattle.papergrid_walk.specs.ForProofs.Shown.{Shows, anchor_in};
 ghost use Rattle.papergrid_walk.specs.ForProofs.Visits.{adds_more, adds_none, shows_turn};
@@ -16,12 +17,11 @@ ghost use Rattle.std.proofs.Common.{◌∙◌, ap, refl};
 use crate::Sweep;
 use crate::known::KnownPaddings;
 use crate::measure::Measure;
-use crate::settings::{Paddings, Settings};
 use crate::shown::{sweep_of, visible_anchor};
 use crate::visitor::{Visitor, walk};
 use papergrid_axis::Kept;
 use papergrid_axis::kept::keep;
-use papergrid_maps::Anchor;
+use papergrid_maps::{Anchor, ConfigView, Paddings};
 use papergrid_text::{IntoRecords, Records};
 use papergrid_values::{Direction, Position};
 use std::alloc::{AllocError, Global};
@@ -75,7 +75,7 @@ pub struct View<'a, S> {
     known: KnownPaddings,
 }
 
-impl<'a, S: Settings> View<'a, S> {
+impl<'a, S: ConfigView> View<'a, S> {
     /// Before the first cell.
     fn new(alloc: Global, settings: &'a S) -> Result<View<'a, S>, AllocError>
         ensures { IfOk result (λ view. (view.settings.now ≡ settings.now)
@@ -120,7 +120,7 @@ pub struct Needs<'a, M, S> {
     measure: PhantomData<M>,
 }
 
-impl<'a, M: Measure<C>, C, S: Settings> Visitor<C> for Needs<'a, M, S> {
+impl<'a, M: Measure<C>, C, S: ConfigView> Visitor<C> for Needs<'a, M, S> {
     ghost stands = { λ v row column. StandsAt (S.grid v.view.settings.now) (S.set_for v.view.settings.now) v.view.sweep v.view.known row column };
 
     ghost visits = { λ v w cells. (w.view.settings ≡ v.view.settings) × (w.direction ≡ v.direction)
@@ -169,7 +169,7 @@ pub struct KeptBoth {
     pub rows: Kept,
 }
 
-impl<'a, M, S: Settings> BothNeeds<'a, M, S> {
+impl<'a, M, S: ConfigView> BothNeeds<'a, M, S> {
     /// Keeps what a cell asks for, where it is visible. It is measured once.
     #[inline(always)]
     fn keep_cell<C>(&mut self, position: Position, cell: &C) -> Result<(), AllocError>
@@ -218,7 +218,7 @@ impl<'a, M, S: Settings> BothNeeds<'a, M, S> {
     }
 }
 
-impl<'a, M: Measure<C>, C, S: Settings> Visitor<C> for BothNeeds<'a, M, S> {
+impl<'a, M: Measure<C>, C, S: ConfigView> Visitor<C> for BothNeeds<'a, M, S> {
     ghost stands = { λ v row column. StandsAt (S.grid v.view.settings.now) (S.set_for v.view.settings.now) v.view.sweep v.view.known row column };
 
     ghost visits = { λ v w cells. (w.view.settings ≡ v.view.settings) × AddsBoth (S.grid v.view.settings.now) M.measured v.both w.both cells };
@@ -251,7 +251,7 @@ impl<'a, M: Measure<C>, C, S: Settings> Visitor<C> for BothNeeds<'a, M, S> {
 }
 
 /// What the visible cells of the records ask for along one direction, and the number of rows.
-pub fn gather<M, R: Records + Drop, S: Settings>(
+pub fn gather<M, R: Records + Drop, S: ConfigView>(
     alloc: Global,
     records: R,
     settings: &S,
@@ -277,7 +277,7 @@ where
 }
 
 /// What the visible cells of the records ask for along both directions, and the number of rows.
-pub fn gather_both<M, R: Records + Drop, S: Settings>(
+pub fn gather_both<M, R: Records + Drop, S: ConfigView>(
     alloc: Global,
     records: R,
     settings: &S,

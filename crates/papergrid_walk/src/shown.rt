@@ -3,18 +3,17 @@
 ghost use Rattle.std.specs.Prelude.{◌≡◌, ◌+◌, ◌-◌, ◌<◌, ◌^◌, IfOk, None, Some, if◌then◌else◌};
 ghost use Rattle.papergrid_values.specs.declared.position.Position.{Position};
 ghost use Rattle.papergrid_walk.specs.ForProofs.Swept.{IsAhead};
-ghost use Rattle.papergrid_walk.specs.Grids.{Grid};
+ghost use Rattle.papergrid_maps.specs.Grids.{Grid};
 ghost use Rattle.papergrid_walk.specs.ForProofs.Shown.{Shows, anchor_in};
 
 use crate::Sweep;
-use crate::settings::Settings;
-use papergrid_maps::Anchor;
+use papergrid_maps::{Anchor, ConfigView};
 use papergrid_values::Position;
 use std::alloc::{AllocError, Global};
 
 /// A walk at its start, by the spans of the settings. It is made for no column: `visible_anchor` makes
 /// room for those that it meets.
-pub fn sweep_of<S: Settings>(alloc: Global, settings: &S) -> Result<Sweep, AllocError>
+pub fn sweep_of<S: ConfigView>(alloc: Global, settings: &S) -> Result<Sweep, AllocError>
     ensures { IfOk result (λ walk. Shows (S.grid settings.now) walk 0 0) }
 {
     let anchors = settings.anchors(alloc)?;

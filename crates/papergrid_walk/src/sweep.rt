@@ -6,7 +6,7 @@ ghost use Rattle.papergrid_maps.specs.Anchors.{IsSorted};
 ghost use Rattle.papergrid_maps.specs.declared.anchors.Anchor.{Anchor};
 ghost use Rattle.papergrid_walk.specs.ForProofs.Levels.{Fits, end_at};
 ghost use Rattle.papergrid_values.specs.Positions.{IsBefore};
-ghost use Rattle.papergrid_walk.specs.Hidden.{IsHidden};
+ghost use Rattle.papergrid_maps.specs.Hidden.{IsHidden};
 ghost use Rattle.papergrid_walk.specs.ForProofs.Swept.{AllBefore, HasReached, Holds, IsAhead, IsAnchorAt, IsSwept, end_with, least};
 
 use crate::levels::Levels;

@@ -5,8 +5,8 @@ ghost use Rattle.papergrid_values.specs.declared.position.Position.{Position};
 ghost use Rattle.papergrid_maps.specs.Anchors.{IsSorted};
 ghost use Rattle.papergrid_walk.specs.ForProofs.Swept.{IsAhead};
 
-use crate::laws::visible_where_not_hidden;
 use crate::sweep::Sweep;
+use papergrid_maps::laws::visible_where_not_hidden;
 use papergrid_maps::{Anchor, SpanTable};
 use papergrid_values::Position;
 use std::alloc::{AllocError, Global};

@@ -11,7 +11,7 @@ use Rattle.papergrid_axis.specs.declared.error.LayoutError.{LayoutError}
 use Rattle.papergrid_axis.specs.declared.error.LayoutError.TheVariants as layout_errors
 use Rattle.papergrid_axis.specs.Answers.{IsWitness}
 use Rattle.papergrid_axis.specs.Problem.{Problem}
-use Rattle.papergrid_walk.specs.Grids.{Grid}
+use Rattle.papergrid_maps.specs.Grids.{Grid}
 use Rattle.papergrid_layout.specs.Witnesses.{IsCertifiedWhere, IsLongest}
 use Rattle.papergrid_layout.specs.declared.certificates.Certified.{Certified}
 use Rattle.papergrid.specs.Estimates.{Estimate, OutOfTable, TooLarge, Sized}

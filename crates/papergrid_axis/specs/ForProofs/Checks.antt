@@ -5,7 +5,7 @@ use Rattle.papergrid_axis.specs.declared.checked.Checked.{Checked}
 use Rattle.papergrid_axis.specs.declared.candidate.Candidate.{Candidate}
 use Rattle.papergrid_axis.specs.declared.demand.Demand.{Demand}
 use Rattle.papergrid_values.specs.declared.direction.Direction.{Direction}
-use Rattle.papergrid_values.specs.Positions.{AreRising, along, count_of}
+use Rattle.papergrid_values.specs.Positions.{AreRising, StayWithin, along, count_of}
 use Rattle.papergrid_axis.specs.Ranges.{AreDisjoint, demand_of, end_of, inner_lines, place_of}
 use Rattle.papergrid_axis.specs.Fits.{HasRoom}
 
@@ -28,11 +28,6 @@ AreDisjointAt direction span_of p q = AreDisjoint (demand_of direction p (span_o
 -- one place's number is below another's, and its range ends there or before
 abbrev pub AreInOrder : Direction → (Position → ℕ) → Position → Position → Type 0
 AreInOrder direction span_of p q = AreRising direction p q × (along direction p + span_of p ≤ along direction q)
-
--- each range that begins below the number has a number itself, and ends there or before
-abbrev pub StayWithin : Direction → (Position → ℕ) → ℕ → Type 0
-StayWithin direction span_of count =
-    (p : Position) → along direction p < count → (1 ≤ span_of p) × (along direction p + span_of p ≤ count)
 
 -- what a candidate says of its ranges is so
 pub record IsCandidate (span_of : Position → ℕ) (candidate : Candidate) : Type 0 where

@@ -8,7 +8,7 @@ use Rattle.papergrid_axis.specs.declared.candidate.Candidate.{Candidate}
 use Rattle.papergrid_axis.specs.declared.demand.Demand.{Demand}
 use Rattle.papergrid_axis.specs.ForProofs.Checks.{Checks}
 use Rattle.papergrid_walk.specs.Cells.{demands_by}
-use Rattle.papergrid_walk.specs.Grids.{Grid}
+use Rattle.papergrid_maps.specs.Grids.{Grid}
 use Rattle.papergrid_walk.specs.ForProofs.Visits.{demands_by-append}
 
 -- the cells at these places are visible

@@ -1,7 +1,8 @@
 //! Tables of borders, of offsets and of spans, that hold two of each.
 
 use super::{at, changes, clones, reads};
-use papergrid_maps::{BorderTable, OffsetTable, SpanTable};
+use papergrid_maps::SpanTable;
+use papergrid_tables::{BorderTable, OffsetTable};
 use papergrid_values::{Border, HorizontalLine, Offset, VerticalLine};
 use std::alloc::{AllocError, Global};
 use std::process::Abort;

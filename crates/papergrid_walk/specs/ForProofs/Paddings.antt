@@ -1,60 +1,18 @@
--- The paddings of a cell on its four sides.
-use Rattle.std.specs.Prelude.{◌≡◌, ℕ, IfSome, List, Option, None, Some, false, is_some, slice_get, true, unwrap_or}
-use Rattle.std.specs.Set.{is_member}
-use Rattle.papergrid_keys.specs.Keys.{position_eq}
-use Rattle.papergrid_values.specs.declared.direction.Direction.TheVariants.{Columns, Rows}
+-- What a walk knows of the paddings of cells.
+use Rattle.std.specs.Prelude.{◌≡◌, ℕ, IfSome, Option, None, false, slice_get, true}
 use Rattle.papergrid_values.specs.declared.entity.Entity.{Entity}
-use Rattle.papergrid_values.specs.declared.entity.Entity.TheVariants.{Cell, Column, Global, Row}
-use Rattle.papergrid_values.specs.declared.indent.Indent.{Indent}
+use Rattle.papergrid_values.specs.declared.entity.Entity.TheVariants.{Cell, Column}
 use Rattle.papergrid_values.specs.declared.position.Position.{Position}
-use Rattle.papergrid_values.specs.declared.sides.Sides.{Sides}
-use Rattle.papergrid_walk.specs.Grids.{Grid}
+use Rattle.papergrid_maps.specs.Grids.{Grid}
+use Rattle.papergrid_maps.specs.Paddings.{paddings_at, set_in_row}
+use Rattle.papergrid_maps.specs.declared.view.Paddings.{Paddings}
 use Rattle.papergrid_walk.specs.ForProofs.Filters.{passes}
 use Rattle.papergrid_walk.specs.declared.known.KnownPaddings.{KnownPaddings}
 use Rattle.papergrid_walk.specs.declared.position_filter.PositionFilter.{PositionFilter}
-use Rattle.papergrid_walk.specs.declared.settings.Paddings.{Paddings}
-
--- the paddings on all sides of a cell
-abbrev pub paddings_at : Grid → Position → Paddings
-paddings_at grid p =
-    record { left = grid.before Columns p; right = grid.after Columns p; top = grid.before Rows p; bottom = grid.after Rows p }
-
--- the sizes of the four sides
-abbrev pub sizes : Sides Indent → Paddings
-sizes padding =
-    record { left = padding.left.size; right = padding.right.size; top = padding.top.size; bottom = padding.bottom.size }
-
--- where some are given, all cells have them
-abbrev pub AreCommon : Grid → Option Paddings → Type 0
-AreCommon grid common = IfSome common (λ paddings. (p : Position) → paddings_at grid p ≡ paddings)
-
--- no room on any side
-abbrev pub no_paddings : Paddings
-no_paddings = record { left = 0; right = 0; top = 0; bottom = 0 }
-
--- what is set for the table alone
-abbrev pub for_all_cells : Paddings → Entity → Option Paddings
-for_all_cells paddings Global = Some paddings
-for_all_cells paddings (Column _) = None
-for_all_cells paddings (Row _) = None
-for_all_cells paddings (Cell _ _) = None
-
--- these are the cells for which something is set, in any order
-abbrev pub ArePadded : (Entity → Option Paddings) → List Position → Type 0
-ArePadded set cells = (p : Position) → is_member position_eq cells p ≡ is_some (set (Cell p.row p.col))
 
 -- nothing is set for a cell that does not pass the filter
 abbrev pub TellsOwn : (Entity → Option Paddings) → PositionFilter → Type 0
 TellsOwn set filter = (p : Position) → passes filter p ≡ false → set (Cell p.row p.col) ≡ None
-
--- what is set for a row, or else for the whole table
-abbrev pub set_in_row : (Entity → Option Paddings) → ℕ → Paddings
-set_in_row set r = unwrap_or (set (Row r)) (unwrap_or (set Global) no_paddings)
-
--- the paddings of a cell are its own, else its column's, its row's or the table's
-abbrev pub AreDecided : Grid → (Entity → Option Paddings) → Type 0
-AreDecided grid set = (p : Position) →
-    paddings_at grid p ≡ unwrap_or (set (Cell p.row p.col)) (unwrap_or (set (Column p.col)) (set_in_row set p.row))
 
 -- what is known of the paddings of all cells, else of which cells have none of their own, and of the first columns and of one row
 pub record Knows (grid : Grid) (set : Entity → Option Paddings) (known : KnownPaddings) : Type 0 where

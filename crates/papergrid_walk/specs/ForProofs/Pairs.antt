@@ -6,12 +6,12 @@ use Rattle.papergrid_values.specs.declared.position.Position.{Position}
 use Rattle.papergrid_axis.specs.ForProofs.Kept.{Adds, IsKept}
 use Rattle.papergrid_walk.specs.declared.known.KnownPaddings.{KnownPaddings}
 use Rattle.papergrid_walk.specs.declared.needs.KeptBoth.{KeptBoth}
-use Rattle.papergrid_walk.specs.declared.settings.Paddings.{Paddings}
+use Rattle.papergrid_maps.specs.declared.view.Paddings.{Paddings}
 use Rattle.papergrid_walk.specs.declared.sweep.Sweep.{Sweep}
 use Rattle.papergrid_walk.specs.Cells.{demands_by, demands_of}
 use Rattle.papergrid_walk.specs.ForProofs.Paddings.{Knows}
 use Rattle.papergrid_walk.specs.ForProofs.Shown.{Shows}
-use Rattle.papergrid_walk.specs.Grids.{Grid}
+use Rattle.papergrid_maps.specs.Grids.{Grid}
 
 -- what the visible cells ask for was kept, along columns and along rows
 pub record AreBothKept {C : Type 0} (grid : Grid) (measure : C → ℕ × ℕ) (columns : ℕ) (cells : List (List C)) (both : KeptBoth) : Type 0 where

@@ -9,7 +9,7 @@ use Rattle.papergrid_axis.specs.ForProofs.Kept.{Adds, Holds}
 use Rattle.papergrid_walk.specs.Cells.{demand_by, demands_by, visible_of}
 use Rattle.papergrid_walk.specs.ForProofs.Shown.{Shows}
 use Rattle.papergrid_walk.specs.ForProofs.Swept.{Walk}
-use Rattle.papergrid_walk.specs.Grids.{Grid}
+use Rattle.papergrid_maps.specs.Grids.{Grid}
 
 -- after a row comes the next one
 pub shows_turn : (grid : Grid) (walk : Walk) (r c : ℕ) → Shows grid walk r c → Shows grid walk (r + 1) 0

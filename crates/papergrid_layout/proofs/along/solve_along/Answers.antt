@@ -7,7 +7,7 @@ use Rattle.papergrid_layout.proofs.along.solve_along.Goals as goal
 
 pub returns : goal.returns
 returns g c =
-    let grid = g.S.Settings.grid c.args.settings.now in
+    let grid = g.S.ConfigView.grid c.args.settings.now in
     let measured = g.M.Measure.measured in
     let found = c.in_ok-kept.ensures in
     let demands = demands_of c.args.direction grid measured found.0 in

@@ -9,11 +9,11 @@ use Rattle.papergrid_layout.proofs.both.conclude.Goals as goal
 
 pub returns-in-Some : goal.returns-in-Some
 returns-in-Some g c = λ cells many kept.
-    sym (out_of_both (g.S.Settings.grid c.args.settings.now) g.M.Measure.measured c.args.columns cells c.args.both.now kept c.args.rows many) ∙ sym c.find_out_of_both.ensures ∙ c.in-Some.is
+    sym (out_of_both (g.S.ConfigView.grid c.args.settings.now) g.M.Measure.measured c.args.columns cells c.args.both.now kept c.args.rows many) ∙ sym c.find_out_of_both.ensures ∙ c.in-Some.is
 
 pub returns-in_err-widths : goal.returns-in_err-widths
 returns-in_err-widths g c = λ cells many kept.
-    let grid = g.S.Settings.grid c.args.settings.now in
+    let grid = g.S.ConfigView.grid c.args.settings.now in
     let measured = g.M.Measure.measured in
     let none = none_out grid measured c.args.columns cells c.args.both.now kept c.args.rows many (sym c.find_out_of_both.ensures ∙ c.in_default.is) in
     let p = err_from_is_err_and c.from_residual.result c.from_residual.ensures.1 in
@@ -22,7 +22,7 @@ returns-in_err-widths g c = λ cells many kept.
 
 pub returns-in_err-heights : goal.returns-in_err-heights
 returns-in_err-heights g c = λ cells many kept.
-    let grid = g.S.Settings.grid c.args.settings.now in
+    let grid = g.S.ConfigView.grid c.args.settings.now in
     let measured = g.M.Measure.measured in
     let none = none_out grid measured c.args.columns cells c.args.both.now kept c.args.rows many (sym c.find_out_of_both.ensures ∙ c.in_default.is) in
     let p = err_from_is_err_and c.from_residual-in_err-heights.result c.from_residual-in_err-heights.ensures.1 in
@@ -32,7 +32,7 @@ returns-in_err-heights g c = λ cells many kept.
 
 pub returns : goal.returns
 returns g c = λ cells many kept.
-    let grid = g.S.Settings.grid c.args.settings.now in
+    let grid = g.S.ConfigView.grid c.args.settings.now in
     let measured = g.M.Measure.measured in
     let high = c.in_ok-heights.ensures (demands_of Rows grid measured cells) (seen_high grid measured c.args.columns cells c.args.both.now kept c.args.rows many) in
     record {

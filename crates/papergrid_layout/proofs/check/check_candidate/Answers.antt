@@ -9,7 +9,7 @@ use Rattle.papergrid_layout.proofs.check.check_candidate.Goals as goal
 pub returns : goal.returns
 returns g c =
     let candidate = c.args.candidate.now in
-    let grid = g.S.Settings.grid c.args.settings.now in
+    let grid = g.S.ConfigView.grid c.args.settings.now in
     let measured = g.M.Measure.measured in
     let found = c.check_rows-rows.ensures.checks in
     let demands = demands_of candidate.direction grid measured found.0 in

@@ -1,6 +1,6 @@
 use Rattle.std.proofs.Common.{refl}
 use Rattle.papergrid_walk.specs.Cells.{problem_of}
-use Rattle.papergrid_walk.specs.Grids.{spanned_grid}
+use Rattle.papergrid_config.specs.Grids.{spanned_grid}
 use Rattle.papergrid_walk.specs.Measures.{line_measure}
 use Rattle.papergrid_layout.proofs.TotalLemmas.{is_total, total_fits}
 use Rattle.papergrid_layout.proofs.iterable.total_along.Goals as goal

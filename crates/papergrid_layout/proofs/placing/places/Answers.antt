@@ -1,7 +1,7 @@
 use Rattle.std.proofs.Common.{◌∙◌, refl, sym}
 use Rattle.std.proofs.lemmas.Bool.{false≢true}
 use Rattle.std.proofs.lemmas.Result.{err_from_is_err_and}
-use Rattle.papergrid_walk.specs.Grids.{spanned_grid}
+use Rattle.papergrid_config.specs.Grids.{spanned_grid}
 use Rattle.papergrid_layout.specs.ForProofs.Placing.{table_of}
 use Rattle.papergrid_layout.proofs.PlacingLemmas.{first-shown}
 use Rattle.papergrid_layout.proofs.placing.places.Goals as goal

@@ -1,6 +1,6 @@
 use Rattle.std.proofs.Common.{sym}
 use Rattle.papergrid_values.specs.declared.direction.Direction.TheVariants.{Columns, Rows}
-use Rattle.papergrid_walk.specs.Grids.{spanned_grid}
+use Rattle.papergrid_config.specs.Grids.{spanned_grid}
 use Rattle.papergrid_layout.proofs.PointLemmas.{none-beside, none-beyond, none-but-visible, one-tested, over-within}
 use Rattle.papergrid_layout.proofs.point.cell_at.Goals as goal
 

@@ -1,7 +1,7 @@
 use Rattle.std.proofs.lemmas.Result.{err_from_is_err_and}
 use Rattle.papergrid_axis.specs.Answers.{IsWitness, NoneHolds}
 use Rattle.papergrid_values.specs.declared.direction.Direction.TheVariants.{Columns}
-use Rattle.papergrid_walk.specs.Grids.{spanned_grid}
+use Rattle.papergrid_config.specs.Grids.{spanned_grid}
 use Rattle.papergrid_uses.specs.Rows.{cells_of, text_measure}
 use Rattle.papergrid_uses.proofs.CertificateLemmas.{certified_told, none_told}
 use Rattle.papergrid_uses.proofs.RowLemmas.{one_refused}

@@ -4,7 +4,7 @@ use Rattle.std.specs.Prelude.{string_bytes}
 use Rattle.papergrid_axis.specs.Answers.{NoneHolds}
 use Rattle.papergrid_axis.specs.Sizes.{sizes_of}
 use Rattle.papergrid_values.specs.declared.direction.Direction.TheVariants.{Columns}
-use Rattle.papergrid_walk.specs.Grids.{compact_grid}
+use Rattle.papergrid_maps.specs.Grids.{compact_grid}
 use Rattle.papergrid_walk.specs.Measures.{std_line_measure}
 use Rattle.papergrid_uses.specs.Rows.{cells_of}
 use Rattle.papergrid_uses.proofs.RowLemmas.{one_refused, one_told}

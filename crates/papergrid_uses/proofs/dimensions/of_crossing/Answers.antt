@@ -1,5 +1,5 @@
 use Rattle.papergrid_least.specs.Answers.{AreLeastSizes, NoneFits}
-use Rattle.papergrid_walk.specs.Grids.{spanned_grid}
+use Rattle.papergrid_config.specs.Grids.{spanned_grid}
 use Rattle.papergrid_uses.specs.Rows.{cells_of, text_measure}
 use Rattle.papergrid_uses.proofs.RowLemmas.{refused_on, sizes_told}
 use Rattle.papergrid_uses.proofs.dimensions.of_crossing.Goals as goal

@@ -1,6 +1,6 @@
 use Rattle.papergrid_axis.specs.Answers.{AreSizes, NoneHolds}
 use Rattle.papergrid_text.specs.HeldRows.{column_count, rows_held}
-use Rattle.papergrid_walk.specs.Grids.{spanned_grid}
+use Rattle.papergrid_config.specs.Grids.{spanned_grid}
 use Rattle.papergrid_uses.specs.Rows.{cells_of, kept_measure}
 use Rattle.papergrid_uses.proofs.RowLemmas.{refused_on, sizes_told}
 use Rattle.papergrid_uses.proofs.dimensions.of_measured.Goals as goal

@@ -1,5 +1,5 @@
 use Rattle.papergrid_axis.specs.Answers.{AreSizes}
-use Rattle.papergrid_walk.specs.Grids.{spanned_grid}
+use Rattle.papergrid_config.specs.Grids.{spanned_grid}
 use Rattle.papergrid_uses.specs.Rows.{cells_of, text_measure}
 use Rattle.papergrid_uses.proofs.RowLemmas.{both_told}
 use Rattle.papergrid_uses.proofs.errors.place_in.Goals as goal

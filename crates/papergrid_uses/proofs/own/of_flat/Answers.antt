@@ -2,7 +2,7 @@ use Rattle.std.proofs.lemmas.Result.{err_from_is_err_and}
 use Rattle.std.specs.Prelude.{string_bytes}
 use Rattle.papergrid_axis.specs.Answers.{AreSizes, NoneHolds}
 use Rattle.papergrid_text.specs.Cut.{cut_rows}
-use Rattle.papergrid_walk.specs.Grids.{spanned_grid}
+use Rattle.papergrid_config.specs.Grids.{spanned_grid}
 use Rattle.papergrid_walk.specs.Measures.{line_measure}
 use Rattle.papergrid_uses.proofs.RowLemmas.{both_refused, both_told}
 use Rattle.papergrid_uses.proofs.own.of_flat.Goals as goal

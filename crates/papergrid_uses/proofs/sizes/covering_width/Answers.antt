@@ -2,7 +2,7 @@ use Rattle.std.specs.Prelude.{Err, Ok}
 use Rattle.papergrid_axis.specs.Answers.{Answers, IsTotal}
 use Rattle.papergrid_values.specs.declared.direction.Direction.TheVariants.{Columns}
 use Rattle.papergrid_walk.specs.Cells.{problem_of}
-use Rattle.papergrid_walk.specs.Grids.{spanned_grid}
+use Rattle.papergrid_config.specs.Grids.{spanned_grid}
 use Rattle.papergrid_walk.specs.Measures.{line_measure}
 use Rattle.papergrid_uses.proofs.AnswerLemmas.{answer_covers, fitting_total, said_of_cells}
 use Rattle.papergrid_uses.proofs.sizes.covering_width.Goals as goal

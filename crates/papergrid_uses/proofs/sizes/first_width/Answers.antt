@@ -1,7 +1,7 @@
 use Rattle.std.proofs.Common.{◌∙◌, ap, slice_index}
 use Rattle.std.proofs.lemmas.Result.{err_from_is_err_and}
 use Rattle.papergrid_axis.specs.Answers.{AreSizes, NoneHolds}
-use Rattle.papergrid_walk.specs.Grids.{spanned_grid}
+use Rattle.papergrid_config.specs.Grids.{spanned_grid}
 use Rattle.papergrid_uses.specs.Rows.{cells_of, text_measure}
 use Rattle.papergrid_uses.proofs.RowLemmas.{both_refused, both_told}
 use Rattle.papergrid_uses.proofs.sizes.first_width.Goals as goal

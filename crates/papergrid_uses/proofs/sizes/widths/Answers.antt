@@ -1,6 +1,6 @@
 use Rattle.papergrid_axis.specs.Answers.{AreSizes, NoneHolds}
 use Rattle.papergrid_values.specs.declared.direction.Direction.TheVariants.{Columns}
-use Rattle.papergrid_walk.specs.Grids.{spanned_grid}
+use Rattle.papergrid_config.specs.Grids.{spanned_grid}
 use Rattle.papergrid_uses.specs.Rows.{cells_of, text_measure}
 use Rattle.papergrid_uses.proofs.RowLemmas.{answers_told}
 use Rattle.papergrid_uses.proofs.sizes.widths.Goals as goal

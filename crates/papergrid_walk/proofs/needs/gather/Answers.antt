@@ -7,7 +7,7 @@ use Rattle.papergrid_walk.proofs.needs.gather.Goals as goal
 
 pub returns : goal.returns
 returns g c =
-    let grid = g.S.Settings.grid c.args.settings.now in
+    let grid = g.S.ConfigView.grid c.args.settings.now in
     let columns = g.R.Records.columns c.args.records in
     let found = c.in_ok-rows.ensures.visits in
     let first = subst (λ n. Holds n c.new-2.result []) (c.limit_of-limit.ensures ∙ ap (limit_along c.args.direction) c.count_columns.ensures) c.new-2.ensures in (
@@ -16,6 +16,6 @@ returns g c =
       IsKept-demands c.args.direction grid g.M.Measure.measured columns found.0 c.walk.new.visitor.kept
           (count-le c.args.direction columns (length found.0) (omega (arith, found.3)))
           (subst (λ l. Holds (limit_along c.args.direction columns) c.walk.new.visitor.kept (demands_of c.args.direction l g.M.Measure.measured found.0))
-          (ap g.S.Settings.grid c.in_ok-new.ensures.0) (found.2.2 (limit_along c.args.direction columns) [] first)),
+          (ap g.S.ConfigView.grid c.in_ok-new.ensures.0) (found.2.2 (limit_along c.args.direction columns) [] first)),
       found.3,
     )

@@ -8,10 +8,10 @@ use Rattle.papergrid_walk.proofs.needs.gather_both.Goals as goal
 
 pub returns : goal.returns
 returns g c =
-    let grid = g.S.Settings.grid c.args.settings.now in
+    let grid = g.S.ConfigView.grid c.args.settings.now in
     let columns = g.R.Records.columns c.args.records in
     let found = c.in_ok-rows.ensures.visits in
-    let same = ap g.S.Settings.grid c.in_ok-new.ensures.0 in
+    let same = ap g.S.ConfigView.grid c.in_ok-new.ensures.0 in
     let few = count-le Rows columns (length found.0) (omega (arith, found.3)) in
     let wide = subst (λ n. Holds n c.new-2.result []) (c.limit_of.ensures ∙ c.count_columns-columns.ensures) c.new-2.ensures in
     let high = subst (λ n. Holds n c.new-3.result []) c.limit_of-2.ensures c.new-3.ensures in (

@@ -1,7 +1,6 @@
 use Rattle.std.proofs.Common.{◌∙◌, ap, arith, subst, sym, Some}
 use Rattle.std.proofs.lemmas.Bool.{false≢true}
-use Rattle.papergrid_walk.specs.Hidden.{IsHidden}
-use Rattle.papergrid_walk.specs.ForProofs.Shown.{AreAnchorsOf}
+use Rattle.papergrid_maps.specs.Hidden.{IsHidden, AreAnchorsOf}
 use Rattle.papergrid_walk.proofs.ShownLemmas.{anchor_found}
 use Rattle.papergrid_walk.proofs.shown.visible_anchor.Goals as goal
 

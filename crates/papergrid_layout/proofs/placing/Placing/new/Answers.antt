@@ -1,5 +1,5 @@
 use Rattle.papergrid_values.specs.declared.direction.Direction.TheVariants.{Columns, Rows}
-use Rattle.papergrid_walk.specs.Grids.{spanned_grid}
+use Rattle.papergrid_config.specs.Grids.{spanned_grid}
 use Rattle.papergrid_layout.specs.ForProofs.Placing.{table_of}
 use Rattle.papergrid_layout.proofs.PlacingLemmas.{placed-none}
 use Rattle.papergrid_layout.proofs.placing.Placing.new.Goals as goal

@@ -1,6 +1,6 @@
 use Rattle.std.proofs.Common.{◌<◌}
 use Rattle.papergrid_values.specs.declared.position.Position.{Position}
-use Rattle.papergrid_walk.specs.Grids.{spanned_grid}
+use Rattle.papergrid_config.specs.Grids.{spanned_grid}
 use Rattle.papergrid_layout.specs.Places.{StandsOver}
 use Rattle.papergrid_layout.proofs.point.Point.first.Given as goal
 

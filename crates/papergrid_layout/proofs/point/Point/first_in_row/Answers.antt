@@ -1,7 +1,7 @@
 use Rattle.std.proofs.Common.{◌∙◌, ◌≤◌, arith, inl, inr, subst, sym}
 use Rattle.std.proofs.lemmas.Bool.{cases_lt, false≢true}
-use Rattle.papergrid_walk.proofs.HiddenLemmas.{position-same}
-use Rattle.papergrid_walk.specs.Grids.{spanned_grid}
+use Rattle.papergrid_maps.proofs.HiddenLemmas.{position-same}
+use Rattle.papergrid_config.specs.Grids.{spanned_grid}
 use Rattle.papergrid_layout.specs.Places.{StandsOver}
 use Rattle.papergrid_layout.proofs.point.Point.first_in_row.Goals as goal
 

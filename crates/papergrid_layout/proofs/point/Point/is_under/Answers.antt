@@ -1,5 +1,5 @@
 use Rattle.std.proofs.lemmas.Bool.{false≢true}
-use Rattle.papergrid_walk.specs.Grids.{spanned_grid}
+use Rattle.papergrid_config.specs.Grids.{spanned_grid}
 use Rattle.papergrid_layout.proofs.PointLemmas.{refused-none}
 use Rattle.papergrid_layout.proofs.point.Point.is_under.Goals as goal
 

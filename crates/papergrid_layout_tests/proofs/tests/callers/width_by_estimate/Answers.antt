@@ -5,7 +5,7 @@ use Rattle.papergrid_text.specs.HeldRows.{column_count}
 use Rattle.papergrid_axis.specs.Answers.{IsTotal}
 use Rattle.papergrid_axis.specs.declared.error.LayoutError.{LayoutError}
 use Rattle.papergrid_walk.specs.Cells.{problem_of}
-use Rattle.papergrid_walk.specs.Grids.{spanned_grid}
+use Rattle.papergrid_config.specs.Grids.{spanned_grid}
 use Rattle.papergrid_walk.specs.Measures.{line_measure}
 use Rattle.papergrid_layout.specs.Places.{IsTotalOf, total}
 use Rattle.papergrid_layout.proofs.PlaceLaws.{totals}

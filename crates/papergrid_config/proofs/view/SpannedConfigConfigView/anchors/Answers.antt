@@ -1,6 +1,6 @@
 use Rattle.std.proofs.lemmas.Result.{IfOk-weaker}
-use Rattle.papergrid_walk.proofs.SpanLemmas.{anchors_of_config}
-use Rattle.papergrid_walk.proofs.settings.SpannedConfigSettings.anchors.Goals as goal
+use Rattle.papergrid_config.proofs.ViewLemmas.{anchors_of_config}
+use Rattle.papergrid_config.proofs.view.SpannedConfigConfigView.anchors.Goals as goal
 
 pub returns-clause-shows : goal.returns-clause-shows
 returns-clause-shows c =

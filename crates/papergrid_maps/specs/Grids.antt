@@ -1,14 +1,10 @@
--- The grid of a configuration: what a walk over its table reads of it.
+-- The grid of a configuration: what is read of it cell by cell and line by line.
 use Rattle.std.specs.Prelude.{ℕ, Bool, true, false}
 use Rattle.papergrid_values.specs.declared.position.Position.{Position}
 use Rattle.papergrid_values.specs.declared.sides.Sides.{Sides}
 use Rattle.papergrid_values.specs.declared.indent.Indent.{Indent}
-use Rattle.papergrid_tables.specs.BorderHeld.{HeldBorders}
-use Rattle.papergrid_tables.specs.LineTests.{horizontal_line_at, vertical_line_at}
-use Rattle.papergrid_maps.specs.MapHeld.{held_value}
-use Rattle.papergrid_maps.specs.Spans.{Spans, column_span, is_visible, row_span}
+use Rattle.papergrid_maps.specs.Spans.{Spans, column_span, row_span}
 use Rattle.papergrid_maps.specs.declared.compact.CompactConfig.{CompactConfig}
-use Rattle.papergrid_config.specs.declared.spanned.SpannedConfig.{SpannedConfig}
 use Rattle.papergrid_values.specs.declared.direction.Direction.{Direction}
 use Rattle.papergrid_values.specs.declared.direction.Direction.TheVariants.{Columns, Rows}
 
@@ -35,21 +31,6 @@ size_after Rows padding = padding.bottom.size
 abbrev pub span_along : Spans → Direction → Position → ℕ
 span_along spans Columns p = column_span spans p
 span_along spans Rows p = row_span spans p
-
--- whether there is a line at i of count, along a direction
-abbrev pub line_along : HeldBorders ℕ → Direction → ℕ → ℕ → Bool
-line_along characters Columns count i = vertical_line_at characters i count
-line_along characters Rows count i = horizontal_line_at characters i count
-
--- by what the configuration holds
-abbrev pub spanned_grid : SpannedConfig → Grid
-spanned_grid config = record {
-  shows = is_visible config.spans;
-  span = span_along config.spans;
-  before = λ direction p. size_before direction (held_value config.padding p);
-  after = λ direction p. size_after direction (held_value config.padding p);
-  draws = line_along config.characters;
-}
 
 -- all cells are visible, of span 1 and with one padding, and there are no lines
 abbrev pub compact_grid : CompactConfig → Grid

@@ -1,5 +1,5 @@
-use Rattle.papergrid_walk.proofs.SpanLemmas.{visible-by-hidden, test-by-hidden}
-use Rattle.papergrid_walk.proofs.laws.visible_where_not_hidden.Goals as goal
+use Rattle.papergrid_maps.proofs.HiddenLemmas.{visible-by-hidden, test-by-hidden}
+use Rattle.papergrid_maps.proofs.laws.visible_where_not_hidden.Goals as goal
 
 pub returns-clause-rectangles : goal.returns-clause-rectangles
 returns-clause-rectangles c = visible-by-hidden

@@ -6,7 +6,7 @@ use Rattle.papergrid_maps.specs.MapHeld.{Held, held_for, held_value}
 use Rattle.papergrid_values.specs.declared.indent.Indent.{Indent}
 use Rattle.papergrid_values.specs.declared.position.Position.{Position}
 use Rattle.papergrid_values.specs.declared.sides.Sides.{Sides}
-use Rattle.papergrid_walk.specs.ForProofs.Paddings.{set_in_row, sizes}
+use Rattle.papergrid_maps.specs.Paddings.{set_in_row, sizes}
 
 -- a function of the first value that is there
 taken_out : {A B : Type 0} (f : A → B) (o : Option A) (d : A) → f (unwrap_or o d) ≡ unwrap_or (option_map f o) (f d)

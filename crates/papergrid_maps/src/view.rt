@@ -1,19 +1,15 @@
-//! What a walk reads of a configuration.
+//! What is read of a configuration, cell by cell and line by line.
 
-ghost use Rattle.std.specs.Prelude.{◌≡◌, ◌≤◌, ◌↔◌, All, AllPairs, IfOk, IsTrue, Option, Some, option_map, refl};
-ghost use Rattle.papergrid_values.specs.Positions.{AreRising};
-ghost use Rattle.papergrid_axis.specs.ForProofs.Checks.{StayWithin};
-ghost use Rattle.papergrid_maps.specs.Anchors.{IsSorted};
-ghost use Rattle.papergrid_maps.specs.MapHeld.{held_for};
+ghost use Rattle.std.specs.Prelude.{◌≡◌, ◌≤◌, ◌↔◌, All, AllPairs, IfOk, IsTrue, Option, refl};
+ghost use Rattle.papergrid_values.specs.Positions.{AreRising, StayWithin};
 ghost use Rattle.papergrid_values.specs.declared.entity.Entity.{Entity};
-ghost use Rattle.papergrid_walk.specs.Grids.{Grid, compact_grid, size_after, size_before, spanned_grid};
-ghost use Rattle.papergrid_walk.specs.ForProofs.Paddings.{AreCommon, AreDecided, ArePadded, for_all_cells, sizes};
-ghost use Rattle.papergrid_walk.specs.ForProofs.PaddingLaws.{held_decides};
-ghost use Rattle.papergrid_walk.specs.declared.settings.Paddings.{Paddings};
-ghost use Rattle.papergrid_walk.specs.ForProofs.Shown.{AreAnchorsOf};
+ghost use Rattle.papergrid_maps.specs.Anchors.{IsSorted};
+ghost use Rattle.papergrid_maps.specs.Grids.{Grid, compact_grid, size_after, size_before};
+ghost use Rattle.papergrid_maps.specs.Hidden.{AreAnchorsOf};
+ghost use Rattle.papergrid_maps.specs.Paddings.{AreCommon, AreDecided, ArePadded, for_all_cells, sizes};
+ghost use Rattle.papergrid_maps.specs.declared.view.Paddings.{Paddings};
 
-use papergrid_config::{CompactConfig, SpannedConfig};
-use papergrid_maps::Anchor;
+use crate::{Anchor, CompactConfig};
 use papergrid_values::{Direction, Entity, Indent, Position, Sides};
 use std::alloc::{AllocError, Global};
 
@@ -26,9 +22,9 @@ pub struct Paddings {
     pub bottom: usize,
 }
 
-/// The visible positions, the spans, the paddings and the lines.
-pub trait Settings {
-    // What the settings say.
+/// What a table is laid out by: the visible positions, the spans, the paddings and the lines.
+pub trait ConfigView {
+    // What is seen of the configuration.
     ghost grid: { Self → Grid };
 
     /// Whether the cell at a position is visible.
@@ -87,8 +83,8 @@ pub trait Settings {
         ensures { result ≡ (grid self.now).draws direction count i };
 }
 
-/// The padding left of a text (above it).
-fn before(direction: Direction, padding: &Sides<Indent>) -> usize
+/// The padding left of a text (above it), in columns of a terminal (lines).
+pub fn size_before(direction: Direction, padding: &Sides<Indent>) -> usize
     ensures { result ≡ size_before direction padding.now }
 {
     match direction {
@@ -97,8 +93,8 @@ fn before(direction: Direction, padding: &Sides<Indent>) -> usize
     }
 }
 
-/// The padding right of a text (below it).
-fn after(direction: Direction, padding: &Sides<Indent>) -> usize
+/// The padding right of a text (below it), in columns of a terminal (lines).
+pub fn size_after(direction: Direction, padding: &Sides<Indent>) -> usize
     ensures { result ≡ size_after direction padding.now }
 {
     match direction {
@@ -107,8 +103,8 @@ fn after(direction: Direction, padding: &Sides<Indent>) -> usize
     }
 }
 
-/// The sizes of the four sides.
-fn sizes(padding: &Sides<Indent>) -> Paddings
+/// The paddings on the four sides, without their characters.
+pub fn sizes(padding: &Sides<Indent>) -> Paddings
     ensures { result ≡ sizes padding.now }
 {
     Paddings {
@@ -119,77 +115,7 @@ fn sizes(padding: &Sides<Indent>) -> Paddings
     }
 }
 
-impl Settings for SpannedConfig {
-    ghost grid = { spanned_grid };
-
-    // Each visible position is looked for in all spans.
-    fn is_visible(&self, pos: Position) -> bool {
-        self.is_cell_visible(pos)
-    }
-
-    // Each span is looked at once.
-    fn are_visible(&self, direction: Direction, places: &[Position]) -> bool {
-        self.are_cells_visible(direction, places)
-    }
-
-    fn anchors(&self, _alloc: Global) -> Result<Vec<Anchor>, AllocError> {
-        self.anchors()
-    }
-
-    fn span(&self, direction: Direction, pos: Position) -> usize {
-        let held = match direction {
-            Direction::Columns => self.get_column_span(pos),
-            Direction::Rows => self.get_row_span(pos),
-        };
-        match held {
-            Some(span) => span,
-            None => 1,
-        }
-    }
-
-    // Each span that is held is looked at once.
-    fn spans_end_within(&self, direction: Direction, count: usize) -> bool {
-        self.spans_end_within(direction, count)
-    }
-
-    fn padding_before(&self, direction: Direction, pos: Position) -> usize {
-        before(direction, self.get_padding(pos))
-    }
-
-    fn padding_after(&self, direction: Direction, pos: Position) -> usize {
-        after(direction, self.get_padding(pos))
-    }
-
-    ghost set_for = { λ s entity. option_map sizes (held_for s.padding entity) };
-
-    ghost decided = { λ s. held_decides s.padding };
-
-    // Each walk over cells with paddings asks it for each of its cells.
-    #[inline(always)]
-    fn paddings_for(&self, entity: Entity) -> Option<Paddings> {
-        self.held_padding(entity).map(sizes)
-    }
-
-    fn padded_cells(&self, _alloc: Global) -> Result<Vec<Position>, AllocError> {
-        self.padded_cells()
-    }
-
-    fn common_paddings(&self) -> Option<Paddings> {
-        if self.has_padding() {
-            return None;
-        }
-        Some(sizes(self.get_padding(Position { row: 0, col: 0 })))
-    }
-
-    fn has_line(&self, direction: Direction, count: usize, i: usize) -> bool {
-        match direction {
-            Direction::Columns => self.has_vertical(i, count),
-            Direction::Rows => self.has_horizontal(i, count),
-        }
-    }
-}
-
-impl Settings for CompactConfig {
+impl ConfigView for CompactConfig {
     ghost grid = { compact_grid };
 
     fn is_visible(&self, _pos: Position) -> bool {
@@ -218,11 +144,11 @@ impl Settings for CompactConfig {
     }
 
     fn padding_before(&self, direction: Direction, _pos: Position) -> usize {
-        before(direction, self.get_padding())
+        size_before(direction, self.get_padding())
     }
 
     fn padding_after(&self, direction: Direction, _pos: Position) -> usize {
-        after(direction, self.get_padding())
+        size_after(direction, self.get_padding())
     }
 
     ghost set_for = { λ s. for_all_cells (sizes s.padding) };
