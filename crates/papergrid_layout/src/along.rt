@@ -6,9 +6,9 @@ ghost use Rattle.papergrid_walk.specs.Cells.{count_along, problem_of};
 ghost use Rattle.papergrid_layout.specs.Answers.{UnlessMemory};
 
 use papergrid_axis::{Axis, LayoutError, Solution};
+use papergrid_maps::ConfigView;
 use papergrid_text::{IntoRecords, Records};
 use papergrid_values::{Direction, Position};
-use papergrid_maps::ConfigView;
 use papergrid_walk::{Measure, gather};
 use std::alloc::Global;
 

@@ -9,9 +9,9 @@ ghost use Rattle.papergrid_layout.specs.ForProofs.Earlier.{earlier, earlier_of};
 use crate::along::Along;
 use papergrid_axis::settled::find_out;
 use papergrid_axis::{Found, LayoutError, Solution};
+use papergrid_maps::ConfigView;
 use papergrid_text::{IntoRecords, Records};
 use papergrid_values::{Direction, Position};
-use papergrid_maps::ConfigView;
 use papergrid_walk::{KeptBoth, Measure, gather_both};
 use std::alloc::Global;
 

@@ -9,8 +9,8 @@ use crate::dimension::Dimension;
 use crate::placement::{Place, PlaceError};
 use crate::ruler::Ruler;
 use papergrid_config::SpannedConfig;
-use papergrid_values::{Direction, Position};
 use papergrid_maps::ConfigView;
+use papergrid_values::{Direction, Position};
 
 /// The place of the cell at a position, in a table of the shape (rows, columns). It takes no memory,
 /// and time that grows with the rows and columns.

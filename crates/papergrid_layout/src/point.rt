@@ -10,8 +10,8 @@ use crate::dimension::Dimension;
 use crate::placed::place;
 use crate::ruler::Ruler;
 use papergrid_config::SpannedConfig;
-use papergrid_values::{Direction, Position};
 use papergrid_maps::ConfigView;
+use papergrid_values::{Direction, Position};
 
 /// A table of the shape (rows, columns), a column of the terminal in a line of it, and a position that lies in
 /// the rectangle of each cell that stands over these.

@@ -9,8 +9,8 @@ ghost use Rattle.papergrid_layout.specs.ForProofs.Rulers.{has_along};
 
 use crate::dimension::Dimension;
 use crate::marks::Marks;
-use papergrid_values::{Direction, Position};
 use papergrid_maps::ConfigView;
+use papergrid_values::{Direction, Position};
 use std::alloc::{AllocError, Global};
 
 /// The sizes of a dimension, and the spans and the lines of settings, along a direction in which the
