@@ -3,6 +3,8 @@ pub mod AnyHeld
 pub mod Applied
 pub mod BothHeld
 pub mod CoverLemmas
+pub mod DecidingSpanLemmas
+pub mod HeldAgree
 pub mod IndexCopies
 pub mod IndexEnds
 pub mod IndexKeys

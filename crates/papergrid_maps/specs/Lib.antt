@@ -1,6 +1,8 @@
 pub mod Anchors
 pub mod ColorsHeld
 pub mod Compact
+pub mod DecidingSpan
+pub mod HeldSame
 pub mod Keys
 pub mod Made
 pub mod MapCalls
