@@ -1,6 +1,6 @@
 //! Laws over the definitions that the contracts cite.
 
-ghost use Rattle.std.specs.Prelude.{◌≡◌, ◌∷◌, [], ◌↔◌, ◌≤◌, ℕ, IsSome, IsTrue, List, length};
+ghost use Rattle.std.specs.Prelude.{◌≡◌, ◌∷◌, [], ◌↔◌, ◌≤◌, ℕ, IsSome, IsTrue, List, length, true};
 ghost use Rattle.std.specs.List.{list_all};
 ghost use Rattle.papergrid_values.specs.declared.position.Position.{Position};
 ghost use Rattle.papergrid_tables.specs.BorderHeld.{HeldBorders, places_of};
@@ -8,6 +8,7 @@ ghost use Rattle.papergrid_tables.specs.LineTests.{horizontal_line_at, vertical_
 ghost use Rattle.papergrid_tables.specs.Places.{HasHorizontal, HasVertical};
 ghost use Rattle.papergrid_maps.specs.MapCalls.{decided_value};
 ghost use Rattle.papergrid_maps.specs.declared.entity_map.MapCall.{MapCall};
+ghost use Rattle.papergrid_config.specs.ConfigSame.{HoldTheSameSettings};
 ghost use Rattle.papergrid_config.specs.DecidingCall.{IsDecided};
 ghost use Rattle.papergrid_config.specs.Laws.{HoldsWhatIsDecided};
 ghost use Rattle.papergrid_config.specs.Lines.{shown_horizontal, shown_intersection, shown_vertical};
@@ -16,6 +17,7 @@ ghost use Rattle.papergrid_config.specs.Told.{IsTold};
 ghost use Rattle.papergrid_config.specs.declared.setting.Setting.{Setting};
 ghost use Rattle.papergrid_config.specs.declared.spanned.SpannedConfig.{SpannedConfig};
 
+use crate::setting::Setting;
 use crate::spanned::SpannedConfig;
 use papergrid_maps::{BorderTable, EntityMap, OffsetTable, SpanTable};
 use papergrid_values::{ANSIBuf, AlignmentHorizontal, AlignmentVertical, Indent, Offset, Sides};
@@ -86,7 +88,15 @@ pub fn equal_where_told()
         IsTrue (⟦<SpannedConfig as PartialEq>⟧.eq x y) }
 {}
 
-/// A clone of a configuration equals it.
+/// Configurations are equal exactly where they hold the same.
+pub fn equal_configurations()
+    ensures { (x y : SpannedConfig) →
+        (⟦<SpannedConfig as PartialEq>⟧.eq x y ≡ true) ↔ HoldTheSameSettings x y }
+{}
+
+/// A clone of a configuration, or of a setting, equals it.
 pub fn equal_clones()
-    ensures { (x y : SpannedConfig) → ⟦<SpannedConfig as Clone>⟧.is_clone x y → y ≡ x }
+    ensures configurations { (x y : SpannedConfig) →
+        ⟦<SpannedConfig as Clone>⟧.is_clone x y → y ≡ x }
+    ensures settings { (x y : Setting) → ⟦<Setting as Clone>⟧.is_clone x y → y ≡ x }
 {}

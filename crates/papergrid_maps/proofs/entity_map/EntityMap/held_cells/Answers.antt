@@ -1,6 +1,5 @@
 use Rattle.std.proofs.Common.{◌≡◌, ◌∙◌, ap, subst, sym, true}
-use Rattle.std.specs.Prelude.{◌≢◌, AllPairs, is_some}
-use Rattle.std.specs.Cmp.{Decides}
+use Rattle.std.specs.Prelude.{◌≢◌, AllPairs, Decides, is_some}
 use Rattle.std.specs.Set.{is_member}
 use Rattle.std.proofs.lemmas.Map.Made.{AllPairs-from_IsDistinct, is_some-lookup}
 use Rattle.std.proofs.lemmas.Result.{IfOk-weaker}
