@@ -5,3 +5,4 @@ pub mod Closures
 pub mod DecidingCallLemmas
 pub mod EqualLemmas
 pub mod FoundLemmas
+pub mod SameLemmas
