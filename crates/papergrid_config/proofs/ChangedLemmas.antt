@@ -1,8 +1,9 @@
 -- What settings leave as it was, and what more of them leave.
-use Rattle.std.proofs.Common.{◌≡◌, ◌∙◌, List, [], ◌∷◌, ◌++◌, refl, sym, ap}
+use Rattle.std.proofs.Common.{◌≡◌, ◌∙◌, ℕ, List, [], ◌∷◌, ◌++◌, refl, sym, ap, subst}
 use Rattle.std.specs.List.{flat_map}
 use Rattle.std.proofs.lemmas.Grind.{flat_map-append}
 use Rattle.papergrid_values.specs.declared.direction.Direction.TheVariants.{Columns, Rows}
+use Rattle.papergrid_maps.proofs.Applied.{AppliedSoFar}
 use Rattle.papergrid_config.specs.Changed.{changed_by, if_called, span_calls_along}
 use Rattle.papergrid_config.specs.Parts.{padding_calls, padding_color_calls, trim_horizontal_calls, trim_vertical_calls, line_alignment_calls, alignment_horizontal_calls, alignment_vertical_calls, justification_calls, justification_color_calls, character_calls, color_calls, horizontal_char_calls, vertical_char_calls, horizontal_color_calls, vertical_color_calls, margins, margin_colors, margin_offsets, missing_characters}
 use Rattle.papergrid_config.specs.Told.{Appends}
@@ -99,3 +100,8 @@ applies_more {old = old} {mid = mid} {new = new} xs ys first told others = recor
   told = appends_more xs ys first.told told;
   others = changed_more xs ys old mid new first.others others;
 }
+
+-- of all settings, where the rest of them are not reached
+pub others_so_far : {old new : SpannedConfig} {done : ℕ} {calls left all : List Setting} → AppliedSoFar (Applies old new) calls left all done → new ≡ changed_by all old new
+others_so_far {old = old} {new = new} {calls = calls} {left = left} so_far =
+    subst (λ xs. new ≡ changed_by xs old new) so_far.split (changed_so_far calls left old new so_far.told.others)

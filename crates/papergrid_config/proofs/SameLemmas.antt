@@ -6,7 +6,7 @@ use Rattle.std.specs.Cmp.Lexicographic.{bytes_decides}
 use Rattle.std.specs.FinMap.{FinMap, get, nat_cmp-IsAntisymmetric, same_map}
 use Rattle.std.specs.Option.{option_eq}
 use Rattle.std.proofs.Math.Bool.{beq}
-use Rattle.std.proofs.lemmas.Bool.{and_parts, eqb-true, false≢true}
+use Rattle.std.proofs.lemmas.Bool.{and_from, and_parts, eqb-true, false≢true}
 use Rattle.papergrid_values.specs.Borders.{frame_parts}
 use Rattle.papergrid_values.specs.Lines.{horizontal_parts, vertical_parts}
 use Rattle.papergrid_values.specs.declared.alignment.AlignmentHorizontal.{AlignmentHorizontal}
@@ -36,7 +36,6 @@ use Rattle.papergrid_tables.specs.OffsetEq.{overrides_eq}
 use Rattle.papergrid_tables.specs.Overrides.{HeldOffsets, override_at}
 use Rattle.papergrid_tables.proofs.BorderAgree.{borders_agree}
 use Rattle.papergrid_tables.proofs.OffsetEqual.{overrides_agree}
-use Rattle.papergrid_tables.proofs.ToldEqual.{borders_same}
 use Rattle.papergrid_maps.specs.HeldSame.{HoldTheSameSpans}
 use Rattle.papergrid_maps.specs.MapEq.{held_eq}
 use Rattle.papergrid_maps.specs.MapHeld.{Held, held_for}
@@ -209,8 +208,27 @@ module _ {T : Type 0} (eq : T → T → Bool) (itself : (v : T) → eq v v ≡ t
   pub equal_maps : {m n : Held T} → m ≡ n → held_eq eq m n ≡ true
   equal_maps is = equal_at (held_eq eq) (λ m. (maps_agree eq m m).1 (λ entity. option_same eq itself (held_for m entity))) is
 
+  parts_itself : (xs : List (Option T)) → same_parts eq xs xs ≡ true
+  parts_itself [] = refl
+  parts_itself (x ∷ xs) = and_from _ _ (option_same eq itself x) (parts_itself xs)
+
+  line_itself : {L : Type 0} (parts : L → List (Option T)) (line : Option L) → option_eq (λ l m. same_parts eq (parts l) (parts m)) line line ≡ true
+  line_itself parts None = refl
+  line_itself parts (Some line) = parts_itself (parts line)
+
+  borders_itself : (s : HeldBorders T) → borders_eq eq s s ≡ true
+  borders_itself s = (borders_agree eq s s).1 (record {
+    global = option_same eq itself s.global;
+    frame = parts_itself (frame_parts s.frame);
+    horizontal_line = λ n. line_itself horizontal_parts (get s.horizontal_lines n);
+    vertical_line = λ n. line_itself vertical_parts (get s.vertical_lines n);
+    horizontal_edge = λ p. option_same eq itself (get s.horizontal_edges p);
+    vertical_edge = λ p. option_same eq itself (get s.vertical_edges p);
+    corner = λ p. option_same eq itself (get s.corners p);
+  })
+
   pub equal_borders : {s t : HeldBorders T} → s ≡ t → borders_eq eq s t ≡ true
-  equal_borders is = equal_at (borders_eq eq) (borders_same eq itself) is
+  equal_borders is = equal_at (borders_eq eq) borders_itself is
 
   pub equal_overrides : (s t : FinMap position_cmp (HeldOffsets T)) → SameOverrides s t → overrides_eq eq s t ≡ true
   equal_overrides s t same = (overrides_agree eq s t).1 (λ p o. equal_at (option_eq eq) (option_same eq itself) (same p o))

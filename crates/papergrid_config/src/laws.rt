@@ -17,7 +17,6 @@ ghost use Rattle.papergrid_config.specs.Told.{IsTold};
 ghost use Rattle.papergrid_config.specs.declared.setting.Setting.{Setting};
 ghost use Rattle.papergrid_config.specs.declared.spanned.SpannedConfig.{SpannedConfig};
 
-use crate::setting::Setting;
 use crate::spanned::SpannedConfig;
 use papergrid_maps::{BorderTable, EntityMap, OffsetTable, SpanTable};
 use papergrid_values::{ANSIBuf, AlignmentHorizontal, AlignmentVertical, Indent, Offset, Sides};
@@ -94,9 +93,7 @@ pub fn equal_configurations()
         (⟦<SpannedConfig as PartialEq>⟧.eq x y ≡ true) ↔ HoldTheSameSettings x y }
 {}
 
-/// A clone of a configuration, or of a setting, equals it.
+/// A clone of a configuration equals it.
 pub fn equal_clones()
-    ensures configurations { (x y : SpannedConfig) →
-        ⟦<SpannedConfig as Clone>⟧.is_clone x y → y ≡ x }
-    ensures settings { (x y : Setting) → ⟦<Setting as Clone>⟧.is_clone x y → y ≡ x }
+    ensures { (x y : SpannedConfig) → ⟦<SpannedConfig as Clone>⟧.is_clone x y → y ≡ x }
 {}

@@ -22,7 +22,7 @@ module _ {X : Type 0} (eq : X → X → Bool) (same : (x : X) → eq x x ≡ tru
   parts_same [] = refl
   parts_same (part ∷ parts) = and_from _ _ (option_same eq same part) (parts_same parts)
 
-  pub borders_same : (s : HeldBorders X) → borders_eq eq s s ≡ true
+  borders_same : (s : HeldBorders X) → borders_eq eq s s ≡ true
   borders_same s =
       and_from _ _ (option_same eq same s.global)
       (and_from _ _ (parts_same (frame_parts s.frame))

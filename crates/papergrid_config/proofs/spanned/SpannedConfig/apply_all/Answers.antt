@@ -1,6 +1,5 @@
-use Rattle.std.proofs.Common.{◌≡◌, [], ◌++◌, List, refl, sym, subst, append_assoc, append-nil}
 use Rattle.papergrid_maps.proofs.Applied.{applied_more, told_so_far}
-use Rattle.papergrid_config.proofs.ChangedLemmas.{applies_more, applies_none, changed_so_far}
+use Rattle.papergrid_config.proofs.ChangedLemmas.{applies_more, others_so_far}
 use Rattle.papergrid_config.proofs.spanned.SpannedConfig.apply_all.Goals as goal
 
 pub loop-setting-preserved : goal.loop-setting-preserved
@@ -8,3 +7,6 @@ loop-setting-preserved c = applied_more c.in-Some.setting c.in-Some.ensures.step
 
 pub returns-in-Err-clause-err : goal.returns-in-Err-clause-err
 returns-in-Err-clause-err c = rw (c.in-Err.ensures.err, ← c.into_iter-setting-iterator.ensures.into_iter_gives.0) (told_so_far c.loop-setting.invariant).told
+
+pub returns-in-Err-clause-others : goal.returns-in-Err-clause-others
+returns-in-Err-clause-others c = rw (c.in-Err.ensures.err, ← c.into_iter-setting-iterator.ensures.into_iter_gives.0) (others_so_far c.loop-setting.invariant)
