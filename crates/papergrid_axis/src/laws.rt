@@ -1,7 +1,10 @@
 //! Laws of the definitions, each the contract of a function that does nothing.
 
-ghost use Rattle.std.specs.Prelude.{ℕ, ◌≡◌, ◌<◌, ◌≤◌, ◌↔◌, All, Bool, IsTrue, List, false, slice_index};
+ghost use Rattle.std.specs.Prelude.{ℕ, ◌≡◌, ◌<◌, ◌≤◌, ◌↔◌, All, Bool, IsTrue, List, false, slice_index, true};
+ghost use Rattle.papergrid_axis.specs.declared.candidate.Candidate.{Candidate};
+ghost use Rattle.papergrid_axis.specs.declared.checked.Checked.{Checked};
 ghost use Rattle.papergrid_axis.specs.declared.demand.Demand.{Demand};
+ghost use Rattle.papergrid_axis.specs.declared.error.LayoutError.{LayoutError};
 ghost use Rattle.papergrid_axis.specs.Chosen.{chosen_of};
 ghost use Rattle.papergrid_axis.specs.Fits.{Fits, IsCertificate, IsLeast, top_need};
 ghost use Rattle.papergrid_axis.specs.KeptApart.{is_kept_apart};
@@ -9,6 +12,24 @@ ghost use Rattle.papergrid_axis.specs.Problem.{Problem};
 ghost use Rattle.papergrid_axis.specs.Ranges.{IsInTable, IsKeptApart, SomeCross};
 ghost use Rattle.papergrid_axis.specs.Rows.{WorkedRows};
 ghost use Rattle.papergrid_axis.specs.Sizes.{sizes_of};
+
+use crate::{Candidate, Checked, Demand, LayoutError};
+
+/// Demands, and reasons why there are no sizes, are equal where they are the same.
+pub fn equal_by_fields()
+    ensures demands { (x y : Demand) → (⟦<Demand as PartialEq>⟧.eq x y ≡ true) ↔ (x ≡ y) }
+    ensures errors { (x y : LayoutError) →
+        (⟦<LayoutError as PartialEq>⟧.eq x y ≡ true) ↔ (x ≡ y) }
+{}
+
+/// Clones of them, of candidates and of what is kept of a check equal their originals.
+pub fn equal_clones()
+    ensures demands { (x y : Demand) → ⟦<Demand as Clone>⟧.is_clone x y → y ≡ x }
+    ensures errors { (x y : LayoutError) → ⟦<LayoutError as Clone>⟧.is_clone x y → y ≡ x }
+    ensures candidates { (x y : Candidate) →
+        ⟦<Candidate<'static> as Clone>⟧.is_clone x y → y ≡ x }
+    ensures checks { (x y : Checked) → ⟦<Checked as Clone>⟧.is_clone x y → y ≡ x }
+{}
 
 /// What the worked tables give, by the definitions alone.
 pub fn worked_rows()

@@ -1,4 +1,5 @@
 pub mod Applied
+pub mod ChangedLemmas
 pub mod Cleared
 pub mod Closures
 pub mod DecidingCallLemmas
@@ -6,3 +7,4 @@ pub mod EqualLemmas
 pub mod FoundLemmas
 pub mod GridLemmas
 pub mod ViewLemmas
+pub mod SameLemmas

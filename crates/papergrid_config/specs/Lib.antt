@@ -1,5 +1,7 @@
 -- The definitions that the contracts cite.
 pub mod Applied
+pub mod Changed
+pub mod ConfigSame
 pub mod Decided
 pub mod DecidingCall
 pub mod Grids

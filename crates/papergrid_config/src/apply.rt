@@ -2,6 +2,7 @@
 
 ghost use Rattle.std.specs.Prelude.{◌≡◌, ◌∷◌, [], ◌<◌, All, true, false, OnOk, OnErr, IfErr, IfSome, IsOk, length, slice_get, take};
 ghost use Rattle.papergrid_config.specs.Applied.{is_free, is_in_range, may_grow};
+ghost use Rattle.papergrid_config.specs.Changed.{changed_by};
 ghost use Rattle.papergrid_config.specs.Told.{Appends};
 
 use crate::setting::Setting;
@@ -12,12 +13,14 @@ use std::alloc::AllocError;
 impl SpannedConfig {
     /// Makes the call that the setting is. Where memory is refused the configuration is as it was;
     /// margins, removals, the frame, the defaults, values for the whole table and spans below 2
-    /// take none. Condition: the setting is in range.
+    /// take none. The parts to which the setting does not belong are as they were. Condition: the
+    /// setting is in range.
     pub fn apply(&mut self, setting: Setting) -> Result<(), AllocError>
         requires { is_in_range setting ≡ true }
         ensures ok { OnOk result (Appends self.old self.new (setting ∷ [])) }
         ensures err { OnErr result (self.new ≡ self.old) }
         ensures free { is_free setting ≡ true → IsOk result }
+        ensures others { self.new ≡ changed_by (setting ∷ []) self.old self.new }
     {
         match setting {
             Setting::InsertHorizontalLine(row, line) => self.insert_horizontal_line(row, line),
@@ -56,7 +59,8 @@ impl SpannedConfig {
 
     /// Makes the calls in order, up to one that is refused for memory: then the configuration is
     /// that of the settings done before it, and that call is one that may take memory: not one of
-    /// those of which `apply` says that they take none. Condition: each setting is in range.
+    /// those of which `apply` says that they take none. The parts to which none of the settings
+    /// belongs are as they were. Condition: each setting is in range.
     pub fn apply_all(&mut self, settings: Vec<Setting>) -> Result<(), Stopped>
         requires { All (λ setting. is_in_range setting ≡ true) settings.items }
         ensures ok { OnOk result (Appends self.old self.new settings.items) }
@@ -64,6 +68,7 @@ impl SpannedConfig {
         ensures refused { IfErr result (λ stopped. stopped.done < length settings.items) }
         ensures blamed { IfErr result (λ stopped. IfSome (slice_get settings.items stopped.done) (λ setting. is_free setting ≡ false)) }
         ensures free { All (λ setting. is_free setting ≡ true) settings.items → IsOk result }
+        ensures others { self.new ≡ changed_by settings.items self.old self.new }
     {
         let mut done = 0;
         for setting in settings {
@@ -79,7 +84,8 @@ impl SpannedConfig {
     fn apply_free(&mut self, setting: Setting)
         requires free { may_grow setting ≡ false }
         requires range { is_in_range setting ≡ true }
-        ensures { Appends self.old self.new (setting ∷ []) }
+        ensures told { Appends self.old self.new (setting ∷ []) }
+        ensures others { self.new ≡ changed_by (setting ∷ []) self.old self.new }
     {
         match setting {
             Setting::SetMargin(margin) => self.set_margin(margin),

@@ -1,6 +1,6 @@
 //! Laws over the definitions that the contracts cite.
 
-ghost use Rattle.std.specs.Prelude.{◌≡◌, ◌∷◌, [], ◌↔◌, ◌≤◌, ℕ, IsSome, IsTrue, List, length};
+ghost use Rattle.std.specs.Prelude.{◌≡◌, ◌∷◌, [], ◌↔◌, ◌≤◌, ℕ, IsSome, IsTrue, List, length, true};
 ghost use Rattle.std.specs.List.{list_all};
 ghost use Rattle.papergrid_values.specs.declared.position.Position.{Position};
 ghost use Rattle.papergrid_tables.specs.BorderHeld.{HeldBorders, places_of};
@@ -8,6 +8,7 @@ ghost use Rattle.papergrid_tables.specs.LineTests.{horizontal_line_at, vertical_
 ghost use Rattle.papergrid_tables.specs.Places.{HasHorizontal, HasVertical};
 ghost use Rattle.papergrid_maps.specs.MapCalls.{decided_value};
 ghost use Rattle.papergrid_maps.specs.declared.entity_map.MapCall.{MapCall};
+ghost use Rattle.papergrid_config.specs.ConfigSame.{HoldTheSameSettings};
 ghost use Rattle.papergrid_config.specs.DecidingCall.{IsDecided};
 ghost use Rattle.papergrid_config.specs.Laws.{HoldsWhatIsDecided};
 ghost use Rattle.papergrid_config.specs.Lines.{shown_horizontal, shown_intersection, shown_vertical};
@@ -85,6 +86,12 @@ pub fn equal_where_told()
         ∷ ⟦<char as PartialEq>⟧.eq x.missing y.missing ∷ []) }
     ensures told { (settings : List Setting) (x y : SpannedConfig) → IsTold settings x → IsTold settings y →
         IsTrue (⟦<SpannedConfig as PartialEq>⟧.eq x y) }
+{}
+
+/// Configurations are equal exactly where they hold the same.
+pub fn equal_configurations()
+    ensures { (x y : SpannedConfig) →
+        (⟦<SpannedConfig as PartialEq>⟧.eq x y ≡ true) ↔ HoldTheSameSettings x y }
 {}
 
 /// A clone of a configuration equals it.

@@ -1,6 +1,6 @@
 //! What is set by entity and asked for by position. Source: `config/spanned/mod.rs`.
 
-ghost use Rattle.std.specs.Prelude.{◌≡◌, ◌∷◌, [], IfOk, List, OnOk, OnErr, IsOk, is_some, option_copied};
+ghost use Rattle.std.specs.Prelude.{◌≡◌, ◌≢◌, ◌∷◌, [], AllPairs, IfOk, List, OnOk, OnErr, IsOk, is_some, option_copied};
 ghost use Rattle.std.specs.Set.{is_member};
 ghost use Rattle.papergrid_keys.specs.Keys.{position_eq};
 ghost use Rattle.papergrid_values.specs.declared.entity.Entity.{Entity};
@@ -47,9 +47,10 @@ impl SpannedConfig {
         self.padding.held_for(entity)
     }
 
-    /// The cells with room of their own, in no order, or out of memory.
+    /// The cells with room of their own, each once, in no order, or out of memory.
     pub fn padded_cells(&self) -> Result<Vec<Position>, AllocError>
-        ensures { IfOk result (λ cells. (p : Position) → is_member position_eq cells.items p ≡ is_some (held_for self.now.padding (Entity.Cell p.row p.col))) }
+        ensures held { IfOk result (λ cells. (p : Position) → is_member position_eq cells.items p ≡ is_some (held_for self.now.padding (Entity.Cell p.row p.col))) }
+        ensures once { IfOk result (λ cells. AllPairs (λ p q. p ≢ q) cells.items) }
     {
         self.padding.held_cells()
     }

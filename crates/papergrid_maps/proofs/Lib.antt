@@ -4,6 +4,8 @@ pub mod Applied
 pub mod BothHeld
 pub mod CoverLemmas
 pub mod HiddenLemmas
+pub mod DecidingSpanLemmas
+pub mod HeldAgree
 pub mod IndexCopies
 pub mod IndexEnds
 pub mod IndexKeys

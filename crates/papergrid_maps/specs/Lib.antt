@@ -3,6 +3,8 @@ pub mod ColorsHeld
 pub mod Compact
 pub mod Grids
 pub mod Hidden
+pub mod DecidingSpan
+pub mod HeldSame
 pub mod Keys
 pub mod Made
 pub mod MapCalls

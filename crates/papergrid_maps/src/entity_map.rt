@@ -1,6 +1,6 @@
 //! A value for each position, set by entity. Source: `config/spanned/entity_map.rs`.
 
-ghost use Rattle.std.specs.Prelude.{All, Any, true, false, List, ◌≡◌, ◌∷◌, [], map, length, IfOk, OnOk, OnErr, IsOk, IfErr, IsTrue, take, slice_get, IsSomeAnd, Some, if◌then◌else◌, filter, is_some, not, option_copied, ◌==◌, ◌<◌, ◌↔◌};
+ghost use Rattle.std.specs.Prelude.{All, AllPairs, Any, true, false, List, ◌≡◌, ◌≢◌, ◌∷◌, [], map, length, IfOk, OnOk, OnErr, IsOk, IfErr, IsTrue, take, slice_get, IsSomeAnd, Some, if◌then◌else◌, filter, is_some, not, option_copied, ◌==◌, ◌<◌, ◌↔◌};
 ghost use Rattle.std.specs.Bool.{OnTrue, OnFalse};
 ghost use Rattle.std.specs.Fn.{FnReturnsAt};
 ghost use Rattle.std.specs.HashMap.{IsUnique, keys, values, get as map_get};
@@ -113,9 +113,10 @@ impl<T> EntityMap<T> {
         }
     }
 
-    /// The cells that hold a value of their own, in no order, or out of memory.
+    /// The cells that hold a value of their own, each once, in no order, or out of memory.
     pub fn held_cells(&self) -> Result<Vec<Position>, AllocError>
-        ensures { IfOk result (λ cells. (p : Position) → is_member position_eq cells.items p ≡ is_some (held_for self.now (Entity.Cell p.row p.col))) }
+        ensures held { IfOk result (λ cells. (p : Position) → is_member position_eq cells.items p ≡ is_some (held_for self.now (Entity.Cell p.row p.col))) }
+        ensures once { IfOk result (λ cells. AllPairs (λ p q. p ≢ q) cells.items) }
     {
         keys_of_cells(self.alloc, &self.cells)
     }
@@ -307,7 +308,8 @@ fn keys_of_cells<T>(
     alloc: Global,
     cells: &HashMap<Position, T>,
 ) -> Result<Vec<Position>, AllocError>
-    ensures { IfOk result (λ v. v.items ≡ keys cells.now) }
+    ensures keys { IfOk result (λ v. v.items ≡ keys cells.now) }
+    ensures once { IsUnique position_eq cells.now }
 {
     cells.keys().copied().collect(alloc)
 }

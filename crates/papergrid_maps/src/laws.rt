@@ -1,23 +1,29 @@
 //! Laws over the definitions that the contracts cite.
 
-ghost use Rattle.std.specs.Prelude.{◌≡◌, ◌↔◌, ◌∷◌, ◌++◌, ℕ, [], IsTrue, List, None, true};
+ghost use Rattle.std.specs.Prelude.{◌≡◌, ◌↔◌, ◌∷◌, ◌++◌, [], ℕ, IsTrue, List, None, true};
 ghost use Rattle.std.specs.List.{list_all};
+ghost use Rattle.papergrid_values.specs.declared.direction.Direction.{Direction};
 ghost use Rattle.papergrid_values.specs.declared.position.Position.{Position};
 ghost use Rattle.papergrid_maps.specs.Anchors.{AreAnchors};
 ghost use Rattle.papergrid_maps.specs.Hidden.{IsHidden};
 ghost use Rattle.papergrid_maps.specs.declared.anchors.Anchor.{Anchor};
 ghost use Rattle.papergrid_maps.specs.declared.entity_map.MapCall.{MapCall};
+ghost use Rattle.papergrid_maps.specs.declared.entity_map.Stopped.{Stopped};
 ghost use Rattle.papergrid_maps.specs.Compact.{IsNew, first_difference};
 ghost use Rattle.papergrid_maps.specs.declared.colors.NoColor.{NoColor};
 ghost use Rattle.papergrid_maps.specs.declared.colors.NoColors.{NoColors};
 ghost use Rattle.papergrid_maps.specs.declared.compact.CompactConfig.{CompactConfig};
+ghost use Rattle.papergrid_maps.specs.DecidingSpan.{IsDecidedSpan};
+ghost use Rattle.papergrid_maps.specs.HeldSame.{HoldTheSameSpans, HoldTheSameValues};
 ghost use Rattle.papergrid_maps.specs.Made.{spans_made};
 ghost use Rattle.papergrid_maps.specs.MapCalls.{decided_value};
 ghost use Rattle.papergrid_maps.specs.MapHeld.{Held, IsTold, held_value};
 ghost use Rattle.papergrid_maps.specs.Spans as spans;
-ghost use Rattle.papergrid_maps.specs.Spans.{IsVisible, SpanCall, Spans, column_span, is_visible, row_span};
+ghost use Rattle.papergrid_maps.specs.Spans.{IsVisible, SpanCall, Spans, column_span, decided_span, is_visible, row_span};
 
-use crate::{Colors, CompactConfig, EntityMap, NoColor, NoColors, SpanTable};
+use crate::{
+    Anchor, Colors, CompactConfig, EntityMap, MapCall, NoColor, NoColors, SpanTable, Stopped,
+};
 use papergrid_values::{ANSIStr, AlignmentHorizontal, Borders, Indent, Sides};
 use std::cmp::Ordering;
 use std::hash::Hash;
@@ -33,6 +39,16 @@ pub fn told_decides<T>()
 pub fn told_makes_spans()
     ensures told { (calls : List SpanCall) → spans.IsTold calls (spans_made calls) }
     ensures only { (calls : List SpanCall) (held : Spans) → spans.IsTold calls held → held ≡ spans_made calls }
+{}
+
+/// The span that calls decide is the one that their deciding call sets, by its place in the list:
+/// the last of those that set it to 1 or more and of those that remove all spans of its direction;
+/// and no other is.
+pub fn spans_by_place()
+    ensures decided { (calls : List SpanCall) (d : Direction) (pos : Position) →
+        IsDecidedSpan d pos calls (decided_span d pos calls) }
+    ensures only { (calls : List SpanCall) (d : Direction) (pos : Position) (n : ℕ) →
+        IsDecidedSpan d pos calls n → n ≡ decided_span d pos calls }
 {}
 
 /// A position passes the computed test of visibility exactly where it lies in no other anchor's
@@ -57,6 +73,30 @@ pub fn equal_told_maps<T: Eq>()
         ⟦<EntityMap<T> as PartialEq>⟧.eq m n ≡ true }
     ensures spans { (calls : List SpanCall) (s t : Spans) → spans.IsTold calls s → spans.IsTold calls t →
         ⟦<SpanTable as PartialEq>⟧.eq s t ≡ true }
+{}
+
+/// Two maps are equal exactly where they hold equal values, or none, for each entity.
+pub fn equal_maps<T: PartialEq>()
+    ensures { (m n : Held T) →
+        (⟦<EntityMap<T> as PartialEq>⟧.eq m n ≡ true) ↔ HoldTheSameValues T.eq m n }
+{}
+
+/// Two tables of spans are equal exactly where each position has the same spans in both. Two
+/// anchors, and what two lists of calls that stopped say, are equal where they are the same.
+pub fn equal_spans()
+    ensures tables { (s t : Spans) →
+        (⟦<SpanTable as PartialEq>⟧.eq s t ≡ true) ↔ HoldTheSameSpans s t }
+    ensures anchors { (x y : Anchor) → (⟦<Anchor as PartialEq>⟧.eq x y ≡ true) ↔ (x ≡ y) }
+    ensures stopped { (x y : Stopped) → (⟦<Stopped as PartialEq>⟧.eq x y ≡ true) ↔ (x ≡ y) }
+{}
+
+/// A clone of a call equals its original where clones of its value do, and so do clones of anchors
+/// and of what a list of calls that stopped says.
+pub fn equal_clones<T: Clone>()
+    requires { (x y : T) → T.is_clone x y → y ≡ x }
+    ensures calls { (x y : MapCall T) → ⟦<MapCall<T> as Clone>⟧.is_clone x y → y ≡ x }
+    ensures anchors { (x y : Anchor) → ⟦<Anchor as Clone>⟧.is_clone x y → y ≡ x }
+    ensures stopped { (x y : Stopped) → ⟦<Stopped as Clone>⟧.is_clone x y → y ≡ x }
 {}
 
 /// Colours that are empty have none at any position.

@@ -1,3 +1,4 @@
+pub mod BorderAgree
 pub mod BorderEqual
 pub mod BorderFound
 pub mod BorderTold

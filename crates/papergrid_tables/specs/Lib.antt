@@ -1,5 +1,6 @@
 pub mod BorderCalls
 pub mod BorderHeld
+pub mod BorderSame
 pub mod BorderScan
 pub mod Changes
 pub mod LineTests

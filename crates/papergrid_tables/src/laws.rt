@@ -4,7 +4,8 @@ ghost use Rattle.std.specs.Prelude.{◌≡◌, ◌↔◌, List, true};
 ghost use Rattle.std.specs.FinMap.{FinMap};
 ghost use Rattle.papergrid_tables.specs.BorderCalls.{BorderCall};
 ghost use Rattle.papergrid_tables.specs.BorderHeld as borders;
-ghost use Rattle.papergrid_tables.specs.BorderHeld.{HeldBorders};
+ghost use Rattle.papergrid_tables.specs.BorderHeld.{HeldBorders, places_of};
+ghost use Rattle.papergrid_tables.specs.BorderSame.{HoldTheSameBorders};
 ghost use Rattle.papergrid_keys.specs.Keys.{position_cmp};
 ghost use Rattle.papergrid_tables.specs.Made.{borders_made};
 ghost use Rattle.papergrid_tables.specs.OffsetEq.{HoldTheSame};
@@ -17,6 +18,14 @@ use crate::{BorderTable, OffsetTable};
 pub fn told_makes_borders<T>()
     ensures told { (calls : List (BorderCall T)) → borders.IsTold calls (borders_made calls) }
     ensures only { (calls : List (BorderCall T)) (held : HeldBorders T) → borders.IsTold calls held → held ≡ borders_made calls }
+{}
+
+/// Two border tables are equal exactly where they hold equal values, or none, at each place: for
+/// all lines, in each part of the frame and of each line, and at each edge and corner.
+pub fn equal_borders<T: PartialEq>()
+    ensures { (s t : HeldBorders T) →
+        (⟦<BorderTable<T> as PartialEq>⟧.eq s t ≡ true)
+        ↔ HoldTheSameBorders T.eq (places_of s) (places_of t) }
 {}
 
 /// Two tables of overrides are equal exactly where they hold equal values, or none, at each

@@ -7,14 +7,14 @@ use Rattle.papergrid_text.specs.contracts.kept.KeptLinesClone.TheImpl.{by_varian
 use Rattle.papergrid_text.specs.Kept.{kept_lines, ranges_of, given_line, line_of_range, AreInside, IsInside}
 
 -- lists that R ties place by place, where R fixes what v reads of one by the other
-map_from_zip : {A C : Type 0} (R : A → A → Type 0) (v : A → C) → ((a b : A) → R a b → v b ≡ v a) → (xs ys : List A) → AllZip R xs ys → map v ys ≡ map v xs
+pub map_from_zip : {A C : Type 0} (R : A → A → Type 0) (v : A → C) → ((a b : A) → R a b → v b ≡ v a) → (xs ys : List A) → AllZip R xs ys → map v ys ≡ map v xs
 map_from_zip R v h [] [] z = refl
 map_from_zip R v h [] (b ∷ ys) z = absurd z
 map_from_zip R v h (a ∷ xs) [] z = absurd z
 map_from_zip R v h (a ∷ xs) (b ∷ ys) z =
     let first = h a b z.0 in let others = map_from_zip R v h xs ys z.1 in cc
 
-same_from_zip : {A : Type 0} (R : A → A → Type 0) → ((a b : A) → R a b → b ≡ a) → (xs ys : List A) → AllZip R xs ys → ys ≡ xs
+pub same_from_zip : {A : Type 0} (R : A → A → Type 0) → ((a b : A) → R a b → b ≡ a) → (xs ys : List A) → AllZip R xs ys → ys ≡ xs
 same_from_zip R h [] [] z = refl
 same_from_zip R h [] (b ∷ ys) z = absurd z
 same_from_zip R h (a ∷ xs) [] z = absurd z

@@ -1,20 +1,36 @@
 //! Laws of the definitions, each the contract of a function that does nothing. A function that calls one
 //! may cite it in its proof.
 
-ghost use Rattle.std.specs.Prelude.{◌≡◌, ◌<◌, ◌^◌, ⊤, List, Vec, length, map, ℕ};
+ghost use Rattle.std.specs.Prelude.{◌≡◌, ◌<◌, ◌^◌, ◌∷◌, ◌++◌, [], ⊤, List, Vec, length, map, nat_eq, ℕ};
+ghost use Rattle.std.specs.Hash as fed;
+ghost use Rattle.std.specs.List.{list_all};
+ghost use Rattle.std.specs.Option.{option_cmp, option_eq};
+ghost use Rattle.std.specs.Ordering.{nat_cmp, ordering_then};
 ghost use Rattle.std.specs.Borrow.{Bor};
 ghost use Rattle.std.specs.Slice.Iter.{iter_rest, chunks_rest, chunks_size, chunks_exact_rest, chunks_exact_size};
 ghost use Rattle.std.specs.declared.alloc.Global.{Global};
 ghost use Rattle.std.specs.declared.slice.Chunks.{Chunks};
 ghost use Rattle.std.specs.declared.slice.ChunksExact.{ChunksExact};
 ghost use Rattle.std.specs.declared.slice.Iter.{Iter};
-ghost use Rattle.papergrid_text.specs.Counted.{rows_from};
+ghost use Rattle.papergrid_text.specs.declared.iter_records.IterRecords.{IterRecords};
+ghost use Rattle.papergrid_text.specs.declared.iter_records.RowIter.{RowIter};
+ghost use Rattle.papergrid_text.specs.declared.kept.StrWithWidth.{StrWithWidth};
+ghost use Rattle.papergrid_text.specs.declared.string.Lines.{Lines};
+ghost use Rattle.papergrid_text.specs.declared.vec_records.VecRecords.{VecRecords};
+ghost use Rattle.papergrid_text.specs.Counted.{counted_columns, counted_rows, row_hint, rows_from};
 ghost use Rattle.papergrid_text.specs.Cut.{cut_rows, cut_whole_rows};
+ghost use Rattle.papergrid_text.specs.HeldRows.{column_count, row_count, rows_held};
+ghost use Rattle.papergrid_text.specs.Kept.{given_line};
 ghost use Rattle.papergrid_text.specs.Records.{WalkIsShort, Gives};
 ghost use Rattle.papergrid_text.specs.Text.{HasOneSplit, HasSameDimension};
+ghost use Rattle.papergrid_text.specs.TextOrder.{line_cmp, line_eq, line_hash};
 
-use crate::iter_records::RowIter;
+use crate::iter_records::{IterRecords, RowIter};
+use crate::kept::StrWithWidth;
 use crate::records::IntoRecords;
+use crate::string::Lines;
+use crate::vec_records::VecRecords;
+use std::hash::Hash;
 use std::iter::{IntoIterator, Iterator};
 use std::slice::{Chunks, ChunksExact, Iter};
 
@@ -28,6 +44,77 @@ pub fn lines_join_to_text()
 /// its lines and its width.
 pub fn dimension_without_carriage_returns()
     ensures { (text : List ℕ) → HasSameDimension text }
+{}
+
+// ---- records, and the lines of texts, as values
+
+/// A clone of records equals its original, or holds the same rows and counts, where clones of their
+/// parts equal theirs.
+pub fn equal_clones<T: Clone>()
+    requires { (x y : T) → T.is_clone x y → y ≡ x }
+    ensures walked { (x y : RowIter T) → ⟦<RowIter<T> as Clone>⟧.is_clone x y → y ≡ x }
+    ensures counted { (x y : IterRecords T) → ⟦<IterRecords<T> as Clone>⟧.is_clone x y → y ≡ x }
+    ensures held { (x y : VecRecords T) → ⟦<VecRecords<T> as Clone>⟧.is_clone x y →
+        map (λ row. row.items) (rows_held y).items ≡ map (λ row. row.items) (rows_held x).items }
+    ensures row_count { (x y : VecRecords T) →
+        ⟦<VecRecords<T> as Clone>⟧.is_clone x y → row_count y ≡ row_count x }
+    ensures column_count { (x y : VecRecords T) →
+        ⟦<VecRecords<T> as Clone>⟧.is_clone x y → column_count y ≡ column_count x }
+{}
+
+/// A clone of a walk over lines equals its original, and one of a measured line has its text and
+/// its width.
+pub fn equal_clones_of_lines()
+    ensures lines { (x y : Lines) → ⟦<Lines<'static> as Clone>⟧.is_clone x y → y ≡ x }
+    ensures measured { (x y : StrWithWidth) →
+        ⟦<StrWithWidth<'static> as Clone>⟧.is_clone x y → given_line y ≡ given_line x }
+{}
+
+/// Measured lines are equal where their texts and their widths are. They are ordered by the text
+/// and then by the width, and hash the text and then the width.
+pub fn lines_by_fields()
+    ensures equal { (x y : StrWithWidth) →
+        ⟦<StrWithWidth<'static> as PartialEq>⟧.eq x y ≡ line_eq (given_line x) (given_line y) }
+    ensures ordered { (x y : StrWithWidth) →
+        ⟦<StrWithWidth<'static> as Ord>⟧.cmp x y ≡ line_cmp (given_line x) (given_line y) }
+    ensures hashed { (x : StrWithWidth) →
+        ⟦<StrWithWidth<'static> as Hash>⟧.hash_input x ≡ line_hash (given_line x) }
+{}
+
+/// Records are equal where what gives their rows is, and each number that they tell.
+pub fn equal_by_fields<T: PartialEq>()
+    ensures held { (x y : VecRecords T) →
+        ⟦<VecRecords<T> as PartialEq>⟧.eq x y ≡ list_all (λ same. same) (
+        ⟦<Vec<Vec<T>> as PartialEq>⟧.eq (rows_held x) (rows_held y)
+        ∷ nat_eq (row_count x) (row_count y) ∷ nat_eq (column_count x) (column_count y) ∷ []) }
+    ensures counted { (x y : IterRecords T) →
+        ⟦<IterRecords<T> as PartialEq>⟧.eq x y ≡ list_all (λ same. same) (
+        T.eq (counted_rows x) (counted_rows y)
+        ∷ nat_eq (counted_columns x) (counted_columns y)
+        ∷ option_eq nat_eq (row_hint x) (row_hint y) ∷ []) }
+{}
+
+/// Records are ordered by what gives their rows and then by the numbers that they tell: those that
+/// hold their rows by the number of rows and then that of columns, others the other way round.
+pub fn ordered_by_fields<T: Ord>()
+    ensures held { (x y : VecRecords T) →
+        ⟦<VecRecords<T> as Ord>⟧.cmp x y
+        ≡ ordering_then (⟦<Vec<Vec<T>> as Ord>⟧.cmp (rows_held x) (rows_held y))
+        (ordering_then (nat_cmp (row_count x) (row_count y))
+        (nat_cmp (column_count x) (column_count y))) }
+    ensures counted { (x y : IterRecords T) →
+        ⟦<IterRecords<T> as Ord>⟧.cmp x y
+        ≡ ordering_then (T.cmp (counted_rows x) (counted_rows y))
+        (ordering_then (nat_cmp (counted_columns x) (counted_columns y))
+        (option_cmp nat_cmp (row_hint x) (row_hint y))) }
+{}
+
+/// Records that hold their rows hash the rows, then the number of rows and that of columns.
+pub fn hashed_by_fields<T: Hash>()
+    ensures { (x : VecRecords T) →
+        ⟦<VecRecords<T> as Hash>⟧.hash_input x
+        ≡ ⟦<Vec<Vec<T>> as Hash>⟧.hash_input (rows_held x)
+        ++ fed.usize (row_count x) ++ fed.usize (column_count x) }
 {}
 
 // ---- walks, as an implementation of records of one's own has to tell them

@@ -1,6 +1,6 @@
 //! Laws over the definitions that the contracts cite.
 
-ghost use Rattle.std.specs.Prelude.{◌≡◌, ◌<◌, ◌≤◌, ◌⊎◌, ◌↔◌, [], ◌∷◌, ◌++◌, ℕ, All, AllPairs, None, false};
+ghost use Rattle.std.specs.Prelude.{◌≡◌, ◌<◌, ◌≤◌, ◌⊎◌, ◌↔◌, [], ◌∷◌, ◌++◌, ℕ, All, AllPairs, None, false, true};
 ghost use Rattle.std.specs.Cmp.Lexicographic.{slice_cmp, pointwise};
 ghost use Rattle.std.specs.Hash as fed;
 ghost use Rattle.std.specs.List.{flat_map};
@@ -17,7 +17,9 @@ ghost use Rattle.papergrid_values.specs.declared.borders.Borders.{Borders};
 ghost use Rattle.papergrid_values.specs.declared.horizontal_line.HorizontalLine.{HorizontalLine};
 ghost use Rattle.papergrid_values.specs.declared.sides.Sides.{Sides};
 ghost use Rattle.papergrid_values.specs.declared.vertical_line.VerticalLine.{VerticalLine};
+ghost use Rattle.papergrid_values.specs.declared.direction.Direction.{Direction};
 ghost use Rattle.papergrid_values.specs.declared.entity.Entity.{Entity};
+ghost use Rattle.papergrid_values.specs.declared.entity_iterator.EntityIterator.{EntityIterator};
 ghost use Rattle.papergrid_values.specs.declared.indent.Indent.{Indent};
 ghost use Rattle.papergrid_values.specs.declared.formatting.Formatting.{Formatting};
 ghost use Rattle.papergrid_values.specs.declared.offset.Offset.{Offset};
@@ -31,8 +33,9 @@ ghost use Rattle.papergrid_values.specs.Writes.{numbers_fed, key_fed, kind_fed, 
 ghost use Rattle.papergrid_values.specs.Positions.{IsBefore, count_of};
 
 use crate::{
-    ANSIBuf, ANSIFmt, ANSIStr, AlignmentHorizontal, AlignmentVertical, Border, Borders, Entity,
-    Formatting, HorizontalLine, Indent, Offset, Position, Sides, VerticalLine,
+    ANSIBuf, ANSIFmt, ANSIStr, AlignmentHorizontal, AlignmentVertical, Border, Borders, Direction,
+    Entity, EntityIterator, Formatting, HorizontalLine, Indent, Offset, Position, Sides,
+    VerticalLine,
 };
 use std::cmp::Ordering;
 use std::hash::Hash;
@@ -58,6 +61,24 @@ pub fn equal_clones<T: Clone>()
         ⟦<HorizontalLine<T> as Clone>⟧.is_clone x y → y ≡ x }
     ensures vertical_lines { (x y : VerticalLine T) →
         ⟦<VerticalLine<T> as Clone>⟧.is_clone x y → y ≡ x }
+{}
+
+/// A clone of any other value, and of a walk over positions, equals its original.
+pub fn equal_clones_of_values()
+    ensures positions { (x y : Position) → ⟦<Position as Clone>⟧.is_clone x y → y ≡ x }
+    ensures entities { (x y : Entity) → ⟦<Entity as Clone>⟧.is_clone x y → y ≡ x }
+    ensures walks { (x y : EntityIterator) → ⟦<EntityIterator as Clone>⟧.is_clone x y → y ≡ x }
+    ensures directions { (x y : Direction) → ⟦<Direction as Clone>⟧.is_clone x y → y ≡ x }
+    ensures indents { (x y : Indent) → ⟦<Indent as Clone>⟧.is_clone x y → y ≡ x }
+    ensures offsets { (x y : Offset) → ⟦<Offset as Clone>⟧.is_clone x y → y ≡ x }
+    ensures flags { (x y : Formatting) → ⟦<Formatting as Clone>⟧.is_clone x y → y ≡ x }
+    ensures across { (x y : AlignmentHorizontal) →
+        ⟦<AlignmentHorizontal as Clone>⟧.is_clone x y → y ≡ x }
+    ensures down { (x y : AlignmentVertical) →
+        ⟦<AlignmentVertical as Clone>⟧.is_clone x y → y ≡ x }
+    ensures borrowed_colors { (x y : ANSIStr) →
+        ⟦<ANSIStr<'static> as Clone>⟧.is_clone x y → y ≡ x }
+    ensures colors { (x y : ANSIBuf) → ⟦<ANSIBuf as Clone>⟧.is_clone x y → y ≡ x }
 {}
 
 /// Values with parts of one type are ordered by the first part that differs, in the order of their
@@ -136,6 +157,11 @@ pub fn ordered_by_fields()
     ensures borrowed_colors { (x y : ANSIStr) →
         ⟦<ANSIStr<'static> as Ord>⟧.cmp x y ≡ texts_cmp (texts_of x) (texts_of y) }
     ensures colors { (x y : ANSIBuf) → ⟦<ANSIBuf as Ord>⟧.cmp x y ≡ texts_cmp x y }
+{}
+
+/// Two directions are equal where they are the same.
+pub fn equal_directions()
+    ensures { (x y : Direction) → (⟦<Direction as PartialEq>⟧.eq x y ≡ true) ↔ (x ≡ y) }
 {}
 
 /// The other values hash likewise: positions the row and then the column, entities and offsets the

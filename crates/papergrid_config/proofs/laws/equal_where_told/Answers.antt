@@ -1,59 +1,19 @@
-use Rattle.std.proofs.Common.{◌≡◌, ◌&&◌, true, false, refl, Bool, Option, Some, None}
+use Rattle.std.proofs.Common.{◌≡◌, ◌&&◌, true, false, refl, Bool}
 use Rattle.std.proofs.Math.Bool.{beq}
 use Rattle.std.specs.Prelude.{nat_eq}
-use Rattle.std.specs.Cmp.{and_equiv, bool_eq_equiv, nat_eq_equiv}
-use Rattle.std.specs.Cmp.Lexicographic.{on_texts_equal}
+use Rattle.std.specs.Cmp.{bool_eq_equiv, nat_eq_equiv}
 use Rattle.std.specs.List.{flat_map}
 use Rattle.std.proofs.lemmas.Bool.{and_from}
-use Rattle.std.specs.contracts.prelude.OptionPartialEq.TheImpl as option
-use Rattle.papergrid_values.specs.declared.alignment.AlignmentHorizontal.{AlignmentHorizontal}
-use Rattle.papergrid_values.specs.declared.alignment.AlignmentHorizontal.TheVariants as horizontal
-use Rattle.papergrid_values.specs.declared.alignment.AlignmentVertical.{AlignmentVertical}
-use Rattle.papergrid_values.specs.declared.alignment.AlignmentVertical.TheVariants as vertical
-use Rattle.papergrid_values.specs.declared.ansi_buf.ANSIBuf.{ANSIBuf}
-use Rattle.papergrid_values.specs.declared.indent.Indent.{Indent}
-use Rattle.papergrid_values.specs.declared.offset.Offset.{Offset}
-use Rattle.papergrid_values.specs.declared.offset.Offset.TheVariants.{Start, End}
 use Rattle.papergrid_values.specs.contracts.alignment.AlignmentHorizontalPartialEq.TheImpl as alignment_horizontal
 use Rattle.papergrid_values.specs.contracts.alignment.AlignmentVerticalPartialEq.TheImpl as alignment_vertical
-use Rattle.papergrid_values.specs.contracts.ansi_buf.ANSIBuf.{the_row}
 use Rattle.papergrid_values.specs.contracts.ansi_buf.ANSIBufPartialEq.TheImpl as color
 use Rattle.papergrid_values.specs.contracts.indent.IndentPartialEq.TheImpl as indent
 use Rattle.papergrid_values.specs.contracts.offset.OffsetPartialEq.TheImpl as offset
 use Rattle.papergrid_config.specs.Parts.{character_calls, color_calls, horizontal_char_calls, horizontal_color_calls, span_calls, vertical_char_calls, vertical_color_calls}
 use Rattle.papergrid_tables.proofs.ToldEqual.{told_borders_equal, told_overrides_equal}
 use Rattle.papergrid_maps.proofs.ToldEqual.{told_maps_equal, told_spans_equal}
-use Rattle.papergrid_config.proofs.EqualLemmas.{equal_values, same_sides, sides_eq}
+use Rattle.papergrid_config.proofs.EqualLemmas.{equal_values, optional_eq, same_color, same_horizontal, same_indent, same_offset, same_optional, same_sides, same_vertical, sides_eq}
 use Rattle.papergrid_config.proofs.laws.equal_where_told.Goals as goal
-
--- ---- each kind of value equals itself
-
-same_indent : (v : Indent) → indent.ghosts.eq v v ≡ true
-same_indent v = and_from _ _ (nat_eq_equiv.refl v.fill) (nat_eq_equiv.refl v.size)
-
-same_horizontal : (v : AlignmentHorizontal) → alignment_horizontal.ghosts.eq v v ≡ true
-same_horizontal horizontal.Left = refl
-same_horizontal horizontal.Center = refl
-same_horizontal horizontal.Right = refl
-
-same_vertical : (v : AlignmentVertical) → alignment_vertical.ghosts.eq v v ≡ true
-same_vertical vertical.Top = refl
-same_vertical vertical.Center = refl
-same_vertical vertical.Bottom = refl
-
-same_offset : (v : Offset) → offset.ghosts.eq v v ≡ true
-same_offset (Start n) = nat_eq_equiv.refl n
-same_offset (End n) = nat_eq_equiv.refl n
-
-same_color : (v : ANSIBuf) → color.ghosts.eq v v ≡ true
-same_color v = (and_equiv (on_texts_equal (λ (c : ANSIBuf). c.0)) (on_texts_equal (λ (c : ANSIBuf). c.1))).refl v
-
-abbrev optional_eq : Option ANSIBuf → Option ANSIBuf → Bool
-optional_eq = (option.ghosts the_row color.ghosts color.dict).eq
-
-same_optional : (v : Option ANSIBuf) → optional_eq v v ≡ true
-same_optional None = refl
-same_optional (Some v) = same_color v
 
 -- the last part decides alone
 and-true : (b : Bool) → (b && true) ≡ b

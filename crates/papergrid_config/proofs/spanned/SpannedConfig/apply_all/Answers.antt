@@ -1,9 +1,12 @@
 use Rattle.papergrid_maps.proofs.Applied.{applied_more, told_so_far}
-use Rattle.papergrid_config.proofs.Applied.{appends_more}
+use Rattle.papergrid_config.proofs.ChangedLemmas.{applies_more, others_so_far}
 use Rattle.papergrid_config.proofs.spanned.SpannedConfig.apply_all.Goals as goal
 
 pub loop-setting-preserved : goal.loop-setting-preserved
-loop-setting-preserved c = applied_more c.in-Some.setting c.in-Some.ensures.steps.0 (appends_more _ _ c.loop-setting.invariant.told c.in-Ok.ensures.ok) c.loop-setting.invariant
+loop-setting-preserved c = applied_more c.in-Some.setting c.in-Some.ensures.steps.0 (applies_more _ _ c.loop-setting.invariant.told c.in-Ok.ensures.ok c.in-Ok.ensures.others) c.loop-setting.invariant
 
 pub returns-in-Err-clause-err : goal.returns-in-Err-clause-err
-returns-in-Err-clause-err c = rw (c.in-Err.ensures.err, ← c.into_iter-setting-iterator.ensures.into_iter_gives.0) (told_so_far c.loop-setting.invariant)
+returns-in-Err-clause-err c = rw (c.in-Err.ensures.err, ← c.into_iter-setting-iterator.ensures.into_iter_gives.0) (told_so_far c.loop-setting.invariant).told
+
+pub returns-in-Err-clause-others : goal.returns-in-Err-clause-others
+returns-in-Err-clause-others c = rw (c.in-Err.ensures.err, ← c.into_iter-setting-iterator.ensures.into_iter_gives.0) (others_so_far c.loop-setting.invariant)

@@ -7,4 +7,4 @@ use Rattle.papergrid_maps.specs.Paddings.{sizes}
 use Rattle.papergrid_config.proofs.view.SpannedConfigConfigView.padded_cells.Goals as goal
 
 pub returns : goal.returns
-returns c = IfOk-weaker c.padded_cells.result _ _ (λ cells are p. are p ∙ is_some-map sizes (held_for c.args.self.now.padding (Cell p.row p.col))) c.padded_cells.ensures
+returns c = IfOk-weaker c.padded_cells.result _ _ (λ cells are p. are p ∙ is_some-map sizes (held_for c.args.self.now.padding (Cell p.row p.col))) c.padded_cells.ensures.held

@@ -1,0 +1,234 @@
+-- What is equal is the same, where that holds of each value.
+use Rattle.std.proofs.Common.{◌≡◌, ℕ, Bool, true, false, List, [], ◌∷◌, Option, Some, None, refl, ap, subst}
+use Rattle.std.specs.Prelude.{slice_index_or}
+use Rattle.std.specs.Cmp.{nat_cmp_total}
+use Rattle.std.specs.Cmp.Lexicographic.{bytes_decides}
+use Rattle.std.specs.FinMap.{FinMap, get, nat_cmp-IsAntisymmetric, same_map}
+use Rattle.std.specs.Option.{option_eq}
+use Rattle.std.proofs.Math.Bool.{beq}
+use Rattle.std.proofs.lemmas.Bool.{and_from, and_parts, eqb-true, false≢true}
+use Rattle.papergrid_values.specs.Borders.{frame_parts}
+use Rattle.papergrid_values.specs.Lines.{horizontal_parts, vertical_parts}
+use Rattle.papergrid_values.specs.declared.alignment.AlignmentHorizontal.{AlignmentHorizontal}
+use Rattle.papergrid_values.specs.declared.alignment.AlignmentHorizontal.TheVariants as horizontal
+use Rattle.papergrid_values.specs.declared.alignment.AlignmentVertical.{AlignmentVertical}
+use Rattle.papergrid_values.specs.declared.alignment.AlignmentVertical.TheVariants as vertical
+use Rattle.papergrid_values.specs.declared.ansi_buf.ANSIBuf.{ANSIBuf}
+use Rattle.papergrid_values.specs.declared.borders.Borders.{Borders}
+use Rattle.papergrid_values.specs.declared.horizontal_line.HorizontalLine.{HorizontalLine}
+use Rattle.papergrid_values.specs.declared.indent.Indent.{Indent}
+use Rattle.papergrid_values.specs.declared.offset.Offset.{Offset}
+use Rattle.papergrid_values.specs.declared.offset.Offset.TheVariants.{Start, End}
+use Rattle.papergrid_values.specs.declared.sides.Sides.{Sides}
+use Rattle.papergrid_values.specs.declared.vertical_line.VerticalLine.{VerticalLine}
+use Rattle.papergrid_values.specs.contracts.alignment.AlignmentHorizontalPartialEq.TheImpl as alignment_horizontal
+use Rattle.papergrid_values.specs.contracts.alignment.AlignmentVerticalPartialEq.TheImpl as alignment_vertical
+use Rattle.papergrid_values.specs.contracts.ansi_buf.ANSIBufPartialEq.TheImpl as color
+use Rattle.papergrid_values.specs.contracts.indent.IndentPartialEq.TheImpl as indent
+use Rattle.papergrid_values.specs.contracts.offset.OffsetPartialEq.TheImpl as offset
+use Rattle.papergrid_keys.proofs.KeyLemmas.{exact_positions, position_total}
+use Rattle.papergrid_keys.proofs.EqualLemmas.{numbers_agree, option_same, places_agree}
+use Rattle.papergrid_keys.specs.Keys.{position_cmp}
+use Rattle.papergrid_tables.specs.BorderHeld.{HeldBorders}
+use Rattle.papergrid_tables.specs.BorderSame.{same_parts}
+use Rattle.papergrid_tables.specs.ForProofs.BorderEq.{borders_eq}
+use Rattle.papergrid_tables.specs.OffsetEq.{overrides_eq}
+use Rattle.papergrid_tables.specs.Overrides.{HeldOffsets, override_at}
+use Rattle.papergrid_tables.proofs.BorderAgree.{borders_agree}
+use Rattle.papergrid_tables.proofs.OffsetEqual.{overrides_agree}
+use Rattle.papergrid_maps.specs.HeldSame.{HoldTheSameSpans}
+use Rattle.papergrid_maps.specs.MapEq.{held_eq}
+use Rattle.papergrid_maps.specs.MapHeld.{Held, held_for}
+use Rattle.papergrid_maps.specs.ForProofs.SpanEq.{spans_eq}
+use Rattle.papergrid_maps.specs.Spans.{Spans, spans_along}
+use Rattle.papergrid_maps.proofs.HeldAgree.{maps_agree, spans_agree}
+use Rattle.papergrid_config.specs.ConfigSame.{SameOverrides}
+use Rattle.papergrid_values.specs.declared.direction.Direction.TheVariants.{Columns, Rows}
+use Rattle.papergrid_config.proofs.EqualLemmas.{optional_eq, sides_eq}
+
+-- whether equal values are the same
+abbrev pub IsExact : {T : Type 0} → (T → T → Bool) → Type 0
+IsExact {T} eq = (x y : T) → eq x y ≡ true → x ≡ y
+
+-- ---- values
+
+pub exact_indent : IsExact indent.ghosts.eq
+exact_indent x y h = let a = and_parts _ _ h in λ i. record { fill = eqb-true x.fill y.fill a.0 i; size = eqb-true x.size y.size a.1 i }
+
+pub exact_bool : IsExact beq
+exact_bool true true h = refl
+exact_bool true false h = absurd (false≢true h)
+exact_bool false true h = absurd (false≢true h)
+exact_bool false false h = refl
+
+pub exact_horizontal : IsExact alignment_horizontal.ghosts.eq
+exact_horizontal horizontal.Left horizontal.Left h = refl
+exact_horizontal horizontal.Left horizontal.Center h = absurd (false≢true h)
+exact_horizontal horizontal.Left horizontal.Right h = absurd (false≢true h)
+exact_horizontal horizontal.Center horizontal.Left h = absurd (false≢true h)
+exact_horizontal horizontal.Center horizontal.Center h = refl
+exact_horizontal horizontal.Center horizontal.Right h = absurd (false≢true h)
+exact_horizontal horizontal.Right horizontal.Left h = absurd (false≢true h)
+exact_horizontal horizontal.Right horizontal.Center h = absurd (false≢true h)
+exact_horizontal horizontal.Right horizontal.Right h = refl
+
+pub exact_vertical : IsExact alignment_vertical.ghosts.eq
+exact_vertical vertical.Top vertical.Top h = refl
+exact_vertical vertical.Top vertical.Center h = absurd (false≢true h)
+exact_vertical vertical.Top vertical.Bottom h = absurd (false≢true h)
+exact_vertical vertical.Center vertical.Top h = absurd (false≢true h)
+exact_vertical vertical.Center vertical.Center h = refl
+exact_vertical vertical.Center vertical.Bottom h = absurd (false≢true h)
+exact_vertical vertical.Bottom vertical.Top h = absurd (false≢true h)
+exact_vertical vertical.Bottom vertical.Center h = absurd (false≢true h)
+exact_vertical vertical.Bottom vertical.Bottom h = refl
+
+pub exact_offset : IsExact offset.ghosts.eq
+exact_offset (Start m) (Start n) h = ap Start (eqb-true m n h)
+exact_offset (Start m) (End n) h = absurd (false≢true h)
+exact_offset (End m) (Start n) h = absurd (false≢true h)
+exact_offset (End m) (End n) h = ap End (eqb-true m n h)
+
+pub exact_color : IsExact color.ghosts.eq
+exact_color x y h = let a = and_parts _ _ h in λ i. ((bytes_decides x.0 y.0).0 a.0 i, (bytes_decides x.1 y.1).0 a.1 i)
+
+-- ---- what is held of values
+
+module _ {T : Type 0} (eq : T → T → Bool) (exact : IsExact eq) where
+  pub exact_option : IsExact (option_eq eq)
+  exact_option None None h = refl
+  exact_option None (Some y) h = absurd (false≢true h)
+  exact_option (Some x) None h = absurd (false≢true h)
+  exact_option (Some x) (Some y) h = ap Some (exact x y h)
+
+pub exact_optional : IsExact optional_eq
+exact_optional None None h = refl
+exact_optional None (Some y) h = absurd (false≢true h)
+exact_optional (Some x) None h = absurd (false≢true h)
+exact_optional (Some x) (Some y) h = ap Some (exact_color x y h)
+
+module _ {T : Type 0} (eq : T → T → Bool) (exact : IsExact eq) where
+  pub exact_sides : IsExact (sides_eq eq)
+  exact_sides x y h =
+      let a = and_parts _ _ h in
+      let b = and_parts _ _ a.1 in
+      let c = and_parts _ _ b.1 in
+      λ i. record {
+        top = exact x.top y.top a.0 i;
+        bottom = exact x.bottom y.bottom b.0 i;
+        left = exact x.left y.left c.0 i;
+        right = exact x.right y.right c.1 i;
+      }
+
+  pub exact_map : IsExact (held_eq eq)
+  exact_map m n h =
+      let a = and_parts _ _ h in
+      let b = and_parts _ _ a.1 in
+      let c = and_parts _ _ b.1 in
+      λ i. record {
+        global = exact m.global n.global a.0 i;
+        columns = same_map nat_cmp_total nat_cmp-IsAntisymmetric m.columns n.columns (λ k. exact_option eq exact (get m.columns k) (get n.columns k) ((numbers_agree eq m.columns n.columns).0 b.0 k)) i;
+        rows = same_map nat_cmp_total nat_cmp-IsAntisymmetric m.rows n.rows (λ k. exact_option eq exact (get m.rows k) (get n.rows k) ((numbers_agree eq m.rows n.rows).0 c.0 k)) i;
+        cells = same_map position_total exact_positions m.cells n.cells (λ p. exact_option eq exact (get m.cells p) (get n.cells p) ((places_agree eq m.cells n.cells).0 c.1 p)) i;
+      }
+
+  exact_parts : IsExact (same_parts eq)
+  exact_parts [] [] h = refl
+  exact_parts [] (y ∷ ys) h = absurd (false≢true h)
+  exact_parts (x ∷ xs) [] h = absurd (false≢true h)
+  exact_parts (x ∷ xs) (y ∷ ys) h =
+      let a = and_parts _ _ h in
+      λ i. exact_option eq exact x y a.0 i ∷ exact_parts xs ys a.1 i
+
+  -- the part at a place of equal lists
+  part : {xs ys : List (Option T)} (k : ℕ) → xs ≡ ys → slice_index_or xs k None ≡ slice_index_or ys k None
+  part k is = ap (λ ps. slice_index_or ps k None) is
+
+  frame_is : (f g : Borders T) → frame_parts f ≡ frame_parts g → f ≡ g
+  frame_is f g is = λ i. record {
+    top = part 0 is i;
+    top_left = part 1 is i;
+    top_right = part 2 is i;
+    top_intersection = part 3 is i;
+    bottom = part 4 is i;
+    bottom_left = part 5 is i;
+    bottom_right = part 6 is i;
+    bottom_intersection = part 7 is i;
+    horizontal = part 8 is i;
+    vertical = part 9 is i;
+    intersection = part 10 is i;
+    left = part 11 is i;
+    left_intersection = part 12 is i;
+    right = part 13 is i;
+    right_intersection = part 14 is i;
+  }
+
+  exact_horizontal_line : IsExact (λ (l m : HorizontalLine T). same_parts eq (horizontal_parts l) (horizontal_parts m))
+  exact_horizontal_line l m h =
+      let is = exact_parts (horizontal_parts l) (horizontal_parts m) h in
+      λ i. record { main = part 0 is i; intersection = part 1 is i; left = part 2 is i; right = part 3 is i }
+
+  exact_vertical_line : IsExact (λ (l m : VerticalLine T). same_parts eq (vertical_parts l) (vertical_parts m))
+  exact_vertical_line l m h =
+      let is = exact_parts (vertical_parts l) (vertical_parts m) h in
+      λ i. record { main = part 0 is i; intersection = part 1 is i; top = part 2 is i; bottom = part 3 is i }
+
+  pub exact_borders : IsExact (borders_eq eq)
+  exact_borders s t h =
+      let same = (borders_agree eq s t).0 h in
+      λ i. record {
+        global = exact_option eq exact s.global t.global same.global i;
+        frame = frame_is s.frame t.frame (exact_parts (frame_parts s.frame) (frame_parts t.frame) same.frame) i;
+        horizontal_lines = same_map nat_cmp_total nat_cmp-IsAntisymmetric s.horizontal_lines t.horizontal_lines (λ n. exact_option _ exact_horizontal_line _ _ (same.horizontal_line n)) i;
+        vertical_lines = same_map nat_cmp_total nat_cmp-IsAntisymmetric s.vertical_lines t.vertical_lines (λ n. exact_option _ exact_vertical_line _ _ (same.vertical_line n)) i;
+        horizontal_edges = same_map position_total exact_positions s.horizontal_edges t.horizontal_edges (λ p. exact_option eq exact _ _ (same.horizontal_edge p)) i;
+        vertical_edges = same_map position_total exact_positions s.vertical_edges t.vertical_edges (λ p. exact_option eq exact _ _ (same.vertical_edge p)) i;
+        corners = same_map position_total exact_positions s.corners t.corners (λ p. exact_option eq exact _ _ (same.corner p)) i;
+      }
+
+pub spans_are : (s t : Spans) → HoldTheSameSpans s t → s ≡ t
+spans_are s t same = λ i. record {
+  columns = same_map position_total exact_positions s.columns t.columns (same Columns) i;
+  rows = same_map position_total exact_positions s.rows t.rows (same Rows) i;
+}
+
+module _ {T : Type 0} (eq : T → T → Bool) (exact : IsExact eq) where
+  pub exact_overrides : (s t : FinMap position_cmp (HeldOffsets T)) → overrides_eq eq s t ≡ true → SameOverrides s t
+  exact_overrides s t h p o = exact_option eq exact (override_at s p o) (override_at t p o) ((overrides_agree eq s t).0 h p o)
+
+-- ---- each equals what is the same
+
+pub equal_at : {A : Type 0} (eq : A → A → Bool) → ((v : A) → eq v v ≡ true) → {x y : A} → x ≡ y → eq x y ≡ true
+equal_at eq itself {x = x} is = subst (λ v. eq x v ≡ true) is (itself x)
+
+pub equal_spans : {s t : Spans} → s ≡ t → spans_eq s t ≡ true
+equal_spans {s = s} {t = t} is = (spans_agree s t).1 (λ d p. ap (λ spans. get (spans_along d spans) p) is)
+
+module _ {T : Type 0} (eq : T → T → Bool) (itself : (v : T) → eq v v ≡ true) where
+  pub equal_maps : {m n : Held T} → m ≡ n → held_eq eq m n ≡ true
+  equal_maps is = equal_at (held_eq eq) (λ m. (maps_agree eq m m).1 (λ entity. option_same eq itself (held_for m entity))) is
+
+  parts_itself : (xs : List (Option T)) → same_parts eq xs xs ≡ true
+  parts_itself [] = refl
+  parts_itself (x ∷ xs) = and_from _ _ (option_same eq itself x) (parts_itself xs)
+
+  line_itself : {L : Type 0} (parts : L → List (Option T)) (line : Option L) → option_eq (λ l m. same_parts eq (parts l) (parts m)) line line ≡ true
+  line_itself parts None = refl
+  line_itself parts (Some line) = parts_itself (parts line)
+
+  borders_itself : (s : HeldBorders T) → borders_eq eq s s ≡ true
+  borders_itself s = (borders_agree eq s s).1 (record {
+    global = option_same eq itself s.global;
+    frame = parts_itself (frame_parts s.frame);
+    horizontal_line = λ n. line_itself horizontal_parts (get s.horizontal_lines n);
+    vertical_line = λ n. line_itself vertical_parts (get s.vertical_lines n);
+    horizontal_edge = λ p. option_same eq itself (get s.horizontal_edges p);
+    vertical_edge = λ p. option_same eq itself (get s.vertical_edges p);
+    corner = λ p. option_same eq itself (get s.corners p);
+  })
+
+  pub equal_borders : {s t : HeldBorders T} → s ≡ t → borders_eq eq s t ≡ true
+  equal_borders is = equal_at (borders_eq eq) borders_itself is
+
+  pub equal_overrides : (s t : FinMap position_cmp (HeldOffsets T)) → SameOverrides s t → overrides_eq eq s t ≡ true
+  equal_overrides s t same = (overrides_agree eq s t).1 (λ p o. equal_at (option_eq eq) (option_same eq itself) (same p o))

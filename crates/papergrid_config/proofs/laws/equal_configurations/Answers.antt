@@ -1,0 +1,81 @@
+use Rattle.std.proofs.Common.{◌≡◌, true}
+use Rattle.std.proofs.Math.Bool.{beq}
+use Rattle.std.specs.Prelude.{nat_eq}
+use Rattle.std.specs.Cmp.{bool_eq_equiv, nat_eq_equiv}
+use Rattle.std.proofs.lemmas.Bool.{and_from, and_parts, eqb-true}
+use Rattle.papergrid_values.specs.contracts.alignment.AlignmentHorizontalPartialEq.TheImpl as alignment_horizontal
+use Rattle.papergrid_values.specs.contracts.alignment.AlignmentVerticalPartialEq.TheImpl as alignment_vertical
+use Rattle.papergrid_values.specs.contracts.ansi_buf.ANSIBufPartialEq.TheImpl as color
+use Rattle.papergrid_values.specs.contracts.indent.IndentPartialEq.TheImpl as indent
+use Rattle.papergrid_values.specs.contracts.offset.OffsetPartialEq.TheImpl as offset
+use Rattle.papergrid_maps.proofs.HeldAgree.{spans_agree}
+use Rattle.papergrid_config.proofs.EqualLemmas.{optional_eq, same_color, same_horizontal, same_indent, same_offset, same_optional, same_sides, same_vertical, sides_eq}
+use Rattle.papergrid_config.proofs.SameLemmas.{equal_at, equal_borders, equal_maps, equal_overrides, equal_spans, exact_bool, exact_borders, exact_color, exact_horizontal, exact_indent, exact_map, exact_offset, exact_optional, exact_overrides, exact_sides, exact_vertical, spans_are}
+use Rattle.papergrid_config.proofs.laws.equal_configurations.Goals as goal
+
+pub returns : goal.returns
+returns c x y = (
+  λ h.
+      let p0 = and_parts _ _ h in
+      let p1 = and_parts _ _ p0.1 in
+      let p2 = and_parts _ _ p1.1 in
+      let p3 = and_parts _ _ p2.1 in
+      let p4 = and_parts _ _ p3.1 in
+      let p5 = and_parts _ _ p4.1 in
+      let p6 = and_parts _ _ p5.1 in
+      let p7 = and_parts _ _ p6.1 in
+      let p8 = and_parts _ _ p7.1 in
+      let p9 = and_parts _ _ p8.1 in
+      let p10 = and_parts _ _ p9.1 in
+      let p11 = and_parts _ _ p10.1 in
+      let p12 = and_parts _ _ p11.1 in
+      let p13 = and_parts _ _ p12.1 in
+      let p14 = and_parts _ _ p13.1 in
+      let p15 = and_parts _ _ p14.1 in
+      let p16 = and_parts _ _ p15.1 in
+      let p17 = and_parts _ _ p16.1 in
+      let p18 = and_parts _ _ p17.1 in
+      record {
+        padding = exact_map (sides_eq indent.ghosts.eq) (exact_sides indent.ghosts.eq exact_indent) x.padding y.padding p0.0;
+        padding_color = exact_map (sides_eq optional_eq) (exact_sides optional_eq exact_optional) x.padding_color y.padding_color p1.0;
+        trim_horizontal = exact_map beq exact_bool x.trim_horizontal y.trim_horizontal p2.0;
+        trim_vertical = exact_map beq exact_bool x.trim_vertical y.trim_vertical p3.0;
+        line_alignment = exact_map beq exact_bool x.line_alignment y.line_alignment p4.0;
+        alignment_horizontal = exact_map alignment_horizontal.ghosts.eq exact_horizontal x.alignment_horizontal y.alignment_horizontal p5.0;
+        alignment_vertical = exact_map alignment_vertical.ghosts.eq exact_vertical x.alignment_vertical y.alignment_vertical p6.0;
+        justification = exact_map nat_eq eqb-true x.justification y.justification p7.0;
+        justification_color = exact_map optional_eq exact_optional x.justification_color y.justification_color p8.0;
+        characters = exact_borders nat_eq eqb-true x.characters y.characters p9.0;
+        colors = exact_borders color.ghosts.eq exact_color x.colors y.colors p10.0;
+        horizontal_chars = exact_overrides nat_eq eqb-true x.horizontal_chars y.horizontal_chars p11.0;
+        vertical_chars = exact_overrides nat_eq eqb-true x.vertical_chars y.vertical_chars p12.0;
+        horizontal_colors = exact_overrides color.ghosts.eq exact_color x.horizontal_colors y.horizontal_colors p13.0;
+        vertical_colors = exact_overrides color.ghosts.eq exact_color x.vertical_colors y.vertical_colors p14.0;
+        spans = spans_are x.spans y.spans ((spans_agree x.spans y.spans).0 p15.0);
+        margin = (exact_sides indent.ghosts.eq exact_indent) x.margin y.margin p16.0;
+        margin_color = (exact_sides optional_eq exact_optional) x.margin_color y.margin_color p17.0;
+        margin_offset = (exact_sides offset.ghosts.eq exact_offset) x.margin_offset y.margin_offset p18.0;
+        missing = eqb-true x.missing y.missing p18.1;
+      },
+  λ same.
+      and_from _ _ (equal_maps (sides_eq indent.ghosts.eq) (same_sides indent.ghosts.eq same_indent) same.padding)
+      (and_from _ _ (equal_maps (sides_eq optional_eq) (same_sides optional_eq same_optional) same.padding_color)
+      (and_from _ _ (equal_maps beq bool_eq_equiv.refl same.trim_horizontal)
+      (and_from _ _ (equal_maps beq bool_eq_equiv.refl same.trim_vertical)
+      (and_from _ _ (equal_maps beq bool_eq_equiv.refl same.line_alignment)
+      (and_from _ _ (equal_maps alignment_horizontal.ghosts.eq same_horizontal same.alignment_horizontal)
+      (and_from _ _ (equal_maps alignment_vertical.ghosts.eq same_vertical same.alignment_vertical)
+      (and_from _ _ (equal_maps nat_eq nat_eq_equiv.refl same.justification)
+      (and_from _ _ (equal_maps optional_eq same_optional same.justification_color)
+      (and_from _ _ (equal_borders nat_eq nat_eq_equiv.refl same.characters)
+      (and_from _ _ (equal_borders color.ghosts.eq same_color same.colors)
+      (and_from _ _ (equal_overrides nat_eq nat_eq_equiv.refl x.horizontal_chars y.horizontal_chars same.horizontal_chars)
+      (and_from _ _ (equal_overrides nat_eq nat_eq_equiv.refl x.vertical_chars y.vertical_chars same.vertical_chars)
+      (and_from _ _ (equal_overrides color.ghosts.eq same_color x.horizontal_colors y.horizontal_colors same.horizontal_colors)
+      (and_from _ _ (equal_overrides color.ghosts.eq same_color x.vertical_colors y.vertical_colors same.vertical_colors)
+      (and_from _ _ (equal_spans same.spans)
+      (and_from _ _ (equal_at (sides_eq indent.ghosts.eq) (same_sides indent.ghosts.eq same_indent) same.margin)
+      (and_from _ _ (equal_at (sides_eq optional_eq) (same_sides optional_eq same_optional) same.margin_color)
+      (and_from _ _ (equal_at (sides_eq offset.ghosts.eq) (same_sides offset.ghosts.eq same_offset) same.margin_offset)
+      (equal_at nat_eq nat_eq_equiv.refl same.missing))))))))))))))))))),
+)

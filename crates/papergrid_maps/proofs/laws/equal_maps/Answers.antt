@@ -1,0 +1,5 @@
+use Rattle.papergrid_maps.proofs.HeldAgree.{maps_agree}
+use Rattle.papergrid_maps.proofs.laws.equal_maps.Goals as goal
+
+pub returns : goal.returns
+returns g c = maps_agree g.T.PartialEq.eq

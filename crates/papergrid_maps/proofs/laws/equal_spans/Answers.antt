@@ -1,0 +1,5 @@
+use Rattle.papergrid_maps.proofs.HeldAgree.{spans_agree}
+use Rattle.papergrid_maps.proofs.laws.equal_spans.Goals as goal
+
+pub returns-clause-tables : goal.returns-clause-tables
+returns-clause-tables c = spans_agree
