@@ -10,6 +10,10 @@ use Rattle.papergrid.specs.Outputs.{end_by, estimate_end, estimate_text, output_
 use Rattle.papergrid.specs.Reasons.{IsOfTable, estimate_reason, reason_by, reason_text, script_reason}
 use Rattle.papergrid_script.specs.Scripts.{Table, table_of}
 
+-- one reason is written in one way
+worded : (s r : Reason) → Some s ≡ Some r → reason_text s ≡ reason_text r
+worded s r is = let same : s ≡ r = cc is in ap reason_text same
+
 -- ---- of an estimate
 
 module _ (table : Table) where
@@ -29,8 +33,8 @@ module _ (table : Table) where
   refusal (Sized widths heights total_width total_height width_witness height_witness) = (λ is. cc is.1, λ is. cc is)
 
   written : (e : Estimate) (r : Reason) → estimate_reason table e ≡ Some r → estimate_text e ≡ reason_text r
-  written (OutOfTable place) r is = let same : reason.OutOfTable place _ _ ≡ r = cc is in ap reason_text same
-  written TooLarge r is = let same : reason.TooLarge ≡ r = cc is in ap reason_text same
+  written (OutOfTable place) r is = worded _ r is
+  written TooLarge r is = worded _ r is
   written (Sized widths heights total_width total_height width_witness height_witness) r is = cc is
 
 -- ---- of a script
@@ -49,7 +53,7 @@ module _ (sizing : Sizing) where
   told_refused (Ok table) = refusal table (estimate_of sizing table)
 
   told_written : (told : Result Table ℕ) (r : Reason) → script_reason sizing told ≡ Some r → script_text sizing told ≡ reason_text r
-  told_written (Err number) r is = let same : reason.BadLine number ≡ r = cc is in ap reason_text same
+  told_written (Err number) r is = worded _ r is
   told_written (Ok table) r is = written table (estimate_of sizing table) r is
 
   module _ (input : List ℕ) where

@@ -7,13 +7,13 @@ use Rattle.papergrid.specs.declared.estimate.Sizing.TheVariants.{ByShares, Least
 use Rattle.papergrid.specs.declared.running.RunEnd.{RunEnd}
 use Rattle.papergrid.specs.Outputs.{end_by, output_by}
 
-module _ (unread_old unread_new written_old written_new : Option (List ℕ)) where
-  -- these are all bytes that were left, and the reader is at its end
-  pub record IsWholeInput (input : List ℕ) : Type 0 where
-    pub read : Consumes unread_old unread_new input
-    pub all : IfSome unread_old (λ left. input ≡ left)
-    pub at_end : IsAtEnd unread_new
+-- these are all bytes that were left to read, and the reader is at its end
+pub record IsWholeInput (unread_old unread_new : Option (List ℕ)) (input : List ℕ) : Type 0 where
+  pub read : Consumes unread_old unread_new input
+  pub all : IfSome unread_old (λ left. input ≡ left)
+  pub at_end : IsAtEnd unread_new
 
+module _ (unread_old unread_new written_old written_new : Option (List ℕ)) where
   -- some input was read to its end, its output was written and nothing else, and the run ended as it says
   pub record IsWholeRunBy (sizing : Sizing) (end : RunEnd) : Type 0 where
     pub input : List ℕ
