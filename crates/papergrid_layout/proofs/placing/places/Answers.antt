@@ -29,4 +29,4 @@ returns-clause-ok g c =
 pub returns-clause-within : goal.returns-clause-within
 returns-clause-within g c =
     all-end-within (spanned_grid c.args.cfg.now) (g.D.Dimension.width_of c.args.dim.now) (g.D.Dimension.height_of c.args.dim.now) c.args.shape
-    c.in_ok-visit_rows.new.placing.places.items (returns-clause-ok g c)
+    _ (returns-clause-ok g c)
