@@ -28,7 +28,7 @@ pub enum Reason {
 }
 
 /// Why the script that the input spells has no sizes by shares, or no least ones, as the sizing says; none where it has.
-/// The run with that sizing writes the same in its words, and ends so.
+/// The run with that sizing ends accordingly, and writes the same in its words.
 ///
 /// # Errors
 ///

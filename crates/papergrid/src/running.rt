@@ -230,8 +230,8 @@ pub fn run_least<S: Source, W: Sink>(
 /// The same by shares or of the least sizes, as the sizing says, and the whole input is left in the vector, in place of what
 /// it held. So a caller can `explain` an input that came from a reader.
 ///
-/// Conditions and errors: as those of `run`. After `Read` the vector is as it was, after `Memory` so or the whole input, after
-/// `Write` the whole input.
+/// Conditions and errors: as those of `run`. After `Read` the vector is as it was. After `Memory` it is as it was or has the
+/// whole input, after `Write` the whole input.
 pub fn run_keeping<S: Source, W: Sink>(
     alloc: Global,
     sizing: Sizing,
