@@ -1,4 +1,3 @@
-use Rattle.papergrid_walk.specs.Grids.{spanned_grid}
 use Rattle.papergrid_walk.specs.Measures.{line_measure}
 use Rattle.papergrid.specs.Layouts.{IsLaidOutLeast}
 use Rattle.papergrid.proofs.GridLemmas.{configured_read, settings_read}
