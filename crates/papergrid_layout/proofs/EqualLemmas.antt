@@ -34,25 +34,25 @@ same-lists x y v w = (
 pub same-place : (x y : Place) → (place.ghosts.eq x y ≡ true) ↔ (x ≡ y)
 same-place x y = (
   λ is.
-    let a = and_parts (nat_eq x.left y.left) _ is in
-    let b = and_parts (nat_eq x.top y.top) _ a.1 in
-    let c = and_parts (nat_eq x.width y.width) _ b.1 in
-    let left = eqb-true x.left y.left a.0 in
-    let top = eqb-true x.top y.top b.0 in
-    let width = eqb-true x.width y.width c.0 in
-    let height = eqb-true x.height y.height c.1 in
-    λ i. record { left = left i; top = top i; width = width i; height = height i },
+      let a = and_parts (nat_eq x.left y.left) _ is in
+      let b = and_parts (nat_eq x.top y.top) _ a.1 in
+      let c = and_parts (nat_eq x.width y.width) _ b.1 in
+      let left = eqb-true x.left y.left a.0 in
+      let top = eqb-true x.top y.top b.0 in
+      let width = eqb-true x.width y.width c.0 in
+      let height = eqb-true x.height y.height c.1 in
+      λ i. record { left = left i; top = top i; width = width i; height = height i },
   λ e. subst (λ z. place.ghosts.eq x z ≡ true) e
-    (and_from _ _ (nat_eq_equiv.refl x.left) (and_from _ _ (nat_eq_equiv.refl x.top) (and_from _ _ (nat_eq_equiv.refl x.width) (nat_eq_equiv.refl x.height)))),
+      (and_from _ _ (nat_eq_equiv.refl x.left) (and_from _ _ (nat_eq_equiv.refl x.top) (and_from _ _ (nat_eq_equiv.refl x.width) (nat_eq_equiv.refl x.height)))),
 )
 
 same-position : (x y : Position) → (position.ghosts.eq x y ≡ true) ↔ (x ≡ y)
 same-position x y = (
   λ is.
-    let parts = and_parts (nat_eq x.row y.row) _ is in
-    let row = eqb-true x.row y.row parts.0 in
-    let col = eqb-true x.col y.col parts.1 in
-    λ i. record { row = row i; col = col i },
+      let parts = and_parts (nat_eq x.row y.row) _ is in
+      let row = eqb-true x.row y.row parts.0 in
+      let col = eqb-true x.col y.col parts.1 in
+      λ i. record { row = row i; col = col i },
   λ e. subst (λ z. position.ghosts.eq x z ≡ true) e (and_from _ _ (nat_eq_equiv.refl x.row) (nat_eq_equiv.refl x.col)),
 )
 
