@@ -24,6 +24,7 @@ use Rattle.papergrid_config.specs.Grids.{line_along, spanned_grid}
 use Rattle.papergrid_config.proofs.GridLemmas.{same_grid_by}
 use Rattle.papergrid_layout.specs.Answers.{UnlessMemory, UnlessMemoryError}
 use Rattle.papergrid.specs.Grids.{grid_of}
+use Rattle.papergrid.specs.Layouts.{IsConfiguredBy}
 
 pub grid_told : (settings : List Setting) (config : SpannedConfig) → IsTold settings config → spanned_grid config ≡ grid_of settings
 unfolding grid_of
@@ -73,3 +74,13 @@ pub settings_read : {A C : Type 0} (Tells : List (List C) → Type 0) (holds : G
     → IfErr result (λ e. UnlessMemoryError e ((cells : List (List C)) × Tells cells × holds (spanned_grid config) cells (Err e)))
     → UnlessMemory result ((cells : List (List C)) × Tells cells × holds (grid_of settings) cells result)
 settings_read Tells holds settings config told = answer_read Tells holds (spanned_grid config) (grid_of settings) (grid_told settings config told)
+
+-- and the configuration is one that the settings tell
+pub configured_read : {A C : Type 0} (Tells : List (List C) → Type 0) (holds : Grid → List (List C) → Result A LayoutError → Type 0) (settings : List Setting) (config : SpannedConfig) → IsConfiguredBy settings config → (result : Result A LayoutError)
+    → IfOk result (λ x. (cells : List (List C)) × Tells cells × holds (spanned_grid config) cells (Ok x))
+    → IfErr result (λ e. UnlessMemoryError e ((cells : List (List C)) × Tells cells × holds (spanned_grid config) cells (Err e)))
+    → UnlessMemory result ((config : SpannedConfig) × IsConfiguredBy settings config × ((cells : List (List C)) × Tells cells × holds (spanned_grid config) cells result))
+configured_read Tells holds settings config is (Ok x) ok err = (config, is, ok)
+configured_read Tells holds settings config is (Err (OutOfTable place)) ok err = (config, is, err)
+configured_read Tells holds settings config is (Err TooLarge) ok err = (config, is, err)
+configured_read Tells holds settings config is (Err (Memory e)) ok err = tt

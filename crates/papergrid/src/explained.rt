@@ -2,9 +2,8 @@
 
 ghost use Rattle.std.specs.Prelude.{◌≡◌, IfOk, Some};
 ghost use Rattle.papergrid_maps.specs.Spans.{column_span, row_span};
-ghost use Rattle.papergrid.specs.declared.estimate.Sizing.TheVariants.{ByShares};
 ghost use Rattle.papergrid.specs.Estimates.{estimate_of};
-ghost use Rattle.papergrid.specs.Reasons.{estimate_reason, reason_of};
+ghost use Rattle.papergrid.specs.Reasons.{estimate_reason, reason_by};
 ghost use Rattle.papergrid_script.specs.ForProofs.Seen.{table_seen};
 
 use crate::estimate::{Sizing, estimate};
@@ -28,33 +27,37 @@ pub enum Reason {
     TooLarge,
 }
 
-/// Why the script that the input spells has no sizes; none where it has. `run` writes the same in its words, and so
-/// does `run_least` wherever there are no least sizes.
+/// Why the script that the input spells has no sizes by shares, or no least ones, as the sizing says; none where it has.
+/// The run with that sizing ends accordingly, and writes the same in its words.
 ///
 /// # Errors
 ///
 /// Out of memory.
-#[tactic(auto, unfolding(crate::specs::Reasons::reason_of))]
-pub fn explain(alloc: Global, input: &[u8]) -> Result<Option<Reason>, AllocError>
-    ensures { IfOk result (λ reason. reason ≡ reason_of input.now) }
+#[tactic(auto, unfolding(crate::specs::Reasons::reason_by))]
+pub fn explain(alloc: Global, sizing: Sizing, input: &[u8]) -> Result<Option<Reason>, AllocError>
+    ensures { IfOk result (λ reason. reason ≡ reason_by sizing input.now) }
 {
     let texts = Bump::new(alloc);
     match read_script(alloc, &texts, input) {
         Err(ScriptError::Memory) => Err(AllocError),
         Err(ScriptError::Bad(number)) => Ok(Some(Reason::BadLine(number))),
-        Ok(script) => table_reason(alloc, script),
+        Ok(script) => table_reason(alloc, sizing, script),
     }
 }
 
 /// Why the table that a script tells has no sizes.
-fn table_reason(alloc: Global, script: Script<'_>) -> Result<Option<Reason>, AllocError>
+fn table_reason(
+    alloc: Global,
+    sizing: Sizing,
+    script: Script<'_>,
+) -> Result<Option<Reason>, AllocError>
     ensures { let table = table_seen script.entry in
-        IfOk result (λ reason. reason ≡ estimate_reason table (estimate_of ByShares table)) }
+        IfOk result (λ reason. reason ≡ estimate_reason table (estimate_of sizing table)) }
 {
     let config = configuration_of(alloc, script.settings)?;
     let (columns, count) = (script.columns, script.rows.len());
     let records = IterRecords::new(script.rows, columns, Some(count));
-    match estimate(alloc, Sizing::ByShares, records, &config) {
+    match estimate(alloc, sizing, records, &config) {
         Ok(_) => Ok(None),
         Err(LayoutError::OutOfTable(position)) => {
             let spans = spans_at(&config, position);

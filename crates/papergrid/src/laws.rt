@@ -1,6 +1,6 @@
 //! Laws of the definitions, each the contract of a function that does nothing.
 
-ghost use Rattle.std.specs.Prelude.{◌≡◌, ◌↔◌, ℕ, List, Option, Some};
+ghost use Rattle.std.specs.Prelude.{◌≡◌, ◌↔◌, ℕ, List, Option, Some, true};
 ghost use Rattle.papergrid_values.specs.declared.position.Position.{Position};
 ghost use Rattle.papergrid_config.specs.Told.{IsTold};
 ghost use Rattle.papergrid_config.specs.declared.spanned.SpannedConfig.{SpannedConfig};
@@ -9,12 +9,22 @@ ghost use Rattle.papergrid_config.specs.Grids.{spanned_grid};
 ghost use Rattle.papergrid_layout.specs.Answers.{first_out_of_table};
 ghost use Rattle.papergrid.specs.declared.estimate.Sizing.{Sizing};
 ghost use Rattle.papergrid.specs.declared.estimate.Sizing.TheVariants.{ByShares, Least};
+ghost use Rattle.papergrid.specs.declared.explained.Reason.{Reason};
+ghost use Rattle.papergrid.specs.declared.running.RunEnd.{RunEnd};
+ghost use Rattle.papergrid.specs.declared.running.RunFault.{RunFault};
+ghost use Rattle.papergrid.specs.declared.transfer.Failed.{Failed};
 ghost use Rattle.papergrid.specs.Estimates.{OutOfTable, Sized, TooLarge, estimate_of, text_measure};
 ghost use Rattle.papergrid.specs.Grids.{grid_of};
+ghost use Rattle.papergrid.specs.Outputs.{end_by, output_by};
+ghost use Rattle.papergrid.specs.Reasons.{IsOfTable, reason_by, reason_text};
 ghost use Rattle.papergrid.specs.Rows.{WorkedRows};
 ghost use Rattle.papergrid_script.specs.Scripts.{Table};
 ghost use Rattle.papergrid.specs.Totals.{AreSized, IsTooLarge};
 
+use crate::estimate::Sizing;
+use crate::explained::Reason;
+use crate::running::{RunEnd, RunFault};
+use crate::transfer::Failed;
 pub use papergrid_script::laws::{
     entity_form, line_form, number_form, script_by_lines, script_lines_form,
     script_settings_in_range,
@@ -46,4 +56,34 @@ pub fn estimate_by_grid()
         estimate_of sizing table ≡ Sized widths heights total_width total_height width_witness height_witness →
         AreSized sizing table widths heights total_width total_height width_witness height_witness }
     ensures least_too_large { (table : Table) → estimate_of Least table ≡ TooLarge → estimate_of ByShares table ≡ TooLarge }
+{}
+
+/// An input has a reason exactly where its run does not end with sizes: a bad line where it ends as a bad script, and one of
+/// its table where it is refused; by shares and of least sizes alike. The run writes that reason in its words.
+pub fn reasons_by_runs()
+    ensures none { (sizing : Sizing) (input : List ℕ) → (reason_by sizing input ≡ None) ↔ (end_by sizing input ≡ RunEnd.Done) }
+    ensures bad_line { (sizing : Sizing) (input : List ℕ) →
+        ((number : ℕ) × (reason_by sizing input ≡ Some (Reason.BadLine number))) ↔ (end_by sizing input ≡ RunEnd.BadScript) }
+    ensures refused { (sizing : Sizing) (input : List ℕ) →
+        ((reason : Reason) × (reason_by sizing input ≡ Some reason) × IsOfTable reason) ↔ (end_by sizing input ≡ RunEnd.Refused) }
+    ensures written { (sizing : Sizing) (input : List ℕ) (reason : Reason) →
+        reason_by sizing input ≡ Some reason → output_by sizing input ≡ reason_text reason }
+{}
+
+/// A clone equals its original.
+pub fn equal_clones()
+    ensures sizing { (x y : Sizing) → ⟦<Sizing as Clone>⟧.is_clone x y → y ≡ x }
+    ensures reason { (x y : Reason) → ⟦<Reason as Clone>⟧.is_clone x y → y ≡ x }
+    ensures end { (x y : RunEnd) → ⟦<RunEnd as Clone>⟧.is_clone x y → y ≡ x }
+    ensures fault { (x y : RunFault) → ⟦<RunFault as Clone>⟧.is_clone x y → y ≡ x }
+    ensures failed { (x y : Failed) → ⟦<Failed as Clone>⟧.is_clone x y → y ≡ x }
+{}
+
+/// Values are equal exactly where they are the same.
+pub fn equal_where_same()
+    ensures sizing { (x y : Sizing) → (⟦<Sizing as PartialEq>⟧.eq x y ≡ true) ↔ (x ≡ y) }
+    ensures reason { (x y : Reason) → (⟦<Reason as PartialEq>⟧.eq x y ≡ true) ↔ (x ≡ y) }
+    ensures end { (x y : RunEnd) → (⟦<RunEnd as PartialEq>⟧.eq x y ≡ true) ↔ (x ≡ y) }
+    ensures fault { (x y : RunFault) → (⟦<RunFault as PartialEq>⟧.eq x y ≡ true) ↔ (x ≡ y) }
+    ensures failed { (x y : Failed) → (⟦<Failed as PartialEq>⟧.eq x y ≡ true) ↔ (x ≡ y) }
 {}

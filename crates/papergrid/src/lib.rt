@@ -24,7 +24,7 @@ pub mod ansi {
 /// What settings are made of.
 pub mod config {
     pub use papergrid_values::{
-        AlignmentHorizontal, AlignmentVertical, Border, Borders, Entity, EntityIterator,
+        AlignmentHorizontal, AlignmentVertical, Border, Borders, Direction, Entity, EntityIterator,
         Formatting, HorizontalLine, Indent, Offset, Position, Sides, VerticalLine,
     };
 
@@ -36,6 +36,7 @@ pub mod config {
     /// The settings of a table.
     pub mod spanned {
         pub use papergrid_config::{EntityMap, MapCall, Setting, SpannedConfig, Stopped};
+        pub use papergrid_maps::Anchor;
     }
 }
 

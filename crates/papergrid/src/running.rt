@@ -4,7 +4,7 @@ ghost use Rattle.std.specs.Prelude.{◌≡◌, ◌⊎◌, ℕ, take, true, false
 ghost use Rattle.std.specs.Io.KnownBytes.{Appends, Consumes, IsAtEnd};
 ghost use Rattle.papergrid.specs.Estimates.{estimate_of};
 ghost use Rattle.papergrid.specs.Outputs.{end_by, end_of, estimate_end, estimate_text, least_end_of, least_output_of, output_by, output_of};
-ghost use Rattle.papergrid.specs.Runs.{IsBrokenLeastRun, IsBrokenRun, IsWholeLeastRun, IsWholeRun};
+ghost use Rattle.papergrid.specs.Runs.{IsBrokenLeastRun, IsBrokenRun, IsWholeInput, IsWholeLeastRun, IsWholeRun};
 ghost use Rattle.papergrid_script.specs.ForProofs.Seen.{table_seen};
 ghost use Rattle.papergrid.specs.ForProofs.Seen.{GivesEstimate};
 ghost use Rattle.papergrid.specs.declared.running.RunFault.TheVariants.{Memory};
@@ -230,7 +230,8 @@ pub fn run_least<S: Source, W: Sink>(
 /// The same by shares or of the least sizes, as the sizing says, and the whole input is left in the vector, in place of what
 /// it held. So a caller can `explain` an input that came from a reader.
 ///
-/// Conditions and errors: as those of `run`. After `Read` the vector is as it was.
+/// Conditions and errors: as those of `run`. After `Read` the vector is as it was. After `Memory` it is as it was or has the
+/// whole input, after `Write` the whole input.
 pub fn run_keeping<S: Source, W: Sink>(
     alloc: Global,
     sizing: Sizing,
@@ -261,6 +262,8 @@ pub fn run_keeping<S: Source, W: Sink>(
     ensures read_nothing { IsErrOf result RunFault.Read → writer.new ≡ writer.old }
     ensures read_kept { IsErrOf result RunFault.Read → input.new ≡ input.old }
     ensures memory_nothing { IsErrOf result RunFault.Memory → writer.new ≡ writer.old }
+    ensures memory_kept { IsErrOf result RunFault.Memory →
+        (input.new ≡ input.old) ⊎ IsWholeInput (S.remaining reader.old) (S.remaining reader.new) input.new.items }
     ensures beginning { IsErrOf result RunFault.Write →
         (n : ℕ) × Appends (W.contents writer.old) (W.contents writer.new) (take n (output_by sizing input.new.items)) }
     ensures write_kept { IsErrOf result RunFault.Write → Consumes (S.remaining reader.old) (S.remaining reader.new) input.new.items }

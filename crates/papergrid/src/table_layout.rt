@@ -2,12 +2,14 @@
 
 ghost use Rattle.std.specs.Prelude.{◌≡◌, All, IfErr, IfOk, List, true};
 ghost use Rattle.papergrid_config.specs.Applied.{is_in_range};
-ghost use Rattle.papergrid_config.specs.Told.{IsTold};
+ghost use Rattle.papergrid_config.specs.declared.spanned.SpannedConfig.{SpannedConfig};
+ghost use Rattle.papergrid_config.specs.Grids.{spanned_grid};
 ghost use Rattle.papergrid_walk.specs.Measures.{line_measure};
 ghost use Rattle.papergrid_layout.specs.Answers.{UnlessMemory};
-ghost use Rattle.papergrid.specs.Layouts.{IsLaidOut, IsLaidOutLeast};
+ghost use Rattle.papergrid.specs.Layouts.{IsConfiguredBy, IsLaidOut, IsLaidOutLeast};
 ghost use Rattle.papergrid.specs.Grids.{grid_of};
 
+use papergrid_config::laws::told_decides;
 use papergrid_config::{Setting, SpannedConfig};
 use papergrid_layout::{Estimate, IterGridDimension, LayoutError, LeastGridDimension};
 use papergrid_text::{IntoRecords, Records};
@@ -15,7 +17,7 @@ use std::alloc::{AllocError, Global};
 use std::convert::AsStr;
 
 /// The widths of the columns of the records, in columns of a terminal, and the heights of their rows, in
-/// lines, by the configuration that the settings tell.
+/// lines, by the configuration that the settings tell: in it each setting of a cell is what they decide.
 ///
 /// Conditions: each setting is in range (`is_in_range` tests it). The records are lawful: they tell one finite list
 /// of rows and one count of columns, as each vector of rows does. A cell answers the same each time.
@@ -35,8 +37,12 @@ where
     <<R as Records>::Iter as IntoRecords>::Cell: AsStr + Drop,
     requires lawful { R.is_lawful records }
     requires in_range { All (λ setting. is_in_range setting ≡ true) settings.items }
-    ensures { UnlessMemory result ((cells : List (List R.Iter.Cell)) × R.tells records cells
+    ensures sizes { UnlessMemory result ((cells : List (List R.Iter.Cell)) × R.tells records cells
         × IsLaidOut (grid_of settings.items) (line_measure R.Iter.Cell.text) (R.columns records) cells result) }
+    // So by a configuration that the settings tell, and that holds for each cell what they decide.
+    ensures settings { UnlessMemory result ((config : SpannedConfig) × IsConfiguredBy settings.items config
+        × ((cells : List (List R.Iter.Cell)) × R.tells records cells
+        × IsLaidOut (spanned_grid config) (line_measure R.Iter.Cell.text) (R.columns records) cells result)) }
 {
     let config = configuration(alloc, settings)?;
     laid_out(IterGridDimension::new(alloc), records, &config)
@@ -61,8 +67,12 @@ where
     <<R as Records>::Iter as IntoRecords>::Cell: AsStr + Drop,
     requires lawful { R.is_lawful records }
     requires in_range { All (λ setting. is_in_range setting ≡ true) settings.items }
-    ensures { UnlessMemory result ((cells : List (List R.Iter.Cell)) × R.tells records cells
+    ensures sizes { UnlessMemory result ((cells : List (List R.Iter.Cell)) × R.tells records cells
         × IsLaidOutLeast (grid_of settings.items) (line_measure R.Iter.Cell.text) (R.columns records) cells result) }
+    // So by a configuration that the settings tell, and that holds for each cell what they decide.
+    ensures settings { UnlessMemory result ((config : SpannedConfig) × IsConfiguredBy settings.items config
+        × ((cells : List (List R.Iter.Cell)) × R.tells records cells
+        × IsLaidOutLeast (spanned_grid config) (line_measure R.Iter.Cell.text) (R.columns records) cells result)) }
 {
     let config = configuration(alloc, settings)?;
     laid_out(LeastGridDimension::new(alloc), records, &config)
@@ -87,8 +97,9 @@ fn laid_out<D: Estimate<R, SpannedConfig> + Drop, R>(
 #[inline(always)]
 pub fn configuration(alloc: Global, settings: Vec<Setting>) -> Result<SpannedConfig, AllocError>
     requires { All (λ setting. is_in_range setting ≡ true) settings.items }
-    ensures { IfOk result (λ config. IsTold settings.items config) }
+    ensures { IfOk result (IsConfiguredBy settings.items) }
 {
+    told_decides();
     let mut config = SpannedConfig::new(alloc);
     match config.apply_all(settings) {
         Ok(()) => Ok(config),

@@ -1,5 +1,6 @@
 pub mod AnswerLemmas
 pub mod CheckSteps
+pub mod EqualLemmas
 pub mod LawLemmas
 pub mod LeastLaws
 pub mod PairLemmas

@@ -11,15 +11,17 @@ use Rattle.papergrid_values.specs.declared.direction.Direction.{Direction}
 use Rattle.papergrid_values.specs.declared.direction.Direction.TheVariants.{Columns, Rows}
 use Rattle.papergrid_values.specs.Positions.{along}
 use Rattle.papergrid_axis.specs.declared.demand.Demand.{Demand}
-use Rattle.papergrid_axis.specs.Answers.{AreSizes, IsTotal}
+use Rattle.papergrid_axis.specs.Answers.{AreSizes, IsTotal, IsTotalBy}
 use Rattle.papergrid_axis.specs.Fits.{HasRoom, range_sum}
 use Rattle.papergrid_axis.specs.Problem.{Problem, total_of}
 use Rattle.papergrid_axis.specs.Ranges.{end_of, first_out, inner_lines, place_of}
 use Rattle.papergrid_axis.proofs.OutLemmas.{if_none}
+use Rattle.papergrid_least.specs.Answers.{AreLeastSizes, IsLeastTotal}
 use Rattle.papergrid_maps.proofs.HiddenLemmas.{position-same}
 use Rattle.papergrid_walk.specs.Cells.{demand_by, placed, problem_of, side, visible_cells}
 use Rattle.papergrid_maps.specs.Grids.{Grid}
-use Rattle.papergrid_layout.specs.Answers.{AreBothSizes}
+use Rattle.papergrid_layout.specs.Answers.{AreBothLeast, AreBothSizes, HoldAlong}
+use Rattle.papergrid_layout.specs.Laws.{HaveRoom}
 use Rattle.papergrid_layout.specs.Places.{DoNotMeet, HasRoomAtPlace, HaveNoneInCommon, IsInside, IsPlaced, StandsOver, extent, offset, place_at, sum_from, total, total_along}
 use Rattle.papergrid_layout.specs.declared.placement.PlaceError.TheVariants.{TooLarge}
 use Rattle.papergrid_layout.proofs.PlaceSums.{extent-before}
@@ -123,20 +125,25 @@ total-told problem sizes many =
     let at : sum_from (slice_index sizes) 0 (length sizes) ≡ sum_from (slice_index sizes) 0 problem.count = ap (sum_from (slice_index sizes) 0) many in
     omega arith
 
-pub fits-told : (problem : Problem) (sizes : List ℕ) → AreSizes problem sizes → total (slice_index sizes) problem.line problem.count < 2 ^ 64
-fits-told problem sizes are =
-    let told : total (slice_index sizes) problem.line problem.count ≡ total_of problem sizes = total-told problem sizes are.fits.one_each in
-    let fits : total_of problem sizes < 2 ^ 64 = are.total in
+fits-told : (problem : Problem) (sizes : List ℕ) → HaveRoom problem sizes → total (slice_index sizes) problem.line problem.count < 2 ^ 64
+fits-told problem sizes have =
+    let told : total (slice_index sizes) problem.line problem.count ≡ total_of problem sizes = total-told problem sizes have.fits.one_each in
+    let fits : total_of problem sizes < 2 ^ 64 = have.total in
     omega arith
 
-pub total-is : (problem : Problem) (sizes : List ℕ) → AreSizes problem sizes → (answer : ℕ) → IsTotal problem answer →
-    answer ≡ total (slice_index sizes) problem.line problem.count
-total-is problem sizes are answer is =
-    is.adds_up ∙ ap (total_of problem) (is.are_sizes.exact ∙ sym are.exact) ∙ sym (total-told problem sizes are.fits.one_each)
+-- the total of sizes of which this holds, where it holds of no others
+total-by : (problem : Problem) (holds : List ℕ → Type 0) (sizes : List ℕ) → holds sizes → ((other : List ℕ) → holds other → other ≡ sizes) → length sizes ≡ problem.count →
+    (answer : ℕ) → IsTotalBy problem holds answer ↔ (answer ≡ total (slice_index sizes) problem.line problem.count)
+total-by problem holds sizes are only many answer = (
+  λ is. is.adds_up ∙ ap (total_of problem) (only is.sizes is.are_sizes) ∙ sym (total-told problem sizes many),
+  λ e. record { sizes = sizes; are_sizes = are; adds_up = e ∙ total-told problem sizes many },
+)
 
-pub is-total : (problem : Problem) (sizes : List ℕ) → AreSizes problem sizes → (answer : ℕ) →
-    answer ≡ total (slice_index sizes) problem.line problem.count → IsTotal problem answer
-is-total problem sizes are answer e = record { sizes = sizes; are_sizes = are; adds_up = e ∙ total-told problem sizes are.fits.one_each }
+total-shares : (problem : Problem) (sizes : List ℕ) → AreSizes problem sizes → (answer : ℕ) → IsTotal problem answer ↔ (answer ≡ total (slice_index sizes) problem.line problem.count)
+total-shares problem sizes are = total-by problem (AreSizes problem) sizes are (λ other is. is.exact ∙ sym are.exact) are.fits.one_each
+
+total-least : (problem : Problem) (sizes : List ℕ) → AreLeastSizes problem sizes → (answer : ℕ) → IsLeastTotal problem answer ↔ (answer ≡ total (slice_index sizes) problem.line problem.count)
+total-least problem sizes are = total-by problem (AreLeastSizes problem) sizes are (λ other is. is.exact ∙ sym are.exact) are.least.fits.one_each
 
 -- ---- room
 
@@ -148,8 +155,31 @@ extent-room line sizes d le room =
     let need : d.need ≤ range_sum sizes d + inner_lines line d = room in
     omega arith
 
+module _ {C : Type 0} (grid : Grid) (measure : C → ℕ × ℕ) (columns : ℕ) (cells : List (List C)) (widths heights : List ℕ) where
+  pub shares-have-room : AreBothSizes grid measure columns cells widths heights → HoldAlong grid measure columns cells HaveRoom widths heights
+  shares-have-room are = record {
+    widths = record { none_out = are.widths.none_out; fits = are.widths.fits; total = are.widths.total };
+    heights = record { none_out = are.heights.none_out; fits = are.heights.fits; total = are.heights.total };
+  }
+
+  pub least-have-room : AreBothLeast grid measure columns cells widths heights → HoldAlong grid measure columns cells HaveRoom widths heights
+  least-have-room are = record {
+    widths = record { none_out = are.widths.none_out; fits = are.widths.least.fits; total = are.widths.total };
+    heights = record { none_out = are.heights.none_out; fits = are.heights.least.fits; total = are.heights.total };
+  }
+
+  pub totals : AreBothSizes grid measure columns cells widths heights → (direction : Direction) (answer : ℕ) → IsTotal (problem_of grid measure columns cells direction) answer
+      ↔ (answer ≡ total_along grid (slice_index widths) (slice_index heights) (length cells, columns) direction)
+  totals are Columns answer = total-shares (problem_of grid measure columns cells Columns) widths are.widths answer
+  totals are Rows answer = total-shares (problem_of grid measure columns cells Rows) heights are.heights answer
+
+  pub least-totals : AreBothLeast grid measure columns cells widths heights → (direction : Direction) (answer : ℕ) → IsLeastTotal (problem_of grid measure columns cells direction) answer
+      ↔ (answer ≡ total_along grid (slice_index widths) (slice_index heights) (length cells, columns) direction)
+  least-totals are Columns answer = total-least (problem_of grid measure columns cells Columns) widths are.widths answer
+  least-totals are Rows answer = total-least (problem_of grid measure columns cells Rows) heights are.heights answer
+
 module _ {C : Type 0} (grid : Grid) (measure : C → ℕ × ℕ) (columns : ℕ) (cells : List (List C)) (widths heights : List ℕ)
-    (are : AreBothSizes grid measure columns cells widths heights) where
+    (have : HoldAlong grid measure columns cells HaveRoom widths heights) where
   abbrev problem : Direction → Problem
   problem = problem_of grid measure columns cells
 
@@ -157,13 +187,13 @@ module _ {C : Type 0} (grid : Grid) (measure : C → ℕ × ℕ) (columns : ℕ)
   size Columns = widths
   size Rows = heights
 
-  sized : (direction : Direction) → AreSizes (problem direction) (size direction)
-  sized Columns = are.widths
-  sized Rows = are.heights
+  sized : (direction : Direction) → HaveRoom (problem direction) (size direction)
+  sized Columns = have.widths
+  sized Rows = have.heights
 
   pub both-fit : (direction : Direction) → total_along grid (slice_index widths) (slice_index heights) (length cells, columns) direction < 2 ^ 64
-  both-fit Columns = fits-told (problem Columns) widths are.widths
-  both-fit Rows = fits-told (problem Rows) heights are.heights
+  both-fit Columns = fits-told (problem Columns) widths have.widths
+  both-fit Rows = fits-told (problem Rows) heights have.heights
 
   abbrev HasRoomIn : Position × C → Type 0
   HasRoomIn = HasRoomAtPlace grid measure (length cells, columns) widths heights
@@ -221,8 +251,8 @@ module _ {C : Type 0} (grid : Grid) (measure : C → ℕ × ℕ) (columns : ℕ)
   pub all-have-room : All HasRoomIn (visible_cells grid cells)
   all-have-room =
       each (visible_cells grid cells) (shown (placed cells))
-      (good Columns (visible_cells grid cells) are.widths.none_out are.widths.fits.room)
-      (good Rows (visible_cells grid cells) are.heights.none_out are.heights.fits.room)
+      (good Columns (visible_cells grid cells) have.widths.none_out have.widths.fits.room)
+      (good Rows (visible_cells grid cells) have.heights.none_out have.heights.fits.room)
 
   pub never-too-large : (p : Position) → IsPlaced grid (slice_index widths) (slice_index heights) (length cells, columns) p (Err TooLarge) → ⊥
   never-too-large p refused =
@@ -232,8 +262,3 @@ module _ {C : Type 0} (grid : Grid) (measure : C → ℕ × ℕ) (columns : ℕ)
         | inl large ↦ omega arith
         | inr large ↦ omega arith
       ]
-
-  pub totals : (direction : Direction) (answer : ℕ) → IsTotal (problem direction) answer
-      ↔ (answer ≡ total_along grid (slice_index widths) (slice_index heights) (length cells, columns) direction)
-  totals Columns answer = (total-is (problem Columns) widths are.widths answer, is-total (problem Columns) widths are.widths answer)
-  totals Rows answer = (total-is (problem Rows) heights are.heights answer, is-total (problem Rows) heights are.heights answer)

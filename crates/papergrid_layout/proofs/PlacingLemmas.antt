@@ -1,6 +1,6 @@
 -- What is known of the listed places, step by step.
 use Rattle.std.proofs.Common.{◌≡◌, ◌∙◌, ℕ, ◌+◌, ◌<◌, ◌≤◌, ◌^◌, ◌⊎◌, Bool, true, false, inl, inr, List, [], ◌∷◌, ◌++◌, None, Some, refl, sym, ap, subst, arith}
-use Rattle.std.specs.Prelude.{Contains, Err, if◌then◌else◌}
+use Rattle.std.specs.Prelude.{All, Contains, Err, if◌then◌else◌}
 use Rattle.std.proofs.lemmas.Bool.{cases_lt, false≢true}
 use Rattle.std.proofs.lemmas.List.Elements.{All-append, All-cons, All-contains, All-nil, All-weaker, Contains-append_left, Contains-push}
 use Rattle.std.proofs.lemmas.List.Quantifiers.{all_pairs_push}
@@ -17,12 +17,25 @@ use Rattle.papergrid_walk.specs.ForProofs.Visits.{shows_turn}
 use Rattle.papergrid_maps.specs.Grids.{Grid}
 use Rattle.papergrid_config.specs.Grids.{spanned_grid}
 use Rattle.papergrid_maps.proofs.HiddenLemmas.{position-same}
-use Rattle.papergrid_layout.specs.Places.{HasPlace, HaveAllPlaces, IsFirstRefused, IsPlaced, IsVisibleCell, extent, offset, place_at, total_along}
+use Rattle.papergrid_layout.specs.Places.{EndsWithin, HasPlace, HaveAllPlaces, IsFirstRefused, IsPlaced, IsVisibleCell, extent, offset, place_at, total_along}
 use Rattle.papergrid_layout.specs.declared.placement.Place.{Place}
 use Rattle.papergrid_layout.specs.declared.placement.PlaceError.{PlaceError}
 use Rattle.papergrid_layout.specs.declared.placement.PlaceError.TheVariants.{OutOfTable}
 use Rattle.papergrid_layout.specs.declared.placing.Placing.{Placing}
 use Rattle.papergrid_layout.specs.ForProofs.Placing.{ArePlacedBefore, HasPlaced, Table}
+use Rattle.papergrid_layout.proofs.PlaceSums.{extent-before}
+
+-- ---- within the totals
+
+ends-within : (grid : Grid) (widths heights : ℕ → ℕ) (shape : ℕ × ℕ) (p : Position) (place : Place) → HasPlace grid widths heights shape p place → EndsWithin grid widths heights shape place
+ends-within grid widths heights shape p place has = subst (EndsWithin grid widths heights shape) (sym has.exact) (
+  extent-before widths (grid.draws Columns shape.1) p.col (grid.span Columns p) shape.1 has.inside.across,
+  extent-before heights (grid.draws Rows shape.0) p.row (grid.span Rows p) shape.0 has.inside.down,
+)
+
+pub all-end-within : (grid : Grid) (widths heights : ℕ → ℕ) (shape : ℕ × ℕ) (list : List (Position × Place)) → HaveAllPlaces grid widths heights shape list → All (λ x. EndsWithin grid widths heights shape x.1) list
+all-end-within grid widths heights shape list have =
+    All-weaker (λ x. HasPlace grid widths heights shape x.0 x.1) (λ x. EndsWithin grid widths heights shape x.1) (λ x. ends-within grid widths heights shape x.0 x.1) list have.placed
 
 -- ---- what is found of a position
 

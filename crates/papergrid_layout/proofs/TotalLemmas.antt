@@ -6,12 +6,13 @@ use Rattle.std.proofs.lemmas.List.Elements.{All-cons, All-head, All-nil, All-tai
 use Rattle.papergrid_values.specs.declared.position.Position.{Position}
 use Rattle.papergrid_values.specs.declared.direction.Direction.{Direction}
 use Rattle.papergrid_axis.specs.Answers.{IsTotal, IsTotalBy}
-use Rattle.papergrid_axis.specs.Fits.{HasRoom}
+use Rattle.papergrid_axis.specs.Fits.{Fits, HasRoom}
 use Rattle.papergrid_axis.specs.Problem.{Problem, total_of}
 use Rattle.papergrid_values.specs.Lines.{all_lines}
 use Rattle.papergrid_axis.specs.Ranges.{end_of, first_out, place_of}
 use Rattle.papergrid_axis.proofs.LoopLemmas.{need_within_total}
 use Rattle.papergrid_axis.proofs.OutLemmas.{if_none}
+use Rattle.papergrid_least.specs.Answers.{IsLeastTotal}
 use Rattle.papergrid_walk.specs.Cells.{demand_by, problem_of, side, visible_cells}
 use Rattle.papergrid_maps.specs.Grids.{Grid}
 
@@ -49,7 +50,13 @@ module _ {C : Type 0} (grid : Grid) (measure : C → ℕ × ℕ) (columns : ℕ)
       let need : d.need ≤ sum sizes + all_lines problem.line problem.count = need_within_total problem.line problem.count sizes d ends (All-head (HasRoom problem.line sizes) d ds room) in
       All-cons (NeedsAtMost total) x xs (omega arith) (each_within sizes total le xs inside.1 (All-tail (HasRoom problem.line sizes) d ds room))
 
+  pub fitting_covers : (sizes : List ℕ) → first_out problem.count problem.demands ≡ None → Fits problem sizes → All (NeedsAtMost (total_of problem sizes)) (visible_cells grid cells)
+  fitting_covers sizes none fits = each_within sizes (total_of problem sizes) (omega arith) (visible_cells grid cells) none fits.room
+
   pub total_covers : (total : ℕ) → IsTotal problem total → All (NeedsAtMost total) (visible_cells grid cells)
   total_covers total is =
-      let adds : total ≡ sum is.sizes + all_lines problem.line problem.count = is.adds_up in
-      each_within is.sizes total (omega arith) (visible_cells grid cells) is.are_sizes.none_out is.are_sizes.fits.room
+      subst (λ n. All (NeedsAtMost n) (visible_cells grid cells)) (sym is.adds_up) (fitting_covers is.sizes is.are_sizes.none_out is.are_sizes.fits)
+
+  pub least_total_covers : (total : ℕ) → IsLeastTotal problem total → All (NeedsAtMost total) (visible_cells grid cells)
+  least_total_covers total is =
+      subst (λ n. All (NeedsAtMost n) (visible_cells grid cells)) (sym is.adds_up) (fitting_covers is.sizes is.are_sizes.none_out is.are_sizes.least.fits)

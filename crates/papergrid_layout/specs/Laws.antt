@@ -1,10 +1,13 @@
 -- What the laws are about.
-use Rattle.std.specs.Prelude.{◌≡◌, ◌≢◌, ◌<◌, ◌&&◌, ℕ, Bool, List, [], ◌∷◌, ◌++◌, filter, length, slice_index_or}
+use Rattle.std.specs.Prelude.{◌≡◌, ◌≢◌, ◌<◌, ◌^◌, ◌&&◌, ℕ, Bool, List, [], ◌∷◌, ◌++◌, None, filter, length, slice_index_or}
 use Rattle.std.specs.List.{flat_map}
 use Rattle.papergrid_values.specs.declared.position.Position.{Position}
 use Rattle.papergrid_text.specs.Measured.{Measured}
 use Rattle.papergrid_text.specs.Text.{greatest_width, kept_by_new, split_lines}
 use Rattle.papergrid_values.specs.declared.direction.Direction.{Direction}
+use Rattle.papergrid_axis.specs.Fits.{Fits}
+use Rattle.papergrid_axis.specs.Problem.{Problem, total_of}
+use Rattle.papergrid_axis.specs.Ranges.{first_out}
 use Rattle.papergrid_axis.specs.Sizes.{sizes_of}
 use Rattle.papergrid_keys.specs.Keys.{position_eq}
 use Rattle.papergrid_maps.specs.Spans as spans
@@ -34,6 +37,12 @@ IsCellAt rows p cell = (p.row < length rows) × HasCell (slice_index_or rows p.r
 -- the sizes along a direction, of so many columns (rows), that told rows have
 abbrev pub sizes_told : {C : Type 0} → Direction → Grid → (C → ℕ × ℕ) → ℕ → List (List C) → List ℕ
 sizes_told direction grid measure n rows = sizes_of (problem_with grid measure direction n rows)
+
+-- no visible cell reaches out along a direction, each has room in the sizes, and with all lines they fit 64 bits
+pub record HaveRoom (problem : Problem) (sizes : List ℕ) : Type 0 where
+  pub none_out : first_out problem.count problem.demands ≡ None
+  pub fits : Fits problem sizes
+  pub total : total_of problem sizes < 2 ^ 64
 
 -- the same spans, paddings and lines
 pub record TellTheSame (settings other : List Setting) : Type 0 where

@@ -77,6 +77,10 @@ module _ (grid : Grid) (widths heights : ℕ → ℕ) (shape : ℕ × ℕ) where
     height = length_along Rows p;
   }
 
+  -- a place ends within both totals
+  abbrev pub EndsWithin : Place → Type 0
+  EndsWithin place = (place.left + place.width ≤ total_along Columns) × (place.top + place.height ≤ total_along Rows)
+
   -- its range ends past the last column (row)
   abbrev pub ReachesOut : Position → Direction → Type 0
   ReachesOut p direction = shape_along direction < along direction p + grid.span direction p

@@ -1,6 +1,6 @@
 //! Laws of the definitions, each the contract of a function that does nothing.
 
-ghost use Rattle.std.specs.Prelude.{◌≡◌, ◌≢◌, ◌↔◌, ◌+◌, ◌≤◌, ◌<◌, ◌^◌, ℕ, All, AllPairs, Contains, Err, List, length, map, slice_index};
+ghost use Rattle.std.specs.Prelude.{◌≡◌, ◌≢◌, ◌↔◌, ◌+◌, ◌≤◌, ◌<◌, ◌^◌, ℕ, All, AllPairs, Contains, Err, List, length, map, slice_index, true};
 ghost use Rattle.std.specs.Borrow.{Bor};
 ghost use Rattle.papergrid_values.specs.declared.position.Position.{Position};
 ghost use Rattle.papergrid_values.specs.Positions.{IsBefore};
@@ -8,10 +8,10 @@ ghost use Rattle.papergrid_text.specs.Measured.{Measured};
 ghost use Rattle.papergrid_values.specs.declared.direction.Direction.{Direction};
 ghost use Rattle.papergrid_values.specs.declared.direction.Direction.TheVariants.{Columns, Rows};
 ghost use Rattle.papergrid_axis.specs.Answers.{AreSizes, IsAccepted, IsTotal};
-ghost use Rattle.papergrid_axis.specs.Fits.{IsLeast};
-ghost use Rattle.papergrid_axis.specs.Problem.{Problem};
+ghost use Rattle.papergrid_axis.specs.Fits.{Fits, IsLeast};
+ghost use Rattle.papergrid_axis.specs.Problem.{Problem, total_of};
 ghost use Rattle.papergrid_axis.specs.Ranges.{IsKeptApart, first_out};
-ghost use Rattle.papergrid_least.specs.Answers.{AreLeastSizes, AreLongest};
+ghost use Rattle.papergrid_least.specs.Answers.{AreLeastSizes, AreLongest, IsLeastTotal};
 ghost use Rattle.papergrid_config.specs.Told.{IsTold};
 ghost use Rattle.papergrid_config.specs.declared.setting.Setting.{Setting};
 ghost use Rattle.papergrid_config.specs.declared.spanned.SpannedConfig.{SpannedConfig};
@@ -19,9 +19,12 @@ ghost use Rattle.papergrid_walk.specs.Cells.{demands_of, placed, problem_of, sid
 ghost use Rattle.papergrid_maps.specs.Grids.{Grid};
 ghost use Rattle.papergrid_config.specs.Grids.{spanned_grid};
 ghost use Rattle.papergrid_walk.specs.Measures.{cell_measure, line_measure};
-ghost use Rattle.papergrid_layout.specs.Answers.{AreBothSizes, first_out_of_table};
-ghost use Rattle.papergrid_layout.specs.Laws.{AreReordered, AreSwapped, IsCellAt, IsNewText, TellTheSame, sizes_told};
+ghost use Rattle.papergrid_layout.specs.Answers.{AreBothLeast, AreBothSizes, HoldAlong, first_out_of_table};
+ghost use Rattle.papergrid_layout.specs.Laws.{AreReordered, AreSwapped, HaveRoom, IsCellAt, IsNewText, TellTheSame, sizes_told};
 ghost use Rattle.papergrid_layout.specs.Places.{DoNotMeet, HasRoomAtPlace, HaveNoneInCommon, IsInside, IsPlaced, StandsOver, place_at, total_along};
+ghost use Rattle.papergrid_axis.specs.declared.error.LayoutError.{LayoutError};
+ghost use Rattle.papergrid_layout.specs.declared.placement.Place.{Place};
+ghost use Rattle.papergrid_layout.specs.declared.placement.PlaceError.{PlaceError};
 ghost use Rattle.papergrid_layout.specs.declared.placement.PlaceError.TheVariants.{TooLarge};
 ghost use Rattle.papergrid_layout.specs.declared.compact.CompactGridDimension.{CompactGridDimension};
 ghost use Rattle.papergrid_layout.specs.declared.iterable.IterGridDimension.{IterGridDimension};
@@ -32,6 +35,8 @@ use crate::compact::CompactGridDimension;
 use crate::iterable::IterGridDimension;
 use crate::least::LeastGridDimension;
 use crate::peekable::PeekableGridDimension;
+use crate::placement::{Place, PlaceError};
+use papergrid_axis::LayoutError;
 use papergrid_text::{Cell, Text};
 use std::convert::AsStr;
 
@@ -84,10 +89,20 @@ pub fn none_reaches_out<C>()
         × (first_out (length rows) (demands_of Rows grid measure rows) ≡ None)) }
 {}
 
-/// No visible cell needs more than the total with its lines: none is wider, or higher, than the table.
+/// No visible cell needs more than the total with its lines, whatever sizes fit: none is wider, or higher, than the table.
+/// So it is of the total by shares and of the least one.
 pub fn total_covers_cells<C>()
-    ensures { (grid : Grid) (measure : C → ℕ × ℕ) (columns : ℕ) (rows : List (List C)) (direction : Direction) (total : ℕ) →
+    ensures fitting { (grid : Grid) (measure : C → ℕ × ℕ) (columns : ℕ) (rows : List (List C)) (direction : Direction) (sizes : List ℕ) →
+        let problem = problem_of grid measure columns rows direction in
+        first_out problem.count problem.demands ≡ None → Fits problem sizes →
+        All (λ cell. side direction (measure cell.1) + grid.before direction cell.0 + grid.after direction cell.0 ≤ total_of problem sizes)
+        (visible_cells grid rows) }
+    ensures shares { (grid : Grid) (measure : C → ℕ × ℕ) (columns : ℕ) (rows : List (List C)) (direction : Direction) (total : ℕ) →
         IsTotal (problem_of grid measure columns rows direction) total →
+        All (λ cell. side direction (measure cell.1) + grid.before direction cell.0 + grid.after direction cell.0 ≤ total)
+        (visible_cells grid rows) }
+    ensures least { (grid : Grid) (measure : C → ℕ × ℕ) (columns : ℕ) (rows : List (List C)) (direction : Direction) (total : ℕ) →
+        IsLeastTotal (problem_of grid measure columns rows direction) total →
         All (λ cell. side direction (measure cell.1) + grid.before direction cell.0 + grid.after direction cell.0 ≤ total)
         (visible_cells grid rows) }
 {}
@@ -110,12 +125,29 @@ pub fn least_as_by_shares<C>()
         AreLeastSizes problem sizes → AreLongest problem places → IsAccepted problem sizes places }
 {}
 
-/// A clone of a dimension equals it.
+/// A clone of a dimension, of a place or of an error equals it.
 pub fn equal_clones()
     ensures iterable { (x y : IterGridDimension) → ⟦<IterGridDimension as Clone>⟧.is_clone x y → y ≡ x }
     ensures least { (x y : LeastGridDimension) → ⟦<LeastGridDimension as Clone>⟧.is_clone x y → y ≡ x }
     ensures peekable { (x y : PeekableGridDimension) → ⟦<PeekableGridDimension as Clone>⟧.is_clone x y → y ≡ x }
     ensures compact { (x y : CompactGridDimension) → ⟦<CompactGridDimension as Clone>⟧.is_clone x y → y ≡ x }
+    ensures place { (x y : Place) → ⟦<Place as Clone>⟧.is_clone x y → y ≡ x }
+    ensures place_error { (x y : PlaceError) → ⟦<PlaceError as Clone>⟧.is_clone x y → y ≡ x }
+    ensures layout_error { (x y : LayoutError) → ⟦<LayoutError as Clone>⟧.is_clone x y → y ≡ x }
+{}
+
+/// Dimensions are equal exactly where their sizes are, places and errors exactly where they are the same.
+pub fn equal_where_same()
+    ensures iterable { (x y : IterGridDimension) → (⟦<IterGridDimension as PartialEq>⟧.eq x y ≡ true)
+        ↔ ((x.widths ≡ y.widths) × (x.heights ≡ y.heights)) }
+    ensures least { (x y : LeastGridDimension) → (⟦<LeastGridDimension as PartialEq>⟧.eq x y ≡ true)
+        ↔ ((x.widths ≡ y.widths) × (x.heights ≡ y.heights)) }
+    ensures peekable { (x y : PeekableGridDimension) → (⟦<PeekableGridDimension as PartialEq>⟧.eq x y ≡ true)
+        ↔ ((x.widths ≡ y.widths) × (x.heights ≡ y.heights)) }
+    ensures compact { (x y : CompactGridDimension) → (⟦<CompactGridDimension as PartialEq>⟧.eq x y ≡ true) ↔ (x.widths ≡ y.widths) }
+    ensures place { (x y : Place) → (⟦<Place as PartialEq>⟧.eq x y ≡ true) ↔ (x ≡ y) }
+    ensures place_error { (x y : PlaceError) → (⟦<PlaceError as PartialEq>⟧.eq x y ≡ true) ↔ (x ≡ y) }
+    ensures layout_error { (x y : LayoutError) → (⟦<LayoutError as PartialEq>⟧.eq x y ≡ true) ↔ (x ≡ y) }
 {}
 
 /// The places of two cells of one table whose rectangles have no position in common do not meet.
@@ -132,20 +164,29 @@ pub fn points_in_one_cell()
         (q : Position) → StandsOver grid widths heights shape x y q → q ≡ p }
 {}
 
-/// With the sizes that records have, each visible cell has a place, and room in it, and none is refused
-/// as too large. The totals fit, and are those of the records' table.
+/// With any sizes along both directions that have room, by shares and least ones among them, each visible cell has a
+/// place, and room in it, and none is refused as too large. The totals fit; by shares and for least sizes they are those
+/// of the records' table.
 pub fn places_have_room<C>()
     ensures room { (grid : Grid) (measure : C → ℕ × ℕ) (columns : ℕ) (rows : List (List C)) (widths heights : List ℕ) →
-        AreBothSizes grid measure columns rows widths heights →
+        HoldAlong grid measure columns rows HaveRoom widths heights →
         All (HasRoomAtPlace grid measure (length rows, columns) widths heights) (visible_cells grid rows) }
     ensures never_too_large { (grid : Grid) (measure : C → ℕ × ℕ) (columns : ℕ) (rows : List (List C)) (widths heights : List ℕ) →
-        AreBothSizes grid measure columns rows widths heights → (p : Position) →
+        HoldAlong grid measure columns rows HaveRoom widths heights → (p : Position) →
         IsPlaced grid (slice_index widths) (slice_index heights) (length rows, columns) p (Err TooLarge) → ⊥ }
     ensures fit { (grid : Grid) (measure : C → ℕ × ℕ) (columns : ℕ) (rows : List (List C)) (widths heights : List ℕ) →
-        AreBothSizes grid measure columns rows widths heights → (direction : Direction) →
+        HoldAlong grid measure columns rows HaveRoom widths heights → (direction : Direction) →
         total_along grid (slice_index widths) (slice_index heights) (length rows, columns) direction < 2 ^ 64 }
+    ensures shares { (grid : Grid) (measure : C → ℕ × ℕ) (columns : ℕ) (rows : List (List C)) (widths heights : List ℕ) →
+        AreBothSizes grid measure columns rows widths heights → HoldAlong grid measure columns rows HaveRoom widths heights }
+    ensures least { (grid : Grid) (measure : C → ℕ × ℕ) (columns : ℕ) (rows : List (List C)) (widths heights : List ℕ) →
+        AreBothLeast grid measure columns rows widths heights → HoldAlong grid measure columns rows HaveRoom widths heights }
     ensures totals { (grid : Grid) (measure : C → ℕ × ℕ) (columns : ℕ) (rows : List (List C)) (widths heights : List ℕ) →
         AreBothSizes grid measure columns rows widths heights → (direction : Direction) (total : ℕ) →
         IsTotal (problem_of grid measure columns rows direction) total
+        ↔ (total ≡ total_along grid (slice_index widths) (slice_index heights) (length rows, columns) direction) }
+    ensures least_totals { (grid : Grid) (measure : C → ℕ × ℕ) (columns : ℕ) (rows : List (List C)) (widths heights : List ℕ) →
+        AreBothLeast grid measure columns rows widths heights → (direction : Direction) (total : ℕ) →
+        IsLeastTotal (problem_of grid measure columns rows direction) total
         ↔ (total ≡ total_along grid (slice_index widths) (slice_index heights) (length rows, columns) direction) }
 {}

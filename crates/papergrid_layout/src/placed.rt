@@ -1,9 +1,8 @@
 //! The place of one cell.
 
-ghost use Rattle.std.specs.Prelude.{◌≡◌, ◌+◌, ◌<◌, ◌≤◌, ℕ, IfOk};
-ghost use Rattle.papergrid_values.specs.declared.direction.Direction.TheVariants.{Columns, Rows};
+ghost use Rattle.std.specs.Prelude.{◌<◌, ℕ, IfOk};
 ghost use Rattle.papergrid_config.specs.Grids.{spanned_grid};
-ghost use Rattle.papergrid_layout.specs.Places.{IsPlaced, total_along};
+ghost use Rattle.papergrid_layout.specs.Places.{EndsWithin, IsPlaced};
 
 use crate::dimension::Dimension;
 use crate::placement::{Place, PlaceError};
@@ -31,8 +30,7 @@ pub fn place<D: Dimension>(
     requires columns { (column : ℕ) → column < shape.1 → D.has_column dim.now column }
     requires rows { (row : ℕ) → row < shape.0 → D.has_row dim.now row }
     ensures exact { IsPlaced (spanned_grid cfg.now) (D.width_of dim.now) (D.height_of dim.now) shape pos result }
-    ensures within { let total = total_along (spanned_grid cfg.now) (D.width_of dim.now) (D.height_of dim.now) shape in
-        IfOk result (λ place. (place.left + place.width ≤ total Columns) × (place.top + place.height ≤ total Rows)) }
+    ensures within { IfOk result (EndsWithin (spanned_grid cfg.now) (D.width_of dim.now) (D.height_of dim.now) shape) }
 {
     let (rows, columns) = shape;
     let across = Ruler::new(dim, cfg, Direction::Columns, columns);

@@ -1,11 +1,12 @@
 //! The places of all visible cells.
 
-ghost use Rattle.std.specs.Prelude.{◌≡◌, ◌+◌, ◌-◌, ◌<◌, ◌≤◌, ◌^◌, ℕ, IfErr, IfOk};
+ghost use Rattle.std.specs.Prelude.{◌≡◌, ◌+◌, ◌-◌, ◌<◌, ◌≤◌, ◌^◌, ◌⊎◌, [], ℕ, All, IfErr, IfOk};
 ghost use Rattle.std.specs.Option.{SomeIff};
+ghost use Rattle.std.specs.Result.{IsOkAnd};
 ghost use Rattle.papergrid_values.specs.declared.direction.Direction.{Direction};
 ghost use Rattle.papergrid_config.specs.Grids.{spanned_grid};
 ghost use Rattle.papergrid_walk.specs.ForProofs.Shown.{anchor_in};
-ghost use Rattle.papergrid_layout.specs.Places.{ArePlacesRefused, HaveAllPlaces, place_at, total_along};
+ghost use Rattle.papergrid_layout.specs.Places.{ArePlacesRefused, EndsWithin, HaveAllPlaces, place_at, total_along};
 ghost use Rattle.papergrid_layout.specs.ForProofs.Placing.{AreMarked, HasPlaced, Table, table_of};
 
 use crate::dimension::Dimension;
@@ -135,7 +136,8 @@ impl Placing {
 /// # Errors
 ///
 /// That of the first visible cell, by row and then by column, which `place` refuses: `OutOfTable` with its
-/// position, or `TooLarge`. `Memory` in place of any answer.
+/// position, or `TooLarge`. `Memory` in place of any answer, but for a table without rows or columns: that is
+/// never refused.
 pub fn places<D: Dimension>(
     alloc: Global,
     dim: &D,
@@ -146,6 +148,9 @@ pub fn places<D: Dimension>(
     requires rows { (row : ℕ) → row < shape.0 → D.has_row dim.now row }
     ensures ok { IfOk result (λ places. HaveAllPlaces (spanned_grid cfg.now) (D.width_of dim.now) (D.height_of dim.now) shape places.items) }
     ensures err { IfErr result (ArePlacesRefused (spanned_grid cfg.now) (D.width_of dim.now) (D.height_of dim.now) shape) }
+    ensures within { IfOk result (λ places. All (λ x.
+        EndsWithin (spanned_grid cfg.now) (D.width_of dim.now) (D.height_of dim.now) shape x.1) places.items) }
+    ensures empty { (shape.0 ≡ 0) ⊎ (shape.1 ≡ 0) → IsOkAnd result (λ places. places.items ≡ []) }
 {
     let (rows, columns) = shape;
     if rows == 0 || columns == 0 {

@@ -2,12 +2,12 @@
 
 use crate::forms::{form_like, form_of};
 use papergrid::config::Position;
-use papergrid::{Reason, explain};
+use papergrid::{Reason, Sizing, explain};
 use std::alloc::{AllocError, Global};
 
 /// Why the script that the input spells has no sizes, in one line; none where it has.
 pub fn message_of(alloc: Global, input: &[u8]) -> Result<Option<String>, AllocError> {
-    match explain(alloc, input)? {
+    match explain(alloc, Sizing::ByShares, input)? {
         None => Ok(None),
         Some(Reason::BadLine(number)) => Ok(Some(bad_line(alloc, input, number)?)),
         Some(Reason::OutOfTable(position, spans, shape)) => {

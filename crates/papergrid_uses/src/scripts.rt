@@ -6,7 +6,7 @@ ghost use Rattle.papergrid.specs.Outputs.{end_of, output_of};
 ghost use Rattle.papergrid.specs.Reasons.{reason_of};
 ghost use Rattle.papergrid_uses.specs.Scripts.{bad_number};
 
-use papergrid::{ReadSource, Reason, RunEnd, RunFault, Sink, explain, run};
+use papergrid::{ReadSource, Reason, RunEnd, RunFault, Sink, Sizing, explain, run};
 use std::alloc::{AllocError, Global};
 
 /// Writes what the program answers to a script, and tells how that ended. Condition: the writer has not failed.
@@ -25,7 +25,7 @@ pub fn answer_to<W: Sink>(alloc: Global, script: &[u8], writer: &mut W) -> Resul
 pub fn bad_line(alloc: Global, script: &[u8]) -> Result<Option<usize>, AllocError>
     ensures { IfOk result (λ bad. bad ≡ bad_number (reason_of script.now)) }
 {
-    match explain(alloc, script)? {
+    match explain(alloc, Sizing::ByShares, script)? {
         Some(Reason::BadLine(number)) => Ok(Some(number)),
         Some(Reason::OutOfTable(..)) => Ok(None),
         Some(Reason::TooLarge) => Ok(None),

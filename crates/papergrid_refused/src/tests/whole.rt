@@ -7,7 +7,7 @@ use super::says;
 use super::sizes::{in_table, rows, settings};
 use papergrid::records::vec_records::VecRecords;
 use papergrid::{
-    ReadSource, RunEnd, RunFault, WriteSink, explain, layout, layout_least, run, run_least,
+    ReadSource, RunEnd, RunFault, Sizing, WriteSink, explain, layout, layout_least, run, run_least,
 };
 use papergrid_config::Setting;
 use std::alloc::AllocError;
@@ -45,7 +45,7 @@ fn layout_least_of_picture(rt: HostRuntime) -> Result<(), Fail> {
 /// The picture has sizes, and to know that asks for memory.
 #[test]
 fn explain_of_picture(rt: HostRuntime) -> Result<(), Fail> {
-    let answer = explain(rt.alloc(), PICTURE);
+    let answer = explain(rt.alloc(), Sizing::ByShares, PICTURE);
     assert!(rt; matches!(&answer, Ok(None) | Err(_)));
     says(answer)
 }

@@ -2,7 +2,7 @@
 
 use crate::scripts::{answer_to, bad_line};
 use papergrid::config::Position;
-use papergrid::{Reason, RunEnd, WriteSink, explain};
+use papergrid::{Reason, RunEnd, Sizing, WriteSink, explain};
 use std::alloc::Global;
 
 /// Each script of `examples`, and why it has no sizes.
@@ -45,9 +45,7 @@ const OTHERS: [(&[u8], Option<Reason>); 6] = [
 ];
 
 fn is_explained(alloc: Global, cases: &[(&[u8], Option<Reason>)]) -> bool {
-    cases
-        .iter()
-        .all(|(script, reason)| explain(alloc, *script) == Ok(*reason))
+    cases.iter().all(|(script, reason)| explain(alloc, Sizing::ByShares, *script) == Ok(*reason))
 }
 
 #[test]

@@ -4,7 +4,6 @@ use Rattle.std.proofs.lemmas.List.{length-map}
 use Rattle.papergrid_maps.specs.Spans.{column_span, row_span}
 use Rattle.papergrid_maps.proofs.MadeTables.{told_spans}
 use Rattle.papergrid_config.specs.Parts.{span_calls}
-use Rattle.papergrid.specs.declared.estimate.Sizing.TheVariants.{ByShares}
 use Rattle.papergrid.specs.Estimates.{OutOfTable}
 use Rattle.papergrid.specs.Reasons.{estimate_reason}
 use Rattle.papergrid_script.specs.ForProofs.Seen.{table_seen, texts_of}
@@ -15,7 +14,7 @@ use Rattle.papergrid.proofs.explained.table_reason.Goals as goal
 
 pub returns-in-Ok : goal.returns-in-Ok
 returns-in-Ok c =
-    let gave = gives_seen (λ cell. cell.now) c.args.script c.in_ok-config.config _ _ ByShares c.estimate.result c.in_ok-config.ensures.told (ap (λ r. r.iter.items) c.new-records.ensures) (ap (λ r. r.count_columns) c.new-records.ensures) c.estimate.ensures in
+    let gave = gives_seen (λ cell. cell.now) c.args.script c.in_ok-config.config _ _ c.args.sizing c.estimate.result c.in_ok-config.ensures.told (ap (λ r. r.iter.items) c.new-records.ensures) (ap (λ r. r.count_columns) c.new-records.ensures) c.estimate.ensures in
     let is = rw c.in-Ok.is at gave in
     ap (estimate_reason (table_seen c.args.script)) is
 
@@ -23,7 +22,7 @@ pub returns-in-Err-OutOfTable : goal.returns-in-Err-OutOfTable
 returns-in-Err-OutOfTable c =
     let script = c.args.script in
     let place = c.in-Err-OutOfTable.position in
-    let gave = gives_seen (λ cell. cell.now) script c.in_ok-config.config _ _ ByShares c.estimate.result c.in_ok-config.ensures.told (ap (λ r. r.iter.items) c.new-records.ensures) (ap (λ r. r.count_columns) c.new-records.ensures) c.estimate.ensures in
+    let gave = gives_seen (λ cell. cell.now) script c.in_ok-config.config _ _ c.args.sizing c.estimate.result c.in_ok-config.ensures.told (ap (λ r. r.iter.items) c.new-records.ensures) (ap (λ r. r.count_columns) c.new-records.ensures) c.estimate.ensures in
     let is = rw (c.in-Err-OutOfTable.is, c.in-Err-OutOfTable.field-0-is) at gave in
     let spans = told_spans (flat_map span_calls (map setting_told script.settings.items)) c.in_ok-config.config.spans c.in_ok-config.ensures.told.spans in
     let down = c.spans_at-spans.ensures.rows ∙ ap (λ s. row_span s place) spans in
@@ -35,6 +34,6 @@ returns-in-Err-OutOfTable c =
 
 pub returns-in-Err-TooLarge : goal.returns-in-Err-TooLarge
 returns-in-Err-TooLarge c =
-    let gave = gives_seen (λ cell. cell.now) c.args.script c.in_ok-config.config _ _ ByShares c.estimate.result c.in_ok-config.ensures.told (ap (λ r. r.iter.items) c.new-records.ensures) (ap (λ r. r.count_columns) c.new-records.ensures) c.estimate.ensures in
+    let gave = gives_seen (λ cell. cell.now) c.args.script c.in_ok-config.config _ _ c.args.sizing c.estimate.result c.in_ok-config.ensures.told (ap (λ r. r.iter.items) c.new-records.ensures) (ap (λ r. r.count_columns) c.new-records.ensures) c.estimate.ensures in
     let is = rw (c.in-Err-TooLarge.is, c.in-Err-TooLarge.field-0-is) at gave in
     ap (estimate_reason (table_seen c.args.script)) is

@@ -3,7 +3,7 @@ use Rattle.std.proofs.lemmas.Bool.{false≢true}
 use Rattle.std.proofs.lemmas.Result.{err_from_is_err_and}
 use Rattle.papergrid_config.specs.Grids.{spanned_grid}
 use Rattle.papergrid_layout.specs.ForProofs.Placing.{table_of}
-use Rattle.papergrid_layout.proofs.PlacingLemmas.{first-shown}
+use Rattle.papergrid_layout.proofs.PlacingLemmas.{all-end-within, first-shown}
 use Rattle.papergrid_layout.proofs.placing.places.Goals as goal
 
 pub unreachable-requires : goal.unreachable-requires
@@ -25,3 +25,8 @@ pub returns-clause-ok : goal.returns-clause-ok
 returns-clause-ok g c =
     let table = table_of (spanned_grid c.args.cfg.now) (g.D.Dimension.width_of c.args.dim.now) (g.D.Dimension.height_of c.args.dim.now) c.args.shape in
     c.in_ok-visit_rows.ensures.ok table refl c.in_ok-placing.ensures
+
+pub returns-clause-within : goal.returns-clause-within
+returns-clause-within g c =
+    all-end-within (spanned_grid c.args.cfg.now) (g.D.Dimension.width_of c.args.dim.now) (g.D.Dimension.height_of c.args.dim.now) c.args.shape
+    _ (returns-clause-ok g c)

@@ -5,5 +5,5 @@ use Rattle.papergrid_uses.proofs.settings.laid_out.Goals as goal
 
 pub returns : goal.returns
 returns c =
-    let told = rw c.new.ensures at c.layout.ensures in
+    let told = rw c.new.ensures at c.layout.ensures.sizes in
     laid_told (grid_of c.args.settings.items) (λ cell. cell.now) text_measure 3 (cells_of c.args.rows.now) _ told

@@ -20,5 +20,5 @@ returns-clause-covers g c =
     let measure = line_measure g.R.Iter.Cell.AsStr.text in
     let columns = g.R.Records.columns c.args.records in
     said_of_cells (g.R.Records.tells c.args.records) _ _
-    (λ cells result. answer_covers (problem_of grid measure columns cells Columns) _ (λ total is. c.total_covers_cells.ensures grid measure columns cells Columns total is) result)
+    (λ cells result. answer_covers (problem_of grid measure columns cells Columns) _ (λ total is. c.total_covers_cells.ensures.shares grid measure columns cells Columns total is) result)
     _ c.width_total.ensures

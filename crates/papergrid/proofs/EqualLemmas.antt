@@ -1,0 +1,120 @@
+-- Values are equal exactly where they are the same.
+use Rattle.std.proofs.Common.{◌≡◌, ◌&&◌, ap, refl, subst, true}
+use Rattle.std.specs.Prelude.{◌↔◌, nat_eq}
+use Rattle.std.specs.Cmp.{nat_eq_equiv}
+use Rattle.std.proofs.lemmas.Bool.{and_from, and_parts, eqb-true, false≢true}
+use Rattle.papergrid_values.specs.declared.position.Position.{Position}
+use Rattle.papergrid_values.specs.contracts.position.PositionPartialEq.TheImpl as position
+use Rattle.papergrid.specs.declared.estimate.Sizing.{Sizing}
+use Rattle.papergrid.specs.declared.estimate.Sizing.TheVariants.{ByShares, Least}
+use Rattle.papergrid.specs.contracts.estimate.SizingPartialEq.TheImpl as sizing
+use Rattle.papergrid.specs.declared.explained.Reason.{Reason}
+use Rattle.papergrid.specs.declared.explained.Reason.TheVariants.{BadLine, OutOfTable, TooLarge}
+use Rattle.papergrid.specs.contracts.explained.ReasonPartialEq.TheImpl as reason
+use Rattle.papergrid.specs.declared.running.RunEnd.{RunEnd}
+use Rattle.papergrid.specs.declared.running.RunEnd.TheVariants.{BadScript, Done, Refused}
+use Rattle.papergrid.specs.contracts.running.RunEndPartialEq.TheImpl as run_end
+use Rattle.papergrid.specs.declared.running.RunFault.{RunFault}
+use Rattle.papergrid.specs.declared.running.RunFault.TheVariants.{Memory, Read, Write}
+use Rattle.papergrid.specs.contracts.running.RunFaultPartialEq.TheImpl as run_fault
+use Rattle.papergrid.specs.declared.transfer.Failed.{Failed}
+use Rattle.papergrid.specs.contracts.transfer.FailedPartialEq.TheImpl as failed
+
+-- ---- how sizes are chosen
+
+itself-sizing : (x : Sizing) → sizing.ghosts.eq x x ≡ true
+itself-sizing ByShares = refl
+itself-sizing Least = refl
+
+equal-sizing : (x y : Sizing) → sizing.ghosts.eq x y ≡ true → x ≡ y
+equal-sizing ByShares ByShares is = refl
+equal-sizing ByShares Least is = absurd (false≢true is)
+equal-sizing Least ByShares is = absurd (false≢true is)
+equal-sizing Least Least is = refl
+
+pub same-sizing : (x y : Sizing) → (sizing.ghosts.eq x y ≡ true) ↔ (x ≡ y)
+same-sizing x y = (equal-sizing x y, λ e. subst (λ z. sizing.ghosts.eq x z ≡ true) e (itself-sizing x))
+
+-- ---- ends and faults of runs
+
+itself-end : (x : RunEnd) → run_end.ghosts.eq x x ≡ true
+itself-end Done = refl
+itself-end Refused = refl
+itself-end BadScript = refl
+
+equal-end : (x y : RunEnd) → run_end.ghosts.eq x y ≡ true → x ≡ y
+equal-end Done Done is = refl
+equal-end Done Refused is = absurd (false≢true is)
+equal-end Done BadScript is = absurd (false≢true is)
+equal-end Refused Done is = absurd (false≢true is)
+equal-end Refused Refused is = refl
+equal-end Refused BadScript is = absurd (false≢true is)
+equal-end BadScript Done is = absurd (false≢true is)
+equal-end BadScript Refused is = absurd (false≢true is)
+equal-end BadScript BadScript is = refl
+
+pub same-end : (x y : RunEnd) → (run_end.ghosts.eq x y ≡ true) ↔ (x ≡ y)
+same-end x y = (equal-end x y, λ e. subst (λ z. run_end.ghosts.eq x z ≡ true) e (itself-end x))
+
+itself-fault : (x : RunFault) → run_fault.ghosts.eq x x ≡ true
+itself-fault Memory = refl
+itself-fault Read = refl
+itself-fault Write = refl
+
+equal-fault : (x y : RunFault) → run_fault.ghosts.eq x y ≡ true → x ≡ y
+equal-fault Memory Memory is = refl
+equal-fault Memory Read is = absurd (false≢true is)
+equal-fault Memory Write is = absurd (false≢true is)
+equal-fault Read Memory is = absurd (false≢true is)
+equal-fault Read Read is = refl
+equal-fault Read Write is = absurd (false≢true is)
+equal-fault Write Memory is = absurd (false≢true is)
+equal-fault Write Read is = absurd (false≢true is)
+equal-fault Write Write is = refl
+
+pub same-fault : (x y : RunFault) → (run_fault.ghosts.eq x y ≡ true) ↔ (x ≡ y)
+same-fault x y = (equal-fault x y, λ e. subst (λ z. run_fault.ghosts.eq x z ≡ true) e (itself-fault x))
+
+-- there is one failure
+pub same-failed : (x y : Failed) → (failed.ghosts.eq x y ≡ true) ↔ (x ≡ y)
+same-failed x y = (λ is. refl, λ e. refl)
+
+-- ---- reasons
+
+equal-position : (x y : Position) → position.ghosts.eq x y ≡ true → x ≡ y
+equal-position x y is =
+    let parts = and_parts (nat_eq x.row y.row) _ is in
+    let row = eqb-true x.row y.row parts.0 in
+    let col = eqb-true x.col y.col parts.1 in
+    λ i. record { row = row i; col = col i }
+
+itself-reason : (x : Reason) → reason.ghosts.eq x x ≡ true
+itself-reason (BadLine number) = nat_eq_equiv.refl number
+itself-reason (OutOfTable place spans shape) =
+    and_from _ _ (and_from _ _ (nat_eq_equiv.refl place.row) (nat_eq_equiv.refl place.col))
+    (and_from _ _ (and_from _ _ (nat_eq_equiv.refl spans.0) (nat_eq_equiv.refl spans.1)) (and_from _ _ (nat_eq_equiv.refl shape.0) (nat_eq_equiv.refl shape.1)))
+itself-reason TooLarge = refl
+
+equal-reason : (x y : Reason) → reason.ghosts.eq x y ≡ true → x ≡ y
+equal-reason (BadLine m) (BadLine n) is = ap (λ k. BadLine k) (eqb-true m n is)
+equal-reason (BadLine m) (OutOfTable q t h) is = absurd (false≢true is)
+equal-reason (BadLine m) TooLarge is = absurd (false≢true is)
+equal-reason (OutOfTable p s g) (BadLine n) is = absurd (false≢true is)
+equal-reason (OutOfTable p s g) (OutOfTable q t h) is =
+    let first = and_parts (position.ghosts.eq p q) _ is in
+    let rest = and_parts _ (nat_eq g.0 h.0 && nat_eq g.1 h.1) first.1 in
+    let spans = and_parts (nat_eq s.0 t.0) (nat_eq s.1 t.1) rest.0 in
+    let shape = and_parts (nat_eq g.0 h.0) (nat_eq g.1 h.1) rest.1 in
+    let place = equal-position p q first.0 in
+    let rows = eqb-true s.0 t.0 spans.0 in
+    let columns = eqb-true s.1 t.1 spans.1 in
+    let down = eqb-true g.0 h.0 shape.0 in
+    let across = eqb-true g.1 h.1 shape.1 in
+    λ i. OutOfTable (place i) (rows i, columns i) (down i, across i)
+equal-reason (OutOfTable p s g) TooLarge is = absurd (false≢true is)
+equal-reason TooLarge (BadLine n) is = absurd (false≢true is)
+equal-reason TooLarge (OutOfTable q t h) is = absurd (false≢true is)
+equal-reason TooLarge TooLarge is = refl
+
+pub same-reason : (x y : Reason) → (reason.ghosts.eq x y ≡ true) ↔ (x ≡ y)
+same-reason x y = (equal-reason x y, λ e. subst (λ z. reason.ghosts.eq x z ≡ true) e (itself-reason x))
