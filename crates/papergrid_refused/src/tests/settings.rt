@@ -12,11 +12,11 @@ pub fn padding(size: usize) -> Sides<Indent> {
     Sides::filled(Indent::spaced(size))
 }
 
-pub fn left(color: ANSIBuf) -> Sides<Option<ANSIBuf>> {
+fn left(color: ANSIBuf) -> Sides<Option<ANSIBuf>> {
     Sides::new(Some(color), None, None, None)
 }
 
-pub fn top_and_bottom(alloc: Global) -> Result<Border<ANSIBuf>, AllocError> {
+fn top_and_bottom(alloc: Global) -> Result<Border<ANSIBuf>, AllocError> {
     let (top, bottom) = (Some(color(alloc)?), Some(color(alloc)?));
     Ok(Border::new(top, bottom, None, None, None, None, None, None))
 }
@@ -100,14 +100,26 @@ pub fn held(alloc: Global) -> Result<Vec<Setting>, AllocError> {
     Ok(settings)
 }
 
-/// Those, and then each at a place for which there is no room beside them.
+/// Each setting that may ask for memory, at a place for which there is no room beside those.
+fn more(alloc: Global, settings: &mut Vec<Setting>) -> Result<(), AllocError> {
+    of_entity(alloc, Entity::Column(2), settings)?;
+    of_offsets(alloc, 9, settings)?;
+    of_lines(9, settings)?;
+    of_spans(15, settings)?;
+    of_borders(alloc, 9, settings)
+}
+
+/// The same alone.
+pub fn beside(alloc: Global) -> Result<Vec<Setting>, AllocError> {
+    let mut settings = Vec::new(alloc);
+    more(alloc, &mut settings)?;
+    Ok(settings)
+}
+
+/// What is held, the same beside it, and each setting of the whole table once more.
 pub fn each(alloc: Global) -> Result<Vec<Setting>, AllocError> {
     let mut settings = held(alloc)?;
-    of_entity(alloc, Entity::Column(2), &mut settings)?;
-    of_offsets(alloc, 9, &mut settings)?;
-    of_lines(9, &mut settings)?;
-    of_spans(15, &mut settings)?;
-    of_borders(alloc, 9, &mut settings)?;
+    more(alloc, &mut settings)?;
     of_table(alloc, 2, &mut settings)?;
     Ok(settings)
 }
