@@ -21,22 +21,22 @@ use std::test::Fail;
 
 /// The number of a call among those that a test is about, from 1 on, and how many they are.
 #[derive(Clone, Copy)]
-struct Call {
+struct CallNumber {
     number: usize,
     of: usize,
 }
 
-fn call(number: usize, of: usize) -> Call {
-    Call { number, of }
+fn call(number: usize, of: usize) -> CallNumber {
+    CallNumber { number, of }
 }
 
 /// The one call of a test.
-fn only() -> Call {
+fn only() -> CallNumber {
     call(1, 1)
 }
 
 /// What a test ends with by the answer of a call.
-fn says<A: Drop>(call: Call, answer: Result<A, AllocError>) -> Result<(), Fail> {
+fn says<A: Drop>(call: CallNumber, answer: Result<A, AllocError>) -> Result<(), Fail> {
     match answer {
         Ok(_) => Ok(()),
         Err(AllocError) => {
@@ -49,7 +49,7 @@ fn says<A: Drop>(call: Call, answer: Result<A, AllocError>) -> Result<(), Fail> 
 /// The same of a call that leaves a value, which has to equal the one of before where memory was refused.
 fn keeps<T: PartialEq + Drop, A: Drop>(
     rt: &impl Abort,
-    call: Call,
+    call: CallNumber,
     value: T,
     before: T,
     answer: Result<A, AllocError>,
@@ -65,7 +65,11 @@ fn with_clone<T: Clone + Drop>(value: T) -> Result<(T, T), AllocError> {
 }
 
 /// What a test ends with that clones a value.
-fn clones<T: Clone + PartialEq + Drop>(rt: &impl Abort, call: Call, value: T) -> Result<(), Fail> {
+fn clones<T: Clone + PartialEq + Drop>(
+    rt: &impl Abort,
+    call: CallNumber,
+    value: T,
+) -> Result<(), Fail> {
     let (value, before) = with_clone(value)?;
     let copy: Result<T, AllocError> = value.clone();
     keeps(rt, call, value, before, copy)

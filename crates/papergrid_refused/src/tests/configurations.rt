@@ -1,7 +1,7 @@
 //! Configurations, and lists of settings.
 
 use super::settings::{apply, beside, each, full, held, padding, ten, told, two_of_each};
-use super::{Call, call, clones, keeps, only, says, with_clone};
+use super::{CallNumber, call, clones, keeps, only, says, with_clone};
 use papergrid_config::{CompactConfig, Setting, SpannedConfig, Stopped};
 use papergrid_values::{ANSIStr, Borders, Entity, Sides};
 use std::alloc::{AllocError, Global};
@@ -9,7 +9,11 @@ use std::process::Abort;
 use std::test::Fail;
 
 /// What a test ends with that applies a setting to a configuration that holds one of each.
-fn applies(rt: &(impl Abort + AllocGlobal), call: Call, setting: Setting) -> Result<(), Fail> {
+fn applies(
+    rt: &(impl Abort + AllocGlobal),
+    call: CallNumber,
+    setting: Setting,
+) -> Result<(), Fail> {
     let (mut config, before) = with_clone(full(rt.alloc())?)?;
     let answer = apply(&mut config, setting);
     keeps(rt, call, config, before, answer)

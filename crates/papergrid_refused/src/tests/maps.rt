@@ -1,6 +1,6 @@
 //! Values by entity.
 
-use super::{Call, call, clones, keeps, only, says, with_clone};
+use super::{CallNumber, call, clones, keeps, only, says, with_clone};
 use papergrid_maps::{EntityMap, MapCall, Stopped};
 use papergrid_values::Entity;
 use std::alloc::{AllocError, Global};
@@ -17,7 +17,7 @@ fn three_rows(alloc: Global) -> Result<EntityMap<char>, AllocError> {
 }
 
 /// What a test ends with that sets one more value.
-fn inserts(rt: &(impl Abort + AllocGlobal), call: Call, entity: Entity) -> Result<(), Fail> {
+fn inserts(rt: &(impl Abort + AllocGlobal), call: CallNumber, entity: Entity) -> Result<(), Fail> {
     let (mut map, before) = with_clone(three_rows(rt.alloc())?)?;
     let answer = map.insert(entity, 'n');
     keeps(rt, call, map, before, answer)

@@ -5,7 +5,7 @@ ghost use Rattle.std.specs.Borrow.{Bor};
 ghost use Rattle.papergrid_text.specs.declared.vec_records.VecRecords.{VecRecords};
 
 use super::settings::told;
-use super::{Call, at, call, clones, only, says, with_clone};
+use super::{CallNumber, at, call, clones, only, says, with_clone};
 use papergrid_config::{CompactConfig, Setting, SpannedConfig};
 use papergrid_layout::certificates::{
     certified_least, certified_sizes, height_certificate, height_witness, width_certificate,
@@ -58,7 +58,7 @@ fn config(alloc: Global) -> Result<SpannedConfig, AllocError> {
 /// What a test ends with by the answer of a call on the picture.
 fn answers<A: Drop>(
     rt: &impl Abort,
-    call: Call,
+    call: CallNumber,
     answer: Result<A, LayoutError>,
 ) -> Result<(), Fail> {
     says(call, in_table(rt, answer))

@@ -4,7 +4,7 @@ ghost use Rattle.std.specs.Prelude.{◌≡◌, All, IfOk, true};
 ghost use Rattle.papergrid_config.specs.Applied.{is_in_range};
 
 use super::sizes::{in_table, rows, settings};
-use super::{Call, call, only, says};
+use super::{CallNumber, call, only, says};
 use papergrid::records::vec_records::VecRecords;
 use papergrid::{
     ReadSource, RunEnd, RunFault, WriteSink, explain, layout, layout_least, run, run_least,
@@ -50,32 +50,32 @@ fn explain_of_picture(rt: HostRuntime) -> Result<(), Fail> {
 
 /// A run of a script by shares, or with least sizes, and the output that it has to have.
 #[derive(Clone, Copy)]
-struct Run {
+struct Case {
     is_least: bool,
     script: &'static [u8],
     output: &'static str,
 }
 
 /// Two cells of ten columns that cross share the middle column, where the sizes are least.
-const RUNS: [Run; 3] = [
-    Run {
+const CASES: [Case; 3] = [
+    Case {
         is_least: false,
         script: PICTURE,
         output: "widths 17 12 16 1\nheights 1 1\ntotal 51 5\nwitness widths 0,0 0,1 0,2 0,3\nwitness heights 0,1 1,1\n",
     },
-    Run {
+    Case {
         is_least: false,
         script: b"columns 3\ncolspan 1,0 3\ncolspan 2,1 2\nrow\ncell a\ncell a\ncell a\nrow\ncell 0123456789\nrow\ncell a\ncell 01234567\n",
         output: "widths 2 4 4\nheights 1 1 1\ntotal 10 3\nwitness widths 1,0\nwitness heights 0,0 1,0 2,0\n",
     },
-    Run {
+    Case {
         is_least: true,
         script: b"columns 3\ncolspan 0,0 2\ncolspan 1,1 2\nrow\ncell 0123456789\nrow\ncell\ncell 0123456789\n",
         output: "widths 0 10 0\nheights 1 1\ntotal 10 2\nwitness widths 0,0\nwitness heights 0,0 1,0\n",
     },
 ];
 
-fn end_of(alloc: Global, it: Run, written: &mut Vec<u8>) -> Result<RunEnd, RunFault> {
+fn end_of(alloc: Global, it: Case, written: &mut Vec<u8>) -> Result<RunEnd, RunFault> {
     let (mut reader, mut writer) = (ReadSource::new(it.script), WriteSink::new(written));
     if it.is_least {
         run_least(alloc, &mut reader, &mut writer)
@@ -86,7 +86,7 @@ fn end_of(alloc: Global, it: Run, written: &mut Vec<u8>) -> Result<RunEnd, RunFa
 
 /// What a test ends with that runs into a buffer, which has room for the output and asks for no more: the whole output
 /// is written, or nothing where memory was refused.
-fn runs(rt: &(impl Abort + AllocGlobal), call: Call, it: Run) -> Result<(), Fail> {
+fn runs(rt: &(impl Abort + AllocGlobal), call: CallNumber, it: Case) -> Result<(), Fail> {
     let mut written: Vec<u8> = Vec::with_capacity(rt.alloc(), 1000)?;
     match end_of(rt.alloc(), it, &mut written) {
         Err(RunFault::Memory) => {
@@ -104,9 +104,9 @@ fn runs(rt: &(impl Abort + AllocGlobal), call: Call, it: Run) -> Result<(), Fail
 #[test]
 fn each_run(rt: HostRuntime) -> Result<(), Fail> {
     let mut number: usize = 0;
-    for it in RUNS {
+    for it in CASES {
         number = number.wrapping_add(1);
-        runs(&rt, call(number, RUNS.len()), it)?;
+        runs(&rt, call(number, CASES.len()), it)?;
     }
     Ok(())
 }
