@@ -15,15 +15,16 @@ fn colors(rt: HostRuntime) -> Result<(), Fail> {
     clones(&rt, call(4, 4), color)
 }
 
-fn frame(alloc: Global) -> Result<Borders<ANSIBuf>, AllocError> {
-    let mut frame = Borders::empty();
-    frame.top = Some(color(alloc)?);
-    frame.right_intersection = Some(color(alloc)?);
-    Ok(frame)
-}
-
 fn two(alloc: Global) -> Result<(Option<ANSIBuf>, Option<ANSIBuf>), AllocError> {
     Ok((Some(color(alloc)?), Some(color(alloc)?)))
+}
+
+fn frame(alloc: Global) -> Result<Borders<ANSIBuf>, AllocError> {
+    let (top, right_intersection) = two(alloc)?;
+    let mut frame = Borders::empty();
+    frame.top = top;
+    frame.right_intersection = right_intersection;
+    Ok(frame)
 }
 
 /// Clones of what is made of two colours.

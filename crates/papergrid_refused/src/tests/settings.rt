@@ -67,17 +67,22 @@ fn of_offsets(alloc: Global, i: usize, settings: &mut Vec<Setting>) -> Result<()
     Ok(())
 }
 
+fn frame(alloc: Global) -> Result<Borders<ANSIBuf>, AllocError> {
+    let top = Some(color(alloc)?);
+    let mut frame = Borders::empty();
+    frame.top = top;
+    Ok(frame)
+}
+
 /// Each setting of the whole table.
 fn of_table(alloc: Global, i: usize, settings: &mut Vec<Setting>) -> Result<(), AllocError> {
-    let mut frame = Borders::empty();
-    frame.top = Some(color(alloc)?);
     settings.push(Setting::SetMargin(padding(i)))?;
     settings.push(Setting::SetMarginColor(left(color(alloc)?)))?;
     settings.push(Setting::SetMarginOffset(Sides::filled(Offset::End(i))))?;
     settings.push(Setting::SetBorders(Borders::filled('f')))?;
     settings.push(Setting::SetBorderDefault('d'))?;
     settings.push(Setting::SetBorderColorDefault(color(alloc)?))?;
-    settings.push(Setting::SetBordersColor(frame))?;
+    settings.push(Setting::SetBordersColor(frame(alloc)?))?;
     settings.push(Setting::SetBordersMissing('m'))?;
     Ok(())
 }
