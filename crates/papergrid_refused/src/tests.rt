@@ -1,11 +1,11 @@
-//! Calls that ask for memory. Where no request is refused, each test passes. Where one is refused to the call that
-//! a test is about, the test ends with `refused`, once what the call worked on equals its clone of before. Where
-//! one is refused earlier, it ends with `AllocError`. `tests/refuse-each` refuses each request of each test.
+//! Calls that ask for memory. Where no request is refused, each test passes. Where one is refused to a call that
+//! a test is about, the test ends with `refused` and the number of the call, once what the call changes equals its
+//! clone of before. Where one is refused to what is made for a call, it ends with `AllocError`. `tests/refuse-each`
+//! refuses each request of each test, and sees that each call was refused something.
 
 mod colors;
 mod configurations;
 mod maps;
-mod setters;
 mod settings;
 mod sizes;
 mod tables;
@@ -19,62 +19,60 @@ use std::alloc::{AllocError, Global};
 use std::process::Abort;
 use std::test::Fail;
 
-/// A value, and its clone.
-fn with_clone<T: Clone + Drop>(value: T) -> Result<(T, T), AllocError> {
-    let copy = value.clone()?;
-    Ok((value, copy))
+/// The number of a call among those that a test is about, from 1 on, and how many they are.
+#[derive(Clone, Copy)]
+struct CallNumber {
+    number: usize,
+    of: usize,
+}
+
+fn call(number: usize, of: usize) -> CallNumber {
+    CallNumber { number, of }
+}
+
+/// The one call of a test.
+fn only() -> CallNumber {
+    call(1, 1)
 }
 
 /// What a test ends with by the answer of a call.
-fn says<A: Drop>(answer: Result<A, AllocError>) -> Result<(), Fail> {
+fn says<A: Drop>(call: CallNumber, answer: Result<A, AllocError>) -> Result<(), Fail> {
     match answer {
         Ok(_) => Ok(()),
-        Err(AllocError) => Err(Fail::new("refused")),
+        Err(AllocError) => {
+            let (number, of) = (call.number, call.of);
+            Err(Fail::new(format_args!("refused: call {number} of {of}")))
+        }
     }
 }
 
 /// The same of a call that leaves a value, which has to equal the one of before where memory was refused.
 fn keeps<T: PartialEq + Drop, A: Drop>(
     rt: &impl Abort,
+    call: CallNumber,
     value: T,
     before: T,
     answer: Result<A, AllocError>,
 ) -> Result<(), Fail> {
     assert!(rt; answer.is_ok() || value == before);
-    says(answer)
+    says(call, answer)
 }
 
-/// The same of a call that reads a value.
-fn reads<T: Clone + PartialEq + Drop, A: Drop, F>(
+/// A value, and its clone.
+fn with_clone<T: Clone + Drop>(value: T) -> Result<(T, T), AllocError> {
+    let copy = value.clone()?;
+    Ok((value, copy))
+}
+
+/// What a test ends with that clones a value.
+fn clones<T: Clone + PartialEq + Drop>(
     rt: &impl Abort,
+    call: CallNumber,
     value: T,
-    read: F,
-) -> Result<(), Fail>
-where
-    F: FnOnce(&T) -> Result<A, AllocError>,
-    requires { F.IsAlwaysCallable read }
-{
-    let (value, before) = with_clone(value)?;
-    let answer = read(&value);
-    keeps(rt, value, before, answer)
-}
-
-/// The same of a call that changes a value.
-fn changes<T: Clone + PartialEq + Drop, F>(rt: &impl Abort, value: T, change: F) -> Result<(), Fail>
-where
-    F: FnOnce(&mut T) -> Result<(), AllocError>,
-    requires { F.IsAlwaysCallable change }
-{
-    let (mut value, before) = with_clone(value)?;
-    let answer = change(&mut value);
-    keeps(rt, value, before, answer)
-}
-
-/// The same of a clone.
-fn clones<T: Clone + PartialEq + Drop>(rt: &impl Abort, value: T) -> Result<(), Fail> {
+) -> Result<(), Fail> {
     let (value, before) = with_clone(value)?;
     let copy: Result<T, AllocError> = value.clone();
-    keeps(rt, value, before, copy)
+    keeps(rt, call, value, before, copy)
 }
 
 fn at(row: usize, col: usize) -> Position

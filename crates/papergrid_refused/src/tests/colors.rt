@@ -1,81 +1,46 @@
 //! Colours, and what is made of them.
 
-use super::{clones, color, reads, says};
+use super::{call, clones, color, says};
 use papergrid_values::{ANSIBuf, Border, Borders, HorizontalLine, Sides, VerticalLine};
-use std::process::Abort;
+use std::alloc::{AllocError, Global};
 use std::test::Fail;
 
 #[test]
-fn new(rt: HostRuntime) -> Result<(), Fail> {
-    says(ANSIBuf::new(rt.alloc(), "<red>", "</>"))
-}
-
-#[test]
-fn copy_of(rt: HostRuntime) -> Result<(), Fail> {
+fn colors(rt: HostRuntime) -> Result<(), Fail> {
     let alloc = rt.alloc();
-    reads(
-        &rt,
-        color(alloc)?,
-        |color| ANSIBuf::copy_of(alloc, color.as_ref()),
-    )
+    says(call(1, 4), ANSIBuf::new(alloc, "<red>", "</>"))?;
+    let color = color(alloc)?;
+    says(call(2, 4), ANSIBuf::copy_of(alloc, color.as_ref()))?;
+    says(call(3, 4), Border::filled(&color).cloned())?;
+    clones(&rt, call(4, 4), color)
 }
 
-#[test]
-fn clone(rt: HostRuntime) -> Result<(), Fail> {
-    clones(&rt, color(rt.alloc())?)
+fn two(alloc: Global) -> Result<(Option<ANSIBuf>, Option<ANSIBuf>), AllocError> {
+    Ok((Some(color(alloc)?), Some(color(alloc)?)))
 }
 
-#[test]
-fn cloned(rt: HostRuntime) -> Result<(), Fail> {
-    reads(
-        &rt,
-        color(rt.alloc())?,
-        |color| Border::filled(color).cloned(),
-    )
-}
-
-/// What a test ends with that clones what is made of two colours.
-fn clones_two<T: Clone + PartialEq + Drop, F>(
-    rt: &(impl Abort + AllocGlobal),
-    make: F,
-) -> Result<(), Fail>
-where
-    F: FnOnce(Option<ANSIBuf>, Option<ANSIBuf>) -> T,
-    requires { F.IsAlwaysCallable make }
-{
-    let (first, second) = (color(rt.alloc())?, color(rt.alloc())?);
-    clones(rt, make(Some(first), Some(second)))
-}
-
-#[test]
-fn clone_of_sides(rt: HostRuntime) -> Result<(), Fail> {
-    clones_two(&rt, |left, top| Sides::new(left, None, top, None))
-}
-
-#[test]
-fn clone_of_border(rt: HostRuntime) -> Result<(), Fail> {
-    let color = color(rt.alloc())?;
-    clones(&rt, Border::filled(&color).cloned()?)
-}
-
-#[test]
-fn clone_of_borders(rt: HostRuntime) -> Result<(), Fail> {
+fn frame(alloc: Global) -> Result<Borders<ANSIBuf>, AllocError> {
+    let (top, right_intersection) = two(alloc)?;
     let mut frame = Borders::empty();
-    frame.top = Some(color(rt.alloc())?);
-    frame.right_intersection = Some(color(rt.alloc())?);
-    clones(&rt, frame)
+    frame.top = top;
+    frame.right_intersection = right_intersection;
+    Ok(frame)
 }
 
+/// Clones of what is made of two colours.
 #[test]
-fn clone_of_horizontal_line(rt: HostRuntime) -> Result<(), Fail> {
-    clones_two(&rt, |main, right| {
-        HorizontalLine::new(main, None, None, right)
-    })
-}
-
-#[test]
-fn clone_of_vertical_line(rt: HostRuntime) -> Result<(), Fail> {
-    clones_two(&rt, |main, bottom| {
-        VerticalLine::new(main, None, None, bottom)
-    })
+fn of_two(rt: HostRuntime) -> Result<(), Fail> {
+    let alloc = rt.alloc();
+    let (left, top) = two(alloc)?;
+    clones(&rt, call(1, 5), Sides::new(left, None, top, None))?;
+    clones(&rt, call(2, 5), Border::filled(&color(alloc)?).cloned()?)?;
+    clones(&rt, call(3, 5), frame(alloc)?)?;
+    let (main, right) = two(alloc)?;
+    clones(
+        &rt,
+        call(4, 5),
+        HorizontalLine::new(main, None, None, right),
+    )?;
+    let (main, bottom) = two(alloc)?;
+    clones(&rt, call(5, 5), VerticalLine::new(main, None, None, bottom))
 }

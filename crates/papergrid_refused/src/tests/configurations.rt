@@ -1,20 +1,57 @@
 //! Configurations, and lists of settings.
 
-use super::settings::{apply, each, full, held, padding, ten, told, two_of_each};
-use super::{changes, clones, keeps, reads, says};
+use super::settings::{apply, beside, each, full, held, padding, ten, told, two_of_each};
+use super::{CallNumber, call, clones, keeps, only, says, with_clone};
 use papergrid_config::{CompactConfig, Setting, SpannedConfig, Stopped};
 use papergrid_values::{ANSIStr, Borders, Entity, Sides};
 use std::alloc::{AllocError, Global};
 use std::process::Abort;
 use std::test::Fail;
 
+/// What a test ends with that applies a setting to a configuration that holds one of each.
+fn applies(
+    rt: &(impl Abort + AllocGlobal),
+    call: CallNumber,
+    setting: Setting,
+) -> Result<(), Fail> {
+    let (mut config, before) = with_clone(full(rt.alloc())?)?;
+    let answer = apply(&mut config, setting);
+    keeps(rt, call, config, before, answer)
+}
+
+/// Each setter that may ask for memory, by its setting.
 #[test]
-fn apply_one(rt: HostRuntime) -> Result<(), Fail> {
-    changes(
-        &rt,
-        full(rt.alloc())?,
-        |config| apply(config, Setting::SetPadding(Entity::Column(2), padding(2))),
-    )
+fn each_alone(rt: HostRuntime) -> Result<(), Fail> {
+    let settings = beside(rt.alloc())?;
+    let of = settings.len();
+    let mut number: usize = 0;
+    for setting in settings {
+        number = number.wrapping_add(1);
+        applies(&rt, call(number, of), setting)?;
+    }
+    Ok(())
+}
+
+/// What a test ends with whose configuration was given settings up to one that was refused: those before it tell
+/// the configuration.
+fn is_told(
+    rt: &(impl Abort + AllocGlobal),
+    config: SpannedConfig,
+    done: usize,
+    mut settings: Vec<Setting>,
+) -> Result<(), Fail> {
+    if done == settings.len() {
+        drop(config);
+        return Ok(());
+    }
+    settings.truncate(done);
+    match told(rt.alloc(), settings) {
+        Ok(like) => keeps(rt, only(), config, like, Err::<(), AllocError>(AllocError)),
+        Err(error) => {
+            drop(config);
+            Err(Fail::from(error))
+        }
+    }
 }
 
 /// Applies settings one by one, up to one that is refused: how many were done.
@@ -29,38 +66,12 @@ fn done_of(config: &mut SpannedConfig, settings: Vec<Setting>) -> usize {
     done
 }
 
-/// What a test ends with that applies settings, which are given twice: where one is refused, those before it tell the
-/// configuration.
-fn applies<F>(
-    rt: &(impl Abort + AllocGlobal),
-    settings: Vec<Setting>,
-    mut again: Vec<Setting>,
-    apply: F,
-) -> Result<(), Fail>
-where
-    F: FnOnce(&mut SpannedConfig, Vec<Setting>) -> usize,
-    requires { F.IsAlwaysCallable apply }
-{
-    let mut config = SpannedConfig::new(rt.alloc());
-    let done = apply(&mut config, settings);
-    if done == again.len() {
-        drop(config);
-        return Ok(());
-    }
-    again.truncate(done);
-    match told(rt.alloc(), again) {
-        Ok(like) => keeps(rt, config, like, Err::<(), AllocError>(AllocError)),
-        Err(error) => {
-            drop(config);
-            Err(Fail::from(error))
-        }
-    }
-}
-
 #[test]
 fn apply_each(rt: HostRuntime) -> Result<(), Fail> {
     let (settings, again) = (each(rt.alloc())?, each(rt.alloc())?);
-    applies(&rt, settings, again, done_of)
+    let mut config = SpannedConfig::new(rt.alloc());
+    let done = done_of(&mut config, settings);
+    is_told(&rt, config, done, again)
 }
 
 /// Applies settings that are in range at once, up to one that is refused: how many were done.
@@ -78,7 +89,9 @@ fn done_at_once(config: &mut SpannedConfig, settings: Vec<Setting>) -> usize {
 #[test]
 fn apply_all(rt: HostRuntime) -> Result<(), Fail> {
     let (settings, again) = (ten(rt.alloc())?, ten(rt.alloc())?);
-    applies(&rt, settings, again, done_at_once)
+    let mut config = SpannedConfig::new(rt.alloc());
+    let done = done_at_once(&mut config, settings);
+    is_told(&rt, config, done, again)
 }
 
 #[test]
@@ -88,67 +101,40 @@ fn from_compact(rt: HostRuntime) -> Result<(), Fail> {
         .set_borders_color(Borders::filled(color))
         .set_margin_color(Sides::filled(color))
         .set_padding_color(Sides::filled(color));
-    says(SpannedConfig::from_compact(rt.alloc(), &compact))
+    says(only(), SpannedConfig::from_compact(rt.alloc(), &compact))
 }
 
 #[test]
 fn clone(rt: HostRuntime) -> Result<(), Fail> {
-    let settings = held(rt.alloc())?;
-    clones(&rt, told(rt.alloc(), settings)?)
+    clones(&rt, only(), full(rt.alloc())?)
 }
 
 #[test]
 fn clone_of_settings(rt: HostRuntime) -> Result<(), Fail> {
     let settings = each(rt.alloc())?;
-    says(settings.clone())
+    says(only(), settings.clone())
 }
 
-/// What a test ends with that reads a configuration that holds two lines and two spans of each direction.
-fn reads_two<A: Drop, F>(rt: &(impl Abort + AllocGlobal), read: F) -> Result<(), Fail>
-where
-    F: FnOnce(&SpannedConfig) -> Result<A, AllocError>,
-    requires { F.IsAlwaysCallable read }
-{
-    let settings = two_of_each(rt.alloc())?;
-    reads(rt, told(rt.alloc(), settings)?, read)
+/// A configuration that holds two lines and two spans of each direction, and a padding for one cell.
+fn to_read(alloc: Global) -> Result<SpannedConfig, AllocError> {
+    let mut settings = two_of_each(alloc)?;
+    settings.push(Setting::SetPadding(Entity::Cell(1, 2), padding(2)))?;
+    told(alloc, settings)
 }
 
-#[test]
-fn get_horizontal_lines(rt: HostRuntime) -> Result<(), Fail> {
-    reads_two(&rt, SpannedConfig::get_horizontal_lines)
-}
-
-#[test]
-fn get_vertical_lines(rt: HostRuntime) -> Result<(), Fail> {
-    reads_two(&rt, SpannedConfig::get_vertical_lines)
+fn reads_each(config: &SpannedConfig) -> Result<(), Fail> {
+    says(call(1, 6), config.get_horizontal_lines())?;
+    says(call(2, 6), config.get_vertical_lines())?;
+    says(call(3, 6), config.get_column_spans())?;
+    says(call(4, 6), config.get_row_spans())?;
+    says(call(5, 6), config.anchors())?;
+    says(call(6, 6), config.padded_cells())
 }
 
 #[test]
-fn get_column_spans(rt: HostRuntime) -> Result<(), Fail> {
-    reads_two(&rt, SpannedConfig::get_column_spans)
-}
-
-#[test]
-fn get_row_spans(rt: HostRuntime) -> Result<(), Fail> {
-    reads_two(&rt, SpannedConfig::get_row_spans)
-}
-
-#[test]
-fn anchors(rt: HostRuntime) -> Result<(), Fail> {
-    reads_two(&rt, SpannedConfig::anchors)
-}
-
-/// A configuration that holds a padding for one cell.
-fn with_padded_cell(alloc: Global) -> Result<SpannedConfig, AllocError> {
-    let cell = Setting::SetPadding(Entity::Cell(1, 2), padding(2));
-    told(alloc, vec![in alloc; cell]?)
-}
-
-#[test]
-fn padded_cells(rt: HostRuntime) -> Result<(), Fail> {
-    reads(
-        &rt,
-        with_padded_cell(rt.alloc())?,
-        SpannedConfig::padded_cells,
-    )
+fn reads(rt: HostRuntime) -> Result<(), Fail> {
+    let config = to_read(rt.alloc())?;
+    let end = reads_each(&config);
+    drop(config);
+    end
 }

@@ -1,6 +1,6 @@
 //! Values by entity.
 
-use super::{changes, clones, keeps, reads, says};
+use super::{CallNumber, call, clones, keeps, only, says, with_clone};
 use papergrid_maps::{EntityMap, MapCall, Stopped};
 use papergrid_values::Entity;
 use std::alloc::{AllocError, Global};
@@ -17,33 +17,24 @@ fn three_rows(alloc: Global) -> Result<EntityMap<char>, AllocError> {
 }
 
 /// What a test ends with that sets one more value.
-fn inserts(rt: &(impl Abort + AllocGlobal), entity: Entity) -> Result<(), Fail> {
-    changes(rt, three_rows(rt.alloc())?, |map| map.insert(entity, 'n'))
+fn inserts(rt: &(impl Abort + AllocGlobal), call: CallNumber, entity: Entity) -> Result<(), Fail> {
+    let (mut map, before) = with_clone(three_rows(rt.alloc())?)?;
+    let answer = map.insert(entity, 'n');
+    keeps(rt, call, map, before, answer)
 }
 
 #[test]
-fn insert_column(rt: HostRuntime) -> Result<(), Fail> {
-    inserts(&rt, Entity::Column(1))
+fn insert(rt: HostRuntime) -> Result<(), Fail> {
+    inserts(&rt, call(1, 2), Entity::Column(1))?;
+    inserts(&rt, call(2, 2), Entity::Row(1))
 }
 
 #[test]
-fn insert_row(rt: HostRuntime) -> Result<(), Fail> {
-    inserts(&rt, Entity::Row(1))
-}
-
-#[test]
-fn clone(rt: HostRuntime) -> Result<(), Fail> {
-    clones(&rt, three_rows(rt.alloc())?)
-}
-
-#[test]
-fn into_map(rt: HostRuntime) -> Result<(), Fail> {
-    says(three_rows(rt.alloc())?.into_map())
-}
-
-#[test]
-fn held_cells(rt: HostRuntime) -> Result<(), Fail> {
-    reads(&rt, three_rows(rt.alloc())?, EntityMap::held_cells)
+fn reads(rt: HostRuntime) -> Result<(), Fail> {
+    let map = three_rows(rt.alloc())?;
+    says(call(1, 3), map.held_cells())?;
+    says(call(2, 3), map.into_map())?;
+    clones(&rt, call(3, 3), three_rows(rt.alloc())?)
 }
 
 fn ten_calls(alloc: Global) -> Result<Vec<MapCall<char>>, AllocError> {
@@ -88,7 +79,7 @@ fn apply_all(rt: HostRuntime) -> Result<(), Fail> {
         Ok(()) => Ok(()),
         Err(Stopped { done }) => {
             let like = with_first(rt.alloc(), done)?;
-            keeps(&rt, map, like, Err::<(), AllocError>(AllocError))
+            keeps(&rt, only(), map, like, Err::<(), AllocError>(AllocError))
         }
     }
 }
@@ -96,5 +87,5 @@ fn apply_all(rt: HostRuntime) -> Result<(), Fail> {
 #[test]
 fn clone_of_calls(rt: HostRuntime) -> Result<(), Fail> {
     let calls = ten_calls(rt.alloc())?;
-    says(calls.clone())
+    says(only(), calls.clone())
 }

@@ -12,11 +12,11 @@ pub fn padding(size: usize) -> Sides<Indent> {
     Sides::filled(Indent::spaced(size))
 }
 
-pub fn left(color: ANSIBuf) -> Sides<Option<ANSIBuf>> {
+fn left(color: ANSIBuf) -> Sides<Option<ANSIBuf>> {
     Sides::new(Some(color), None, None, None)
 }
 
-pub fn top_and_bottom(alloc: Global) -> Result<Border<ANSIBuf>, AllocError> {
+fn top_and_bottom(alloc: Global) -> Result<Border<ANSIBuf>, AllocError> {
     let (top, bottom) = (Some(color(alloc)?), Some(color(alloc)?));
     Ok(Border::new(top, bottom, None, None, None, None, None, None))
 }
@@ -67,17 +67,22 @@ fn of_offsets(alloc: Global, i: usize, settings: &mut Vec<Setting>) -> Result<()
     Ok(())
 }
 
+fn frame(alloc: Global) -> Result<Borders<ANSIBuf>, AllocError> {
+    let top = Some(color(alloc)?);
+    let mut frame = Borders::empty();
+    frame.top = top;
+    Ok(frame)
+}
+
 /// Each setting of the whole table.
 fn of_table(alloc: Global, i: usize, settings: &mut Vec<Setting>) -> Result<(), AllocError> {
-    let mut frame = Borders::empty();
-    frame.top = Some(color(alloc)?);
     settings.push(Setting::SetMargin(padding(i)))?;
     settings.push(Setting::SetMarginColor(left(color(alloc)?)))?;
     settings.push(Setting::SetMarginOffset(Sides::filled(Offset::End(i))))?;
     settings.push(Setting::SetBorders(Borders::filled('f')))?;
     settings.push(Setting::SetBorderDefault('d'))?;
     settings.push(Setting::SetBorderColorDefault(color(alloc)?))?;
-    settings.push(Setting::SetBordersColor(frame))?;
+    settings.push(Setting::SetBordersColor(frame(alloc)?))?;
     settings.push(Setting::SetBordersMissing('m'))?;
     Ok(())
 }
@@ -100,14 +105,26 @@ pub fn held(alloc: Global) -> Result<Vec<Setting>, AllocError> {
     Ok(settings)
 }
 
-/// Those, and then each at a place for which there is no room beside them.
+/// Each setting that may ask for memory, at a place for which there is no room beside those.
+fn more(alloc: Global, settings: &mut Vec<Setting>) -> Result<(), AllocError> {
+    of_entity(alloc, Entity::Column(2), settings)?;
+    of_offsets(alloc, 9, settings)?;
+    of_lines(9, settings)?;
+    of_spans(15, settings)?;
+    of_borders(alloc, 9, settings)
+}
+
+/// The same alone.
+pub fn beside(alloc: Global) -> Result<Vec<Setting>, AllocError> {
+    let mut settings = Vec::new(alloc);
+    more(alloc, &mut settings)?;
+    Ok(settings)
+}
+
+/// What is held, the same beside it, and each setting of the whole table once more.
 pub fn each(alloc: Global) -> Result<Vec<Setting>, AllocError> {
     let mut settings = held(alloc)?;
-    of_entity(alloc, Entity::Column(2), &mut settings)?;
-    of_offsets(alloc, 9, &mut settings)?;
-    of_lines(9, &mut settings)?;
-    of_spans(15, &mut settings)?;
-    of_borders(alloc, 9, &mut settings)?;
+    more(alloc, &mut settings)?;
     of_table(alloc, 2, &mut settings)?;
     Ok(settings)
 }

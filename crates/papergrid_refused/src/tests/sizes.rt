@@ -5,10 +5,11 @@ ghost use Rattle.std.specs.Borrow.{Bor};
 ghost use Rattle.papergrid_text.specs.declared.vec_records.VecRecords.{VecRecords};
 
 use super::settings::told;
-use super::{at, clones, keeps, says, with_clone};
+use super::{CallNumber, at, call, clones, only, says, with_clone};
 use papergrid_config::{CompactConfig, Setting, SpannedConfig};
 use papergrid_layout::certificates::{
-    certified_sizes, height_certificate, height_witness, width_certificate, width_witness,
+    certified_least, certified_sizes, height_certificate, height_witness, width_certificate,
+    width_witness,
 };
 use papergrid_layout::{
     CompactGridDimension, Dimension, Estimate, IterGridDimension, LayoutError, LeastGridDimension,
@@ -45,129 +46,115 @@ pub fn in_table<A>(rt: &impl Abort, answer: Result<A, LayoutError>) -> Result<A,
     }
 }
 
-/// What a test ends with that asks for something of the picture's texts.
-fn answers<'a, C, A: Drop, F>(
-    rt: &(impl Abort + AllocGlobal),
-    config: &C,
-    ask: F,
-) -> Result<(), Fail>
-where
-    F: FnOnce(Global, VecRecords<&'a str>, &C) -> Result<A, LayoutError>,
-    requires { F.IsAlwaysCallable ask }
-{
-    let records = VecRecords::new(rows(rt.alloc())?);
-    says(in_table(rt, ask(rt.alloc(), records, config)))
+fn records(alloc: Global) -> Result<VecRecords<&'static str>, AllocError> {
+    Ok(VecRecords::new(rows(alloc)?))
 }
 
-/// The same by the settings of the picture.
-fn answers_picture<'a, A: Drop, F>(rt: &(impl Abort + AllocGlobal), ask: F) -> Result<(), Fail>
-where
-    F: FnOnce(Global, VecRecords<&'a str>, &SpannedConfig) -> Result<A, LayoutError>,
-    requires { F.IsAlwaysCallable ask }
-{
-    let config = told(rt.alloc(), settings(rt.alloc())?)?;
-    let end = answers(rt, &config, ask);
+/// The configuration of the picture.
+fn config(alloc: Global) -> Result<SpannedConfig, AllocError> {
+    told(alloc, settings(alloc)?)
+}
+
+/// What a test ends with by the answer of a call on the picture.
+fn answers<A: Drop>(
+    rt: &impl Abort,
+    call: CallNumber,
+    answer: Result<A, LayoutError>,
+) -> Result<(), Fail> {
+    says(call, in_table(rt, answer))
+}
+
+fn iter_calls(rt: &(impl Abort + AllocGlobal), config: &SpannedConfig) -> Result<(), Fail> {
+    let alloc = rt.alloc();
+    let widths = IterGridDimension::width(alloc, records(alloc)?, config);
+    answers(rt, call(1, 4), widths)?;
+    let heights = IterGridDimension::height(alloc, records(alloc)?, config);
+    answers(rt, call(2, 4), heights)?;
+    let width = IterGridDimension::width_total(alloc, records(alloc)?, config);
+    answers(rt, call(3, 4), width)?;
+    let height = IterGridDimension::height_total(alloc, records(alloc)?, config);
+    answers(rt, call(4, 4), height)
+}
+
+#[test]
+fn iter(rt: HostRuntime) -> Result<(), Fail> {
+    let config = config(rt.alloc())?;
+    let end = iter_calls(&rt, &config);
+    drop(config);
+    end
+}
+
+fn least_calls(rt: &(impl Abort + AllocGlobal), config: &SpannedConfig) -> Result<(), Fail> {
+    let alloc = rt.alloc();
+    let widths = LeastGridDimension::width(alloc, records(alloc)?, config);
+    answers(rt, call(1, 4), widths)?;
+    let heights = LeastGridDimension::height(alloc, records(alloc)?, config);
+    answers(rt, call(2, 4), heights)?;
+    let width = LeastGridDimension::width_total(alloc, records(alloc)?, config);
+    answers(rt, call(3, 4), width)?;
+    let height = LeastGridDimension::height_total(alloc, records(alloc)?, config);
+    answers(rt, call(4, 4), height)
+}
+
+#[test]
+fn least(rt: HostRuntime) -> Result<(), Fail> {
+    let config = config(rt.alloc())?;
+    let end = least_calls(&rt, &config);
+    drop(config);
+    end
+}
+
+fn peekable_calls(rt: &(impl Abort + AllocGlobal), config: &SpannedConfig) -> Result<(), Fail> {
+    let alloc = rt.alloc();
+    let widths = PeekableGridDimension::width(alloc, records(alloc)?, config);
+    answers(rt, call(1, 3), widths)?;
+    let heights = PeekableGridDimension::height(alloc, records(alloc)?, config);
+    answers(rt, call(2, 3), heights)?;
+    let both = PeekableGridDimension::dimension(alloc, records(alloc)?, config);
+    answers(rt, call(3, 3), both)
+}
+
+#[test]
+fn peekable(rt: HostRuntime) -> Result<(), Fail> {
+    let config = config(rt.alloc())?;
+    let end = peekable_calls(&rt, &config);
     drop(config);
     end
 }
 
 #[test]
-fn iter_width(rt: HostRuntime) -> Result<(), Fail> {
-    answers_picture(&rt, IterGridDimension::width)
+fn compact(rt: HostRuntime) -> Result<(), Fail> {
+    let (alloc, config) = (rt.alloc(), CompactConfig::new());
+    let widths = CompactGridDimension::width(alloc, records(alloc)?, &config);
+    answers(&rt, call(1, 3), widths)?;
+    let heights = CompactGridDimension::height(alloc, records(alloc)?, &config);
+    answers(&rt, call(2, 3), heights)?;
+    let both = CompactGridDimension::dimension(alloc, records(alloc)?, &config);
+    answers(&rt, call(3, 3), both)
+}
+
+fn certified_calls(rt: &(impl Abort + AllocGlobal), config: &SpannedConfig) -> Result<(), Fail> {
+    let alloc = rt.alloc();
+    let columns = width_witness(alloc, records(alloc)?, config);
+    answers(rt, call(1, 6), columns)?;
+    let rows = height_witness(alloc, records(alloc)?, config);
+    answers(rt, call(2, 6), rows)?;
+    let columns = width_certificate(alloc, records(alloc)?, config);
+    answers(rt, call(3, 6), columns)?;
+    let rows = height_certificate(alloc, records(alloc)?, config);
+    answers(rt, call(4, 6), rows)?;
+    let by_shares = certified_sizes(alloc, records(alloc)?, config);
+    answers(rt, call(5, 6), by_shares)?;
+    let least = certified_least(alloc, records(alloc)?, config);
+    answers(rt, call(6, 6), least)
 }
 
 #[test]
-fn iter_height(rt: HostRuntime) -> Result<(), Fail> {
-    answers_picture(&rt, IterGridDimension::height)
-}
-
-#[test]
-fn iter_width_total(rt: HostRuntime) -> Result<(), Fail> {
-    answers_picture(&rt, IterGridDimension::width_total)
-}
-
-#[test]
-fn iter_height_total(rt: HostRuntime) -> Result<(), Fail> {
-    answers_picture(&rt, IterGridDimension::height_total)
-}
-
-#[test]
-fn least_width(rt: HostRuntime) -> Result<(), Fail> {
-    answers_picture(&rt, LeastGridDimension::width)
-}
-
-#[test]
-fn least_height(rt: HostRuntime) -> Result<(), Fail> {
-    answers_picture(&rt, LeastGridDimension::height)
-}
-
-#[test]
-fn least_width_total(rt: HostRuntime) -> Result<(), Fail> {
-    answers_picture(&rt, LeastGridDimension::width_total)
-}
-
-#[test]
-fn least_height_total(rt: HostRuntime) -> Result<(), Fail> {
-    answers_picture(&rt, LeastGridDimension::height_total)
-}
-
-#[test]
-fn peekable_width(rt: HostRuntime) -> Result<(), Fail> {
-    answers_picture(&rt, PeekableGridDimension::width)
-}
-
-#[test]
-fn peekable_height(rt: HostRuntime) -> Result<(), Fail> {
-    answers_picture(&rt, PeekableGridDimension::height)
-}
-
-#[test]
-fn peekable_dimension(rt: HostRuntime) -> Result<(), Fail> {
-    answers_picture(&rt, PeekableGridDimension::dimension)
-}
-
-#[test]
-fn compact_width(rt: HostRuntime) -> Result<(), Fail> {
-    answers(&rt, &CompactConfig::new(), CompactGridDimension::width)
-}
-
-#[test]
-fn compact_height(rt: HostRuntime) -> Result<(), Fail> {
-    answers(&rt, &CompactConfig::new(), CompactGridDimension::height)
-}
-
-#[test]
-fn compact_dimension(rt: HostRuntime) -> Result<(), Fail> {
-    answers(&rt, &CompactConfig::new(), CompactGridDimension::dimension)
-}
-
-#[test]
-fn by_width_witness(rt: HostRuntime) -> Result<(), Fail> {
-    answers_picture(&rt, |alloc, records, config| {
-        width_witness(alloc, records, config)
-    })
-}
-
-#[test]
-fn by_height_witness(rt: HostRuntime) -> Result<(), Fail> {
-    answers_picture(&rt, |alloc, records, config| {
-        height_witness(alloc, records, config)
-    })
-}
-
-#[test]
-fn by_width_certificate(rt: HostRuntime) -> Result<(), Fail> {
-    answers_picture(&rt, width_certificate)
-}
-
-#[test]
-fn by_height_certificate(rt: HostRuntime) -> Result<(), Fail> {
-    answers_picture(&rt, height_certificate)
-}
-
-#[test]
-fn by_certified_sizes(rt: HostRuntime) -> Result<(), Fail> {
-    answers_picture(&rt, certified_sizes)
+fn certified(rt: HostRuntime) -> Result<(), Fail> {
+    let config = config(rt.alloc())?;
+    let end = certified_calls(&rt, &config);
+    drop(config);
+    end
 }
 
 fn short_rows(alloc: Global) -> Result<Vec<Vec<&'static str>>, AllocError> {
@@ -189,7 +176,7 @@ fn sized<C, D: Estimate<VecRecords<&'static str>, C> + Drop>(
     Ok(dimension)
 }
 
-/// What a test ends with that estimates the picture after short texts.
+/// What a test ends with that estimates the picture after short texts, and then clones the dimension.
 fn estimates<C, D: Estimate<VecRecords<&'static str>, C> + Clone + PartialEq + Drop>(
     rt: &(impl Abort + AllocGlobal),
     dimension: D,
@@ -197,10 +184,13 @@ fn estimates<C, D: Estimate<VecRecords<&'static str>, C> + Clone + PartialEq + D
 ) -> Result<(), Fail>
     requires { (records : VecRecords (Bor (List ℕ))) → D.accepts records }
 {
-    let records = VecRecords::new(rows(rt.alloc())?);
+    let records = records(rt.alloc())?;
     let (mut dimension, before) = with_clone(sized(rt, dimension, config)?)?;
     let answer = dimension.estimate(records, config);
-    keeps(rt, dimension, before, in_table(rt, answer))
+    assert!(rt; answer.is_ok() || dimension == before);
+    answers(rt, call(1, 2), answer)?;
+    drop(before);
+    clones(rt, call(2, 2), dimension)
 }
 
 /// The same by the settings of the picture.
@@ -209,7 +199,7 @@ where
     D: Estimate<VecRecords<&'static str>, SpannedConfig> + Clone + PartialEq + Drop,
     requires { (records : VecRecords (Bor (List ℕ))) → D.accepts records }
 {
-    let config = told(rt.alloc(), settings(rt.alloc())?)?;
+    let config = config(rt.alloc())?;
     let end = estimates(rt, dimension, &config);
     drop(config);
     end
@@ -234,39 +224,6 @@ fn peekable_estimate(rt: HostRuntime) -> Result<(), Fail> {
 fn compact_estimate(rt: HostRuntime) -> Result<(), Fail> {
     let dimension = CompactGridDimension::new(rt.alloc());
     estimates(&rt, dimension, &CompactConfig::new())
-}
-
-#[test]
-fn compact_clone(rt: HostRuntime) -> Result<(), Fail> {
-    let dimension = CompactGridDimension::new(rt.alloc());
-    clones(&rt, sized(&rt, dimension, &CompactConfig::new())?)
-}
-
-/// A dimension that has the sizes of short texts without settings.
-fn plain<D>(rt: &(impl Abort + AllocGlobal), dimension: D) -> Result<D, AllocError>
-where
-    D: Estimate<VecRecords<&'static str>, SpannedConfig> + Drop,
-    requires { (records : VecRecords (Bor (List ℕ))) → D.accepts records }
-{
-    let config = SpannedConfig::new(rt.alloc());
-    let dimension = sized(rt, dimension, &config);
-    drop(config);
-    dimension
-}
-
-#[test]
-fn iter_clone(rt: HostRuntime) -> Result<(), Fail> {
-    clones(&rt, plain(&rt, IterGridDimension::new(rt.alloc()))?)
-}
-
-#[test]
-fn least_clone(rt: HostRuntime) -> Result<(), Fail> {
-    clones(&rt, plain(&rt, LeastGridDimension::new(rt.alloc()))?)
-}
-
-#[test]
-fn peekable_clone(rt: HostRuntime) -> Result<(), Fail> {
-    clones(&rt, plain(&rt, PeekableGridDimension::new(rt.alloc()))?)
 }
 
 /// A width and a height of one for each column and row.
@@ -294,8 +251,8 @@ impl Dimension for Ones {
 
 #[test]
 fn all_places(rt: HostRuntime) -> Result<(), Fail> {
-    let config = told(rt.alloc(), settings(rt.alloc())?)?;
+    let config = config(rt.alloc())?;
     let answer = places(rt.alloc(), &Ones, &config, (2, 4));
     drop(config);
-    says(in_table(&rt, answer))
+    answers(&rt, only(), answer)
 }

@@ -1,14 +1,13 @@
 //! Tables of borders, of offsets and of spans, that hold two of each.
 
-use super::{at, changes, clones, reads};
+use super::{at, call, clones, keeps, only, says, with_clone};
 use papergrid_maps::SpanTable;
 use papergrid_tables::{BorderTable, OffsetTable};
 use papergrid_values::{Border, HorizontalLine, Offset, VerticalLine};
 use std::alloc::{AllocError, Global};
-use std::process::Abort;
 use std::test::Fail;
 
-fn borders(alloc: Global) -> Result<BorderTable<char>, AllocError> {
+fn two_borders(alloc: Global) -> Result<BorderTable<char>, AllocError> {
     let mut table = BorderTable::new(alloc);
     for i in [0, 4] {
         table.insert_horizontal_line(i, HorizontalLine::filled('h'))?;
@@ -19,33 +18,38 @@ fn borders(alloc: Global) -> Result<BorderTable<char>, AllocError> {
 }
 
 #[test]
-fn clone_of_borders(rt: HostRuntime) -> Result<(), Fail> {
-    clones(&rt, borders(rt.alloc())?)
+fn borders(rt: HostRuntime) -> Result<(), Fail> {
+    let table = two_borders(rt.alloc())?;
+    says(call(1, 3), table.get_horizontal_lines())?;
+    says(call(2, 3), table.get_vertical_lines())?;
+    clones(&rt, call(3, 3), table)
 }
 
+/// A first border needs room for its parts and for each count of them.
 #[test]
-fn get_horizontal_lines(rt: HostRuntime) -> Result<(), Fail> {
-    reads(&rt, borders(rt.alloc())?, BorderTable::get_horizontal_lines)
+fn first_border(rt: HostRuntime) -> Result<(), Fail> {
+    let (mut table, before) = with_clone(BorderTable::new(rt.alloc()))?;
+    let answer = table.insert_border(at(0, 0), Border::filled('x'));
+    keeps(&rt, only(), table, before, answer)
 }
 
-#[test]
-fn get_vertical_lines(rt: HostRuntime) -> Result<(), Fail> {
-    reads(&rt, borders(rt.alloc())?, BorderTable::get_vertical_lines)
-}
-
-fn offsets(alloc: Global) -> Result<OffsetTable<char>, AllocError> {
+fn two_offsets(alloc: Global) -> Result<OffsetTable<char>, AllocError> {
     let mut table = OffsetTable::new(alloc);
     table.set(at(0, 0), Offset::Start(1), 's')?;
     table.set(at(0, 1), Offset::End(1), 'e')?;
     Ok(table)
 }
 
+/// A clone, and a second offset of a position.
 #[test]
-fn clone_of_offsets(rt: HostRuntime) -> Result<(), Fail> {
-    clones(&rt, offsets(rt.alloc())?)
+fn offsets(rt: HostRuntime) -> Result<(), Fail> {
+    clones(&rt, call(1, 2), two_offsets(rt.alloc())?)?;
+    let (mut table, before) = with_clone(two_offsets(rt.alloc())?)?;
+    let answer = table.set(at(0, 0), Offset::End(2), 'n');
+    keeps(&rt, call(2, 2), table, before, answer)
 }
 
-fn spans(alloc: Global) -> Result<SpanTable, AllocError> {
+fn two_spans(alloc: Global) -> Result<SpanTable, AllocError> {
     let mut table = SpanTable::new(alloc);
     for i in [0, 4] {
         table.set_column(at(i, i), 2)?;
@@ -55,52 +59,12 @@ fn spans(alloc: Global) -> Result<SpanTable, AllocError> {
 }
 
 #[test]
-fn clone_of_spans(rt: HostRuntime) -> Result<(), Fail> {
-    clones(&rt, spans(rt.alloc())?)
-}
-
-/// What a test ends with that reads spans.
-fn reads_spans<A: Drop, F>(rt: &(impl Abort + AllocGlobal), read: F) -> Result<(), Fail>
-where
-    F: FnOnce(&SpanTable) -> Result<A, AllocError>,
-    requires { F.IsAlwaysCallable read }
-{
-    reads(rt, spans(rt.alloc())?, read)
-}
-
-#[test]
-fn columns(rt: HostRuntime) -> Result<(), Fail> {
-    reads_spans(&rt, SpanTable::columns)
-}
-
-#[test]
-fn rows(rt: HostRuntime) -> Result<(), Fail> {
-    reads_spans(&rt, SpanTable::rows)
-}
-
-#[test]
-fn anchors(rt: HostRuntime) -> Result<(), Fail> {
-    reads_spans(&rt, SpanTable::anchors)
-}
-
-/// A first border needs room for its parts and for each count of them.
-#[test]
-fn first_border(rt: HostRuntime) -> Result<(), Fail> {
-    changes(
-        &rt,
-        BorderTable::new(rt.alloc()),
-        |table| table.insert_border(at(0, 0), Border::filled('x')),
-    )
-}
-
-/// A second offset of a position.
-#[test]
-fn second_offset(rt: HostRuntime) -> Result<(), Fail> {
-    changes(
-        &rt,
-        offsets(rt.alloc())?,
-        |table| table.set(at(0, 0), Offset::End(2), 'n'),
-    )
+fn spans(rt: HostRuntime) -> Result<(), Fail> {
+    let table = two_spans(rt.alloc())?;
+    says(call(1, 4), table.columns())?;
+    says(call(2, 4), table.rows())?;
+    says(call(3, 4), table.anchors())?;
+    clones(&rt, call(4, 4), table)
 }
 
 /// A row span beside a column span grows two maps.
@@ -108,12 +72,16 @@ fn second_offset(rt: HostRuntime) -> Result<(), Fail> {
 fn row_span_beside_column_span(rt: HostRuntime) -> Result<(), Fail> {
     let mut table = SpanTable::new(rt.alloc());
     table.set_column(at(0, 0), 2)?;
-    changes(&rt, table, |table| table.set_row(at(0, 0), 2))
+    let (mut table, before) = with_clone(table)?;
+    let answer = table.set_row(at(0, 0), 2);
+    keeps(&rt, only(), table, before, answer)
 }
 
 #[test]
 fn column_span_beside_row_span(rt: HostRuntime) -> Result<(), Fail> {
     let mut table = SpanTable::new(rt.alloc());
     table.set_row(at(0, 0), 2)?;
-    changes(&rt, table, |table| table.set_column(at(0, 0), 2))
+    let (mut table, before) = with_clone(table)?;
+    let answer = table.set_column(at(0, 0), 2);
+    keeps(&rt, only(), table, before, answer)
 }

@@ -1,8 +1,8 @@
 //! Texts and records.
 
-use super::{clones, says};
+use super::{call, clones, says};
 use papergrid_text::string::replace_tab;
-use papergrid_text::{RowIter, StrWithWidth, Text, VecRecords};
+use papergrid_text::{IterRecords, RowIter, StrWithWidth, Text, VecRecords};
 use std::alloc::{AllocError, Global};
 use std::borrow::CowStr;
 use std::test::Fail;
@@ -31,37 +31,20 @@ fn rows(alloc: Global) -> Result<Vec<Vec<String>>, AllocError> {
 }
 
 #[test]
-fn new(rt: HostRuntime) -> Result<(), Fail> {
-    says(Text::new(rt.alloc(), "a\nbc\nd"))
+fn texts(rt: HostRuntime) -> Result<(), Fail> {
+    let alloc = rt.alloc();
+    says(call(1, 5), Text::new(alloc, "a\nbc\nd"))?;
+    says(call(2, 5), replace_tab(alloc, "a\tb\\\tcdefgh", 7))?;
+    clones(&rt, call(3, 5), three_lines(alloc)?)?;
+    clones(&rt, call(4, 5), exact(alloc)?)?;
+    clones(&rt, call(5, 5), owned_line(alloc)?)
 }
 
 #[test]
-fn clone(rt: HostRuntime) -> Result<(), Fail> {
-    clones(&rt, three_lines(rt.alloc())?)
-}
-
-#[test]
-fn clone_of_exact(rt: HostRuntime) -> Result<(), Fail> {
-    clones(&rt, exact(rt.alloc())?)
-}
-
-#[test]
-fn clone_of_line(rt: HostRuntime) -> Result<(), Fail> {
-    clones(&rt, owned_line(rt.alloc())?)
-}
-
-#[test]
-fn clone_of_records(rt: HostRuntime) -> Result<(), Fail> {
-    clones(&rt, VecRecords::new(rows(rt.alloc())?))
-}
-
-#[test]
-fn clone_of_row_iter(rt: HostRuntime) -> Result<(), Fail> {
-    let records = RowIter::new(rows(rt.alloc())?.into_iter());
-    says(records.clone())
-}
-
-#[test]
-fn tabs(rt: HostRuntime) -> Result<(), Fail> {
-    says(replace_tab(rt.alloc(), "a\tb\\\tcdefgh", 7))
+fn records(rt: HostRuntime) -> Result<(), Fail> {
+    let alloc = rt.alloc();
+    clones(&rt, call(1, 3), VecRecords::new(rows(alloc)?))?;
+    clones(&rt, call(2, 3), IterRecords::new(rows(alloc)?, 2, Some(2)))?;
+    let walked = RowIter::new(rows(alloc)?.into_iter());
+    says(call(3, 3), walked.clone())
 }

@@ -3,14 +3,14 @@
 ghost use Rattle.std.specs.Prelude.{◌≡◌, All, IfOk, true};
 ghost use Rattle.papergrid_config.specs.Applied.{is_in_range};
 
-use super::says;
 use super::sizes::{in_table, rows, settings};
+use super::{CallNumber, call, only, says};
 use papergrid::records::vec_records::VecRecords;
 use papergrid::{
     ReadSource, RunEnd, RunFault, Sizing, WriteSink, explain, layout, layout_least, run, run_least,
 };
 use papergrid_config::Setting;
-use std::alloc::AllocError;
+use std::alloc::{AllocError, Global};
 use std::process::Abort;
 use std::test::Fail;
 
@@ -31,15 +31,13 @@ fn picture(
 }
 
 #[test]
-fn layout_of_picture(rt: HostRuntime) -> Result<(), Fail> {
+fn layouts(rt: HostRuntime) -> Result<(), Fail> {
     let (settings, records) = picture(&rt)?;
-    says(in_table(&rt, layout(rt.alloc(), settings, records)))
-}
-
-#[test]
-fn layout_least_of_picture(rt: HostRuntime) -> Result<(), Fail> {
+    let by_shares = layout(rt.alloc(), settings, records);
+    says(call(1, 2), in_table(&rt, by_shares))?;
     let (settings, records) = picture(&rt)?;
-    says(in_table(&rt, layout_least(rt.alloc(), settings, records)))
+    let least = layout_least(rt.alloc(), settings, records);
+    says(call(2, 2), in_table(&rt, least))
 }
 
 /// The picture has sizes, and to know that asks for memory.
@@ -47,80 +45,68 @@ fn layout_least_of_picture(rt: HostRuntime) -> Result<(), Fail> {
 fn explain_of_picture(rt: HostRuntime) -> Result<(), Fail> {
     let answer = explain(rt.alloc(), Sizing::ByShares, PICTURE);
     assert!(rt; matches!(&answer, Ok(None) | Err(_)));
-    says(answer)
+    says(only(), answer)
 }
 
-/// What a test ends with whose run came to this end: the whole output is written, or nothing where memory was refused.
-fn ends(
-    rt: &impl Abort,
-    end: Result<RunEnd, RunFault>,
-    written: &[u8],
-    output: &str,
-) -> Result<(), Fail> {
-    match end {
+/// A run of a script by shares, or with least sizes, and the output that it has to have.
+#[derive(Clone, Copy)]
+struct Case {
+    is_least: bool,
+    script: &'static [u8],
+    output: &'static str,
+}
+
+/// Two cells of ten columns that cross share the middle column, where the sizes are least.
+const CASES: [Case; 3] = [
+    Case {
+        is_least: false,
+        script: PICTURE,
+        output: "widths 17 12 16 1\nheights 1 1\ntotal 51 5\nwitness widths 0,0 0,1 0,2 0,3\nwitness heights 0,1 1,1\n",
+    },
+    Case {
+        is_least: false,
+        script: b"columns 3\ncolspan 1,0 3\ncolspan 2,1 2\nrow\ncell a\ncell a\ncell a\nrow\ncell 0123456789\nrow\ncell a\ncell 01234567\n",
+        output: "widths 2 4 4\nheights 1 1 1\ntotal 10 3\nwitness widths 1,0\nwitness heights 0,0 1,0 2,0\n",
+    },
+    Case {
+        is_least: true,
+        script: b"columns 3\ncolspan 0,0 2\ncolspan 1,1 2\nrow\ncell 0123456789\nrow\ncell\ncell 0123456789\n",
+        output: "widths 0 10 0\nheights 1 1\ntotal 10 2\nwitness widths 0,0\nwitness heights 0,0 1,0\n",
+    },
+];
+
+fn end_of(alloc: Global, it: Case, written: &mut Vec<u8>) -> Result<RunEnd, RunFault> {
+    let (mut reader, mut writer) = (ReadSource::new(it.script), WriteSink::new(written));
+    if it.is_least {
+        run_least(alloc, &mut reader, &mut writer)
+    } else {
+        run(alloc, &mut reader, &mut writer)
+    }
+}
+
+/// What a test ends with that runs into a buffer, which has room for the output and asks for no more: the whole output
+/// is written, or nothing where memory was refused.
+fn runs(rt: &(impl Abort + AllocGlobal), call: CallNumber, it: Case) -> Result<(), Fail> {
+    let mut written: Vec<u8> = Vec::with_capacity(rt.alloc(), 1000)?;
+    match end_of(rt.alloc(), it, &mut written) {
         Err(RunFault::Memory) => {
             assert!(rt; written.is_empty());
-            says(Err::<(), AllocError>(AllocError))
+            says(call, Err::<(), AllocError>(AllocError))
         }
         end => {
             assert_eq!(rt; end, Ok(RunEnd::Done));
-            assert_eq!(rt; written, output.as_bytes());
+            assert_eq!(rt; written.as_slice(), it.output.as_bytes());
             Ok(())
         }
     }
 }
 
-/// The same of a run into a buffer, which has room for the output and asks for no more.
-fn writes<F>(rt: &(impl Abort + AllocGlobal), output: &str, run: F) -> Result<(), Fail>
-where
-    F: FnOnce(&mut Vec<u8>) -> Result<RunEnd, RunFault>,
-    requires { F.IsAlwaysCallable run }
-{
-    let mut written: Vec<u8> = Vec::with_capacity(rt.alloc(), 1000)?;
-    let end = run(&mut written);
-    ends(rt, end, &written, output)
-}
-
-/// Runs a script.
-fn run_to(rt: &(impl Abort + AllocGlobal), script: &[u8], output: &str) -> Result<(), Fail> {
-    writes(rt, output, |written| {
-        let (mut reader, mut writer) = (ReadSource::new(script), WriteSink::new(written));
-        run(rt.alloc(), &mut reader, &mut writer)
-    })
-}
-
-/// The same with least sizes.
-fn run_least_to(rt: &(impl Abort + AllocGlobal), script: &[u8], output: &str) -> Result<(), Fail> {
-    writes(rt, output, |written| {
-        let (mut reader, mut writer) = (ReadSource::new(script), WriteSink::new(written));
-        run_least(rt.alloc(), &mut reader, &mut writer)
-    })
-}
-
 #[test]
-fn run_of_picture(rt: HostRuntime) -> Result<(), Fail> {
-    run_to(
-        &rt,
-        PICTURE,
-        "widths 17 12 16 1\nheights 1 1\ntotal 51 5\nwitness widths 0,0 0,1 0,2 0,3\nwitness heights 0,1 1,1\n",
-    )
-}
-
-#[test]
-fn run_of_nested_column_spans(rt: HostRuntime) -> Result<(), Fail> {
-    run_to(
-        &rt,
-        b"columns 3\ncolspan 1,0 3\ncolspan 2,1 2\nrow\ncell a\ncell a\ncell a\nrow\ncell 0123456789\nrow\ncell a\ncell 01234567\n",
-        "widths 2 4 4\nheights 1 1 1\ntotal 10 3\nwitness widths 1,0\nwitness heights 0,0 1,0 2,0\n",
-    )
-}
-
-/// Two cells of ten columns that cross share the middle column.
-#[test]
-fn run_least_of_crossing_spans(rt: HostRuntime) -> Result<(), Fail> {
-    run_least_to(
-        &rt,
-        b"columns 3\ncolspan 0,0 2\ncolspan 1,1 2\nrow\ncell 0123456789\nrow\ncell\ncell 0123456789\n",
-        "widths 0 10 0\nheights 1 1\ntotal 10 2\nwitness widths 0,0\nwitness heights 0,0 1,0\n",
-    )
+fn each_run(rt: HostRuntime) -> Result<(), Fail> {
+    let mut number: usize = 0;
+    for it in CASES {
+        number = number.wrapping_add(1);
+        runs(&rt, call(number, CASES.len()), it)?;
+    }
+    Ok(())
 }
