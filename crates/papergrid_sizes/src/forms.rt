@@ -52,12 +52,12 @@ pub const FORMS: [Form; 11] = [
     Form {
         keyword: "novline",
         spelled: "novline N",
-        does: "drops the line before column N",
+        does: "drops the line that vline N X draws",
     },
     Form {
         keyword: "nohline",
         spelled: "nohline N",
-        does: "drops the line before row N",
+        does: "drops the line that hline N X draws",
     },
     Form {
         keyword: "row",
@@ -76,11 +76,15 @@ pub fn form_of(keyword: &str) -> Option<Form> {
     FORMS.iter().copied().find(|form| form.keyword == keyword)
 }
 
-/// The form whose keyword is most like the word, if two letters at most differ and not all of them.
+/// The form whose keyword is most like the word, if two letters at most differ and not all of them. A longer word is
+/// compared with none, since a comparison goes over the whole of it for each letter of the keyword.
 pub fn form_like(alloc: Global, word: &str) -> Result<Option<Form>, AllocError> {
     let mut nearest = None;
     let mut least = word.len().min(3);
     for form in FORMS {
+        if word.len() > form.keyword.len() + 2 {
+            continue;
+        }
         let distance = levenshtein(alloc, word, form.keyword)?;
         if distance < least {
             least = distance;
