@@ -4,7 +4,7 @@ use papergrid::Sizing;
 use std::env::Args;
 
 /// What the arguments ask for.
-#[derive(Debug, Drop, PartialEq, Eq)]
+#[derive(Drop)]
 pub enum Request {
     /// The sizes of the script on standard input.
     OfInput,
@@ -17,7 +17,7 @@ pub enum Request {
 }
 
 /// Which sizes are written.
-#[derive(Clone, Copy, Debug, PartialEq, Eq)]
+#[derive(Clone, Copy)]
 pub struct Wanted {
     /// How they are chosen.
     pub sizing: Sizing,
@@ -26,7 +26,7 @@ pub struct Wanted {
 }
 
 /// The first argument that the program does not take.
-#[derive(Debug, Drop, PartialEq, Eq)]
+#[derive(Drop)]
 pub struct Unexpected(pub String);
 
 /// What the words after the program's name ask for: options in any order, and one other word at most. After `--`

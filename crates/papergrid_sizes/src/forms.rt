@@ -4,7 +4,7 @@ use std::alloc::{AllocError, Global};
 use strsim::levenshtein;
 
 /// A form of lines, and what a line of it does.
-#[derive(Clone, Copy, Debug, PartialEq, Eq)]
+#[derive(Clone, Copy)]
 pub struct Form {
     /// The word that its lines begin with.
     pub keyword: &'static str,

@@ -18,8 +18,7 @@ use std::{env, io};
 use totals::TotalsSink;
 
 /// What the arguments may be.
-const TAKES: &str =
-    "papergrid_sizes takes --least, --total and one FILE, or --help, or --version";
+const TAKES: &str = "papergrid_sizes takes --least, --total and one FILE, or --help, or --version";
 
 /// Ends with status 0 where the sizes were written, 1 where the table has none, 2 where the script has a
 /// bad line or an argument is not taken, and 3 at a fault. What went wrong is told on standard error.

@@ -1,14 +1,14 @@
 //! The totals alone.
 
-ghost use Rattle.std.specs.Prelude.{None};
+ghost use Rattle.std.specs.Prelude.{◌≡◌, ◌≤◌, length, nat_eq, None};
 
 use papergrid::{Failed, Sink};
 
 /// What the lines that are dropped begin with.
 const DROPPED: [&[u8]; 3] = [b"widths", b"heights", b"witness"];
 
-/// A sink that takes all, and passes on no line of single sizes or of witnesses. A line is passed on in one piece or in
-/// several, since no rest of one begins as those that are dropped.
+/// A sink that takes all of the output, and passes on no line of single sizes or of witnesses. The others may go in
+/// several pieces, since no rest of `total ..`, of a refusal or of `bad script ..` begins like a line that is dropped.
 #[derive(Drop)]
 pub struct TotalsSink<W> {
     pub sink: W,
@@ -31,7 +31,10 @@ impl<W: Sink> Sink for TotalsSink<W> {
 }
 
 /// The bytes up to the first newline, and that.
-fn first_line(bytes: &[u8]) -> &[u8] {
+fn first_line(bytes: &[u8]) -> &[u8]
+    ensures within { length result.now ≤ length bytes.now }
+    ensures empty { nat_eq (length result.now) 0 ≡ nat_eq (length bytes.now) 0 }
+{
     match bytes.iter().position(|byte| *byte == b'\n') {
         Some(at) => &bytes[..=at],
         None => bytes,
