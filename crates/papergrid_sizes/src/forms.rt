@@ -76,13 +76,16 @@ pub fn form_of(keyword: &str) -> Option<Form> {
     FORMS.iter().copied().find(|form| form.keyword == keyword)
 }
 
-/// The form whose keyword is most like the word, if two letters at most differ and not all of them. A longer word is
-/// compared with none, since a comparison goes over the whole of it for each letter of the keyword.
+/// The bytes of two letters, at most.
+const TWO_LETTERS: usize = 8;
+
+/// The form whose keyword is most like the word, if two letters at most differ and not all of them. A word that is too
+/// long for that is not compared, since a comparison goes over all of it for each letter of the keyword.
 pub fn form_like(alloc: Global, word: &str) -> Result<Option<Form>, AllocError> {
     let mut nearest = None;
     let mut least = word.len().min(3);
     for form in FORMS {
-        if word.len() > form.keyword.len() + 2 {
+        if word.len() > form.keyword.len() + TWO_LETTERS {
             continue;
         }
         let distance = levenshtein(alloc, word, form.keyword)?;
