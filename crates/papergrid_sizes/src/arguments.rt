@@ -4,7 +4,7 @@ use papergrid::Sizing;
 use std::env::Args;
 
 /// What the arguments ask for.
-#[derive(Debug, Drop, PartialEq, Eq)]
+#[derive(Drop)]
 pub enum Request {
     /// The sizes of the script on standard input.
     OfInput,
@@ -16,36 +16,47 @@ pub enum Request {
     Version,
 }
 
-/// The first argument that the program does not take.
-#[derive(Debug, Drop, PartialEq, Eq)]
-pub struct Unknown(pub String);
-
-/// What the words after the program's name ask for, and how sizes are chosen: by `--least`, and by one other word
-/// at most.
-pub fn asked_for(words: Args) -> Result<(Request, Sizing), Unknown> {
-    let mut sizing = Sizing::ByShares;
-    let mut alone = None;
-    for word in words {
-        if word.as_str() == "--least" && sizing == Sizing::ByShares {
-            sizing = Sizing::Least;
-        } else if alone.is_none() {
-            alone = Some(word);
-        } else {
-            return Err(Unknown(word));
-        }
-    }
-    match alone {
-        None => Ok((Request::OfInput, sizing)),
-        Some(word) => Ok((asked_by(word)?, sizing)),
-    }
+/// Which sizes are written.
+#[derive(Clone, Copy)]
+pub struct Wanted {
+    /// How they are chosen.
+    pub sizing: Sizing,
+    /// Whether only the totals are written.
+    pub only_totals: bool,
 }
 
-/// What one word asks for. A file's name doesn't begin with `-`.
-pub fn asked_by(word: String) -> Result<Request, Unknown> {
+/// The first argument that the program does not take.
+#[derive(Drop)]
+pub struct Unexpected(pub String);
+
+/// What the words after the program's name ask for: options in any order, and one other word at most. After `--`
+/// no word is an option.
+pub fn asked_for(words: Args) -> Result<(Request, Wanted), Unexpected> {
+    let mut wanted = Wanted {
+        sizing: Sizing::ByShares,
+        only_totals: false,
+    };
+    let mut asked = None;
+    let mut takes_options = true;
+    for word in words {
+        match word.as_str() {
+            "--" if takes_options => takes_options = false,
+            "--least" if takes_options => wanted.sizing = Sizing::Least,
+            "--total" if takes_options => wanted.only_totals = true,
+            _ if asked.is_some() => return Err(Unexpected(word)),
+            _ => asked = Some(asked_by(word, takes_options)?),
+        }
+    }
+    Ok((asked.unwrap_or(Request::OfInput), wanted))
+}
+
+/// What one word asks for, which may be an option or not.
+fn asked_by(word: String, takes_options: bool) -> Result<Request, Unexpected> {
     match word.as_str() {
-        "--help" | "-h" => Ok(Request::Help),
-        "--version" | "-V" => Ok(Request::Version),
-        text if text.starts_with('-') => Err(Unknown(word)),
+        "-" => Ok(Request::OfInput),
+        "--help" | "-h" if takes_options => Ok(Request::Help),
+        "--version" | "-V" if takes_options => Ok(Request::Version),
+        text if takes_options && text.starts_with('-') => Err(Unexpected(word)),
         _ => Ok(Request::OfFile(word)),
     }
 }

@@ -4,7 +4,7 @@ use std::alloc::{AllocError, Global};
 use strsim::levenshtein;
 
 /// A form of lines, and what a line of it does.
-#[derive(Clone, Copy, Debug, PartialEq, Eq)]
+#[derive(Clone, Copy)]
 pub struct Form {
     /// The word that its lines begin with.
     pub keyword: &'static str,
@@ -52,12 +52,12 @@ pub const FORMS: [Form; 11] = [
     Form {
         keyword: "novline",
         spelled: "novline N",
-        does: "drops the line before column N",
+        does: "drops the line that vline N X draws",
     },
     Form {
         keyword: "nohline",
         spelled: "nohline N",
-        does: "drops the line before row N",
+        does: "drops the line that hline N X draws",
     },
     Form {
         keyword: "row",
@@ -76,11 +76,18 @@ pub fn form_of(keyword: &str) -> Option<Form> {
     FORMS.iter().copied().find(|form| form.keyword == keyword)
 }
 
-/// The form whose keyword is most like the word, if two letters at most differ and not all of them.
+/// The bytes of two letters, at most.
+const TWO_LETTERS: usize = 8;
+
+/// The form whose keyword is most like the word, if two letters at most differ and not all of them. A word that is too
+/// long for that is not compared, since a comparison goes over all of it for each letter of the keyword.
 pub fn form_like(alloc: Global, word: &str) -> Result<Option<Form>, AllocError> {
     let mut nearest = None;
     let mut least = word.len().min(3);
     for form in FORMS {
+        if word.len() > form.keyword.len() + TWO_LETTERS {
+            continue;
+        }
         let distance = levenshtein(alloc, word, form.keyword)?;
         if distance < least {
             least = distance;

@@ -4,13 +4,19 @@ use crate::forms::FORMS;
 use std::alloc::{AllocError, Global};
 
 const TAKEN: &str = "\
-papergrid_sizes [FILE]
-papergrid_sizes --least [FILE]
+papergrid_sizes [--least] [--total] [--] [FILE]
 papergrid_sizes --help | --version
 
-Reads a script that tells a table, from FILE or from standard input, and writes the width
-of each column, in columns of a terminal, and the height of each row, in lines. With --least
-no smaller total has room for every cell, whatever spans cross.
+Reads a script that tells a table, from FILE, or from standard input where there is none or
+it is -, and writes the width of each column, in columns of a terminal, and the height of each
+row, in lines.
+
+  --least                           chooses sizes by which no smaller total has room for every
+                                    cell, whatever spans cross
+  --total                           writes of sizes the line of the totals alone
+  --                                ends the options, so that FILE may begin with -
+  --help, -h                        writes this
+  --version, -V                     writes the name and the version
 
 A script has lines of these forms, and empty lines. Rows and columns are counted from 0.
 
@@ -19,11 +25,11 @@ A script has lines of these forms, and empty lines. Rows and columns are counted
 const WRITTEN: &str = "
 What comes out, where the total counts the lines of the table too:
 
-  widths ..                the width of each column
-  heights ..               the height of each row
-  total WIDTH HEIGHT       the size of the table
-  witness widths R,C ..    cells which show that no smaller total has room for every cell,
-  witness heights R,C ..   or none, but never with --least
+  widths ..                         the width of each column
+  heights ..                        the height of each row
+  total WIDTH HEIGHT                the size of the table
+  witness widths R,C ..             cells which show that no smaller total has room for every
+  witness heights R,C ..            cell, or none where spans cross, but never with --least
 
 or one of these, with more on standard error:
 

@@ -5,17 +5,20 @@ mod arguments;
 mod forms;
 mod help;
 mod message;
-#[cfg(test)]
-mod tests;
+mod totals;
 
-use arguments::{Request, Unknown, asked_for};
+use arguments::{Request, Unexpected, Wanted, asked_for};
 use help::help_text;
 use message::message_of;
-use papergrid::{ReadSource, RunEnd, RunFault, Sizing, WriteSink, run_keeping};
+use papergrid::{ReadSource, RunEnd, RunFault, WriteSink, run_keeping};
 use std::fs::File;
 use std::io::{ErrorKind, Read, Write};
 use std::process::ExitCode;
 use std::{env, io};
+use totals::TotalsSink;
+
+/// What the arguments may be.
+const TAKES: &str = "papergrid_sizes takes --least, --total and one FILE, or --help, or --version";
 
 /// Ends with status 0 where the sizes were written, 1 where the table has none, 2 where the script has a
 /// bad line or an argument is not taken, and 3 at a fault. What went wrong is told on standard error.
@@ -27,16 +30,16 @@ fn main(rt: HostRuntime) -> ExitCode {
     // The first word is the program's name.
     let _ = words.next();
     match asked_for(words) {
-        Ok((request, sizing)) => answered(&rt, request, sizing),
-        Err(Unknown(word)) => unknown(&rt, word.as_str()),
+        Ok((request, wanted)) => answered(&rt, request, wanted),
+        Err(Unexpected(word)) => unexpected(&rt, word.as_str()),
     }
 }
 
 /// Does what is asked for.
-fn answered(rt: &HostRuntime, request: Request, sizing: Sizing) -> ExitCode {
+fn answered(rt: &HostRuntime, request: Request, wanted: Wanted) -> ExitCode {
     match request {
-        Request::OfInput => answered_from(rt, sizing, rt.stdin()),
-        Request::OfFile(path) => sizes_of_file(rt, sizing, path.as_str()),
+        Request::OfInput => answered_from(rt, wanted, rt.stdin()),
+        Request::OfFile(path) => sizes_of_file(rt, wanted, path.as_str()),
         Request::Help => match help_text(rt.alloc()) {
             Ok(text) => told(rt, text.as_str()),
             Err(_) => fault(rt, RunFault::Memory),
@@ -46,9 +49,9 @@ fn answered(rt: &HostRuntime, request: Request, sizing: Sizing) -> ExitCode {
 }
 
 /// Answers the script that is read, and says what keeps it from having sizes.
-fn answered_from<R: Read + Drop>(rt: &HostRuntime, sizing: Sizing, reader: R) -> ExitCode {
+fn answered_from<R: Read + Drop>(rt: &HostRuntime, wanted: Wanted, reader: R) -> ExitCode {
     let mut script = Vec::new(rt.alloc());
-    let end = sizes(rt, sizing, reader, &mut script);
+    let end = sizes(rt, wanted, reader, &mut script);
     if end == Ok(RunEnd::Refused) || end == Ok(RunEnd::BadScript) {
         say_why(rt, &script);
     }
@@ -58,14 +61,19 @@ fn answered_from<R: Read + Drop>(rt: &HostRuntime, sizing: Sizing, reader: R) ->
 /// Writes the sizes of the script that is read, keeps the script, and tells how that ended.
 fn sizes<R: Read + Drop>(
     rt: &HostRuntime,
-    sizing: Sizing,
+    wanted: Wanted,
     reader: R,
     script: &mut Vec<u8>,
 ) -> Result<RunEnd, RunFault> {
     let mut source = ReadSource::new(reader);
     let mut stdout = rt.stdout();
     let mut writer = WriteSink::new(&mut stdout);
-    let end = run_keeping(rt.alloc(), sizing, &mut source, &mut writer, script)?;
+    let end = if wanted.only_totals {
+        let mut totals = TotalsSink { sink: writer };
+        run_keeping(rt.alloc(), wanted.sizing, &mut source, &mut totals, script)?
+    } else {
+        run_keeping(rt.alloc(), wanted.sizing, &mut source, &mut writer, script)?
+    };
     match stdout.flush() {
         Ok(()) => Ok(end),
         Err(_) => Err(RunFault::Write),
@@ -83,9 +91,9 @@ fn status(rt: &HostRuntime, end: Result<RunEnd, RunFault>) -> ExitCode {
 }
 
 /// Answers the script in a file.
-fn sizes_of_file(rt: &HostRuntime, sizing: Sizing, path: &str) -> ExitCode {
+fn sizes_of_file(rt: &HostRuntime, wanted: Wanted, path: &str) -> ExitCode {
     match File::open(rt, path) {
-        Ok(file) => answered_from(rt, sizing, file),
+        Ok(file) => answered_from(rt, wanted, file),
         Err(error) => unopened(rt, path, &error),
     }
 }
@@ -121,24 +129,20 @@ fn fault(rt: &impl Eprint, reason: RunFault) -> ExitCode {
 
 /// Names the file that can't be opened.
 fn unopened(rt: &impl Eprint, path: &str, error: &io::Error) -> ExitCode {
-    let _ = eprintln!(rt; "fault: read: {path}: {error}");
+    let _ = eprintln!(rt; "fault: read: {path:?}: {error}");
     ExitCode::from(3)
 }
 
 /// Names the argument that isn't taken.
-fn unknown(rt: &impl Eprint, word: &str) -> ExitCode {
-    let _ = eprintln!(rt;
-        "unknown argument {word:?}; papergrid_sizes takes one FILE, --least, --help or --version"
-    );
+fn unexpected(rt: &impl Eprint, word: &str) -> ExitCode {
+    let _ = eprintln!(rt; "unexpected argument {word:?}; {TAKES}");
     ExitCode::from(2)
 }
 
 /// Says why the arguments can't be read: one is no text, or memory was refused.
 fn unread_words(rt: &impl Eprint, error: &io::Error) -> ExitCode {
     if error.kind() == ErrorKind::InvalidData {
-        let _ = eprintln!(rt;
-            "an argument is not UTF-8; papergrid_sizes takes one FILE, --least, --help or --version"
-        );
+        let _ = eprintln!(rt; "an argument is not UTF-8; {TAKES}");
         return ExitCode::from(2);
     }
     fault(rt, RunFault::Memory)

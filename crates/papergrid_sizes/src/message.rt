@@ -5,6 +5,9 @@ use papergrid::config::Position;
 use papergrid::{Reason, Sizing, explain};
 use std::alloc::{AllocError, Global};
 
+/// How many characters of a bad line are shown.
+const SHOWN: usize = 60;
+
 /// Why the script that the input spells has no sizes, in one line; none where it has.
 pub fn message_of(alloc: Global, input: &[u8]) -> Result<Option<String>, AllocError> {
     match explain(alloc, Sizing::ByShares, input)? {
@@ -27,10 +30,17 @@ fn bad_line(alloc: Global, input: &[u8], number: usize) -> Result<String, AllocE
     let Ok(line) = std::str::from_utf8(bytes) else {
         return format!(in alloc; "line {number}: not UTF-8");
     };
-    let shown = shortened(alloc, line)?;
+    let line = line.strip_suffix('\r').unwrap_or(line);
     let word = line.split(' ').next().unwrap_or("").trim_end();
-    let expected = expected(alloc, word, has_row(input, number))?;
-    format!(in alloc; "line {number}: {shown}: {expected}")
+    let has_row = word != "cell" || has_row(input, number);
+    let expected = expected(alloc, word, has_row)?;
+    match line.char_indices().nth(SHOWN) {
+        None => format!(in alloc; "line {number}: {line:?}: {expected}"),
+        Some((end, _)) => {
+            let start = line.get(..end).unwrap_or(line);
+            format!(in alloc; "line {number}: {start:?}..: {expected}")
+        }
+    }
 }
 
 /// What was expected of a line that begins with this word.
@@ -42,8 +52,8 @@ fn expected(alloc: Global, word: &str, has_row: bool) -> Result<String, AllocErr
         return format!(in alloc; "{} {}", form.spelled, form.does);
     }
     match form_like(alloc, word)? {
-        Some(form) => format!(in alloc; "no such line; {} {}", form.spelled, form.does),
-        None => String::from_str(alloc, "no such line; --help tells all forms"),
+        Some(form) => format!(in alloc; "unknown line; {} {}", form.spelled, form.does),
+        None => String::from_str(alloc, "unknown line; --help tells all forms"),
     }
 }
 
@@ -53,18 +63,6 @@ fn has_row(input: &[u8], number: usize) -> bool {
         .split(|byte| *byte == b'\n')
         .take(number.saturating_sub(1))
         .any(|line| line == b"row".as_slice() || line == b"row\r".as_slice())
-}
-
-/// At most sixty characters of a line, none of which moves the cursor of a terminal.
-fn shortened(alloc: Global, line: &str) -> Result<String, AllocError> {
-    let mut shown = String::new(alloc);
-    for c in line.trim_end().chars().take(60) {
-        shown.push(if c.is_control() { '?' } else { c })?;
-    }
-    if line.chars().count() > 60 {
-        shown.push_str("..")?;
-    }
-    Ok(shown)
 }
 
 /// How far a cell that spans so many rows and columns reaches, and the shape (rows, columns) of the table.
@@ -78,12 +76,18 @@ fn out_of_table(
     let (rows, columns) = shape;
     let down = row as u128 + spans.0 as u128;
     let across = col as u128 + spans.1 as u128;
-    if across > columns as u128 {
-        return format!(in alloc;
-            "the cell at row {row}, column {col} needs {across} columns, and the table has {columns}"
-        );
+    let (needed, what, count) = if across > columns as u128 {
+        (across, "column", columns)
+    } else {
+        (down, "row", rows)
+    };
+    let plural = if needed == 1 { "" } else { "s" };
+    let needs = format!(in alloc;
+        "the cell at row {row}, column {col} needs {needed} {what}{plural}"
+    )?;
+    // A visible cell has its row, so it's columns that there are none of.
+    if count == 0 {
+        return format!(in alloc; "{needs}, and the table has none: write columns N");
     }
-    format!(in alloc;
-        "the cell at row {row}, column {col} needs {down} rows, and the table has {rows}"
-    )
+    format!(in alloc; "{needs}, and the table has {count}")
 }
