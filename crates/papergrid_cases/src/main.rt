@@ -3,16 +3,28 @@
 #![tactic(auto)]
 
 mod answer;
+mod certificate_questions;
 mod config_cases;
 mod fault;
+mod hidden_questions;
+mod lists;
+mod place_questions;
 mod reading;
+mod run_questions;
 mod running;
+mod showing;
+mod size_questions;
+mod table;
+mod table_cases;
+mod text_cases;
 
 use config_cases::ConfigCases;
 use fault::Fault;
 use running::{Report, run};
 use std::process::ExitCode;
 use std::{env, fs};
+use table_cases::TableCases;
+use text_cases::TextCases;
 
 /// Ends with status 1 where an answer differs or a file can't be read, else with 0.
 fn main(rt: HostRuntime) -> ExitCode {
@@ -55,6 +67,8 @@ fn is_file_right(rt: &HostRuntime, name: &str) -> bool {
 fn report_of(rt: &HostRuntime, name: &str, text: &str) -> Result<Report, Fault> {
     match name {
         "config.txt" => Ok(run::<ConfigCases>(rt, name, text)),
+        "tables.txt" | "scripts.txt" => Ok(run::<TableCases>(rt, name, text)),
+        "texts.txt" | "widths.txt" => Ok(run::<TextCases>(rt, name, text)),
         _ => Err(Fault::Line("the name of a file of cases")),
     }
 }

@@ -25,6 +25,3 @@ pub use needs::{KeptBoth, gather, gather_both};
 pub use settings::{Paddings, Settings};
 pub use sweep::Sweep;
 pub use visitor::{Visitor, walk};
-
-#[cfg(test)]
-mod tests;
