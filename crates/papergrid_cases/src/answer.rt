@@ -2,6 +2,8 @@
 
 use papergrid_values::Position;
 use std::alloc::{AllocError, Global};
+use std::cmp::Ordering;
+use std::fmt;
 
 /// The words of an answer, with a space between two.
 #[derive(Drop)]
@@ -29,15 +31,27 @@ impl Answer {
         self.word(if flag { "true" } else { "false" })
     }
 
-    pub fn number(&mut self, number: usize) -> Result<(), AllocError> {
+    pub fn ordering(&mut self, ordering: Ordering) -> Result<(), AllocError> {
+        self.word(match ordering {
+            Ordering::Less => "Less",
+            Ordering::Equal => "Equal",
+            Ordering::Greater => "Greater",
+        })
+    }
+
+    /// What a value displays.
+    pub fn shown<T: fmt::Display + Drop>(&mut self, value: T) -> Result<(), AllocError> {
         self.space()?;
-        write!(self.text, "{number}")
+        write!(self.text, "{value}")
+    }
+
+    pub fn number(&mut self, number: usize) -> Result<(), AllocError> {
+        self.shown(number)
     }
 
     pub fn position(&mut self, pos: Position) -> Result<(), AllocError> {
-        self.space()?;
         let Position { row, col } = pos;
-        write!(self.text, "{row},{col}")
+        self.shown(format_args!("{row},{col}"))
     }
 
     /// A number, or `_` for none.
@@ -50,21 +64,24 @@ impl Answer {
 
     /// A character, or `_` for none.
     pub fn character(&mut self, character: Option<char>) -> Result<(), AllocError> {
-        self.space()?;
-        self.mark(character)
+        self.marks(&[character])
     }
 
-    /// A character, or `_` for none, with no space before it; a space as `\s`.
-    pub fn mark(&mut self, character: Option<char>) -> Result<(), AllocError> {
-        match character {
-            Some(' ') => self.text.push_str("\\s"),
-            Some(c) => self.text.push(c),
-            None => self.text.push('_'),
+    /// A word of characters, each `_` where there is none, and `\s` for a space.
+    pub fn marks(&mut self, characters: &[Option<char>]) -> Result<(), AllocError> {
+        self.space()?;
+        for character in characters {
+            match character {
+                Some(' ') => self.text.push_str("\\s")?,
+                Some(c) => self.text.push(*c)?,
+                None => self.text.push('_')?,
+            }
         }
+        Ok(())
     }
 
     /// Ends the word before.
-    pub fn space(&mut self) -> Result<(), AllocError> {
+    fn space(&mut self) -> Result<(), AllocError> {
         if self.text.is_empty() {
             return Ok(());
         }

@@ -1,5 +1,7 @@
 //! The words of a line.
 
+ghost use Rattle.std.specs.Prelude.{◌+◌, ◌-◌, ◌<◌, ◌^◌, IfOk};
+
 use crate::fault::Fault;
 use papergrid_values::{Entity, Position};
 use std::alloc::Global;
@@ -8,12 +10,21 @@ use std::str::Chars;
 /// What is left of a line.
 #[derive(Drop)]
 pub struct Words<'a> {
+    alloc: Global,
     rest: &'a str,
 }
 
 impl<'a> Words<'a> {
-    pub fn new(line: &'a str) -> Words<'a> {
-        Words { rest: line.trim() }
+    pub fn new(alloc: Global, line: &'a str) -> Words<'a> {
+        Words {
+            alloc,
+            rest: line.trim(),
+        }
+    }
+
+    /// Where what is read has its memory from.
+    pub fn alloc(&self) -> Global {
+        self.alloc
     }
 
     pub fn is_empty(&self) -> bool {
@@ -61,6 +72,29 @@ impl<'a> Words<'a> {
         Ok(Position::new(row, col))
     }
 
+    /// A row and a column that have next ones.
+    pub fn inner_position(&mut self) -> Result<Position, Fault>
+        ensures row { IfOk result (λ pos. pos.row + 1 < 2 ^ 64) }
+        ensures col { IfOk result (λ pos. pos.col + 1 < 2 ^ 64) }
+    {
+        let pos = self.position()?;
+        if pos.row < usize::MAX && pos.col < usize::MAX {
+            return Ok(pos);
+        }
+        Err(Fault::Line("a row and a column that have next ones"))
+    }
+
+    /// A number that has a next one.
+    pub fn inner_number(&mut self) -> Result<usize, Fault>
+        ensures { IfOk result (λ number. number < 2 ^ 64 - 1) }
+    {
+        let number = self.number()?;
+        if number < usize::MAX {
+            return Ok(number);
+        }
+        Err(Fault::Line("a number that has a next one"))
+    }
+
     /// All cells, a column, a row or a cell: `*`, `c4`, `r3` or `3,4`.
     pub fn entity(&mut self) -> Result<Entity, Fault> {
         let word = self.word()?;
@@ -95,12 +129,21 @@ impl<'a> Words<'a> {
         }
     }
 
+    /// The next character, whether a space follows or not, or none for `_`.
+    pub fn mark(&mut self) -> Result<Option<char>, Fault> {
+        let mut chars = self.rest.chars();
+        let c = character_of(&mut chars)?;
+        let is_none = self.rest.starts_with('_');
+        self.rest = chars.as_str().trim_start();
+        Ok(if is_none { None } else { Some(c) })
+    }
+
     /// A text in quotes, with escapes.
-    pub fn text(&mut self, alloc: Global) -> Result<String, Fault> {
+    pub fn text(&mut self) -> Result<String, Fault> {
         let Some(quoted) = self.rest.strip_prefix('"') else {
             return Err(Fault::Line("a text in quotes"));
         };
-        let mut text = String::new(alloc);
+        let mut text = String::new(self.alloc);
         let mut chars = quoted.chars();
         for _ in 0..quoted.len() {
             if let Some(rest) = chars.as_str().strip_prefix('"') {
@@ -113,7 +156,8 @@ impl<'a> Words<'a> {
     }
 }
 
-fn number_of(word: &str) -> Result<usize, Fault> {
+/// The number that a word spells.
+pub fn number_of(word: &str) -> Result<usize, Fault> {
     match word.parse::<usize>() {
         Ok(number) => Ok(number),
         Err(_) => Err(Fault::Line("a number")),

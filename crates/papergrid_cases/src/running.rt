@@ -119,7 +119,7 @@ fn followed<S: Subject + Drop>(
     match line {
         Line::Comment => {}
         Line::Case => *subject = S::new(alloc),
-        Line::Told(line) => told(subject, line)?,
+        Line::Told(line) => told(alloc, subject, line)?,
         Line::Asked(question, wanted) => {
             let answer = asked(alloc, subject, question)?;
             if answer.as_str() != wanted {
@@ -130,8 +130,8 @@ fn followed<S: Subject + Drop>(
     Ok(None)
 }
 
-fn told<S: Subject>(subject: &mut S, line: &str) -> Result<(), Fault> {
-    let mut words = Words::new(line);
+fn told<S: Subject>(alloc: Global, subject: &mut S, line: &str) -> Result<(), Fault> {
+    let mut words = Words::new(alloc, line);
     let word = words.word()?;
     subject.tell(word, &mut words)?;
     words.end()
@@ -139,7 +139,7 @@ fn told<S: Subject>(subject: &mut S, line: &str) -> Result<(), Fault> {
 
 fn asked<S: Subject>(alloc: Global, subject: &mut S, question: &str) -> Result<Answer, Fault> {
     let mut answer = Answer::new(alloc);
-    let mut words = Words::new(question);
+    let mut words = Words::new(alloc, question);
     let word = words.word()?;
     subject.ask(word, &mut words, &mut answer)?;
     words.end()?;
