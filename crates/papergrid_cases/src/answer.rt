@@ -2,6 +2,7 @@
 
 use papergrid_values::Position;
 use std::alloc::{AllocError, Global};
+use std::cmp::Ordering;
 use std::fmt;
 
 /// The words of an answer, with a space between two.
@@ -28,6 +29,14 @@ impl Answer {
 
     pub fn flag(&mut self, flag: bool) -> Result<(), AllocError> {
         self.word(if flag { "true" } else { "false" })
+    }
+
+    pub fn ordering(&mut self, ordering: Ordering) -> Result<(), AllocError> {
+        self.word(match ordering {
+            Ordering::Less => "Less",
+            Ordering::Equal => "Equal",
+            Ordering::Greater => "Greater",
+        })
     }
 
     /// What a value displays.

@@ -18,7 +18,7 @@ impl From<AllocError> for Fault {
 }
 
 impl<T: Drop> From<AllocFailed<T>> for Fault {
-    fn from(_failed: AllocFailed<T>) -> Fault {
+    fn from(_error: AllocFailed<T>) -> Fault {
         Fault::Memory
     }
 }
