@@ -4,11 +4,11 @@ use crate::answer::Answer;
 use crate::fault::Fault;
 use crate::reading::Words;
 use crate::showing::{show_cell, show_cells, show_refusal};
-use crate::size_questions::{by_texts, show_total};
+use crate::size_questions::{by_texts, show_totals};
 use crate::table::Told;
 use papergrid_config::SpannedConfig;
 use papergrid_layout::{
-    Dimension, Place, PlaceError, cell_at, place, places, total_height, total_width,
+    Dimension, Found, Place, PlaceError, cell_at, place, places, total_height, total_width,
 };
 use papergrid_values::Position;
 use std::alloc::{AllocError, Global};
@@ -73,14 +73,16 @@ fn by_sizes(
         "place" => Ok(show_place(answer, place_of(taken, told.config, words.position()?))?),
         "places" => ask_all(told, taken, answer),
         "cell_at" => ask_points(told.config, taken, words, answer),
-        _ => {
-            show_total(answer, total_width(&taken, told.config, taken.widths.len()))?;
-            show_total(
-                answer,
-                total_height(&taken, told.config, taken.heights.len()),
-            )
-        }
+        _ => show_totals(answer, totals_of(taken, told.config)),
     }
+}
+
+/// The width and the height with the lines.
+fn totals_of(taken: Taken<'_>, config: &SpannedConfig) -> (Found<usize>, Found<usize>) {
+    (
+        total_width(&taken, config, taken.widths.len()),
+        total_height(&taken, config, taken.heights.len()),
+    )
 }
 
 fn place_of(taken: Taken<'_>, config: &SpannedConfig, cell: Position) -> Result<Place, PlaceError> {

@@ -15,30 +15,18 @@ use std::alloc::{AllocError, Global};
 /// Widths and heights.
 type Sizes = (Vec<usize>, Vec<usize>);
 
+/// The width and the height with the lines, each or why there is none.
+type Totals = (Found<usize>, Found<usize>);
+
 /// Answers a question on sizes: by shares, where texts and measured texts have to agree, or as its word says.
 pub fn ask_sizes(told: Told<'_>, word: &str, answer: &mut Answer) -> Result<(), Fault> {
     match word {
-        "sizes" => show_found_both(
-            answer,
-            agreed(by_texts(told), agreed(by_measured(told), at_once(told))?)?,
-        ),
+        "sizes" => show_found_both(answer, by_shares(told)?),
         "widths" => show_found(answer, widths(told)?),
         "heights" => show_found(answer, heights(told)?),
-        "totals" => {
-            show_total(
-                answer,
-                IterGridDimension::width_total(told.alloc, told.table.lent(), told.config),
-            )?;
-            show_total(
-                answer,
-                IterGridDimension::height_total(told.alloc, told.table.lent(), told.config),
-            )
-        }
+        "totals" => show_totals(answer, totals(told)),
         "kept_sizes" => show_found_both(answer, kept(told)),
-        "own_sizes" => show_found_both(
-            answer,
-            PeekableGridDimension::dimension(told.alloc, told.table.texts(), told.config),
-        ),
+        "own_sizes" => show_found_both(answer, own(told)),
         "compact_sizes" => show_found_both(answer, compact(told)?),
         _ => ask_least(told, word, answer),
     }
@@ -46,28 +34,52 @@ pub fn ask_sizes(told: Told<'_>, word: &str, answer: &mut Answer) -> Result<(), 
 
 /// Answers a question on the least sizes.
 fn ask_least(told: Told<'_>, word: &str, answer: &mut Answer) -> Result<(), Fault> {
+    let Told {
+        alloc,
+        table,
+        config,
+        sizes: _,
+    } = told;
     match word {
         "least_sizes" => show_found_both(answer, least(told)),
         "least_widths" => show_found(
             answer,
-            LeastGridDimension::width(told.alloc, told.table.lent(), told.config),
+            LeastGridDimension::width(alloc, table.lent(), config),
         ),
-        "least_heights" => show_found(
-            answer,
-            LeastGridDimension::height(told.alloc, told.table.lent(), told.config),
-        ),
-        "least_totals" => {
-            show_total(
+        "least_heights" => {
+            show_found(
                 answer,
-                LeastGridDimension::width_total(told.alloc, told.table.lent(), told.config),
-            )?;
-            show_total(
-                answer,
-                LeastGridDimension::height_total(told.alloc, told.table.lent(), told.config),
+                LeastGridDimension::height(alloc, table.lent(), config),
             )
         }
+        "least_totals" => show_totals(answer, least_totals(told)),
         _ => Err(Fault::Line("a question")),
     }
+}
+
+/// The sizes by estimates and by one call.
+fn by_shares(told: Told<'_>) -> Result<Found<Sizes>, Fault> {
+    let measured = agreed(by_measured(told), at_once(told))?;
+    agreed(by_texts(told), measured)
+}
+
+fn totals(told: Told<'_>) -> Totals {
+    (
+        IterGridDimension::width_total(told.alloc, told.table.lent(), told.config),
+        IterGridDimension::height_total(told.alloc, told.table.lent(), told.config),
+    )
+}
+
+fn least_totals(told: Told<'_>) -> Totals {
+    (
+        LeastGridDimension::width_total(told.alloc, told.table.lent(), told.config),
+        LeastGridDimension::height_total(told.alloc, told.table.lent(), told.config),
+    )
+}
+
+/// The sizes of texts by the lines that a plain text has of its own.
+fn own(told: Told<'_>) -> Found<Sizes> {
+    PeekableGridDimension::dimension(told.alloc, told.table.texts(), told.config)
 }
 
 fn widths(told: Told<'_>) -> Result<Found<Vec<usize>>, Fault> {
@@ -160,7 +172,12 @@ fn show_found_both(answer: &mut Answer, sizes: Found<Sizes>) -> Result<(), Fault
     Ok(())
 }
 
-pub fn show_total(answer: &mut Answer, total: Found<usize>) -> Result<(), Fault> {
+pub fn show_totals(answer: &mut Answer, totals: Totals) -> Result<(), Fault> {
+    show_total(answer, totals.0)?;
+    show_total(answer, totals.1)
+}
+
+fn show_total(answer: &mut Answer, total: Found<usize>) -> Result<(), Fault> {
     match total {
         Ok(total) => answer.number(total)?,
         Err(error) => show_refusal(answer, error)?,

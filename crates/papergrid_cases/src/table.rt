@@ -8,9 +8,9 @@ use std::alloc::{AllocError, Global};
 
 /// The cells of a table, as texts and as texts that were measured, with the counts that the records tell.
 #[derive(Drop)]
-pub struct Table<'a> {
-    texts: VecRecords<&'a str>,
-    measured: VecRecords<Text<&'a str>>,
+pub struct Table {
+    texts: VecRecords<String>,
+    measured: VecRecords<Text<String>>,
     count_rows: usize,
     columns: usize,
 }
@@ -19,23 +19,23 @@ pub struct Table<'a> {
 #[derive(Clone, Copy)]
 pub struct Told<'a> {
     pub alloc: Global,
-    pub table: &'a Table<'a>,
+    pub table: &'a Table,
     pub config: &'a SpannedConfig,
     pub sizes: &'a Option<(Vec<usize>, Vec<usize>)>,
 }
 
-impl<'a> Table<'a> {
-    pub fn new(
+impl Table {
+    pub fn new<'a>(
         alloc: Global,
-        rows: &[&'a [&'a str]],
+        rows: Vec<&'a [&'a str]>,
         count_rows: usize,
         columns: usize,
-    ) -> Result<Table<'a>, AllocError> {
+    ) -> Result<Table, AllocError> {
         let mut texts = Vec::new(alloc);
         let mut measured = Vec::new(alloc);
         for row in rows {
-            texts.push(row.iter().copied().collect(alloc)?)?;
-            measured.push(measured_row(alloc, *row)?)?;
+            texts.push(texts_of(alloc, row)?)?;
+            measured.push(measured_of(alloc, row)?)?;
         }
         Ok(Table {
             texts: VecRecords::with_size(texts, count_rows, columns),
@@ -46,25 +46,33 @@ impl<'a> Table<'a> {
     }
 
     /// The texts as records of a lent slice.
-    pub fn lent(&self) -> IterRecords<&[Vec<&'a str>]> {
+    pub fn lent(&self) -> IterRecords<&[Vec<String>]> {
         IterRecords::new(self.texts.as_slice(), self.columns, Some(self.count_rows))
     }
 
-    pub fn texts(&self) -> &VecRecords<&'a str> {
+    pub fn texts(&self) -> &VecRecords<String> {
         &self.texts
     }
 
-    pub fn measured(&self) -> &VecRecords<Text<&'a str>> {
+    pub fn measured(&self) -> &VecRecords<Text<String>> {
         &self.measured
     }
 }
 
-fn measured_row<'a>(alloc: Global, row: &[&'a str]) -> Result<Vec<Text<&'a str>>, AllocError> {
-    let mut cells = Vec::new(alloc);
+fn texts_of(alloc: Global, row: &[&str]) -> Result<Vec<String>, AllocError> {
+    let mut texts = Vec::new(alloc);
     for text in row {
-        cells.push(Text::new(alloc, *text)?)?;
+        texts.push(String::from_str(alloc, *text)?)?;
     }
-    Ok(cells)
+    Ok(texts)
+}
+
+fn measured_of(alloc: Global, row: &[&str]) -> Result<Vec<Text<String>>, AllocError> {
+    let mut texts = Vec::new(alloc);
+    for text in row {
+        texts.push(Text::new(alloc, String::from_str(alloc, *text)?)?)?;
+    }
+    Ok(texts)
 }
 
 /// Adds a line to a script so many times.

@@ -12,7 +12,7 @@ use crate::running::Subject;
 use crate::size_questions::ask_sizes;
 use crate::table::{Table, Told, add_line, add_times};
 use bumpalo::Bump;
-use papergrid_script::{ScriptError, configuration_of, read_script};
+use papergrid_script::{Script, ScriptError, configuration_of, read_script};
 use std::alloc::Global;
 
 /// A script, how many rows the records say that they have, and sizes for the questions on places.
@@ -66,13 +66,17 @@ impl TableCases {
         answer: &mut Answer,
     ) -> Result<(), Fault> {
         let arena = Bump::new(self.alloc);
-        let script = match read_script(self.alloc, &arena, self.script.as_bytes()) {
+        let Script {
+            columns,
+            settings,
+            rows,
+        } = match read_script(self.alloc, &arena, self.script.as_bytes()) {
             Ok(script) => script,
             Err(ScriptError::Bad(_)) => return Err(Fault::Line("lines of a script before it")),
             Err(ScriptError::Memory) => return Err(Fault::Memory),
         };
-        let table = Table::new(self.alloc, &script.rows, self.count_rows, script.columns)?;
-        let config = configuration_of(self.alloc, script.settings)?;
+        let table = Table::new(self.alloc, rows, self.count_rows, columns)?;
+        let config = configuration_of(self.alloc, settings)?;
         let told = Told {
             alloc: self.alloc,
             table: &table,
