@@ -1,10 +1,10 @@
-//! Colours by position, each kind through its bound.
+//! Colours as texts, and colours by position, each kind through its bound.
 
 ghost use Rattle.std.specs.Prelude.{◌≡◌, None, Some};
 ghost use Rattle.std.specs.Bool.{OnTrue};
 ghost use Rattle.std.specs.Option.{option_copied};
 
-use papergrid_maps::{Colors, EntityMap, NoColor, NoColors, laws};
+use papergrid_maps::{Colors, EntityMap, NoColor, NoColors};
 use papergrid_values::{ANSIBuf, ANSIFmt, ANSIStr, Entity, Position};
 use std::alloc::Global;
 use std::collections::{BTreeMap, HashMap};
@@ -33,6 +33,16 @@ fn written<C: ANSIFmt>(alloc: Global, color: &C) -> Result<String, fmt::Error> {
     Ok(text)
 }
 
+// A colour with no suffix of its own.
+#[derive(Drop)]
+struct Plain;
+
+impl ANSIFmt for Plain {
+    fn fmt_ansi_prefix<W: fmt::Write>(&self, f: &mut W) -> fmt::Result {
+        f.write_str("P")
+    }
+}
+
 // One colour for all cells.
 #[derive(Drop)]
 struct Everywhere {
@@ -58,7 +68,45 @@ impl Colors for Everywhere {
 }
 
 #[test]
-fn colours_empty(rt: HostRuntime) -> Result<(), Fail> {
+fn provided_colour_suffix(rt: HostRuntime) -> Result<(), Fail> {
+    for text in [written(rt.alloc(), &Plain)?, written(rt.alloc(), &&Plain)?] {
+        assert_eq!(rt; text.as_str(), "P|\u{1b}[0m");
+    }
+    Ok(())
+}
+
+#[test]
+fn written_colours(rt: HostRuntime) -> Result<(), Fail> {
+    let alloc = rt.alloc();
+    let lent = ANSIStr::new("<", ">");
+    let color = ANSIBuf::new(alloc, "<", ">")?;
+    for text in [
+        written(alloc, &lent)?,
+        written(alloc, &&lent)?,
+        written(alloc, &color)?,
+        written(alloc, &&color)?,
+    ] {
+        assert_eq!(rt; text.as_str(), "<|>");
+    }
+    Ok(())
+}
+
+#[test]
+fn lent_and_owned_colours(rt: HostRuntime) -> Result<(), Fail> {
+    let (lent, empty) = (ANSIStr::new("<", ">"), ANSIStr::empty());
+    assert_eq!(rt; (lent.get_prefix(), lent.get_suffix()), ("<", ">"));
+    assert!(rt; !lent.is_empty() && empty.is_empty());
+    assert!(rt; ANSIStr::default() == empty);
+    let color = ANSIBuf::new(rt.alloc(), "<", ">")?;
+    assert_eq!(rt; (color.get_prefix(), color.get_suffix()), ("<", ">"));
+    assert!(rt; color.as_ref() == lent);
+    assert!(rt; ANSIBuf::copy_of(rt.alloc(), lent)? == color);
+    assert!(rt; !color.is_empty() && ANSIBuf::copy_of(rt.alloc(), empty)?.is_empty());
+    Ok(())
+}
+
+#[test]
+fn owned_colours_by_entity(rt: HostRuntime) -> Result<(), Fail> {
     let mut colors = EntityMap::<Option<ANSIBuf>>::new(rt.alloc(), None);
     assert!(rt; Colors::is_empty(&colors));
     assert!(rt; colors.get_color(at(0, 0)).is_none());
@@ -66,7 +114,6 @@ fn colours_empty(rt: HostRuntime) -> Result<(), Fail> {
     colors.insert(Entity::Cell(0, 0), Some(red.clone()?))?;
     assert!(rt; !Colors::is_empty(&colors));
     assert_eq!(rt; colors.get_color(at(0, 0)), Some(&red));
-    assert!(rt; Colors::is_empty(&NoColors));
     Ok(())
 }
 
@@ -107,16 +154,13 @@ fn colours_by_position(rt: HostRuntime) -> Result<(), Fail> {
 #[test]
 fn no_colours(rt: HostRuntime) -> Result<(), Fail> {
     assert_eq!(rt; seen(&&NoColors, at(0, 0)), (true, None));
-    assert_eq!(rt; written(rt.alloc(), &NoColor)?.as_str(), "|");
-    assert_eq!(rt; written(rt.alloc(), &&NoColor)?.as_str(), "|");
+    for text in [
+        written(rt.alloc(), &NoColor)?,
+        written(rt.alloc(), &&NoColor)?,
+    ] {
+        assert_eq!(rt; text.as_str(), "|");
+    }
     assert!(rt; NoColors == NoColors::default() && NoColors <= NoColors);
     assert!(rt; NoColor == NoColor::default() && NoColor <= NoColor);
     Ok(())
-}
-
-#[test]
-fn colour_laws() {
-    laws::empty_colors::<NoColors>();
-    laws::empty_colors::<EntityMap<Option<ANSIStr<'static>>>>();
-    laws::compact_by_fields();
 }
