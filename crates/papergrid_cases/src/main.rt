@@ -86,7 +86,7 @@ fn report_of(rt: &HostRuntime, name: &str, text: &str) -> Result<Report, Fault> 
     match name {
         "borders.txt" => Ok(run::<BorderCases>(rt, name, text)),
         "compact.txt" => Ok(run::<CompactCases>(rt, name, text)),
-        "config.txt" => Ok(run::<ConfigCases>(rt, name, text)),
+        "config.txt" | "removals.txt" => Ok(run::<ConfigCases>(rt, name, text)),
         "tables.txt" | "scripts.txt" => Ok(run::<TableCases>(rt, name, text)),
         "texts.txt" | "widths.txt" => Ok(run::<TextCases>(rt, name, text)),
         "maps.txt" => Ok(run::<MapCases>(rt, name, text)),
