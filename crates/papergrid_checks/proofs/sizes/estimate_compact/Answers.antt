@@ -1,4 +1,3 @@
-use Rattle.std.proofs.Common.{◌∙◌}
 use Rattle.std.specs.Prelude.{Err, IfOk, Ok, OnOk, Result}
 use Rattle.papergrid_checks.proofs.sizes.estimate_compact.Goals as goal
 
@@ -7,4 +6,4 @@ on_ok (Ok x) P Q f h = f h
 on_ok (Err e) P Q f h = tt
 
 pub returns : goal.returns
-returns c = on_ok c.estimate.result _ _ (λ told. told.2.fits.one_each ∙ c.in_ok-plain.ensures) c.estimate.ensures.ok
+returns c = on_ok c.estimate.result _ _ (λ told. told.2.fits.one_each) c.estimate.ensures.ok
