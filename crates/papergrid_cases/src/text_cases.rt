@@ -111,7 +111,7 @@ fn ask_tab(alloc: Global, text: &str, count: usize, answer: &mut Answer) -> Resu
     Ok(())
 }
 
-/// What a text is as a cell: its width, and its lines with theirs.
+/// What a text is as a cell: its text, its width, and its lines with theirs.
 fn ask_cell(
     alloc: Global,
     text: String,
@@ -121,7 +121,7 @@ fn ask_cell(
 ) -> Result<(), Fault> {
     match word {
         "str_cell" => show_cell(answer, &text.as_str())?,
-        "string_cell" => show_cell(answer, &text)?,
+        "string_cell" => show_cell(answer, &&text)?,
         "text_cell" => show_cell(answer, &Text::new(alloc, text)?)?,
         _ => {
             let width = words.number()?;
@@ -148,6 +148,7 @@ fn given_lines(alloc: Global, words: &mut Words<'_>) -> Result<Vec<StrWithWidth<
 }
 
 fn show_cell<C: Cell>(answer: &mut Answer, cell: &C) -> Result<(), AllocError> {
+    answer.text(cell.text())?;
     answer.number(cell.width())?;
     for line in 0..cell.count_lines() {
         answer.text(cell.line(line))?;

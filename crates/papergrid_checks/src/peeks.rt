@@ -13,7 +13,7 @@ use std::process::Abort;
 use std::test::Fail;
 
 /// The text of a cell, how many lines it has, its width, and a line with its width.
-fn peek<R: PeekableRecords>(
+pub fn peek<R: PeekableRecords>(
     records: &R,
     pos: Position,
     line: usize,

@@ -1,6 +1,6 @@
 //! Records: their counts, and the greatest widths that a consumer finds in each type that they come in.
 
-use crate::peeks::of_strings;
+use crate::peeks::{of_strings, peek};
 use crate::record_callers::{
     Widths, of_chunks, of_exact_chunks, of_held, of_lent, of_lent_records, of_nested, of_row_iter,
     of_slice, of_slices, of_texts, of_vectors,
@@ -91,6 +91,7 @@ fn false_counts(rt: HostRuntime) -> Result<(), Fail> {
     );
     assert_eq!(rt; records.hint_count_rows(), Some(5));
     assert_eq!(rt; Records::hint_count_rows(&&records), Some(5));
+    assert_eq!(rt; peek(&records, Position::new(0, 0), 0), ("a", 1, 1, "a", 1));
     Ok(())
 }
 

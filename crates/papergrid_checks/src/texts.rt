@@ -1,12 +1,13 @@
 //! Counts of long runs, and what measured texts keep where they are moved, cloned, compared and hashed.
 
-use papergrid_text::string::count_lines;
+use papergrid_text::string::{count_lines, get_lines};
 use papergrid_text::{Cell, StrWithWidth, Text, count_byte};
 use std::alloc::{AllocError, Global};
 use std::borrow::CowStr;
 use std::cmp::Ordering;
 use std::convert::AsStr;
 use std::hash::{DefaultHasher, Hash, Hasher};
+use std::iter::Iterator;
 use std::test::Fail;
 
 #[test]
@@ -18,6 +19,17 @@ fn byte_counts(rt: HostRuntime) -> Result<(), Fail> {
         newlines.push('\n')?;
     }
     Ok(())
+}
+
+// The lines stay at their end.
+#[test]
+fn lines_end(rt: HostRuntime) {
+    let mut lines = get_lines("\na\n");
+    for line in ["", "a", ""] {
+        assert_eq!(rt; lines.next(), Some(line));
+    }
+    assert_eq!(rt; lines.next(), None);
+    assert_eq!(rt; lines.next(), None);
 }
 
 /// A text of two lines that was measured.
