@@ -5,15 +5,16 @@ use crate::marks::Marked;
 use crate::reading::{Words, character_of, number_of};
 use papergrid_values::{ANSIStr, AlignmentHorizontal, AlignmentVertical, Indent, Offset, Sides};
 
-/// A number of spaces, or of another character, as `3` or `3.`.
+/// A number of spaces, or of another character, as `3` or `3:.`.
 pub fn indent(words: &mut Words<'_>) -> Result<Indent, Fault> {
     let word = words.word()?;
-    let fill = word.trim_start_matches(|c: char| c.is_ascii_digit());
-    let size = number_of(word.strip_suffix(fill).unwrap_or(word))?;
-    if fill.is_empty() {
-        return Ok(Indent::spaced(size));
+    match word.split_once(':') {
+        Some((size, fill)) => {
+            let size = number_of(size)?;
+            Ok(Indent::new(size, character_of(&mut fill.chars())?))
+        }
+        None => Ok(Indent::spaced(number_of(word)?)),
     }
-    Ok(Indent::new(size, character_of(&mut fill.chars())?))
 }
 
 /// From the start or from the end: `+1` or `-1`.

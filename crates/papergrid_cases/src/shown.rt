@@ -57,7 +57,7 @@ impl Answer {
         if fill == ' ' {
             return self.number(size);
         }
-        self.shown(format_args!("{size}{fill}"))
+        self.shown(format_args!("{size}:{fill}"))
     }
 
     /// Left, right, top, bottom: so in the two below.
