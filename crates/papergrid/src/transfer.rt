@@ -56,7 +56,7 @@ pub trait Sink {
 }
 
 /// A reader of std as a [`Source`]. Each of its errors is a failure, an interruption too.
-#[derive(Drop)]
+#[derive(Debug, Drop)]
 pub struct ReadSource<R> {
     reader: R,
     failed: bool,
@@ -91,7 +91,7 @@ impl<R: Read> Source for ReadSource<R> {
 }
 
 /// A writer of std as a [`Sink`]. Each of its errors is a failure, an interruption too. It flushes nothing.
-#[derive(Drop)]
+#[derive(Debug, Drop)]
 pub struct WriteSink<W> {
     writer: W,
     failed: bool,

@@ -24,6 +24,3 @@ pub use demand::Demand;
 pub use error::{Found, LayoutError};
 pub use kept::Kept;
 pub use solution::{CertifiedSizes, Solution};
-
-#[cfg(test)]
-mod tests;

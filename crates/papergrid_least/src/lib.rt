@@ -13,6 +13,3 @@ mod lower;
 mod settled;
 
 pub use least::{CertifiedLeast, LeastSizes};
-
-#[cfg(test)]
-mod tests;

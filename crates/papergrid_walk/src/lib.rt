@@ -22,6 +22,3 @@ pub use measure::Measure;
 pub use needs::{KeptBoth, gather, gather_both};
 pub use sweep::Sweep;
 pub use visitor::{Visitor, walk};
-
-#[cfg(test)]
-mod tests;

@@ -16,8 +16,6 @@ mod part;
 pub mod printable;
 mod runs;
 mod simple;
-#[cfg(test)]
-mod tests;
 
 use emoji::emoji_width;
 pub use printable::{count_printable, is_printable};

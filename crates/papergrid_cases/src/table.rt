@@ -1,0 +1,108 @@
+//! The table that a script tells.
+
+use crate::fault::Fault;
+use crate::reading::Words;
+use papergrid_config::SpannedConfig;
+use papergrid_text::{IterRecords, Text, VecRecords};
+use std::alloc::{AllocError, Global};
+
+/// The cells of a table, as texts and as texts that were measured, with the counts that the records tell.
+#[derive(Drop)]
+pub struct Table {
+    texts: VecRecords<String>,
+    measured: VecRecords<Text<String>>,
+    count_rows: usize,
+    columns: usize,
+}
+
+/// A table and its settings, and sizes for the questions on places.
+#[derive(Clone, Copy)]
+pub struct Told<'a> {
+    pub alloc: Global,
+    pub table: &'a Table,
+    pub config: &'a SpannedConfig,
+    pub sizes: &'a Option<(Vec<usize>, Vec<usize>)>,
+}
+
+impl Table {
+    pub fn new<'a>(
+        alloc: Global,
+        rows: Vec<&'a [&'a str]>,
+        count_rows: usize,
+        columns: usize,
+    ) -> Result<Table, AllocError> {
+        let mut texts = Vec::new(alloc);
+        let mut measured = Vec::new(alloc);
+        for row in rows {
+            texts.push(texts_of(alloc, row)?)?;
+            measured.push(measured_of(alloc, row)?)?;
+        }
+        Ok(Table {
+            texts: VecRecords::with_size(texts, count_rows, columns),
+            measured: VecRecords::with_size(measured, count_rows, columns),
+            count_rows,
+            columns,
+        })
+    }
+
+    /// The texts as records of a lent slice.
+    pub fn lent(&self) -> IterRecords<&[Vec<String>]> {
+        IterRecords::new(self.texts.as_slice(), self.columns, Some(self.count_rows))
+    }
+
+    pub fn texts(&self) -> &VecRecords<String> {
+        &self.texts
+    }
+
+    pub fn measured(&self) -> &VecRecords<Text<String>> {
+        &self.measured
+    }
+}
+
+fn texts_of(alloc: Global, row: &[&str]) -> Result<Vec<String>, AllocError> {
+    let mut texts = Vec::new(alloc);
+    for text in row {
+        texts.push(String::from_str(alloc, *text)?)?;
+    }
+    Ok(texts)
+}
+
+fn measured_of(alloc: Global, row: &[&str]) -> Result<Vec<Text<String>>, AllocError> {
+    let mut texts = Vec::new(alloc);
+    for text in row {
+        texts.push(Text::new(alloc, String::from_str(alloc, *text)?)?)?;
+    }
+    Ok(texts)
+}
+
+/// Adds a line to a script so many times.
+pub fn add_times(script: &mut String, count: usize, words: &mut Words<'_>) -> Result<(), Fault> {
+    let (word, rest) = (words.word()?, words.rest());
+    for _ in 0..count {
+        add_line(script, word, rest)?;
+    }
+    Ok(())
+}
+
+/// Adds the line of a script that begins with the word, or the row whose cells stand between bars.
+pub fn add_line(script: &mut String, word: &str, rest: &str) -> Result<(), AllocError> {
+    if word == "|" {
+        return add_row(script, rest.strip_suffix('|').unwrap_or(rest));
+    }
+    script.push_str(word)?;
+    if !rest.is_empty() {
+        script.push(' ')?;
+        script.push_str(rest)?;
+    }
+    script.push('\n')
+}
+
+fn add_row(script: &mut String, cells: &str) -> Result<(), AllocError> {
+    script.push_str("row\n")?;
+    for cell in cells.split('|') {
+        script.push_str("cell ")?;
+        script.push_str(cell.trim())?;
+        script.push('\n')?;
+    }
+    Ok(())
+}

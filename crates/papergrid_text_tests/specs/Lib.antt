@@ -1,2 +1,0 @@
--- The definitions that the contracts of the consumers cite.
-pub mod ColumnWidths

@@ -1,5 +1,0 @@
-//! Worked texts, cells and records: tests of `papergrid_text` by its public calls.
-#![tactic(auto)]
-
-#[cfg(test)]
-mod tests;
