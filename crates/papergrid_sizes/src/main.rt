@@ -10,7 +10,7 @@ mod totals;
 use arguments::{Request, Unexpected, Wanted, asked_for};
 use help::help_text;
 use message::message_of;
-use papergrid::{ReadSource, RunEnd, RunFault, WriteSink, run_keeping};
+use papergrid::{ReadSource, RunEnd, RunFault, Sizing, WriteSink, run_keeping};
 use std::fs::File;
 use std::io::{ErrorKind, Read, Write};
 use std::process::ExitCode;
@@ -53,7 +53,7 @@ fn answered_from<R: Read + Drop>(rt: &HostRuntime, wanted: Wanted, reader: R) ->
     let mut script = Vec::new(rt.alloc());
     let end = sizes(rt, wanted, reader, &mut script);
     if end == Ok(RunEnd::Refused) || end == Ok(RunEnd::BadScript) {
-        say_why(rt, &script);
+        say_why(rt, wanted.sizing, &script);
     }
     status(rt, end)
 }
@@ -109,9 +109,9 @@ fn told(rt: &HostRuntime, text: &str) -> ExitCode {
 
 // Where even a line on standard error cannot be written, the status still tells.
 
-/// Says why a script has no sizes.
-fn say_why(rt: &HostRuntime, script: &[u8]) {
-    if let Ok(Some(text)) = message_of(rt.alloc(), script) {
+/// Says why a script has no sizes that are chosen so.
+fn say_why(rt: &HostRuntime, sizing: Sizing, script: &[u8]) {
+    if let Ok(Some(text)) = message_of(rt.alloc(), sizing, script) {
         let _ = eprintln!(rt; "{text}");
     }
 }

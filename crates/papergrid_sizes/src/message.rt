@@ -8,9 +8,13 @@ use std::alloc::{AllocError, Global};
 /// How many characters of a bad line are shown.
 const SHOWN: usize = 60;
 
-/// Why the script that the input spells has no sizes, in one line; none where it has.
-pub fn message_of(alloc: Global, input: &[u8]) -> Result<Option<String>, AllocError> {
-    match explain(alloc, Sizing::ByShares, input)? {
+/// Why the script that the input spells has no sizes that are chosen so, in one line; none where it has.
+pub fn message_of(
+    alloc: Global,
+    sizing: Sizing,
+    input: &[u8],
+) -> Result<Option<String>, AllocError> {
+    match explain(alloc, sizing, input)? {
         None => Ok(None),
         Some(Reason::BadLine(number)) => Ok(Some(bad_line(alloc, input, number)?)),
         Some(Reason::OutOfTable(position, spans, shape)) => {
