@@ -7,6 +7,7 @@ pub mod colored;
 pub mod compact;
 pub mod dimensions;
 pub mod entities;
+pub mod entries;
 pub mod errors;
 pub mod own;
 pub mod picture;
