@@ -20,10 +20,7 @@ pub struct Entry {
 }
 
 /// A row for each entry: its name and its note, lent.
-pub fn rows_of<'a>(
-    alloc: Global,
-    entries: &'a [Entry],
-) -> Result<Vec<Vec<&'a str>>, AllocError>
+pub fn rows_of<'a>(alloc: Global, entries: &'a [Entry]) -> Result<Vec<Vec<&'a str>>, AllocError>
     ensures { IfOk result (λ rows. map lent_texts rows.items ≡ map entry_texts entries.now) }
 {
     let mut rows = Vec::new(alloc);

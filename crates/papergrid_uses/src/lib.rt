@@ -2,6 +2,7 @@
 //! shown by what the library says in public.
 #![tactic(auto)]
 
+pub mod cells;
 pub mod certificates;
 pub mod colored;
 pub mod compact;
