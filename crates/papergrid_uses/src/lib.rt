@@ -2,11 +2,13 @@
 //! shown by what the library says in public.
 #![tactic(auto)]
 
+pub mod cells;
 pub mod certificates;
 pub mod colored;
 pub mod compact;
 pub mod dimensions;
 pub mod entities;
+pub mod entries;
 pub mod errors;
 pub mod own;
 pub mod picture;

@@ -15,7 +15,15 @@ pub fn second_cell(alloc: Global, rows: &[Vec<&str>]) -> Result<(usize, Place)>
     ensures { IfOk result (λ found. found.1.left + found.1.width ≤ found.0) }
 {
     let mut config = SpannedConfig::new(alloc);
-    config.set_borders(Borders::filled('+'));
+    config.set_borders(Borders {
+        top: Some('-'),
+        horizontal: Some('-'),
+        bottom: Some('-'),
+        left: Some('|'),
+        vertical: Some('|'),
+        right: Some('|'),
+        ..Borders::filled('+')
+    });
     config.set_row_span(Position::new(0, 0), 2)?;
     config.set_column_span(Position::new(1, 1), 3)?;
     let (four, one) = (Indent::spaced(4), Indent::spaced(1));

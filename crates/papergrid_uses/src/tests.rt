@@ -1,6 +1,7 @@
 //! The worked tables of the documents.
 
 mod messages;
+mod own_types;
 mod places;
 mod scripts;
 mod shown;
