@@ -1,11 +1,13 @@
 //! Each law at a type.
 
+use papergrid::laws as facade;
 use papergrid_axis::laws as axis;
+use papergrid_config::laws as config;
+use papergrid_layout::laws as layout;
 use papergrid_maps::{EntityMap, NoColors, laws as maps};
 use papergrid_tables::laws as tables;
 use papergrid_text::laws as texts;
 use papergrid_values::{ANSIBuf, ANSIStr, laws as values};
-use papergrid_walk::laws as walk;
 
 #[test]
 fn laws_of_values() {
@@ -14,6 +16,8 @@ fn laws_of_values() {
     values::ordered_by_parts::<char>();
     values::equal_by_parts::<char>();
     values::equal_clones::<ANSIBuf>();
+    values::equal_clones_of_values();
+    values::equal_directions();
     values::hashed_by_parts::<char>();
     values::hashed_by_fields();
     values::plain_defaults::<char>();
@@ -24,6 +28,7 @@ fn laws_of_values() {
 fn laws_of_tables() {
     tables::told_makes_borders::<char>();
     tables::equal_overrides::<char>();
+    tables::equal_borders::<char>();
     tables::equal_told_tables::<char>();
 }
 
@@ -38,6 +43,11 @@ fn laws_of_maps() {
     maps::empty_colors::<NoColors>();
     maps::empty_colors::<EntityMap<Option<ANSIStr<'static>>>>();
     maps::compact_by_fields();
+    maps::visible_where_not_hidden();
+    maps::spans_by_place();
+    maps::equal_maps::<char>();
+    maps::equal_spans();
+    maps::equal_clones::<char>();
 }
 
 #[test]
@@ -46,6 +56,12 @@ fn laws_of_texts() {
     texts::dimension_without_carriage_returns();
     texts::slice_tells_cells::<u8>();
     texts::vector_tells_cells::<u8>();
+    texts::equal_clones::<usize>();
+    texts::equal_clones_of_lines();
+    texts::lines_by_fields();
+    texts::equal_by_fields::<usize>();
+    texts::ordered_by_fields::<usize>();
+    texts::hashed_by_fields::<usize>();
 }
 
 #[test]
@@ -53,5 +69,23 @@ fn laws_of_sizes() {
     axis::worked_rows();
     axis::certified_are_least();
     axis::sizes_by_needs();
-    walk::visible_where_not_hidden();
+    axis::equal_by_fields();
+    axis::equal_clones();
+    layout::equal_clones();
+    layout::equal_where_same();
+    layout::places_have_room::<char>();
+    layout::total_covers_cells::<char>();
+}
+
+#[test]
+fn laws_of_configurations() {
+    config::equal_configurations();
+    config::equal_clones();
+}
+
+#[test]
+fn laws_of_layouts() {
+    facade::reasons_by_runs();
+    facade::equal_clones();
+    facade::equal_where_same();
 }

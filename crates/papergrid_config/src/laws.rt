@@ -17,6 +17,7 @@ ghost use Rattle.papergrid_config.specs.Told.{IsTold};
 ghost use Rattle.papergrid_config.specs.declared.setting.Setting.{Setting};
 ghost use Rattle.papergrid_config.specs.declared.spanned.SpannedConfig.{SpannedConfig};
 
+use crate::setting::Setting;
 use crate::spanned::SpannedConfig;
 use papergrid_maps::{EntityMap, SpanTable};
 use papergrid_tables::{BorderTable, OffsetTable};
@@ -94,7 +95,9 @@ pub fn equal_configurations()
         (⟦<SpannedConfig as PartialEq>⟧.eq x y ≡ true) ↔ HoldTheSameSettings x y }
 {}
 
-/// A clone of a configuration equals it.
+/// A clone of a configuration equals it, and so does a clone of a setting.
 pub fn equal_clones()
-    ensures { (x y : SpannedConfig) → ⟦<SpannedConfig as Clone>⟧.is_clone x y → y ≡ x }
+    ensures configurations { (x y : SpannedConfig) →
+        ⟦<SpannedConfig as Clone>⟧.is_clone x y → y ≡ x }
+    ensures settings { (x y : Setting) → ⟦<Setting as Clone>⟧.is_clone x y → y ≡ x }
 {}

@@ -9,6 +9,7 @@ ghost use Rattle.papergrid_maps.specs.Hidden.{IsHidden};
 ghost use Rattle.papergrid_maps.specs.declared.anchors.Anchor.{Anchor};
 ghost use Rattle.papergrid_maps.specs.declared.entity_map.MapCall.{MapCall};
 ghost use Rattle.papergrid_maps.specs.declared.entity_map.Stopped.{Stopped};
+ghost use Rattle.papergrid_maps.specs.declared.view.Paddings.{Paddings};
 ghost use Rattle.papergrid_maps.specs.Compact.{IsNew, first_difference};
 ghost use Rattle.papergrid_maps.specs.declared.colors.NoColor.{NoColor};
 ghost use Rattle.papergrid_maps.specs.declared.colors.NoColors.{NoColors};
@@ -22,7 +23,8 @@ ghost use Rattle.papergrid_maps.specs.Spans as spans;
 ghost use Rattle.papergrid_maps.specs.Spans.{IsVisible, SpanCall, Spans, column_span, decided_span, is_visible, row_span};
 
 use crate::{
-    Anchor, Colors, CompactConfig, EntityMap, MapCall, NoColor, NoColors, SpanTable, Stopped,
+    Anchor, Colors, CompactConfig, EntityMap, MapCall, NoColor, NoColors, Paddings, SpanTable,
+    Stopped,
 };
 use papergrid_values::{ANSIStr, AlignmentHorizontal, Borders, Indent, Sides};
 use std::cmp::Ordering;
@@ -82,21 +84,24 @@ pub fn equal_maps<T: PartialEq>()
 {}
 
 /// Two tables of spans are equal exactly where each position has the same spans in both. Two
-/// anchors, and what two lists of calls that stopped say, are equal where they are the same.
+/// anchors, paddings of a cell, and what two lists of calls that stopped say are equal where they
+/// are the same.
 pub fn equal_spans()
     ensures tables { (s t : Spans) →
         (⟦<SpanTable as PartialEq>⟧.eq s t ≡ true) ↔ HoldTheSameSpans s t }
     ensures anchors { (x y : Anchor) → (⟦<Anchor as PartialEq>⟧.eq x y ≡ true) ↔ (x ≡ y) }
     ensures stopped { (x y : Stopped) → (⟦<Stopped as PartialEq>⟧.eq x y ≡ true) ↔ (x ≡ y) }
+    ensures paddings { (x y : Paddings) → (⟦<Paddings as PartialEq>⟧.eq x y ≡ true) ↔ (x ≡ y) }
 {}
 
-/// A clone of a call equals its original where clones of its value do, and so do clones of anchors
-/// and of what a list of calls that stopped says.
+/// A clone of a call equals its original where clones of its value do, and so do clones of anchors,
+/// of paddings and of what a list of calls that stopped says.
 pub fn equal_clones<T: Clone>()
     requires { (x y : T) → T.is_clone x y → y ≡ x }
     ensures calls { (x y : MapCall T) → ⟦<MapCall<T> as Clone>⟧.is_clone x y → y ≡ x }
     ensures anchors { (x y : Anchor) → ⟦<Anchor as Clone>⟧.is_clone x y → y ≡ x }
     ensures stopped { (x y : Stopped) → ⟦<Stopped as Clone>⟧.is_clone x y → y ≡ x }
+    ensures paddings { (x y : Paddings) → ⟦<Paddings as Clone>⟧.is_clone x y → y ≡ x }
 {}
 
 /// Colours that are empty have none at any position.
