@@ -1,7 +1,7 @@
 use Rattle.std.specs.Prelude.{string_bytes}
 use Rattle.papergrid_axis.specs.Answers.{AreSizes, NoneHolds}
 use Rattle.papergrid_values.specs.declared.direction.Direction.TheVariants.{Columns}
-use Rattle.papergrid_walk.specs.Grids.{spanned_grid}
+use Rattle.papergrid_config.specs.Grids.{spanned_grid}
 use Rattle.papergrid_walk.specs.Measures.{line_measure}
 use Rattle.papergrid_uses.specs.Rows.{cells_of}
 use Rattle.papergrid_uses.proofs.RowLemmas.{answers_told}

@@ -7,7 +7,7 @@ use Rattle.papergrid_axis.specs.declared.error.LayoutError.{LayoutError}
 use Rattle.papergrid_axis.specs.declared.error.LayoutError.TheVariants.{OutOfTable, TooLarge, Memory}
 use Rattle.papergrid_layout.specs.Answers.{UnlessMemoryError}
 use Rattle.papergrid_text.proofs.RowSteps.{told_by}
-use Rattle.papergrid_walk.specs.Grids.{spanned_grid}
+use Rattle.papergrid_config.specs.Grids.{spanned_grid}
 use Rattle.papergrid_walk.specs.Measures.{line_measure}
 use Rattle.papergrid_uses.specs.Entries.{entry_texts, lent_texts}
 use Rattle.papergrid_uses.proofs.RowLemmas.{refused_on, sizes_told}
