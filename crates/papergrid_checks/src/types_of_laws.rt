@@ -1,4 +1,4 @@
-//! Each law at a type.
+//! Each law at a type, but for that of equal clones.
 
 use papergrid_axis::laws as axis;
 use papergrid_maps::{EntityMap, NoColors, laws as maps};
@@ -13,7 +13,6 @@ fn laws_of_values() {
     values::ordered_by_fields();
     values::ordered_by_parts::<char>();
     values::equal_by_parts::<char>();
-    values::equal_clones::<ANSIBuf>();
     values::hashed_by_parts::<char>();
     values::hashed_by_fields();
     values::plain_defaults::<char>();
