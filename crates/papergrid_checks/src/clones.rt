@@ -2,7 +2,9 @@
 
 ghost use Rattle.std.specs.Prelude.{◌≡◌, IfOk};
 
-use papergrid_values::{ANSIBuf, Border, Borders, HorizontalLine, Indent, Sides, VerticalLine};
+use papergrid_values::{
+    ANSIBuf, Border, Borders, HorizontalLine, Indent, Sides, VerticalLine, laws,
+};
 use std::alloc::AllocError;
 use std::test::Fail;
 
@@ -27,6 +29,7 @@ fn equal_clones(rt: HostRuntime) -> Result<(), Fail> {
 #[test]
 fn equal_clones_of_borders(rt: HostRuntime) -> Result<(), Fail> {
     let color = ANSIBuf::new(rt.alloc(), "<", ">")?;
+    laws::equal_clones::<ANSIBuf>();
     let border = Border {
         top: Some(color.clone()?),
         ..Border::empty()

@@ -74,6 +74,9 @@ fn exact_cells(rt: HostRuntime) -> Result<(), Fail> {
     let first = Text::exact("ab", 7, Vec::new(alloc));
     let second = Text::exact("xyz", 9, given_lines(alloc)?);
     let records = VecRecords::new(vec![in alloc; vec![in alloc; first, second]?]?);
+    let (pos, next) = (Position::new(0, 0), Position::new(0, 1));
+    assert_eq!(rt; PeekableRecords::count_lines(&records, pos), 1);
+    assert_eq!(rt; PeekableRecords::count_lines(&records, next), 2);
     exact_peeks(&rt, &records);
     exact_peeks(&rt, &&records);
     exact_peeks(&rt, &&&records);

@@ -61,10 +61,17 @@ fn widths_of_records(rt: HostRuntime) -> Result<(), Fail> {
     let alloc = rt.alloc();
     let records = IterRecords::new(owned_rows(alloc)?, 2, None);
     come(&rt, of_lent_records(alloc, &records), &[3, 3])?;
-    come(&rt, of_nested(alloc, records, 2), &[3, 3])?;
-    let held = VecRecords::new(owned_rows(alloc)?);
-    assert_eq!(rt; of_strings(&held, Position::new(0, 1)), (1, 3));
-    come(&rt, of_held(alloc, &held), &[3, 3])
+    come(&rt, of_nested(alloc, records, 2), &[3, 3])
+}
+
+#[test]
+fn widths_of_held_rows(rt: HostRuntime) -> Result<(), Fail> {
+    let alloc = rt.alloc();
+    let records = VecRecords::new(owned_rows(alloc)?);
+    assert_eq!(rt; records.count_rows(), 2);
+    assert_eq!(rt; Records::count_columns(&&records), 2);
+    assert_eq!(rt; of_strings(&records, Position::new(0, 1)), (1, 3));
+    come(&rt, of_held(alloc, &records), &[3, 3])
 }
 
 #[test]
