@@ -43,9 +43,9 @@ module _ {T : Type 0} (eq : T → T → Bool) where
             global = a.0;
             frame = sym frames ∙ b.0;
             horizontal_line = λ n. sym (lines_pointwise horizontal_parts (get s.horizontal_lines n) (get t.horizontal_lines n))
-            ∙ (numbers_agree (horizontal_line_eq eq) s.horizontal_lines t.horizontal_lines).0 c.0 n;
+                ∙ (numbers_agree (horizontal_line_eq eq) s.horizontal_lines t.horizontal_lines).0 c.0 n;
             vertical_line = λ n. sym (lines_pointwise vertical_parts (get s.vertical_lines n) (get t.vertical_lines n))
-            ∙ (numbers_agree (vertical_line_eq eq) s.vertical_lines t.vertical_lines).0 d.0 n;
+                ∙ (numbers_agree (vertical_line_eq eq) s.vertical_lines t.vertical_lines).0 d.0 n;
             horizontal_edge = (places_agree eq s.horizontal_edges t.horizontal_edges).0 e.0;
             vertical_edge = (places_agree eq s.vertical_edges t.vertical_edges).0 f.0;
             corner = (places_agree eq s.corners t.corners).0 f.1;
