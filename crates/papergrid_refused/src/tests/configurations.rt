@@ -8,15 +8,28 @@ use std::alloc::{AllocError, Global};
 use std::process::Abort;
 use std::test::Fail;
 
+/// A configuration that holds one of each setting, and its clone.
+fn full_twice(alloc: Global) -> Result<(SpannedConfig, SpannedConfig), AllocError> {
+    with_clone(full(alloc)?)
+}
+
 /// What a test ends with that applies a setting to a configuration that holds one of each.
 fn applies(
     rt: &(impl Abort + AllocGlobal),
     call: CallNumber,
     setting: Setting,
 ) -> Result<(), Fail> {
-    let (mut config, before) = with_clone(full(rt.alloc())?)?;
-    let answer = apply(&mut config, setting);
-    keeps(rt, call, config, before, answer)
+    // A setting is dropped by a call, since what its derive makes is proved in each function that drops one.
+    match full_twice(rt.alloc()) {
+        Ok((mut config, before)) => {
+            let answer = apply(&mut config, setting);
+            keeps(rt, call, config, before, answer)
+        }
+        Err(error) => {
+            drop(setting);
+            Err(Fail::from(error))
+        }
+    }
 }
 
 /// Each setter that may ask for memory, by its setting.

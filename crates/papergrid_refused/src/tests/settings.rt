@@ -157,8 +157,9 @@ pub fn ten(alloc: Global) -> Result<Vec<Setting>, AllocError> {
 /// Applies a setting that is in range.
 pub fn apply(config: &mut SpannedConfig, setting: Setting) -> Result<(), AllocError> {
     if setting.is_in_range() {
-        config.apply(setting)?;
+        return config.apply(setting);
     }
+    drop(setting);
     Ok(())
 }
 
