@@ -23,8 +23,8 @@ use Rattle.papergrid_maps.specs.Grids.{Grid}
 use Rattle.papergrid_layout.specs.Answers.{first_out_of_table}
 use Rattle.papergrid_layout.specs.Witnesses.{witness_of}
 use Rattle.papergrid_layout.proofs.PairLemmas.{none_reaches_out}
-use Rattle.papergrid.specs.declared.estimate.Sizing.{Sizing}
-use Rattle.papergrid.specs.declared.estimate.Sizing.TheVariants.{ByShares, Least}
+use Rattle.papergrid_layout.specs.declared.sizing.Sizing.{Sizing}
+use Rattle.papergrid_layout.specs.declared.sizing.Sizing.TheVariants.{ByShares, Least}
 use Rattle.papergrid.specs.Estimates.{Estimate, OutOfTable, TooLarge, Sized, unless_large, unless_out, text_measure, sizes_by, witness_by, estimate_by, estimate_of}
 use Rattle.papergrid.specs.Grids.{grid_of}
 use Rattle.papergrid_script.specs.Scripts.{Table}

@@ -29,7 +29,7 @@ use Rattle.papergrid_config.specs.Parts.{character_calls, span_calls}
 use Rattle.papergrid_config.specs.declared.setting.Setting.{Setting}
 use Rattle.papergrid_maps.specs.Grids.{Grid, size_after, size_before, span_along}
 use Rattle.papergrid_config.specs.Grids.{line_along}
-use Rattle.papergrid.specs.declared.estimate.Sizing.{Sizing}
+use Rattle.papergrid_layout.specs.declared.sizing.Sizing.{Sizing}
 use Rattle.papergrid.specs.declared.running.RunEnd.{RunEnd}
 use Rattle.papergrid.specs.Estimates.{Estimate, estimate_by, estimate_of, text_measure}
 use Rattle.papergrid.specs.Grids.{grid_of}

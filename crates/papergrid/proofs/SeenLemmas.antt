@@ -14,7 +14,7 @@ use Rattle.papergrid_script.specs.ForProofs.Seen.{rows_seen, table_seen}
 use Rattle.papergrid_script.specs.ForProofs.Settings.{setting_told}
 use Rattle.papergrid.specs.ForProofs.Seen.{GivesEstimate}
 use Rattle.papergrid.specs.declared.estimate.Sizes.{Sizes}
-use Rattle.papergrid.specs.declared.estimate.Sizing.{Sizing}
+use Rattle.papergrid_layout.specs.declared.sizing.Sizing.{Sizing}
 use Rattle.papergrid_script.specs.declared.script.Script.{Script}
 use Rattle.papergrid.proofs.EstimateLemmas.{estimate_told, gives_also}
 use Rattle.papergrid.proofs.GridLemmas.{grid_told}

@@ -2,8 +2,8 @@
 use Rattle.std.specs.Prelude.{ℕ, List, [], ◌∷◌, ◌++◌, length, Option, Some, None, Result, Ok, Err, ⊤, codes, decimal}
 use Rattle.papergrid_maps.specs.Spans.{column_span, row_span}
 use Rattle.papergrid_config.specs.Made.{spans_of}
-use Rattle.papergrid.specs.declared.estimate.Sizing.{Sizing}
-use Rattle.papergrid.specs.declared.estimate.Sizing.TheVariants.{ByShares}
+use Rattle.papergrid_layout.specs.declared.sizing.Sizing.{Sizing}
+use Rattle.papergrid_layout.specs.declared.sizing.Sizing.TheVariants.{ByShares}
 use Rattle.papergrid.specs.declared.explained.Reason.{Reason}
 use Rattle.papergrid.specs.declared.explained.Reason.TheVariants as reason
 use Rattle.papergrid.specs.Estimates.{Estimate, OutOfTable, TooLarge, Sized, estimate_of}

@@ -2,8 +2,8 @@
 -- what was written, each before and after.
 use Rattle.std.specs.Prelude.{◌≡◌, ℕ, IfSome, List, Option, take}
 use Rattle.std.specs.Io.KnownBytes.{Appends, Consumes, IsAtEnd}
-use Rattle.papergrid.specs.declared.estimate.Sizing.{Sizing}
-use Rattle.papergrid.specs.declared.estimate.Sizing.TheVariants.{ByShares, Least}
+use Rattle.papergrid_layout.specs.declared.sizing.Sizing.{Sizing}
+use Rattle.papergrid_layout.specs.declared.sizing.Sizing.TheVariants.{ByShares, Least}
 use Rattle.papergrid.specs.declared.running.RunEnd.{RunEnd}
 use Rattle.papergrid.specs.Outputs.{end_by, output_by}
 

@@ -9,21 +9,11 @@ ghost use Rattle.papergrid.specs.Estimates.{estimate_by};
 ghost use Rattle.papergrid.specs.ForProofs.Seen.{GivesEstimate, IsCertifiedBy, total_along};
 
 use papergrid_config::SpannedConfig;
-use papergrid_layout::Found;
 use papergrid_layout::certificates::{Certified, certified_least, certified_sizes};
+use papergrid_layout::{Found, Sizing};
 use papergrid_text::{IntoRecords, Records};
 use std::alloc::Global;
 use std::convert::AsStr;
-
-/// How the sizes of a table are chosen.
-#[derive(Clone, Copy, Debug, PartialEq, Eq)]
-pub enum Sizing {
-    /// A cell over several columns or rows shares among them what it lacks, the smaller spans first.
-    /// Totals are least where spans are nested or disjoint.
-    ByShares,
-    /// Totals are least whatever spans cross; the sizes are those by shares wherever these are least.
-    Least,
-}
 
 /// The sizes of a table and the cells that certify them, and the totals with the lines of the table: the width in columns of
 /// a terminal, the height in lines. None certify a direction where sizes are by shares and two longer ranges are neither
@@ -46,8 +36,10 @@ where
     R: Records + Drop,
     <<R as Records>::Iter as IntoRecords>::Cell: AsStr + Drop,
     requires { R.is_lawful records }
-    ensures { GivesEstimate result (λ answer. (cells : List (List R.Iter.Cell)) × R.tells records cells
-        × (answer ≡ estimate_by sizing (spanned_grid cfg.now) (line_measure R.Iter.Cell.text) (R.columns records) cells)) }
+    ensures { GivesEstimate result (λ answer. (cells : List (List R.Iter.Cell))
+        × R.tells records cells
+        × (answer ≡ estimate_by sizing (spanned_grid cfg.now) (line_measure R.Iter.Cell.text)
+        (R.columns records) cells)) }
 {
     let certified = certify(alloc, sizing, records, cfg)?;
     Ok(with_totals(certified, cfg))
@@ -60,7 +52,8 @@ where
     <<R as Records>::Iter as IntoRecords>::Cell: AsStr + Drop,
     requires { R.is_lawful records }
     ensures { UnlessMemory result ((cells : List (List R.Iter.Cell)) × R.tells records cells
-        × IsCertifiedBy sizing (spanned_grid cfg.now) (line_measure R.Iter.Cell.text) (R.columns records) cells result) }
+        × IsCertifiedBy sizing (spanned_grid cfg.now) (line_measure R.Iter.Cell.text)
+        (R.columns records) cells result) }
 {
     match sizing {
         Sizing::ByShares => certified_sizes(alloc, records, cfg),
@@ -70,11 +63,16 @@ where
 
 /// The sizes, with the totals by the lines of the configuration.
 fn with_totals(certified: Certified, cfg: &SpannedConfig) -> Sizes
-    requires width { total_along Columns (spanned_grid cfg.now) (length certified.widths.items) certified.widths.items < 2 ^ 64 }
-    requires height { total_along Rows (spanned_grid cfg.now) (length certified.heights.items) certified.heights.items < 2 ^ 64 }
+    requires width { total_along Columns (spanned_grid cfg.now)
+        (length certified.widths.items) certified.widths.items < 2 ^ 64 }
+    requires height { total_along Rows (spanned_grid cfg.now)
+        (length certified.heights.items) certified.heights.items < 2 ^ 64 }
     ensures certified { result.certified ≡ certified }
-    ensures total_width { result.total_width ≡ total_along Columns (spanned_grid cfg.now) (length certified.widths.items) certified.widths.items }
-    ensures total_height { result.total_height ≡ total_along Rows (spanned_grid cfg.now) (length certified.heights.items) certified.heights.items }
+    ensures total_width { result.total_width ≡ total_along Columns (spanned_grid cfg.now)
+        (length certified.widths.items) certified.widths.items }
+    ensures total_height { result.total_height
+        ≡ total_along Rows (spanned_grid cfg.now)
+        (length certified.heights.items) certified.heights.items }
 {
     let vertical = cfg.count_vertical(certified.widths.len());
     let horizontal = cfg.count_horizontal(certified.heights.len());

@@ -6,10 +6,10 @@ ghost use Rattle.papergrid.specs.Estimates.{estimate_of};
 ghost use Rattle.papergrid.specs.Reasons.{estimate_reason, reason_by};
 ghost use Rattle.papergrid_script.specs.ForProofs.Seen.{table_seen};
 
-use crate::estimate::{Sizing, estimate};
+use crate::estimate::estimate;
 use bumpalo::Bump;
 use papergrid_config::SpannedConfig;
-use papergrid_layout::LayoutError;
+use papergrid_layout::{LayoutError, Sizing};
 use papergrid_script::{Script, ScriptError, configuration_of, read_script};
 use papergrid_text::IterRecords;
 use papergrid_values::Position;

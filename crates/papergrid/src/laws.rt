@@ -7,8 +7,8 @@ ghost use Rattle.papergrid_config.specs.declared.spanned.SpannedConfig.{SpannedC
 ghost use Rattle.papergrid_config.specs.declared.setting.Setting.{Setting};
 ghost use Rattle.papergrid_config.specs.Grids.{spanned_grid};
 ghost use Rattle.papergrid_layout.specs.Answers.{first_out_of_table};
-ghost use Rattle.papergrid.specs.declared.estimate.Sizing.{Sizing};
-ghost use Rattle.papergrid.specs.declared.estimate.Sizing.TheVariants.{ByShares, Least};
+ghost use Rattle.papergrid_layout.specs.declared.sizing.Sizing.{Sizing};
+ghost use Rattle.papergrid_layout.specs.declared.sizing.Sizing.TheVariants.{ByShares, Least};
 ghost use Rattle.papergrid.specs.declared.explained.Reason.{Reason};
 ghost use Rattle.papergrid.specs.declared.running.RunEnd.{RunEnd};
 ghost use Rattle.papergrid.specs.declared.running.RunFault.{RunFault};
@@ -21,7 +21,6 @@ ghost use Rattle.papergrid.specs.Rows.{WorkedRows};
 ghost use Rattle.papergrid_script.specs.Scripts.{Table};
 ghost use Rattle.papergrid.specs.Totals.{AreSized, IsTooLarge};
 
-use crate::estimate::Sizing;
 use crate::explained::Reason;
 use crate::running::{RunEnd, RunFault};
 use crate::transfer::Failed;
@@ -38,7 +37,8 @@ pub fn worked_rows()
 /// What an estimate reads of a configuration that settings tell, which is which positions are visible and the spans,
 /// the paddings and the lines, is what the settings decide.
 pub fn grid_by_settings()
-    ensures { (settings : List Setting) (config : SpannedConfig) → IsTold settings config → spanned_grid config ≡ grid_of settings }
+    ensures { (settings : List Setting) (config : SpannedConfig) → IsTold settings config →
+        spanned_grid config ≡ grid_of settings }
 {}
 
 /// A table is refused exactly for its first visible cell that reaches out of it, and else only where the sizes
@@ -49,23 +49,32 @@ pub fn grid_by_settings()
 /// that the sizes are least. Of least sizes all this holds whatever ranges cross, and there always is a witness; so they
 /// are too large only where those by shares are.
 pub fn estimate_by_grid()
-    ensures out { (sizing : Sizing) (table : Table) (place : Position) → (estimate_of sizing table ≡ OutOfTable place)
-        ↔ (first_out_of_table (grid_of table.settings) text_measure table.columns table.rows ≡ Some place) }
-    ensures too_large { (sizing : Sizing) (table : Table) → estimate_of sizing table ≡ TooLarge → IsTooLarge sizing table }
-    ensures sized { (sizing : Sizing) (table : Table) (widths heights : List ℕ) (total_width total_height : ℕ) (width_witness height_witness : Option (List Position)) →
-        estimate_of sizing table ≡ Sized widths heights total_width total_height width_witness height_witness →
+    ensures out { (sizing : Sizing) (table : Table) (place : Position) →
+        (estimate_of sizing table ≡ OutOfTable place)
+        ↔ (first_out_of_table (grid_of table.settings) text_measure table.columns table.rows
+        ≡ Some place) }
+    ensures too_large { (sizing : Sizing) (table : Table) → estimate_of sizing table ≡ TooLarge →
+        IsTooLarge sizing table }
+    ensures sized { (sizing : Sizing) (table : Table) (widths heights : List ℕ)
+        (total_width total_height : ℕ) (width_witness height_witness : Option (List Position)) →
+        estimate_of sizing table ≡ Sized widths heights total_width total_height width_witness
+        height_witness →
         AreSized sizing table widths heights total_width total_height width_witness height_witness }
-    ensures least_too_large { (table : Table) → estimate_of Least table ≡ TooLarge → estimate_of ByShares table ≡ TooLarge }
+    ensures least_too_large { (table : Table) → estimate_of Least table ≡ TooLarge →
+        estimate_of ByShares table ≡ TooLarge }
 {}
 
 /// An input has a reason exactly where its run does not end with sizes: a bad line where it ends as a bad script, and one of
 /// its table where it is refused; by shares and of least sizes alike. The run writes that reason in its words.
 pub fn reasons_by_runs()
-    ensures none { (sizing : Sizing) (input : List ℕ) → (reason_by sizing input ≡ None) ↔ (end_by sizing input ≡ RunEnd.Done) }
+    ensures none { (sizing : Sizing) (input : List ℕ) → (reason_by sizing input ≡ None)
+        ↔ (end_by sizing input ≡ RunEnd.Done) }
     ensures bad_line { (sizing : Sizing) (input : List ℕ) →
-        ((number : ℕ) × (reason_by sizing input ≡ Some (Reason.BadLine number))) ↔ (end_by sizing input ≡ RunEnd.BadScript) }
+        ((number : ℕ) × (reason_by sizing input ≡ Some (Reason.BadLine number)))
+        ↔ (end_by sizing input ≡ RunEnd.BadScript) }
     ensures refused { (sizing : Sizing) (input : List ℕ) →
-        ((reason : Reason) × (reason_by sizing input ≡ Some reason) × IsOfTable reason) ↔ (end_by sizing input ≡ RunEnd.Refused) }
+        ((reason : Reason) × (reason_by sizing input ≡ Some reason) × IsOfTable reason)
+        ↔ (end_by sizing input ≡ RunEnd.Refused) }
     ensures written { (sizing : Sizing) (input : List ℕ) (reason : Reason) →
         reason_by sizing input ≡ Some reason → output_by sizing input ≡ reason_text reason }
 {}

@@ -10,8 +10,8 @@ mod running;
 mod table_layout;
 mod transfer;
 
-pub use estimate::Sizing;
 pub use explained::{Reason, explain};
+pub use papergrid_layout::{Sizing, Table};
 pub use running::{RunEnd, RunFault, run, run_keeping, run_least};
 pub use table_layout::{layout, layout_least};
 pub use transfer::{Failed, ReadSource, Sink, Source, WriteSink};

@@ -46,7 +46,8 @@ fn push_witness(
     word: &[u8],
     witness: &Option<Vec<Position>>,
 ) -> Result<(), AllocError>
-    ensures { OnOk result (text.new.items ≡ text.old.items ++ witness_line word.now (places_seen witness.now)) }
+    ensures { OnOk result (text.new.items ≡ text.old.items ++ witness_line word.now
+        (places_seen witness.now)) }
 {
     text.extend_from_slice(word)?;
     match witness {
@@ -103,7 +104,8 @@ pub fn too_large_text(alloc: Global) -> Result<Vec<u8>, AllocError>
 
 /// The line for a bad script.
 pub fn bad_script_text(alloc: Global, number: usize) -> Result<Vec<u8>, AllocError>
-    ensures { IfOk result (λ text. text.items ≡ codes "bad script at line " ++ decimal number ++ 10 ∷ []) }
+    ensures { IfOk result (λ text. text.items
+        ≡ codes "bad script at line " ++ decimal number ++ 10 ∷ []) }
 {
     let text = format!(in alloc; "bad script at line {number}\n")?;
     Ok(text.into_bytes())

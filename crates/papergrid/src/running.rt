@@ -9,11 +9,11 @@ ghost use Rattle.papergrid_script.specs.ForProofs.Seen.{table_seen};
 ghost use Rattle.papergrid.specs.ForProofs.Seen.{GivesEstimate};
 ghost use Rattle.papergrid.specs.declared.running.RunFault.TheVariants.{Memory};
 
-use crate::estimate::{Sizes, Sizing, estimate};
+use crate::estimate::{Sizes, estimate};
 use crate::output::{bad_script_text, out_of_table_text, sizes_text, too_large_text};
 use crate::transfer::{Failed, Sink, Source};
 use bumpalo::Bump;
-use papergrid_layout::LayoutError;
+use papergrid_layout::{LayoutError, Sizing};
 use papergrid_script::{Script, ScriptError, configuration_of, read_script};
 use papergrid_text::IterRecords;
 use std::alloc::{AllocError, Global};
@@ -55,11 +55,14 @@ impl From<AllocError> for RunFault {
 
 /// All the bytes that are left.
 fn read_all<S: Source>(alloc: Global, reader: &mut S) -> Result<Vec<u8>, RunFault>
-    ensures bytes { IfOk result (λ input. IfSome (S.remaining reader.old) (λ left. input.items ≡ left)) }
-    ensures given { IfOk result (λ input. Consumes (S.remaining reader.old) (S.remaining reader.new) input.items) }
+    ensures bytes { IfOk result (λ input. IfSome (S.remaining reader.old) (λ left.
+        input.items ≡ left)) }
+    ensures given { IfOk result (λ input. Consumes (S.remaining reader.old)
+        (S.remaining reader.new) input.items) }
     ensures end { OnOk result (IsAtEnd (S.remaining reader.new)) }
     ensures works { OnOk result (S.has_failed reader.new ≡ S.has_failed reader.old) }
-    ensures memory { IsErrOf result RunFault.Memory → S.has_failed reader.new ≡ S.has_failed reader.old }
+    ensures memory { IsErrOf result RunFault.Memory →
+        S.has_failed reader.new ≡ S.has_failed reader.old }
     ensures read { IsErrOf result RunFault.Read → S.has_failed reader.new ≡ true }
     ensures never_write { IsErrOf result RunFault.Write → ⊥ }
 {
@@ -80,8 +83,10 @@ fn write_all<W: Sink>(writer: &mut W, bytes: &[u8]) -> Result<(), Failed>
     ensures ok { OnOk result (Appends (W.contents writer.old) (W.contents writer.new) bytes.now) }
     ensures works { OnOk result (W.has_failed writer.new ≡ W.has_failed writer.old) }
     ensures moves { OnOk result (W.has_stalled writer.new ≡ W.has_stalled writer.old) }
-    ensures beginning { OnErr result ((n : ℕ) × Appends (W.contents writer.old) (W.contents writer.new) (take n bytes.now)) }
-    ensures failed { OnErr result ((W.has_failed writer.new ≡ true) ⊎ (W.has_stalled writer.old ≡ false → W.has_stalled writer.new ≡ true)) }
+    ensures beginning { OnErr result ((n : ℕ)
+        × Appends (W.contents writer.old) (W.contents writer.new) (take n bytes.now)) }
+    ensures failed { OnErr result ((W.has_failed writer.new ≡ true)
+        ⊎ (W.has_stalled writer.old ≡ false → W.has_stalled writer.new ≡ true)) }
 {
     let mut at = 0;
     while at < bytes.len() {
@@ -114,8 +119,10 @@ fn table_answer(
     sizing: Sizing,
     script: Script<'_>,
 ) -> Result<(RunEnd, Vec<u8>), AllocError>
-    ensures end { IfOk result (λ answer. answer.0 ≡ estimate_end (estimate_of sizing (table_seen script.entry))) }
-    ensures text { IfOk result (λ answer. answer.1.items ≡ estimate_text (estimate_of sizing (table_seen script.entry))) }
+    ensures end { IfOk result (λ answer. answer.0
+        ≡ estimate_end (estimate_of sizing (table_seen script.entry))) }
+    ensures text { IfOk result (λ answer. answer.1.items
+        ≡ estimate_text (estimate_of sizing (table_seen script.entry))) }
 {
     match table_sizes(alloc, sizing, script) {
         Err(LayoutError::Memory(error)) => Err(error),
@@ -129,7 +136,8 @@ fn table_answer(
 
 /// The sizes of the table that a script tells.
 fn table_sizes(alloc: Global, sizing: Sizing, script: Script<'_>) -> Result<Sizes, LayoutError>
-    ensures { GivesEstimate result (λ answer. answer ≡ estimate_of sizing (table_seen script.entry)) }
+    ensures { GivesEstimate result (λ answer.
+        answer ≡ estimate_of sizing (table_seen script.entry)) }
 {
     let config = configuration_of(alloc, script.settings)?;
     let (columns, count) = (script.columns, script.rows.len());
@@ -161,10 +169,12 @@ pub fn run<S: Source, W: Sink>(
     ensures end { OnOk result (IsAtEnd (S.remaining reader.new)) }
     ensures written { OnOk result (IfSome (S.remaining reader.old) (λ input.
         Appends (W.contents writer.old) (W.contents writer.new) (output_of input))) }
-    ensures answer { IfOk result (λ end. IfSome (S.remaining reader.old) (λ input. end ≡ end_of input)) }
+    ensures answer { IfOk result (λ end. IfSome (S.remaining reader.old) (λ input.
+        end ≡ end_of input)) }
     // So of some input where the reader does not tell its bytes.
     ensures some_input { IfOk result
-        (IsWholeRun (S.remaining reader.old) (S.remaining reader.new) (W.contents writer.old) (W.contents writer.new)) }
+        (IsWholeRun (S.remaining reader.old) (S.remaining reader.new) (W.contents writer.old)
+        (W.contents writer.new)) }
     // No read and no write failed, and each write of a piece that isn't empty took a byte.
     ensures reader_works { OnOk result (S.has_failed reader.new ≡ false) }
     ensures writer_works { OnOk result (W.has_failed writer.new ≡ false) }
@@ -172,15 +182,18 @@ pub fn run<S: Source, W: Sink>(
     // Which fault comes, and what was written then.
     ensures read { IsErrOf result RunFault.Read → S.has_failed reader.new ≡ true }
     ensures write { IsErrOf result RunFault.Write →
-        (W.has_failed writer.new ≡ true) ⊎ (W.has_stalled writer.old ≡ false → W.has_stalled writer.new ≡ true) }
+        (W.has_failed writer.new ≡ true) ⊎ (W.has_stalled writer.old ≡ false →
+        W.has_stalled writer.new ≡ true) }
     ensures memory { IsErrOf result RunFault.Memory → S.has_failed reader.new ≡ false }
     ensures write_alone { IsErrOf result RunFault.Write → S.has_failed reader.new ≡ false }
     ensures read_nothing { IsErrOf result RunFault.Read → writer.new ≡ writer.old }
     ensures memory_nothing { IsErrOf result RunFault.Memory → writer.new ≡ writer.old }
     ensures beginning { IsErrOf result RunFault.Write → IfSome (S.remaining reader.old) (λ input.
-        (n : ℕ) × Appends (W.contents writer.old) (W.contents writer.new) (take n (output_of input))) }
+        (n : ℕ) × Appends (W.contents writer.old) (W.contents writer.new)
+        (take n (output_of input))) }
     ensures some_beginning { IsErrOf result RunFault.Write →
-        IsBrokenRun (S.remaining reader.old) (S.remaining reader.new) (W.contents writer.old) (W.contents writer.new) }
+        IsBrokenRun (S.remaining reader.old) (S.remaining reader.new) (W.contents writer.old)
+        (W.contents writer.new) }
 {
     let mut input = Vec::new(alloc);
     run_keeping(alloc, Sizing::ByShares, reader, writer, &mut input)
@@ -202,10 +215,12 @@ pub fn run_least<S: Source, W: Sink>(
     ensures end { OnOk result (IsAtEnd (S.remaining reader.new)) }
     ensures written { OnOk result (IfSome (S.remaining reader.old) (λ input.
         Appends (W.contents writer.old) (W.contents writer.new) (least_output_of input))) }
-    ensures answer { IfOk result (λ end. IfSome (S.remaining reader.old) (λ input. end ≡ least_end_of input)) }
+    ensures answer { IfOk result (λ end. IfSome (S.remaining reader.old) (λ input.
+        end ≡ least_end_of input)) }
     // So of some input where the reader does not tell its bytes.
     ensures some_input { IfOk result
-        (IsWholeLeastRun (S.remaining reader.old) (S.remaining reader.new) (W.contents writer.old) (W.contents writer.new)) }
+        (IsWholeLeastRun (S.remaining reader.old) (S.remaining reader.new) (W.contents writer.old)
+        (W.contents writer.new)) }
     // No read and no write failed, and each write of a piece that isn't empty took a byte.
     ensures reader_works { OnOk result (S.has_failed reader.new ≡ false) }
     ensures writer_works { OnOk result (W.has_failed writer.new ≡ false) }
@@ -213,15 +228,18 @@ pub fn run_least<S: Source, W: Sink>(
     // Which fault comes, and what was written then.
     ensures read { IsErrOf result RunFault.Read → S.has_failed reader.new ≡ true }
     ensures write { IsErrOf result RunFault.Write →
-        (W.has_failed writer.new ≡ true) ⊎ (W.has_stalled writer.old ≡ false → W.has_stalled writer.new ≡ true) }
+        (W.has_failed writer.new ≡ true) ⊎ (W.has_stalled writer.old ≡ false →
+        W.has_stalled writer.new ≡ true) }
     ensures memory { IsErrOf result RunFault.Memory → S.has_failed reader.new ≡ false }
     ensures write_alone { IsErrOf result RunFault.Write → S.has_failed reader.new ≡ false }
     ensures read_nothing { IsErrOf result RunFault.Read → writer.new ≡ writer.old }
     ensures memory_nothing { IsErrOf result RunFault.Memory → writer.new ≡ writer.old }
     ensures beginning { IsErrOf result RunFault.Write → IfSome (S.remaining reader.old) (λ input.
-        (n : ℕ) × Appends (W.contents writer.old) (W.contents writer.new) (take n (least_output_of input))) }
+        (n : ℕ) × Appends (W.contents writer.old) (W.contents writer.new)
+        (take n (least_output_of input))) }
     ensures some_beginning { IsErrOf result RunFault.Write →
-        IsBrokenLeastRun (S.remaining reader.old) (S.remaining reader.new) (W.contents writer.old) (W.contents writer.new) }
+        IsBrokenLeastRun (S.remaining reader.old) (S.remaining reader.new) (W.contents writer.old)
+        (W.contents writer.new) }
 {
     let mut input = Vec::new(alloc);
     run_keeping(alloc, Sizing::Least, reader, writer, &mut input)
@@ -243,11 +261,14 @@ pub fn run_keeping<S: Source, W: Sink>(
     requires reader { S.has_failed reader.old ≡ false }
     requires writer { W.has_failed writer.old ≡ false }
     // The vector holds what was read, to the end of the reader; it is all where the reader tells its bytes.
-    ensures kept { OnOk result (Consumes (S.remaining reader.old) (S.remaining reader.new) input.new.items) }
-    ensures all_kept { OnOk result (IfSome (S.remaining reader.old) (λ left. input.new.items ≡ left)) }
+    ensures kept { OnOk result (Consumes (S.remaining reader.old)
+        (S.remaining reader.new) input.new.items) }
+    ensures all_kept { OnOk result (IfSome (S.remaining reader.old) (λ left.
+        input.new.items ≡ left)) }
     ensures end { OnOk result (IsAtEnd (S.remaining reader.new)) }
     // What that means was written and nothing else.
-    ensures written { OnOk result (Appends (W.contents writer.old) (W.contents writer.new) (output_by sizing input.new.items)) }
+    ensures written { OnOk result (Appends (W.contents writer.old) (W.contents writer.new)
+        (output_by sizing input.new.items)) }
     ensures answer { IfOk result (λ end. end ≡ end_by sizing input.new.items) }
     // No read and no write failed, and each write of a piece that isn't empty took a byte.
     ensures reader_works { OnOk result (S.has_failed reader.new ≡ false) }
@@ -256,18 +277,23 @@ pub fn run_keeping<S: Source, W: Sink>(
     // Which fault comes, what was written then, and what the vector holds.
     ensures read { IsErrOf result RunFault.Read → S.has_failed reader.new ≡ true }
     ensures write { IsErrOf result RunFault.Write →
-        (W.has_failed writer.new ≡ true) ⊎ (W.has_stalled writer.old ≡ false → W.has_stalled writer.new ≡ true) }
+        (W.has_failed writer.new ≡ true) ⊎ (W.has_stalled writer.old ≡ false →
+        W.has_stalled writer.new ≡ true) }
     ensures memory { IsErrOf result RunFault.Memory → S.has_failed reader.new ≡ false }
     ensures write_alone { IsErrOf result RunFault.Write → S.has_failed reader.new ≡ false }
     ensures read_nothing { IsErrOf result RunFault.Read → writer.new ≡ writer.old }
     ensures read_kept { IsErrOf result RunFault.Read → input.new ≡ input.old }
     ensures memory_nothing { IsErrOf result RunFault.Memory → writer.new ≡ writer.old }
     ensures memory_kept { IsErrOf result RunFault.Memory →
-        (input.new ≡ input.old) ⊎ IsWholeInput (S.remaining reader.old) (S.remaining reader.new) input.new.items }
+        (input.new ≡ input.old) ⊎ IsWholeInput (S.remaining reader.old)
+        (S.remaining reader.new) input.new.items }
     ensures beginning { IsErrOf result RunFault.Write →
-        (n : ℕ) × Appends (W.contents writer.old) (W.contents writer.new) (take n (output_by sizing input.new.items)) }
-    ensures write_kept { IsErrOf result RunFault.Write → Consumes (S.remaining reader.old) (S.remaining reader.new) input.new.items }
-    ensures write_all_kept { IsErrOf result RunFault.Write → IfSome (S.remaining reader.old) (λ left. input.new.items ≡ left) }
+        (n : ℕ) × Appends (W.contents writer.old) (W.contents writer.new)
+        (take n (output_by sizing input.new.items)) }
+    ensures write_kept { IsErrOf result RunFault.Write →
+        Consumes (S.remaining reader.old) (S.remaining reader.new) input.new.items }
+    ensures write_all_kept { IsErrOf result RunFault.Write →
+        IfSome (S.remaining reader.old) (λ left. input.new.items ≡ left) }
     ensures write_end { IsErrOf result RunFault.Write → IsAtEnd (S.remaining reader.new) }
 {
     *input = read_all(alloc, reader)?;

@@ -38,11 +38,14 @@ where
     requires lawful { R.is_lawful records }
     requires in_range { All (λ setting. is_in_range setting ≡ true) settings.items }
     ensures sizes { UnlessMemory result ((cells : List (List R.Iter.Cell)) × R.tells records cells
-        × IsLaidOut (grid_of settings.items) (line_measure R.Iter.Cell.text) (R.columns records) cells result) }
+        × IsLaidOut (grid_of settings.items) (line_measure R.Iter.Cell.text)
+        (R.columns records) cells result) }
     // So by a configuration that the settings tell, and that holds for each cell what they decide.
-    ensures settings { UnlessMemory result ((config : SpannedConfig) × IsConfiguredBy settings.items config
+    ensures settings { UnlessMemory result ((config : SpannedConfig)
+        × IsConfiguredBy settings.items config
         × ((cells : List (List R.Iter.Cell)) × R.tells records cells
-        × IsLaidOut (spanned_grid config) (line_measure R.Iter.Cell.text) (R.columns records) cells result)) }
+        × IsLaidOut (spanned_grid config) (line_measure R.Iter.Cell.text)
+        (R.columns records) cells result)) }
 {
     let config = configuration(alloc, settings)?;
     laid_out(IterGridDimension::new(alloc), records, &config)
@@ -68,11 +71,14 @@ where
     requires lawful { R.is_lawful records }
     requires in_range { All (λ setting. is_in_range setting ≡ true) settings.items }
     ensures sizes { UnlessMemory result ((cells : List (List R.Iter.Cell)) × R.tells records cells
-        × IsLaidOutLeast (grid_of settings.items) (line_measure R.Iter.Cell.text) (R.columns records) cells result) }
+        × IsLaidOutLeast (grid_of settings.items) (line_measure R.Iter.Cell.text)
+        (R.columns records) cells result) }
     // So by a configuration that the settings tell, and that holds for each cell what they decide.
-    ensures settings { UnlessMemory result ((config : SpannedConfig) × IsConfiguredBy settings.items config
+    ensures settings { UnlessMemory result ((config : SpannedConfig)
+        × IsConfiguredBy settings.items config
         × ((cells : List (List R.Iter.Cell)) × R.tells records cells
-        × IsLaidOutLeast (spanned_grid config) (line_measure R.Iter.Cell.text) (R.columns records) cells result)) }
+        × IsLaidOutLeast (spanned_grid config) (line_measure R.Iter.Cell.text)
+        (R.columns records) cells result)) }
 {
     let config = configuration(alloc, settings)?;
     laid_out(LeastGridDimension::new(alloc), records, &config)

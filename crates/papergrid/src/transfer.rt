@@ -52,7 +52,8 @@ pub trait Sink {
         ensures bound { WritesAtMost result piece.now }
         ensures bytes { WriteAppends (contents self.old) (contents self.new) result piece.now }
         ensures failed { has_failed self.new ≡ failed_after (has_failed self.old) result }
-        ensures stalled { has_stalled self.new ≡ stalled_after (has_stalled self.old) result piece.now };
+        ensures stalled { has_stalled self.new
+            ≡ stalled_after (has_stalled self.old) result piece.now };
 }
 
 /// A reader of std as a [`Source`]. Each of its errors is a failure, an interruption too.

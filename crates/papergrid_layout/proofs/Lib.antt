@@ -7,8 +7,11 @@ pub mod PairLemmas
 pub mod PlaceLemmas
 pub mod PlaceLaws
 pub mod PlaceSums
+pub mod MadeLemmas
 pub mod MarkLemmas
 pub mod PlacingLemmas
 pub mod PointLemmas
+pub mod SpanningLemmas
+pub mod TableLemmas
 pub mod Told
 pub mod TotalLemmas

@@ -22,7 +22,7 @@ use Rattle.papergrid_walk.specs.Cells.{demand_by, placed, problem_of, side, visi
 use Rattle.papergrid_maps.specs.Grids.{Grid}
 use Rattle.papergrid_layout.specs.Answers.{AreBothLeast, AreBothSizes, HoldAlong}
 use Rattle.papergrid_layout.specs.Laws.{HaveRoom}
-use Rattle.papergrid_layout.specs.Places.{DoNotMeet, HasRoomAtPlace, HaveNoneInCommon, IsInside, IsPlaced, StandsOver, extent, offset, place_at, sum_from, total, total_along}
+use Rattle.papergrid_layout.specs.Places.{DoNotMeet, HasRoomAtPlace, HaveNoneInCommon, IsInside, IsPlaced, StandsOver, TableView, extent, offset, place_at, sized_table, sum_from, total, total_along}
 use Rattle.papergrid_layout.specs.declared.placement.PlaceError.TheVariants.{TooLarge}
 use Rattle.papergrid_layout.proofs.PlaceSums.{extent-before}
 
@@ -67,12 +67,12 @@ module _ (size : ℕ → ℕ) (line : ℕ → Bool) where
         | inr ge ↦ record { number = s; in_one = ((omega arith), (omega arith)); in_other = ((omega arith), (omega arith)) }
       ]
 
-pub apart : (grid : Grid) (widths heights : ℕ → ℕ) (shape : ℕ × ℕ) (p q : Position) → HaveNoneInCommon grid p q →
-    DoNotMeet (place_at grid widths heights shape p) (place_at grid widths heights shape q)
-apart grid widths heights shape p q none x y in_p in_q =
-    let across = meets widths (grid.draws Columns shape.1) p.col (grid.span Columns p) q.col (grid.span Columns q) x
+pub apart : (table : TableView) (p q : Position) → HaveNoneInCommon table.grid p q →
+    DoNotMeet (place_at table p) (place_at table q)
+apart table p q none x y in_p in_q =
+    let across = meets table.widths (table.grid.draws Columns table.shape.1) p.col (table.grid.span Columns p) q.col (table.grid.span Columns q) x
     (in_p.after_left, in_p.before_right) (in_q.after_left, in_q.before_right) in
-    let down = meets heights (grid.draws Rows shape.0) p.row (grid.span Rows p) q.row (grid.span Rows q) y
+    let down = meets table.heights (table.grid.draws Rows table.shape.0) p.row (table.grid.span Rows p) q.row (table.grid.span Rows q) y
     (in_p.below_top, in_p.above_bottom) (in_q.below_top, in_q.above_bottom) in
     none (record { row = down.number; col = across.number })
     (record { below_top = down.in_one.0; above_bottom = down.in_one.1; after_left = across.in_one.0; before_right = across.in_one.1 })
@@ -94,12 +94,12 @@ same-or-other p q = elim (cases_lt p.row q.row) [
   ]
 ]
 
-pub one-over : (grid : Grid) (widths heights : ℕ → ℕ) (shape : ℕ × ℕ) (x y : ℕ) (p : Position) → StandsOver grid widths heights shape x y p →
-    ((q : Position) → IsInside grid widths heights shape q → q ≢ p → HaveNoneInCommon grid p q) →
-    (q : Position) → StandsOver grid widths heights shape x y q → q ≡ p
-one-over grid widths heights shape x y p over alone q other = elim (same-or-other q p) [
+pub one-over : (table : TableView) (x y : ℕ) (p : Position) → StandsOver table x y p →
+    ((q : Position) → IsInside table q → q ≢ p → HaveNoneInCommon table.grid p q) →
+    (q : Position) → StandsOver table x y q → q ≡ p
+one-over table x y p over alone q other = elim (same-or-other q p) [
   | inl same ↦ same
-  | inr differ ↦ absurd (apart grid widths heights shape p q (alone q other.placed.inside differ) x y over.covers other.covers)
+  | inr differ ↦ absurd (apart table p q (alone q other.placed.inside differ) x y over.covers other.covers)
 ]
 
 -- ---- sizes as lists
@@ -169,12 +169,12 @@ module _ {C : Type 0} (grid : Grid) (measure : C → ℕ × ℕ) (columns : ℕ)
   }
 
   pub totals : AreBothSizes grid measure columns cells widths heights → (direction : Direction) (answer : ℕ) → IsTotal (problem_of grid measure columns cells direction) answer
-      ↔ (answer ≡ total_along grid (slice_index widths) (slice_index heights) (length cells, columns) direction)
+      ↔ (answer ≡ total_along (sized_table grid widths heights (length cells, columns)) direction)
   totals are Columns answer = total-shares (problem_of grid measure columns cells Columns) widths are.widths answer
   totals are Rows answer = total-shares (problem_of grid measure columns cells Rows) heights are.heights answer
 
   pub least-totals : AreBothLeast grid measure columns cells widths heights → (direction : Direction) (answer : ℕ) → IsLeastTotal (problem_of grid measure columns cells direction) answer
-      ↔ (answer ≡ total_along grid (slice_index widths) (slice_index heights) (length cells, columns) direction)
+      ↔ (answer ≡ total_along (sized_table grid widths heights (length cells, columns)) direction)
   least-totals are Columns answer = total-least (problem_of grid measure columns cells Columns) widths are.widths answer
   least-totals are Rows answer = total-least (problem_of grid measure columns cells Rows) heights are.heights answer
 
@@ -191,12 +191,12 @@ module _ {C : Type 0} (grid : Grid) (measure : C → ℕ × ℕ) (columns : ℕ)
   sized Columns = have.widths
   sized Rows = have.heights
 
-  pub both-fit : (direction : Direction) → total_along grid (slice_index widths) (slice_index heights) (length cells, columns) direction < 2 ^ 64
+  pub both-fit : (direction : Direction) → total_along (sized_table grid widths heights (length cells, columns)) direction < 2 ^ 64
   both-fit Columns = fits-told (problem Columns) widths have.widths
   both-fit Rows = fits-told (problem Rows) heights have.heights
 
   abbrev HasRoomIn : Position × C → Type 0
-  HasRoomIn = HasRoomAtPlace grid measure (length cells, columns) widths heights
+  HasRoomIn = HasRoomAtPlace (sized_table grid widths heights (length cells, columns)) measure
 
   -- the cell's range lies in the table, and has room for it
   record IsGood (direction : Direction) (x : Position × C) : Type 0 where
@@ -237,7 +237,7 @@ module _ {C : Type 0} (grid : Grid) (measure : C → ℕ × ℕ) (columns : ℕ)
       let high = All-head (IsGood Rows) x xs down in
       All-cons HasRoomIn x xs
       (record {
-        place = place_at grid (slice_index widths) (slice_index heights) (length cells, columns) x.0;
+        place = place_at (sized_table grid widths heights (length cells, columns)) x.0;
         is_placed = record {
           inside = record { visible = All-head IsShown x xs visible; across = wide.ends; down = high.ends };
           fit = both-fit;
@@ -254,7 +254,7 @@ module _ {C : Type 0} (grid : Grid) (measure : C → ℕ × ℕ) (columns : ℕ)
       (good Columns (visible_cells grid cells) have.widths.none_out have.widths.fits.room)
       (good Rows (visible_cells grid cells) have.heights.none_out have.heights.fits.room)
 
-  pub never-too-large : (p : Position) → IsPlaced grid (slice_index widths) (slice_index heights) (length cells, columns) p (Err TooLarge) → ⊥
+  pub never-too-large : (p : Position) → IsPlaced (sized_table grid widths heights (length cells, columns)) p (Err TooLarge) → ⊥
   never-too-large p refused =
       let across = both-fit Columns in
       let down = both-fit Rows in

@@ -11,8 +11,7 @@ use Rattle.papergrid_axis.proofs.LoopLemmas.{range_with_len-append}
 use Rattle.papergrid_values.specs.declared.direction.Direction.{Direction}
 use Rattle.papergrid_values.specs.declared.direction.Direction.TheVariants.{Columns, Rows}
 use Rattle.papergrid_values.specs.declared.position.Position.{Position}
-use Rattle.papergrid_maps.specs.Grids.{Grid}
-use Rattle.papergrid_layout.specs.Places.{HasPlace, IsInside, IsTotalOf, extent, offset, sum_from, total, total_along}
+use Rattle.papergrid_layout.specs.Places.{HasPlace, IsInside, IsTotalOf, TableView, extent, line_offset, offset, sum_from, total, total_along}
 
 -- numbers in a row, cut in two
 sum-cut : (f : ℕ → ℕ) (a m k : ℕ) → sum_by f (range_with_len a (m + k)) ≡ sum_by f (range_with_len a m) + sum_by f (range_with_len (a + m) k)
@@ -97,6 +96,14 @@ module _ (size : ℕ → ℕ) (line : ℕ → Bool) where
       let rises : offset size line (i + 1) ≤ offset size line end = offset-rises (i + 1) end (omega arith) in
       (omega arith, omega arith)
 
+  -- the line at a number stands before where the number begins
+  pub line-before : (i : ℕ) → offset size line i ≡ line_offset size line i + drawn i
+  line-before i =
+      let cut : all_lines line i ≡ count_by line (range_with_len 0 i) + count_by line (range_with_len (0 + i) 1) = sum-cut drawn 0 i 1 in
+      let last : count_by line (range_with_len (0 + i) 1) ≡ drawn i =
+      sum-one drawn (0 + i) ∙ ap drawn (let e : 0 + i ≡ i = omega arith in e) in
+      omega arith
+
   -- how long a range is, by where it begins, where the next number begins and the line there
   pub part-of : (s n begin next drew : ℕ) → 1 ≤ n → begin ≡ offset size line s → next ≡ offset size line (s + n) → drew ≡ drawn (s + n) →
       next ≡ begin + extent size line s n + drew
@@ -121,28 +128,28 @@ total-or None whole h = (refl, too-large None whole whole refl h)
 total-or (Some n) whole h = h.1
 
 -- a visible cell that does not reach out lies in the table
-pub is-inside : (grid : Grid) (widths heights : ℕ → ℕ) (shape : ℕ × ℕ) (p : Position) → grid.shows p ≡ true →
-    false ≡ nat_lt shape.1 (p.col + grid.span Columns p) → false ≡ nat_lt shape.0 (p.row + grid.span Rows p) → IsInside grid widths heights shape p
-is-inside grid widths heights shape p visible across down = record {
+pub is-inside : (table : TableView) (p : Position) → table.grid.shows p ≡ true →
+    false ≡ nat_lt table.shape.1 (p.col + table.grid.span Columns p) → false ≡ nat_lt table.shape.0 (p.row + table.grid.span Rows p) → IsInside table p
+is-inside table p visible across down = record {
   visible = visible;
-  across = ltb-false shape.1 (p.col + grid.span Columns p) (sym across);
-  down = ltb-false shape.0 (p.row + grid.span Rows p) (sym down);
+  across = ltb-false table.shape.1 (p.col + table.grid.span Columns p) (sym across);
+  down = ltb-false table.shape.0 (p.row + table.grid.span Rows p) (sym down);
 }
 
 -- the place of a cell by what is found along both directions
-pub has-place : (grid : Grid) (widths heights : ℕ → ℕ) (shape : ℕ × ℕ) (p : Position) (left top width height : ℕ) → grid.shows p ≡ true →
-    false ≡ nat_lt shape.1 (p.col + grid.span Columns p) → false ≡ nat_lt shape.0 (p.row + grid.span Rows p) →
-    (total widths (grid.draws Columns shape.1) shape.1 < 2 ^ 64)
-    × ◌≡◌ {A = ℕ × ℕ} (left, width) (offset widths (grid.draws Columns shape.1) p.col, extent widths (grid.draws Columns shape.1) p.col (grid.span Columns p)) →
-    (total heights (grid.draws Rows shape.0) shape.0 < 2 ^ 64)
-    × ◌≡◌ {A = ℕ × ℕ} (top, height) (offset heights (grid.draws Rows shape.0) p.row, extent heights (grid.draws Rows shape.0) p.row (grid.span Rows p)) →
-    HasPlace grid widths heights shape p (record { left = left; top = top; width = width; height = height })
-has-place grid widths heights shape p left top width height visible across down wide high = record {
-  inside = is-inside grid widths heights shape p visible across down;
+pub has-place : (table : TableView) (p : Position) (left top width height : ℕ) → table.grid.shows p ≡ true →
+    false ≡ nat_lt table.shape.1 (p.col + table.grid.span Columns p) → false ≡ nat_lt table.shape.0 (p.row + table.grid.span Rows p) →
+    (total table.widths (table.grid.draws Columns table.shape.1) table.shape.1 < 2 ^ 64)
+    × ◌≡◌ {A = ℕ × ℕ} (left, width) (offset table.widths (table.grid.draws Columns table.shape.1) p.col, extent table.widths (table.grid.draws Columns table.shape.1) p.col (table.grid.span Columns p)) →
+    (total table.heights (table.grid.draws Rows table.shape.0) table.shape.0 < 2 ^ 64)
+    × ◌≡◌ {A = ℕ × ℕ} (top, height) (offset table.heights (table.grid.draws Rows table.shape.0) p.row, extent table.heights (table.grid.draws Rows table.shape.0) p.row (table.grid.span Rows p)) →
+    HasPlace table p (record { left = left; top = top; width = width; height = height })
+has-place table p left top width height visible across down wide high = record {
+  inside = is-inside table p visible across down;
   fit = fit;
   exact = (λ k. record { left = (wide.1 k).0; top = (high.1 k).0; width = (wide.1 k).1; height = (high.1 k).1 });
 }
   where
-    fit : (direction : Direction) → total_along grid widths heights shape direction < 2 ^ 64
+    fit : (direction : Direction) → total_along table direction < 2 ^ 64
     fit Columns = wide.0
     fit Rows = high.0

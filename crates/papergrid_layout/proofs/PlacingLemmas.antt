@@ -17,25 +17,25 @@ use Rattle.papergrid_walk.specs.ForProofs.Visits.{shows_turn}
 use Rattle.papergrid_maps.specs.Grids.{Grid}
 use Rattle.papergrid_config.specs.Grids.{spanned_grid}
 use Rattle.papergrid_maps.proofs.HiddenLemmas.{position-same}
-use Rattle.papergrid_layout.specs.Places.{EndsWithin, HasPlace, HaveAllPlaces, IsFirstRefused, IsPlaced, IsVisibleCell, extent, offset, place_at, total_along}
+use Rattle.papergrid_layout.specs.Places.{EndsWithin, HasPlace, HaveAllPlaces, IsFirstRefused, IsPlaced, IsVisibleCell, TableView, extent, offset, place_at, total_along}
 use Rattle.papergrid_layout.specs.declared.placement.Place.{Place}
 use Rattle.papergrid_layout.specs.declared.placement.PlaceError.{PlaceError}
 use Rattle.papergrid_layout.specs.declared.placement.PlaceError.TheVariants.{OutOfTable}
 use Rattle.papergrid_layout.specs.declared.placing.Placing.{Placing}
-use Rattle.papergrid_layout.specs.ForProofs.Placing.{ArePlacedBefore, HasPlaced, Table}
+use Rattle.papergrid_layout.specs.ForProofs.Placing.{ArePlacedBefore, HasPlaced}
 use Rattle.papergrid_layout.proofs.PlaceSums.{extent-before}
 
 -- ---- within the totals
 
-ends-within : (grid : Grid) (widths heights : ℕ → ℕ) (shape : ℕ × ℕ) (p : Position) (place : Place) → HasPlace grid widths heights shape p place → EndsWithin grid widths heights shape place
-ends-within grid widths heights shape p place has = subst (EndsWithin grid widths heights shape) (sym has.exact) (
-  extent-before widths (grid.draws Columns shape.1) p.col (grid.span Columns p) shape.1 has.inside.across,
-  extent-before heights (grid.draws Rows shape.0) p.row (grid.span Rows p) shape.0 has.inside.down,
+pub ends-within : (table : TableView) (p : Position) (place : Place) → HasPlace table p place → EndsWithin table place
+ends-within table p place has = subst (EndsWithin table) (sym has.exact) (
+  extent-before table.widths (table.grid.draws Columns table.shape.1) p.col (table.grid.span Columns p) table.shape.1 has.inside.across,
+  extent-before table.heights (table.grid.draws Rows table.shape.0) p.row (table.grid.span Rows p) table.shape.0 has.inside.down,
 )
 
-pub all-end-within : (grid : Grid) (widths heights : ℕ → ℕ) (shape : ℕ × ℕ) (list : List (Position × Place)) → HaveAllPlaces grid widths heights shape list → All (λ x. EndsWithin grid widths heights shape x.1) list
-all-end-within grid widths heights shape list have =
-    All-weaker (λ x. HasPlace grid widths heights shape x.0 x.1) (λ x. EndsWithin grid widths heights shape x.1) (λ x. ends-within grid widths heights shape x.0 x.1) list have.placed
+pub all-end-within : (table : TableView) (list : List (Position × Place)) → HaveAllPlaces table list → All (λ x. EndsWithin table x.1) list
+all-end-within table list have =
+    All-weaker (λ x. HasPlace table x.0 x.1) (λ x. EndsWithin table x.1) (λ x. ends-within table x.0 x.1) list have.placed
 
 -- ---- what is found of a position
 
@@ -44,12 +44,12 @@ found-shown true x found e = (refl, cc)
 found-shown false x found e = absurd (none-some found (sym e))
 
 -- the place by what is found along both directions
-pub place-found : (table : Table) (anchor : Anchor) (left top width height : ℕ) → anchor ≡ anchor_in table.grid anchor.position →
+pub place-found : (table : TableView) (anchor : Anchor) (left top width height : ℕ) → anchor ≡ anchor_in table.grid anchor.position →
     ◌≡◌ {A = ℕ × ℕ} (left, width)
     (offset table.widths (table.grid.draws Columns table.shape.1) anchor.position.col, extent table.widths (table.grid.draws Columns table.shape.1) anchor.position.col anchor.cols) →
     ◌≡◌ {A = ℕ × ℕ} (top, height)
     (offset table.heights (table.grid.draws Rows table.shape.0) anchor.position.row, extent table.heights (table.grid.draws Rows table.shape.0) anchor.position.row anchor.rows) →
-    ◌≡◌ {A = Place} (record { left = left; top = top; width = width; height = height }) (place_at table.grid table.widths table.heights table.shape anchor.position)
+    ◌≡◌ {A = Place} (record { left = left; top = top; width = width; height = height }) (place_at table anchor.position)
 place-found table anchor left top width height e wide high =
     let p = anchor.position in
     let long = ap (λ x. x.1) wide ∙ ap (extent table.widths (table.grid.draws Columns table.shape.1) p.col) (ap (λ (a : Anchor). a.cols) e) in
@@ -61,21 +61,21 @@ pub anchor-own : (grid : Grid) (p : Position) (anchor : Anchor) → anchor ≡ a
 anchor-own grid p anchor e = e ∙ ap (anchor_in grid) (sym (ap (λ (a : Anchor). a.position) e))
 
 -- the position has the place that was found for it
-pub has-found : (table : Table) (p : Position) (anchor : Anchor) (place : Place) →
-    ((direction : Direction) → total_along table.grid table.widths table.heights table.shape direction < 2 ^ 64) →
+pub has-found : (table : TableView) (p : Position) (anchor : Anchor) (place : Place) →
+    ((direction : Direction) → total_along table direction < 2 ^ 64) →
     table.grid.shows p ≡ true → anchor ≡ anchor_in table.grid p →
     (((anchor.position.col + anchor.cols ≤ table.shape.1) × (anchor.position.row + anchor.rows ≤ table.shape.0))
-    × (place ≡ place_at table.grid table.widths table.heights table.shape anchor.position)) →
-    HasPlace table.grid table.widths table.heights table.shape p place
+    × (place ≡ place_at table anchor.position)) →
+    HasPlace table p place
 has-found table p anchor place fit visible e found =
     let told = subst (λ (a : Anchor). ((a.position.col + a.cols ≤ table.shape.1) × (a.position.row + a.rows ≤ table.shape.0))
-    × (place ≡ place_at table.grid table.widths table.heights table.shape a.position)) e found in
+    × (place ≡ place_at table a.position)) e found in
     record { inside = record { visible = visible; across = told.0.0; down = told.0.1 }; fit = fit; exact = told.1 }
 
 -- where no place was found for it, it reaches out
-pub is-out : (table : Table) (p : Position) (anchor : Anchor) → table.grid.shows p ≡ true → anchor ≡ anchor_in table.grid p →
+pub is-out : (table : TableView) (p : Position) (anchor : Anchor) → table.grid.shows p ≡ true → anchor ≡ anchor_in table.grid p →
     ((anchor.position.col + anchor.cols ≤ table.shape.1) × (anchor.position.row + anchor.rows ≤ table.shape.0) → ⊥) →
-    IsPlaced table.grid table.widths table.heights table.shape p (Err OutOfTable)
+    IsPlaced table p (Err OutOfTable)
 is-out table p anchor visible e none =
     let told = subst (λ (a : Anchor). (a.position.col + a.cols ≤ table.shape.1) × (a.position.row + a.rows ≤ table.shape.0) → ⊥) e none in (
       visible,
@@ -123,15 +123,15 @@ none-before p before = elim before [ inl l ↦ omega (arith, l) | inr l ↦ let 
 
 -- ---- the list
 
-module _ (table : Table) where
+module _ (table : TableView) where
   abbrev Has : Position × Place → Type 0
-  Has x = HasPlace table.grid table.widths table.heights table.shape x.0 x.1
+  Has x = HasPlace table x.0 x.1
 
   abbrev Before : ℕ → ℕ → Position × Place → Type 0
   Before r c x = IsBefore x.0 (position_of (r, c))
 
   abbrev IsCell : Position → Type 0
-  IsCell = IsVisibleCell table.grid table.widths table.heights table.shape
+  IsCell = IsVisibleCell table
 
   pub placed-none : ArePlacedBefore table 0 0 []
   placed-none = record {
@@ -166,7 +166,7 @@ module _ (table : Table) where
   }
 
   pub all-placed : (list : List (Position × Place)) → ArePlacedBefore table table.shape.0 0 list →
-      HaveAllPlaces table.grid table.widths table.heights table.shape list
+      HaveAllPlaces table list
   all-placed list are = record {
     in_order = are.in_order;
     placed = are.placed;
@@ -174,8 +174,8 @@ module _ (table : Table) where
   }
 
   pub first-refused : (r c : ℕ) (list : List (Position × Place)) (error : PlaceError) → IsCell (position_of (r, c)) →
-      IsPlaced table.grid table.widths table.heights table.shape (position_of (r, c)) (Err error) → ArePlacedBefore table r c list →
-      IsFirstRefused table.grid table.widths table.heights table.shape (position_of (r, c)) error
+      IsPlaced table (position_of (r, c)) (Err error) → ArePlacedBefore table r c list →
+      IsFirstRefused table (position_of (r, c)) error
   first-refused r c list error cell refused are = record {
     is_cell = cell;
     refused = refused;

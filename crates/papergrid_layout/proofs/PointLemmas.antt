@@ -9,9 +9,8 @@ use Rattle.papergrid_maps.specs.Spans.{IsInRectangle}
 use Rattle.papergrid_values.specs.declared.direction.Direction.TheVariants.{Columns, Rows}
 use Rattle.papergrid_values.specs.declared.position.Position.{Position}
 use Rattle.papergrid_values.specs.Positions.{IsBefore}
-use Rattle.papergrid_maps.specs.Grids.{Grid}
 use Rattle.papergrid_config.specs.Grids.{spanned_grid}
-use Rattle.papergrid_layout.specs.Places.{HasPlace, IsFirstOver, IsPlaced, StandsOver, extent, offset}
+use Rattle.papergrid_layout.specs.Places.{HasPlace, IsFirstOver, IsPlaced, StandsOver, TableView, extent, offset}
 use Rattle.papergrid_layout.specs.declared.placement.Place.{Place}
 use Rattle.papergrid_layout.specs.declared.placement.PlaceError.{PlaceError}
 use Rattle.papergrid_layout.specs.declared.placement.PlaceError.TheVariants.{Hidden, OutOfTable, TooLarge}
@@ -57,9 +56,9 @@ module _ (size : ℕ → ℕ) (line : ℕ → Bool) (s n x : ℕ) (from : offset
       let ends : offset size line s + extent size line s n ≤ offset size line count = extent-before size line s n count inside in
       omega arith
 
-module _ (grid : Grid) (widths heights : ℕ → ℕ) (shape : ℕ × ℕ) where
+module _ (table : TableView) where
   -- what is refused has no place
-  pub refused-none : (p : Position) (error : PlaceError) (place : Place) → IsPlaced grid widths heights shape p (Err error) → HasPlace grid widths heights shape p place → ⊥
+  pub refused-none : (p : Position) (error : PlaceError) (place : Place) → IsPlaced table p (Err error) → HasPlace table p place → ⊥
   refused-none p Hidden place refused has = false≢true (sym refused ∙ has.inside.visible)
   refused-none p OutOfTable place refused has = elim refused.1 [
     | inl out ↦ omega (arith, out, has.inside.across)
@@ -72,28 +71,28 @@ module _ (grid : Grid) (widths heights : ℕ → ℕ) (shape : ℕ × ℕ) where
 
   module _ (x y : ℕ) where
     abbrev Over : Position → Type 0
-    Over = StandsOver grid widths heights shape x y
+    Over = StandsOver table x y
 
     -- the numbers whose stretches the point lies in are those of a position in the rectangle of each cell that stands over it
     pub over-within : (r c : ℕ) →
-        (r < shape.0) × (offset heights (grid.draws Rows shape.0) r ≤ y) × (y < offset heights (grid.draws Rows shape.0) (r + 1)) →
-        (c < shape.1) × (offset widths (grid.draws Columns shape.1) c ≤ x) × (x < offset widths (grid.draws Columns shape.1) (c + 1)) →
-        (q : Position) → Over q → IsInRectangle (grid.span Columns) (grid.span Rows) q (record { row = r; col = c })
+        (r < table.shape.0) × (offset table.heights (table.grid.draws Rows table.shape.0) r ≤ y) × (y < offset table.heights (table.grid.draws Rows table.shape.0) (r + 1)) →
+        (c < table.shape.1) × (offset table.widths (table.grid.draws Columns table.shape.1) c ≤ x) × (x < offset table.widths (table.grid.draws Columns table.shape.1) (c + 1)) →
+        (q : Position) → Over q → IsInRectangle (table.grid.span Columns) (table.grid.span Rows) q (record { row = r; col = c })
     over-within r c down across q over =
-        let high = number-within heights (grid.draws Rows shape.0) q.row (grid.span Rows q) y over.covers.below_top over.covers.above_bottom r (down.1, down.2) in
-        let wide = number-within widths (grid.draws Columns shape.1) q.col (grid.span Columns q) x over.covers.after_left over.covers.before_right c (across.1, across.2) in
+        let high = number-within table.heights (table.grid.draws Rows table.shape.0) q.row (table.grid.span Rows q) y over.covers.below_top over.covers.above_bottom r (down.1, down.2) in
+        let wide = number-within table.widths (table.grid.draws Columns table.shape.1) q.col (table.grid.span Columns q) x over.covers.after_left over.covers.before_right c (across.1, across.2) in
         record { below_top = high.0; above_bottom = high.1; after_left = wide.0; before_right = wide.1 }
 
-    pub none-beside : (x < offset widths (grid.draws Columns shape.1) 0) ⊎ (offset widths (grid.draws Columns shape.1) shape.1 ≤ x) → (q : Position) → Over q → ⊥
+    pub none-beside : (x < offset table.widths (table.grid.draws Columns table.shape.1) 0) ⊎ (offset table.widths (table.grid.draws Columns table.shape.1) table.shape.1 ≤ x) → (q : Position) → Over q → ⊥
     none-beside out q over =
-        none-outside widths (grid.draws Columns shape.1) q.col (grid.span Columns q) x over.covers.after_left over.covers.before_right shape.1 over.placed.inside.across out
+        none-outside table.widths (table.grid.draws Columns table.shape.1) q.col (table.grid.span Columns q) x over.covers.after_left over.covers.before_right table.shape.1 over.placed.inside.across out
 
-    pub none-beyond : (y < offset heights (grid.draws Rows shape.0) 0) ⊎ (offset heights (grid.draws Rows shape.0) shape.0 ≤ y) → (q : Position) → Over q → ⊥
+    pub none-beyond : (y < offset table.heights (table.grid.draws Rows table.shape.0) 0) ⊎ (offset table.heights (table.grid.draws Rows table.shape.0) table.shape.0 ≤ y) → (q : Position) → Over q → ⊥
     none-beyond out q over =
-        none-outside heights (grid.draws Rows shape.0) q.row (grid.span Rows q) y over.covers.below_top over.covers.above_bottom shape.0 over.placed.inside.down out
+        none-outside table.heights (table.grid.draws Rows table.shape.0) q.row (table.grid.span Rows q) y over.covers.below_top over.covers.above_bottom table.shape.0 over.placed.inside.down out
 
     -- the one position whose cell may stand over the point, if it does
     pub one-tested : (p : Position) (test : Bool) → (IsTrue test ↔ Over p) → ((q : Position) → Over q → q ≢ p → ⊥) →
-        IsFirstOver grid widths heights shape x y (then_some test p)
+        IsFirstOver table x y (then_some test p)
     one-tested p true says alone = (says.0 refl, λ q over before. alone q over (not-before p q before))
     one-tested p false says alone = λ q over. alone q over (λ e. false≢true (says.1 (subst Over e over)))

@@ -2,5 +2,6 @@
 pub mod Answers
 pub mod Laws
 pub mod Places
+pub mod Tables
 pub mod Witnesses
 pub mod ForProofs

@@ -11,6 +11,8 @@ use Rattle.papergrid_values.specs.Lines.{all_lines}
 use Rattle.papergrid_maps.specs.Spans.{IsInRectangle}
 use Rattle.papergrid_walk.specs.Cells.{count_along, side}
 use Rattle.papergrid_maps.specs.Grids.{Grid}
+use Rattle.papergrid_config.specs.Grids.{spanned_grid}
+use Rattle.papergrid_config.specs.declared.spanned.SpannedConfig.{SpannedConfig}
 use Rattle.papergrid_layout.specs.declared.placement.Place.{Place}
 use Rattle.papergrid_layout.specs.declared.placement.PlaceError.{PlaceError}
 use Rattle.papergrid_layout.specs.declared.placement.PlaceError.TheVariants.{Hidden, OutOfTable, TooLarge}
@@ -32,6 +34,19 @@ module _ (size : ℕ → ℕ) (line : ℕ → Bool) where
   abbrev pub total : ℕ → ℕ
   total count = sum_from size 0 count + all_lines line count
 
+  -- where the line at i stands, if it is drawn: after the sizes and the lines before it
+  abbrev pub line_offset : ℕ → ℕ
+  line_offset i = sum_from size 0 i + count_by line (range_with_len 0 i)
+
+  -- of so many, number i covers a point
+  abbrev pub IsInTrack : ℕ → ℕ → ℕ → Type 0
+  IsInTrack count x i = (i < count) × (offset i ≤ x) × (x < offset i + size i)
+
+  -- the number that covers a point, or none does
+  abbrev pub IsTrackAt : ℕ → ℕ → Option ℕ → Type 0
+  IsTrackAt count x None = (i : ℕ) → IsInTrack count x i → ⊥
+  IsTrackAt count x (Some i) = IsInTrack count x i
+
 -- the total, or too large where it is past the greatest `usize`
 abbrev pub IsTotalOf : ℕ → Result ℕ LayoutError → Type 0
 IsTotalOf total (Ok answer) = answer ≡ total
@@ -50,23 +65,48 @@ pub record Covers (place : Place) (x y : ℕ) : Type 0 where
   pub above_bottom : y < place.top + place.height
 
 -- a table: what is read of its configuration, its widths and heights, and its shape (rows, columns)
-module _ (grid : Grid) (widths heights : ℕ → ℕ) (shape : ℕ × ℕ) where
-  -- how many columns (rows) it has
-  abbrev pub shape_along : Direction → ℕ
-  shape_along direction = count_along direction shape.1 shape.0
+pub record TableView : Type 0 where
+  pub grid : Grid
+  pub widths : ℕ → ℕ
+  pub heights : ℕ → ℕ
+  pub shape : ℕ × ℕ
+
+-- the table of these
+abbrev pub table_of : Grid → (ℕ → ℕ) → (ℕ → ℕ) → ℕ × ℕ → TableView
+table_of grid widths heights shape = record { grid = grid; widths = widths; heights = heights; shape = shape }
+
+-- by a configuration
+abbrev pub table_by : SpannedConfig → (ℕ → ℕ) → (ℕ → ℕ) → ℕ × ℕ → TableView
+table_by config = table_of (spanned_grid config)
+
+-- with sizes as lists
+abbrev pub sized_table : Grid → List ℕ → List ℕ → ℕ × ℕ → TableView
+sized_table grid widths heights = table_of grid (slice_index widths) (slice_index heights)
+
+module _ (table : TableView) where
+  -- how many tracks of a direction it has: columns, or rows
+  abbrev pub track_count : Direction → ℕ
+  track_count direction = count_along direction table.shape.1 table.shape.0
+
+  -- the widths of its columns (the heights of its rows)
+  abbrev pub track_size : Direction → ℕ → ℕ
+  track_size direction = size_along table.widths table.heights direction
+
+  -- where lines are drawn
+  abbrev pub track_line : Direction → ℕ → Bool
+  track_line direction = table.grid.draws direction (track_count direction)
 
   -- its total along a direction
   abbrev pub total_along : Direction → ℕ
-  total_along direction = total (size_along widths heights direction) (grid.draws direction (shape_along direction)) (shape_along direction)
+  total_along direction = total (track_size direction) (track_line direction) (track_count direction)
 
   -- where the cell at a position begins along a direction
   abbrev pub begin_along : Direction → Position → ℕ
-  begin_along direction p = offset (size_along widths heights direction) (grid.draws direction (shape_along direction)) (along direction p)
+  begin_along direction p = offset (track_size direction) (track_line direction) (along direction p)
 
   -- how long it is
   abbrev pub length_along : Direction → Position → ℕ
-  length_along direction p =
-      extent (size_along widths heights direction) (grid.draws direction (shape_along direction)) (along direction p) (grid.span direction p)
+  length_along direction p = extent (track_size direction) (track_line direction) (along direction p) (table.grid.span direction p)
 
   -- its place
   abbrev pub place_at : Position → Place
@@ -83,13 +123,13 @@ module _ (grid : Grid) (widths heights : ℕ → ℕ) (shape : ℕ × ℕ) where
 
   -- its range ends past the last column (row)
   abbrev pub ReachesOut : Position → Direction → Type 0
-  ReachesOut p direction = shape_along direction < along direction p + grid.span direction p
+  ReachesOut p direction = track_count direction < along direction p + table.grid.span direction p
 
   -- it is visible, and reaches out in neither direction
   pub record IsInside (p : Position) : Type 0 where
-    pub visible : grid.shows p ≡ true
-    pub across : p.col + grid.span Columns p ≤ shape.1
-    pub down : p.row + grid.span Rows p ≤ shape.0
+    pub visible : table.grid.shows p ≡ true
+    pub across : p.col + table.grid.span Columns p ≤ table.shape.1
+    pub down : p.row + table.grid.span Rows p ≤ table.shape.0
 
   -- it has this place, in a table whose totals fit
   pub record HasPlace (p : Position) (place : Place) : Type 0 where
@@ -100,15 +140,15 @@ module _ (grid : Grid) (widths heights : ℕ → ℕ) (shape : ℕ × ℕ) where
   -- its place, or why it has none: it is hidden, else it reaches out, else a total is past the greatest `usize`
   abbrev pub IsPlaced : Position → Result Place PlaceError → Type 0
   IsPlaced p (Ok place) = HasPlace p place
-  IsPlaced p (Err Hidden) = grid.shows p ≡ false
-  IsPlaced p (Err OutOfTable) = (grid.shows p ≡ true) × (ReachesOut p Columns ⊎ ReachesOut p Rows)
+  IsPlaced p (Err Hidden) = table.grid.shows p ≡ false
+  IsPlaced p (Err OutOfTable) = (table.grid.shows p ≡ true) × (ReachesOut p Columns ⊎ ReachesOut p Rows)
   IsPlaced p (Err TooLarge) = IsInside p × ((2 ^ 64 ≤ total_along Columns) ⊎ (2 ^ 64 ≤ total_along Rows))
 
   -- a visible position of the table
   pub record IsVisibleCell (p : Position) : Type 0 where
-    pub visible : grid.shows p ≡ true
-    pub row_in : p.row < shape.0
-    pub col_in : p.col < shape.1
+    pub visible : table.grid.shows p ≡ true
+    pub row_in : p.row < table.shape.0
+    pub col_in : p.col < table.shape.1
 
   -- all visible positions of the table with their places, by row and then by column
   pub record HaveAllPlaces (list : List (Position × Place)) : Type 0 where
@@ -147,10 +187,9 @@ abbrev pub HaveNoneInCommon : Grid → Position → Position → Type 0
 HaveNoneInCommon grid p q =
     (r : Position) → IsInRectangle (grid.span Columns) (grid.span Rows) p r → IsInRectangle (grid.span Columns) (grid.span Rows) q r → ⊥
 
-module _ {C : Type 0} (grid : Grid) (measure : C → ℕ × ℕ) (shape : ℕ × ℕ) (widths heights : List ℕ) where
-  -- the cell has a place, which is at least as wide and as high as its measure with its paddings
-  pub record HasRoomAtPlace (cell : Position × C) : Type 0 where
-    pub place : Place
-    pub is_placed : IsPlaced grid (slice_index widths) (slice_index heights) shape cell.0 (Ok place)
-    pub wide_enough : side Columns (measure cell.1) + grid.before Columns cell.0 + grid.after Columns cell.0 ≤ place.width
-    pub high_enough : side Rows (measure cell.1) + grid.before Rows cell.0 + grid.after Rows cell.0 ≤ place.height
+-- the cell has a place, which is at least as wide and as high as its measure with its paddings
+pub record HasRoomAtPlace {C : Type 0} (table : TableView) (measure : C → ℕ × ℕ) (cell : Position × C) : Type 0 where
+  pub place : Place
+  pub is_placed : IsPlaced table cell.0 (Ok place)
+  pub wide_enough : side Columns (measure cell.1) + table.grid.before Columns cell.0 + table.grid.after Columns cell.0 ≤ place.width
+  pub high_enough : side Rows (measure cell.1) + table.grid.before Rows cell.0 + table.grid.after Rows cell.0 ≤ place.height

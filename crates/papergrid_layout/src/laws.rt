@@ -1,6 +1,6 @@
 //! Laws of the definitions, each the contract of a function that does nothing.
 
-ghost use Rattle.std.specs.Prelude.{◌≡◌, ◌≢◌, ◌↔◌, ◌+◌, ◌≤◌, ◌<◌, ◌^◌, ℕ, All, AllPairs, Contains, Err, List, length, map, slice_index, true};
+ghost use Rattle.std.specs.Prelude.{◌≡◌, ◌≢◌, ◌↔◌, ◌+◌, ◌≤◌, ◌<◌, ◌^◌, ℕ, All, AllPairs, Contains, Err, List, length, map, true};
 ghost use Rattle.std.specs.Borrow.{Bor};
 ghost use Rattle.papergrid_values.specs.declared.position.Position.{Position};
 ghost use Rattle.papergrid_values.specs.Positions.{IsBefore};
@@ -21,7 +21,7 @@ ghost use Rattle.papergrid_config.specs.Grids.{spanned_grid};
 ghost use Rattle.papergrid_walk.specs.Measures.{cell_measure, line_measure};
 ghost use Rattle.papergrid_layout.specs.Answers.{AreBothLeast, AreBothSizes, HoldAlong, first_out_of_table};
 ghost use Rattle.papergrid_layout.specs.Laws.{AreReordered, AreSwapped, HaveRoom, IsCellAt, IsNewText, TellTheSame, sizes_told};
-ghost use Rattle.papergrid_layout.specs.Places.{DoNotMeet, HasRoomAtPlace, HaveNoneInCommon, IsInside, IsPlaced, StandsOver, place_at, total_along};
+ghost use Rattle.papergrid_layout.specs.Places.{DoNotMeet, HasRoomAtPlace, HaveNoneInCommon, IsInside, IsPlaced, StandsOver, TableView, place_at, sized_table, total_along};
 ghost use Rattle.papergrid_axis.specs.declared.error.LayoutError.{LayoutError};
 ghost use Rattle.papergrid_layout.specs.declared.placement.Place.{Place};
 ghost use Rattle.papergrid_layout.specs.declared.placement.PlaceError.{PlaceError};
@@ -152,16 +152,16 @@ pub fn equal_where_same()
 
 /// The places of two cells of one table whose rectangles have no position in common do not meet.
 pub fn places_apart()
-    ensures { (grid : Grid) (widths heights : ℕ → ℕ) (shape : ℕ × ℕ) (p q : Position) →
-        HaveNoneInCommon grid p q → DoNotMeet (place_at grid widths heights shape p) (place_at grid widths heights shape q) }
+    ensures { (table : TableView) (p q : Position) →
+        HaveNoneInCommon table.grid p q → DoNotMeet (place_at table p) (place_at table q) }
 {}
 
 /// A point stands under one cell alone where that cell shares no position with any other one that lies in
 /// the table.
 pub fn points_in_one_cell()
-    ensures { (grid : Grid) (widths heights : ℕ → ℕ) (shape : ℕ × ℕ) (x y : ℕ) (p : Position) → StandsOver grid widths heights shape x y p →
-        ((q : Position) → IsInside grid widths heights shape q → q ≢ p → HaveNoneInCommon grid p q) →
-        (q : Position) → StandsOver grid widths heights shape x y q → q ≡ p }
+    ensures { (table : TableView) (x y : ℕ) (p : Position) → StandsOver table x y p →
+        ((q : Position) → IsInside table q → q ≢ p → HaveNoneInCommon table.grid p q) →
+        (q : Position) → StandsOver table x y q → q ≡ p }
 {}
 
 /// With any sizes along both directions that have room, by shares and least ones among them, each visible cell has a
@@ -170,13 +170,14 @@ pub fn points_in_one_cell()
 pub fn places_have_room<C>()
     ensures room { (grid : Grid) (measure : C → ℕ × ℕ) (columns : ℕ) (rows : List (List C)) (widths heights : List ℕ) →
         HoldAlong grid measure columns rows HaveRoom widths heights →
-        All (HasRoomAtPlace grid measure (length rows, columns) widths heights) (visible_cells grid rows) }
+        All (HasRoomAtPlace (sized_table grid widths heights (length rows, columns)) measure)
+        (visible_cells grid rows) }
     ensures never_too_large { (grid : Grid) (measure : C → ℕ × ℕ) (columns : ℕ) (rows : List (List C)) (widths heights : List ℕ) →
         HoldAlong grid measure columns rows HaveRoom widths heights → (p : Position) →
-        IsPlaced grid (slice_index widths) (slice_index heights) (length rows, columns) p (Err TooLarge) → ⊥ }
+        IsPlaced (sized_table grid widths heights (length rows, columns)) p (Err TooLarge) → ⊥ }
     ensures fit { (grid : Grid) (measure : C → ℕ × ℕ) (columns : ℕ) (rows : List (List C)) (widths heights : List ℕ) →
         HoldAlong grid measure columns rows HaveRoom widths heights → (direction : Direction) →
-        total_along grid (slice_index widths) (slice_index heights) (length rows, columns) direction < 2 ^ 64 }
+        total_along (sized_table grid widths heights (length rows, columns)) direction < 2 ^ 64 }
     ensures shares { (grid : Grid) (measure : C → ℕ × ℕ) (columns : ℕ) (rows : List (List C)) (widths heights : List ℕ) →
         AreBothSizes grid measure columns rows widths heights → HoldAlong grid measure columns rows HaveRoom widths heights }
     ensures least { (grid : Grid) (measure : C → ℕ × ℕ) (columns : ℕ) (rows : List (List C)) (widths heights : List ℕ) →
@@ -184,9 +185,9 @@ pub fn places_have_room<C>()
     ensures totals { (grid : Grid) (measure : C → ℕ × ℕ) (columns : ℕ) (rows : List (List C)) (widths heights : List ℕ) →
         AreBothSizes grid measure columns rows widths heights → (direction : Direction) (total : ℕ) →
         IsTotal (problem_of grid measure columns rows direction) total
-        ↔ (total ≡ total_along grid (slice_index widths) (slice_index heights) (length rows, columns) direction) }
+        ↔ (total ≡ total_along (sized_table grid widths heights (length rows, columns)) direction) }
     ensures least_totals { (grid : Grid) (measure : C → ℕ × ℕ) (columns : ℕ) (rows : List (List C)) (widths heights : List ℕ) →
         AreBothLeast grid measure columns rows widths heights → (direction : Direction) (total : ℕ) →
         IsLeastTotal (problem_of grid measure columns rows direction) total
-        ↔ (total ≡ total_along grid (slice_index widths) (slice_index heights) (length rows, columns) direction) }
+        ↔ (total ≡ total_along (sized_table grid widths heights (length rows, columns)) direction) }
 {}

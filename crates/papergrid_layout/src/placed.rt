@@ -1,8 +1,7 @@
 //! The place of one cell.
 
 ghost use Rattle.std.specs.Prelude.{◌<◌, ℕ, IfOk};
-ghost use Rattle.papergrid_config.specs.Grids.{spanned_grid};
-ghost use Rattle.papergrid_layout.specs.Places.{EndsWithin, IsPlaced};
+ghost use Rattle.papergrid_layout.specs.Places.{EndsWithin, IsPlaced, table_by};
 
 use crate::dimension::Dimension;
 use crate::placement::{Place, PlaceError};
@@ -29,8 +28,10 @@ pub fn place<D: Dimension>(
 ) -> Result<Place, PlaceError>
     requires columns { (column : ℕ) → column < shape.1 → D.has_column dim.now column }
     requires rows { (row : ℕ) → row < shape.0 → D.has_row dim.now row }
-    ensures exact { IsPlaced (spanned_grid cfg.now) (D.width_of dim.now) (D.height_of dim.now) shape pos result }
-    ensures within { IfOk result (EndsWithin (spanned_grid cfg.now) (D.width_of dim.now) (D.height_of dim.now) shape) }
+    ensures exact { let table = table_by cfg.now (D.width_of dim.now) (D.height_of dim.now) shape in
+        IsPlaced table pos result }
+    ensures within { let table = table_by cfg.now (D.width_of dim.now) (D.height_of dim.now) shape in
+        IfOk result (EndsWithin table) }
 {
     let (rows, columns) = shape;
     let across = Ruler::new(dim, cfg, Direction::Columns, columns);

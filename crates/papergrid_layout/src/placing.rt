@@ -1,22 +1,19 @@
 //! The places of all visible cells.
 
 ghost use Rattle.std.specs.Prelude.{◌≡◌, ◌+◌, ◌-◌, ◌<◌, ◌≤◌, ◌^◌, ◌⊎◌, [], ℕ, All, IfErr, IfOk};
-ghost use Rattle.std.specs.Option.{SomeIff};
 ghost use Rattle.std.specs.Result.{IsOkAnd};
 ghost use Rattle.papergrid_values.specs.declared.direction.Direction.{Direction};
-ghost use Rattle.papergrid_config.specs.Grids.{spanned_grid};
-ghost use Rattle.papergrid_walk.specs.ForProofs.Shown.{anchor_in};
-ghost use Rattle.papergrid_layout.specs.Places.{ArePlacesRefused, EndsWithin, HaveAllPlaces, place_at, total_along};
-ghost use Rattle.papergrid_layout.specs.ForProofs.Placing.{AreMarked, HasPlaced, Table, table_of};
+ghost use Rattle.papergrid_layout.specs.Places.{ArePlacesRefused, EndsWithin, HaveAllPlaces, TableView, table_by, total_along};
+ghost use Rattle.papergrid_layout.specs.ForProofs.Placing.{HasPlaced};
 
 use crate::dimension::Dimension;
-use crate::marks::Marks;
+use crate::marks::{Marks, place_of};
+use crate::per_direction::PerDirection;
 use crate::placed::place;
 use crate::placement::{Place, PlaceError};
 use crate::ruler::Ruler;
 use papergrid_axis::LayoutError;
 use papergrid_config::SpannedConfig;
-use papergrid_maps::Anchor;
 use papergrid_values::{Direction, Position};
 use papergrid_walk::Sweep;
 use papergrid_walk::shown::{sweep_of, visible_anchor};
@@ -26,8 +23,7 @@ use std::alloc::{AllocError, Global};
 /// their places.
 #[derive(Drop)]
 struct Placing {
-    across: Marks,
-    down: Marks,
+    marks: PerDirection<Marks>,
     sweep: Sweep,
     places: Vec<(Position, Place)>,
 }
@@ -42,52 +38,39 @@ impl Placing {
     ) -> Result<Placing, AllocError>
         requires columns { (column : ℕ) → column < shape.1 → D.has_column dim.now column }
         requires rows { (row : ℕ) → row < shape.0 → D.has_row dim.now row }
-        requires fit { (direction : Direction) → total_along (spanned_grid cfg.now) (D.width_of dim.now) (D.height_of dim.now) shape direction < 2 ^ 64 }
-        ensures { IfOk result (HasPlaced (table_of (spanned_grid cfg.now) (D.width_of dim.now) (D.height_of dim.now) shape) 0 0) }
+        requires fit { let table = table_by cfg.now (D.width_of dim.now) (D.height_of dim.now) shape in
+            (direction : Direction) → total_along table direction < 2 ^ 64 }
+        ensures { let table = table_by cfg.now (D.width_of dim.now) (D.height_of dim.now) shape in
+            IfOk result (HasPlaced table 0 0) }
     {
         let (rows, columns) = shape;
         let across = Ruler::new(dim, cfg, Direction::Columns, columns);
         let down = Ruler::new(dim, cfg, Direction::Rows, rows);
         Ok(Placing {
-            across: across.marks(alloc)?,
-            down: down.marks(alloc)?,
+            marks: PerDirection {
+                columns: across.marks(alloc)?,
+                rows: down.marks(alloc)?,
+            },
             sweep: sweep_of(alloc, cfg)?,
             places: Vec::new(alloc),
         })
     }
 
-    /// The place of a visible position, by its spans, if it lies in the table.
-    fn place_of(&self, anchor: Anchor) -> Option<Place>
-        requires spans { (1 ≤ anchor.cols) × (1 ≤ anchor.rows) }
-        requires marked { (table : Table) × AreMarked table self.now.across self.now.down }
-        ensures { (table : Table) → AreMarked table self.now.across self.now.down → anchor ≡ anchor_in table.grid anchor.position →
-            SomeIff result ((anchor.position.col + anchor.cols ≤ table.shape.1) × (anchor.position.row + anchor.rows ≤ table.shape.0))
-            (place_at table.grid table.widths table.heights table.shape anchor.position) }
-    {
-        let (left, width) = self.across.part(anchor.position.col, anchor.cols)?;
-        let (top, height) = self.down.part(anchor.position.row, anchor.rows)?;
-        Some(Place {
-            left,
-            top,
-            width,
-            height,
-        })
-    }
-
     /// Adds the position to those that it met, if that is visible.
     fn visit(&mut self, alloc: Global, pos: Position) -> Result<(), LayoutError>
-        requires placed { (table : Table) × HasPlaced table pos.row pos.col self.old }
+        requires placed { (table : TableView) × HasPlaced table pos.row pos.col self.old }
         requires row_in { pos.row < 2 ^ 64 - 1 }
         requires col_in { pos.col < 2 ^ 64 - 1 }
-        ensures ok { IfOk result (λ _. (table : Table) → HasPlaced table pos.row pos.col self.old →
+        ensures ok { IfOk result (λ _. (table : TableView) → HasPlaced table pos.row pos.col self.old →
             HasPlaced table pos.row (pos.col + 1) self.new) }
-        ensures err { IfErr result (λ error. (table : Table) → pos.row < table.shape.0 → pos.col < table.shape.1 →
-            HasPlaced table pos.row pos.col self.old → ArePlacesRefused table.grid table.widths table.heights table.shape error) }
+        ensures err { IfErr result (λ error. (table : TableView) →
+            pos.row < table.shape.0 → pos.col < table.shape.1 →
+            HasPlaced table pos.row pos.col self.old → ArePlacesRefused table error) }
     {
         let Some(anchor) = visible_anchor(&mut self.sweep, alloc, pos)? else {
             return Ok(());
         };
-        let Some(place) = self.place_of(anchor) else {
+        let Some(place) = place_of(&self.marks, anchor) else {
             return Err(LayoutError::OutOfTable(pos));
         };
         match self.places.push((pos, place)) {
@@ -98,12 +81,12 @@ impl Placing {
 
     /// Visits the positions of a row.
     fn visit_row(&mut self, alloc: Global, row: usize, columns: usize) -> Result<(), LayoutError>
-        requires placed { (table : Table) × HasPlaced table row 0 self.old }
+        requires placed { (table : TableView) × HasPlaced table row 0 self.old }
         requires row_in { row < 2 ^ 64 - 1 }
-        ensures ok { IfOk result (λ _. (table : Table) → columns ≡ table.shape.1 → HasPlaced table row 0 self.old →
-            HasPlaced table (row + 1) 0 self.new) }
-        ensures err { IfErr result (λ error. (table : Table) → row < table.shape.0 → columns ≡ table.shape.1 →
-            HasPlaced table row 0 self.old → ArePlacesRefused table.grid table.widths table.heights table.shape error) }
+        ensures ok { IfOk result (λ _. (table : TableView) → columns ≡ table.shape.1 →
+            HasPlaced table row 0 self.old → HasPlaced table (row + 1) 0 self.new) }
+        ensures err { IfErr result (λ error. (table : TableView) → row < table.shape.0 →
+            columns ≡ table.shape.1 → HasPlaced table row 0 self.old → ArePlacesRefused table error) }
     {
         for col in 0..columns {
             self.visit(alloc, Position { row, col })?;
@@ -113,11 +96,11 @@ impl Placing {
 
     /// Visits all rows of a table of the shape (rows, columns).
     fn visit_rows(&mut self, alloc: Global, shape: (usize, usize)) -> Result<(), LayoutError>
-        requires placed { (table : Table) × (shape ≡ table.shape) × HasPlaced table 0 0 self.old }
-        ensures ok { IfOk result (λ _. (table : Table) → shape ≡ table.shape → HasPlaced table 0 0 self.old →
-            HaveAllPlaces table.grid table.widths table.heights table.shape self.new.places.items) }
-        ensures err { IfErr result (λ error. (table : Table) → shape ≡ table.shape → HasPlaced table 0 0 self.old →
-            ArePlacesRefused table.grid table.widths table.heights table.shape error) }
+        requires placed { (table : TableView) × (shape ≡ table.shape) × HasPlaced table 0 0 self.old }
+        ensures ok { IfOk result (λ _. (table : TableView) → shape ≡ table.shape →
+            HasPlaced table 0 0 self.old → HaveAllPlaces table self.new.places.items) }
+        ensures err { IfErr result (λ error. (table : TableView) → shape ≡ table.shape →
+            HasPlaced table 0 0 self.old → ArePlacesRefused table error) }
     {
         let (rows, columns) = shape;
         for row in 0..rows {
@@ -146,10 +129,12 @@ pub fn places<D: Dimension>(
 ) -> Result<Vec<(Position, Place)>, LayoutError>
     requires columns { (column : ℕ) → column < shape.1 → D.has_column dim.now column }
     requires rows { (row : ℕ) → row < shape.0 → D.has_row dim.now row }
-    ensures ok { IfOk result (λ places. HaveAllPlaces (spanned_grid cfg.now) (D.width_of dim.now) (D.height_of dim.now) shape places.items) }
-    ensures err { IfErr result (ArePlacesRefused (spanned_grid cfg.now) (D.width_of dim.now) (D.height_of dim.now) shape) }
-    ensures within { IfOk result (λ places. All (λ x.
-        EndsWithin (spanned_grid cfg.now) (D.width_of dim.now) (D.height_of dim.now) shape x.1) places.items) }
+    ensures ok { let table = table_by cfg.now (D.width_of dim.now) (D.height_of dim.now) shape in
+        IfOk result (λ places. HaveAllPlaces table places.items) }
+    ensures err { let table = table_by cfg.now (D.width_of dim.now) (D.height_of dim.now) shape in
+        IfErr result (ArePlacesRefused table) }
+    ensures within { let table = table_by cfg.now (D.width_of dim.now) (D.height_of dim.now) shape in
+        IfOk result (λ places. All (λ x. EndsWithin table x.1) places.items) }
     ensures empty { (shape.0 ≡ 0) ⊎ (shape.1 ≡ 0) → IsOkAnd result (λ places. places.items ≡ []) }
 {
     let (rows, columns) = shape;

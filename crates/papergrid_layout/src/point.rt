@@ -2,8 +2,7 @@
 
 ghost use Rattle.std.specs.Prelude.{◌≡◌, ◌<◌, ◌≤◌, ◌↔◌, ℕ, IsTrue, MatchOption};
 ghost use Rattle.papergrid_values.specs.declared.position.Position.{Position};
-ghost use Rattle.papergrid_config.specs.Grids.{spanned_grid};
-ghost use Rattle.papergrid_layout.specs.Places.{IsFirstOver, StandsOver};
+ghost use Rattle.papergrid_layout.specs.Places.{IsFirstOver, StandsOver, table_by};
 ghost use Rattle.papergrid_layout.specs.ForProofs.Points.{LiesInEach};
 
 use crate::dimension::Dimension;
@@ -32,10 +31,12 @@ impl<'a, D: Dimension> Point<'a, D> {
         requires columns { (column : ℕ) → column < self.now.shape.1 → D.has_column self.now.dim.now column }
         requires rows { (row : ℕ) → row < self.now.shape.0 → D.has_row self.now.dim.now row }
         requires before { (pos.row ≤ self.now.within.row) × (pos.col ≤ self.now.within.col) }
-        requires reach { LiesInEach (spanned_grid self.now.cfg.now) (D.width_of self.now.dim.now) (D.height_of self.now.dim.now)
-            self.now.shape self.now.column self.now.line self.now.within }
-        ensures { IsTrue result ↔ StandsOver (spanned_grid self.now.cfg.now) (D.width_of self.now.dim.now) (D.height_of self.now.dim.now)
-            self.now.shape self.now.column self.now.line pos }
+        requires reach { let table = table_by self.now.cfg.now (D.width_of self.now.dim.now)
+            (D.height_of self.now.dim.now) self.now.shape in
+            LiesInEach table self.now.column self.now.line self.now.within }
+        ensures { let table = table_by self.now.cfg.now (D.width_of self.now.dim.now)
+            (D.height_of self.now.dim.now) self.now.shape in
+            IsTrue result ↔ StandsOver table self.now.column self.now.line pos }
     {
         if self.within.col - pos.col >= self.cfg.span(Direction::Columns, pos) {
             return false;
@@ -54,10 +55,12 @@ impl<'a, D: Dimension> Point<'a, D> {
         requires columns { (column : ℕ) → column < self.now.shape.1 → D.has_column self.now.dim.now column }
         requires rows { (row : ℕ) → row < self.now.shape.0 → D.has_row self.now.dim.now row }
         requires before { row ≤ self.now.within.row }
-        requires reach { LiesInEach (spanned_grid self.now.cfg.now) (D.width_of self.now.dim.now) (D.height_of self.now.dim.now)
-            self.now.shape self.now.column self.now.line self.now.within }
-        ensures { let IsUnder = StandsOver (spanned_grid self.now.cfg.now) (D.width_of self.now.dim.now) (D.height_of self.now.dim.now)
-            self.now.shape self.now.column self.now.line in
+        requires reach { let table = table_by self.now.cfg.now (D.width_of self.now.dim.now)
+            (D.height_of self.now.dim.now) self.now.shape in
+            LiesInEach table self.now.column self.now.line self.now.within }
+        ensures { let table = table_by self.now.cfg.now (D.width_of self.now.dim.now)
+            (D.height_of self.now.dim.now) self.now.shape in
+            let IsUnder = StandsOver table self.now.column self.now.line in
             MatchOption result ((q : Position) → q.row ≡ row → IsUnder q → ⊥)
             (λ p. (p.row ≡ row) × IsUnder p × ((q : Position) → q.row ≡ row → q.col < p.col → IsUnder q → ⊥)) }
     {
@@ -74,10 +77,12 @@ impl<'a, D: Dimension> Point<'a, D> {
     fn first(&self) -> Option<Position>
         requires columns { (column : ℕ) → column < self.now.shape.1 → D.has_column self.now.dim.now column }
         requires rows { (row : ℕ) → row < self.now.shape.0 → D.has_row self.now.dim.now row }
-        requires reach { LiesInEach (spanned_grid self.now.cfg.now) (D.width_of self.now.dim.now) (D.height_of self.now.dim.now)
-            self.now.shape self.now.column self.now.line self.now.within }
-        ensures { IsFirstOver (spanned_grid self.now.cfg.now) (D.width_of self.now.dim.now) (D.height_of self.now.dim.now)
-            self.now.shape self.now.column self.now.line result }
+        requires reach { let table = table_by self.now.cfg.now (D.width_of self.now.dim.now)
+            (D.height_of self.now.dim.now) self.now.shape in
+            LiesInEach table self.now.column self.now.line self.now.within }
+        ensures { let table = table_by self.now.cfg.now (D.width_of self.now.dim.now)
+            (D.height_of self.now.dim.now) self.now.shape in
+            IsFirstOver table self.now.column self.now.line result }
     {
         for row in 0..=self.within.row {
             let found = self.first_in_row(row);
@@ -105,7 +110,8 @@ pub fn cell_at<D: Dimension>(
 ) -> Option<Position>
     requires columns { (column : ℕ) → column < shape.1 → D.has_column dim.now column }
     requires rows { (row : ℕ) → row < shape.0 → D.has_row dim.now row }
-    ensures { IsFirstOver (spanned_grid cfg.now) (D.width_of dim.now) (D.height_of dim.now) shape column line result }
+    ensures { let table = table_by cfg.now (D.width_of dim.now) (D.height_of dim.now) shape in
+        IsFirstOver table column line result }
 {
     let (rows, columns) = shape;
     let across = Ruler::new(dim, cfg, Direction::Columns, columns);

@@ -26,7 +26,12 @@ pub struct Ruler<'a, D, S> {
 impl<'a, D: Dimension, S: ConfigView> Ruler<'a, D, S> {
     /// Of so many columns (rows), by these sizes and settings.
     pub fn new(dim: &'a D, settings: &'a S, direction: Direction, count: usize) -> Ruler<'a, D, S>
-        ensures { result ≡ record { dim = dim.entry; settings = settings.entry; direction = direction; count = count } }
+        ensures { result ≡ record {
+          dim = dim.entry;
+          settings = settings.entry;
+          direction = direction;
+          count = count;
+        } }
     {
         Ruler {
             dim,
@@ -39,7 +44,8 @@ impl<'a, D: Dimension, S: ConfigView> Ruler<'a, D, S> {
     /// The width of a column, or the height of a row.
     fn size(&self, i: usize) -> usize
         requires { has_along (D.has_column self.now.dim.now) (D.has_row self.now.dim.now) self.now.direction i }
-        ensures { result ≡ size_along (D.width_of self.now.dim.now) (D.height_of self.now.dim.now) self.now.direction i }
+        ensures { result ≡ size_along (D.width_of self.now.dim.now) (D.height_of self.now.dim.now)
+            self.now.direction i }
     {
         match self.direction {
             Direction::Columns => self.dim.get_width(i),
@@ -49,7 +55,8 @@ impl<'a, D: Dimension, S: ConfigView> Ruler<'a, D, S> {
 
     /// What the line at `i` takes: 1 where it is drawn.
     fn line(&self, i: usize) -> usize
-        ensures { result ≡ cond ((S.grid self.now.settings.now).draws self.now.direction self.now.count i) 1 0 }
+        ensures { let line = (S.grid self.now.settings.now).draws self.now.direction self.now.count in
+            result ≡ cond (line i) 1 0 }
     {
         if self.settings.has_line(self.direction, self.count, i) {
             1
@@ -63,10 +70,14 @@ impl<'a, D: Dimension, S: ConfigView> Ruler<'a, D, S> {
         requires order { start ≤ end }
         requires sizes { (i : ℕ) → i < end →
             has_along (D.has_column self.now.dim.now) (D.has_row self.now.dim.now) self.now.direction i }
-        requires from { let size = size_along (D.width_of self.now.dim.now) (D.height_of self.now.dim.now) self.now.direction in
-            from ≡ offset size ((S.grid self.now.settings.now).draws self.now.direction self.now.count) start }
-        ensures { let size = size_along (D.width_of self.now.dim.now) (D.height_of self.now.dim.now) self.now.direction in
-            let found = offset size ((S.grid self.now.settings.now).draws self.now.direction self.now.count) end in
+        requires from { let size = size_along (D.width_of self.now.dim.now)
+            (D.height_of self.now.dim.now) self.now.direction in
+            let line = (S.grid self.now.settings.now).draws self.now.direction self.now.count in
+            from ≡ offset size line start }
+        ensures { let size = size_along (D.width_of self.now.dim.now)
+            (D.height_of self.now.dim.now) self.now.direction in
+            let line = (S.grid self.now.settings.now).draws self.now.direction self.now.count in
+            let found = offset size line end in
             SomeIff result (found < 2 ^ 64) found }
     {
         let mut offset = from;
@@ -79,7 +90,8 @@ impl<'a, D: Dimension, S: ConfigView> Ruler<'a, D, S> {
 
     /// Whether the range of the cell at a position ends past the last column (row).
     pub fn reaches_out(&self, pos: Position) -> bool
-        ensures { result ≡ nat_lt self.now.count (along self.now.direction pos + (S.grid self.now.settings.now).span self.now.direction pos) }
+        ensures { let span = (S.grid self.now.settings.now).span self.now.direction pos in
+            result ≡ nat_lt self.now.count (along self.now.direction pos + span) }
     {
         let start = self.direction.number_of(pos);
         let span = self.settings.span(self.direction, pos);
@@ -88,14 +100,17 @@ impl<'a, D: Dimension, S: ConfigView> Ruler<'a, D, S> {
 
     /// Where the cell at a position begins and how long it is, if the total of all sizes and lines fits.
     pub fn part(&self, pos: Position) -> Option<(usize, usize)>
-        requires inside { along self.now.direction pos + (S.grid self.now.settings.now).span self.now.direction pos ≤ self.now.count }
+        requires inside { let span = (S.grid self.now.settings.now).span self.now.direction pos in
+            along self.now.direction pos + span ≤ self.now.count }
         requires sizes { (i : ℕ) → i < self.now.count →
             has_along (D.has_column self.now.dim.now) (D.has_row self.now.dim.now) self.now.direction i }
-        ensures { let size = size_along (D.width_of self.now.dim.now) (D.height_of self.now.dim.now) self.now.direction in
+        ensures { let size = size_along (D.width_of self.now.dim.now)
+            (D.height_of self.now.dim.now) self.now.direction in
             let line = (S.grid self.now.settings.now).draws self.now.direction self.now.count in
             let start = along self.now.direction pos in
+            let span = (S.grid self.now.settings.now).span self.now.direction pos in
             SomeIff result (total size line self.now.count < 2 ^ 64)
-            (offset size line start, extent size line start ((S.grid self.now.settings.now).span self.now.direction pos)) }
+            (offset size line start, extent size line start span) }
     {
         let count = self.count;
         let start = self.direction.number_of(pos);
@@ -110,8 +125,10 @@ impl<'a, D: Dimension, S: ConfigView> Ruler<'a, D, S> {
     pub fn total(&self) -> Option<usize>
         requires { (i : ℕ) → i < self.now.count →
             has_along (D.has_column self.now.dim.now) (D.has_row self.now.dim.now) self.now.direction i }
-        ensures { let size = size_along (D.width_of self.now.dim.now) (D.height_of self.now.dim.now) self.now.direction in
-            let found = total size ((S.grid self.now.settings.now).draws self.now.direction self.now.count) self.now.count in
+        ensures { let size = size_along (D.width_of self.now.dim.now)
+            (D.height_of self.now.dim.now) self.now.direction in
+            let line = (S.grid self.now.settings.now).draws self.now.direction self.now.count in
+            let found = total size line self.now.count in
             SomeIff result (found < 2 ^ 64) found }
     {
         self.offset_from(0, self.line(0), self.count)
@@ -121,10 +138,14 @@ impl<'a, D: Dimension, S: ConfigView> Ruler<'a, D, S> {
     pub fn marks(&self, alloc: Global) -> Result<Marks, AllocError>
         requires sizes { (i : ℕ) → i < self.now.count →
             has_along (D.has_column self.now.dim.now) (D.has_row self.now.dim.now) self.now.direction i }
-        requires fits { let size = size_along (D.width_of self.now.dim.now) (D.height_of self.now.dim.now) self.now.direction in
-            total size ((S.grid self.now.settings.now).draws self.now.direction self.now.count) self.now.count < 2 ^ 64 }
-        ensures { let size = size_along (D.width_of self.now.dim.now) (D.height_of self.now.dim.now) self.now.direction in
-            IfOk result (AreMarks size ((S.grid self.now.settings.now).draws self.now.direction self.now.count) self.now.count) }
+        requires fits { let size = size_along (D.width_of self.now.dim.now)
+            (D.height_of self.now.dim.now) self.now.direction in
+            let line = (S.grid self.now.settings.now).draws self.now.direction self.now.count in
+            total size line self.now.count < 2 ^ 64 }
+        ensures { let size = size_along (D.width_of self.now.dim.now)
+            (D.height_of self.now.dim.now) self.now.direction in
+            let line = (S.grid self.now.settings.now).draws self.now.direction self.now.count in
+            IfOk result (AreMarks size line self.now.count) }
     {
         let mut begins = Vec::new(alloc);
         let mut ends = Vec::new(alloc);
@@ -143,9 +164,12 @@ impl<'a, D: Dimension, S: ConfigView> Ruler<'a, D, S> {
     pub fn number_at(&self, point: usize) -> Option<usize>
         requires sizes { (i : ℕ) → i < self.now.count →
             has_along (D.has_column self.now.dim.now) (D.has_row self.now.dim.now) self.now.direction i }
-        requires fits { let size = size_along (D.width_of self.now.dim.now) (D.height_of self.now.dim.now) self.now.direction in
-            total size ((S.grid self.now.settings.now).draws self.now.direction self.now.count) self.now.count < 2 ^ 64 }
-        ensures { let size = size_along (D.width_of self.now.dim.now) (D.height_of self.now.dim.now) self.now.direction in
+        requires fits { let size = size_along (D.width_of self.now.dim.now)
+            (D.height_of self.now.dim.now) self.now.direction in
+            let line = (S.grid self.now.settings.now).draws self.now.direction self.now.count in
+            total size line self.now.count < 2 ^ 64 }
+        ensures { let size = size_along (D.width_of self.now.dim.now)
+            (D.height_of self.now.dim.now) self.now.direction in
             let line = (S.grid self.now.settings.now).draws self.now.direction self.now.count in
             MatchOption result ((point < offset size line 0) ⊎ (offset size line self.now.count ≤ point))
             (λ i. (i < self.now.count) × (offset size line i ≤ point) × (point < offset size line (i + 1))) }

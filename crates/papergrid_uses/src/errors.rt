@@ -1,10 +1,10 @@
 //! Errors of the library as an `anyhow::Error`, by `?`.
 
-ghost use Rattle.std.specs.Prelude.{◌≡◌, All, IfOk, List, length, slice_index, true, ℕ};
+ghost use Rattle.std.specs.Prelude.{◌≡◌, All, IfOk, List, length, true, ℕ};
 ghost use Rattle.papergrid.specs.Grids.{grid_of};
 ghost use Rattle.papergrid_config.specs.Applied.{is_in_range};
 ghost use Rattle.papergrid_layout.specs.Answers.{AreBothSizes};
-ghost use Rattle.papergrid_layout.specs.Places.{HasPlace};
+ghost use Rattle.papergrid_layout.specs.Places.{HasPlace, sized_table};
 ghost use Rattle.papergrid_config.specs.Grids.{spanned_grid};
 ghost use Rattle.papergrid_uses.specs.Rows.{cells_of, text_measure};
 
@@ -28,7 +28,7 @@ pub fn place_in(
     ensures { let grid = spanned_grid config.now in
         IfOk result (λ place. (widths : List ℕ) × (heights : List ℕ)
         × AreBothSizes grid text_measure 3 (cells_of rows.now) widths heights
-        × HasPlace grid (slice_index widths) (slice_index heights) (length rows.now, 3) position place) }
+        × HasPlace (sized_table grid widths heights (length rows.now, 3)) position place) }
 {
     let mut sizes = IterGridDimension::new(alloc);
     sizes
@@ -43,7 +43,7 @@ pub fn first_place(alloc: Global, settings: Vec<Setting>, rows: &[Vec<&str>]) ->
     ensures { let grid = grid_of settings.items in
         IfOk result (λ place. (widths : List ℕ) × (heights : List ℕ)
         × AreBothSizes grid text_measure 3 (cells_of rows.now) widths heights
-        × HasPlace grid (slice_index widths) (slice_index heights) (length rows.now, 3) (record { row = 0; col = 0 }) place) }
+        × HasPlace (sized_table grid widths heights (length rows.now, 3)) (record { row = 0; col = 0 }) place) }
 {
     grid_by_settings();
     let config = told(alloc, settings)?;

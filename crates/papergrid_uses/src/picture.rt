@@ -5,9 +5,9 @@ ghost use Rattle.std.specs.Prelude.{◌+◌, ◌≤◌, IfOk};
 use anyhow::Result;
 use papergrid::config::spanned::SpannedConfig;
 use papergrid::config::{Borders, Entity, Indent, Position, Sides};
-use papergrid::dimension::iterable::IterGridDimension;
-use papergrid::dimension::{Estimate, Place, place, total_width};
+use papergrid::dimension::Place;
 use papergrid::records::IterRecords;
+use papergrid::{Sizing, Table};
 use std::alloc::Global;
 
 /// How wide a table of four columns is, and where its second row's second cell stands in it.
@@ -29,10 +29,12 @@ pub fn second_cell(alloc: Global, rows: &[Vec<&str>]) -> Result<(usize, Place)>
     let (four, one) = (Indent::spaced(4), Indent::spaced(1));
     config.set_padding(Entity::Cell(0, 0), Sides::new(four, four, one, one))?;
 
-    let mut sizes = IterGridDimension::new(alloc);
-    sizes.estimate(IterRecords::new(rows, 4, None), &config)?;
-
-    let width = total_width(&sizes, &config, 4)?;
-    let place = place(&sizes, &config, (rows.len(), 4), Position::new(1, 1))?;
-    Ok((width, place))
+    let table = Table::new(
+        alloc,
+        &config,
+        IterRecords::new(rows, 4, None),
+        Sizing::ByShares,
+    )?;
+    let place = table.place(Position::new(1, 1))?;
+    Ok((table.width(), place))
 }

@@ -5,8 +5,8 @@ use Rattle.papergrid_values.specs.declared.direction.Direction.{Direction}
 use Rattle.papergrid_values.specs.declared.position.Position.{Position}
 use Rattle.papergrid_values.specs.Lines.{all_lines}
 use Rattle.papergrid.specs.declared.estimate.Sizes.{Sizes}
-use Rattle.papergrid.specs.declared.estimate.Sizing.{Sizing}
-use Rattle.papergrid.specs.declared.estimate.Sizing.TheVariants.{ByShares, Least}
+use Rattle.papergrid_layout.specs.declared.sizing.Sizing.{Sizing}
+use Rattle.papergrid_layout.specs.declared.sizing.Sizing.TheVariants.{ByShares, Least}
 use Rattle.papergrid_axis.specs.declared.error.LayoutError.{LayoutError}
 use Rattle.papergrid_axis.specs.declared.error.LayoutError.TheVariants as layout_errors
 use Rattle.papergrid_axis.specs.Answers.{IsWitness}

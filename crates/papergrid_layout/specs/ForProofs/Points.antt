@@ -3,10 +3,9 @@ use Rattle.std.specs.Prelude.{ℕ}
 use Rattle.papergrid_values.specs.declared.position.Position.{Position}
 use Rattle.papergrid_values.specs.declared.direction.Direction.TheVariants.{Columns, Rows}
 use Rattle.papergrid_maps.specs.Spans.{IsInRectangle}
-use Rattle.papergrid_maps.specs.Grids.{Grid}
-use Rattle.papergrid_layout.specs.Places.{StandsOver}
+use Rattle.papergrid_layout.specs.Places.{StandsOver, TableView}
 
 -- a position lies in the rectangle of each cell that stands over column x of the terminal in line y
-abbrev pub LiesInEach : Grid → (ℕ → ℕ) → (ℕ → ℕ) → ℕ × ℕ → ℕ → ℕ → Position → Type 0
-LiesInEach grid widths heights shape x y within =
-    (q : Position) → StandsOver grid widths heights shape x y q → IsInRectangle (grid.span Columns) (grid.span Rows) q within
+abbrev pub LiesInEach : TableView → ℕ → ℕ → Position → Type 0
+LiesInEach table x y within =
+    (q : Position) → StandsOver table x y q → IsInRectangle (table.grid.span Columns) (table.grid.span Rows) q within

@@ -1,11 +1,12 @@
 //! Places in a table whose sizes are all alike.
 
-use crate::places::{all_places, clicked, place_of};
+use crate::places::{all_places, clicked, first_separator, place_of};
 use crate::refusals::{is_hidden, out_of_table};
 use crate::settings::one_by_one;
+use papergrid::Table;
 use papergrid::config::Position;
 use papergrid::config::spanned::SpannedConfig;
-use papergrid::dimension::{Dimension, Place};
+use papergrid::dimension::{Dimension, LayoutError, Place, cell_at, places};
 use std::alloc::Global;
 
 /// Columns that are all as wide, and rows that are all as high.
@@ -52,9 +53,19 @@ const POINTS: [((usize, usize), Option<Position>); 8] = [
     ((13, 3), None),
 ];
 
-fn are_clicked(config: &SpannedConfig) -> bool {
-    let shape = (2, 3);
-    POINTS.iter().all(|(point, cell)| clicked(&SIZES, config, shape, point.0, point.1) == *cell)
+/// The same sizes as a table of two rows and three columns.
+fn even_table<'a>(alloc: Global, config: &'a SpannedConfig) -> Result<Table<'a>, LayoutError> {
+    let widths = vec![in alloc; 3, 3, 3]?;
+    let heights = vec![in alloc; 1, 1]?;
+    Table::from_sizes(alloc, config, widths, heights)
+}
+
+fn are_clicked(config: &SpannedConfig, table: &Table<'_>) -> bool {
+    POINTS.iter().all(|(point, cell)| {
+        let (column, line) = *point;
+        let found = clicked(table, column, line).map(|found: (Position, Place)| found.0);
+        cell_at(&SIZES, config, (2, 3), column, line) == *cell && found == *cell
+    })
 }
 
 /// The first cell goes over two columns and the line between them, and hides the second one.
@@ -70,12 +81,12 @@ fn are_placed(config: &SpannedConfig) -> bool {
 }
 
 /// Five cells of six are visible; in a table of one column the first one reaches out.
-fn are_all_placed(alloc: Global, config: &SpannedConfig) -> bool {
-    let all = match all_places(alloc, &SIZES, config, (2, 3)) {
+fn are_all_placed(alloc: Global, config: &SpannedConfig, table: &Table<'_>) -> bool {
+    let all = match all_places(alloc, table) {
         Ok(list) => list.len(),
         Err(_) => 0,
     };
-    let refused = match all_places(alloc, &SIZES, config, (2, 1)) {
+    let refused = match places(alloc, &SIZES, config, (2, 1)) {
         Ok(_) => None,
         Err(error) => out_of_table(error),
     };
@@ -86,7 +97,15 @@ fn are_as_told(alloc: Global) -> bool {
     let Ok(config) = one_by_one(alloc) else {
         return false;
     };
-    let are = are_clicked(&config) && are_placed(&config) && are_all_placed(alloc, &config);
+    let are = match even_table(alloc, &config) {
+        Ok(table) => {
+            are_clicked(&config, &table)
+                && are_placed(&config)
+                && are_all_placed(alloc, &config, &table)
+                && first_separator(&table) == Some(4)
+        }
+        Err(_) => false,
+    };
     drop(config);
     are
 }

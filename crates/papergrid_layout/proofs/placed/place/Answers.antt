@@ -1,6 +1,7 @@
 use Rattle.std.proofs.Common.{inl, inr, sym}
 use Rattle.papergrid_values.specs.declared.direction.Direction.TheVariants.{Columns, Rows}
 use Rattle.papergrid_config.specs.Grids.{spanned_grid}
+use Rattle.papergrid_layout.specs.Places.{table_by}
 use Rattle.papergrid_layout.proofs.PlaceSums.{has-place, is-inside, too-large, within-total}
 use Rattle.papergrid_layout.proofs.placed.place.Goals as goal
 
@@ -11,20 +12,18 @@ pub part-requires-2-clause-sizes : goal.part-requires-2-clause-sizes
 part-requires-2-clause-sizes g c = rw c.new-down.ensures c.requires.rows
 
 pub returns-in_default-clause-exact : goal.returns-in_default-clause-exact
-returns-in_default-clause-exact g c =
-    let grid = spanned_grid c.args.cfg.now in (
-      is-inside grid (g.D.Dimension.width_of c.args.dim.now) (g.D.Dimension.height_of c.args.dim.now) c.args.shape c.args.pos (sym c.if-not-is_visible.ensures)
-          (rw c.new-across.ensures at c.if-reaches_out.ensures) (rw c.new-down.ensures at c.if-reaches_out-2.ensures),
-      inr (too-large c.part-2.result _ _ c.in_default.is-1 (rw c.new-down.ensures at c.part-2.ensures)),
-    )
+returns-in_default-clause-exact g c = (
+  is-inside (table_by c.args.cfg.now (g.D.Dimension.width_of c.args.dim.now) (g.D.Dimension.height_of c.args.dim.now) c.args.shape) c.args.pos (sym c.if-not-is_visible.ensures)
+      (rw c.new-across.ensures at c.if-reaches_out.ensures) (rw c.new-down.ensures at c.if-reaches_out-2.ensures),
+  inr (too-large c.part-2.result _ _ c.in_default.is-1 (rw c.new-down.ensures at c.part-2.ensures)),
+)
 
 pub returns-in_default-2-clause-exact : goal.returns-in_default-2-clause-exact
-returns-in_default-2-clause-exact g c =
-    let grid = spanned_grid c.args.cfg.now in (
-      is-inside grid (g.D.Dimension.width_of c.args.dim.now) (g.D.Dimension.height_of c.args.dim.now) c.args.shape c.args.pos (sym c.if-not-is_visible.ensures)
-          (rw c.new-across.ensures at c.if-reaches_out.ensures) (rw c.new-down.ensures at c.if-reaches_out-2.ensures),
-      inl (too-large c.part.result _ _ c.in_default.is-0 (rw c.new-across.ensures at c.part.ensures)),
-    )
+returns-in_default-2-clause-exact g c = (
+  is-inside (table_by c.args.cfg.now (g.D.Dimension.width_of c.args.dim.now) (g.D.Dimension.height_of c.args.dim.now) c.args.shape) c.args.pos (sym c.if-not-is_visible.ensures)
+      (rw c.new-across.ensures at c.if-reaches_out.ensures) (rw c.new-down.ensures at c.if-reaches_out-2.ensures),
+  inl (too-large c.part.result _ _ c.in_default.is-0 (rw c.new-across.ensures at c.part.ensures)),
+)
 
 pub returns-in-Some-Some-clause-within : goal.returns-in-Some-Some-clause-within
 returns-in-Some-Some-clause-within g c =
@@ -41,7 +40,7 @@ returns-in-Some-Some-clause-within g c =
 
 pub returns-in-Some-Some-clause-exact : goal.returns-in-Some-Some-clause-exact
 returns-in-Some-Some-clause-exact g c =
-    has-place (spanned_grid c.args.cfg.now) (g.D.Dimension.width_of c.args.dim.now) (g.D.Dimension.height_of c.args.dim.now) c.args.shape c.args.pos
+    has-place (table_by c.args.cfg.now (g.D.Dimension.width_of c.args.dim.now) (g.D.Dimension.height_of c.args.dim.now) c.args.shape) c.args.pos
     c.in-Some-Some.left c.in-Some-Some.top c.in-Some-Some.width c.in-Some-Some.height
     (sym c.if-not-is_visible.ensures) (rw c.new-across.ensures at c.if-reaches_out.ensures) (rw c.new-down.ensures at c.if-reaches_out-2.ensures)
     (rw c.new-across.ensures at c.in-Some-Some.ensures) (rw c.new-down.ensures at c.in-Some-Some.ensures')

@@ -1,6 +1,5 @@
 use Rattle.papergrid_values.specs.declared.direction.Direction.TheVariants.{Columns, Rows}
-use Rattle.papergrid_config.specs.Grids.{spanned_grid}
-use Rattle.papergrid_layout.specs.ForProofs.Placing.{table_of}
+use Rattle.papergrid_layout.specs.Places.{table_by}
 use Rattle.papergrid_layout.proofs.PlacingLemmas.{placed-none}
 use Rattle.papergrid_layout.proofs.placing.Placing.new.Goals as goal
 
@@ -18,7 +17,7 @@ marks-requires-2-clause-fits g c = rw c.new-down.ensures (c.requires.fit Rows)
 
 pub returns : goal.returns
 returns g c =
-    let table = table_of (spanned_grid c.args.cfg.now) (g.D.Dimension.width_of c.args.dim.now) (g.D.Dimension.height_of c.args.dim.now) c.args.shape in
+    let table = table_by c.args.cfg.now (g.D.Dimension.width_of c.args.dim.now) (g.D.Dimension.height_of c.args.dim.now) c.args.shape in
     record {
       fit = c.requires.fit;
       marked = record { wide = rw c.new-across.ensures at c.in_ok-marks.ensures; high = rw c.new-down.ensures at c.in_ok-marks-2.ensures };

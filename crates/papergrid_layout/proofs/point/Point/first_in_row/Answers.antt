@@ -1,8 +1,7 @@
 use Rattle.std.proofs.Common.{◌∙◌, ◌≤◌, arith, inl, inr, subst, sym}
 use Rattle.std.proofs.lemmas.Bool.{cases_lt, false≢true}
 use Rattle.papergrid_maps.proofs.HiddenLemmas.{position-same}
-use Rattle.papergrid_config.specs.Grids.{spanned_grid}
-use Rattle.papergrid_layout.specs.Places.{StandsOver}
+use Rattle.papergrid_layout.specs.Places.{StandsOver, table_by}
 use Rattle.papergrid_layout.proofs.point.Point.first_in_row.Goals as goal
 
 pub loop-col-preserved : goal.loop-col-preserved
@@ -11,7 +10,7 @@ loop-col-preserved g c = λ q same below over.
     elim (cases_lt q.col c.loop-col.col) [
       | inl left ↦ c.loop-col.invariant q same left over
       | inr from ↦ false≢true (sym c.if-is_under.false ∙ c.is_under.ensures.1
-          (subst (StandsOver (spanned_grid point.cfg.now) (g.D.Dimension.width_of point.dim.now) (g.D.Dimension.height_of point.dim.now) point.shape point.column point.line)
+          (subst (StandsOver (table_by point.cfg.now (g.D.Dimension.width_of point.dim.now) (g.D.Dimension.height_of point.dim.now) point.shape) point.column point.line)
           (position-same q (record { row = c.args.row; col = c.loop-col.col }) same (omega arith)) over))
     ]
 
@@ -22,6 +21,6 @@ returns-else-is_under g c = λ q same over.
     elim (cases_lt q.col c.loop-col.col) [
       | inl left ↦ c.loop-col.invariant q same left over
       | inr from ↦ false≢true (sym c.if-is_under.false ∙ c.is_under.ensures.1
-          (subst (StandsOver (spanned_grid point.cfg.now) (g.D.Dimension.width_of point.dim.now) (g.D.Dimension.height_of point.dim.now) point.shape point.column point.line)
+          (subst (StandsOver (table_by point.cfg.now (g.D.Dimension.width_of point.dim.now) (g.D.Dimension.height_of point.dim.now) point.shape) point.column point.line)
           (position-same q (record { row = c.args.row; col = c.loop-col.col }) same (omega arith)) over))
     ]

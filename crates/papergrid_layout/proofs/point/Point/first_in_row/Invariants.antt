@@ -1,9 +1,8 @@
 use Rattle.std.proofs.Common.{◌≡◌, ◌<◌}
 use Rattle.papergrid_values.specs.declared.position.Position.{Position}
-use Rattle.papergrid_config.specs.Grids.{spanned_grid}
-use Rattle.papergrid_layout.specs.Places.{StandsOver}
+use Rattle.papergrid_layout.specs.Places.{StandsOver, table_by}
 use Rattle.papergrid_layout.proofs.point.Point.first_in_row.Given as goal
 
 abbrev pub invariant-loop-col : goal.invariant-loop-col
 invariant-loop-col g l = (q : Position) → q.row ≡ l.row → q.col < l.col →
-    StandsOver (spanned_grid l.self.cfg.now) (g.D.Dimension.width_of l.self.dim.now) (g.D.Dimension.height_of l.self.dim.now) l.self.shape l.self.column l.self.line q → ⊥
+    StandsOver (table_by l.self.cfg.now (g.D.Dimension.width_of l.self.dim.now) (g.D.Dimension.height_of l.self.dim.now) l.self.shape) l.self.column l.self.line q → ⊥

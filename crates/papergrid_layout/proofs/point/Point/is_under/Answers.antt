@@ -1,5 +1,5 @@
 use Rattle.std.proofs.lemmas.Bool.{false≢true}
-use Rattle.papergrid_config.specs.Grids.{spanned_grid}
+use Rattle.papergrid_layout.specs.Places.{table_by}
 use Rattle.papergrid_layout.proofs.PointLemmas.{refused-none}
 use Rattle.papergrid_layout.proofs.point.Point.is_under.Goals as goal
 
@@ -7,6 +7,6 @@ pub returns-in-Err : goal.returns-in-Err
 returns-in-Err g c =
     let table = c.args.self.now in (
       λ t. absurd (false≢true t),
-      λ over. absurd (refused-none (spanned_grid table.cfg.now) (g.D.Dimension.width_of table.dim.now) (g.D.Dimension.height_of table.dim.now) table.shape
+      λ over. absurd (refused-none (table_by table.cfg.now (g.D.Dimension.width_of table.dim.now) (g.D.Dimension.height_of table.dim.now) table.shape)
           c.args.pos c.in-Err.field-0 _ c.in-Err.ensures.exact over.placed),
     )

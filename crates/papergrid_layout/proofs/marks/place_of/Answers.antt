@@ -1,7 +1,7 @@
 use Rattle.papergrid_values.specs.declared.direction.Direction.TheVariants.{Columns, Rows}
 use Rattle.papergrid_layout.proofs.PlaceSums.{none-of}
 use Rattle.papergrid_layout.proofs.PlacingLemmas.{place-found}
-use Rattle.papergrid_layout.proofs.placing.Placing.place_of.Goals as goal
+use Rattle.papergrid_layout.proofs.marks.place_of.Goals as goal
 
 pub returns-in_err-left : goal.returns-in_err-left
 returns-in_err-left c = λ table marked e.

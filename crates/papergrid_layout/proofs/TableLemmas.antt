@@ -1,0 +1,101 @@
+-- What is known of a table by what it keeps.
+use Rattle.std.proofs.Common.{◌≡◌, ◌≢◌, ◌∙◌, ◌↔◌, ℕ, ◌+◌, ◌-◌, ◌<◌, ◌≤◌, ◌⊎◌, ◌&&◌, Bool, true, false, cond, inl, inr, List, get_or, leb, refl, sym, ap, subst, arith}
+use Rattle.std.specs.Prelude.{◌^◌, Option, None, Some, Result, Ok, Err, if◌then◌else◌, IfErr, IfOk}
+use Rattle.std.specs.Option.{SomeIff, ok_or}
+use Rattle.std.proofs.lemmas.Bool.{and_parts, cases_lt, leb-true}
+use Rattle.std.proofs.lemmas.List.{get_or_default, get_or_past}
+use Rattle.std.proofs.lemmas.Result.{IfErr-weaker}
+use Rattle.papergrid_values.specs.declared.direction.Direction.{Direction}
+use Rattle.papergrid_values.specs.declared.direction.Direction.TheVariants.{Columns, Rows}
+use Rattle.papergrid_values.specs.declared.position.Position.{Position}
+use Rattle.papergrid_axis.specs.declared.error.LayoutError.{LayoutError}
+use Rattle.papergrid_axis.specs.declared.error.LayoutError.TheVariants as layout_error
+use Rattle.papergrid_maps.specs.declared.anchors.Anchor.{Anchor}
+use Rattle.papergrid_walk.specs.ForProofs.Shown.{anchor_in}
+use Rattle.papergrid_layout.specs.Places.{ArePlacesRefused, EndsWithin, IsFirstOver, TableView, line_offset, offset, place_at, total, total_along}
+use Rattle.papergrid_layout.specs.Tables.{AreNotPlacedIn, IsPlacedIn}
+use Rattle.papergrid_layout.specs.ForProofs.Placing.{AreMarks}
+use Rattle.papergrid_layout.specs.declared.marks.Marks.{Marks}
+use Rattle.papergrid_layout.specs.declared.placement.Place.{Place}
+use Rattle.papergrid_layout.specs.declared.placement.PlaceError.{PlaceError}
+use Rattle.papergrid_layout.specs.declared.placement.PlaceError.TheVariants.{OutOfTable}
+use Rattle.papergrid_layout.proofs.PlaceSums.{line-before, too-large}
+use Rattle.papergrid_layout.proofs.PlacingLemmas.{ends-within, has-found, is-out}
+use Rattle.papergrid_layout.proofs.PointLemmas.{none-beside, none-beyond}
+
+-- ---- lines
+
+-- where a column (row) begins, or, at their count, the total
+pub begin-at : (size : ℕ → ℕ) (line : ℕ → Bool) (count : ℕ) (marks : Marks) (index begin whole : ℕ) → AreMarks size line count marks → index ≤ count →
+    begin ≡ get_or marks.begins.items index whole → whole ≡ total size line count → begin ≡ offset size line index
+begin-at size line count marks index begin whole are le at all = elim (cases_lt index count) [
+  | inl l ↦ at ∙ get_or_default marks.begins.items index whole 0 (omega (arith, are.each_begin)) ∙ are.begins index l
+  | inr ge ↦
+      let end : count ≡ index = omega arith in
+      at ∙ get_or_past marks.begins.items index whole (omega (arith, are.each_begin)) ∙ all ∙ ap (total size line) end
+]
+
+-- a line that is drawn stands right before what begins there
+pub line-at : (size : ℕ → ℕ) (line : ℕ → Bool) (count : ℕ) (marks : Marks) (index begin whole : ℕ) → AreMarks size line count marks →
+    begin ≡ get_or marks.begins.items index whole → whole ≡ total size line count → true ≡ (leb index count && line index) →
+    (1 ≤ begin) × (Some (begin - 1) ≡ (if leb index count && line index then Some (line_offset size line index) else None))
+line-at size line count marks index begin whole are at all is =
+    let parts = and_parts (leb index count) (line index) (sym is) in
+    let begins : begin ≡ offset size line index = begin-at size line count marks index begin whole are (leb-true index count parts.0) at all in
+    let before : offset size line index ≡ line_offset size line index + cond (line index) 1 0 = line-before size line index in
+    let drawn : cond {A = ℕ} (line index) 1 0 ≡ 1 = ap (λ b. cond {A = ℕ} b 1 0) parts.1 in
+    let stands : begin - 1 ≡ line_offset size line index = omega arith in
+    (omega arith, rw (← is) (ap Some stands))
+
+-- ---- totals
+
+-- a total that is found is the whole
+pub found-total : (found : Option ℕ) (whole f : ℕ) → SomeIff found (whole < 2 ^ 64) whole → ok_or found layout_error.TooLarge ≡ Ok f → (whole < 2 ^ 64) × (f ≡ whole)
+found-total None whole f h e = absurd cc
+found-total (Some n) whole f h e = let same : f ≡ n = cc in (h.0, same ∙ h.1)
+
+-- where none is found, the whole is too large
+pub refused-total : (found : Option ℕ) (whole : ℕ) (error : LayoutError) → SomeIff found (whole < 2 ^ 64) whole → ok_or found layout_error.TooLarge ≡ Err error →
+    (error ≡ layout_error.TooLarge) × (2 ^ 64 ≤ whole)
+refused-total None whole error h e = let same : error ≡ layout_error.TooLarge = cc in (same, too-large None whole whole refl h)
+refused-total (Some n) whole error h e = absurd cc
+
+-- both fit
+pub both-fit : (table : TableView) → total_along table Columns < 2 ^ 64 → total_along table Rows < 2 ^ 64 → (direction : Direction) → total_along table direction < 2 ^ 64
+both-fit table wide high Columns = wide
+both-fit table wide high Rows = high
+
+module _ (table : TableView) (fit : (direction : Direction) → total_along table direction < 2 ^ 64) where
+  -- ---- places
+
+  -- a visible position has the place that was found for it, or reaches out
+  pub placed-in : (p : Position) (anchor : Anchor) (found : Option Place) → table.grid.shows p ≡ true → anchor ≡ anchor_in table.grid p →
+      SomeIff found ((anchor.position.col + anchor.cols ≤ table.shape.1) × (anchor.position.row + anchor.rows ≤ table.shape.0)) (place_at table anchor.position) →
+      IsPlacedIn table p (ok_or found OutOfTable)
+  placed-in p anchor None visible e none = (is-out table p anchor visible e none, λ same. cc)
+  placed-in p anchor (Some place) visible e found = (has-found table p anchor place fit visible e found, λ same. cc)
+
+  -- which ends within the totals
+  pub placed-within : (p : Position) (answer : Result Place PlaceError) → IsPlacedIn table p answer → IfOk answer (EndsWithin table)
+  placed-within p (Ok place) is = ends-within table p place is.0
+  placed-within p (Err error) is = tt
+
+  -- none is refused as too large
+  pub never-too-large : {A : Type 0} (answer : Result A LayoutError) → IfErr answer (ArePlacesRefused table) → IfErr answer (AreNotPlacedIn table)
+  never-too-large answer refused = IfErr-weaker answer (ArePlacesRefused table) (AreNotPlacedIn table) small refused
+    where
+      large : ((2 ^ 64 ≤ total_along table Columns) ⊎ (2 ^ 64 ≤ total_along table Rows)) → ⊥
+      large (inl across) = let fits = fit Columns in omega (arith, across, fits)
+      large (inr down) = let fits = fit Rows in omega (arith, down, fits)
+
+      small : (error : LayoutError) → ArePlacesRefused table error → AreNotPlacedIn table error
+      small (layout_error.OutOfTable p) is = (is, λ same. cc)
+      small layout_error.TooLarge is = absurd (large is.1.refused.1)
+      small (layout_error.Memory e) is = (is, λ same. cc)
+
+  -- ---- points
+
+  -- no cell stands over a point past the totals
+  pub none-past : (x y : ℕ) → (total_along table Columns ≤ x) ⊎ (total_along table Rows ≤ y) → IsFirstOver table x y None
+  none-past x y (inl beside) = none-beside table x y (inr beside)
+  none-past x y (inr beyond) = none-beyond table x y (inr beyond)

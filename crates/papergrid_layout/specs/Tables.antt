@@ -1,0 +1,66 @@
+-- A table as one value, and how it is made.
+use Rattle.std.specs.Prelude.{◌≡◌, ◌≢◌, ◌^◌, ◌≤◌, ◌<◌, ◌⊎◌, ◌&&◌, nat_le, if◌then◌else◌, ℕ, List, length, Option, None, Some, Result, Ok, Err}
+use Rattle.papergrid_values.specs.declared.direction.Direction.{Direction}
+use Rattle.papergrid_values.specs.declared.direction.Direction.TheVariants.{Columns, Rows}
+use Rattle.papergrid_values.specs.declared.position.Position.{Position}
+use Rattle.papergrid_axis.specs.declared.error.LayoutError.{LayoutError}
+use Rattle.papergrid_axis.specs.declared.error.LayoutError.TheVariants as layout_error
+use Rattle.papergrid_config.specs.declared.spanned.SpannedConfig.{SpannedConfig}
+use Rattle.papergrid_config.specs.Grids.{spanned_grid}
+use Rattle.papergrid_maps.specs.Grids.{Grid}
+use Rattle.papergrid_layout.specs.Answers.{AreBothLeast, AreBothSizes, HaveNoLeast, IsBothRefused, UnlessMemoryError}
+use Rattle.papergrid_layout.specs.Places.{ArePlacesRefused, IsPlaced, TableView, line_offset, sized_table, total_along, track_count, track_line, track_size}
+use Rattle.papergrid_layout.specs.declared.placement.Place.{Place}
+use Rattle.papergrid_layout.specs.declared.placement.PlaceError.{PlaceError}
+use Rattle.papergrid_layout.specs.declared.placement.PlaceError.TheVariants.{TooLarge}
+use Rattle.papergrid_layout.specs.declared.sizing.Sizing.{Sizing}
+use Rattle.papergrid_layout.specs.declared.sizing.Sizing.TheVariants.{ByShares, Least}
+
+-- a configuration, with the width of each column and the height of each row
+pub record TableParts : Type 0 where
+  pub config : SpannedConfig
+  pub widths : List ℕ
+  pub heights : List ℕ
+
+-- what is read of it: it has as many columns and rows as there are widths and heights
+abbrev pub view_of : TableParts → TableView
+view_of t = sized_table (spanned_grid t.config) t.widths t.heights (length t.heights, length t.widths)
+
+-- a total is past the greatest `usize`
+abbrev pub IsTooLarge : TableView → Type 0
+IsTooLarge table = (2 ^ 64 ≤ total_along table Columns) ⊎ (2 ^ 64 ≤ total_along table Rows)
+
+-- the table of these parts, or their totals are too large
+abbrev pub IsTable : TableParts → Result TableParts LayoutError → Type 0
+IsTable parts (Ok table) = (table ≡ parts) × ((direction : Direction) → total_along (view_of parts) direction < 2 ^ 64)
+IsTable parts (Err e) = UnlessMemoryError e ((e ≡ layout_error.TooLarge) × IsTooLarge (view_of parts))
+
+module _ {C : Type 0} (config : SpannedConfig) (measure : C → ℕ × ℕ) (columns : ℕ) (cells : List (List C)) where
+  -- these widths and heights are chosen so
+  abbrev pub AreChosen : Sizing → List ℕ → List ℕ → Type 0
+  AreChosen ByShares widths heights = AreBothSizes (spanned_grid config) measure columns cells widths heights
+  AreChosen Least widths heights = AreBothLeast (spanned_grid config) measure columns cells widths heights
+
+  -- why there are none
+  abbrev pub AreNotChosen : Sizing → LayoutError → Type 0
+  AreNotChosen ByShares e = IsBothRefused (spanned_grid config) measure columns cells e
+  AreNotChosen Least e = HaveNoLeast (spanned_grid config) measure columns cells e
+
+  -- the table of these cells by the configuration, or why there is none
+  abbrev pub IsTableOf : Sizing → Result TableParts LayoutError → Type 0
+  IsTableOf sizing (Ok table) = (table.config ≡ config) × AreChosen sizing table.widths table.heights
+  IsTableOf sizing (Err e) = AreNotChosen sizing e
+
+-- the cell at a position has this place; else it is hidden, else it reaches out of the table
+abbrev pub IsPlacedIn : TableView → Position → Result Place PlaceError → Type 0
+IsPlacedIn table p answer = IsPlaced table p answer × (answer ≢ Err TooLarge)
+
+-- the first visible cell without a place reaches out of the table
+abbrev pub AreNotPlacedIn : TableView → LayoutError → Type 0
+AreNotPlacedIn table e = ArePlacesRefused table e × (e ≢ layout_error.TooLarge)
+
+-- where a line stands: that before a column (row), or at their count after the last, if it is drawn
+abbrev pub line_position : TableView → Direction → ℕ → Option ℕ
+line_position table direction i =
+    if nat_le i (track_count table direction) && track_line table direction i
+    then Some (line_offset (track_size table direction) (track_line table direction) i) else None
