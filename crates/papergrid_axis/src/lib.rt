@@ -23,4 +23,4 @@ pub use checked::Checked;
 pub use demand::Demand;
 pub use error::{Found, LayoutError};
 pub use kept::Kept;
-pub use solution::{CertifiedSizes, Solution};
+pub use solution::{ByShares, Solved, Solver};

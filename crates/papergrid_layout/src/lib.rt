@@ -18,7 +18,6 @@ mod placing;
 mod point;
 mod ruler;
 mod size_list;
-mod sums;
 mod totals;
 
 pub use compact::CompactGridDimension;

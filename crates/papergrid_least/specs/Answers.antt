@@ -1,5 +1,5 @@
 -- What an answer of least sizes says of the cells' demands.
-use Rattle.std.specs.Prelude.{◌≡◌, ℕ, ◌^◌, ◌<◌, ◌≤◌, List, EachIndex, slice_index, map, Result, None, Vec}
+use Rattle.std.specs.Prelude.{◌≡◌, ℕ, ◌^◌, ◌<◌, ◌≤◌, List, EachIndex, slice_index, map, Option, None, Some, Result, Vec}
 use Rattle.papergrid_values.specs.declared.position.Position.{Position}
 use Rattle.papergrid_axis.specs.declared.error.LayoutError.{LayoutError}
 use Rattle.papergrid_axis.specs.Answers.{AnswersWhere, IsTotalBy}
@@ -34,6 +34,11 @@ module _ (problem : Problem) where
   -- the sum of the least sizes and of all lines
   abbrev pub IsLeastTotal : ℕ → Type 0
   IsLeastTotal total = IsTotalBy problem AreLeastSizes total
+
+-- the places of the cells of the longest way; there always are some
+abbrev pub IsLongest : {Z : Type 0} → Problem → Option (Vec Position Z) → Type 0
+IsLongest problem None = ⊥
+IsLongest problem (Some places) = AreLongest problem places.items
 
 -- what is asked for of a problem, or why there is none: where it is refused as too large, every list that fits is
 abbrev pub LeastAnswers : {A : Type 0} → (Problem → A → Type 0) → Problem → Result A LayoutError → Type 0

@@ -12,4 +12,4 @@ mod longest;
 mod lower;
 mod settled;
 
-pub use least::{CertifiedLeast, LeastSizes};
+pub use least::ByLeastTotal;
