@@ -72,7 +72,8 @@ fn lack_of(sizes: &[usize], lines: &[bool], demand: Demand) -> usize
 /// over.
 fn add_shares(sizes: &mut [usize], demand: Demand, amount: usize)
     requires table { IsInTable (length sizes.old) demand }
-    requires room { (i : ℕ) → demand.start ≤ i → i < end_of demand → slice_index sizes.old i + amount < 2 ^ 64 }
+    requires room { (i : ℕ) → demand.start ≤ i → i < end_of demand →
+        slice_index sizes.old i + amount < 2 ^ 64 }
     ensures { sizes.new ≡ with_shares amount demand 0 sizes.old }
 {
     let each = amount / demand.span;
@@ -108,7 +109,8 @@ pub fn grow_all(
 ) -> Result<Vec<Demand>, AllocError>
     requires cells { All (IsInTable (length sizes.old)) cells.now }
     requires lines { length lines.now ≡ length sizes.old + 1 }
-    ensures growing_cells { IfOk result (λ growing_cells. growing_cells.items ≡ growing (line_at lines.now) sizes.old cells.now) }
+    ensures growing_cells { IfOk result (λ growing_cells.
+        growing_cells.items ≡ growing (line_at lines.now) sizes.old cells.now) }
     ensures sizes { OnOk result (sizes.new ≡ fold (grown (line_at lines.now)) sizes.old cells.now) }
 {
     let mut growing_cells = Vec::new(alloc);

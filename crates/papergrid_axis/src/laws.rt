@@ -49,7 +49,8 @@ pub fn sizes_by_needs()
     ensures fit { (problem : Problem) → All (IsInTable problem.count) problem.demands →
         Fits problem (sizes_of problem) }
     ensures bound { (problem : Problem) → All (IsInTable problem.count) problem.demands →
-        (i : ℕ) → i < problem.count → slice_index (sizes_of problem) i ≤ top_need problem.demands i }
+        (i : ℕ) → i < problem.count →
+        slice_index (sizes_of problem) i ≤ top_need problem.demands i }
     ensures certified { (problem : Problem) → All (IsInTable problem.count) problem.demands →
         IsKeptApart problem.demands → IsCertificate problem (sizes_of problem) (chosen_of problem) }
 {}

@@ -1,4 +1,5 @@
-//! What the sizes along a direction begin with: lines, what single numbers need, cells in their order; and what has none.
+//! What the sizes along a direction begin with: the lines, what single numbers need, the cells in their
+//! order; and why there are none.
 
 ghost use Rattle.std.specs.Prelude.{All, Bool, EachIndex, IfNone, IfOk, IfSome, List, None, false, length, nat_lt, replicate, slice_index, slice_index_or, ℕ, ◌+◌, ◌≤◌, ◌≡◌};
 ghost use Rattle.papergrid_axis.specs.Problem.{given};
@@ -20,7 +21,8 @@ use std::alloc::{AllocError, Global};
 /// Writes for each number whether there is a line before it.
 fn fill_lines<A: Axis>(lines: &mut [bool], axis: &A)
     ensures length { length lines.new ≡ length lines.old }
-    ensures drawn { EachIndex lines.new (λ k. slice_index_or lines.new k false ≡ A.line axis.now k) }
+    ensures drawn { EachIndex lines.new (λ k.
+        slice_index_or lines.new k false ≡ A.line axis.now k) }
 {
     for i in 0..lines.len() {
         lines[i] = axis.has_line(i);
@@ -30,7 +32,8 @@ fn fill_lines<A: Axis>(lines: &mut [bool], axis: &A)
 /// Whether there is a line before each of `count` columns (rows), and after the last.
 pub fn lines_of<A: Axis>(alloc: Global, axis: &A, count: usize) -> Result<Vec<bool>, AllocError>
     ensures length { IfOk result (λ lines. length lines.items ≡ count + 1) }
-    ensures drawn { IfOk result (λ lines. (i : ℕ) → i ≤ count → line_at lines.items i ≡ A.line axis.now i) }
+    ensures drawn { IfOk result (λ lines. (i : ℕ) → i ≤ count →
+        line_at lines.items i ≡ A.line axis.now i) }
 {
     let mut lines = vec![in alloc; false; count]?;
     fill_lines(&mut lines, axis);
@@ -41,7 +44,8 @@ pub fn lines_of<A: Axis>(alloc: Global, axis: &A, count: usize) -> Result<Vec<bo
 /// Writes for each number what the cell needs that is kept there.
 pub fn write_base(sizes: &mut [usize], single_span: &[Demand])
     ensures length { length sizes.new ≡ length sizes.old }
-    ensures base { EachIndex sizes.new (λ k. slice_index sizes.new k ≡ (slice_index_or single_span.now k no_demand).need) }
+    ensures base { EachIndex sizes.new (λ k.
+        slice_index sizes.new k ≡ (slice_index_or single_span.now k no_demand).need) }
 {
     for i in 0..sizes.len() {
         sizes[i] = single_at(single_span, i).need;

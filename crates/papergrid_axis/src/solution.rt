@@ -49,7 +49,8 @@ pub trait Solver {
     ) -> Found<Solved>
         requires { (demands : List Demand) × IsKept count kept.now demands }
         ensures { (demands : List Demand) → IsKept count kept.now demands →
-            AnswersWhere too_large (solves certify) (given (A.line axis.now) count demands) result };
+            let problem = given (A.line axis.now) count demands in
+            AnswersWhere too_large (solves certify) problem result };
 }
 
 /// By shares: what a cell of a longer range lacks is spread evenly over its range. There is no

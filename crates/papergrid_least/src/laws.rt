@@ -17,7 +17,8 @@ ghost use Rattle.papergrid_least.specs.Worked.{CrossingWorked};
 pub fn fits_by_edges()
     ensures fits { (problem : Problem) (sizes : List ℕ) →
         All (IsInTable problem.count) problem.demands → length sizes ≡ problem.count →
-        Fits problem sizes ↔ AreEdges (asked problem.line) problem.count problem.demands (edges_of sizes) }
+        Fits problem sizes ↔
+        AreEdges (asked problem.line) problem.count problem.demands (edges_of sizes) }
     ensures between { (problem : Problem) (edge : ℕ → ℕ) →
         All (IsInTable problem.count) problem.demands →
         AreEdges (asked problem.line) problem.count problem.demands edge →
@@ -42,7 +43,8 @@ pub fn earliest_edges()
         All (IsInTable problem.count) problem.demands → Fits problem sizes →
         least_total problem ≤ sum sizes }
     ensures least { (problem : Problem) → All (IsInTable problem.count) problem.demands →
-        IsLeast problem (sizes_between problem.count (earliest (asked problem.line) problem.demands)) }
+        let edge = earliest (asked problem.line) problem.demands in
+        IsLeast problem (sizes_between problem.count edge) }
 {}
 
 /// The latest edges are edges from 0 to the least total, and no edges that end there are past them.
@@ -83,7 +85,8 @@ pub fn least_by_shares()
     ensures total { (problem : Problem) → All (IsInTable problem.count) problem.demands →
         sum (least_of problem) ≡ least_total problem }
     ensures bound { (problem : Problem) → All (IsInTable problem.count) problem.demands →
-        (i : ℕ) → i < problem.count → slice_index (least_of problem) i ≤ top_need problem.demands i }
+        (i : ℕ) → i < problem.count →
+        slice_index (least_of problem) i ≤ top_need problem.demands i }
     ensures certified { (problem : Problem) → All (IsInTable problem.count) problem.demands →
         IsCertificate problem (least_of problem) (longest problem) }
     ensures same { (problem : Problem) → All (IsInTable problem.count) problem.demands →
@@ -105,8 +108,9 @@ pub fn least_total_decides()
 /// Where the cells stand by row and then by column, the one that is taken to push an edge is the first of all
 /// that do.
 pub fn first_in_order()
-    ensures { (asks : Demand → ℕ) (n : ℕ) (demands : List Demand) (i : ℕ) → All (IsInTable n) demands →
-        AreInOrder demands → pusher asks demands i ≡ find (pushes asks demands i) demands }
+    ensures { (asks : Demand → ℕ) (n : ℕ) (demands : List Demand) (i : ℕ) →
+        All (IsInTable n) demands → AreInOrder demands →
+        pusher asks demands i ≡ find (pushes asks demands i) demands }
 {}
 
 /// What two crossing cells come to, by the definitions alone.

@@ -58,7 +58,8 @@ fn latest_of(
 ) -> Result<Vec<usize>, AllocError>
     requires table { All (IsInTable (length base.now)) cells.now }
     requires sorted { AreLaterFirst cells.now }
-    requires room { (edge : ℕ → ℕ) × AreLaid base.now cells.now edge × (edge (length base.now) ≤ total) }
+    requires room { (edge : ℕ → ℕ) × AreLaid base.now cells.now edge
+        × (edge (length base.now) ≤ total) }
     ensures { IfOk result (λ edges. IsLatest base.now cells.now total edges.items) }
 {
     let mut edges = zeros_and(alloc, base.len(), total)?;
