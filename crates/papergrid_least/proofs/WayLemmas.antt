@@ -121,6 +121,6 @@ module _ (problem : Problem) (kept : Kept) (is : IsKept problem.count kept probl
         let last : length edges - 1 ≡ problem.count = omega arith in
         ap (λ k. reverse (map place_of (followed edge (kept_single kept.single_span.items) (kept_longer pushers) k k))) last
         ∙ ap (λ ds. reverse (map place_of ds))
-        (followed-is problem.line drawn problem.count is.limit problem.demands are.drawn are.table is.below is.from_limit edge are.edge_at (kept_single kept.single_span.items) (is.held.single_span small)
+        (followed-is problem.line drawn problem.count is.limit problem.demands are.drawn are.table is.below is.from_limit is.in_order edge are.edge_at (kept_single kept.single_span.items) (is.held.single_span small)
         (kept_longer pushers) (λ i l. first i (omega arith) ∙ ap (find (pushes_by (asked drawn) edge i)) exact) problem.count problem.count (omega arith))
         ∙ reverse-places (way (asked problem.line) problem.demands problem.count problem.count)

@@ -1,6 +1,6 @@
 //! Laws of the definitions, each the contract of a function that does nothing.
 
-ghost use Rattle.std.specs.Prelude.{All, List, find, length, min, slice_index, sum, ℕ, ◌+◌, ◌<◌, ◌^◌, ◌↔◌, ◌≡◌, ◌≤◌};
+ghost use Rattle.std.specs.Prelude.{All, List, length, min, slice_index, sum, ℕ, ◌+◌, ◌<◌, ◌^◌, ◌↔◌, ◌≡◌, ◌≤◌};
 ghost use Rattle.papergrid_axis.specs.declared.demand.Demand.{Demand};
 ghost use Rattle.papergrid_axis.specs.Fits.{Fits, IsCertificate, IsLeast, IsTooLarge, top_need};
 ghost use Rattle.papergrid_axis.specs.Problem.{Problem, total_of};
@@ -10,7 +10,7 @@ ghost use Rattle.papergrid_values.specs.Lines.{all_lines};
 ghost use Rattle.papergrid_least.specs.Earliest.{earliest, least_total};
 ghost use Rattle.papergrid_least.specs.Edges.{AreEdges, asked, edges_of, sizes_between};
 ghost use Rattle.papergrid_least.specs.Least.{latest, least_of, least_sizes};
-ghost use Rattle.papergrid_least.specs.Longest.{AreInOrder, longest, pusher, pushes};
+ghost use Rattle.papergrid_least.specs.Longest.{longest};
 ghost use Rattle.papergrid_least.specs.Worked.{CrossingWorked};
 
 /// Sizes fit exactly where their sums are edges.
@@ -103,14 +103,6 @@ pub fn least_total_decides()
     ensures too_large { (problem : Problem) → All (IsInTable problem.count) problem.demands →
         IsTooLarge problem (least_of problem) ↔
         ((other : List ℕ) → Fits problem other → IsTooLarge problem other) }
-{}
-
-/// Where the cells stand by row and then by column, the one that is taken to push an edge is the first of all
-/// that do.
-pub fn first_in_order()
-    ensures { (asks : Demand → ℕ) (n : ℕ) (demands : List Demand) (i : ℕ) →
-        All (IsInTable n) demands → AreInOrder demands →
-        pusher asks demands i ≡ find (pushes asks demands i) demands }
 {}
 
 /// What two crossing cells come to, by the definitions alone.

@@ -5,8 +5,7 @@ ghost use Rattle.papergrid_axis.specs.ForProofs.Settled.{line_at};
 ghost use Rattle.papergrid_axis.specs.Ranges.{IsInTable, end_of, place_of};
 ghost use Rattle.papergrid_axis.specs.declared.demand.Demand.{Demand};
 ghost use Rattle.papergrid_least.specs.Edges.{asked};
-ghost use Rattle.papergrid_least.specs.ForProofs.Followed.{followed, kept_longer, kept_single, needing, pushes_by};
-ghost use Rattle.papergrid_least.specs.Longest.{earlier_cell};
+ghost use Rattle.papergrid_least.specs.ForProofs.Followed.{earlier_cell, followed, kept_longer, kept_single, needing, pushes_by};
 
 use crate::cells::asking;
 use crate::lines::Lines;
