@@ -26,7 +26,7 @@ module _ (line : ℕ → Bool) (n : ℕ) (demands : List Demand) (sizes : List �
   abbrev lower : ℕ → ℕ
   lower i = min (edges_of sizes i) (latest (asked line) n demands i)
 
-  AreEdges-lower : Fits (given line n demands) sizes → AreEdges (asked line) n demands lower
+  pub AreEdges-lower : Fits (given line n demands) sizes → AreEdges (asked line) n demands lower
   AreEdges-lower fits =
       AreEdges-min (asked line) n demands (edges_of sizes) (latest (asked line) n demands) (AreEdges-edges_of line n demands sizes fits) (AreEdges-latest (asked line) n demands table)
 

@@ -11,5 +11,6 @@ pub mod LeastLemmas
 pub mod LongestLemmas
 pub mod PermutedLemmas
 pub mod PusherLemmas
+pub mod RightLemmas
 pub mod KeptLemmas
 pub mod WayLemmas

@@ -9,7 +9,7 @@ ghost use Rattle.papergrid_axis.specs.Sizes.{sizes_of};
 ghost use Rattle.papergrid_values.specs.Lines.{all_lines};
 ghost use Rattle.papergrid_least.specs.Earliest.{earliest, least_total};
 ghost use Rattle.papergrid_least.specs.Edges.{AreEdges, asked, edges_of, sizes_between};
-ghost use Rattle.papergrid_least.specs.Least.{latest, least_of, least_sizes};
+ghost use Rattle.papergrid_least.specs.Least.{AreFurthestRight, latest, least_of, least_sizes};
 ghost use Rattle.papergrid_least.specs.Longest.{longest};
 ghost use Rattle.papergrid_least.specs.Worked.{CrossingWorked};
 
@@ -78,7 +78,8 @@ pub fn least_from_any()
         least_sizes problem sizes ≡ sizes }
 {}
 
-/// The sizes by shares, made least, are those by shares wherever these are least.
+/// The sizes by shares, made least, are the least sizes whose boundaries are nowhere past those by shares and furthest
+/// to the right; and they are those by shares wherever these are least.
 pub fn least_by_shares()
     ensures least { (problem : Problem) → All (IsInTable problem.count) problem.demands →
         IsLeast problem (least_of problem) }
@@ -89,6 +90,9 @@ pub fn least_by_shares()
         slice_index (least_of problem) i ≤ top_need problem.demands i }
     ensures certified { (problem : Problem) → All (IsInTable problem.count) problem.demands →
         IsCertificate problem (least_of problem) (longest problem) }
+    ensures furthest_right { (problem : Problem) (sizes : List ℕ) →
+        All (IsInTable problem.count) problem.demands →
+        AreFurthestRight problem sizes ↔ (sizes ≡ least_of problem) }
     ensures same { (problem : Problem) → All (IsInTable problem.count) problem.demands →
         IsLeast problem (sizes_of problem) → least_of problem ≡ sizes_of problem }
     ensures kept_apart { (problem : Problem) → All (IsInTable problem.count) problem.demands →
