@@ -13,4 +13,5 @@ pub mod PermutedLemmas
 pub mod PusherLemmas
 pub mod RightLemmas
 pub mod KeptLemmas
+pub mod WayBackLemmas
 pub mod WayLemmas

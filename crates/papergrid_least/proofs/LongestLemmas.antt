@@ -60,7 +60,7 @@ module _ (asks : Demand → ℕ) (ds : List Demand) (n : ℕ) (table : All (IsIn
   none-pushes i e = All-from_recursion (λ d. pushes asks ds (suc i) d ≡ false) ds (find-nothing (pushes asks ds (suc i)) ds e)
 
   -- an edge past the one before was pushed by some cell
-  pusher-none : (i : ℕ) → earliest asks ds i < earliest asks ds (suc i) → pusher asks ds (suc i) ≡ None → ⊥
+  pub pusher-none : (i : ℕ) → earliest asks ds i < earliest asks ds (suc i) → pusher asks ds (suc i) ≡ None → ⊥
   pusher-none i past e =
       let m : ℕ = earliest asks ds (suc i) - 1 in
       let at : earliest asks ds (suc i) ≡ max (earliest asks ds i) (pushed_to asks ds (earliest_to asks ds i) (suc i)) = earliest_to-at asks ds i in

@@ -1,5 +1,5 @@
 -- Cells one after another that ask for the least total.
-use Rattle.std.specs.Prelude.{ℕ, zero, suc, ◌+◌, ◌-◌, Bool, ◌&&◌, ◌==◌, if◌then◌else◌, List, [], ◌∷◌, find, reverse, Option, Some, None}
+use Rattle.std.specs.Prelude.{◌≡◌, ℕ, zero, suc, ◌+◌, ◌-◌, ◌<◌, ◌≤◌, Bool, ◌&&◌, ◌==◌, if◌then◌else◌, List, [], ◌∷◌, find, reverse, Option, Some, None}
 use Rattle.papergrid_axis.specs.declared.demand.Demand.{Demand}
 use Rattle.papergrid_axis.specs.Problem.{Problem}
 use Rattle.papergrid_axis.specs.Ranges.{end_of}
@@ -14,6 +14,22 @@ pushes asks demands i d = end_of d == i && (earliest asks demands d.start + asks
 abbrev pub pusher : (Demand → ℕ) → List Demand → ℕ → Option Demand
 pusher asks demands i = find (pushes asks demands i) demands
 
+module _ (problem : Problem) where
+  -- the lowest position of the boundary at i
+  abbrev pub lowest : ℕ → ℕ
+  lowest i = earliest (asked problem.line) problem.demands i
+
+  -- the cell is the first that pushes the boundary at its end to where it is, past the one before
+  pub record IsFirstPusher (d : Demand) : Type 0 where
+    pub past : lowest (end_of d - 1) < lowest (end_of d)
+    pub first : pusher (asked problem.line) problem.demands (end_of d) ≡ Some d
+
+  -- such cells one after another back from the boundary at i: the lowest position does not move between the end of one and the
+  -- start of the next, before the first, nor after the last
+  abbrev pub IsWayBack : ℕ → List Demand → Type 0
+  IsWayBack i [] = lowest i ≡ 0
+  IsWayBack i (d ∷ earlier) = (end_of d ≤ i) × (lowest (end_of d) ≡ lowest i) × IsFirstPusher d × IsWayBack d.start earlier
+
 -- the cell, and then those before its range
 abbrev pub with_earlier : Option Demand → (ℕ → List Demand) → List Demand
 with_earlier None earlier = []
@@ -27,6 +43,6 @@ pushers asks demands (suc steps) i =
     if earliest asks demands i == earliest asks demands (i - 1) then pushers asks demands steps (i - 1)
     else with_earlier (pusher asks demands i) (pushers asks demands steps)
 
--- the cells whose needs, less their inner lines, are the least total, by the starts of their ranges
+-- the cells of the way back from the end, as a law says, by the starts of their ranges
 abbrev pub longest : Problem → List Demand
 longest problem = reverse (pushers (asked problem.line) problem.demands problem.count problem.count)

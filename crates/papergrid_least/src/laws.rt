@@ -1,6 +1,6 @@
 //! Laws of the definitions, each the contract of a function that does nothing.
 
-ghost use Rattle.std.specs.Prelude.{All, List, length, min, slice_index, sum, ℕ, ◌+◌, ◌<◌, ◌^◌, ◌↔◌, ◌≡◌, ◌≤◌};
+ghost use Rattle.std.specs.Prelude.{All, List, length, min, reverse, slice_index, sum, ℕ, ◌+◌, ◌<◌, ◌^◌, ◌↔◌, ◌≡◌, ◌≤◌};
 ghost use Rattle.papergrid_axis.specs.declared.demand.Demand.{Demand};
 ghost use Rattle.papergrid_axis.specs.Fits.{Fits, IsCertificate, IsLeast, IsTooLarge, top_need};
 ghost use Rattle.papergrid_axis.specs.Problem.{Problem, total_of};
@@ -10,7 +10,7 @@ ghost use Rattle.papergrid_values.specs.Lines.{all_lines};
 ghost use Rattle.papergrid_least.specs.Earliest.{earliest, least_total};
 ghost use Rattle.papergrid_least.specs.Edges.{AreEdges, asked, edges_of, sizes_between};
 ghost use Rattle.papergrid_least.specs.Least.{AreFurthestRight, latest, least_of, least_sizes};
-ghost use Rattle.papergrid_least.specs.Longest.{longest};
+ghost use Rattle.papergrid_least.specs.Longest.{IsWayBack, longest};
 ghost use Rattle.papergrid_least.specs.Worked.{CrossingWorked};
 
 /// Sizes fit exactly where their sums are edges.
@@ -107,6 +107,13 @@ pub fn least_total_decides()
     ensures too_large { (problem : Problem) → All (IsInTable problem.count) problem.demands →
         IsTooLarge problem (least_of problem) ↔
         ((other : List ℕ) → Fits problem other → IsTooLarge problem other) }
+{}
+
+/// The cells that certify the least total are those of the one way back from the end.
+pub fn one_way_back()
+    ensures { (problem : Problem) (cells : List Demand) →
+        All (IsInTable problem.count) problem.demands →
+        IsWayBack problem problem.count (reverse cells) ↔ (cells ≡ longest problem) }
 {}
 
 /// What two crossing cells come to, by the definitions alone.
