@@ -74,7 +74,7 @@ fn add_shares(sizes: &mut [usize], demand: Demand, amount: usize)
     requires table { IsInTable (length sizes.old) demand }
     requires room { (i : ℕ) → demand.start ≤ i → i < end_of demand →
         slice_index sizes.old i + amount < 2 ^ 64 }
-    ensures { sizes.new ≡ with_shares amount demand 0 sizes.old }
+    ensures { sizes.new ≡ with_shares amount demand sizes.old }
 {
     let each = amount / demand.span;
     let mut share = each + amount % demand.span;
