@@ -10,9 +10,9 @@ ghost use Rattle.papergrid_axis.specs.Fits.{Fits, IsCertificate, IsLeast, top_ne
 ghost use Rattle.papergrid_axis.specs.KeptApart.{is_kept_apart};
 ghost use Rattle.papergrid_axis.specs.Problem.{Problem};
 ghost use Rattle.papergrid_axis.specs.Ranges.{IsInTable, IsKeptApart, SomeCross};
-ghost use Rattle.papergrid_axis.specs.Rows.{WorkedRows};
 ghost use Rattle.papergrid_axis.specs.Sizes.{sizes_of};
 
+pub use crate::worked::worked_rows;
 use crate::{Candidate, Checked, Demand, LayoutError};
 
 /// Demands, and reasons why there are no sizes, are equal where they are the same.
@@ -29,11 +29,6 @@ pub fn equal_clones()
     ensures candidates { (x y : Candidate) →
         ⟦<Candidate<'static> as Clone>⟧.is_clone x y → y ≡ x }
     ensures checks { (x y : Checked) → ⟦<Checked as Clone>⟧.is_clone x y → y ≡ x }
-{}
-
-/// What the worked tables give, by the definitions alone.
-pub fn worked_rows()
-    ensures { WorkedRows }
 {}
 
 /// Sizes that fit and have a certificate are least.

@@ -16,6 +16,7 @@ pub mod laws;
 pub mod settled;
 pub mod solution;
 mod witness;
+pub mod worked;
 
 pub use axis::Axis;
 pub use candidate::Candidate;

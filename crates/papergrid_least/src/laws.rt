@@ -11,7 +11,6 @@ ghost use Rattle.papergrid_least.specs.Earliest.{earliest, least_total};
 ghost use Rattle.papergrid_least.specs.Edges.{AreEdges, asked, edges_of, sizes_between};
 ghost use Rattle.papergrid_least.specs.Least.{AreFurthestRight, latest, least_of, least_sizes};
 ghost use Rattle.papergrid_least.specs.Longest.{IsWayBack, longest};
-ghost use Rattle.papergrid_least.specs.Worked.{CrossingWorked};
 
 /// Sizes fit exactly where their sums are edges.
 pub fn fits_by_edges()
@@ -114,9 +113,4 @@ pub fn one_way_back()
     ensures { (problem : Problem) (cells : List Demand) →
         All (IsInTable problem.count) problem.demands →
         IsWayBack problem problem.count (reverse cells) ↔ (cells ≡ longest problem) }
-{}
-
-/// What two crossing cells come to, by the definitions alone.
-pub fn crossing_worked()
-    ensures { CrossingWorked }
 {}
