@@ -11,7 +11,6 @@ pub mod LeastLemmas
 pub mod LongestLemmas
 pub mod PermutedLemmas
 pub mod PusherLemmas
-pub mod RightLemmas
 pub mod KeptLemmas
 pub mod WayBackLemmas
 pub mod WayLemmas

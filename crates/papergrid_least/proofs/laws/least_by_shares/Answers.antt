@@ -1,5 +1,4 @@
-use Rattle.papergrid_least.proofs.LeastLemmas.{IsLeast-least_of, total-least_of, bound-least_of, IsCertificate-least_of, least_of-shares, same-least_of}
-use Rattle.papergrid_least.proofs.RightLemmas.{furthest_right-is}
+use Rattle.papergrid_least.proofs.LeastLemmas.{IsLeast-least_of, total-least_of, bound-least_of, IsCertificate-least_of, furthest_right-is, least_of-shares, same-least_of}
 use Rattle.papergrid_least.proofs.laws.least_by_shares.Goals as goal
 
 pub returns-clause-least : goal.returns-clause-least
