@@ -68,9 +68,10 @@ abbrev pub IsWitness : {Z : Type 0} → Problem → Option (Vec Position Z) → 
 IsWitness problem None = NoneChosen problem
 IsWitness problem (Some places) = AreChosen problem places.items
 
--- what a solver finds of a problem: sizes of which this holds, their total with all lines, and what certifies them where that
--- is asked for, else nothing
-pub record IsSolvedBy (are_sizes : Problem → List ℕ → Type 0) (certifies : Problem → Option (Vec Position Global) → Type 0)
+-- what a solver finds of a problem: sizes of which this holds, their total with all lines, and what
+-- certifies them, of which this holds, where that is asked for, else nothing
+pub record IsSolvedBy (are_sizes : Problem → List ℕ → Type 0)
+    (certifies : Problem → Option (Vec Position Global) → Type 0)
     (certify : Bool) (problem : Problem) (solved : Solved) : Type 0 where
   pub sizes : are_sizes problem solved.sizes.items
   pub total : solved.total ≡ total_of problem solved.sizes.items

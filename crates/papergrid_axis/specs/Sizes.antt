@@ -25,7 +25,8 @@ share amount d i =
 
 -- these sizes, each with its share
 abbrev pub with_shares : ℕ → Demand → List ℕ → List ℕ
-with_shares amount d sizes = map (λ i. slice_index sizes i + share amount d i) (range_with_len 0 (length sizes))
+with_shares amount d sizes =
+    map (λ i. slice_index sizes i + share amount d i) (range_with_len 0 (length sizes))
 
 -- the sizes after the cell was taken: its range shares what it lacks
 abbrev pub grown : (ℕ → Bool) → List ℕ → Demand → List ℕ

@@ -24,11 +24,12 @@ module _ (problem : Problem) where
     pub past : lowest (end_of d - 1) < lowest (end_of d)
     pub first : pusher (asked problem.line) problem.demands (end_of d) ≡ Some d
 
-  -- such cells one after another back from the boundary at i: the lowest position does not move between the end of one and the
-  -- start of the next, before the first, nor after the last
+  -- such cells one after another back from the boundary at i, the last first: the lowest position does
+  -- not move between the end of one and the start of the next, before the first, nor after the last
   abbrev pub IsWayBack : ℕ → List Demand → Type 0
   IsWayBack i [] = lowest i ≡ 0
-  IsWayBack i (d ∷ earlier) = (end_of d ≤ i) × (lowest (end_of d) ≡ lowest i) × IsFirstPusher d × IsWayBack d.start earlier
+  IsWayBack i (d ∷ earlier) =
+      (end_of d ≤ i) × (lowest (end_of d) ≡ lowest i) × IsFirstPusher d × IsWayBack d.start earlier
 
 -- the cell, and then those before its range
 abbrev pub with_earlier : Option Demand → (ℕ → List Demand) → List Demand

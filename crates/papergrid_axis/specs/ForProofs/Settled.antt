@@ -17,7 +17,8 @@ pub record IsLargeInside (count : ℕ) (kept : Kept) : Type 0 where
   pub is_large : kept.is_large ≡ true
 
 -- the sizes by shares, the cells as they were taken and those that grew
-pub record AreGrown (problem : Problem) (sizes : List ℕ) (cells growing_cells : List Demand) : Type 0 where
+pub record AreGrown (problem : Problem) (sizes : List ℕ)
+    (cells growing_cells : List Demand) : Type 0 where
   pub table : All (IsInTable problem.count) problem.demands
   pub shares : sizes ≡ sizes_of problem
   pub in_order : cells ≡ taken problem.count problem.demands

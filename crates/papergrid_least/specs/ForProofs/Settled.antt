@@ -15,4 +15,5 @@ pub record AreEarliest (problem : Problem) (lines : List Bool) (edges : List ℕ
   pub lined : length lines ≡ problem.count + 1
   pub drawn : (i : ℕ) → i ≤ problem.count → line_at lines i ≡ problem.line i
   pub many : length edges ≡ problem.count + 1
-  pub edge_at : (i : ℕ) → i ≤ problem.count → slice_index edges i ≡ earliest (asked problem.line) problem.demands i
+  pub edge_at : (i : ℕ) → i ≤ problem.count →
+      slice_index edges i ≡ earliest (asked problem.line) problem.demands i
