@@ -10,6 +10,7 @@ use Rattle.papergrid_axis.specs.declared.error.LayoutError.{LayoutError}
 use Rattle.papergrid_axis.specs.declared.error.LayoutError.TheVariants as layout_errors
 use Rattle.papergrid_axis.specs.Problem.{Problem, total_of}
 use Rattle.papergrid_axis.specs.Ranges.{first_out, place_of}
+use Rattle.papergrid_least.proofs.LeastLemmas.{exact-least, exact-longest}
 use Rattle.papergrid_walk.specs.Cells.{demand_by, demands_of, problem_of, visible_cells}
 use Rattle.papergrid_maps.specs.Grids.{Grid}
 use Rattle.papergrid_layout.specs.Answers.{IsBothRefusedWhere, UnlessMemoryError, first_out_of_table, reaches_out}
@@ -55,7 +56,7 @@ record AreFound (sizing : Sizing) (problem : Problem) (sizes : List ℕ) : Type 
 
 are_found : (sizing : Sizing) (problem : Problem) (sizes : List ℕ) → AreSizesBy sizing problem sizes → AreFound sizing problem sizes
 are_found ByShares problem sizes are = record { none_out = are.none_out; exact = are.exact; one_each = are.fits.one_each; total = are.total }
-are_found Least problem sizes are = record { none_out = are.none_out; exact = are.exact; one_each = are.least.fits.one_each; total = are.total }
+are_found Least problem sizes are = record { none_out = are.none_out; exact = exact-least problem sizes are; one_each = are.least.fits.one_each; total = are.total }
 
 none_large : (sizing : Sizing) (problem : Problem) → HasNone sizing problem → 2 ^ 64 ≤ total_of problem (sizes_by sizing problem)
 none_large ByShares problem none = none.too_large
@@ -64,7 +65,7 @@ none_large Least problem none = none.too_large
 found_witness : (sizing : Sizing) (problem : Problem) (found : Option (Vec Position Global)) → IsFoundWitness sizing problem found → places_seen found ≡ witness_by sizing problem
 found_witness ByShares problem found is = witness_is problem found is
 found_witness Least problem None is = absurd is
-found_witness Least problem (Some places) longest = ap Some longest.exact
+found_witness Least problem (Some places) longest = ap Some (exact-longest problem places.items longest)
 
 module _ {C : Type 0} (grid : Grid) (measure : C → ℕ × ℕ) (columns : ℕ) (cells : List (List C)) where
   module _ (sizing : Sizing) where

@@ -5,12 +5,13 @@ use Rattle.std.specs.List.{AllByRecursion, range_with_len}
 use Rattle.std.proofs.lemmas.Bool.{cases_Bool, and_parts, or_parts, or_left, or_right, eqb-false, true≢false}
 use Rattle.std.proofs.lemmas.List.Sums.{sum_by-cons}
 use Rattle.std.proofs.lemmas.List.Elements.{recursion_from_All, All-from_recursion, All-contains_itself}
+use Rattle.std.specs.Option.{option_or}
 use Rattle.papergrid_axis.specs.Problem.{given}
 use Rattle.papergrid_axis.specs.declared.demand.Demand.{Demand}
 use Rattle.papergrid_axis.specs.Ranges.{end_of, holds, AreDisjoint, inner_lines, IsInTable}
 use Rattle.papergrid_axis.specs.Fits.{range_sum, IsCertificate, IsLeast}
 use Rattle.papergrid_axis.specs.Sizes.{base_size, base_sizes}
-use Rattle.papergrid_axis.specs.Chosen.{growing, outermost, single_at, or_else, chosen}
+use Rattle.papergrid_axis.specs.Chosen.{growing, outermost, single_at, chosen}
 use Rattle.papergrid_axis.proofs.Upto.{upto, upto-ext, upto-add, upto-zero, sum-upto, within, range_sum-within, holds_cases}
 use Rattle.papergrid_axis.proofs.RangeLemmas.{ArePairwiseDisjoint, AllPairs-from_pairwise, covered, outside, partition}
 use Rattle.papergrid_axis.proofs.Duality.{IsLeast-from_certificate}
@@ -29,13 +30,13 @@ none_some e = cc
 pub some_same : {c d : Demand} → Some c ≡ Some d → c ≡ d
 some_same e = cc
 
-or_else_cases : (o p : Option Demand) (d : Demand) → or_else o p ≡ Some d → (o ≡ Some d) ⊎ (p ≡ Some d)
-or_else_cases None p d e = inr e
-or_else_cases (Some x) p d e = inl e
+option_or_cases : (o p : Option Demand) (d : Demand) → option_or o p ≡ Some d → (o ≡ Some d) ⊎ (p ≡ Some d)
+option_or_cases None p d e = inr e
+option_or_cases (Some x) p d e = inl e
 
-weight-or_else : (w : Demand → ℕ) (o p : Option Demand) → ((d : Demand) → o ≡ Some d → p ≡ None) → weight w (or_else o p) ≡ weight w o + weight w p
-weight-or_else w None p h = omega arith
-weight-or_else w (Some x) p h = rw (h x refl) (omega arith)
+weight-option_or : (w : Demand → ℕ) (o p : Option Demand) → ((d : Demand) → o ≡ Some d → p ≡ None) → weight w (option_or o p) ≡ weight w o + weight w p
+weight-option_or w None p h = omega arith
+weight-option_or w (Some x) p h = rw (h x refl) (omega arith)
 
 -- a cell that covers something holds its start
 pub holds_start : (d : Demand) (i : ℕ) → 1 ≤ d.span → d.start ≡ i → holds d i ≡ true
@@ -138,16 +139,16 @@ module _ (line : ℕ → Bool) (n : ℕ) (demands growing_cells : List Demand) (
       ]
 
   pair_apart : (i j : ℕ) (d e : Demand) → i < j →
-      or_else (find (λ d. d.start == i) (outermost growing_cells)) (single_at demands growing_cells sizes i) ≡ Some d →
-      or_else (find (λ d. d.start == j) (outermost growing_cells)) (single_at demands growing_cells sizes j) ≡ Some e → AreDisjoint d e
+      option_or (find (λ d. d.start == i) (outermost growing_cells)) (single_at demands growing_cells sizes i) ≡ Some d →
+      option_or (find (λ d. d.start == j) (outermost growing_cells)) (single_at demands growing_cells sizes j) ≡ Some e → AreDisjoint d e
   pair_apart i j d e l p q =
       let ne : i ≢ j = omega arith in
-      elim (or_else_cases (find (λ d. d.start == i) (outermost growing_cells)) (single_at demands growing_cells sizes i) d p) [
-        | inl x ↦ elim (or_else_cases (find (λ d. d.start == j) (outermost growing_cells)) (single_at demands growing_cells sizes j) e q) [
+      elim (option_or_cases (find (λ d. d.start == i) (outermost growing_cells)) (single_at demands growing_cells sizes i) d p) [
+        | inl x ↦ elim (option_or_cases (find (λ d. d.start == j) (outermost growing_cells)) (single_at demands growing_cells sizes j) e q) [
           | inl y ↦ two_found (outermost growing_cells) i j d e g.disjoint ne x y
           | inr y ↦ found_single i j d e x (single_is demands growing_cells sizes j e y)
         ]
-        | inr x ↦ elim (or_else_cases (find (λ d. d.start == j) (outermost growing_cells)) (single_at demands growing_cells sizes j) e q) [
+        | inr x ↦ elim (option_or_cases (find (λ d. d.start == j) (outermost growing_cells)) (single_at demands growing_cells sizes j) e q) [
           | inl y ↦ AreDisjoint-sym e d (found_single j i e d y (single_is demands growing_cells sizes i d x))
           | inr y ↦
               let s : IsSingle demands growing_cells sizes i d = single_is demands growing_cells sizes i d x in
@@ -161,12 +162,12 @@ module _ (line : ℕ → Bool) (n : ℕ) (demands growing_cells : List Demand) (
 
   chosen-disjoint : ArePairwiseDisjoint (chosen n demands growing_cells sizes)
   chosen-disjoint =
-      ArePairwiseDisjoint-filter_map (λ i. or_else (find (λ d. d.start == i) (outermost growing_cells)) (single_at demands growing_cells sizes i)) 0 n pair_apart
+      ArePairwiseDisjoint-filter_map (λ i. option_or (find (λ d. d.start == i) (outermost growing_cells)) (single_at demands growing_cells sizes i)) 0 n pair_apart
 
   chosen-cells : AllByRecursion (Contains demands) (chosen n demands growing_cells sizes)
   chosen-cells =
-      filter_map-all (Contains demands) (λ i. or_else (find (λ d. d.start == i) (outermost growing_cells)) (single_at demands growing_cells sizes i)) (range_with_len 0 n)
-      (λ i d e. elim (or_else_cases (find (λ d. d.start == i) (outermost growing_cells)) (single_at demands growing_cells sizes i) d e) [
+      filter_map-all (Contains demands) (λ i. option_or (find (λ d. d.start == i) (outermost growing_cells)) (single_at demands growing_cells sizes i)) (range_with_len 0 n)
+      (λ i d e. elim (option_or_cases (find (λ d. d.start == i) (outermost growing_cells)) (single_at demands growing_cells sizes i) d e) [
         | inl x ↦ (find-all (Contains demands) (λ d. d.start == i) (outermost growing_cells) d g.cells x).1
         | inr x ↦ (single_is demands growing_cells sizes i d x).cell
       ])
@@ -174,13 +175,13 @@ module _ (line : ℕ → Bool) (n : ℕ) (demands growing_cells : List Demand) (
   -- a sum over the chosen cells is one over the outermost growing cells and one over the single cells
   sum-chosen : (w : Demand → ℕ) → sum_by w (chosen n demands growing_cells sizes) ≡ sum_by w (outermost growing_cells) + upto (λ i. weight w (single_at demands growing_cells sizes i)) n
   sum-chosen w =
-      let a : sum_by w (chosen n demands growing_cells sizes) ≡ upto (λ i. weight w (or_else (find (λ d. d.start == i) (outermost growing_cells)) (single_at demands growing_cells sizes i))) n =
-      sum_by-filter_map w (λ i. or_else (find (λ d. d.start == i) (outermost growing_cells)) (single_at demands growing_cells sizes i)) n in
-      let b : upto (λ i. weight w (or_else (find (λ d. d.start == i) (outermost growing_cells)) (single_at demands growing_cells sizes i))) n
+      let a : sum_by w (chosen n demands growing_cells sizes) ≡ upto (λ i. weight w (option_or (find (λ d. d.start == i) (outermost growing_cells)) (single_at demands growing_cells sizes i))) n =
+      sum_by-filter_map w (λ i. option_or (find (λ d. d.start == i) (outermost growing_cells)) (single_at demands growing_cells sizes i)) n in
+      let b : upto (λ i. weight w (option_or (find (λ d. d.start == i) (outermost growing_cells)) (single_at demands growing_cells sizes i))) n
       ≡ upto (λ i. weight w (find (λ d. d.start == i) (outermost growing_cells)) + weight w (single_at demands growing_cells sizes i)) n =
-      upto-ext (λ i. weight w (or_else (find (λ d. d.start == i) (outermost growing_cells)) (single_at demands growing_cells sizes i)))
+      upto-ext (λ i. weight w (option_or (find (λ d. d.start == i) (outermost growing_cells)) (single_at demands growing_cells sizes i)))
       (λ i. weight w (find (λ d. d.start == i) (outermost growing_cells)) + weight w (single_at demands growing_cells sizes i)) n
-      (λ i l. weight-or_else w (find (λ d. d.start == i) (outermost growing_cells)) (single_at demands growing_cells sizes i)
+      (λ i l. weight-option_or w (find (λ d. d.start == i) (outermost growing_cells)) (single_at demands growing_cells sizes i)
       (λ d e. single-none demands growing_cells sizes i (sym (covered-outermost growing_cells i) ∙ covered-found (outermost growing_cells) i d spans e))) in
       let c : upto (λ i. weight w (find (λ d. d.start == i) (outermost growing_cells)) + weight w (single_at demands growing_cells sizes i)) n
       ≡ upto (λ i. weight w (find (λ d. d.start == i) (outermost growing_cells))) n + upto (λ i. weight w (single_at demands growing_cells sizes i)) n =

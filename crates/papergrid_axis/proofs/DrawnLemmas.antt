@@ -25,7 +25,7 @@ module _ (drawn line : ℕ → Bool) (n : ℕ) (agree : (i : ℕ) → i ≤ n �
   lack-drawn sizes d inside = ap (λ inner. d.need - (range_sum sizes d + inner)) (inner-drawn d inside)
 
   grown-drawn : (sizes : List ℕ) (d : Demand) → IsInTable n d → grown drawn sizes d ≡ grown line sizes d
-  grown-drawn sizes d inside = ap (λ amount. with_shares amount d 0 sizes) (lack-drawn sizes d inside)
+  grown-drawn sizes d inside = ap (λ amount. with_shares amount d sizes) (lack-drawn sizes d inside)
 
   pub taken-drawn : (sizes : List ℕ) (cells : List Demand) → AllByRecursion (IsInTable n) cells → fold (grown drawn) sizes cells ≡ fold (grown line) sizes cells
   taken-drawn sizes [] table = refl

@@ -17,10 +17,10 @@ use Rattle.papergrid_axis.proofs.Greatest.{greatest_need-above, greatest_need-be
 
 pub length-taken : (line : ℕ → Bool) (sizes : List ℕ) (taken : List Demand) → length (fold (grown line) sizes taken) ≡ length sizes
 length-taken line sizes [] = refl
-length-taken line sizes (d ∷ rest) = length-taken line (grown line sizes d) rest ∙ length-with_shares (lack line sizes d) d 0 sizes
+length-taken line sizes (d ∷ rest) = length-taken line (grown line sizes d) rest ∙ length-with_shares (lack line sizes d) d sizes
 
 pub length-grown : (line : ℕ → Bool) (sizes : List ℕ) (d : Demand) → length (grown line sizes d) ≡ length sizes
-length-grown line sizes d = length-with_shares (lack line sizes d) d 0 sizes
+length-grown line sizes d = length-with_shares (lack line sizes d) d sizes
 
 -- a cell with room keeps it through the steps
 pub HasRoom-taken : (line : ℕ → Bool) (sizes : List ℕ) (taken : List Demand) (e : Demand) → end_of e ≤ length sizes → HasRoom line sizes e →

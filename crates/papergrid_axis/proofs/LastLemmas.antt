@@ -5,11 +5,12 @@ use Rattle.std.specs.Prelude.{find, All, Contains}
 use Rattle.std.specs.List.{AllByRecursion, list_any}
 use Rattle.std.proofs.lemmas.Bool.{cases_Bool, cases_eq, cases_lt, or_parts, or_from, true≢false, false≢true}
 use Rattle.std.proofs.lemmas.List.Elements.{All-contains, All-from_recursion}
+use Rattle.std.specs.Option.{option_or}
 use Rattle.papergrid_axis.specs.declared.demand.Demand.{Demand}
 use Rattle.papergrid_axis.specs.Sizes.{taken}
 use Rattle.papergrid_axis.specs.Ranges.{end_of, holds, AreDisjoint, AreNested, IsKeptApart, IsInTable, LiesIn}
 use Rattle.papergrid_axis.specs.ForProofs.LastCells.{Precedes, IsLaminar, last_holding}
-use Rattle.papergrid_axis.specs.Chosen.{lies_in, outermost, or_else, single_at}
+use Rattle.papergrid_axis.specs.Chosen.{lies_in, outermost, single_at}
 use Rattle.papergrid_axis.proofs.Upto.{holds_cases}
 use Rattle.papergrid_axis.proofs.RangeLemmas.{covered, not_covered, not_both}
 use Rattle.papergrid_axis.proofs.Orders.{TakesAll-taken}
@@ -29,9 +30,9 @@ last_holding-none (d ∷ ds) i f =
     let p : (holds d i ≡ false) × (covered ds i ≡ false) = or_parts (holds d i) (covered ds i) f in
     rw (last_holding-none ds i p.1, p.0) refl
 
-or_else-some : (o : Option Demand) (d : Demand) → (e : Demand) × (or_else o (Some d) ≡ Some e)
-or_else-some None d = (d, refl)
-or_else-some (Some e) d = (e, refl)
+option_or-some : (o : Option Demand) (d : Demand) → (e : Demand) × (option_or o (Some d) ≡ Some e)
+option_or-some None d = (d, refl)
+option_or-some (Some e) d = (e, refl)
 
 pub last_holding-some : (ds : List Demand) (i : ℕ) → covered ds i ≡ true → (d : Demand) × (last_holding ds i ≡ Some d)
 last_holding-some [] i t = absurd (false≢true t)
@@ -41,7 +42,7 @@ last_holding-some (d ∷ ds) i t = elim (cases_Bool (covered ds i)) [
       rw found.1 (found.0, refl)
   | inr f ↦
       let h : holds d i ≡ true = elim (cases_Bool (holds d i)) [ inl h ↦ h | inr h ↦ absurd (true≢false (sym t ∙ or_from (holds d i) (covered ds i) h f)) ] in
-      rw h (or_else-some (last_holding ds i) d)
+      rw h (option_or-some (last_holding ds i) d)
 ]
 
 -- the cell, where its range starts at i
@@ -49,7 +50,7 @@ abbrev pub starting_at : ℕ → Option Demand → Option Demand
 starting_at i None = None
 starting_at i (Some d) = cond (eqb d.start i) (Some d) None
 
-starting_at-other : (d : Demand) (i : ℕ) (o : Option Demand) → eqb d.start i ≡ false → starting_at i o ≡ starting_at i (or_else o (cond (holds d i) (Some d) None))
+starting_at-other : (d : Demand) (i : ℕ) (o : Option Demand) → eqb d.start i ≡ false → starting_at i o ≡ starting_at i (option_or o (cond (holds d i) (Some d) None))
 starting_at-other d i (Some e) f = refl
 starting_at-other d i None f = elim (cases_Bool (holds d i)) [
   | inl h ↦ rw h (rw f refl)
@@ -85,15 +86,15 @@ find-outermost (d ∷ rest) i laminar ones =
 
 -- the chosen cell at i, by one look at the table
 pub chosen-at : (demands growing_cells : List Demand) (sizes : List ℕ) (i : ℕ) → IsLaminar growing_cells → AllByRecursion (λ d. 1 ≤ d.span) growing_cells →
-    or_else (find (λ d. d.start == i) (outermost growing_cells)) (single_at demands growing_cells sizes i) ≡ or_else (starting_at i (last_holding growing_cells i)) (single_at demands growing_cells sizes i)
-chosen-at demands growing_cells sizes i laminar ones = ap (λ o. or_else o (single_at demands growing_cells sizes i)) (find-outermost growing_cells i laminar ones)
+    option_or (find (λ d. d.start == i) (outermost growing_cells)) (single_at demands growing_cells sizes i) ≡ option_or (starting_at i (last_holding growing_cells i)) (single_at demands growing_cells sizes i)
+chosen-at demands growing_cells sizes i laminar ones = ap (λ o. option_or o (single_at demands growing_cells sizes i)) (find-outermost growing_cells i laminar ones)
 
 -- the last cell that holds i is one of the cells, and holds i
 pub last_holding-all : (P : Demand → Type 0) (ds : List Demand) (i : ℕ) (o : Demand) → AllByRecursion P ds → last_holding ds i ≡ Some o → (holds o i ≡ true) × P o
 last_holding-all P [] i o all e = absurd (none_some e)
 last_holding-all P (d ∷ rest) i o all e = step (last_holding rest i) (λ e'. last_holding-all P rest i o all.1 e') e
   where
-    step : (p : Option Demand) → (p ≡ Some o → (holds o i ≡ true) × P o) → or_else p (cond (holds d i) (Some d) None) ≡ Some o → (holds o i ≡ true) × P o
+    step : (p : Option Demand) → (p ≡ Some o → (holds o i ≡ true) × P o) → option_or p (cond (holds d i) (Some d) None) ≡ Some o → (holds o i ≡ true) × P o
     step (Some c) later e = later e
     step None later e = elim (cases_Bool (holds d i)) [
       | inl h ↦

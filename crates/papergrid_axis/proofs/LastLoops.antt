@@ -5,9 +5,10 @@ use Rattle.std.specs.List.{AllByRecursion, range_with_len, cons_option}
 use Rattle.std.proofs.lemmas.List.Elements.{filter_map-append}
 use Rattle.std.proofs.lemmas.Bool.{cases_Bool, cases_eq, cases_lt, true≢false}
 use Rattle.std.proofs.lemmas.List.{get_or_past}
+use Rattle.std.specs.Option.{option_or}
 use Rattle.papergrid_axis.specs.declared.demand.Demand.{Demand}
 use Rattle.papergrid_axis.specs.Ranges.{end_of, holds, IsInTable, LiesIn}
-use Rattle.papergrid_axis.specs.Chosen.{or_else, exact_single, single_at, outermost, chosen}
+use Rattle.papergrid_axis.specs.Chosen.{exact_single, single_at, outermost, chosen}
 use Rattle.papergrid_axis.proofs.RangeLemmas.{covered}
 use Rattle.papergrid_axis.proofs.LoopLemmas.{range_with_len-append}
 use Rattle.papergrid_axis.specs.ForProofs.LastCells.{AreExact, IsLaminar, last_holding, slot_of, chosen_slot}
@@ -82,20 +83,20 @@ filter_map-agree h g a zero same = refl
 filter_map-agree h g a (suc n) same =
     ap₂ (λ o xs. cons_option o xs) (same a (omega arith) (omega arith)) (filter_map-agree h g (a + 1) n (λ i l l'. same i (omega arith) (omega arith)))
 
-or_else-none : (o : Option Demand) → or_else o None ≡ o
-or_else-none None = refl
-or_else-none (Some d) = refl
+option_or-none : (o : Option Demand) → option_or o None ≡ o
+option_or-none None = refl
+option_or-none (Some d) = refl
 
 -- the cell in the slot is the chosen one
 slot-chosen : (demands growing_cells : List Demand) (sizes : List ℕ) (i : ℕ) → IsLaminar growing_cells → AllByRecursion (λ d. 1 ≤ d.span) growing_cells →
     slot_of (last_holding growing_cells i) (exact_single demands sizes i) (get_or sizes i 0) i
-    ≡ or_else (find (λ d. d.start == i) (outermost growing_cells)) (single_at demands growing_cells sizes i)
+    ≡ option_or (find (λ d. d.start == i) (outermost growing_cells)) (single_at demands growing_cells sizes i)
 slot-chosen demands growing_cells sizes i laminar ones =
     sym (chosen-at demands growing_cells sizes i laminar ones
     ∙ elim (cases_Bool (covered growing_cells i)) [
       | inl t ↦
           let found : (d : Demand) × (last_holding growing_cells i ≡ Some d) = last_holding-some growing_cells i t in
-          rw (found.1, t) (or_else-none (starting_at i (Some found.0)))
+          rw (found.1, t) (option_or-none (starting_at i (Some found.0)))
       | inr f ↦ rw (last_holding-none growing_cells i f, f) refl
     ])
 
@@ -115,6 +116,6 @@ pub chosen-by_slots : (demands growing_cells : List Demand) (sizes : List ℕ) (
     ((i : ℕ) → i < length sizes → get_or last i None ≡ last_holding growing_cells i) → AreExact demands growing_cells sizes single_span →
     filter_map (chosen_slot last single_span sizes) (range_with_len 0 (length sizes)) ≡ chosen (length sizes) demands growing_cells sizes
 chosen-by_slots demands growing_cells sizes last single_span laminar each lasts exact =
-    filter_map-agree (chosen_slot last single_span sizes) (λ i. or_else (find (λ d. d.start == i) (outermost growing_cells)) (single_at demands growing_cells sizes i)) 0 (length sizes)
+    filter_map-agree (chosen_slot last single_span sizes) (λ i. option_or (find (λ d. d.start == i) (outermost growing_cells)) (single_at demands growing_cells sizes i)) 0 (length sizes)
     (λ i l l'. ap (λ o. slot_of o (Some (get_or single_span i no_demand)) (get_or sizes i 0) i) (lasts i (omega arith))
     ∙ slot-kept demands growing_cells sizes single_span i (omega arith) exact ∙ slot-chosen demands growing_cells sizes i laminar each)

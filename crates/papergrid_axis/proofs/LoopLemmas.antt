@@ -70,20 +70,20 @@ pub record SharesAdded (amount : ℕ) (d : Demand) (old new : List ℕ) (i next_
   pub next : i < end_of d → next_share ≡ share amount d i
 
 pub SharesAdded-all : (amount : ℕ) (d : Demand) (old new : List ℕ) (next_share : ℕ) → 1 ≤ d.span → length new ≡ length old →
-    SharesAdded amount d old new (end_of d) next_share → new ≡ with_shares amount d 0 old
+    SharesAdded amount d old new (end_of d) next_share → new ≡ with_shares amount d old
 SharesAdded-all amount d old new next_share one same h =
-    same_number_lists new (with_shares amount d 0 old) (same ∙ sym (length-with_shares amount d 0 old))
+    same_number_lists new (with_shares amount d old) (same ∙ sym (length-with_shares amount d old))
     (λ k l. elim (cases_lt k (end_of d)) [
       | inl lt ↦ h.below k lt ∙ sym (at k (omega arith))
       | inr le ↦
           let z : share amount d k ≡ 0 = share-out amount d k one (inr le) in
-          let e : get_or (with_shares amount d 0 old) k 0 ≡ get_or old k 0 + share amount d k = at k (omega arith) in
+          let e : get_or (with_shares amount d old) k 0 ≡ get_or old k 0 + share amount d k = at k (omega arith) in
           let r : get_or new k 0 ≡ get_or old k 0 = h.rest k le in
           omega arith
     ])
   where
-    at : (k : ℕ) → k < length old → get_or (with_shares amount d 0 old) k 0 ≡ get_or old k 0 + share amount d k
-    at k l = get_or-with_shares amount d 0 old k l ∙ ap (λ j. get_or old k 0 + share amount d j) (let e : 0 + k ≡ k = omega arith in e)
+    at : (k : ℕ) → k < length old → get_or (with_shares amount d old) k 0 ≡ get_or old k 0 + share amount d k
+    at k l = get_or-with_shares amount d old k l
 
 -- all lines of a list of lines
 pub all_lines-drawn : (lines : List Bool) (n : ℕ) → length lines ≡ n + 1 → count_by (λ x. x) lines ≡ all_lines (line_at lines) n

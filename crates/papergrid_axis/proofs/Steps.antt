@@ -1,25 +1,22 @@
 -- One step: what the sizes are after a cell was taken.
 use Rattle.std.proofs.Common.{◌≡◌, ℕ, zero, suc, ◌+◌, ◌-◌, ◌*◌, ◌/◌, ◌%◌, ◌<◌, ◌≤◌, ◌≢◌, Bool, ◌⊎◌, inl, inr, List, [], ◌∷◌, length, get_or, refl, ap, ◌∙◌, arith, suc-mul, eq-eqb, ne_eqb}
+use Rattle.std.proofs.lemmas.List.FromFn.{get_or-map-range_with_len, length-map-range_with_len}
 use Rattle.papergrid_axis.specs.declared.demand.Demand.{Demand}
 use Rattle.papergrid_axis.specs.Ranges.{end_of, inner_lines}
 use Rattle.papergrid_axis.specs.Fits.{range_sum, HasRoom}
 use Rattle.papergrid_axis.specs.Sizes.{share, with_shares, lack, grown}
 use Rattle.papergrid_axis.proofs.Upto.{upto, upto-ext, upto-add, upto-split, within, range_sum-within, holds_cases}
 
-pub length-with_shares : (amount : ℕ) (d : Demand) (i : ℕ) (xs : List ℕ) → length (with_shares amount d i xs) ≡ length xs
-length-with_shares amount d i [] = refl
-length-with_shares amount d i (x ∷ xs) = ap suc (length-with_shares amount d (i + 1) xs)
+pub length-with_shares : (amount : ℕ) (d : Demand) (xs : List ℕ) → length (with_shares amount d xs) ≡ length xs
+length-with_shares amount d xs = length-map-range_with_len (λ i. get_or xs i 0 + share amount d i) 0 (length xs)
 
-pub get_or-with_shares : (amount : ℕ) (d : Demand) (j : ℕ) (xs : List ℕ) (i : ℕ) → i < length xs →
-    get_or (with_shares amount d j xs) i 0 ≡ get_or xs i 0 + share amount d (j + i)
-get_or-with_shares amount d j [] i l = absurd (omega arith)
-get_or-with_shares amount d j (x ∷ xs) zero l = ap (λ k. x + share amount d k) (let e : j ≡ j + 0 = omega arith in e)
-get_or-with_shares amount d j (x ∷ xs) (suc i) l =
-    get_or-with_shares amount d (j + 1) xs i (omega arith) ∙ ap (λ k. get_or xs i 0 + share amount d k) (let e : j + 1 + i ≡ j + suc i = omega arith in e)
+pub get_or-with_shares : (amount : ℕ) (d : Demand) (xs : List ℕ) (i : ℕ) → i < length xs →
+    get_or (with_shares amount d xs) i 0 ≡ get_or xs i 0 + share amount d i
+get_or-with_shares amount d xs i l = get_or-map-range_with_len (λ i. get_or xs i 0 + share amount d i) 0 (length xs) i i 0 l (omega arith)
 
 pub get_or-grown : (line : ℕ → Bool) (sizes : List ℕ) (d : Demand) (i : ℕ) → i < length sizes →
     get_or (grown line sizes d) i 0 ≡ get_or sizes i 0 + share (lack line sizes d) d i
-get_or-grown line sizes d i l = get_or-with_shares (lack line sizes d) d 0 sizes i l ∙ ap (λ k. get_or sizes i 0 + share (lack line sizes d) d k) (let e : 0 + i ≡ i = omega arith in e)
+get_or-grown line sizes d i l = get_or-with_shares (lack line sizes d) d sizes i l
 
 pub share-first : (amount : ℕ) (d : Demand) (i : ℕ) → i ≡ d.start → share amount d i ≡ amount / d.span + amount % d.span
 share-first amount d i e = rw (eq-eqb i d.start e) refl

@@ -1,9 +1,11 @@
 -- What an answer for a direction says of the cells' demands.
-use Rattle.std.specs.Prelude.{◌≡◌, ℕ, ◌^◌, ◌<◌, ◌≤◌, List, EachIndex, slice_index, map, Result, Ok, Err, Option, None, Some, Vec, ⊤}
+use Rattle.std.specs.Prelude.{◌≡◌, ℕ, Bool, false, true, ◌^◌, ◌<◌, ◌≤◌, List, EachIndex, slice_index, map, Result, Ok, Err, Option, None, Some, Vec, ⊤}
+use Rattle.std.specs.declared.alloc.Global.{Global}
 use Rattle.papergrid_values.specs.declared.position.Position.{Position}
 use Rattle.papergrid_axis.specs.declared.demand.Demand.{Demand}
 use Rattle.papergrid_axis.specs.declared.error.LayoutError.{LayoutError}
 use Rattle.papergrid_axis.specs.declared.error.LayoutError.TheVariants.{OutOfTable, TooLarge, Memory}
+use Rattle.papergrid_axis.specs.declared.solution.Solved.{Solved}
 use Rattle.papergrid_axis.specs.Problem.{Problem, total_of}
 use Rattle.papergrid_axis.specs.Ranges.{IsKeptApart, SomeCross, first_out, place_of}
 use Rattle.papergrid_axis.specs.Fits.{Fits, IsLeast, IsTooLarge, IsCertificate, top_need}
@@ -65,6 +67,16 @@ module _ (problem : Problem) where
 abbrev pub IsWitness : {Z : Type 0} → Problem → Option (Vec Position Z) → Type 0
 IsWitness problem None = NoneChosen problem
 IsWitness problem (Some places) = AreChosen problem places.items
+
+-- what a solver finds of a problem: sizes of which this holds, their total with all lines, and what
+-- certifies them, of which this holds, where that is asked for, else nothing
+pub record IsSolvedBy (are_sizes : Problem → List ℕ → Type 0)
+    (certifies : Problem → Option (Vec Position Global) → Type 0)
+    (certify : Bool) (problem : Problem) (solved : Solved) : Type 0 where
+  pub sizes : are_sizes problem solved.sizes.items
+  pub total : solved.total ≡ total_of problem solved.sizes.items
+  pub asked : certify ≡ true → certifies problem solved.certificate
+  pub unasked : certify ≡ false → solved.certificate ≡ None
 
 -- what is asked for of a problem, or why there is none: where it is refused as too large, this is known of it
 abbrev pub AnswersWhere : {A : Type 0} → (Problem → Type 0) → (Problem → A → Type 0) → Problem → Result A LayoutError → Type 0

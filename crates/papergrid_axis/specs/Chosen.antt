@@ -1,6 +1,7 @@
 -- The cells that are chosen to certify that the sizes are least.
 use Rattle.std.specs.Prelude.{ℕ, Bool, ◌&&◌, ◌==◌, nat_lt, nat_le, if◌then◌else◌, List, [], ◌∷◌, filter_map, find, slice_index, Option, Some, None}
 use Rattle.std.specs.List.{range_with_len, list_any}
+use Rattle.std.specs.Option.{option_or}
 use Rattle.papergrid_axis.specs.declared.demand.Demand.{Demand}
 use Rattle.papergrid_axis.specs.Problem.{Problem}
 use Rattle.papergrid_axis.specs.Ranges.{end_of, holds}
@@ -32,15 +33,10 @@ single_at demands growing_cells sizes i =
     if list_any (λ d. holds d i) growing_cells then None
     else (if slice_index sizes i == 0 then None else exact_single demands sizes i)
 
--- the first, if there is one, else the second
-abbrev pub or_else : Option Demand → Option Demand → Option Demand
-or_else None other = other
-or_else (Some d) other = Some d
-
 -- the outermost growing cells and the single ones, by the start of their ranges
 abbrev pub chosen : ℕ → List Demand → List Demand → List ℕ → List Demand
 chosen n demands growing_cells sizes =
-    filter_map (λ i. or_else (find (λ d. d.start == i) (outermost growing_cells)) (single_at demands growing_cells sizes i))
+    filter_map (λ i. option_or (find (λ d. d.start == i) (outermost growing_cells)) (single_at demands growing_cells sizes i))
     (range_with_len 0 n)
 
 -- the cells that grow of a problem

@@ -1,5 +1,5 @@
 -- The sizes along a direction: what the cells need that cover one number alone, and then what those of longer ranges lack.
-use Rattle.std.specs.Prelude.{ℕ, ◌+◌, ◌-◌, ◌/◌, ◌%◌, Bool, ◌&&◌, ◌==◌, if◌then◌else◌, List, [], ◌∷◌, map, filter, flat_map, fold}
+use Rattle.std.specs.Prelude.{ℕ, ◌+◌, ◌-◌, ◌/◌, ◌%◌, Bool, ◌&&◌, ◌==◌, if◌then◌else◌, List, length, map, filter, flat_map, fold, slice_index}
 use Rattle.std.specs.List.{range_with_len}
 use Rattle.papergrid_axis.specs.declared.demand.Demand.{Demand}
 use Rattle.papergrid_axis.specs.Problem.{Problem}
@@ -23,14 +23,14 @@ abbrev pub share : ℕ → Demand → ℕ → ℕ
 share amount d i =
     if i == d.start then amount / d.span + amount % d.span else (if holds d i then amount / d.span else 0)
 
--- these sizes, from number i on, with their shares
-abbrev pub with_shares : ℕ → Demand → ℕ → List ℕ → List ℕ
-with_shares amount d i [] = []
-with_shares amount d i (x ∷ xs) = (x + share amount d i) ∷ with_shares amount d (i + 1) xs
+-- these sizes, each with its share
+abbrev pub with_shares : ℕ → Demand → List ℕ → List ℕ
+with_shares amount d sizes =
+    map (λ i. slice_index sizes i + share amount d i) (range_with_len 0 (length sizes))
 
 -- the sizes after the cell was taken: its range shares what it lacks
 abbrev pub grown : (ℕ → Bool) → List ℕ → Demand → List ℕ
-grown line sizes d = with_shares (lack line sizes d) d 0 sizes
+grown line sizes d = with_shares (lack line sizes d) d sizes
 
 -- the cells of longer ranges in the order in which they are taken, by (span, row, column): those of span 2, then those of
 -- span 3, and so on up to n

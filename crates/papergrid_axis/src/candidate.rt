@@ -57,7 +57,8 @@ fn count_all(places: &[Position], place: Position) -> usize
 /// for at `start` itself before, where it is if all numbers up to that one have places.
 fn index_rising(direction: Direction, places: &[Position], start: usize) -> usize
     requires { AllPairs (AreRising direction) places.now }
-    ensures { IsPartitionPoint (λ p. nat_lt (along direction p) start ≡ true) (λ p. nat_lt (along direction p) start ≡ false) places.now result }
+    ensures { IsPartitionPoint (λ p. nat_lt (along direction p) start ≡ true)
+        (λ p. nat_lt (along direction p) start ≡ false) places.now result }
 {
     if start < places.len() && direction.number_of(places[start]) == start {
         return start;
@@ -83,7 +84,8 @@ fn count_rising(direction: Direction, places: &[Position], place: Position) -> u
 
 /// How often a position is listed.
 pub fn count_listed(candidate: &Candidate<'_>, place: Position) -> usize
-    requires { candidate.now.is_ordered ≡ true → AllPairs (AreRising candidate.now.direction) candidate.now.places.now }
+    requires { candidate.now.is_ordered ≡ true →
+        AllPairs (AreRising candidate.now.direction) candidate.now.places.now }
     ensures { result ≡ count_of place candidate.now.places.now }
 {
     if candidate.is_ordered {
@@ -96,7 +98,8 @@ pub fn count_listed(candidate: &Candidate<'_>, place: Position) -> usize
 /// Whether no two of the ranges at the places have a number in common.
 pub fn are_disjoint<A: Axis>(candidate: &Candidate<'_>, axis: &A) -> bool
     requires { IsCandidate (A.span_of axis.now) candidate.now }
-    ensures { IsTrue result ↔ AllPairs (AreDisjointAt candidate.now.direction (A.span_of axis.now)) candidate.now.places.now }
+    ensures { let are_disjoint = AreDisjointAt candidate.now.direction (A.span_of axis.now) in
+        IsTrue result ↔ AllPairs are_disjoint candidate.now.places.now }
 {
     if candidate.is_ordered {
         return true;

@@ -5,7 +5,7 @@ ghost use Rattle.papergrid_values.specs.declared.position.Position.{Position};
 ghost use Rattle.papergrid_axis.specs.Problem.{given};
 ghost use Rattle.papergrid_axis.specs.declared.demand.Demand.{Demand};
 ghost use Rattle.papergrid_values.specs.declared.direction.Direction.{Direction};
-ghost use Rattle.papergrid_axis.specs.ForProofs.Checks.{AreBounded, AreDistinct, Checks, IsCandidate, SumsAgree, range_of};
+ghost use Rattle.papergrid_axis.specs.ForProofs.Checks.{AreBounded, AreDistinct, Checks, ChecksFor, IsCandidate, SumsAgree, range_of};
 ghost use Rattle.papergrid_axis.specs.Answers.{IsAccepted};
 ghost use Rattle.papergrid_axis.specs.Fits.{HasRoom, IsLeast};
 ghost use Rattle.papergrid_axis.specs.Ranges.{demand_of, inner_lines};
@@ -81,8 +81,10 @@ fn count_inner<A: Axis>(axis: &A, start: usize, span: usize) -> usize
 fn room<A: Axis>(axis: &A, sizes: &[usize], start: usize, span: usize, need: u128) -> Option<usize>
     requires { 1 ≤ span }
     ensures inside { IfSome result (λ inner. start + span ≤ length sizes.now) }
-    ensures inner { IfSome result (λ inner. inner ≡ inner_lines (A.line axis.now) (range_of start span need)) }
-    ensures room { IfSome result (λ inner. HasRoom (A.line axis.now) sizes.now (range_of start span need)) }
+    ensures inner { IfSome result (λ inner.
+        inner ≡ inner_lines (A.line axis.now) (range_of start span need)) }
+    ensures room { IfSome result (λ inner.
+        HasRoom (A.line axis.now) sizes.now (range_of start span need)) }
     ensures none { IfNone result (start + span ≤ length sizes.now →
         HasRoom (A.line axis.now) sizes.now (range_of start span need) → ⊥) }
 {
@@ -99,7 +101,7 @@ fn room<A: Axis>(axis: &A, sizes: &[usize], start: usize, span: usize, need: u12
 
 /// What was kept, and that a cell fails.
 fn failed(checked: Checked) -> Checked
-    ensures { result ≡ record { holds = false; found = checked.found; needs = checked.needs; inner = checked.inner } }
+    ensures { result ≡ record checked { holds = false } }
 {
     Checked {
         holds: false,
@@ -116,7 +118,12 @@ fn with_cell(checked: Checked, times: usize, need: u128, inner: usize) -> Checke
     requires needs { checked.needs ≤ 2 ^ 66 * checked.found }
     requires inner { checked.inner ≤ 2 ^ 64 * checked.found }
     requires need { need ≤ 2 ^ 66 }
-    ensures { result ≡ record { holds = true; found = checked.found + times; needs = checked.needs + need * times; inner = checked.inner + inner * times } }
+    ensures { result ≡ record {
+      holds = true;
+      found = checked.found + times;
+      needs = checked.needs + need * times;
+      inner = checked.inner + inner * times;
+    } }
 {
     if times == 0 {
         return checked;
@@ -132,7 +139,8 @@ fn with_cell(checked: Checked, times: usize, need: u128, inner: usize) -> Checke
 /// Whether a range that begins at a number has room for the need whatever its span is, since the size
 /// of that number has.
 fn has_room_alone(candidate: &Candidate<'_>, start: usize, need: u128) -> bool
-    ensures { IsTrue result → (candidate.now.ends_within ≡ true) × (start < length candidate.now.sizes.now)
+    ensures { IsTrue result → (candidate.now.ends_within ≡ true)
+        × (start < length candidate.now.sizes.now)
         × (need ≤ slice_index candidate.now.sizes.now start) }
 {
     candidate.ends_within && start < candidate.sizes.len() && need <= candidate.sizes[start] as u128
@@ -152,9 +160,9 @@ pub fn visit<A: Axis>(
     requires ordered { IsCandidate (A.span_of axis.now) candidate.now }
     requires need { need ≤ 2 ^ 66 }
     ensures bounded { AreBounded candidate.now.places.now result }
-    ensures checks { let checks = Checks (A.line axis.now) candidate.now.sizes.now candidate.now.places.now candidate.now.direction (A.span_of axis.now) in
-        (demands : List Demand) → checks checked demands →
-        checks result (demands ++ demand_of candidate.now.direction place (A.span_of axis.now place) need ∷ []) }
+    ensures checks { let checks = ChecksFor (A.line axis.now) (A.span_of axis.now) candidate.now in
+        let demand = demand_of candidate.now.direction place (A.span_of axis.now place) need in
+        (demands : List Demand) → checks checked demands → checks result (demands ++ demand ∷ []) }
 {
     let start = candidate.direction.number_of(place);
     let times = count_listed(candidate, place);
@@ -208,10 +216,11 @@ fn sums_agree(checked: Checked, sizes: &[usize], places: &[Position]) -> bool
 pub fn accepts<A: Axis>(checked: Checked, candidate: &Candidate<'_>, axis: &A, count: usize) -> bool
     requires bounded { AreBounded candidate.now.places.now checked }
     requires ordered { IsCandidate (A.span_of axis.now) candidate.now }
-    ensures exact { let checks = Checks (A.line axis.now) candidate.now.sizes.now candidate.now.places.now candidate.now.direction (A.span_of axis.now) in
-        (demands : List Demand) → AreDistinct demands → checks checked demands → IsTrue result ↔
-        IsAccepted (given (A.line axis.now) count demands) candidate.now.sizes.now candidate.now.places.now }
-    ensures least { let checks = Checks (A.line axis.now) candidate.now.sizes.now candidate.now.places.now candidate.now.direction (A.span_of axis.now) in
+    ensures exact { let checks = ChecksFor (A.line axis.now) (A.span_of axis.now) candidate.now in
+        (demands : List Demand) → AreDistinct demands → checks checked demands →
+        let problem = given (A.line axis.now) count demands in
+        IsTrue result ↔ IsAccepted problem candidate.now.sizes.now candidate.now.places.now }
+    ensures least { let checks = ChecksFor (A.line axis.now) (A.span_of axis.now) candidate.now in
         (demands : List Demand) → AreDistinct demands → checks checked demands → IsTrue result →
         IsLeast (given (A.line axis.now) count demands) candidate.now.sizes.now }
 {

@@ -48,7 +48,8 @@ fn chosen_cells(
     sizes: &[usize],
 ) -> Result<Vec<Demand>, AllocError>
     ensures { let slots = chosen_slot last.now single_span.now sizes.now in
-        IfOk result (λ cells. cells.items ≡ filter_map slots (range_with_len 0 (length sizes.now))) }
+        IfOk result (λ cells.
+        cells.items ≡ filter_map slots (range_with_len 0 (length sizes.now))) }
 {
     let mut cells = Vec::new(alloc);
     for i in 0..sizes.len() {
@@ -62,7 +63,8 @@ fn chosen_cells(
 /// For each number the last cell whose range holds it. Where there is no cell this takes no memory.
 fn last_of(alloc: Global, count: usize, cells: &[Demand]) -> Result<Vec<Option<Demand>>, AllocError>
     requires { All (IsInTable count) cells.now }
-    ensures { IfOk result (λ last. (i : ℕ) → i < count → slice_index_or last.items i None ≡ last_holding cells.now i) }
+    ensures { IfOk result (λ last. (i : ℕ) → i < count →
+        slice_index_or last.items i None ≡ last_holding cells.now i) }
 {
     if cells.is_empty() {
         return Ok(Vec::new(alloc));
@@ -89,8 +91,10 @@ pub fn chosen_places(
 ) -> Result<Vec<Position>, AllocError>
     requires growing_cells { All (IsInTable (length sizes.now)) growing_cells.now }
     requires laminar { IsLaminar growing_cells.now }
-    ensures { (demands : List Demand) → AreExact demands growing_cells.now sizes.now single_span.now →
-        IfOk result (λ places. places.items ≡ map place_of (chosen (length sizes.now) demands growing_cells.now sizes.now)) }
+    ensures { (demands : List Demand) →
+        AreExact demands growing_cells.now sizes.now single_span.now →
+        let cells = chosen (length sizes.now) demands growing_cells.now sizes.now in
+        IfOk result (λ places. places.items ≡ map place_of cells) }
 {
     let last = last_of(alloc, sizes.len(), growing_cells)?;
     let cells = chosen_cells(alloc, &last, single_span, sizes)?;

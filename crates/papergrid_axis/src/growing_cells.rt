@@ -1,6 +1,6 @@
 //! The cells of longer ranges: each is given what it lacks, and those that grow are kept.
 
-ghost use Rattle.std.specs.Prelude.{All, IfNone, IfOk, IfSome, IsTrue, OnOk, count_by, fold, length, min, slice_index, sum, ℕ, ◌+◌, ◌-◌, ◌<◌, ◌^◌, ◌↔◌, ◌≡◌, ◌≤◌};
+ghost use Rattle.std.specs.Prelude.{All, IfOk, IsTrue, OnOk, count_by, fold, length, min, slice_index, sum, ℕ, ◌+◌, ◌-◌, ◌<◌, ◌^◌, ◌↔◌, ◌≡◌, ◌≤◌};
 ghost use Rattle.std.specs.Option.{SomeIff};
 ghost use Rattle.papergrid_axis.specs.ForProofs.Settled.{line_at};
 ghost use Rattle.papergrid_values.specs.Lines.{all_lines};
@@ -33,6 +33,15 @@ fn checked_sum(sizes: &[usize]) -> Option<usize>
     Some(total)
 }
 
+/// The total of the sizes with all lines, if it fits.
+pub fn checked_total(sizes: &[usize], lines: &[bool]) -> Option<usize>
+    requires { length lines.now ≡ length sizes.now + 1 }
+    ensures { let total = sum sizes.now + all_lines (line_at lines.now) (length sizes.now) in
+        SomeIff result (total < 2 ^ 64) total }
+{
+    checked_sum(sizes)?.checked_add(count_drawn(lines))
+}
+
 /// How many of the lines are drawn.
 pub fn count_drawn(lines: &[bool]) -> usize
     ensures { result ≡ count_by (λ drawn. drawn) lines.now }
@@ -63,8 +72,9 @@ fn lack_of(sizes: &[usize], lines: &[bool], demand: Demand) -> usize
 /// over.
 fn add_shares(sizes: &mut [usize], demand: Demand, amount: usize)
     requires table { IsInTable (length sizes.old) demand }
-    requires room { (i : ℕ) → demand.start ≤ i → i < end_of demand → slice_index sizes.old i + amount < 2 ^ 64 }
-    ensures { sizes.new ≡ with_shares amount demand 0 sizes.old }
+    requires room { (i : ℕ) → demand.start ≤ i → i < end_of demand →
+        slice_index sizes.old i + amount < 2 ^ 64 }
+    ensures { sizes.new ≡ with_shares amount demand sizes.old }
 {
     let each = amount / demand.span;
     let mut share = each + amount % demand.span;
@@ -99,7 +109,8 @@ pub fn grow_all(
 ) -> Result<Vec<Demand>, AllocError>
     requires cells { All (IsInTable (length sizes.old)) cells.now }
     requires lines { length lines.now ≡ length sizes.old + 1 }
-    ensures growing_cells { IfOk result (λ growing_cells. growing_cells.items ≡ growing (line_at lines.now) sizes.old cells.now) }
+    ensures growing_cells { IfOk result (λ growing_cells.
+        growing_cells.items ≡ growing (line_at lines.now) sizes.old cells.now) }
     ensures sizes { OnOk result (sizes.new ≡ fold (grown (line_at lines.now)) sizes.old cells.now) }
 {
     let mut growing_cells = Vec::new(alloc);
@@ -109,37 +120,4 @@ pub fn grow_all(
         }
     }
     Ok(growing_cells)
-}
-
-/// Takes the cells in their order, from the base sizes on, and gives those that grow; none where the
-/// total with all lines does not fit.
-pub fn grow_to_total(
-    alloc: Global,
-    sizes: &mut [usize],
-    lines: &[bool],
-    cells: &[Demand],
-) -> Result<Option<Vec<Demand>>, AllocError>
-    requires cells { All (IsInTable (length sizes.old)) cells.now }
-    requires lines { length lines.now ≡ length sizes.old + 1 }
-    ensures growing_cells { let line = line_at lines.now in
-        IfOk result (λ found. IfSome found (λ growing_cells.
-        growing_cells.items ≡ growing line sizes.old cells.now)) }
-    ensures sizes { let line = line_at lines.now in
-        IfOk result (λ found. IfSome found (λ growing_cells.
-        sizes.new ≡ fold (grown line) sizes.old cells.now)) }
-    ensures fits { let line = line_at lines.now in
-        IfOk result (λ found. IfSome found (λ growing_cells.
-        sum (fold (grown line) sizes.old cells.now) + all_lines line (length sizes.old) < 2 ^ 64)) }
-    ensures too_large { let line = line_at lines.now in
-        IfOk result (λ found. IfNone found (
-        2 ^ 64 ≤ sum (fold (grown line) sizes.old cells.now) + all_lines line (length sizes.old))) }
-{
-    let growing_cells = grow_all(alloc, sizes, lines, cells)?;
-    let Some(total) = checked_sum(sizes) else {
-        return Ok(None);
-    };
-    if total.checked_add(count_drawn(lines)).is_none() {
-        return Ok(None);
-    }
-    Ok(Some(growing_cells))
 }

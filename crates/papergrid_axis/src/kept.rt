@@ -68,8 +68,8 @@ fn need_of(measure: usize, before: usize, after: usize) -> Option<usize>
 /// Makes room for a number. Where none was, a cell stands that needs nothing.
 fn extend(single_span: &mut Vec<Demand>, i: usize) -> Result<(), AllocError>
     ensures room { OnOk result (i < length single_span.new.items) }
-    ensures same { OnOk result ((k : ℕ) →
-        slice_index_or single_span.new.items k no_demand ≡ slice_index_or single_span.old.items k no_demand) }
+    ensures same { OnOk result ((k : ℕ) → slice_index_or single_span.new.items k no_demand ≡
+        slice_index_or single_span.old.items k no_demand) }
 {
     while single_span.len() <= i {
         single_span.push(NO_DEMAND)?;
@@ -80,8 +80,8 @@ fn extend(single_span: &mut Vec<Demand>, i: usize) -> Result<(), AllocError>
 /// Keeps a cell that covers its number alone, where it needs more than the one that was kept there.
 fn raise(single_span: &mut Vec<Demand>, demand: Demand) -> Result<(), AllocError>
     requires { demand.span ≡ 1 }
-    ensures { OnOk result ((k : ℕ) →
-        slice_index_or single_span.new.items k no_demand ≡ kept_for k (slice_index_or single_span.old.items k no_demand) demand) }
+    ensures { OnOk result ((k : ℕ) → slice_index_or single_span.new.items k no_demand ≡
+        kept_for k (slice_index_or single_span.old.items k no_demand) demand) }
 {
     extend(single_span, demand.start)?;
     if single_span[demand.start].need < demand.need {

@@ -10,9 +10,9 @@ ghost use Rattle.papergrid_axis.specs.Fits.{Fits, IsCertificate, IsLeast, top_ne
 ghost use Rattle.papergrid_axis.specs.KeptApart.{is_kept_apart};
 ghost use Rattle.papergrid_axis.specs.Problem.{Problem};
 ghost use Rattle.papergrid_axis.specs.Ranges.{IsInTable, IsKeptApart, SomeCross};
-ghost use Rattle.papergrid_axis.specs.Rows.{WorkedRows};
 ghost use Rattle.papergrid_axis.specs.Sizes.{sizes_of};
 
+pub use crate::worked::worked_rows;
 use crate::{Candidate, Checked, Demand, LayoutError};
 
 /// Demands, and reasons why there are no sizes, are equal where they are the same.
@@ -31,11 +31,6 @@ pub fn equal_clones()
     ensures checks { (x y : Checked) → ⟦<Checked as Clone>⟧.is_clone x y → y ≡ x }
 {}
 
-/// What the worked tables give, by the definitions alone.
-pub fn worked_rows()
-    ensures { WorkedRows }
-{}
-
 /// Sizes that fit and have a certificate are least.
 pub fn certified_are_least()
     ensures { (problem : Problem) (cells : List Demand) (sizes : List ℕ) →
@@ -49,7 +44,8 @@ pub fn sizes_by_needs()
     ensures fit { (problem : Problem) → All (IsInTable problem.count) problem.demands →
         Fits problem (sizes_of problem) }
     ensures bound { (problem : Problem) → All (IsInTable problem.count) problem.demands →
-        (i : ℕ) → i < problem.count → slice_index (sizes_of problem) i ≤ top_need problem.demands i }
+        (i : ℕ) → i < problem.count →
+        slice_index (sizes_of problem) i ≤ top_need problem.demands i }
     ensures certified { (problem : Problem) → All (IsInTable problem.count) problem.demands →
         IsKeptApart problem.demands → IsCertificate problem (sizes_of problem) (chosen_of problem) }
 {}

@@ -16,6 +16,7 @@ pub mod laws;
 pub mod settled;
 pub mod solution;
 mod witness;
+pub mod worked;
 
 pub use axis::Axis;
 pub use candidate::Candidate;
@@ -23,4 +24,4 @@ pub use checked::Checked;
 pub use demand::Demand;
 pub use error::{Found, LayoutError};
 pub use kept::Kept;
-pub use solution::{CertifiedSizes, Solution};
+pub use solution::{ByShares, Solved, Solver};

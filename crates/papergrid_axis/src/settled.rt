@@ -1,4 +1,5 @@
-//! The sizes along a direction, once the cells of longer ranges were taken.
+//! What the sizes along a direction begin with: the lines, what single numbers need, the cells in their
+//! order; and why there are none.
 
 ghost use Rattle.std.specs.Prelude.{All, Bool, EachIndex, IfNone, IfOk, IfSome, List, None, false, length, nat_lt, replicate, slice_index, slice_index_or, ℕ, ◌+◌, ◌≤◌, ◌≡◌};
 ghost use Rattle.papergrid_axis.specs.Problem.{given};
@@ -8,12 +9,11 @@ ghost use Rattle.papergrid_axis.specs.KeptApart.{longer};
 ghost use Rattle.papergrid_axis.specs.Sizes.{taken};
 ghost use Rattle.papergrid_axis.specs.declared.demand.Demand.{Demand};
 ghost use Rattle.papergrid_axis.specs.Answers.{IsRefusedWhere};
-ghost use Rattle.papergrid_axis.specs.ForProofs.Settled.{IsLargeInside, IsSettled, line_at};
+ghost use Rattle.papergrid_axis.specs.ForProofs.Settled.{IsLargeInside, line_at};
 
 use crate::axis::Axis;
 use crate::demand::Demand;
-use crate::error::{Found, LayoutError};
-use crate::growing_cells::grow_to_total;
+use crate::error::LayoutError;
 use crate::kept::{Kept, single_at};
 use papergrid_values::Position;
 use std::alloc::{AllocError, Global};
@@ -21,7 +21,8 @@ use std::alloc::{AllocError, Global};
 /// Writes for each number whether there is a line before it.
 fn fill_lines<A: Axis>(lines: &mut [bool], axis: &A)
     ensures length { length lines.new ≡ length lines.old }
-    ensures drawn { EachIndex lines.new (λ k. slice_index_or lines.new k false ≡ A.line axis.now k) }
+    ensures drawn { EachIndex lines.new (λ k.
+        slice_index_or lines.new k false ≡ A.line axis.now k) }
 {
     for i in 0..lines.len() {
         lines[i] = axis.has_line(i);
@@ -31,7 +32,8 @@ fn fill_lines<A: Axis>(lines: &mut [bool], axis: &A)
 /// Whether there is a line before each of `count` columns (rows), and after the last.
 pub fn lines_of<A: Axis>(alloc: Global, axis: &A, count: usize) -> Result<Vec<bool>, AllocError>
     ensures length { IfOk result (λ lines. length lines.items ≡ count + 1) }
-    ensures drawn { IfOk result (λ lines. (i : ℕ) → i ≤ count → line_at lines.items i ≡ A.line axis.now i) }
+    ensures drawn { IfOk result (λ lines. (i : ℕ) → i ≤ count →
+        line_at lines.items i ≡ A.line axis.now i) }
 {
     let mut lines = vec![in alloc; false; count]?;
     fill_lines(&mut lines, axis);
@@ -42,7 +44,8 @@ pub fn lines_of<A: Axis>(alloc: Global, axis: &A, count: usize) -> Result<Vec<bo
 /// Writes for each number what the cell needs that is kept there.
 pub fn write_base(sizes: &mut [usize], single_span: &[Demand])
     ensures length { length sizes.new ≡ length sizes.old }
-    ensures base { EachIndex sizes.new (λ k. slice_index sizes.new k ≡ (slice_index_or single_span.now k no_demand).need) }
+    ensures base { EachIndex sizes.new (λ k.
+        slice_index sizes.new k ≡ (slice_index_or single_span.now k no_demand).need) }
 {
     for i in 0..sizes.len() {
         sizes[i] = single_at(single_span, i).need;
@@ -108,42 +111,4 @@ pub fn refusal(count: usize, kept: &Kept) -> Option<LayoutError>
         return Some(LayoutError::TooLarge);
     }
     None
-}
-
-/// The sizes of the columns (rows) of a table, the cells of longer ranges in the order in which they
-/// were taken, and those of them that grew.
-#[derive(Drop)]
-pub struct Settled {
-    pub sizes: Vec<usize>,
-    pub cells: Vec<Demand>,
-    pub growing_cells: Vec<Demand>,
-}
-
-/// What the kept cells of a table of `count` columns (rows) come to, with the lines of the axis.
-///
-/// # Errors
-///
-/// `OutOfTable` with the position of the first cell that reaches out, else `TooLarge` where the
-/// sizes with all lines come to more than the greatest `usize`.
-pub fn settle<A: Axis>(alloc: Global, count: usize, kept: &Kept, axis: &A) -> Found<Settled>
-    requires { (demands : List Demand) × IsKept count kept.now demands }
-    ensures { (demands : List Demand) → IsKept count kept.now demands →
-        IsSettled (given (A.line axis.now) count demands) result }
-{
-    // A count that no memory holds is refused before it is counted up to.
-    let mut sizes = vec![in alloc; 0; count]?;
-    let lines = lines_of(alloc, axis, count)?;
-    if let Some(error) = refusal(count, kept) {
-        return Err(error);
-    }
-    write_base(&mut sizes, &kept.single_span);
-    let cells = taken(alloc, count, &kept.rest)?;
-    match grow_to_total(alloc, &mut sizes, &lines, &cells)? {
-        None => Err(LayoutError::TooLarge),
-        Some(growing_cells) => Ok(Settled {
-            sizes,
-            cells,
-            growing_cells,
-        }),
-    }
 }

@@ -1,23 +1,35 @@
 //! The answer for a direction of a configuration, once all cells are kept.
 
-ghost use Rattle.std.specs.Prelude.{List};
+ghost use Rattle.std.specs.Prelude.{Bool, List};
 ghost use Rattle.papergrid_axis.specs.Answers.{AnswersWhere};
 ghost use Rattle.papergrid_axis.specs.Problem.{Problem, given};
 ghost use Rattle.papergrid_axis.specs.declared.demand.Demand.{Demand};
+ghost use Rattle.papergrid_axis.specs.declared.solution.Solved.{Solved};
 ghost use Rattle.papergrid_axis.specs.ForProofs.Kept.{IsKept};
 
 use crate::axis::Axis;
-use crate::error::Found;
+use crate::error::{Found, LayoutError};
+use crate::growing_cells::{checked_total, grow_all};
 use crate::kept::Kept;
-use crate::settled::settle;
-use crate::witness::settled_witness;
+use crate::settled::{lines_of, refusal, taken, write_base};
+use crate::witness::certificate_of;
 use papergrid_values::Position;
 use std::alloc::Global;
 
-/// What is found of a table along a direction: the sizes alone, or also the cells that certify them.
-pub trait Solution {
-    // What holds of it, by what it was found for.
-    ghost solves: { Problem → Self → Type 0 };
+/// What a solver finds of a table along a direction: the sizes of the columns (rows), their total with
+/// all lines, and, where it is asked for, the certificate: the places of the cells that show that no
+/// sizes with room for each cell have a smaller total, by the starts of their ranges.
+#[derive(Debug, Drop)]
+pub struct Solved {
+    pub sizes: Vec<usize>,
+    pub total: usize,
+    pub certificate: Option<Vec<Position>>,
+}
+
+/// A way to find sizes.
+pub trait Solver {
+    // What holds of what is found, by whether the certificate is asked for, and of what problem.
+    ghost solves: { Bool → Problem → Solved → Type 0 };
 
     // What holds of a problem for which it is refused as too large.
     ghost too_large: { Problem → Type 0 };
@@ -28,47 +40,54 @@ pub trait Solution {
     ///
     /// `OutOfTable` with the position of the first cell that reaches out, else `TooLarge` where the
     /// sizes that are looked for come, with all lines, to more than the greatest `usize`.
-    fn solve<A: Axis>(alloc: Global, count: usize, kept: &Kept, axis: &A) -> Found<Self>
+    fn solve<A: Axis>(
+        alloc: Global,
+        count: usize,
+        kept: &Kept,
+        axis: &A,
+        certify: bool,
+    ) -> Found<Solved>
         requires { (demands : List Demand) × IsKept count kept.now demands }
         ensures { (demands : List Demand) → IsKept count kept.now demands →
-            AnswersWhere too_large solves (given (A.line axis.now) count demands) result };
+            let problem = given (A.line axis.now) count demands in
+            AnswersWhere too_large (solves certify) problem result };
 }
 
-/// The sizes of the columns (rows).
-impl Solution for Vec<usize> {
-    ghost use Rattle.papergrid_axis.specs.Answers.{AreSizes, NoneHolds};
+/// By shares: what a cell of a longer range lacks is spread evenly over its range. There is no
+/// certificate where two longer ranges are neither nested nor disjoint.
+pub struct ByShares {}
 
-    ghost solves = { λ problem sizes. AreSizes problem sizes.items };
+impl Solver for ByShares {
+    ghost use Rattle.papergrid_axis.specs.Answers.{AreSizes, IsSolvedBy, IsWitness, NoneHolds};
+
+    ghost solves = { λ certify problem solved. IsSolvedBy AreSizes IsWitness certify problem solved };
 
     ghost too_large = { NoneHolds };
 
-    fn solve<A: Axis>(alloc: Global, count: usize, kept: &Kept, axis: &A) -> Found<Vec<usize>> {
-        let settled = settle(alloc, count, kept, axis)?;
-        Ok(settled.sizes)
-    }
-}
-
-/// The sizes, and the places of the cells that certify that they are least; none where two longer
-/// ranges are neither nested nor disjoint.
-#[derive(Drop)]
-pub struct CertifiedSizes {
-    pub sizes: Vec<usize>,
-    pub witness: Option<Vec<Position>>,
-}
-
-impl Solution for CertifiedSizes {
-    ghost use Rattle.papergrid_axis.specs.Answers.{AreSizes, IsWitness, NoneHolds};
-
-    ghost solves = { λ problem found. AreSizes problem found.sizes.items × IsWitness problem found.witness };
-
-    ghost too_large = { NoneHolds };
-
-    fn solve<A: Axis>(alloc: Global, count: usize, kept: &Kept, axis: &A) -> Found<CertifiedSizes> {
-        let settled = settle(alloc, count, kept, axis)?;
-        let witness = settled_witness(alloc, count, kept, &settled)?;
-        Ok(CertifiedSizes {
-            sizes: settled.sizes,
-            witness,
+    fn solve<A: Axis>(
+        alloc: Global,
+        count: usize,
+        kept: &Kept,
+        axis: &A,
+        certify: bool,
+    ) -> Found<Solved> {
+        // A count that no memory holds is refused before it is counted up to.
+        let mut sizes = vec![in alloc; 0; count]?;
+        let lines = lines_of(alloc, axis, count)?;
+        if let Some(error) = refusal(count, kept) {
+            return Err(error);
+        }
+        write_base(&mut sizes, &kept.single_span);
+        let cells = taken(alloc, count, &kept.rest)?;
+        let growing_cells = grow_all(alloc, &mut sizes, &lines, &cells)?;
+        let Some(total) = checked_total(&sizes, &lines) else {
+            return Err(LayoutError::TooLarge);
+        };
+        let certificate = certificate_of(alloc, certify, kept, &sizes, &cells, &growing_cells)?;
+        Ok(Solved {
+            sizes,
+            total,
+            certificate,
         })
     }
 }

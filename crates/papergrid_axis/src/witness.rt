@@ -1,19 +1,17 @@
 //! The witness that sizes are least.
 
-ghost use Rattle.std.specs.Prelude.{◌↔◌, ℕ, All, Bool, IfOk, IsTrue, List, Ok};
-ghost use Rattle.papergrid_axis.specs.Problem.{given};
-ghost use Rattle.papergrid_axis.specs.declared.demand.Demand.{Demand};
+ghost use Rattle.std.specs.Prelude.{◌≡◌, ◌↔◌, All, IfOk, IsTrue, false, true};
+ghost use Rattle.papergrid_axis.specs.Problem.{Problem};
 ghost use Rattle.papergrid_axis.specs.Answers.{IsWitness};
 ghost use Rattle.papergrid_axis.specs.ForProofs.LastCells.{IsLaminar};
 ghost use Rattle.papergrid_axis.specs.Ranges.{IsInTable};
 ghost use Rattle.papergrid_axis.specs.ForProofs.Kept.{IsKept};
-ghost use Rattle.papergrid_axis.specs.ForProofs.Settled.{AreSettled};
+ghost use Rattle.papergrid_axis.specs.ForProofs.Settled.{AreGrown};
 
 use crate::chosen::chosen_places;
 use crate::demand::Demand;
 use crate::kept::Kept;
 use crate::last_cells::are_laminar;
-use crate::settled::Settled;
 use papergrid_values::Position;
 use std::alloc::{AllocError, Global};
 
@@ -30,28 +28,29 @@ fn is_laminar(alloc: Global, count: usize, cells: &[Demand]) -> Result<bool, All
     Ok(are_laminar(&mut last, cells))
 }
 
-/// The places of the cells that certify that the sizes of `count` columns (rows) are least, by the
-/// starts of their ranges; none where two longer ranges are neither nested nor disjoint.
-pub fn settled_witness(
+/// The certificate of the sizes, where it is asked for: the places of the cells that certify that they
+/// are least, by the starts of their ranges; none where two longer ranges are neither nested nor disjoint.
+pub fn certificate_of(
     alloc: Global,
-    count: usize,
+    certify: bool,
     kept: &Kept,
-    settled: &Settled,
+    sizes: &[usize],
+    cells: &[Demand],
+    growing_cells: &[Demand],
 ) -> Result<Option<Vec<Position>>, AllocError>
-    requires { (line : ℕ → Bool) × (demands : List Demand) × IsKept count kept.now demands
-        × AreSettled (given line count demands) settled.now }
-    ensures { (line : ℕ → Bool) (demands : List Demand) → IsKept count kept.now demands →
-        AreSettled (given line count demands) settled.now →
-        IfOk result (IsWitness (given line count demands)) }
+    requires { (problem : Problem) × IsKept problem.count kept.now problem.demands
+        × AreGrown problem sizes.now cells.now growing_cells.now }
+    ensures asked { (problem : Problem) → IsKept problem.count kept.now problem.demands →
+        AreGrown problem sizes.now cells.now growing_cells.now →
+        certify ≡ true → IfOk result (IsWitness problem) }
+    ensures unasked { certify ≡ false → IfOk result (λ certificate. certificate ≡ None) }
 {
-    if !is_laminar(alloc, count, &settled.cells)? {
+    if !certify {
         return Ok(None);
     }
-    let places = chosen_places(
-        alloc,
-        &kept.single_span,
-        &settled.growing_cells,
-        &settled.sizes,
-    )?;
+    if !is_laminar(alloc, sizes.len(), cells)? {
+        return Ok(None);
+    }
+    let places = chosen_places(alloc, &kept.single_span, growing_cells, sizes)?;
     Ok(Some(places))
 }

@@ -6,13 +6,12 @@ use Rattle.papergrid_values.specs.declared.position.Position.{Position}
 use Rattle.papergrid_values.specs.declared.direction.Direction.{Direction}
 use Rattle.papergrid_axis.specs.declared.demand.Demand.{Demand}
 use Rattle.papergrid_axis.specs.Answers.{AreSizes, IsAccepted}
-use Rattle.papergrid_axis.specs.Fits.{IsCertificate, IsLeast}
+use Rattle.papergrid_axis.specs.Fits.{IsLeast}
 use Rattle.papergrid_axis.specs.Problem.{Problem}
 use Rattle.papergrid_axis.specs.Ranges.{IsInTable, IsKeptApart}
 use Rattle.papergrid_axis.proofs.OutLemmas.{none_out}
 use Rattle.papergrid_least.specs.Answers.{AreLeastSizes, AreLongest}
-use Rattle.papergrid_least.specs.Longest.{longest}
-use Rattle.papergrid_least.proofs.LeastLemmas.{least_of-shares, same-least_of}
+use Rattle.papergrid_least.proofs.LeastLemmas.{exact-least, least_of-shares, same-least_of}
 use Rattle.papergrid_walk.specs.Cells.{demand_by, problem_of, visible_cells}
 use Rattle.papergrid_maps.specs.Grids.{Grid}
 
@@ -21,9 +20,9 @@ pub accepted : (problem : Problem) (sizes : List ℕ) (places : List Position) �
 accepted problem sizes places are longest_are = record {
   none_out = are.none_out;
   fits = are.least.fits;
-  cells = longest problem;
+  cells = longest_are.cells;
   at_places = sym longest_are.exact;
-  certificate = subst (λ xs. IsCertificate problem xs (longest problem)) (sym are.exact) longest_are.certificate;
+  certificate = longest_are.certificate sizes are.least;
 }
 
 module _ {C : Type 0} (grid : Grid) (measure : C → ℕ × ℕ) (columns : ℕ) (rows : List (List C)) (direction : Direction) (from_one : (p : Position) → 1 ≤ grid.span direction p)
@@ -37,7 +36,7 @@ module _ {C : Type 0} (grid : Grid) (measure : C → ℕ × ℕ) (columns : ℕ)
       (All-map (λ (d : Demand). 1 ≤ d.span) (demand_by direction grid measure) (visible_cells grid rows) (λ k x l. from_one _))
 
   pub same-least : IsLeast problem sizes → least ≡ sizes
-  same-least is_least = are_least.exact ∙ least_of-shares problem in_table (subst (IsLeast problem) are.exact is_least) ∙ sym are.exact
+  same-least is_least = exact-least problem least are_least ∙ least_of-shares problem in_table (subst (IsLeast problem) are.exact is_least) ∙ sym are.exact
 
   pub same-apart : IsKeptApart problem.demands → least ≡ sizes
-  same-apart apart = are_least.exact ∙ same-least_of problem in_table apart ∙ sym are.exact
+  same-apart apart = exact-least problem least are_least ∙ same-least_of problem in_table apart ∙ sym are.exact

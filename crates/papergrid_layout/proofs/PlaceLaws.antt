@@ -18,6 +18,7 @@ use Rattle.papergrid_axis.specs.Ranges.{end_of, first_out, inner_lines, place_of
 use Rattle.papergrid_axis.proofs.OutLemmas.{if_none}
 use Rattle.papergrid_least.specs.Answers.{AreLeastSizes, IsLeastTotal}
 use Rattle.papergrid_maps.proofs.HiddenLemmas.{position-same}
+use Rattle.papergrid_least.proofs.LeastLemmas.{exact-least}
 use Rattle.papergrid_walk.specs.Cells.{demand_by, placed, problem_of, side, visible_cells}
 use Rattle.papergrid_maps.specs.Grids.{Grid}
 use Rattle.papergrid_layout.specs.Answers.{AreBothLeast, AreBothSizes, HoldAlong}
@@ -143,7 +144,7 @@ total-shares : (problem : Problem) (sizes : List ℕ) → AreSizes problem sizes
 total-shares problem sizes are = total-by problem (AreSizes problem) sizes are (λ other is. is.exact ∙ sym are.exact) are.fits.one_each
 
 total-least : (problem : Problem) (sizes : List ℕ) → AreLeastSizes problem sizes → (answer : ℕ) → IsLeastTotal problem answer ↔ (answer ≡ total (slice_index sizes) problem.line problem.count)
-total-least problem sizes are = total-by problem (AreLeastSizes problem) sizes are (λ other is. is.exact ∙ sym are.exact) are.least.fits.one_each
+total-least problem sizes are = total-by problem (AreLeastSizes problem) sizes are (λ other is. exact-least problem other is ∙ sym (exact-least problem sizes are)) are.least.fits.one_each
 
 -- ---- room
 

@@ -16,21 +16,6 @@ use Rattle.papergrid_least.specs.Answers.{IsLeastTotal}
 use Rattle.papergrid_walk.specs.Cells.{demand_by, problem_of, side, visible_cells}
 use Rattle.papergrid_maps.specs.Grids.{Grid}
 
--- sizes, one for each column (row) of a problem whose lines are drawn so
-module _ (draws : ℕ → ℕ → Bool) (problem : Problem) (drawn : problem.line ≡ draws problem.count) (sizes : List ℕ) (one_each : length sizes ≡ problem.count) where
-  -- their sum with all lines
-  abbrev with_lines : ℕ
-  with_lines = sum sizes + all_lines (draws (length sizes)) (length sizes)
-
-  as_total : with_lines ≡ total_of problem sizes
-  as_total = ap (λ k. sum sizes + all_lines (draws k) k) one_each ∙ ap (λ line. sum sizes + all_lines line problem.count) (sym drawn)
-
-  pub total_fits : total_of problem sizes < 18446744073709551616 → with_lines < 18446744073709551616
-  total_fits fits = subst (λ total. total < 18446744073709551616) (sym as_total) fits
-
-  pub is_total : (holds : List ℕ → Type 0) (total : ℕ) → holds sizes → total ≡ with_lines → IsTotalBy problem holds total
-  is_total holds total are_sizes adds_up = record { sizes = sizes; are_sizes = are_sizes; adds_up = adds_up ∙ as_total }
-
 -- no visible cell needs more than the total with its lines
 module _ {C : Type 0} (grid : Grid) (measure : C → ℕ × ℕ) (columns : ℕ) (cells : List (List C)) (direction : Direction) where
   abbrev problem : Problem

@@ -10,7 +10,7 @@ use Rattle.papergrid_axis.specs.Fits.{IsLeast}
 use Rattle.papergrid_axis.specs.KeptApart.{is_kept_apart}
 use Rattle.papergrid_axis.specs.Problem.{Problem}
 use Rattle.papergrid_axis.specs.Ranges.{place_of}
-use Rattle.papergrid_least.specs.Answers.{AreLeastSizes, AreLongest, NoneFits}
+use Rattle.papergrid_least.specs.Answers.{AreLeastSizes, IsLongest, NoneFits}
 use Rattle.papergrid_walk.specs.Cells.{problem_of}
 use Rattle.papergrid_maps.specs.Grids.{Grid}
 use Rattle.papergrid_layout.specs.Answers.{IsBothRefusedWhere}
@@ -24,11 +24,6 @@ pub record IsChecked (problem : Problem) (sizes : List ℕ) (places : List Posit
 -- the places of the cells that certify the sizes by shares, none where longer ranges are not kept apart
 abbrev pub witness_of : Problem → Option (List Position)
 witness_of problem = if is_kept_apart problem.demands then Some (map place_of (chosen_of problem)) else None
-
--- the places of the cells of the longest way; there always are some
-abbrev pub IsLongest : {Z : Type 0} → Problem → Option (Vec Position Z) → Type 0
-IsLongest problem None = ⊥
-IsLongest problem (Some places) = AreLongest problem places.items
 
 module _ {C : Type 0} (grid : Grid) (measure : C → ℕ × ℕ) (columns : ℕ) (cells : List (List C)) where
   -- along columns and along rows this holds of the sizes, and this of what certifies them

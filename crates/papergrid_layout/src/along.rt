@@ -5,7 +5,7 @@ ghost use Rattle.papergrid_axis.specs.Answers.{AnswersWhere};
 ghost use Rattle.papergrid_walk.specs.Cells.{count_along, problem_of};
 ghost use Rattle.papergrid_layout.specs.Answers.{UnlessMemory};
 
-use papergrid_axis::{Axis, LayoutError, Solution};
+use papergrid_axis::{Axis, LayoutError, Solved, Solver};
 use papergrid_maps::ConfigView;
 use papergrid_text::{IntoRecords, Records};
 use papergrid_values::{Direction, Position};
@@ -50,18 +50,19 @@ pub fn count_of(direction: Direction, columns: usize, rows: usize) -> usize
 ///
 /// `OutOfTable` with the first visible cell that reaches out, else `TooLarge` where the sizes that are
 /// looked for come, with all lines, to more than the greatest `usize`; `Memory` in place of any answer.
-pub fn solve_along<T: Solution, M, R: Records + Drop, S: ConfigView>(
+pub fn solve_along<T: Solver, M, R: Records + Drop, S: ConfigView>(
     alloc: Global,
     records: R,
     settings: &S,
     direction: Direction,
-) -> Result<T, LayoutError>
+    certify: bool,
+) -> Result<Solved, LayoutError>
 where
     M: Measure<<<R as Records>::Iter as IntoRecords>::Cell>,
     <<R as Records>::Iter as IntoRecords>::Cell: Drop,
     requires { R.is_lawful records }
     ensures { UnlessMemory result ((cells : List (List R.Iter.Cell)) × R.tells records cells
-        × AnswersWhere T.too_large T.solves (problem_of (S.grid settings.now) M.measured
+        × AnswersWhere T.too_large (T.solves certify) (problem_of (S.grid settings.now) M.measured
         (R.columns records) cells direction) result) }
 {
     let columns = records.count_columns();
@@ -72,5 +73,5 @@ where
         direction,
         count,
     };
-    T::solve(alloc, count, &kept, &axis)
+    T::solve(alloc, count, &kept, &axis, certify)
 }

@@ -8,7 +8,7 @@ ghost use Rattle.papergrid_layout.specs.ForProofs.Earlier.{earlier, earlier_of};
 
 use crate::along::Along;
 use papergrid_axis::settled::find_out;
-use papergrid_axis::{Found, LayoutError, Solution};
+use papergrid_axis::{Found, LayoutError, Solved, Solver};
 use papergrid_maps::ConfigView;
 use papergrid_text::{IntoRecords, Records};
 use papergrid_values::{Direction, Position};
@@ -45,16 +45,17 @@ fn find_out_of_both(columns: usize, rows: usize, both: &KeptBoth) -> Option<Posi
 }
 
 /// What the kept cells of a table of so many columns and rows come to along both directions.
-fn conclude<T: Solution + Drop, M: Measure<C>, C, S: ConfigView>(
+fn conclude<T: Solver, M: Measure<C>, C, S: ConfigView>(
     alloc: Global,
     columns: usize,
     rows: usize,
     both: &KeptBoth,
     settings: &S,
-) -> Found<(T, T)>
+    certify: bool,
+) -> Found<(Solved, Solved)>
     requires { (cells : List (List C)) × (rows ≡ length cells) × AreBothKept (S.grid settings.now) M.measured columns cells both.now }
     ensures { (cells : List (List C)) → rows ≡ length cells → AreBothKept (S.grid settings.now) M.measured columns cells both.now →
-        AnswersBothWhere (S.grid settings.now) M.measured columns cells T.too_large T.solves result }
+        AnswersBothWhere (S.grid settings.now) M.measured columns cells T.too_large (T.solves certify) result }
 {
     if let Some(pos) = find_out_of_both(columns, rows, both) {
         return Err(LayoutError::OutOfTable(pos));
@@ -69,8 +70,8 @@ fn conclude<T: Solution + Drop, M: Measure<C>, C, S: ConfigView>(
         direction: Direction::Rows,
         count: rows,
     };
-    let widths = T::solve(alloc, columns, &both.columns, &across)?;
-    let heights = T::solve(alloc, rows, &both.rows, &down)?;
+    let widths = T::solve(alloc, columns, &both.columns, &across, certify)?;
+    let heights = T::solve(alloc, rows, &both.rows, &down, certify)?;
     Ok((widths, heights))
 }
 
@@ -81,9 +82,14 @@ fn conclude<T: Solution + Drop, M: Measure<C>, C, S: ConfigView>(
 /// `OutOfTable` with the first visible cell that reaches out along columns or rows, else `TooLarge`
 /// where the sizes that are looked for along one of them come, with all lines, to more than the greatest
 /// `usize`; `Memory` in place of any answer.
-pub fn solve_both<T, M, R, S>(alloc: Global, records: R, settings: &S) -> Found<(T, T)>
+pub fn solve_both<T, M, R, S>(
+    alloc: Global,
+    records: R,
+    settings: &S,
+    certify: bool,
+) -> Found<(Solved, Solved)>
 where
-    T: Solution + Drop,
+    T: Solver,
     R: Records + Drop,
     S: ConfigView,
     M: Measure<<<R as Records>::Iter as IntoRecords>::Cell>,
@@ -91,9 +97,9 @@ where
     requires { R.is_lawful records }
     ensures { UnlessMemory result ((cells : List (List R.Iter.Cell)) × R.tells records cells
         × AnswersBothWhere (S.grid settings.now) M.measured
-        (R.columns records) cells T.too_large T.solves result) }
+        (R.columns records) cells T.too_large (T.solves certify) result) }
 {
     let columns = records.count_columns();
     let (both, rows) = gather_both::<M, R, S>(alloc, records, settings)?;
-    conclude::<T, M, _, S>(alloc, columns, rows, &both, settings)
+    conclude::<T, M, _, S>(alloc, columns, rows, &both, settings, certify)
 }

@@ -14,9 +14,9 @@ ghost use Rattle.papergrid_layout.specs.Witnesses.{IsCertified, IsCertifiedLeast
 use crate::along::solve_along;
 use crate::both::solve_both;
 use crate::check::check;
-use papergrid_axis::{CertifiedSizes, LayoutError};
+use papergrid_axis::{ByShares, LayoutError};
 use papergrid_config::SpannedConfig;
-use papergrid_least::CertifiedLeast;
+use papergrid_least::ByLeastTotal;
 use papergrid_text::{IntoRecords, Records};
 use papergrid_values::{Direction, Position};
 use papergrid_walk::measure::ByLines;
@@ -45,8 +45,8 @@ where
         × Answers IsWitness (problem_of (spanned_grid config.now) (line_measure R.Iter.Cell.text)
         (R.columns records) cells Columns) result) }
 {
-    solve_along::<CertifiedSizes, ByLines, _, _>(alloc, records, config, Direction::Columns).map(
-        |found| found.witness,
+    solve_along::<ByShares, ByLines, _, _>(alloc, records, config, Direction::Columns, true).map(
+        |found| found.certificate,
     )
 }
 
@@ -71,8 +71,8 @@ where
         × Answers IsWitness (problem_of (spanned_grid config.now) (line_measure R.Iter.Cell.text)
         (R.columns records) cells Rows) result) }
 {
-    solve_along::<CertifiedSizes, ByLines, _, _>(alloc, records, config, Direction::Rows).map(
-        |found| found.witness,
+    solve_along::<ByShares, ByLines, _, _>(alloc, records, config, Direction::Rows, true).map(
+        |found| found.certificate,
     )
 }
 
@@ -144,9 +144,7 @@ where
         × IsLeastCertified (problem_of (spanned_grid config.now) (line_measure R.Iter.Cell.text)
         (R.columns records) cells Columns) result) }
 {
-    solve_along::<CertifiedLeast, ByLines, _, _>(alloc, records, config, Direction::Columns).map(
-        |found| found.places,
-    )
+    certificate_along(alloc, records, config, Direction::Columns)
 }
 
 /// The positions of the cells that certify that the heights of the records' rows are least, as
@@ -170,9 +168,31 @@ where
         × IsLeastCertified (problem_of (spanned_grid config.now) (line_measure R.Iter.Cell.text)
         (R.columns records) cells Rows) result) }
 {
-    solve_along::<CertifiedLeast, ByLines, _, _>(alloc, records, config, Direction::Rows).map(
-        |found| found.places,
-    )
+    certificate_along(alloc, records, config, Direction::Rows)
+}
+
+/// The cells that certify the least sizes of the records along a direction.
+fn certificate_along<R: Records + Drop>(
+    alloc: Global,
+    records: R,
+    config: &SpannedConfig,
+    direction: Direction,
+) -> Result<Vec<Position>, LayoutError>
+where
+    <<R as Records>::Iter as IntoRecords>::Cell: AsStr + Drop,
+    requires { R.is_lawful records }
+    ensures { UnlessMemory result ((cells : List (List R.Iter.Cell)) × R.tells records cells
+        × IsLeastCertified (problem_of (spanned_grid config.now) (line_measure R.Iter.Cell.text)
+        (R.columns records) cells direction) result) }
+{
+    let found = solve_along::<ByLeastTotal, ByLines, _, _>(
+        alloc, records, config, direction, true,
+    )?;
+    let certificate = found.certificate;
+    match certificate {
+        Some(places) => Ok(places),
+        None => unreachable!("least sizes have a certificate"),
+    }
 }
 
 /// The width of each column, in columns of a terminal, and the height of each row, in lines; and for
@@ -207,12 +227,12 @@ where
         × IsCertified (spanned_grid config.now) (line_measure R.Iter.Cell.text)
         (R.columns records) cells result) }
 {
-    let (across, down) = solve_both::<CertifiedSizes, ByLines, _, _>(alloc, records, config)?;
+    let (across, down) = solve_both::<ByShares, ByLines, _, _>(alloc, records, config, true)?;
     Ok(Certified {
         widths: across.sizes,
         heights: down.sizes,
-        width_witness: across.witness,
-        height_witness: down.witness,
+        width_witness: across.certificate,
+        height_witness: down.certificate,
     })
 }
 
@@ -237,11 +257,11 @@ where
         × IsCertifiedLeast (spanned_grid config.now) (line_measure R.Iter.Cell.text)
         (R.columns records) cells result) }
 {
-    let (across, down) = solve_both::<CertifiedLeast, ByLines, _, _>(alloc, records, config)?;
+    let (across, down) = solve_both::<ByLeastTotal, ByLines, _, _>(alloc, records, config, true)?;
     Ok(Certified {
         widths: across.sizes,
         heights: down.sizes,
-        width_witness: Some(across.places),
-        height_witness: Some(down.places),
+        width_witness: across.certificate,
+        height_witness: down.certificate,
     })
 }

@@ -13,7 +13,7 @@ use crate::along::solve_along;
 use crate::both::solve_both;
 use crate::dimension::{Dimension, Estimate};
 use crate::size_list::SizeList;
-use papergrid_axis::LayoutError;
+use papergrid_axis::{ByShares, LayoutError};
 use papergrid_config::CompactConfig;
 use papergrid_text::{IntoRecords, Records};
 use papergrid_values::Direction;
@@ -61,7 +61,13 @@ impl CompactGridDimension {
             × IsSized (problem_of (compact_grid config.now) (std_line_measure R.Iter.Cell.text)
             (R.columns records) cells Columns) result) }
     {
-        solve_along::<Vec<usize>, ByStdLines, _, _>(alloc, records, config, Direction::Columns)
+        solve_along::<ByShares, ByStdLines, _, _>(
+            alloc,
+            records,
+            config,
+            Direction::Columns,
+            false,
+        ).map(|found| found.sizes)
     }
 
     /// The heights of the rows of the records, in lines.
@@ -85,7 +91,13 @@ impl CompactGridDimension {
             × IsSized (problem_of (compact_grid config.now) (std_line_measure R.Iter.Cell.text)
             (R.columns records) cells Rows) result) }
     {
-        solve_along::<Vec<usize>, ByStdLines, _, _>(alloc, records, config, Direction::Rows)
+        solve_along::<ByShares, ByStdLines, _, _>(
+            alloc,
+            records,
+            config,
+            Direction::Rows,
+            false,
+        ).map(|found| found.sizes)
     }
 
     /// The widths of the columns of the records, in columns of a terminal, and the heights of their
@@ -110,7 +122,10 @@ impl CompactGridDimension {
             × AreBothSized (compact_grid config.now) (std_line_measure R.Iter.Cell.text)
             (R.columns records) cells result) }
     {
-        solve_both::<Vec<usize>, ByStdLines, _, _>(alloc, records, config)
+        let (across, down) = solve_both::<ByShares, ByStdLines, _, _>(
+            alloc, records, config, false,
+        )?;
+        Ok((across.sizes, down.sizes))
     }
 }
 

@@ -15,8 +15,7 @@ pub use crate::certificates::{
 };
 use crate::dimension::{Dimension, Estimate};
 use crate::size_list::SizeList;
-use crate::sums::with_lines;
-use papergrid_axis::LayoutError;
+use papergrid_axis::{ByShares, LayoutError};
 use papergrid_config::SpannedConfig;
 use papergrid_text::{IntoRecords, Records};
 use papergrid_values::Direction;
@@ -68,7 +67,14 @@ impl IterGridDimension {
             × IsSized (problem_of (spanned_grid config.now) (line_measure R.Iter.Cell.text)
             (R.columns records) cells Columns) result) }
     {
-        solve_along::<Vec<usize>, ByLines, _, _>(alloc, records, config, Direction::Columns)
+        let found = solve_along::<ByShares, ByLines, _, _>(
+            alloc,
+            records,
+            config,
+            Direction::Columns,
+            false,
+        )?;
+        Ok(found.sizes)
     }
 
     /// The heights of the rows of the records, in lines.
@@ -91,7 +97,14 @@ impl IterGridDimension {
             × IsSized (problem_of (spanned_grid config.now) (line_measure R.Iter.Cell.text)
             (R.columns records) cells Rows) result) }
     {
-        solve_along::<Vec<usize>, ByLines, _, _>(alloc, records, config, Direction::Rows)
+        let found = solve_along::<ByShares, ByLines, _, _>(
+            alloc,
+            records,
+            config,
+            Direction::Rows,
+            false,
+        )?;
+        Ok(found.sizes)
     }
 
     /// The width of the records' table: the sum of the widths and of the vertical lines.
@@ -168,8 +181,8 @@ where
         × Answers IsTotal (problem_of (spanned_grid config.now) (line_measure R.Iter.Cell.text)
         (R.columns records) cells direction) result) }
 {
-    let sizes = solve_along::<Vec<usize>, ByLines, _, _>(alloc, records, config, direction)?;
-    Ok(with_lines(config, direction, &sizes))
+    let found = solve_along::<ByShares, ByLines, _, _>(alloc, records, config, direction, false)?;
+    Ok(found.total)
 }
 
 impl Dimension for IterGridDimension {
@@ -213,9 +226,11 @@ where
         (R.columns records) cells error) };
 
     fn estimate(&mut self, records: R, config: &SpannedConfig) -> Result<(), LayoutError> {
-        let both = solve_both::<Vec<usize>, ByLines, _, _>(self.alloc, records, config)?;
-        self.widths = SizeList::of(both.0);
-        self.heights = SizeList::of(both.1);
+        let (across, down) = solve_both::<ByShares, ByLines, _, _>(
+            self.alloc, records, config, false,
+        )?;
+        self.widths = SizeList::of(across.sizes);
+        self.heights = SizeList::of(down.sizes);
         Ok(())
     }
 }

@@ -13,10 +13,9 @@ use crate::both::solve_both;
 pub use crate::certificates::{height_certificate, width_certificate};
 use crate::dimension::{Dimension, Estimate};
 use crate::size_list::SizeList;
-use crate::sums::with_lines;
 use papergrid_axis::LayoutError;
 use papergrid_config::SpannedConfig;
-use papergrid_least::LeastSizes;
+use papergrid_least::ByLeastTotal;
 use papergrid_text::{IntoRecords, Records};
 use papergrid_values::Direction;
 use papergrid_walk::measure::ByLines;
@@ -170,7 +169,7 @@ where
         × IsLeastSized (problem_of (spanned_grid config.now) (line_measure R.Iter.Cell.text)
         (R.columns records) cells direction) result) }
 {
-    solve_along::<LeastSizes, ByLines, _, _>(alloc, records, config, direction).map(
+    solve_along::<ByLeastTotal, ByLines, _, _>(alloc, records, config, direction, false).map(
         |found| found.sizes,
     )
 }
@@ -189,8 +188,10 @@ where
         × LeastAnswers IsLeastTotal (problem_of (spanned_grid config.now) (line_measure R.Iter.Cell.text)
         (R.columns records) cells direction) result) }
 {
-    let sizes = sizes_along(alloc, records, config, direction)?;
-    Ok(with_lines(config, direction, &sizes))
+    let found = solve_along::<ByLeastTotal, ByLines, _, _>(
+        alloc, records, config, direction, false,
+    )?;
+    Ok(found.total)
 }
 
 impl Dimension for LeastGridDimension {
@@ -234,9 +235,11 @@ where
         (R.columns records) cells error) };
 
     fn estimate(&mut self, records: R, config: &SpannedConfig) -> Result<(), LayoutError> {
-        let both = solve_both::<LeastSizes, ByLines, _, _>(self.alloc, records, config)?;
-        self.widths = SizeList::of(both.0.sizes);
-        self.heights = SizeList::of(both.1.sizes);
+        let (across, down) = solve_both::<ByLeastTotal, ByLines, _, _>(
+            self.alloc, records, config, false,
+        )?;
+        self.widths = SizeList::of(across.sizes);
+        self.heights = SizeList::of(down.sizes);
         Ok(())
     }
 }

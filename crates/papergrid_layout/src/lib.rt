@@ -21,7 +21,6 @@ mod ruler;
 mod size_list;
 mod sizing;
 mod spanning;
-mod sums;
 mod table;
 mod totals;
 

@@ -12,7 +12,7 @@ use crate::along::solve_along;
 use crate::both::solve_both;
 use crate::dimension::{Dimension, Estimate};
 use crate::size_list::SizeList;
-use papergrid_axis::LayoutError;
+use papergrid_axis::{ByShares, LayoutError};
 use papergrid_config::SpannedConfig;
 use papergrid_text::{Cell, IntoRecords, Records};
 use papergrid_values::Direction;
@@ -62,7 +62,14 @@ impl PeekableGridDimension {
             × IsSized (problem_of (spanned_grid config.now)
             (cell_measure R.Iter.Cell.width R.Iter.Cell.lines) (R.columns records) cells Columns) result) }
     {
-        solve_along::<Vec<usize>, ByCell, _, _>(alloc, records, config, Direction::Columns)
+        let found = solve_along::<ByShares, ByCell, _, _>(
+            alloc,
+            records,
+            config,
+            Direction::Columns,
+            false,
+        )?;
+        Ok(found.sizes)
     }
 
     /// The heights of the rows of the records, in lines.
@@ -85,7 +92,14 @@ impl PeekableGridDimension {
             × IsSized (problem_of (spanned_grid config.now)
             (cell_measure R.Iter.Cell.width R.Iter.Cell.lines) (R.columns records) cells Rows) result) }
     {
-        solve_along::<Vec<usize>, ByCell, _, _>(alloc, records, config, Direction::Rows)
+        let found = solve_along::<ByShares, ByCell, _, _>(
+            alloc,
+            records,
+            config,
+            Direction::Rows,
+            false,
+        )?;
+        Ok(found.sizes)
     }
 
     /// The widths of the columns of the records, in columns of a terminal, and the heights of their
@@ -111,7 +125,8 @@ impl PeekableGridDimension {
             × AreBothSized (spanned_grid config.now)
             (cell_measure R.Iter.Cell.width R.Iter.Cell.lines) (R.columns records) cells result) }
     {
-        solve_both::<Vec<usize>, ByCell, _, _>(alloc, records, config)
+        let (across, down) = solve_both::<ByShares, ByCell, _, _>(alloc, records, config, false)?;
+        Ok((across.sizes, down.sizes))
     }
 
     /// The widths and the heights.
@@ -169,9 +184,11 @@ where
         (R.columns records) cells error) };
 
     fn estimate(&mut self, records: R, config: &SpannedConfig) -> Result<(), LayoutError> {
-        let both = solve_both::<Vec<usize>, ByCell, _, _>(self.alloc, records, config)?;
-        self.widths = SizeList::of(both.0);
-        self.heights = SizeList::of(both.1);
+        let (across, down) = solve_both::<ByShares, ByCell, _, _>(
+            self.alloc, records, config, false,
+        )?;
+        self.widths = SizeList::of(across.sizes);
+        self.heights = SizeList::of(down.sizes);
         Ok(())
     }
 }

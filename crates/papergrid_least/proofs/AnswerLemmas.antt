@@ -10,7 +10,7 @@ use Rattle.papergrid_axis.specs.declared.kept.Kept.{Kept}
 use Rattle.papergrid_axis.specs.Answers.{IsRefusedWhere}
 use Rattle.papergrid_axis.specs.Fits.{Fits, IsTooLarge}
 use Rattle.papergrid_axis.specs.ForProofs.Kept.{IsKept, no_demand}
-use Rattle.papergrid_axis.specs.ForProofs.Settled.{IsLargeInside}
+use Rattle.papergrid_axis.specs.ForProofs.Settled.{IsLargeInside, line_at}
 use Rattle.papergrid_axis.specs.Problem.{given, total_of}
 use Rattle.papergrid_axis.specs.Ranges.{IsInTable, first_out}
 use Rattle.papergrid_axis.specs.Sizes.{base_sizes, grown, sizes_of, taken}
@@ -24,6 +24,7 @@ use Rattle.papergrid_least.specs.Edges.{asked, edges_of, sizes_between}
 use Rattle.papergrid_least.specs.Least.{latest, least_of}
 use Rattle.papergrid_least.specs.ForProofs.Laid.{AreLaid, carrying}
 use Rattle.papergrid_least.specs.ForProofs.Limits.{AreLimits, IsEarliest, IsLatest, Refuses}
+use Rattle.papergrid_least.specs.ForProofs.Settled.{AreEarliest}
 use Rattle.papergrid_least.proofs.EdgeLemmas.{AreEdges-edges_of, take_whole}
 use Rattle.papergrid_least.proofs.LeastLemmas.{AreLeastSizes-least_of, NoneFits-by_all, total-least_of}
 use Rattle.papergrid_least.proofs.KeptLemmas.{AreLaid-from_edges, earliest-is, latest-is, longer_asking}
@@ -94,12 +95,6 @@ module _ (line : ℕ → Bool) (n : ℕ) (kept : Kept) (demands : List Demand) (
         ap (λ k. get_or limits.earliest.items k 0) many
         ∙ earliest-is line drawn n is_kept.limit demands agree table is_kept.below base base_is many limits.earliest.items earliest-asking n (omega arith)
 
-    pub earliest-made : (i : ℕ) → i ≤ n → get_or limits.earliest.items i 0 ≡ earliest (asked line) demands i
-    earliest-made = earliest-is line drawn n is_kept.limit demands agree table is_kept.below base base_is many limits.earliest.items earliest-asking
-
-    pub many-made : length limits.earliest.items ≡ n + 1
-    many-made = are.earliest.one_more ∙ ap (λ k. k + 1) many
-
     latest_at : (i : ℕ) → i ≤ n → get_or limits.latest.items i 0 ≡ latest (asked line) n demands i
     latest_at =
         latest-is line drawn n is_kept.limit demands agree table is_kept.below base base_is many limits.latest.items (get_or limits.earliest.items (length base) 0) total_is
@@ -127,18 +122,33 @@ module _ (line : ℕ → Bool) (n : ℕ) (kept : Kept) (demands : List Demand) (
             let b : get_or limits.latest.items i 0 ≡ latest (asked line) n demands i = latest_at i l in
             omega arith
 
-    pub AreLeastSizes-made : (sizes : List ℕ) →
-        sizes ≡ sizes_between (length base) (λ i. min (edges_of (fold (grown drawn) base (taken (length base) kept.rest.items)) i) (get_or limits.latest.items i 0)) →
-        AreLeastSizes (given line n demands) sizes
-    AreLeastSizes-made sizes e =
-        subst (AreLeastSizes (given line n demands)) (sym (exact sizes e))
-        (AreLeastSizes-least_of (given line n demands) table (out_kept n kept demands is_kept ∙ inside) total)
-      where
-        total : total_of (given line n demands) (least_of (given line n demands)) < 18446744073709551616
-        total =
-            let b : sum (least_of (given line n demands)) ≡ earliest (asked line) demands n = total-least_of (given line n demands) table in
-            let c : get_or limits.earliest.items (length base) 0 ≡ earliest (asked line) demands n = total_is in
-            let d : get_or limits.earliest.items (length base) 0 + all_lines drawn (length base) < 18446744073709551616 = are.fits in
-            let f : all_lines drawn (length base) ≡ all_lines line n = ap (all_lines drawn) many ∙ all_drawn in
-            let all : sum (least_of (given line n demands)) + all_lines line n < 18446744073709551616 = omega arith in
-            all
+    module _ (sizes : List ℕ) (e : sizes ≡ sizes_between (length base) (λ i. min (edges_of (fold (grown drawn) base (taken (length base) kept.rest.items)) i) (get_or limits.latest.items i 0))) where
+      pub total-made : limits.total ≡ total_of (given line n demands) sizes
+      total-made =
+          let a : sum sizes ≡ sum (least_of (given line n demands)) = ap sum (exact sizes e) in
+          let b : sum (least_of (given line n demands)) ≡ earliest (asked line) demands n = total-least_of (given line n demands) table in
+          let c : get_or limits.earliest.items (length base) 0 ≡ earliest (asked line) demands n = total_is in
+          let d : limits.total ≡ get_or limits.earliest.items (length base) 0 + all_lines drawn (length base) = are.total in
+          let f : all_lines drawn (length base) ≡ all_lines line n = ap (all_lines drawn) many ∙ all_drawn in
+          let all : limits.total ≡ sum sizes + all_lines line n = omega arith in
+          all
+
+      fits-made : total_of (given line n demands) (least_of (given line n demands)) < 18446744073709551616
+      fits-made = subst (λ k. k < 18446744073709551616) (total-made ∙ ap (total_of (given line n demands)) (exact sizes e)) are.fits
+
+      pub AreLeastSizes-made : AreLeastSizes (given line n demands) sizes
+      AreLeastSizes-made =
+          subst (AreLeastSizes (given line n demands)) (sym (exact sizes e))
+          (AreLeastSizes-least_of (given line n demands) table (out_kept n kept demands is_kept ∙ inside) fits-made)
+
+      pub AreEarliest-made : (lines : List Bool) → length lines ≡ n + 1 → ((i : ℕ) → i ≤ n → line_at lines i ≡ line i) →
+          AreEarliest (given line n demands) lines limits.earliest.items
+      AreEarliest-made lines lined same = record {
+        none_out = out_kept n kept demands is_kept ∙ inside;
+        table = table;
+        total = fits-made;
+        lined = lined;
+        drawn = same;
+        many = are.earliest.one_more ∙ ap (λ k. k + 1) many;
+        edge_at = earliest-is line drawn n is_kept.limit demands agree table is_kept.below base base_is many limits.earliest.items earliest-asking;
+      }

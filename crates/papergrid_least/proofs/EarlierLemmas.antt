@@ -6,9 +6,10 @@ use Rattle.std.proofs.lemmas.List.Elements.{All-head, All-tail, recursion_from_A
 use Rattle.papergrid_values.specs.declared.position.Position.{Position}
 use Rattle.papergrid_values.specs.Positions.{IsBefore}
 use Rattle.papergrid_axis.specs.declared.demand.Demand.{Demand}
+use Rattle.papergrid_axis.specs.ForProofs.Kept.{StandInOrder}
 use Rattle.papergrid_axis.specs.Ranges.{place_of}
 use Rattle.papergrid_axis.proofs.Counting.{find-all}
-use Rattle.papergrid_least.specs.Longest.{AreInOrder, earlier_cell, is_before}
+use Rattle.papergrid_least.specs.ForProofs.Followed.{earlier_cell, is_before}
 
 pub some_none : (d : Demand) → Some d ≡ None → ⊥
 some_none d e = cc
@@ -51,7 +52,7 @@ comes-first d None before = refl
 comes-first d (Some e) before = rw (before-true (place_of d) (place_of e) (before e refl)) refl
 
 -- where the cells stand in order, the earlier of the first of each kind that passes a test is the first of all that do
-pub first-in_order : (test : Demand → Bool) (ds : List Demand) → All (λ d. 1 ≤ d.span) ds → AreInOrder ds →
+pub first-in_order : (test : Demand → Bool) (ds : List Demand) → All (λ d. 1 ≤ d.span) ds → StandInOrder ds →
     earlier_cell (find (λ d. d.span == 1 && test d) ds) (find (λ d. nat_lt 1 d.span && test d) ds) ≡ find test ds
 first-in_order test [] spans ordered = refl
 first-in_order test (d ∷ ds) spans ordered =

@@ -6,8 +6,8 @@ use Rattle.std.proofs.lemmas.List.{append_assoc, append-nil, drop_more, get_or-s
 use Rattle.papergrid_axis.specs.declared.demand.Demand.{Demand}
 use Rattle.papergrid_axis.specs.Ranges.{end_of, place_of}
 use Rattle.papergrid_values.specs.declared.position.Position.{Position}
-use Rattle.papergrid_least.specs.ForProofs.Followed.{followed, needing, pushes_by}
-use Rattle.papergrid_least.specs.Longest.{earlier_cell, with_earlier}
+use Rattle.papergrid_least.specs.ForProofs.Followed.{earlier_cell, followed, needing, pushes_by}
+use Rattle.papergrid_least.specs.Longest.{with_earlier}
 use Rattle.papergrid_least.proofs.EarlierLemmas.{earlier-either, some_none}
 use Rattle.papergrid_least.proofs.LaidLemmas.{no_cell}
 

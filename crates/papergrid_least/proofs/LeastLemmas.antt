@@ -1,7 +1,9 @@
 -- The sizes of the least total.
-use Rattle.std.proofs.Common.{◌≡◌, ℕ, suc, ◌+◌, ◌-◌, ◌<◌, ◌≤◌, min, Bool, List, length, map, get_or, take, sum, refl, sym, ap, arith}
+use Rattle.std.proofs.Common.{◌≡◌, ◌∙◌, ℕ, suc, ◌+◌, ◌-◌, ◌<◌, ◌≤◌, min, Bool, List, length, map, get_or, take, sum, refl, sym, ap, subst, arith}
 use Rattle.std.specs.Prelude.{All, None, ◌↔◌}
+use Rattle.std.proofs.lemmas.Grind.{same_number_lists}
 use Rattle.std.proofs.lemmas.List.FromFn.{fill_by_all}
+use Rattle.papergrid_values.specs.declared.position.Position.{Position}
 use Rattle.papergrid_axis.specs.declared.demand.Demand.{Demand}
 use Rattle.papergrid_axis.specs.Ranges.{IsInTable, IsKeptApart, first_out, place_of}
 use Rattle.papergrid_values.specs.Lines.{all_lines}
@@ -14,12 +16,13 @@ use Rattle.papergrid_axis.proofs.Upto.{upto, sum-take}
 use Rattle.papergrid_least.specs.Answers.{AreLeastSizes, AreLongest, NoneFits}
 use Rattle.papergrid_least.specs.Edges.{asked, edges_of, AreEdges, sizes_between}
 use Rattle.papergrid_least.specs.Earliest.{earliest, least_total}
-use Rattle.papergrid_least.specs.Least.{latest, least_sizes, least_of}
-use Rattle.papergrid_least.proofs.EdgeLemmas.{AreEdges-edges_of, AreEdges-min, Fits-sizes_between, sum-sizes_between, take_whole}
+use Rattle.papergrid_least.specs.Least.{AreFurthestRight, AreLeastBefore, latest, least_sizes, least_of}
+use Rattle.papergrid_least.proofs.EdgeLemmas.{AreEdges-edges_of, AreEdges-min, Fits-sizes_between, edges-sizes_between, sum-sizes_between, take_whole}
 use Rattle.papergrid_least.proofs.EarliestLemmas.{AreEdges-earliest, earliest-total, IsLeast-earliest}
 use Rattle.papergrid_least.specs.Longest.{longest}
 use Rattle.papergrid_least.proofs.LongestLemmas.{IsCertificate-longest}
 use Rattle.papergrid_least.proofs.LatestLemmas.{AreEdges-latest, latest-above, latest-last}
+use Rattle.papergrid_least.proofs.WayBackLemmas.{way_back-is}
 
 module _ (line : ℕ → Bool) (n : ℕ) (demands : List Demand) (sizes : List ℕ) (table : All (IsInTable n) demands) where
   -- the edges of the sizes, moved to the latest where they are past it
@@ -78,6 +81,20 @@ module _ (line : ℕ → Bool) (n : ℕ) (demands : List Demand) (sizes : List �
           let d : lower k ≡ edges_of sizes k = lower-is k (omega arith) in
           omega arith
 
+-- sizes with the same edges are the same
+same_edges : (n : ℕ) (xs ys : List ℕ) → length xs ≡ n → length ys ≡ n → ((i : ℕ) → i ≤ n → edges_of xs i ≡ edges_of ys i) → xs ≡ ys
+same_edges n xs ys many as_many same = same_number_lists xs ys (many ∙ sym as_many) at
+  where
+    at : (k : ℕ) → k < length xs → get_or xs k 0 ≡ get_or ys k 0
+    at k l =
+        let a : sum (take (suc k) xs) ≡ upto (λ i. get_or xs i 0) k + get_or xs k 0 = sum-take (suc k) xs in
+        let b : sum (take k xs) ≡ upto (λ i. get_or xs i 0) k = sum-take k xs in
+        let c : sum (take (suc k) ys) ≡ upto (λ i. get_or ys i 0) k + get_or ys k 0 = sum-take (suc k) ys in
+        let d : sum (take k ys) ≡ upto (λ i. get_or ys i 0) k = sum-take k ys in
+        let e : sum (take (suc k) xs) ≡ sum (take (suc k) ys) = same (suc k) (omega arith) in
+        let f : sum (take k xs) ≡ sum (take k ys) = same k (omega arith) in
+        omega arith
+
 module _ (problem : Problem) (table : All (IsInTable problem.count) problem.demands) where
   pub IsLeast-least_of : IsLeast problem (least_of problem)
   IsLeast-least_of = IsLeast-least_sizes problem.line problem.count problem.demands (sizes_of problem) table (Fits-sizes_of problem table)
@@ -125,23 +142,103 @@ module _ (problem : Problem) (table : All (IsInTable problem.count) problem.dema
           let all : sum (least_of problem) + all_lines problem.line problem.count < 18446744073709551616 = omega arith in
           all
 
+  -- ---- the furthest right
+
+  abbrev shares : ℕ → ℕ
+  shares i = edges_of (sizes_of problem) i
+
+  abbrev last : ℕ → ℕ
+  last i = latest (asked problem.line) problem.count problem.demands i
+
+  edges-least_of : (i : ℕ) → i ≤ problem.count → edges_of (least_of problem) i ≡ min (shares i) (last i)
+  edges-least_of i l =
+      let are : AreEdges (asked problem.line) problem.count problem.demands (λ i. min (shares i) (last i)) =
+      AreEdges-lower problem.line problem.count problem.demands (sizes_of problem) table (Fits-sizes_of problem table) in
+      let a : edges_of (least_of problem) i + min (shares 0) (last 0) ≡ min (shares i) (last i) =
+      edges-sizes_between problem.count (λ i. min (shares i) (last i)) are.rise i l in
+      let b : shares 0 ≡ 0 = refl in
+      omega arith
+
+  before-least_of : AreLeastBefore problem (least_of problem)
+  before-least_of = record {
+    least = IsLeast-least_of;
+    nowhere_past = λ i l. let a : edges_of (least_of problem) i ≡ min (shares i) (last i) = edges-least_of i l in omega arith;
+  }
+
+  furthest-least_of : (other : List ℕ) → AreLeastBefore problem other → (i : ℕ) → i ≤ problem.count → edges_of other i ≤ edges_of (least_of problem) i
+  furthest-least_of other are i l =
+      let a : edges_of (least_of problem) i ≡ min (shares i) (last i) = edges-least_of i l in
+      let b : edges_of other i ≤ shares i = are.nowhere_past i l in
+      let c : edges_of other i ≤ last i =
+      latest-above (asked problem.line) problem.count problem.demands table (edges_of other)
+      (AreEdges-edges_of problem.line problem.count problem.demands other are.least.fits) total i l in
+      omega arith
+    where
+      total : edges_of other problem.count ≤ earliest (asked problem.line) problem.demands problem.count
+      total =
+          let d : sum other ≤ sum (least_of problem) = are.least.least (least_of problem) IsLeast-least_of.fits in
+          let e : sum (least_of problem) ≡ least_total problem = total-least_of in
+          let f : sum (take problem.count other) ≡ sum other = ap sum (take_whole problem.count other are.least.fits.one_each) in
+          omega arith
+
+  pub furthest_right-is : (sizes : List ℕ) → AreFurthestRight problem sizes ↔ (sizes ≡ least_of problem)
+  furthest_right-is sizes = (unique, λ e. subst (AreFurthestRight problem) (sym e) record { among = before-least_of; furthest = furthest-least_of })
+    where
+      unique : AreFurthestRight problem sizes → sizes ≡ least_of problem
+      unique are = same_edges problem.count sizes (least_of problem) are.among.least.fits.one_each IsLeast-least_of.fits.one_each
+          (λ i l.
+          let a : edges_of (least_of problem) i ≤ edges_of sizes i = are.furthest (least_of problem) before-least_of i l in
+          let b : edges_of sizes i ≤ edges_of (least_of problem) i = furthest-least_of sizes are.among i l in
+          omega arith)
+
+  -- the sum of any least sizes is the least total
+  least-total : (sizes : List ℕ) → IsLeast problem sizes → sum sizes ≡ least_total problem
+  least-total sizes least =
+      let a : sum sizes ≤ sum (least_of problem) = least.least (least_of problem) IsLeast-least_of.fits in
+      let b : sum (least_of problem) ≤ sum sizes = IsLeast-least_of.least sizes least.fits in
+      let c : sum (least_of problem) ≡ least_total problem = total-least_of in
+      omega arith
+
   -- ---- the answers, where no cell reaches out
 
   module _ (inside : first_out problem.count problem.demands ≡ None) where
     pub AreLeastSizes-least_of : total_of problem (least_of problem) < 18446744073709551616 → AreLeastSizes problem (least_of problem)
     AreLeastSizes-least_of small = record {
+      table = table;
       none_out = inside;
-      exact = refl;
+      exact = (furthest_right-is (least_of problem)).1 refl;
       total = small;
       least = IsLeast-least_of;
       bound = λ i l. bound-least_of i (let one_each : length (least_of problem) ≡ problem.count = IsLeast-least_of.fits.one_each in omega arith);
     }
 
     pub AreLongest-longest : total_of problem (least_of problem) < 18446744073709551616 → AreLongest problem (map place_of (longest problem))
-    AreLongest-longest small = record { none_out = inside; total = small; exact = refl; certificate = IsCertificate-least_of }
+    AreLongest-longest small = record {
+      table = table;
+      none_out = inside;
+      cells = longest problem;
+      exact = refl;
+      way = (way_back-is problem table (longest problem)).1 refl;
+      total = λ sizes least. fits sizes (least-total sizes least);
+      certificate = λ sizes least. IsCertificate-longest problem.line problem.count problem.demands sizes table (least-total sizes least);
+    }
+      where
+        fits : (sizes : List ℕ) → sum sizes ≡ least_total problem → total_of problem sizes < 18446744073709551616
+        fits sizes e =
+            let a : sum (least_of problem) ≡ least_total problem = total-least_of in
+            let b : sum (least_of problem) + all_lines problem.line problem.count < 18446744073709551616 = small in
+            let c : sum sizes + all_lines problem.line problem.count < 18446744073709551616 = omega arith in
+            c
 
     pub NoneFits-by_all : ((other : List ℕ) → Fits problem other → IsTooLarge problem other) → NoneFits problem
     NoneFits-by_all each = record { none_out = inside; too_large = refused-least_of.1 each; none_fits = each }
 
     pub NoneFits-least_of : IsTooLarge problem (least_of problem) → NoneFits problem
     NoneFits-least_of large = NoneFits-by_all (refused-least_of.0 large)
+
+-- what is said of least sizes, and of the cells that certify them, leaves no choice
+pub exact-least : (problem : Problem) (sizes : List ℕ) → AreLeastSizes problem sizes → sizes ≡ least_of problem
+exact-least problem sizes are = (furthest_right-is problem are.table sizes).0 are.exact
+
+pub exact-longest : (problem : Problem) (places : List Position) → AreLongest problem places → places ≡ map place_of (longest problem)
+exact-longest problem places are = are.exact ∙ ap (map place_of) ((way_back-is problem are.table are.cells).0 are.way)

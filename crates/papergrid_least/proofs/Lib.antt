@@ -12,4 +12,5 @@ pub mod LongestLemmas
 pub mod PermutedLemmas
 pub mod PusherLemmas
 pub mod KeptLemmas
+pub mod WayBackLemmas
 pub mod WayLemmas

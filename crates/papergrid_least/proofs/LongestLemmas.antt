@@ -16,8 +16,8 @@ use Rattle.papergrid_axis.proofs.Counting.{find-all}
 use Rattle.papergrid_axis.proofs.FitBound.{ByRecursion-weaker}
 use Rattle.papergrid_least.specs.Edges.{asked}
 use Rattle.papergrid_least.specs.Earliest.{pushed_to, earliest_to, earliest}
-use Rattle.papergrid_least.specs.Longest.{pushes, pusher, single_pusher, longer_pusher, with_earlier, pushers, longest}
-use Rattle.papergrid_least.proofs.EarlierLemmas.{earlier-either, earlier-none, some_none}
+use Rattle.papergrid_least.specs.Longest.{pushes, pusher, with_earlier, pushers, longest}
+use Rattle.papergrid_least.proofs.EarlierLemmas.{some_none}
 use Rattle.papergrid_least.proofs.EarliestLemmas.{pushed-above, pushed-below, earliest_to-at, earliest_to-is, earliest-rises, earliest-monotone}
 
 -- where `find` finds nothing, nothing passes
@@ -49,38 +49,18 @@ module _ (asks : Demand → ℕ) (ds : List Demand) (n : ℕ) (table : All (IsIn
       and_parts (eqb (end_of d) (suc i)) (eqb (earliest asks ds d.start + asks d) (earliest asks ds (suc i))) e in
       record { listed = listed; ends = eqb-true _ _ parts.0; pushes = eqb-true _ _ parts.1 }
 
-  found-pushes : (kind : Demand → Bool) (i : ℕ) (d : Demand) → find (λ d. kind d && pushes asks ds (suc i) d) ds ≡ Some d → Pushes i d
-  found-pushes kind i d e =
-      let found : ((kind d && pushes asks ds (suc i) d) ≡ true) × Contains ds d =
-      find-all (Contains ds) (λ d. kind d && pushes asks ds (suc i) d) ds d (recursion_from_All (Contains ds) ds (All-contains_itself ds)) e in
-      let parts : (kind d ≡ true) × (pushes asks ds (suc i) d ≡ true) = and_parts (kind d) (pushes asks ds (suc i) d) found.0 in
-      Pushes-from i d found.1 parts.1
-
   pub pusher-pushes : (i : ℕ) (d : Demand) → pusher asks ds (suc i) ≡ Some d → Pushes i d
-  pusher-pushes i d e = elim (earlier-either (single_pusher asks ds (suc i)) (longer_pusher asks ds (suc i)) d e) [
-    | inl one ↦ found-pushes (λ d. d.span == 1) i d one
-    | inr long ↦ found-pushes (λ d. nat_lt 1 d.span) i d long
-  ]
+  pusher-pushes i d e =
+      let found : (pushes asks ds (suc i) d ≡ true) × Contains ds d =
+      find-all (Contains ds) (pushes asks ds (suc i)) ds d (recursion_from_All (Contains ds) ds (All-contains_itself ds)) e in
+      Pushes-from i d found.1 found.0
 
-  -- where none of either kind pushes the edge, no cell does
+  -- where none is found, no cell pushes the edge
   none-pushes : (i : ℕ) → pusher asks ds (suc i) ≡ None → All (λ d. pushes asks ds (suc i) d ≡ false) ds
-  none-pushes i e =
-      let none : (single_pusher asks ds (suc i) ≡ None) × (longer_pusher asks ds (suc i) ≡ None) = earlier-none (single_pusher asks ds (suc i)) (longer_pusher asks ds (suc i)) e in
-      λ k d l. at (get_or ds k d) (table k d l)
-      (All-from_recursion (λ d. (d.span == 1 && pushes asks ds (suc i) d) ≡ false) ds (find-nothing (λ d. d.span == 1 && pushes asks ds (suc i) d) ds none.0) k d l)
-      (All-from_recursion (λ d. (nat_lt 1 d.span && pushes asks ds (suc i) d) ≡ false) ds (find-nothing (λ d. nat_lt 1 d.span && pushes asks ds (suc i) d) ds none.1) k d l)
-    where
-      at : (d : Demand) → IsInTable n d → (d.span == 1 && pushes asks ds (suc i) d) ≡ false → (nat_lt 1 d.span && pushes asks ds (suc i) d) ≡ false → pushes asks ds (suc i) d ≡ false
-      at d cell one long = elim (cases_eq d.span 1) [
-        | inl e' ↦ rw (eq-eqb d.span 1 e') at one
-        | inr ne ↦
-            let some : 1 ≤ d.span = cell.covers_one in
-            let many : 1 < d.span = omega arith in
-            rw (lt-ltb 1 d.span many) at long
-      ]
+  none-pushes i e = All-from_recursion (λ d. pushes asks ds (suc i) d ≡ false) ds (find-nothing (pushes asks ds (suc i)) ds e)
 
   -- an edge past the one before was pushed by some cell
-  pusher-none : (i : ℕ) → earliest asks ds i < earliest asks ds (suc i) → pusher asks ds (suc i) ≡ None → ⊥
+  pub pusher-none : (i : ℕ) → earliest asks ds i < earliest asks ds (suc i) → pusher asks ds (suc i) ≡ None → ⊥
   pusher-none i past e =
       let m : ℕ = earliest asks ds (suc i) - 1 in
       let at : earliest asks ds (suc i) ≡ max (earliest asks ds i) (pushed_to asks ds (earliest_to asks ds i) (suc i)) = earliest_to-at asks ds i in

@@ -4,7 +4,7 @@ use Rattle.std.specs.Prelude.{All, Contains, filter, find, nat_lt}
 use Rattle.std.proofs.lemmas.Bool.{and_from, and_parts, cases_Bool, cases_eq, true≢false}
 use Rattle.std.proofs.lemmas.List.Elements.{All-from_recursion, All-head, All-tail, Contains-get_or, recursion_from_All}
 use Rattle.papergrid_axis.specs.declared.demand.Demand.{Demand}
-use Rattle.papergrid_axis.specs.ForProofs.Kept.{first_greatest, is_single, rest_of}
+use Rattle.papergrid_axis.specs.ForProofs.Kept.{StandInOrder, first_greatest, is_single, rest_of}
 use Rattle.papergrid_axis.specs.Ranges.{IsInTable, end_of, inner_lines}
 use Rattle.papergrid_axis.specs.Sizes.{base_size, base_sizes}
 use Rattle.papergrid_axis.proofs.Counting.{find-none}
@@ -14,9 +14,10 @@ use Rattle.papergrid_axis.proofs.Orders.{filter-all}
 use Rattle.papergrid_axis.proofs.KeptLemmas.{exact_single-first, need-first_greatest}
 use Rattle.papergrid_least.specs.Edges.{asked}
 use Rattle.papergrid_least.specs.Earliest.{earliest}
-use Rattle.papergrid_least.specs.Longest.{earlier_cell, longer_pusher, pusher, pushers, pushes, single_pusher, with_earlier}
-use Rattle.papergrid_least.specs.ForProofs.Followed.{followed, needing, pushes_by}
+use Rattle.papergrid_least.specs.Longest.{pusher, pushers, pushes, with_earlier}
+use Rattle.papergrid_least.specs.ForProofs.Followed.{earlier_cell, followed, longer_pusher, needing, pushes_by, single_pusher}
 use Rattle.papergrid_least.specs.ForProofs.Laid.{AreLaid}
+use Rattle.papergrid_least.proofs.EarlierLemmas.{first-in_order}
 use Rattle.papergrid_least.proofs.EarliestLemmas.{AreEdges-earliest, earliest-rises}
 use Rattle.papergrid_least.proofs.FollowedLemmas.{followed-even, followed-past}
 use Rattle.papergrid_least.proofs.LongestLemmas.{pusher-pushes}
@@ -52,7 +53,7 @@ with_earlier-agree None f g same = refl
 with_earlier-agree (Some d) f g same = ap (λ ds. d ∷ ds) (same d refl)
 
 module _ (line drawn : ℕ → Bool) (n limit : ℕ) (demands : List Demand) (agree : (i : ℕ) → i ≤ n → drawn i ≡ line i) (table : All (IsInTable n) demands)
-    (below : All (λ d. is_single limit d ≡ true → d.start < n) demands) (from_limit : n ≤ limit) where
+    (below : All (λ d. is_single limit d ≡ true → d.start < n) demands) (from_limit : n ≤ limit) (in_order : StandInOrder demands) where
   abbrev top : ℕ → ℕ
   top = earliest (asked line) demands
 
@@ -204,7 +205,9 @@ module _ (line drawn : ℕ → Bool) (n limit : ℕ) (demands : List Demand) (ag
           ]
 
       pusher-kept : (j : ℕ) → j < n → top j < top (suc j) → earlier_cell (needing (edge (suc j) - edge (suc j - 1)) (single_span (suc j - 1))) (longer (suc j)) ≡ pusher (asked line) demands (suc j)
-      pusher-kept j l past = ap₂ earlier_cell (single-kept j l past) (longer_are (suc j) l ∙ sym (among_others (suc j) l))
+      pusher-kept j l past =
+          ap₂ earlier_cell (single-kept j l past) (longer_are (suc j) l ∙ sym (among_others (suc j) l))
+          ∙ first-in_order (pushes (asked line) demands (suc j)) demands (λ k d l'. (table k d l').covers_one) in_order
 
       pub followed-is : (steps i : ℕ) → i ≤ n → followed edge single_span longer steps i ≡ pushers (asked line) demands steps i
       followed-is zero i l = refl

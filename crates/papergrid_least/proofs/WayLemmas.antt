@@ -1,4 +1,4 @@
--- The longest way, from what was settled.
+-- The longest way, from the earliest edges.
 use Rattle.std.proofs.Common.{◌≡◌, ℕ, Bool, ◌&&◌, ◌==◌, ◌+◌, ◌-◌, ◌<◌, ◌≤◌, ◌∙◌, true, false, inl, inr, List, [], ◌∷◌, ◌++◌, length, get_or, map, refl, sym, ap, subst, arith, eq-eqb, ne_eqb, Option, Some, None}
 use Rattle.std.specs.Prelude.{All, Contains, find, not, reverse, unwrap_or}
 use Rattle.std.proofs.lemmas.Bool.{and_parts, cases_eq, cases_lt}
@@ -15,12 +15,11 @@ use Rattle.papergrid_axis.proofs.Counting.{find-all}
 use Rattle.papergrid_axis.proofs.DrawnLemmas.{inner-drawn}
 use Rattle.papergrid_axis.proofs.Greatest.{holds_alone}
 use Rattle.papergrid_axis.proofs.KeptLemmas.{table-kept}
-use Rattle.papergrid_least.specs.declared.settled.Settled.{Settled}
 use Rattle.papergrid_least.specs.Earliest.{earliest}
 use Rattle.papergrid_least.specs.Edges.{AreEdges, asked}
 use Rattle.papergrid_least.specs.Longest.{longest, pushers as way}
 use Rattle.papergrid_least.specs.ForProofs.Followed.{followed, kept_longer, kept_single, pushes_by}
-use Rattle.papergrid_least.specs.ForProofs.Settled.{AreSettled}
+use Rattle.papergrid_least.specs.ForProofs.Settled.{AreEarliest}
 use Rattle.papergrid_least.proofs.EarliestLemmas.{AreEdges-earliest}
 use Rattle.papergrid_least.proofs.PermutedLemmas.{table-wider}
 use Rattle.papergrid_least.proofs.PusherLemmas.{followed-is}
@@ -53,13 +52,13 @@ reverse-places (d ∷ ds) =
 none_some : (d : Demand) → None ≡ Some d → ⊥
 none_some d e = cc
 
-module _ (problem : Problem) (kept : Kept) (is : IsKept problem.count kept problem.demands) (small : kept.is_large ≡ false) (settled : Settled) (are : AreSettled problem settled) where
+module _ (problem : Problem) (kept : Kept) (is : IsKept problem.count kept problem.demands) (small : kept.is_large ≡ false) (lines : List Bool) (edges : List ℕ) (are : AreEarliest problem lines edges) where
   -- the lines as they were read, and the earliest edges
   abbrev drawn : ℕ → Bool
-  drawn = line_at settled.lines
+  drawn = line_at lines
 
   abbrev edge : ℕ → ℕ
-  edge i = get_or settled.limits.earliest.items i 0
+  edge i = get_or edges i 0
 
   exact : kept.rest.items ≡ rest_of is.limit problem.demands
   exact = is.held.exact small
@@ -67,13 +66,13 @@ module _ (problem : Problem) (kept : Kept) (is : IsKept problem.count kept probl
   pub table-longer : All (IsInTable problem.count) kept.rest.items
   table-longer = table-kept problem.count kept problem.demands is small are.table
 
-  pub table-lines : All (IsInTable (length settled.lines)) kept.rest.items
-  table-lines = table-wider problem.count (length settled.lines) kept.rest.items (let e : length settled.lines ≡ problem.count + 1 = are.lined in omega arith) table-longer
+  pub table-lines : All (IsInTable (length lines)) kept.rest.items
+  table-lines = table-wider problem.count (length lines) kept.rest.items (let e : length lines ≡ problem.count + 1 = are.lined in omega arith) table-longer
 
-  pub ends-edges : All (λ d. end_of d < length settled.limits.earliest.items) kept.rest.items
+  pub ends-edges : All (λ d. end_of d < length edges) kept.rest.items
   ends-edges k d l =
       let le : end_of (get_or kept.rest.items k d) ≤ problem.count = (table-longer k d l).ends_within in
-      let many : length settled.limits.earliest.items ≡ problem.count + 1 = are.many in
+      let many : length edges ≡ problem.count + 1 = are.many in
       omega arith
 
   pub apart-edges : All (λ d. edge d.start + asked drawn d ≤ edge (end_of d)) kept.rest.items
@@ -89,39 +88,39 @@ module _ (problem : Problem) (kept : Kept) (is : IsKept problem.count kept probl
       at d cell apart =
           let within : end_of d ≤ problem.count = cell.ends_within in
           let inner : inner_lines drawn d ≡ inner_lines problem.line d = inner-drawn drawn problem.line problem.count are.drawn d cell in
-          let a : edge d.start ≡ earliest (asked problem.line) problem.demands d.start = are.earliest d.start (omega arith) in
-          let b : edge (end_of d) ≡ earliest (asked problem.line) problem.demands (end_of d) = are.earliest (end_of d) within in
+          let a : edge d.start ≡ earliest (asked problem.line) problem.demands d.start = are.edge_at d.start (omega arith) in
+          let b : edge (end_of d) ≡ earliest (asked problem.line) problem.demands (end_of d) = are.edge_at (end_of d) within in
           omega arith
 
-  pub alone-edges : (i : ℕ) → i + 1 < length settled.limits.earliest.items → (kept_single kept.single_span.items i).start ≤ i
+  pub alone-edges : (i : ℕ) → i + 1 < length edges → (kept_single kept.single_span.items i).start ≤ i
   alone-edges i l =
-      let many : length settled.limits.earliest.items ≡ problem.count + 1 = are.many in
+      let many : length edges ≡ problem.count + 1 = are.many in
       let from : problem.count ≤ is.limit = is.from_limit in
       let same_start : (kept_single kept.single_span.items i).start ≡ (first_greatest i problem.demands).start = ap (λ (d : Demand). d.start) (is.held.single_span small i (omega arith)) in
       let starts : (first_greatest i problem.demands).start ≤ i = starts-first_greatest i problem.demands in
       omega arith
 
-  module _ (pushers : List (Option Demand)) (same : length pushers ≡ length settled.limits.earliest.items)
+  module _ (pushers : List (Option Demand)) (same : length pushers ≡ length edges)
       (first : (i : ℕ) → i < length pushers → get_or pushers i None ≡ find (pushes_by (asked drawn) edge i) kept.rest.items) where
-    pub starts-edges : (i : ℕ) (d : Demand) → get_or pushers i None ≡ Some d → d.start < length settled.limits.earliest.items
+    pub starts-edges : (i : ℕ) (d : Demand) → get_or pushers i None ≡ Some d → d.start < length edges
     starts-edges i d found = elim (cases_lt i (length pushers)) [
       | inl l ↦ within (find-all (Contains kept.rest.items) (pushes_by (asked drawn) edge i) kept.rest.items d (recursion_from_All (Contains kept.rest.items) kept.rest.items (All-contains_itself kept.rest.items)) (sym (first i l) ∙ found)).1
       | inr past ↦ absurd (none_some d (sym (get_or_past pushers i None past) ∙ found))
     ]
       where
-        within : Contains kept.rest.items d → d.start < length settled.limits.earliest.items
+        within : Contains kept.rest.items d → d.start < length edges
         within listed =
             let cell : IsInTable problem.count d = All-contains (IsInTable problem.count) kept.rest.items d table-longer listed in
             let le : end_of d ≤ problem.count = cell.ends_within in
-            let many : length settled.limits.earliest.items ≡ problem.count + 1 = are.many in
+            let many : length edges ≡ problem.count + 1 = are.many in
             omega arith
 
-    pub longest-met : reverse (map place_of (followed edge (kept_single kept.single_span.items) (kept_longer pushers) (length settled.limits.earliest.items - 1) (length settled.limits.earliest.items - 1))) ≡ map place_of (longest problem)
+    pub longest-met : reverse (map place_of (followed edge (kept_single kept.single_span.items) (kept_longer pushers) (length edges - 1) (length edges - 1))) ≡ map place_of (longest problem)
     longest-met =
-        let many : length settled.limits.earliest.items ≡ problem.count + 1 = are.many in
-        let last : length settled.limits.earliest.items - 1 ≡ problem.count = omega arith in
+        let many : length edges ≡ problem.count + 1 = are.many in
+        let last : length edges - 1 ≡ problem.count = omega arith in
         ap (λ k. reverse (map place_of (followed edge (kept_single kept.single_span.items) (kept_longer pushers) k k))) last
         ∙ ap (λ ds. reverse (map place_of ds))
-        (followed-is problem.line drawn problem.count is.limit problem.demands are.drawn are.table is.below is.from_limit edge are.earliest (kept_single kept.single_span.items) (is.held.single_span small)
+        (followed-is problem.line drawn problem.count is.limit problem.demands are.drawn are.table is.below is.from_limit is.in_order edge are.edge_at (kept_single kept.single_span.items) (is.held.single_span small)
         (kept_longer pushers) (λ i l. first i (omega arith) ∙ ap (find (pushes_by (asked drawn) edge i)) exact) problem.count problem.count (omega arith))
         ∙ reverse-places (way (asked problem.line) problem.demands problem.count problem.count)

@@ -1,29 +1,34 @@
 -- What an answer of least sizes says of the cells' demands.
-use Rattle.std.specs.Prelude.{◌≡◌, ℕ, ◌^◌, ◌<◌, ◌≤◌, List, EachIndex, slice_index, map, Result, None, Vec}
+use Rattle.std.specs.Prelude.{◌≡◌, ℕ, ◌^◌, ◌<◌, ◌≤◌, List, All, EachIndex, slice_index, map, reverse, Option, None, Some, Result, Vec}
 use Rattle.papergrid_values.specs.declared.position.Position.{Position}
+use Rattle.papergrid_axis.specs.declared.demand.Demand.{Demand}
 use Rattle.papergrid_axis.specs.declared.error.LayoutError.{LayoutError}
 use Rattle.papergrid_axis.specs.Answers.{AnswersWhere, IsTotalBy}
 use Rattle.papergrid_axis.specs.Problem.{Problem, total_of}
-use Rattle.papergrid_axis.specs.Ranges.{first_out, place_of}
+use Rattle.papergrid_axis.specs.Ranges.{IsInTable, first_out, place_of}
 use Rattle.papergrid_axis.specs.Fits.{Fits, IsCertificate, IsLeast, IsTooLarge, top_need}
-use Rattle.papergrid_least.specs.Least.{least_of}
-use Rattle.papergrid_least.specs.Longest.{longest}
+use Rattle.papergrid_least.specs.Least.{AreFurthestRight, least_of}
+use Rattle.papergrid_least.specs.Longest.{IsWayBack}
 
 module _ (problem : Problem) where
   -- these are the least sizes, and what holds of them
   pub record AreLeastSizes (sizes : List ℕ) : Type 0 where
+    pub table : All (IsInTable problem.count) problem.demands
     pub none_out : first_out problem.count problem.demands ≡ None
-    pub exact : sizes ≡ least_of problem
+    pub exact : AreFurthestRight problem sizes
     pub total : total_of problem sizes < 2 ^ 64
     pub least : IsLeast problem sizes
     pub bound : EachIndex sizes (λ i. slice_index sizes i ≤ top_need problem.demands i)
 
-  -- the places of the cells of the longest way, which certify the least sizes
+  -- the places of the cells of the one way back from the end, which certify any least sizes; and these fit
   pub record AreLongest (places : List Position) : Type 0 where
+    pub table : All (IsInTable problem.count) problem.demands
     pub none_out : first_out problem.count problem.demands ≡ None
-    pub total : total_of problem (least_of problem) < 2 ^ 64
-    pub exact : places ≡ map place_of (longest problem)
-    pub certificate : IsCertificate problem (least_of problem) (longest problem)
+    pub cells : List Demand
+    pub exact : places ≡ map place_of cells
+    pub way : IsWayBack problem problem.count (reverse cells)
+    pub total : (sizes : List ℕ) → IsLeast problem sizes → total_of problem sizes < 2 ^ 64
+    pub certificate : (sizes : List ℕ) → IsLeast problem sizes → IsCertificate problem sizes cells
 
   -- no cell reaches out, and the least sizes are too large, as every list that fits is
   pub record NoneFits : Type 0 where
@@ -34,6 +39,11 @@ module _ (problem : Problem) where
   -- the sum of the least sizes and of all lines
   abbrev pub IsLeastTotal : ℕ → Type 0
   IsLeastTotal total = IsTotalBy problem AreLeastSizes total
+
+-- the places of these cells; there always are some
+abbrev pub IsLongest : {Z : Type 0} → Problem → Option (Vec Position Z) → Type 0
+IsLongest problem None = ⊥
+IsLongest problem (Some places) = AreLongest problem places.items
 
 -- what is asked for of a problem, or why there is none: where it is refused as too large, every list that fits is
 abbrev pub LeastAnswers : {A : Type 0} → (Problem → A → Type 0) → Problem → Result A LayoutError → Type 0

@@ -1,11 +1,23 @@
 -- The latest edges, and the sizes of the least total.
-use Rattle.std.specs.Prelude.{ℕ, ◌-◌, min, List, map}
+use Rattle.std.specs.Prelude.{ℕ, ◌-◌, ◌≤◌, min, List, map}
 use Rattle.papergrid_axis.specs.declared.demand.Demand.{Demand}
 use Rattle.papergrid_axis.specs.Problem.{Problem}
+use Rattle.papergrid_axis.specs.Fits.{IsLeast}
 use Rattle.papergrid_axis.specs.Sizes.{sizes_of}
 use Rattle.papergrid_axis.specs.Ranges.{end_of}
 use Rattle.papergrid_least.specs.Edges.{asked, edges_of, sizes_between}
 use Rattle.papergrid_least.specs.Earliest.{earliest}
+
+-- least sizes whose boundaries are nowhere past those of the sizes by shares
+pub record AreLeastBefore (problem : Problem) (sizes : List ℕ) : Type 0 where
+  pub least : IsLeast problem sizes
+  pub nowhere_past : (i : ℕ) → i ≤ problem.count → edges_of sizes i ≤ edges_of (sizes_of problem) i
+
+-- of all such sizes those whose boundaries are furthest to the right
+pub record AreFurthestRight (problem : Problem) (sizes : List ℕ) : Type 0 where
+  pub among : AreLeastBefore problem sizes
+  pub furthest : (other : List ℕ) → AreLeastBefore problem other →
+      (i : ℕ) → i ≤ problem.count → edges_of other i ≤ edges_of sizes i
 
 -- the cell with its range counted from the far end
 abbrev pub mirrored : ℕ → Demand → Demand
@@ -24,6 +36,6 @@ abbrev pub least_sizes : Problem → List ℕ → List ℕ
 least_sizes problem sizes =
     sizes_between problem.count (λ i. min (edges_of sizes i) (latest (asked problem.line) problem.count problem.demands i))
 
--- the sizes by shares, made least
+-- the sizes by shares, made least: those that are furthest right, as a law says
 abbrev pub least_of : Problem → List ℕ
 least_of problem = least_sizes problem (sizes_of problem)

@@ -27,7 +27,8 @@ pub fn all_asking(
     demands: &[Demand],
 ) -> Result<Vec<Demand>, AllocError>
     requires { All (IsInTable (length lines.now)) demands.now }
-    ensures { IfOk result (λ cells. cells.items ≡ map (carrying (asked (line_at lines.now))) demands.now) }
+    ensures { IfOk result (λ cells.
+        cells.items ≡ map (carrying (asked (line_at lines.now))) demands.now) }
 {
     let mut cells = Vec::new(alloc);
     for demand in demands {

@@ -15,7 +15,8 @@ fn lay(edges: &mut [usize], base: &[usize], from: usize, to: usize) -> Option<()
     requires ordered { from ≤ to }
     requires within { to ≤ length base.now }
     ensures length { IfSome result (λ done. length edges.new ≡ length edges.old) }
-    ensures before { IfSome result (λ done. (i : ℕ) → i ≤ from → slice_index edges.new i ≡ slice_index edges.old i) }
+    ensures before { IfSome result (λ done. (i : ℕ) → i ≤ from →
+        slice_index edges.new i ≡ slice_index edges.old i) }
     ensures laid { IfSome result (λ done. (i : ℕ) → from ≤ i → i < to →
         slice_index edges.new (i + 1) ≡ slice_index edges.new i + slice_index base.now i) }
     ensures too_large { IfNone result ((edge : ℕ → ℕ) → slice_index edges.old from ≤ edge from →
@@ -57,7 +58,8 @@ fn lay_back(edges: &mut [usize], base: &[usize], from: usize, to: usize)
     requires one_more { length edges.old ≡ length base.now + 1 }
     requires ordered { from ≤ to }
     requires within { to ≤ length base.now }
-    requires room { (edge : ℕ → ℕ) × AreSteps base.now from to edge × (edge to ≤ slice_index edges.old to) }
+    requires room { (edge : ℕ → ℕ) × AreSteps base.now from to edge
+        × (edge to ≤ slice_index edges.old to) }
     ensures length { length edges.new ≡ length edges.old }
     ensures after { (i : ℕ) → to ≤ i → slice_index edges.new i ≡ slice_index edges.old i }
     ensures laid { (i : ℕ) → from ≤ i → i < to →
@@ -77,7 +79,8 @@ pub fn lay_latest(edges: &mut [usize], base: &[usize], cells: &[Demand])
     requires room { (edge : ℕ → ℕ) × AreLaid base.now cells.now edge
         × (edge (length base.now) ≤ slice_index edges.old (length base.now)) }
     ensures length { length edges.new ≡ length edges.old }
-    ensures last { slice_index edges.new (length base.now) ≡ slice_index edges.old (length base.now) }
+    ensures last { let count = length base.now in
+        slice_index edges.new count ≡ slice_index edges.old count }
     ensures laid { AreLaid base.now cells.now (slice_index edges.new) }
     ensures above { (edge : ℕ → ℕ) → AreLaid base.now cells.now edge →
         edge (length base.now) ≤ slice_index edges.old (length base.now) →

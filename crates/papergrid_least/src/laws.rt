@@ -1,6 +1,6 @@
 //! Laws of the definitions, each the contract of a function that does nothing.
 
-ghost use Rattle.std.specs.Prelude.{All, List, find, length, min, slice_index, sum, ℕ, ◌+◌, ◌<◌, ◌^◌, ◌↔◌, ◌≡◌, ◌≤◌};
+ghost use Rattle.std.specs.Prelude.{All, List, length, min, reverse, slice_index, sum, ℕ, ◌+◌, ◌<◌, ◌^◌, ◌↔◌, ◌≡◌, ◌≤◌};
 ghost use Rattle.papergrid_axis.specs.declared.demand.Demand.{Demand};
 ghost use Rattle.papergrid_axis.specs.Fits.{Fits, IsCertificate, IsLeast, IsTooLarge, top_need};
 ghost use Rattle.papergrid_axis.specs.Problem.{Problem, total_of};
@@ -9,15 +9,15 @@ ghost use Rattle.papergrid_axis.specs.Sizes.{sizes_of};
 ghost use Rattle.papergrid_values.specs.Lines.{all_lines};
 ghost use Rattle.papergrid_least.specs.Earliest.{earliest, least_total};
 ghost use Rattle.papergrid_least.specs.Edges.{AreEdges, asked, edges_of, sizes_between};
-ghost use Rattle.papergrid_least.specs.Least.{latest, least_of, least_sizes};
-ghost use Rattle.papergrid_least.specs.Longest.{AreInOrder, longest, pusher, pushes};
-ghost use Rattle.papergrid_least.specs.Worked.{CrossingWorked};
+ghost use Rattle.papergrid_least.specs.Least.{AreFurthestRight, latest, least_of, least_sizes};
+ghost use Rattle.papergrid_least.specs.Longest.{IsWayBack, longest};
 
 /// Sizes fit exactly where their sums are edges.
 pub fn fits_by_edges()
     ensures fits { (problem : Problem) (sizes : List ℕ) →
         All (IsInTable problem.count) problem.demands → length sizes ≡ problem.count →
-        Fits problem sizes ↔ AreEdges (asked problem.line) problem.count problem.demands (edges_of sizes) }
+        Fits problem sizes ↔
+        AreEdges (asked problem.line) problem.count problem.demands (edges_of sizes) }
     ensures between { (problem : Problem) (edge : ℕ → ℕ) →
         All (IsInTable problem.count) problem.demands →
         AreEdges (asked problem.line) problem.count problem.demands edge →
@@ -42,7 +42,8 @@ pub fn earliest_edges()
         All (IsInTable problem.count) problem.demands → Fits problem sizes →
         least_total problem ≤ sum sizes }
     ensures least { (problem : Problem) → All (IsInTable problem.count) problem.demands →
-        IsLeast problem (sizes_between problem.count (earliest (asked problem.line) problem.demands)) }
+        let edge = earliest (asked problem.line) problem.demands in
+        IsLeast problem (sizes_between problem.count edge) }
 {}
 
 /// The latest edges are edges from 0 to the least total, and no edges that end there are past them.
@@ -76,16 +77,21 @@ pub fn least_from_any()
         least_sizes problem sizes ≡ sizes }
 {}
 
-/// The sizes by shares, made least, are those by shares wherever these are least.
+/// The sizes by shares, made least, are the least sizes whose boundaries are nowhere past those by shares and furthest
+/// to the right; and they are those by shares wherever these are least.
 pub fn least_by_shares()
     ensures least { (problem : Problem) → All (IsInTable problem.count) problem.demands →
         IsLeast problem (least_of problem) }
     ensures total { (problem : Problem) → All (IsInTable problem.count) problem.demands →
         sum (least_of problem) ≡ least_total problem }
     ensures bound { (problem : Problem) → All (IsInTable problem.count) problem.demands →
-        (i : ℕ) → i < problem.count → slice_index (least_of problem) i ≤ top_need problem.demands i }
+        (i : ℕ) → i < problem.count →
+        slice_index (least_of problem) i ≤ top_need problem.demands i }
     ensures certified { (problem : Problem) → All (IsInTable problem.count) problem.demands →
         IsCertificate problem (least_of problem) (longest problem) }
+    ensures furthest_right { (problem : Problem) (sizes : List ℕ) →
+        All (IsInTable problem.count) problem.demands →
+        AreFurthestRight problem sizes ↔ (sizes ≡ least_of problem) }
     ensures same { (problem : Problem) → All (IsInTable problem.count) problem.demands →
         IsLeast problem (sizes_of problem) → least_of problem ≡ sizes_of problem }
     ensures kept_apart { (problem : Problem) → All (IsInTable problem.count) problem.demands →
@@ -102,14 +108,9 @@ pub fn least_total_decides()
         ((other : List ℕ) → Fits problem other → IsTooLarge problem other) }
 {}
 
-/// Where the cells stand by row and then by column, the one that is taken to push an edge is the first of all
-/// that do.
-pub fn first_in_order()
-    ensures { (asks : Demand → ℕ) (n : ℕ) (demands : List Demand) (i : ℕ) → All (IsInTable n) demands →
-        AreInOrder demands → pusher asks demands i ≡ find (pushes asks demands i) demands }
-{}
-
-/// What two crossing cells come to, by the definitions alone.
-pub fn crossing_worked()
-    ensures { CrossingWorked }
+/// The cells that certify the least total are those of the one way back from the end.
+pub fn one_way_back()
+    ensures { (problem : Problem) (cells : List Demand) →
+        All (IsInTable problem.count) problem.demands →
+        IsWayBack problem problem.count (reverse cells) ↔ (cells ≡ longest problem) }
 {}

@@ -1,81 +1,98 @@
-//! The least sizes of the columns (rows) of a table, alone or with the cells that certify them.
+//! The least sizes of the columns (rows) of a table, and the cells that certify them.
 
-ghost use Rattle.std.specs.Prelude.{IfOk, false, map, ◌≡◌};
+ghost use Rattle.std.specs.Prelude.{IfOk, None, false, map, true, ◌≡◌};
 ghost use Rattle.papergrid_axis.specs.ForProofs.Kept.{IsKept};
 ghost use Rattle.papergrid_axis.specs.Problem.{Problem};
 ghost use Rattle.papergrid_axis.specs.Ranges.{place_of};
-ghost use Rattle.papergrid_least.specs.ForProofs.Settled.{AreSettled};
+ghost use Rattle.papergrid_least.specs.Answers.{IsLongest};
+ghost use Rattle.papergrid_least.specs.ForProofs.Settled.{AreEarliest};
 ghost use Rattle.papergrid_least.specs.Longest.{longest};
 
+use crate::lines::Lines;
 use crate::longest::{follow, mark_pushers};
-use crate::settled::{Settled, settle};
+use crate::settled::make_least;
 use papergrid_axis::axis::Axis;
-use papergrid_axis::{Found, Kept, Solution};
+use papergrid_axis::settled::{refusal, write_base};
+use papergrid_axis::{Found, Kept, Solved, Solver};
 use papergrid_values::Position;
 use std::alloc::{AllocError, Global};
-
-/// The least sizes of the columns (rows). There are none where no sizes with room for each cell come
-/// with all lines to at most the greatest `usize`.
-#[derive(Drop)]
-pub struct LeastSizes {
-    pub sizes: Vec<usize>,
-}
-
-impl Solution for LeastSizes {
-    ghost use Rattle.papergrid_least.specs.Answers.{AreLeastSizes, NoneFits};
-
-    ghost solves = { λ problem found. AreLeastSizes problem found.sizes.items };
-
-    ghost too_large = { NoneFits };
-
-    fn solve<A: Axis>(alloc: Global, count: usize, kept: &Kept, axis: &A) -> Found<LeastSizes> {
-        let settled = settle(alloc, count, kept, axis)?;
-        Ok(LeastSizes {
-            sizes: settled.sizes,
-        })
-    }
-}
 
 /// The places of the cells of the longest way, by the starts of their ranges.
 fn longest_places(
     alloc: Global,
     kept: &Kept,
-    settled: &Settled,
+    lines: &Lines,
+    earliest: &[usize],
 ) -> Result<Vec<Position>, AllocError>
     requires small { kept.now.is_large ≡ false }
-    requires settled { (problem : Problem) × IsKept problem.count kept.now problem.demands × AreSettled problem settled.now }
-    ensures { (problem : Problem) → IsKept problem.count kept.now problem.demands → AreSettled problem settled.now →
+    requires earliest { (problem : Problem) × IsKept problem.count kept.now problem.demands
+        × AreEarliest problem lines.now earliest.now }
+    ensures { (problem : Problem) → IsKept problem.count kept.now problem.demands →
+        AreEarliest problem lines.now earliest.now →
         IfOk result (λ places. places.items ≡ map place_of (longest problem)) }
 {
-    let edges = &settled.limits.earliest;
-    let mut pushers = vec![in alloc; None; edges.len()]?;
-    mark_pushers(&mut pushers, edges, &settled.lines, &kept.rest);
-    let mut places = follow(alloc, edges, &kept.single_span, &pushers)?;
+    let mut pushers = vec![in alloc; None; earliest.len()]?;
+    mark_pushers(&mut pushers, earliest, lines, &kept.rest);
+    let mut places = follow(alloc, earliest, &kept.single_span, &pushers)?;
     places.reverse();
     Ok(places)
 }
 
-/// The least sizes, and the places of the cells that certify that they are least, by the starts of
-/// their ranges.
-#[derive(Drop)]
-pub struct CertifiedLeast {
-    pub sizes: Vec<usize>,
-    pub places: Vec<Position>,
+/// The certificate of least sizes, where it is asked for.
+fn certificate_of(
+    alloc: Global,
+    certify: bool,
+    kept: &Kept,
+    lines: &Lines,
+    earliest: &[usize],
+) -> Result<Option<Vec<Position>>, AllocError>
+    requires small { kept.now.is_large ≡ false }
+    requires earliest { (problem : Problem) × IsKept problem.count kept.now problem.demands
+        × AreEarliest problem lines.now earliest.now }
+    ensures asked { (problem : Problem) → IsKept problem.count kept.now problem.demands →
+        AreEarliest problem lines.now earliest.now →
+        certify ≡ true → IfOk result (IsLongest problem) }
+    ensures unasked { certify ≡ false → IfOk result (λ certificate. certificate ≡ None) }
+{
+    if !certify {
+        return Ok(None);
+    }
+    let places = longest_places(alloc, kept, lines, earliest)?;
+    Ok(Some(places))
 }
 
-impl Solution for CertifiedLeast {
-    ghost use Rattle.papergrid_least.specs.Answers.{AreLeastSizes, AreLongest, NoneFits};
+/// With the least total: there are no sizes only where none with room for each cell come with all lines
+/// to at most the greatest `usize`. There always is a certificate.
+pub struct ByLeastTotal {}
 
-    ghost solves = { λ problem found. AreLeastSizes problem found.sizes.items × AreLongest problem found.places.items };
+impl Solver for ByLeastTotal {
+    ghost use Rattle.papergrid_axis.specs.Answers.{IsSolvedBy};
+    ghost use Rattle.papergrid_least.specs.Answers.{AreLeastSizes, NoneFits};
+
+    ghost solves = { λ certify problem solved. IsSolvedBy AreLeastSizes IsLongest certify problem solved };
 
     ghost too_large = { NoneFits };
 
-    fn solve<A: Axis>(alloc: Global, count: usize, kept: &Kept, axis: &A) -> Found<CertifiedLeast> {
-        let settled = settle(alloc, count, kept, axis)?;
-        let places = longest_places(alloc, kept, &settled)?;
-        Ok(CertifiedLeast {
-            sizes: settled.sizes,
-            places,
+    fn solve<A: Axis>(
+        alloc: Global,
+        count: usize,
+        kept: &Kept,
+        axis: &A,
+        certify: bool,
+    ) -> Found<Solved> {
+        // A count that no memory holds is refused before it is counted up to.
+        let mut sizes = vec![in alloc; 0; count]?;
+        let lines = Lines::of(alloc, axis, count)?;
+        if let Some(error) = refusal(count, kept) {
+            return Err(error);
+        }
+        write_base(&mut sizes, &kept.single_span);
+        let limits = make_least(alloc, &lines, &mut sizes, &kept.rest)?;
+        let certificate = certificate_of(alloc, certify, kept, &lines, &limits.earliest)?;
+        Ok(Solved {
+            sizes,
+            total: limits.total,
+            certificate,
         })
     }
 }

@@ -11,5 +11,6 @@ mod lines;
 mod longest;
 mod lower;
 mod settled;
+pub mod worked;
 
-pub use least::{CertifiedLeast, LeastSizes};
+pub use least::ByLeastTotal;

@@ -15,11 +15,12 @@ use crate::lines::Lines;
 use papergrid_axis::{Demand, Found, LayoutError};
 use std::alloc::{AllocError, Global};
 
-/// The earliest and the latest edges.
+/// The earliest and the latest edges, and their total with all lines.
 #[derive(Drop)]
 pub struct Limits {
     pub earliest: Vec<usize>,
     pub latest: Vec<usize>,
+    pub total: usize,
 }
 
 /// As many zeros, and then one more number.
@@ -57,7 +58,8 @@ fn latest_of(
 ) -> Result<Vec<usize>, AllocError>
     requires table { All (IsInTable (length base.now)) cells.now }
     requires sorted { AreLaterFirst cells.now }
-    requires room { (edge : ℕ → ℕ) × AreLaid base.now cells.now edge × (edge (length base.now) ≤ total) }
+    requires room { (edge : ℕ → ℕ) × AreLaid base.now cells.now edge
+        × (edge (length base.now) ≤ total) }
     ensures { IfOk result (λ edges. IsLatest base.now cells.now total edges.items) }
 {
     let mut edges = zeros_and(alloc, base.len(), total)?;
@@ -79,11 +81,15 @@ pub fn limits_of(alloc: Global, lines: &Lines, base: &[usize], cells: &[Demand])
     let mut ordered = all_asking(alloc, lines, cells)?;
     sort_by_end(&mut ordered)?;
     let earliest = earliest_of(alloc, base, &ordered)?;
-    let total = earliest[base.len()];
-    if total.checked_add(lines.count()).is_none() {
+    let last = earliest[base.len()];
+    let Some(total) = last.checked_add(lines.count()) else {
         return Err(LayoutError::TooLarge);
-    }
+    };
     sort_later_first(&mut ordered)?;
-    let latest = latest_of(alloc, base, &ordered, total)?;
-    Ok(Limits { earliest, latest })
+    let latest = latest_of(alloc, base, &ordered, last)?;
+    Ok(Limits {
+        earliest,
+        latest,
+        total,
+    })
 }

@@ -51,7 +51,8 @@ impl Lines {
     /// The lines of the axis, of `count` columns (rows).
     pub fn of<A: Axis>(alloc: Global, axis: &A, count: usize) -> Result<Lines, AllocError>
         ensures length { IfOk result (λ lines. length lines ≡ count + 1) }
-        ensures drawn { IfOk result (λ lines. (i : ℕ) → i ≤ count → line_at lines i ≡ A.line axis.now i) }
+        ensures drawn { IfOk result (λ lines. (i : ℕ) → i ≤ count →
+            line_at lines i ≡ A.line axis.now i) }
     {
         let drawn = lines_of(alloc, axis, count)?;
         let counts = counts_of(alloc, &drawn)?;

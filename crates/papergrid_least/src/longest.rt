@@ -5,8 +5,7 @@ ghost use Rattle.papergrid_axis.specs.ForProofs.Settled.{line_at};
 ghost use Rattle.papergrid_axis.specs.Ranges.{IsInTable, end_of, place_of};
 ghost use Rattle.papergrid_axis.specs.declared.demand.Demand.{Demand};
 ghost use Rattle.papergrid_least.specs.Edges.{asked};
-ghost use Rattle.papergrid_least.specs.ForProofs.Followed.{followed, kept_longer, kept_single, needing, pushes_by};
-ghost use Rattle.papergrid_least.specs.Longest.{earlier_cell};
+ghost use Rattle.papergrid_least.specs.ForProofs.Followed.{earlier_cell, followed, kept_longer, kept_single, needing, pushes_by};
 
 use crate::cells::asking;
 use crate::lines::Lines;
@@ -93,12 +92,15 @@ pub fn follow(
     requires one { 1 ≤ length earliest.now }
     requires rise { (i : ℕ) → i + 1 < length earliest.now →
         slice_index earliest.now i ≤ slice_index earliest.now (i + 1) }
-    requires alone { (i : ℕ) → i + 1 < length earliest.now → (kept_single single_span.now i).start ≤ i }
+    requires alone { (i : ℕ) → i + 1 < length earliest.now →
+        (kept_single single_span.now i).start ≤ i }
     requires starts { (i : ℕ) (d : Demand) → slice_index_or pushers.now i None ≡ Some d →
         d.start < length earliest.now }
     ensures { let count = length earliest.now - 1 in
-        IfOk result (λ places. places.items ≡ map place_of
-        (followed (slice_index earliest.now) (kept_single single_span.now) (kept_longer pushers.now) count count)) }
+        let single = kept_single single_span.now in
+        let longer = kept_longer pushers.now in
+        let cells = followed (slice_index earliest.now) single longer count count in
+        IfOk result (λ places. places.items ≡ map place_of cells) }
 {
     let mut places = Vec::new(alloc);
     let mut number = earliest.len() - 1;

@@ -1,31 +1,30 @@
-//! The least sizes and the edges between which theirs lie, from what was kept of the cells.
+//! The least sizes, from what each number needs alone and the cells of longer ranges.
 
-ghost use Rattle.std.specs.Prelude.{All, IfErr, IfOk, List, false, fold, length, map, min, slice_index, ℕ, ◌+◌, ◌^◌, ◌≡◌, ◌≤◌};
-ghost use Rattle.papergrid_axis.specs.ForProofs.Kept.{IsKept};
+ghost use Rattle.std.specs.Prelude.{All, IfErr, IfOk, fold, length, map, min, slice_index, ℕ, ◌+◌, ◌^◌, ◌≡◌, ◌≤◌};
 ghost use Rattle.papergrid_axis.specs.ForProofs.Settled.{line_at};
-ghost use Rattle.papergrid_axis.specs.Problem.{given};
 ghost use Rattle.papergrid_axis.specs.Ranges.{IsInTable};
 ghost use Rattle.papergrid_axis.specs.Sizes.{grown, taken};
-ghost use Rattle.papergrid_axis.specs.declared.demand.Demand.{Demand};
 ghost use Rattle.papergrid_values.specs.Lines.{all_lines};
-ghost use Rattle.papergrid_least.specs.Answers.{LeastAnswers};
 ghost use Rattle.papergrid_least.specs.Edges.{asked, edges_of, sizes_between};
 ghost use Rattle.papergrid_least.specs.ForProofs.Laid.{AreLaid, carrying};
 ghost use Rattle.papergrid_least.specs.ForProofs.Limits.{AreLimits, Refuses};
-ghost use Rattle.papergrid_least.specs.ForProofs.Settled.{AreSettled};
 
 use crate::limits::{Limits, limits_of};
 use crate::lines::Lines;
 use crate::lower::lower_edges;
-use papergrid_axis::axis::Axis;
 use papergrid_axis::growing_cells::grow_all;
-use papergrid_axis::settled::{refusal, taken, write_base};
-use papergrid_axis::{Demand, Found, Kept};
+use papergrid_axis::settled::taken;
+use papergrid_axis::{Demand, Found};
 use std::alloc::Global;
 
 /// Makes of what each number needs alone the sizes by shares, and of these the least ones; gives the
 /// edges between which theirs lie.
-fn make_least(alloc: Global, lines: &Lines, sizes: &mut [usize], cells: &[Demand]) -> Found<Limits>
+pub fn make_least(
+    alloc: Global,
+    lines: &Lines,
+    sizes: &mut [usize],
+    cells: &[Demand],
+) -> Found<Limits>
     requires lines { length lines.now ≡ length sizes.old + 1 }
     requires table { All (IsInTable (length sizes.old)) cells.now }
     ensures limits { let line = line_at lines.now in
@@ -45,34 +44,4 @@ fn make_least(alloc: Global, lines: &Lines, sizes: &mut [usize], cells: &[Demand
     let _ = grow_all(alloc, sizes, lines.drawn(), &longer)?;
     lower_edges(sizes, &limits.latest);
     Ok(limits)
-}
-
-/// The lines of a table along a direction, the least sizes, and the edges between which theirs lie.
-#[derive(Drop)]
-pub struct Settled {
-    pub lines: Lines,
-    pub sizes: Vec<usize>,
-    pub limits: Limits,
-}
-
-/// What the kept cells of a table of `count` columns (rows) come to, with the lines of the axis.
-pub fn settle<A: Axis>(alloc: Global, count: usize, kept: &Kept, axis: &A) -> Found<Settled>
-    requires { (demands : List Demand) × IsKept count kept.now demands }
-    ensures small { IfOk result (λ settled. kept.now.is_large ≡ false) }
-    ensures settled { (demands : List Demand) → IsKept count kept.now demands →
-        LeastAnswers AreSettled (given (A.line axis.now) count demands) result }
-{
-    // A count that no memory holds is refused before it is counted up to.
-    let mut sizes = vec![in alloc; 0; count]?;
-    let lines = Lines::of(alloc, axis, count)?;
-    if let Some(error) = refusal(count, kept) {
-        return Err(error);
-    }
-    write_base(&mut sizes, &kept.single_span);
-    let limits = make_least(alloc, &lines, &mut sizes, &kept.rest)?;
-    Ok(Settled {
-        lines,
-        sizes,
-        limits,
-    })
 }

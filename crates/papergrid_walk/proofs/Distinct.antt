@@ -6,10 +6,11 @@ use Rattle.std.proofs.lemmas.List.Kept.{AllPairs-cons, AllPairs-filter}
 use Rattle.papergrid_values.specs.declared.position.Position.{Position}
 use Rattle.papergrid_values.specs.declared.direction.Direction.{Direction}
 use Rattle.papergrid_values.specs.declared.direction.Direction.TheVariants.{Columns, Rows}
+use Rattle.papergrid_axis.specs.declared.demand.Demand.{Demand}
 use Rattle.papergrid_axis.specs.declared.kept.Kept.{Kept}
 use Rattle.papergrid_axis.specs.ForProofs.Checks.{AreDistinct}
 use Rattle.papergrid_axis.specs.Ranges.{place_of}
-use Rattle.papergrid_axis.specs.ForProofs.Kept.{Holds, IsKept, is_single}
+use Rattle.papergrid_axis.specs.ForProofs.Kept.{Holds, IsKept, StandInOrder, is_single}
 use Rattle.papergrid_axis.proofs.KeptLemmas.{below-own_limit}
 use Rattle.papergrid_values.specs.Positions.{IsBefore}
 use Rattle.papergrid_walk.specs.Cells.{demand_by, count_along, demands_of, placed, placed_from, placed_row, visible_cells}
@@ -19,6 +20,12 @@ use Rattle.papergrid_maps.specs.Grids.{Grid}
 pub count-le : (direction : Direction) (columns n : ℕ) → n < 18446744073709551616 → count_along direction columns n ≤ limit_along direction columns
 count-le Columns columns n l = omega arith
 count-le Rows columns n l = omega arith
+
+differ : (a b : Demand) → IsBefore (place_of a) (place_of b) → place_of a ≢ place_of b
+differ a b before e =
+    let row : a.row ≡ b.row = ap (λ (p : Position). p.row) e in
+    let col : a.col ≡ b.col = ap (λ (p : Position). p.col) e in
+    elim before [ inl l ↦ absurd (omega (arith, l, row)) | inr l ↦ let l' = l.1 in absurd (omega (arith, l', col)) ]
 
 module _ {C : Type 0} where
   abbrev pub Precedes : Position × C → Position × C → Type 0
@@ -80,6 +87,24 @@ module _ {C : Type 0} where
       (All-weaker (λ x. x.0.row < length rows) (λ x. is_single (limit_along Rows columns) (demand_by Rows grid measure x) ≡ true → x.0.row < length rows) (λ x l t. l) (visible_cells grid rows)
       (All-filter (λ cell. grid.shows cell.0) (λ x. x.0.row < length rows) (placed rows) (from-above (length rows) 0 rows (omega arith))))
 
+  -- the visible cells stand in their order
+  pub AllPairs-visible : (grid : Grid) (rows : List (List C)) → AllPairs Precedes (visible_cells grid rows)
+  AllPairs-visible grid rows = AllPairs-filter Precedes (λ cell. grid.shows cell.0) (placed rows) (from-precede 0 rows)
+
+  module _ (direction : Direction) (grid : Grid) (measure : C → ℕ × ℕ) where
+    demand_by-in_order : (xs : List (Position × C)) → AllPairs Precedes xs → StandInOrder (map (demand_by direction grid measure) xs)
+    demand_by-in_order [] precede = λ i j d l l'. absurd (omega arith)
+    demand_by-in_order (x ∷ xs) precede =
+        AllPairs-cons (λ a b. IsBefore (place_of a) (place_of b)) (demand_by direction grid measure x) (map (demand_by direction grid measure) xs)
+        (All-map (λ b. IsBefore (place_of (demand_by direction grid measure x)) (place_of b)) (demand_by direction grid measure) xs (λ k d l. precede 0 (suc k) d (omega arith) (omega arith)))
+        (demand_by-in_order xs (λ i j d l l'. precede (suc i) (suc j) d (omega arith) (omega arith)))
+
+    pub in_order-demands : (rows : List (List C)) → StandInOrder (demands_of direction grid measure rows)
+    in_order-demands rows = demand_by-in_order (visible_cells grid rows) (AllPairs-visible grid rows)
+
+    pub AreDistinct-demands : (rows : List (List C)) → AreDistinct (demands_of direction grid measure rows)
+    AreDistinct-demands rows i j d l l' = differ (get_or (demands_of direction grid measure rows) i d) (get_or (demands_of direction grid measure rows) j d) (in_order-demands rows i j d l l')
+
   -- what a walk kept of told rows is what the table asks for
   pub IsKept-demands : (direction : Direction) (grid : Grid) (measure : C → ℕ × ℕ) (columns : ℕ) (rows : List (List C)) (kept : Kept) →
       count_along direction columns (length rows) ≤ limit_along direction columns → Holds (limit_along direction columns) kept (demands_of direction grid measure rows) →
@@ -89,25 +114,5 @@ module _ {C : Type 0} where
     held = held;
     from_limit = le;
     below = below-limit direction grid measure columns rows;
+    in_order = in_order-demands direction grid measure rows;
   }
-
-  -- the visible cells stand in their order
-  pub AllPairs-visible : (grid : Grid) (rows : List (List C)) → AllPairs Precedes (visible_cells grid rows)
-  AllPairs-visible grid rows = AllPairs-filter Precedes (λ cell. grid.shows cell.0) (placed rows) (from-precede 0 rows)
-
-  differ : (x y : Position × C) → Precedes x y → x.0 ≢ y.0
-  differ x y precedes e =
-      let row : x.0.row ≡ y.0.row = ap (λ (p : Position). p.row) e in
-      let col : x.0.col ≡ y.0.col = ap (λ (p : Position). p.col) e in
-      elim precedes [ inl l ↦ absurd (omega (arith, l, row)) | inr l ↦ let l' = l.1 in absurd (omega (arith, l', col)) ]
-
-  module _ (direction : Direction) (grid : Grid) (measure : C → ℕ × ℕ) where
-    demand_by-distinct : (xs : List (Position × C)) → AllPairs Precedes xs → AreDistinct (map (demand_by direction grid measure) xs)
-    demand_by-distinct [] precede = λ i j d l l'. absurd (omega arith)
-    demand_by-distinct (x ∷ xs) precede =
-        AllPairs-cons (λ a b. place_of a ≢ place_of b) (demand_by direction grid measure x) (map (demand_by direction grid measure) xs)
-        (All-map (λ b. place_of (demand_by direction grid measure x) ≢ place_of b) (demand_by direction grid measure) xs (λ k d l. differ x (get_or xs k d) (precede 0 (suc k) d (omega arith) (omega arith))))
-        (demand_by-distinct xs (λ i j d l l'. precede (suc i) (suc j) d (omega arith) (omega arith)))
-
-    pub AreDistinct-demands : (rows : List (List C)) → AreDistinct (demands_of direction grid measure rows)
-    AreDistinct-demands rows = demand_by-distinct (visible_cells grid rows) (AllPairs-visible grid rows)

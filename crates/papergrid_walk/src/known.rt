@@ -38,7 +38,8 @@ const NO_PADDINGS: Paddings = Paddings {
 impl KnownPaddings {
     /// What is known before the first cell. Where all cells are alike it takes no memory.
     pub fn new<S: ConfigView>(alloc: Global, settings: &S) -> Result<KnownPaddings, AllocError>
-        ensures { IfOk result (λ known. Knows (S.grid settings.now) (S.set_for settings.now) known) }
+        ensures { IfOk result (λ known.
+            Knows (S.grid settings.now) (S.set_for settings.now) known) }
     {
         let common = settings.common_paddings();
         let own = match common {
@@ -64,8 +65,10 @@ impl KnownPaddings {
         position: Position,
     ) -> Result<Paddings, AllocError>
         requires { Knows (S.grid settings.now) (S.set_for settings.now) self.old }
-        ensures value { IfOk result (λ paddings. paddings ≡ paddings_at (S.grid settings.now) position) }
-        ensures knows { IfOk result (λ _. Knows (S.grid settings.now) (S.set_for settings.now) self.new) }
+        ensures value { IfOk result (λ paddings.
+            paddings ≡ paddings_at (S.grid settings.now) position) }
+        ensures knows { IfOk result (λ _.
+            Knows (S.grid settings.now) (S.set_for settings.now) self.new) }
     {
         if !self.are_common {
             self.decide(settings, position)?;
@@ -80,7 +83,8 @@ impl KnownPaddings {
         requires apart { self.old.are_common ≡ false }
         requires knows { Knows (S.grid settings.now) (S.set_for settings.now) self.old }
         ensures value { OnOk result (self.new.last ≡ paddings_at (S.grid settings.now) position) }
-        ensures knows { OnOk result (Knows (S.grid settings.now) (S.set_for settings.now) self.new) }
+        ensures knows { OnOk result (
+            Knows (S.grid settings.now) (S.set_for settings.now) self.new) }
     {
         let Position { row, col } = position;
         if let Some(paddings) = self.of_cell(settings, position) {
@@ -119,7 +123,8 @@ impl KnownPaddings {
     ) -> Result<Option<Paddings>, AllocError>
         requires { Knows (S.grid settings.now) (S.set_for settings.now) self.old }
         ensures value { IfOk result (λ found. found ≡ S.set_for settings.now (Column col)) }
-        ensures knows { IfOk result (λ _. Knows (S.grid settings.now) (S.set_for settings.now) self.new) }
+        ensures knows { IfOk result (λ _.
+            Knows (S.grid settings.now) (S.set_for settings.now) self.new) }
     {
         if col < self.columns.len() {
             return Ok(self.columns[col]);

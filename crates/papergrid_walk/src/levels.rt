@@ -44,7 +44,8 @@ impl Levels {
     /// Raises the columns from `first` to before `last` to `end`, where they were below it.
     pub fn raise(&mut self, first: usize, last: usize, end: usize)
         requires { Fits self.old last }
-        ensures raised { (column : ℕ) → end_at self.new column ≡ raised_end first last end (end_at self.old column) column }
+        ensures raised { (column : ℕ) →
+            end_at self.new column ≡ raised_end first last end (end_at self.old column) column }
         ensures fits { (columns : ℕ) → Fits self.old columns → Fits self.new columns }
     {
         match self {
@@ -63,7 +64,9 @@ impl Levels {
 fn raise_sides(ends: &mut Vec<usize>, first: usize, last: usize, end: usize)
     requires { last ≤ vec_len ends.old }
     ensures length { vec_len ends.new ≡ vec_len ends.old }
-    ensures sides { (column : ℕ) → slice_index ends.new.items column ≡ (if is_side first last column then greater (slice_index ends.old.items column) end else slice_index ends.old.items column) }
+    ensures sides { (column : ℕ) → let old = slice_index ends.old.items column in
+        slice_index ends.new.items column ≡
+        (if is_side first last column then greater old end else old) }
 {
     if first < last {
         if first % 2 == 1 {

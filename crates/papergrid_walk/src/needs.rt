@@ -49,9 +49,11 @@ fn keep_along(
     paddings: Paddings,
 ) -> Result<(), AllocError>
     requires { (1 ≤ anchor.cols) × (1 ≤ anchor.rows) }
-    ensures { (grid : Grid) → anchor ≡ anchor_in grid anchor.position → paddings ≡ paddings_at grid anchor.position →
-        let need = size + grid.before direction anchor.position + grid.after direction anchor.position in
-        OnOk result (Adds kept.old kept.new (demand_of direction anchor.position (grid.span direction anchor.position) need ∷ [])) }
+    ensures { (grid : Grid) → let place = anchor.position in
+        anchor ≡ anchor_in grid place → paddings ≡ paddings_at grid place →
+        let need = size + grid.before direction place + grid.after direction place in
+        let demand = demand_of direction place (grid.span direction place) need in
+        OnOk result (Adds kept.old kept.new (demand ∷ [])) }
 {
     let Paddings {
         left,
@@ -78,8 +80,9 @@ pub struct View<'a, S> {
 impl<'a, S: ConfigView> View<'a, S> {
     /// Before the first cell.
     fn new(alloc: Global, settings: &'a S) -> Result<View<'a, S>, AllocError>
-        ensures { IfOk result (λ view. (view.settings.now ≡ settings.now)
-            × Shows (S.grid settings.now) view.sweep 0 0 × Knows (S.grid settings.now) (S.set_for settings.now) view.known) }
+        ensures { let grid = S.grid settings.now in
+            IfOk result (λ view. (view.settings.now ≡ settings.now)
+            × Shows grid view.sweep 0 0 × Knows grid (S.set_for settings.now) view.known) }
     {
         let sweep = sweep_of(alloc, settings)?;
         Ok(View {
@@ -93,15 +96,21 @@ impl<'a, S: ConfigView> View<'a, S> {
     /// The spans and the paddings of the cell at a position, where it is visible.
     #[inline(always)]
     fn read(&mut self, position: Position) -> Result<Option<(Anchor, Paddings)>, AllocError>
-        requires shows { Shows (S.grid self.old.settings.now) self.old.sweep position.row position.col }
-        requires knows { Knows (S.grid self.old.settings.now) (S.set_for self.old.settings.now) self.old.known }
+        requires shows { let settings = self.old.settings.now in
+            Shows (S.grid settings) self.old.sweep position.row position.col }
+        requires knows { let settings = self.old.settings.now in
+            Knows (S.grid settings) (S.set_for settings) self.old.known }
         requires row_in { position.row < 2 ^ 64 - 1 }
         requires col_in { position.col < 2 ^ 64 - 1 }
         ensures read { let grid = S.grid self.old.settings.now in
-            IfOk result (λ found. found ≡ (if grid.shows position then Some (anchor_in grid position, paddings_at grid position) else None)) }
-        ensures later { IfOk result (λ _. Shows (S.grid self.old.settings.now) self.new.sweep position.row (position.col + 1)) }
+            let seen = Some (anchor_in grid position, paddings_at grid position) in
+            IfOk result (λ found. found ≡ (if grid.shows position then seen else None)) }
+        ensures later { let settings = self.old.settings.now in
+            IfOk result (λ _.
+            Shows (S.grid settings) self.new.sweep position.row (position.col + 1)) }
         ensures settings { IfOk result (λ _. self.new.settings ≡ self.old.settings) }
-        ensures knows { IfOk result (λ _. Knows (S.grid self.old.settings.now) (S.set_for self.old.settings.now) self.new.known) }
+        ensures knows { let settings = self.old.settings.now in
+            IfOk result (λ _. Knows (S.grid settings) (S.set_for settings) self.new.known) }
     {
         let Some(anchor) = visible_anchor(&mut self.sweep, self.alloc, position)? else {
             return Ok(None);
@@ -175,11 +184,17 @@ impl<'a, M, S: ConfigView> BothNeeds<'a, M, S> {
     fn keep_cell<C>(&mut self, position: Position, cell: &C) -> Result<(), AllocError>
     where
         M: Measure<C>,
-        requires stands { StandsAt (S.grid self.old.view.settings.now) (S.set_for self.old.view.settings.now) self.old.view.sweep self.old.view.known position.row position.col }
+        requires stands { let view = self.old.view in
+            StandsAt (S.grid view.settings.now) (S.set_for view.settings.now)
+            view.sweep view.known position.row position.col }
         requires row_in { position.row < 2 ^ 64 - 1 }
         requires col_in { position.col < 2 ^ 64 - 1 }
-        ensures adds { OnOk result (AddsBoth (S.grid self.old.view.settings.now) M.measured self.old.both self.new.both ((position, cell.now) ∷ [])) }
-        ensures stands { OnOk result (StandsAt (S.grid self.old.view.settings.now) (S.set_for self.old.view.settings.now) self.new.view.sweep self.new.view.known position.row (position.col + 1)) }
+        ensures adds { let grid = S.grid self.old.view.settings.now in
+            let cells = (position, cell.now) ∷ [] in
+            OnOk result (AddsBoth grid M.measured self.old.both self.new.both cells) }
+        ensures stands { let settings = self.old.view.settings.now in
+            OnOk result (StandsAt (S.grid settings) (S.set_for settings)
+            self.new.view.sweep self.new.view.known position.row (position.col + 1)) }
         ensures settings { OnOk result (self.new.view.settings ≡ self.old.view.settings) }
     {
         let Some((anchor, paddings)) = self.view.read(position)? else {
@@ -207,11 +222,17 @@ impl<'a, M, S: ConfigView> BothNeeds<'a, M, S> {
     fn keep_among_spans<C>(&mut self, position: Position, cell: &C) -> Result<(), AllocError>
     where
         M: Measure<C>,
-        requires stands { StandsAt (S.grid self.old.view.settings.now) (S.set_for self.old.view.settings.now) self.old.view.sweep self.old.view.known position.row position.col }
+        requires stands { let view = self.old.view in
+            StandsAt (S.grid view.settings.now) (S.set_for view.settings.now)
+            view.sweep view.known position.row position.col }
         requires row_in { position.row < 2 ^ 64 - 1 }
         requires col_in { position.col < 2 ^ 64 - 1 }
-        ensures adds { OnOk result (AddsBoth (S.grid self.old.view.settings.now) M.measured self.old.both self.new.both ((position, cell.now) ∷ [])) }
-        ensures stands { OnOk result (StandsAt (S.grid self.old.view.settings.now) (S.set_for self.old.view.settings.now) self.new.view.sweep self.new.view.known position.row (position.col + 1)) }
+        ensures adds { let grid = S.grid self.old.view.settings.now in
+            let cells = (position, cell.now) ∷ [] in
+            OnOk result (AddsBoth grid M.measured self.old.both self.new.both cells) }
+        ensures stands { let settings = self.old.view.settings.now in
+            OnOk result (StandsAt (S.grid settings) (S.set_for settings)
+            self.new.view.sweep self.new.view.known position.row (position.col + 1)) }
         ensures settings { OnOk result (self.new.view.settings ≡ self.old.view.settings) }
     {
         self.keep_cell(position, cell)
@@ -262,7 +283,8 @@ where
     <<R as Records>::Iter as IntoRecords>::Cell: Drop,
     requires { R.is_lawful records }
     ensures { IfOk result (λ found. (cells : List (List R.Iter.Cell)) × R.tells records cells
-        × IsKept (count_along direction (R.columns records) (length cells)) found.0 (demands_of direction (S.grid settings.now) M.measured cells)
+        × IsKept (count_along direction (R.columns records) (length cells)) found.0
+        (demands_of direction (S.grid settings.now) M.measured cells)
         × (found.1 ≡ length cells)) }
 {
     let limit = limit_of(direction, records.count_columns());
@@ -287,7 +309,8 @@ where
     <<R as Records>::Iter as IntoRecords>::Cell: Drop,
     requires { R.is_lawful records }
     ensures { IfOk result (λ found. (cells : List (List R.Iter.Cell)) × R.tells records cells
-        × AreBothKept (S.grid settings.now) M.measured (R.columns records) cells found.0 × (found.1 ≡ length cells)) }
+        × AreBothKept (S.grid settings.now) M.measured (R.columns records) cells found.0
+        × (found.1 ≡ length cells)) }
 {
     let columns = records.count_columns();
     let mut needs = BothNeeds::<M, S> {

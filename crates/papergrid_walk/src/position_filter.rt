@@ -50,7 +50,8 @@ fn slot(count: usize, position: Position) -> usize
 fn set_marks(marks: &mut [bool], positions: &[Position])
     requires { length positions.now ≤ length marks.old }
     ensures length { length marks.new ≡ length marks.old }
-    ensures set { All (λ p. slice_index_or marks.new (slot (length marks.new) p) false ≡ true) positions.now }
+    ensures set { All (λ p.
+        slice_index_or marks.new (slot (length marks.new) p) false ≡ true) positions.now }
 {
     for position in positions {
         let at = slot(marks.len(), *position);

@@ -34,7 +34,8 @@ pub fn visible_anchor(
     requires col_in { pos.col < 2 ^ 64 - 1 }
     ensures visible { IfOk result (λ found. (grid : Grid) → Shows grid walk.old pos.row pos.col →
         found ≡ (if grid.shows pos then Some (anchor_in grid pos) else None)) }
-    ensures later { IfOk result (λ _. (grid : Grid) → Shows grid walk.old pos.row pos.col → Shows grid walk.new pos.row (pos.col + 1)) }
+    ensures later { IfOk result (λ _. (grid : Grid) → Shows grid walk.old pos.row pos.col →
+        Shows grid walk.new pos.row (pos.col + 1)) }
 {
     if walk.anchors().is_empty() {
         return Ok(Some(Anchor {

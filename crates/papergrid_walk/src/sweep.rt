@@ -39,7 +39,8 @@ impl Sweep {
     /// column, no two at one position; they need not be cells of the table.
     pub fn new(alloc: Global, anchors: Vec<Anchor>, columns: usize) -> Result<Sweep, AllocError>
         requires { IsSorted anchors.items }
-        ensures { IfOk result (λ walk. walk ≡ record { anchors = anchors.items; columns = columns; passed = 0 }) }
+        ensures { IfOk result (λ walk. walk ≡
+            record { anchors = anchors.items; columns = columns; passed = 0 }) }
     {
         let levels = Levels::new(alloc, columns)?;
         Ok(Sweep {
@@ -66,7 +67,8 @@ impl Sweep {
 
     /// Begins anew over a table of so many columns. Where memory is refused the walk is as it was.
     pub fn restart(&mut self, alloc: Global, columns: usize) -> Result<(), AllocError>
-        ensures ok { OnOk result (self.new ≡ record { anchors = self.old.anchors; columns = columns; passed = 0 }) }
+        ensures ok { OnOk result (self.new ≡
+            record { anchors = self.old.anchors; columns = columns; passed = 0 }) }
         ensures err { OnErr result (self.new ≡ self.old) }
     {
         self.levels = Levels::new(alloc, columns)?;
@@ -133,7 +135,8 @@ fn advance(
     ensures within { result ≤ length anchors.now }
     ensures holds { Holds levels.new columns anchors.now result }
     ensures before { AllBefore anchors.now result position }
-    ensures rest { (a : Anchor) → slice_get anchors.now result ≡ Some a → IsBefore a.position position → ⊥ }
+    ensures rest { (a : Anchor) → slice_get anchors.now result ≡ Some a →
+        IsBefore a.position position → ⊥ }
 {
     while next < anchors.len() && anchors[next].is_before(position) {
         pass(levels, columns, anchors[next]);
@@ -147,7 +150,8 @@ fn advance(
 fn pass(levels: &mut Levels, columns: usize, anchor: Anchor)
     requires { Fits levels.old columns }
     ensures fits { Fits levels.new columns }
-    ensures passed { (column : ℕ) → column < columns → end_at levels.new column ≡ end_with (Some anchor) (end_at levels.old column) column }
+    ensures passed { (column : ℕ) → column < columns →
+        end_at levels.new column ≡ end_with (Some anchor) (end_at levels.old column) column }
 {
     let first = anchor.position.col;
     if first < columns {

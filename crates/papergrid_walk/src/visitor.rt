@@ -52,10 +52,12 @@ fn walk_row<W: IntoIterator, V: Visitor<<W as IntoIterator>::Item>>(
 ) -> Result<(), AllocError>
 where
     <W as IntoIterator>::Item: Drop,
-    requires short { WalkIsShort W.into_iter_gives W.IntoIter.can_next W.IntoIter.remaining W.IntoIter.next_gives (λ _. ⊤) row }
+    requires short { WalkIsShort W.into_iter_gives W.IntoIter.can_next W.IntoIter.remaining
+        W.IntoIter.next_gives (λ _. ⊤) row }
     requires stands { V.stands visitor.old number 0 }
     requires row_in { number < 2 ^ 64 - 1 }
-    ensures visits { OnOk result ((cells : List W.Item) × Gives W.into_iter_gives W.IntoIter.next_gives row cells
+    ensures visits { OnOk result ((cells : List W.Item)
+        × Gives W.into_iter_gives W.IntoIter.next_gives row cells
         × V.visits visitor.old visitor.new (placed_row number 0 cells)) }
     ensures stands { OnOk result (V.stands visitor.new (number + 1) 0) }
     ensures fails { OnErr result V.may_fail }

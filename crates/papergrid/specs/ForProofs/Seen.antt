@@ -12,7 +12,8 @@ use Rattle.papergrid_axis.specs.declared.error.LayoutError.TheVariants as layout
 use Rattle.papergrid_axis.specs.Answers.{IsWitness}
 use Rattle.papergrid_axis.specs.Problem.{Problem}
 use Rattle.papergrid_maps.specs.Grids.{Grid}
-use Rattle.papergrid_layout.specs.Witnesses.{IsCertifiedWhere, IsLongest}
+use Rattle.papergrid_layout.specs.Witnesses.{IsCertifiedWhere}
+use Rattle.papergrid_least.specs.Answers.{IsLongest}
 use Rattle.papergrid_layout.specs.declared.certificates.Certified.{Certified}
 use Rattle.papergrid.specs.Estimates.{Estimate, OutOfTable, TooLarge, Sized}
 use Rattle.papergrid.specs.Totals.{AreSizesBy, HasNone}

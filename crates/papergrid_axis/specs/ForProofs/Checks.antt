@@ -67,6 +67,11 @@ module _ (line : ℕ → Bool) (sizes : List ℕ) (places : List Position) where
     pub fails : checked.holds ≡ false → CanHold demands → ⊥
     pub bounded : AreBounded places checked
 
+-- what was kept of these cells by a check of a candidate
+abbrev pub ChecksFor : (ℕ → Bool) → (Position → ℕ) → Candidate → Checked → List Demand → Type 0
+ChecksFor line span_of candidate checked demands =
+    Checks line candidate.sizes.now candidate.places.now candidate.direction span_of checked demands
+
 -- all cells have room, each place is a cell's, and the listed needs less their inner lines add up to the total
 pub record SumsAgree (checked : Checked) (sizes : List ℕ) (places : List Position) : Type 0 where
   pub holds : checked.holds ≡ true

@@ -1,8 +1,10 @@
 -- What a walk over cells gathers of their demands.
-use Rattle.std.specs.Prelude.{◌≡◌, ℕ, ◌<◌, ◌≤◌, ◌^◌, ◌&&◌, ◌==◌, Bool, true, false, if◌then◌else◌, not, nat_lt, nat_le, List, ◌++◌, map, filter, find, unwrap_or, All, slice_index_or}
+use Rattle.std.specs.Prelude.{◌≡◌, ℕ, ◌<◌, ◌≤◌, ◌^◌, ◌&&◌, ◌==◌, Bool, true, false, if◌then◌else◌, not, nat_lt, nat_le, List, ◌++◌, map, filter, find, unwrap_or, All, AllPairs, slice_index_or}
 use Rattle.std.specs.List.{list_any}
 use Rattle.papergrid_axis.specs.declared.demand.Demand.{Demand}
 use Rattle.papergrid_axis.specs.declared.kept.Kept.{Kept}
+use Rattle.papergrid_values.specs.Positions.{IsBefore}
+use Rattle.papergrid_axis.specs.Ranges.{place_of}
 use Rattle.papergrid_axis.specs.Sizes.{base_size}
 
 -- whether the need is past the greatest `usize`
@@ -48,10 +50,15 @@ pub record Holds (limit : ℕ) (kept : Kept) (demands : List Demand) : Type 0 wh
 abbrev pub Adds : Kept → Kept → List Demand → Type 0
 Adds old new further = (limit : ℕ) (demands : List Demand) → Holds limit old demands → Holds limit new (demands ++ further)
 
--- these are the demands of a table of n columns (rows), and they were kept by a limit that tells which of those that cover
--- one number alone are in the table
+-- the cells stand by row and then by column
+abbrev pub StandInOrder : List Demand → Type 0
+StandInOrder demands = AllPairs (λ d e. IsBefore (place_of d) (place_of e)) demands
+
+-- these are the demands of a table of n columns (rows), in order, and they were kept by a limit that tells which of those that
+-- cover one number alone are in the table
 pub record IsKept (n : ℕ) (kept : Kept) (demands : List Demand) : Type 0 where
   pub limit : ℕ
   pub held : Holds limit kept demands
   pub from_limit : n ≤ limit
   pub below : All (λ d. is_single limit d ≡ true → d.start < n) demands
+  pub in_order : StandInOrder demands

@@ -2,9 +2,10 @@
 -- holds it.
 use Rattle.std.specs.Prelude.{◌≡◌, ◌≢◌, ◌<◌, ℕ, ◌==◌, false, if◌then◌else◌, cond, ◌⊎◌, List, [], ◌∷◌, length, ⊤, Option, Some, None, slice_index, slice_index_or}
 use Rattle.std.specs.List.{AllByRecursion, list_any}
+use Rattle.std.specs.Option.{option_or}
 use Rattle.papergrid_axis.specs.declared.demand.Demand.{Demand}
 use Rattle.papergrid_axis.specs.Ranges.{holds, AreDisjoint, LiesIn}
-use Rattle.papergrid_axis.specs.Chosen.{exact_single, or_else}
+use Rattle.papergrid_axis.specs.Chosen.{exact_single}
 use Rattle.papergrid_axis.specs.ForProofs.Kept.{no_demand}
 
 -- a cell that is taken before another is disjoint from it or lies in its range
@@ -19,7 +20,7 @@ IsLaminar (d ∷ rest) = AllByRecursion (Precedes d) rest × IsLaminar rest
 -- the last of the cells whose range holds i
 abbrev pub last_holding : List Demand → ℕ → Option Demand
 last_holding [] i = None
-last_holding (d ∷ rest) i = or_else (last_holding rest i) (cond (holds d i) (Some d) None)
+last_holding (d ∷ rest) i = option_or (last_holding rest i) (cond (holds d i) (Some d) None)
 
 -- the chosen cell at i: the last growing cell there, where its range starts there, or, where there is none, the single one
 abbrev pub slot_of : Option Demand → Option Demand → ℕ → ℕ → Option Demand

@@ -31,4 +31,6 @@ module _ (base : List ℕ) (cells : List Demand) where
 pub record AreLimits (line : ℕ → Bool) (base : List ℕ) (cells : List Demand) (limits : Limits) : Type 0 where
   pub earliest : IsEarliest base cells limits.earliest.items
   pub latest : IsLatest base cells (slice_index limits.earliest.items (length base)) limits.latest.items
-  pub fits : slice_index limits.earliest.items (length base) + all_lines line (length base) < 2 ^ 64
+  pub total : limits.total ≡
+      slice_index limits.earliest.items (length base) + all_lines line (length base)
+  pub fits : limits.total < 2 ^ 64

@@ -14,4 +14,4 @@ returns g c =
     let same = c.count_of-count.ensures ∙ (λ k. count_along c.args.direction (c.count_columns-columns.ensures k) (found.3 k)) in
     let solved = c.solve.ensures demands (subst (λ n. IsKept n c.in_ok-kept.kept demands) (sym same) found.2) in
     unless c.solve.result _
-    (found.0, found.1, subst (λ n. AnswersWhere g.T.Solution.too_large g.T.Solution.solves (problem_with grid measured c.args.direction n found.0) c.solve.result) same solved)
+    (found.0, found.1, subst (λ n. AnswersWhere g.T.Solver.too_large (g.T.Solver.solves c.args.certify) (problem_with grid measured c.args.direction n found.0) c.solve.result) same solved)

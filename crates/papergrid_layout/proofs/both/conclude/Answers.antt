@@ -17,7 +17,7 @@ returns-in_err-widths g c = λ cells many kept.
     let measured = g.M.Measure.measured in
     let none = none_out grid measured c.args.columns cells c.args.both.now kept c.args.rows many (sym c.find_out_of_both.ensures ∙ c.in_default.is) in
     let p = err_from_is_err_and c.from_residual.result c.from_residual.ensures.1 in
-    rw (p.1, p.2) (refused_along grid measured c.args.columns cells g.T.Solution.too_large Columns none.0 none.1 _
+    rw (p.1, p.2) (refused_along grid measured c.args.columns cells g.T.Solver.too_large Columns none.0 none.1 _
     (c.in_err-widths.ensures (demands_of Columns grid measured cells) kept.wide))
 
 pub returns-in_err-heights : goal.returns-in_err-heights
@@ -27,8 +27,8 @@ returns-in_err-heights g c = λ cells many kept.
     let none = none_out grid measured c.args.columns cells c.args.both.now kept c.args.rows many (sym c.find_out_of_both.ensures ∙ c.in_default.is) in
     let p = err_from_is_err_and c.from_residual-in_err-heights.result c.from_residual-in_err-heights.ensures.1 in
     let refused = c.in_err-heights.ensures (demands_of Rows grid measured cells) (seen_high grid measured c.args.columns cells c.args.both.now kept c.args.rows many) in
-    rw (p.1, p.2) (refused_along grid measured c.args.columns cells g.T.Solution.too_large Rows none.0 none.2 c.in_err-heights.field-0.0
-    (subst (λ n. IsRefusedWhere (problem_with grid measured Rows n cells) (g.T.Solution.too_large (problem_with grid measured Rows n cells)) c.in_err-heights.field-0.0) many refused))
+    rw (p.1, p.2) (refused_along grid measured c.args.columns cells g.T.Solver.too_large Rows none.0 none.2 c.in_err-heights.field-0.0
+    (subst (λ n. IsRefusedWhere (problem_with grid measured Rows n cells) (g.T.Solver.too_large (problem_with grid measured Rows n cells)) c.in_err-heights.field-0.0) many refused))
 
 pub returns : goal.returns
 returns g c = λ cells many kept.
@@ -37,5 +37,5 @@ returns g c = λ cells many kept.
     let high = c.in_ok-heights.ensures (demands_of Rows grid measured cells) (seen_high grid measured c.args.columns cells c.args.both.now kept c.args.rows many) in
     record {
       widths = c.in_ok-widths.ensures (demands_of Columns grid measured cells) kept.wide;
-      heights = subst (λ n. g.T.Solution.solves (problem_with grid measured Rows n cells) c.in_ok-heights.heights) many high;
+      heights = subst (λ n. g.T.Solver.solves c.args.certify (problem_with grid measured Rows n cells) c.in_ok-heights.heights) many high;
     }

@@ -38,8 +38,8 @@ returns-in_err-earliest-clause-refused c =
     Refuses-weaker _ _ past c.in_err-earliest.field-0.0 c.in_err-earliest.ensures.refused in
     search rules
 
-pub returns-then-is_none-clause-refused : goal.returns-then-is_none-clause-refused
-returns-then-is_none-clause-refused c = λ edge are.
+pub returns-in_default-clause-refused : goal.returns-in_default-clause-refused
+returns-in_default-clause-refused c = λ edge are.
     let moved : IsPermutation (map (carrying (asked (line_at c.args.lines.now))) c.args.cells.now) c.deref.result.now =
     subst (IsPermutation (map (carrying (asked (line_at c.args.lines.now))) c.args.cells.now)) (sym c.deref.ensures.value) (subst (λ xs. IsPermutation xs c.sort_by_end.new.cells.items) c.in_ok-ordered.ensures c.in_ok-sort_by_end.ensures.permutation) in
     let below : get_or c.in_ok-earliest.earliest.items (length c.args.base.now) 0 ≤ edge (length c.args.base.now) =
@@ -68,8 +68,8 @@ latest_of-requires-clause-room c =
     let moved_again : IsPermutation (map (carrying (asked (line_at c.args.lines.now))) c.args.cells.now) c.deref-2.result.now =
     subst (IsPermutation (map (carrying (asked (line_at c.args.lines.now))) c.args.cells.now)) (sym c.deref-2.ensures.value) (IsPermutation-trans (map (carrying (asked (line_at c.args.lines.now))) c.args.cells.now) c.sort_by_end.new.cells.items c.sort_later_first.new.cells.items (subst (λ xs. IsPermutation xs c.sort_by_end.new.cells.items) c.in_ok-ordered.ensures c.in_ok-sort_by_end.ensures.permutation) c.in_ok-sort_later_first.ensures.permutation) in
     let many : length c.in_ok-earliest.earliest.items ≡ length c.args.base.now + 1 = c.in_ok-earliest.ensures.earliest.one_more in
-    let total : c.index-total.result.now ≡ get_or c.in_ok-earliest.earliest.items (length c.args.base.now) 0 =
-    c.index-total.ensures ∙ get_or_default c.in_ok-earliest.earliest.items (length c.args.base.now) c.index-total.result.now 0 (omega arith) in
+    let total : c.index-last.result.now ≡ get_or c.in_ok-earliest.earliest.items (length c.args.base.now) 0 =
+    c.index-last.ensures ∙ get_or_default c.in_ok-earliest.earliest.items (length c.args.base.now) c.index-last.result.now 0 (omega arith) in
     let earliest : IsEarliest c.args.base.now (map (carrying (asked (line_at c.args.lines.now))) c.args.cells.now) c.in_ok-earliest.earliest.items = IsEarliest-unpermuted c.args.base.now (map (carrying (asked (line_at c.args.lines.now))) c.args.cells.now) c.deref.result.now moved c.in_ok-earliest.earliest.items c.in_ok-earliest.ensures.earliest in (
       (λ i. get_or c.in_ok-earliest.earliest.items i 0),
       AreLaid-permuted c.args.base.now (map (carrying (asked (line_at c.args.lines.now))) c.args.cells.now) c.deref-2.result.now moved_again (λ i. get_or c.in_ok-earliest.earliest.items i 0) earliest.laid,
@@ -84,11 +84,12 @@ returns-clause-limits c =
     subst (IsPermutation (map (carrying (asked (line_at c.args.lines.now))) c.args.cells.now)) (sym c.deref-2.ensures.value) (IsPermutation-trans (map (carrying (asked (line_at c.args.lines.now))) c.args.cells.now) c.sort_by_end.new.cells.items c.sort_later_first.new.cells.items (subst (λ xs. IsPermutation xs c.sort_by_end.new.cells.items) c.in_ok-ordered.ensures c.in_ok-sort_by_end.ensures.permutation) c.in_ok-sort_later_first.ensures.permutation) in
     let lines : c.count.result ≡ all_lines (line_at c.args.lines.now) (length c.args.base.now) = c.count.ensures ∙ all_lines-drawn c.args.lines.now (length c.args.base.now) c.requires.lines in
     let many : length c.in_ok-earliest.earliest.items ≡ length c.args.base.now + 1 = c.in_ok-earliest.ensures.earliest.one_more in
-    let total : c.index-total.result.now ≡ get_or c.in_ok-earliest.earliest.items (length c.args.base.now) 0 =
-    c.index-total.ensures ∙ get_or_default c.in_ok-earliest.earliest.items (length c.args.base.now) c.index-total.result.now 0 (omega arith) in
-    let latest : IsLatest c.args.base.now (map (carrying (asked (line_at c.args.lines.now))) c.args.cells.now) c.index-total.result.now c.in_ok-latest.latest.items = IsLatest-unpermuted c.args.base.now (map (carrying (asked (line_at c.args.lines.now))) c.args.cells.now) c.deref-2.result.now moved_again c.index-total.result.now c.in_ok-latest.latest.items c.in_ok-latest.ensures in
+    let total : c.index-last.result.now ≡ get_or c.in_ok-earliest.earliest.items (length c.args.base.now) 0 =
+    c.index-last.ensures ∙ get_or_default c.in_ok-earliest.earliest.items (length c.args.base.now) c.index-last.result.now 0 (omega arith) in
+    let latest : IsLatest c.args.base.now (map (carrying (asked (line_at c.args.lines.now))) c.args.cells.now) c.index-last.result.now c.in_ok-latest.latest.items = IsLatest-unpermuted c.args.base.now (map (carrying (asked (line_at c.args.lines.now))) c.args.cells.now) c.deref-2.result.now moved_again c.index-last.result.now c.in_ok-latest.latest.items c.in_ok-latest.ensures in
     record {
       earliest = IsEarliest-unpermuted c.args.base.now (map (carrying (asked (line_at c.args.lines.now))) c.args.cells.now) c.deref.result.now moved c.in_ok-earliest.earliest.items c.in_ok-earliest.ensures.earliest;
       latest = subst (λ total. IsLatest c.args.base.now (map (carrying (asked (line_at c.args.lines.now))) c.args.cells.now) total c.in_ok-latest.latest.items) total latest;
+      total = grind (arith, common_steps, lines, total);
       fits = grind (arith, common_steps, lines, total);
     }

@@ -2,8 +2,7 @@ use Rattle.std.proofs.Common.{◌≡◌, ℕ, ◌+◌, ◌-◌, ◌∙◌, ◌++
 use Rattle.std.specs.Prelude.{Some}
 use Rattle.papergrid_values.specs.declared.position.Position.{Position}
 use Rattle.papergrid_axis.specs.Ranges.{place_of}
-use Rattle.papergrid_least.specs.Longest.{earlier_cell}
-use Rattle.papergrid_least.specs.ForProofs.Followed.{followed, kept_longer, kept_single, needing}
+use Rattle.papergrid_least.specs.ForProofs.Followed.{earlier_cell, followed, kept_longer, kept_single, needing}
 use Rattle.papergrid_least.proofs.FollowedLemmas.{met-cell, met-even, met-none, none-from, starts-within}
 use Rattle.papergrid_least.proofs.longest.follow.Goals as goal
 use Rattle.papergrid_least.proofs.longest.follow.Goals.{then-step-eq0, else-step-eq0+in-Some+in_ok-push}
