@@ -51,10 +51,6 @@ text_dimension text = (length (split_lines text), greatest_width (split_lines te
 abbrev pub HasNoCrLf : List ℕ → Type 0
 HasNoCrLf text = (front back : List ℕ) → text ≢ front ++ (13 ∷ 10 ∷ back)
 
--- then the dimension of a text is the number of its lines, and its width by std's lines
-abbrev pub HasSameDimension : List ℕ → Type 0
-HasSameDimension text = HasNoCrLf text → text_dimension text ≡ (length (split_lines text), text_width text)
-
 -- a line with its width
 abbrev pub with_width : List ℕ → List ℕ × ℕ
 with_width line = (line, width_of line)

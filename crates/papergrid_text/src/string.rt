@@ -158,7 +158,8 @@ fn dimension_of_lines(text: &str, printable: usize) -> (usize, usize)
 #[inline(always)]
 fn measure_first_line(text: &str, printable: usize) -> (usize, Option<&str>)
     requires { printable ≡ prefix_len (is_in_range 0x20 0x7E) text.now }
-    ensures first { (line : List ℕ) × (split_lines text.now ≡ line ∷ lines_of_rest result.1) × (result.0 ≡ width_of line) }
+    ensures first { (line : List ℕ)
+        × (split_lines text.now ≡ line ∷ lines_of_rest result.1) × (result.0 ≡ width_of line) }
     ensures text { IfSome result.1 (λ rest. IsUtf8 rest.now) }
 {
     if printable == text.len() {
@@ -194,7 +195,8 @@ pub fn replace_tab(alloc: Global, text: &str, n: usize) -> Result<CowStr<'_>, Al
 
 // Appends what stands for the character `c`, whose left neighbour is `left`.
 fn push_replaced(out: &mut String, left: char, c: char, n: usize) -> Result<(), AllocError>
-    ensures { IfOk result (λ _. string_bytes out.new ≡ string_bytes out.old ++ encode_utf8_all (in_place_of n (left, c))) }
+    ensures { IfOk result (λ _. string_bytes out.new
+        ≡ string_bytes out.old ++ encode_utf8_all (in_place_of n (left, c))) }
 {
     if is_replaced(left, c, n) {
         push_spaces(out, n)?;
