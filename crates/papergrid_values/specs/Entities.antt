@@ -6,10 +6,6 @@ use Rattle.papergrid_values.specs.declared.entity.Entity.TheVariants.{Global, Co
 use Rattle.papergrid_values.specs.declared.entity_iterator.EntityIterator.{EntityIterator}
 use Rattle.papergrid_values.specs.declared.position.Position.{Position}
 
--- the cell at a row and a column
-abbrev pub cell_at : ℕ → ℕ → Entity
-cell_at row col = Cell row col
-
 -- the position at a row and a column
 abbrev pub at : ℕ → ℕ → Position
 at row col = record { row = row; col = col }
