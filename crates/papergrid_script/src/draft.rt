@@ -52,7 +52,7 @@ impl<'a> Draft<'a> {
 
     /// Adds a cell to the last row; false where there is none.
     pub fn add_cell(&mut self, text: &'a str) -> Result<bool, AllocError>
-        ensures { IfOk result (λ fits. Takes (table_so_far self.old) (Some (Cell text.now)) fits (table_so_far self.new)) }
+        ensures { IfOk result (λ fits. Takes self.old (Some (Cell text.now)) fits self.new) }
     {
         if self.rows.is_empty() {
             return Ok(false);
@@ -87,7 +87,8 @@ fn end_row<'a>(
     rows: &mut Vec<&'a [&'a str]>,
     cells: &[&'a str],
 ) -> Result<(), AllocError>
-    ensures { OnOk result (rows_seen rows.new.items ≡ with_last (rows_seen rows.old.items) (texts_of cells.now)) }
+    ensures { OnOk result (rows_seen rows.new.items
+        ≡ with_last (rows_seen rows.old.items) (texts_of cells.now)) }
 {
     match rows.last_mut() {
         None => Ok(()),

@@ -1,7 +1,7 @@
 //! Laws of the definitions, each the contract of a function that does nothing. A function that calls one
 //! may cite it in its proof.
 
-ghost use Rattle.std.specs.Prelude.{◌≡◌, ◌<◌, ◌^◌, ◌∷◌, ◌++◌, [], ⊤, List, Vec, length, map, nat_eq, ℕ};
+ghost use Rattle.std.specs.Prelude.{◌≡◌, ◌==◌, ◌<◌, ◌+◌, ◌^◌, ◌∷◌, ◌++◌, [], ⊤, List, Vec, count_by, length, map, nat_eq, ℕ};
 ghost use Rattle.std.specs.Hash as fed;
 ghost use Rattle.std.specs.List.{list_all};
 ghost use Rattle.std.specs.Option.{option_cmp, option_eq};
@@ -22,7 +22,7 @@ ghost use Rattle.papergrid_text.specs.Cut.{cut_rows, cut_whole_rows};
 ghost use Rattle.papergrid_text.specs.HeldRows.{column_count, row_count, rows_held};
 ghost use Rattle.papergrid_text.specs.Kept.{given_line};
 ghost use Rattle.papergrid_text.specs.Records.{WalkIsShort, Gives};
-ghost use Rattle.papergrid_text.specs.Text.{HasNoCrLf, HasOneSplit, split_lines, text_dimension, text_width};
+ghost use Rattle.papergrid_text.specs.Text.{HasNoCrLf, IsLines, split_lines, text_dimension, text_width};
 ghost use Rattle.papergrid_text.specs.TextOrder.{line_cmp, line_eq, line_hash};
 
 use crate::iter_records::{IterRecords, RowIter};
@@ -37,7 +37,11 @@ use std::slice::{Chunks, ChunksExact, Iter};
 /// The lines of a text are the one list of parts without a newline that joins to it by newlines.
 /// There is one more of them than newlines.
 pub fn lines_join_to_text()
-    ensures { (text : List ℕ) → HasOneSplit text }
+    ensures is_split { (text : List ℕ) → IsLines text (split_lines text) }
+    ensures is_only { (text : List ℕ) (parts : List (List ℕ)) →
+        IsLines text parts → parts ≡ split_lines text }
+    ensures count { (text : List ℕ) →
+        length (split_lines text) ≡ count_by (λ b. b == 10) text + 1 }
 {}
 
 /// Where no carriage return stands right before a newline, the dimension of a text is the number of
