@@ -46,12 +46,13 @@ module _ {T : Type 0} where
   abbrev pub at_place : Position → Position → Option T → Option T
   at_place written p part = if position_eq written p then part else None
 
-  -- the part of a cell's border at an edge: the cell's own position is that of its top and left edges
+  -- the part of a cell's border at an edge: the cell's position is that of its top and left edges
   abbrev pub edge_part : Direction → Position → Border T → Position → Option T
   edge_part Rows cell b p = option_or (at_place cell p b.top) (at_place (below cell) p b.bottom)
-  edge_part Columns cell b p = option_or (at_place cell p b.left) (at_place (right_of cell) p b.right)
+  edge_part Columns cell b p =
+      option_or (at_place cell p b.left) (at_place (right_of cell) p b.right)
 
-  -- at a corner: the cell's own position is that of its left top corner
+  -- at a corner: the cell's position is that of its left top corner
   abbrev pub corner_part : Position → Border T → Position → Option T
   corner_part cell b p =
       option_or (at_place cell p b.left_top_corner)

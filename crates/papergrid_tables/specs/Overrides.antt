@@ -27,8 +27,10 @@ pub record HeldOffsets (T : Type 0) : Type 0 where
 
 module _ {T : Type 0} where
   -- the override of a position at an offset after a call, by those before it
-  abbrev pub after_call : OffsetCall T → (Position → Offset → Option T) → Position → Offset → Option T
-  after_call (SetAt q k v) old p o = if position_eq q p && is_same_offset k o then Some v else old p o
+  abbrev pub after_call : OffsetCall T → (Position → Offset → Option T) → Position → Offset
+      → Option T
+  after_call (SetAt q k v) old p o =
+      if position_eq q p && is_same_offset k o then Some v else old p o
   after_call (RemoveAt q) old p o = if position_eq q p then None else old p o
   after_call RemoveAll old p o = None
 
@@ -48,7 +50,8 @@ module _ {T : Type 0} where
 
   -- a new table that was given the calls holds this
   abbrev pub IsTold : List (OffsetCall T) → FinMap position_cmp (HeldOffsets T) → Type 0
-  IsTold calls held = (p : Position) (o : Offset) → override_at held p o ≡ overrides_from (reverse calls) p o
+  IsTold calls held =
+      (p : Position) (o : Offset) → override_at held p o ≡ overrides_from (reverse calls) p o
 
   -- what is found at an offset of an end: the one from the start, or else the one from the end
   abbrev pub found_override : (Offset → Option T) → ℕ → ℕ → Option T
@@ -61,4 +64,5 @@ module _ {T : Type 0} where
 
   -- at each position and offset both tables hold equal values, or neither holds one
   abbrev pub HoldTheSame : (T → T → Bool) → FinMap position_cmp (HeldOffsets T) → FinMap position_cmp (HeldOffsets T) → Type 0
-  HoldTheSame eq s t = (p : Position) (o : Offset) → option_eq eq (override_at s p o) (override_at t p o) ≡ true
+  HoldTheSame eq s t =
+      (p : Position) (o : Offset) → option_eq eq (override_at s p o) (override_at t p o) ≡ true

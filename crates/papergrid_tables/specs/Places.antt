@@ -1,4 +1,4 @@
--- What is at the places of a border table after calls, what is found there, and which lines there are.
+-- What is at the places of a border table after calls, what is found, and which lines there are.
 use Rattle.std.specs.Prelude.{◌≡◌, ℕ, ◌==◌, ◌&&◌, ◌||◌, nat_lt, not, Bool, true, if◌then◌else◌, List, [], ◌∷◌, Option, Some, None, IsSome, ◌⊎◌, option_and_then}
 use Rattle.std.specs.Option.{option_or}
 use Rattle.papergrid_values.specs.Borders.{frame_with, has_left, has_right, has_top, has_bottom, has_horizontal, has_vertical}
@@ -164,7 +164,7 @@ module _ {T : Type 0} where
   abbrev pub StandsOn : Direction → ℕ → (Position → Option T) → Type 0
   StandsOn direction n held = (p : Position) × (along direction p ≡ n) × IsSome (held p)
 
-  -- the line n of a direction, of lines at 0 to the count, has an end of a line across, a line, an edge or a corner
+  -- the line n of a direction has an end of a line across, a line, an edge or a corner
   abbrev pub IsSet : Direction → Places T → ℕ → ℕ → Type 0
   IsSet Columns places n count =
       EndsThere places.horizontal_line (λ line. line.left) (λ line. line.right) n count
@@ -175,7 +175,7 @@ module _ {T : Type 0} where
       ⊎ IsSome (places.horizontal_line n)
       ⊎ StandsOn Rows n places.horizontal_edge ⊎ StandsOn Rows n places.corner
 
-  -- whether the frame has a part for the line n of a direction, of lines at 0 to the count
+  -- whether the frame has a part for the line n of a direction
   abbrev pub in_frame : Direction → Borders T → ℕ → ℕ → Bool
   in_frame Columns f n count = at_ends n count (has_left f) (has_right f) (has_vertical f)
   in_frame Rows f n count = at_ends n count (has_top f) (has_bottom f) (has_horizontal f)

@@ -8,7 +8,7 @@ pub record Measured (S : Type 0) : Type 0 where
   pub width : ℕ
   pub lines : List (List ℕ × ℕ)
 
--- what `Text::new` keeps of a text: its lines, where there are several, and the greatest width of them
+-- what `Text::new` keeps of a text: the greatest width of its lines, and the lines if several
 abbrev pub measured : {S : Type 0} → (S → List ℕ) → S → Measured S
 measured text s =
     let lines = split_lines (text s) in

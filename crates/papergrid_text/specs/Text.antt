@@ -66,6 +66,7 @@ is_spaced n left c = (c == 9) && ((n == 4) || not (left == 92))
 abbrev pub in_place_of : ℕ → ℕ × ℕ → List ℕ
 in_place_of n pair = if is_spaced n pair.0 pair.1 then replicate n 32 else pair.1 ∷ []
 
--- the text with n spaces for its tabs, character by character with its left neighbour, 0 for the first
+-- the text with n spaces for its tabs, by each character with its left neighbour, 0 for the first
 abbrev pub tabs_replaced : ℕ → List ℕ → List ℕ
-tabs_replaced n text = encode_utf8_all (flat_map (in_place_of n) (zip (0 ∷ chars text) (chars text)))
+tabs_replaced n text =
+    encode_utf8_all (flat_map (in_place_of n) (zip (0 ∷ chars text) (chars text)))
