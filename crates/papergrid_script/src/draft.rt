@@ -42,7 +42,8 @@ impl<'a> Draft<'a> {
 
     /// Begins a row.
     pub fn add_row(&mut self) -> Result<(), AllocError>
-        ensures { OnOk result (with_line (table_so_far self.old) Row ≡ Some (table_so_far self.new)) }
+        ensures { OnOk result
+            (with_line (table_so_far self.old) Row ≡ Some (table_so_far self.new)) }
     {
         end_row(self.arena, &mut self.rows, self.last.as_slice())?;
         self.rows.push(&[])?;

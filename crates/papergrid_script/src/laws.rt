@@ -17,14 +17,17 @@ pub fn number_form()
 
 /// An entity is read exactly where the bytes spell it.
 pub fn entity_form()
-    ensures read { (bytes : List ℕ) (entity : Entity) → entity_of bytes ≡ Some entity → IsEntity bytes entity }
-    ensures spelled { (bytes : List ℕ) (entity : Entity) → IsEntity bytes entity → entity_of bytes ≡ Some entity }
+    ensures read { (bytes : List ℕ) (entity : Entity) →
+        entity_of bytes ≡ Some entity → IsEntity bytes entity }
+    ensures spelled { (bytes : List ℕ) (entity : Entity) →
+        IsEntity bytes entity → entity_of bytes ≡ Some entity }
 {}
 
 /// A line is read exactly where it is text that is spelled so.
 pub fn line_form()
     ensures read { (line : List ℕ) (s : Said) → said line ≡ Some s → IsUtf8 line × IsLine line s }
-    ensures spelled { (line : List ℕ) (s : Said) → IsUtf8 line → IsLine line s → said line ≡ Some s }
+    ensures spelled { (line : List ℕ) (s : Said) →
+        IsUtf8 line → IsLine line s → said line ≡ Some s }
 {}
 
 /// The lines of an input are the one list of newline-free pieces that joins to it, without an empty last piece,

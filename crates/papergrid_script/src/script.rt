@@ -68,7 +68,8 @@ pub fn read_script<'a>(
 /// The longest front that is text.
 fn text_in_front(input: &[u8]) -> &str
     ensures front { result.now ≡ take (length result.now) input.now }
-    ensures longest { length result.now < length input.now → IsValidUpTo input.now (length result.now) }
+    ensures longest { length result.now < length input.now →
+        IsValidUpTo input.now (length result.now) }
 {
     match from_utf8(input) {
         Ok(text) => text,

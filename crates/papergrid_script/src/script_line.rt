@@ -46,7 +46,8 @@ pub fn take_line<'a>(
 #[tactic(auto, unfolding(crate::specs::Grammar::keyword_says))]
 fn take_keyword(draft: &mut Draft<'_>, keyword: &str, rest: &str) -> Result<bool, AllocError>
     requires no_cell { keyword.now ≢ codes "cell" }
-    ensures { IfOk result (λ fits. Takes draft.old (keyword_says keyword.now rest.now) fits draft.new) }
+    ensures { IfOk result (λ fits.
+        Takes draft.old (keyword_says keyword.now rest.now) fits draft.new) }
 {
     match keyword {
         "columns" => match number(rest) {

@@ -19,7 +19,8 @@ use std::collections::HashMap;
 
 /// The main part of the vertical line at a column.
 pub(crate) fn vertical_main<T>(lines: &HashMap<usize, VerticalLine<T>>, col: usize) -> Option<&T>
-    ensures { option_copied result ≡ option_and_then (λ line. line.main) (map_get nat_eq lines.now col) }
+    ensures { option_copied result
+        ≡ option_and_then (λ line. line.main) (map_get nat_eq lines.now col) }
 {
     lines.get(&col)?.main.as_ref()
 }
@@ -29,7 +30,8 @@ pub(crate) fn horizontal_main<T>(
     lines: &HashMap<usize, HorizontalLine<T>>,
     row: usize,
 ) -> Option<&T>
-    ensures { option_copied result ≡ option_and_then (λ line. line.main) (map_get nat_eq lines.now row) }
+    ensures { option_copied result
+        ≡ option_and_then (λ line. line.main) (map_get nat_eq lines.now row) }
 {
     lines.get(&row)?.main.as_ref()
 }
@@ -203,8 +205,10 @@ pub(crate) fn reserve<T>(
     ensures same_horizontal { HoldsAsBefore horizontal.old.values horizontal.new.values }
     ensures same_vertical { HoldsAsBefore vertical.old.values vertical.new.values }
     ensures same_corners { HoldsAsBefore corners.old.values corners.new.values }
-    ensures counted_horizontal { AreEdgesCounted Rows horizontal.old → AreEdgesCounted Rows horizontal.new }
-    ensures counted_vertical { AreEdgesCounted Columns vertical.old → AreEdgesCounted Columns vertical.new }
+    ensures counted_horizontal { AreEdgesCounted Rows horizontal.old →
+        AreEdgesCounted Rows horizontal.new }
+    ensures counted_vertical { AreEdgesCounted Columns vertical.old →
+        AreEdgesCounted Columns vertical.new }
     ensures counted_corners { AreCornersCounted corners.old → AreCornersCounted corners.new }
     ensures room_horizontal { OnOk result (HasEdgeRoom 2 horizontal.new) }
     ensures room_vertical { OnOk result (HasEdgeRoom 2 vertical.new) }
@@ -231,8 +235,10 @@ pub(crate) fn put_border<T: Drop>(
     requires counted_horizontal { AreEdgesCounted Rows horizontal.old }
     requires counted_vertical { AreEdgesCounted Columns vertical.old }
     requires counted_corners { AreCornersCounted corners.old }
-    ensures horizontal { Gains (edge_part Rows pos border) horizontal.old.values horizontal.new.values }
-    ensures vertical { Gains (edge_part Columns pos border) vertical.old.values vertical.new.values }
+    ensures horizontal { Gains (edge_part Rows pos border)
+        horizontal.old.values horizontal.new.values }
+    ensures vertical { Gains (edge_part Columns pos border)
+        vertical.old.values vertical.new.values }
     ensures corners { Gains (corner_part pos border) corners.old.values corners.new.values }
     ensures counted_horizontal { AreEdgesCounted Rows horizontal.new }
     ensures counted_vertical { AreEdgesCounted Columns vertical.new }

@@ -134,7 +134,8 @@ impl<T> BorderTable<T> {
     /// horizontal line's part, the vertical line's, the frame's or the value for all lines,
     /// whichever is the first set.
     pub fn get_intersection(&self, pos: Position, shape: (usize, usize)) -> Option<&T>
-        ensures { option_copied result ≡ found_intersection (places_of self.now) pos shape.0 shape.1 }
+        ensures { option_copied result
+            ≡ found_intersection (places_of self.now) pos shape.0 shape.1 }
     {
         self.corners
             .values
@@ -282,7 +283,8 @@ impl<T: Drop> BorderTable<T> {
         row: usize,
         line: HorizontalLine<T>,
     ) -> Result<(), AllocError>
-        ensures ok { OnOk result (Appends IsTold self.old self.new (InsertHorizontalLine row line ∷ [])) }
+        ensures ok { OnOk result
+            (Appends IsTold self.old self.new (InsertHorizontalLine row line ∷ [])) }
         ensures err { OnErr result (self.new ≡ self.old) }
     {
         self.horizontal_lines.put(row, line)
@@ -295,7 +297,8 @@ impl<T: Drop> BorderTable<T> {
         col: usize,
         line: VerticalLine<T>,
     ) -> Result<(), AllocError>
-        ensures ok { OnOk result (Appends IsTold self.old self.new (InsertVerticalLine col line ∷ [])) }
+        ensures ok { OnOk result
+            (Appends IsTold self.old self.new (InsertVerticalLine col line ∷ [])) }
         ensures err { OnErr result (self.new ≡ self.old) }
     {
         self.vertical_lines.put(col, line)

@@ -78,7 +78,8 @@ impl<L> Lines<L> {
     /// No line. It takes no memory.
     pub(crate) fn new(alloc: Global) -> Self
         ensures empty { result.values.entries ≡ [] }
-        ensures counted { (has_first has_last : L → Bool) → AreEndsCounted has_first has_last result }
+        ensures counted { (has_first has_last : L → Bool) →
+            AreEndsCounted has_first has_last result }
     {
         Lines {
             values: HashMap::new(alloc),
@@ -101,7 +102,8 @@ impl<L> Lines<L> {
         requires held_last { one_if old.last ≤ self.old.last_ends + one_if new.last }
         requires small { (self.old.first_ends + 1 < 2 ^ 64) × (self.old.last_ends + 1 < 2 ^ 64) }
         ensures values { self.new.values ≡ self.old.values }
-        ensures first { self.new.first_ends + one_if old.first ≡ self.old.first_ends + one_if new.first }
+        ensures first { self.new.first_ends + one_if old.first
+            ≡ self.old.first_ends + one_if new.first }
         ensures last { self.new.last_ends + one_if old.last ≡ self.old.last_ends + one_if new.last }
     {
         self.first_ends = replaced(self.first_ends, old.first, new.first);
@@ -124,7 +126,8 @@ impl<L: Ended + Drop> Lines<L> {
     /// Writes a line, or leaves all as it was where memory is refused.
     pub(crate) fn put(&mut self, number: usize, line: L) -> Result<(), AllocError>
         requires { AreEndsCounted L.has_first L.has_last self.old }
-        ensures ok { OnOk result (Updates nat_eq self.old.values self.new.values number (Some line)) }
+        ensures ok { OnOk result
+            (Updates nat_eq self.old.values self.new.values number (Some line)) }
         ensures err { OnErr result (IsUnchanged self.old.values self.new.values) }
         ensures counted { AreEndsCounted L.has_first L.has_last self.new }
     {

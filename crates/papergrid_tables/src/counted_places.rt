@@ -140,7 +140,8 @@ fn put_part<T: Drop>(map: &mut HashMap<Position, T>, place: Position, part: Opti
     ensures spare { spare map.old ≤ spare map.new + 1 }
     ensures more { (direction : Direction) (n : ℕ) → number_on direction n (keys map.new)
         ≡ number_on direction n (keys map.old) + one_if (result && along direction place == n) }
-    ensures fits { (direction : Direction) (n : ℕ) → number_on direction n (keys map.old) + 1 < 2 ^ 64 }
+    ensures fits { (direction : Direction) (n : ℕ) →
+        number_on direction n (keys map.old) + 1 < 2 ^ 64 }
 {
     // No count is greater than the length, which is told here.
     let _ = map.len();

@@ -72,8 +72,8 @@ pub trait Records: Sized {
             result }
         ensures told { (cells : List (List Self.Iter.Cell)) →
             GivesRows Self.Iter.IterRows.into_iter_gives Self.Iter.IterRows.IntoIter.next_gives
-            Self.Iter.IterColumns.into_iter_gives Self.Iter.IterColumns.IntoIter.next_gives result cells
-            → tells self cells };
+            Self.Iter.IterColumns.into_iter_gives Self.Iter.IterColumns.IntoIter.next_gives
+            result cells → tells self cells };
 
     /// The number of columns.
     fn count_columns(&self) -> usize

@@ -178,7 +178,8 @@ fn measure_first_line(text: &str, printable: usize) -> (usize, Option<&str>)
 /// A text without a tab comes back as it is, and takes no memory.
 pub fn replace_tab(alloc: Global, text: &str, n: usize) -> Result<CowStr<'_>, AllocError>
     ensures value { IfOk result (λ new. cow_str_bytes new ≡ tabs_replaced n text.now) }
-    ensures takes_no_memory { count_by (λ b. b == 9) text.now ≡ 0 → result ≡ Ok (CowStr.Borrowed text.entry) }
+    ensures takes_no_memory { count_by (λ b. b == 9) text.now ≡ 0 →
+        result ≡ Ok (CowStr.Borrowed text.entry) }
     ensures owned { 0 < count_by (λ b. b == 9) text.now → IfOk result IsOwnedStr }
 {
     if count_tabs(text) == 0 {

@@ -53,7 +53,8 @@ impl<S: AsStr> Text<S> {
     /// Keeps the text with the width, in columns of a terminal, and the lines that are given. Nothing is
     /// measured or checked. Where no line is given the text is its one line.
     pub fn exact(text: S, width: usize, lines: Vec<StrWithWidth<'static>>) -> Text<S>
-        ensures { result ≡ record { text = text; width = width; lines = map given_line lines.entry.items } }
+        ensures { result
+            ≡ record { text = text; width = width; lines = map given_line lines.entry.items } }
     {
         Text {
             text,

@@ -132,7 +132,8 @@ impl<T: Cell> PeekableRecords for VecRecords<T> {
 
     fn get_line(&self, pos: Position, line: usize) -> &str
         requires at { HasCell (rows_held self.now).items pos }
-        requires there { HoldsOfCell (λ cell. line < length (T.lines cell)) (rows_held self.now).items pos }
+        requires there { HoldsOfCell (λ cell. line < length (T.lines cell))
+            (rows_held self.now).items pos }
         ensures { HoldsOfCell (λ cell. result.now ≡ (slice_index_or (T.lines cell) line ([], 0)).0)
             (rows_held self.now).items pos }
     {
@@ -141,7 +142,8 @@ impl<T: Cell> PeekableRecords for VecRecords<T> {
 
     fn count_lines(&self, pos: Position) -> usize
         requires { HasCell (rows_held self.now).items pos }
-        ensures { HoldsOfCell (λ cell. result ≡ length (T.lines cell)) (rows_held self.now).items pos }
+        ensures { HoldsOfCell (λ cell. result ≡ length (T.lines cell))
+            (rows_held self.now).items pos }
     {
         self.rows[pos.row][pos.col].count_lines()
     }
@@ -155,7 +157,8 @@ impl<T: Cell> PeekableRecords for VecRecords<T> {
 
     fn get_line_width(&self, pos: Position, line: usize) -> usize
         requires at { HasCell (rows_held self.now).items pos }
-        requires there { HoldsOfCell (λ cell. line < length (T.lines cell)) (rows_held self.now).items pos }
+        requires there { HoldsOfCell (λ cell. line < length (T.lines cell))
+            (rows_held self.now).items pos }
         ensures { HoldsOfCell (λ cell. result ≡ (slice_index_or (T.lines cell) line ([], 0)).1)
             (rows_held self.now).items pos }
     {

@@ -232,7 +232,8 @@ impl<T> Border<&T> {
             (border_parts self.now) (border_parts border)) }
         ensures equal { ((x y : T) → T.is_clone x y → y ≡ x) →
             IfOk result (λ border. border ≡ border_map (λ part. part.now) self.now) }
-        ensures succeeds { EachSet (λ part. T.is_infallible part.now) (border_parts self.now) → IsOk result }
+        ensures succeeds { EachSet (λ part. T.is_infallible part.now) (border_parts self.now) →
+            IsOk result }
     {
         Ok(Border {
             top: self.top.cloned()?,
