@@ -94,8 +94,8 @@ fn measures<R: PeekableRecords>(records: &R, pos: Position) -> (usize, usize)
 
 /// The same by a caller that learns them exactly, through a reference too.
 pub fn of_strings(records: &VecRecords<String>, pos: Position) -> (usize, usize)
-    requires { HasCell (rows_held records.now).items pos.row pos.col }
-    ensures { result ≡ (length (std_lines (cell_text string_bytes (rows_held records.now).items pos.row pos.col)), text_width (cell_text string_bytes (rows_held records.now).items pos.row pos.col)) }
+    requires { HasCell (rows_held records.now).items pos }
+    ensures { result ≡ (length (std_lines (cell_text string_bytes (rows_held records.now).items pos)), text_width (cell_text string_bytes (rows_held records.now).items pos)) }
 {
     measures(&records, pos)
 }

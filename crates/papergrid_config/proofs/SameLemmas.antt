@@ -32,7 +32,7 @@ use Rattle.papergrid_keys.specs.Keys.{position_cmp}
 use Rattle.papergrid_tables.specs.BorderHeld.{HeldBorders}
 use Rattle.papergrid_tables.specs.BorderSame.{same_parts}
 use Rattle.papergrid_tables.specs.ForProofs.BorderEq.{borders_eq}
-use Rattle.papergrid_tables.specs.OffsetEq.{overrides_eq}
+use Rattle.papergrid_tables.specs.ForProofs.OffsetEq.{overrides_eq}
 use Rattle.papergrid_tables.specs.Overrides.{HeldOffsets, override_at}
 use Rattle.papergrid_tables.proofs.BorderAgree.{borders_agree}
 use Rattle.papergrid_tables.proofs.OffsetEqual.{overrides_agree}

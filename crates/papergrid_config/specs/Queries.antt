@@ -1,12 +1,11 @@
 -- What the queries of a configuration ask.
-use Rattle.std.specs.Prelude.{◌≡◌, Option, None, false}
+use Rattle.std.specs.Prelude.{◌≡◌, [], Option, None, false}
 use Rattle.papergrid_values.specs.Keys.{sides_parts}
 use Rattle.papergrid_values.specs.Parts.{none_set}
 use Rattle.papergrid_values.specs.declared.ansi_buf.ANSIBuf.{ANSIBuf}
 use Rattle.papergrid_values.specs.declared.sides.Sides.{Sides}
-use Rattle.papergrid_tables.specs.BorderHeld.{places_of}
-use Rattle.papergrid_tables.specs.Overrides.{IsClear}
-use Rattle.papergrid_tables.specs.Places.{IsBare}
+use Rattle.papergrid_tables.specs.BorderHeld as lines
+use Rattle.papergrid_tables.specs.Overrides as overrides
 use Rattle.papergrid_maps.specs.MapHeld.{Held, HasNothing, Holds}
 use Rattle.papergrid_config.specs.declared.spanned.SpannedConfig.{SpannedConfig}
 
@@ -22,11 +21,11 @@ HasSetSide held = (colors : Sides (Option ANSIBuf)) × Holds held colors × (non
 module _ (config : SpannedConfig) where
   -- a colour is held for all lines, in the frame, or for a line, an edge or a corner
   abbrev pub HasBorderColors : Type 0
-  HasBorderColors = IsBare (places_of config.colors) → ⊥
+  HasBorderColors = lines.IsTold [] config.colors → ⊥
 
   -- some single character of a line is set
   abbrev pub HasOffsetChars : Type 0
-  HasOffsetChars = IsClear config.horizontal_chars × IsClear config.vertical_chars → ⊥
+  HasOffsetChars = overrides.IsTold [] config.horizontal_chars × overrides.IsTold [] config.vertical_chars → ⊥
 
   -- a character that justifies is held for a column, a row or a cell, or a colour of one for any entity
   abbrev pub HasJustification : Type 0

@@ -2,8 +2,7 @@
 use Rattle.std.specs.Prelude.{◌≡◌, ◌≢◌, ◌<◌, ◌^◌, ◌&&◌, ℕ, Bool, List, [], ◌∷◌, ◌++◌, None, filter, length, slice_index_or}
 use Rattle.std.specs.List.{flat_map}
 use Rattle.papergrid_values.specs.declared.position.Position.{Position}
-use Rattle.papergrid_text.specs.Measured.{Measured}
-use Rattle.papergrid_text.specs.Text.{greatest_width, kept_by_new, split_lines}
+use Rattle.papergrid_text.specs.Measured.{Measured, measured}
 use Rattle.papergrid_values.specs.declared.direction.Direction.{Direction}
 use Rattle.papergrid_axis.specs.Fits.{Fits}
 use Rattle.papergrid_axis.specs.Problem.{Problem, total_of}
@@ -23,8 +22,7 @@ use Rattle.papergrid_maps.specs.Grids.{Grid}
 
 -- a text as `Text::new` keeps it
 abbrev pub IsNewText : {S : Type 0} → (S → List ℕ) → Measured S → Type 0
-IsNewText text t =
-    t ≡ record { text = t.text; width = greatest_width (split_lines (text t.text)); lines = kept_by_new (split_lines (text t.text)) }
+IsNewText text t = t ≡ measured text t.text
 
 -- the cells of a row have this one at a column
 abbrev pub HasCell : {C : Type 0} → List C → ℕ → C → Type 0

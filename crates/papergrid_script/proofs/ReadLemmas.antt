@@ -14,9 +14,10 @@ use Rattle.papergrid_values.specs.declared.indent.Indent.{Indent}
 use Rattle.papergrid_values.specs.declared.position.Position.{Position}
 use Rattle.papergrid_values.specs.declared.sides.Sides.{Sides}
 use Rattle.papergrid_values.specs.Borders.{frame_with}
+use Rattle.papergrid_values.specs.Positions as positions
 use Rattle.papergrid_config.specs.declared.setting.Setting.{Setting}
 use Rattle.papergrid_config.specs.declared.setting.Setting.TheVariants.{SetPadding, SetColumnSpan, SetRowSpan, SetBorders, InsertVerticalLine, InsertHorizontalLine, RemoveVerticalLine, RemoveHorizontalLine}
-use Rattle.papergrid_script.specs.Grammar.{◌>>=◌, Said, Nothing, Columns, Set, Row, Cell, spaces, parted_at, number_of, cell_at, position_of, placed_span, entity_of, sides_of, padding_of, character_of, placed_character, vertical_main, horizontal_main, setting_of, keyword_says, text_says, said}
+use Rattle.papergrid_script.specs.Grammar.{◌>>=◌, Said, Nothing, Columns, Set, Row, Cell, spaces, pair_at, parted_at, number_of, position_of, placed_span, entity_of, sides_of, padding_of, character_of, placed_character, vertical_main, horizontal_main, setting_of, keyword_says, text_says, said}
 use Rattle.papergrid_script.specs.Spelling.{IsNumber, IsPosition, IsEntity, AreSides, IsCharacter, IsSetting, Pad, Colspan, Rowspan, Border, Vline, Hline, Novline, Nohline, Means, Ended, Plain, Newline, Tab, Backslash, IsLine}
 use Rattle.papergrid_script.proofs.CharacterLemmas.{character_read, text_behind}
 use Rattle.papergrid_script.specs.Texts.{unescaped, escape_of, put_first}
@@ -52,6 +53,28 @@ parted byte bytes parts h =
     let whole : bytes ≡ before_first test bytes ++ get_or bytes (position_or_len test bytes) 0 ∷ after_first test bytes = split_at_first test bytes 0 within in
     whole ∙ ap (λ b. before_first test bytes ++ b ∷ after_first test bytes) there ∙ ap (λ p. p.0 ++ byte ∷ p.1) found.1
 
+-- two parts with such a byte between them, of which a pair is read
+record IsPairAt {A B : Type 0} (byte : ℕ) (first : List ℕ → Option A) (second : List ℕ → Option B) (bytes : List ℕ) (pair : A × B) : Type 0 where
+  front : List ℕ
+  back : List ℕ
+  is_front : first front ≡ Some pair.0
+  is_back : second back ≡ Some pair.1
+  whole : bytes ≡ front ++ byte ∷ back
+
+pair_read : {A B : Type 0} (byte : ℕ) (first : List ℕ → Option A) (second : List ℕ → Option B) (bytes : List ℕ) (pair : A × B)
+    → pair_at byte first second bytes ≡ Some pair → IsPairAt byte first second bytes pair
+pair_read {A} {B} byte first second bytes pair h =
+    let parts = bind_some (λ (p : List ℕ × List ℕ). first p.0 >>= λ (a : A). second p.1 >>= λ (b : B). Some (a, b)) (parted_at byte bytes) pair h in
+    let a = bind_some (λ (a : A). second parts.0.1 >>= λ (b : B). Some (a, b)) (first parts.0.0) pair parts.2 in
+    let b = bind_some (λ (b : B). Some (a.0, b)) (second parts.0.1) pair a.2 in
+    subst (IsPairAt byte first second bytes) (same_Some _ _ b.2) (record {
+      front = parts.0.0;
+      back = parts.0.1;
+      is_front = a.1;
+      is_back = b.1;
+      whole = parted byte bytes parts.0 parts.1;
+    })
+
 -- ---- numbers, entities and sides
 
 pub number_read : (digits : List ℕ) (n : ℕ) → number_of digits ≡ Some n → IsNumber digits n
@@ -71,16 +94,16 @@ starts_one : (c : ℕ) (bs : List ℕ) → starts_with nat_eq bs (c ∷ []) ≡ 
 starts_one c [] h = cc
 starts_one c (b ∷ bs) h = ap (λ x. x ∷ bs) (sym (eqb-true c b (and_true _ _ h).0))
 
-abbrev placed_at : ℕ → ℕ → Position
-placed_at r c = record { row = r; col = c }
+-- the cell at a position
+abbrev pub cell_at : Position → Entity
+cell_at place = entities.Cell place.row place.col
 
 position_read : (bytes : List ℕ) (place : Position) → position_of bytes ≡ Some place → IsPosition bytes place
 unfolding position_of
 position_read bytes place h =
-    let parts = bind_some (λ (p : List ℕ × List ℕ). number_of p.0 >>= λ r. number_of p.1 >>= λ c. Some (placed_at r c)) (parted_at 44 bytes) place h in
-    let row = bind_some (λ r. number_of parts.0.1 >>= λ c. Some (placed_at r c)) (number_of parts.0.0) place parts.2 in
-    let col = bind_some (λ c. Some (placed_at row.0 c)) (number_of parts.0.1) place row.2 in
-    subst (IsPosition bytes) (same_Some _ _ col.2) (parts.0.0, parts.0.1, number_read _ _ row.1, number_read _ _ col.1, parted 44 bytes parts.0 parts.1)
+    let at = map_some positions.position_of (pair_at 44 number_of number_of bytes) place h in
+    let pair = pair_read 44 number_of number_of bytes at.0 at.1 in
+    subst (IsPosition bytes) at.2 (pair.front, pair.back, number_read _ _ pair.is_front, number_read _ _ pair.is_back, pair.whole)
 
 pub entity_read : (bytes : List ℕ) (entity : Entity) → entity_of bytes ≡ Some entity → IsEntity bytes entity
 unfolding entity_of
@@ -125,60 +148,11 @@ sides_read bytes sides h =
 padding_read : (bytes : List ℕ) (setting : Setting) → padding_of bytes ≡ Some setting → IsSetting (codes "pad " ++ bytes) setting
 unfolding padding_of
 padding_read bytes setting h =
-    let parts = bind_some (λ (p : List ℕ × List ℕ). entity_of p.0 >>= λ entity. sides_of p.1 >>= λ sides. Some (SetPadding entity sides)) (parted_at 32 bytes) setting h in
-    let entity = bind_some (λ entity. sides_of parts.0.1 >>= λ sides. Some (SetPadding entity sides)) (entity_of parts.0.0) setting parts.2 in
-    let sides = bind_some (λ sides. Some (SetPadding entity.0 sides)) (sides_of parts.0.1) setting entity.2 in
-    subst (IsSetting (codes "pad " ++ bytes)) (same_Some _ _ sides.2)
-    (subst (λ (b : List ℕ). IsSetting (codes "pad " ++ b) (SetPadding entity.0 sides.0)) (sym (parted 32 bytes parts.0 parts.1))
-    (Pad parts.0.0 parts.0.1 entity.0 sides.0 (entity_read _ _ entity.1) (sides_read _ _ sides.1)))
-
--- ---- spans
-
-record IsPlacedSpan (bytes : List ℕ) (place : Position) (n : ℕ) : Type 0 where
-  spelled : List ℕ
-  digits : List ℕ
-  is_position : IsPosition spelled place
-  is_number : IsNumber digits n
-  whole : bytes ≡ spelled ++ 32 ∷ digits
-
-span_read : (bytes : List ℕ) (at : Position × ℕ) → placed_span bytes ≡ Some at → IsPlacedSpan bytes at.0 at.1
-unfolding placed_span
-span_read bytes at h =
-    let parts = bind_some (λ (p : List ℕ × List ℕ). position_of p.0 >>= λ place. number_of p.1 >>= λ n. Some (place, n)) (parted_at 32 bytes) at h in
-    let place = bind_some (λ place. number_of parts.0.1 >>= λ n. Some (place, n)) (position_of parts.0.0) at parts.2 in
-    let n = bind_some (λ n. Some (place.0, n)) (number_of parts.0.1) at place.2 in
-    subst (λ (a : Position × ℕ). IsPlacedSpan bytes a.0 a.1) (same_Some _ _ n.2) (record {
-      spelled = parts.0.0;
-      digits = parts.0.1;
-      is_position = position_read _ _ place.1;
-      is_number = number_read _ _ n.1;
-      whole = parted 32 bytes parts.0 parts.1;
-    })
-
--- ---- characters and lines
-
-record IsPlaced (bytes : List ℕ) (place c : ℕ) : Type 0 where
-  digits : List ℕ
-  x : List ℕ
-  is_number : IsNumber digits place
-  is_character : IsCharacter x c
-  spelled : bytes ≡ digits ++ 32 ∷ x
-
-placed_read : (bytes : List ℕ) (at : ℕ × ℕ) → IsUtf8 bytes → placed_character bytes ≡ Some at → IsPlaced bytes at.0 at.1
-unfolding placed_character
-placed_read bytes at text h =
-    let parts = bind_some (λ (p : List ℕ × List ℕ). number_of p.0 >>= λ n. character_of p.1 >>= λ c. Some (n, c)) (parted_at 32 bytes) at h in
-    let n = bind_some (λ n. character_of parts.0.1 >>= λ c. Some (n, c)) (number_of parts.0.0) at parts.2 in
-    let c = bind_some (λ c. Some (n.0, c)) (character_of parts.0.1) at n.2 in
-    let whole = parted 32 bytes parts.0 parts.1 in
-    let behind = text_behind parts.0.0 parts.0.1 32 (lit< tt) (subst IsUtf8 whole text) in
-    subst (λ (a : ℕ × ℕ). IsPlaced bytes a.0 a.1) (same_Some _ _ c.2) (record {
-      digits = parts.0.0;
-      x = parts.0.1;
-      is_number = number_read _ _ n.1;
-      is_character = character_read _ _ behind c.1;
-      spelled = whole;
-    })
+    let at = map_some (λ (p : Entity × Sides Indent). SetPadding p.0 p.1) (pair_at 32 entity_of sides_of bytes) setting h in
+    let pair = pair_read 32 entity_of sides_of bytes at.0 at.1 in
+    subst (IsSetting (codes "pad " ++ bytes)) at.2
+    (subst (λ (b : List ℕ). IsSetting (codes "pad " ++ b) (SetPadding at.0.0 at.0.1)) (sym pair.whole)
+    (Pad pair.front pair.back at.0.0 at.0.1 (entity_read _ _ pair.is_front) (sides_read _ _ pair.is_back)))
 
 -- ---- settings
 
@@ -189,12 +163,13 @@ worded keyword word rest setting same h = subst (λ (w : List ℕ). IsSetting (w
 spanned_read : (word : List ℕ) (set : Position → ℕ → Setting)
     → ((spelled digits : List ℕ) (place : Position) (n : ℕ) → IsPosition spelled place → IsNumber digits n → IsSetting (word ++ (spelled ++ 32 ∷ digits)) (set place n))
     → (rest : List ℕ) (setting : Setting) → option_map (λ at. set at.0 at.1) (placed_span rest) ≡ Some setting → IsSetting (word ++ rest) setting
+unfolding placed_span
 spanned_read word set spells rest setting h =
     let at = map_some (λ (at : Position × ℕ). set at.0 at.1) (placed_span rest) setting h in
-    let is = span_read rest at.0 at.1 in
+    let pair = pair_read 32 position_of number_of rest at.0 at.1 in
     subst (IsSetting (word ++ rest)) at.2
-    (subst (λ (r : List ℕ). IsSetting (word ++ r) (set at.0.0 at.0.1)) (sym is.whole)
-    (spells is.spelled is.digits at.0.0 at.0.1 is.is_position is.is_number))
+    (subst (λ (r : List ℕ). IsSetting (word ++ r) (set at.0.0 at.0.1)) (sym pair.whole)
+    (spells pair.front pair.back at.0.0 at.0.1 (position_read _ _ pair.is_front) (number_read _ _ pair.is_back)))
 
 border_read : (rest : List ℕ) (setting : Setting) → IsUtf8 rest → option_map (λ c. SetBorders (frame_with (Some c))) (character_of rest) ≡ Some setting → IsSetting (codes "border " ++ rest) setting
 border_read rest setting text h =
@@ -204,12 +179,14 @@ border_read rest setting text h =
 -- a line of either direction, by the word that begins it
 lined_read : (word : List ℕ) (set : ℕ → ℕ → Setting) → ((digits x : List ℕ) (place c : ℕ) → IsNumber digits place → IsCharacter x c → IsSetting (word ++ (digits ++ 32 ∷ x)) (set place c))
     → (rest : List ℕ) (setting : Setting) → IsUtf8 rest → option_map (λ at. set at.0 at.1) (placed_character rest) ≡ Some setting → IsSetting (word ++ rest) setting
+unfolding placed_character
 lined_read word set spells rest setting text h =
     let at = map_some (λ (at : ℕ × ℕ). set at.0 at.1) (placed_character rest) setting h in
-    let is = placed_read rest at.0 text at.1 in
+    let pair = pair_read 32 number_of character_of rest at.0 at.1 in
+    let behind = text_behind pair.front pair.back 32 (lit< tt) (subst IsUtf8 pair.whole text) in
     subst (IsSetting (word ++ rest)) at.2
-    (subst (λ (r : List ℕ). IsSetting (word ++ r) (set at.0.0 at.0.1)) (sym is.spelled)
-    (spells is.digits is.x at.0.0 at.0.1 is.is_number is.is_character))
+    (subst (λ (r : List ℕ). IsSetting (word ++ r) (set at.0.0 at.0.1)) (sym pair.whole)
+    (spells pair.front pair.back at.0.0 at.0.1 (number_read _ _ pair.is_front) (character_read _ _ behind pair.is_back)))
 
 novline_read : (rest : List ℕ) (setting : Setting) → option_map (λ col. RemoveVerticalLine col 0) (number_of rest) ≡ Some setting → IsSetting (codes "novline " ++ rest) setting
 novline_read rest setting h =

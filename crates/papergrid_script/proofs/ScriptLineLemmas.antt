@@ -3,7 +3,7 @@ use Rattle.std.proofs.Common.{◌≡◌, ◌≢◌, ℕ, ◌-◌, ◌+◌, ◌<�
 use Rattle.std.proofs.lemmas.Bool.Decides.{nat_tests}
 use Rattle.std.proofs.lemmas.List.{append_cancel_right, drop_all}
 use Rattle.std.proofs.Math.Seq.{drop-cons, get_or-append_seam}
-use Rattle.papergrid_text.proofs.Splits.{one_split}
+use Rattle.papergrid_text.proofs.Splits.{is_split, only_split}
 use Rattle.papergrid_text.specs.Text.{split_lines}
 use Rattle.papergrid_script.specs.Grammar.{script_lines, without_cr, without_empty_last}
 use Rattle.papergrid_script.specs.ScriptLines.{AreScriptLines, AreWithoutReturns, IsWithoutLast}
@@ -88,7 +88,7 @@ unfolding script_lines
 lines_are input = record {
   pieces = split_lines input;
   kept = without_empty_last (split_lines input);
-  cut = (one_split input).is_split;
+  cut = is_split input;
   but_empty_last = without_empty-is (split_lines input);
   each = all_without (without_empty_last (split_lines input));
 }
@@ -96,6 +96,6 @@ lines_are input = record {
 pub lines_only : (input : List ℕ) (lines : List (List ℕ)) → AreScriptLines input lines → lines ≡ script_lines input
 unfolding script_lines
 lines_only input lines are =
-    let same = (one_split input).is_only are.pieces are.cut in
+    let same = only_split input are.pieces are.cut in
     let kept = without_last-only [] are.pieces are.kept (without_empty_last are.pieces) are.but_empty_last (without_empty-is are.pieces) in
     all_without-only are.kept lines are.each ∙ ap (map without_cr) (kept ∙ ap without_empty_last same)

@@ -18,9 +18,10 @@ use Rattle.papergrid_values.specs.declared.position.Position.{Position}
 use Rattle.papergrid_values.specs.declared.sides.Sides.{Sides}
 use Rattle.papergrid_config.specs.declared.setting.Setting.{Setting}
 use Rattle.papergrid_config.specs.declared.setting.Setting.TheVariants.{SetPadding}
-use Rattle.papergrid_script.specs.Grammar.{Said, Nothing, Columns, Set, Row, Cell, parted_at, number_of, cell_at, position_of, placed_span, entity_of, sides_of, padding_of, placed_character, setting_of, keyword_says, text_says, said}
+use Rattle.papergrid_script.specs.Grammar.{Said, Nothing, Columns, Set, Row, Cell, parted_at, number_of, position_of, placed_span, entity_of, sides_of, padding_of, placed_character, setting_of, keyword_says, text_says, said}
 use Rattle.papergrid_script.specs.Spelling.{IsNumber, IsPosition, IsEntity, AreSides, IsCharacter, IsSetting, Pad, Colspan, Rowspan, Border, Vline, Hline, Novline, Nohline, Means, Ended, Plain, Newline, Tab, Backslash, IsLine}
 use Rattle.papergrid_script.proofs.CharacterLemmas.{character_spelled}
+use Rattle.papergrid_script.proofs.ReadLemmas.{cell_at}
 use Rattle.papergrid_script.specs.Texts.{unescaped, put_first}
 
 and_true : (a b : Bool) → a && b ≡ true → (a ≡ true) × (b ≡ true)

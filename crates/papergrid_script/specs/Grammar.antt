@@ -11,6 +11,7 @@ use Rattle.papergrid_values.specs.declared.sides.Sides.{Sides}
 use Rattle.papergrid_values.specs.declared.horizontal_line.HorizontalLine.{HorizontalLine}
 use Rattle.papergrid_values.specs.declared.vertical_line.VerticalLine.{VerticalLine}
 use Rattle.papergrid_values.specs.Borders.{frame_with}
+use Rattle.papergrid_values.specs.Positions as positions
 use Rattle.papergrid_config.specs.declared.setting.Setting.{Setting}
 use Rattle.papergrid_config.specs.declared.setting.Setting.TheVariants.{SetPadding, SetColumnSpan, SetRowSpan, SetBorders, InsertVerticalLine, InsertHorizontalLine, RemoveVerticalLine, RemoveHorizontalLine}
 use Rattle.papergrid_script.specs.Texts.{newline, unescaped}
@@ -39,6 +40,15 @@ parted_at byte bytes =
     if nat_lt (position_or_len (λ b. b == byte) bytes) (length bytes)
     then Some (before_first (λ b. b == byte) bytes, after_first (λ b. b == byte) bytes) else None
 
+-- what the two give of the parts around the first such byte, where both give something
+abbrev pub pair_at : {A B : Type 0} → ℕ → (List ℕ → Option A) → (List ℕ → Option B) → List ℕ
+    → Option (A × B)
+pair_at byte first second spelled = do
+  parts ← parted_at byte spelled
+  before ← first parts.0
+  after ← second parts.1
+  Some (before, after)
+
 -- ---- numbers and entities
 
 -- one or more digits, of a value that fits 64 bits
@@ -49,15 +59,7 @@ number_of digits =
 
 -- a row and a column with a comma between them
 unfoldable pub position_of : List ℕ → Option Position
-position_of spelled = do
-  parts ← parted_at comma spelled
-  row ← number_of parts.0
-  col ← number_of parts.1
-  Some (record { row = row; col = col })
-
--- the cell at a position
-abbrev pub cell_at : Position → Entity
-cell_at place = entities.Cell place.row place.col
+position_of spelled = option_map positions.position_of (pair_at comma number_of number_of spelled)
 
 -- a star, a c or r with a number, or a cell
 unfoldable pub entity_of : List ℕ → Option Entity
@@ -65,7 +67,7 @@ entity_of spelled =
     if bytes_eq spelled (codes "*") then Some entities.Global
     else if starts_with nat_eq spelled (codes "c") then option_map entities.Column (number_of (drop 1 spelled))
     else if starts_with nat_eq spelled (codes "r") then option_map entities.Row (number_of (drop 1 spelled))
-    else option_map cell_at (position_of spelled)
+    else option_map (λ (place : Position). entities.Cell place.row place.col) (position_of spelled)
 
 -- ---- paddings
 
@@ -87,25 +89,13 @@ sides_of spelled = do
 
 -- an entity, and the four numbers
 unfoldable pub padding_of : List ℕ → Option Setting
-padding_of spelled = do
-  parts ← parted_at space spelled
-  entity ← entity_of parts.0
-  sides ← sides_of parts.1
-  Some (SetPadding entity sides)
+padding_of spelled = option_map (λ p. SetPadding p.0 p.1) (pair_at space entity_of sides_of spelled)
 
 -- ---- spans
 
--- what stands before the first space, and what stands after it
-abbrev pub pair_of : {A B : Type 0} → (List ℕ → Option A) → (List ℕ → Option B) → List ℕ → Option (A × B)
-pair_of first second spelled = do
-  parts ← parted_at space spelled
-  before ← first parts.0
-  after ← second parts.1
-  Some (before, after)
-
 -- a position, and a number of columns or rows after it and a space
 unfoldable pub placed_span : List ℕ → Option (Position × ℕ)
-placed_span spelled = pair_of position_of number_of spelled
+placed_span spelled = pair_at space position_of number_of spelled
 
 -- ---- borders and lines
 
@@ -121,7 +111,7 @@ character_of spelled = one_alone (chars spelled)
 
 -- a number, and one character after it and a space
 unfoldable pub placed_character : List ℕ → Option (ℕ × ℕ)
-placed_character spelled = pair_of number_of character_of spelled
+placed_character spelled = pair_at space number_of character_of spelled
 
 -- lines of one character, whose crossings and ends are not set
 abbrev pub vertical_main : ℕ → VerticalLine ℕ

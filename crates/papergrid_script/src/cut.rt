@@ -51,7 +51,8 @@ pub fn split_around(text: &str, at: usize) -> (&str, &str)
 /// What stands before the first such byte, and what stands after it.
 pub fn split_at_byte(text: &str, byte: u8) -> Option<(&str, &str)>
     requires { byte < 128 }
-    ensures parts { option_map (λ parts. (parts.0.now, parts.1.now)) result ≡ parted_at byte text.now }
+    ensures parts { option_map (λ parts. (parts.0.now, parts.1.now)) result
+        ≡ parted_at byte text.now }
     ensures text { IfSome result (λ parts. IsUtf8 parts.0.now × IsUtf8 parts.1.now) }
 {
     let at = find_byte(text.as_bytes(), byte);

@@ -42,7 +42,8 @@ impl<'a> Draft<'a> {
 
     /// Begins a row.
     pub fn add_row(&mut self) -> Result<(), AllocError>
-        ensures { OnOk result (with_line (table_so_far self.old) Row ≡ Some (table_so_far self.new)) }
+        ensures { OnOk result
+            (with_line (table_so_far self.old) Row ≡ Some (table_so_far self.new)) }
     {
         end_row(self.arena, &mut self.rows, self.last.as_slice())?;
         self.rows.push(&[])?;
@@ -52,7 +53,7 @@ impl<'a> Draft<'a> {
 
     /// Adds a cell to the last row; false where there is none.
     pub fn add_cell(&mut self, text: &'a str) -> Result<bool, AllocError>
-        ensures { IfOk result (λ fits. Takes (table_so_far self.old) (Some (Cell text.now)) fits (table_so_far self.new)) }
+        ensures { IfOk result (λ fits. Takes self.old (Some (Cell text.now)) fits self.new) }
     {
         if self.rows.is_empty() {
             return Ok(false);
@@ -87,7 +88,8 @@ fn end_row<'a>(
     rows: &mut Vec<&'a [&'a str]>,
     cells: &[&'a str],
 ) -> Result<(), AllocError>
-    ensures { OnOk result (rows_seen rows.new.items ≡ with_last (rows_seen rows.old.items) (texts_of cells.now)) }
+    ensures { OnOk result (rows_seen rows.new.items
+        ≡ with_last (rows_seen rows.old.items) (texts_of cells.now)) }
 {
     match rows.last_mut() {
         None => Ok(()),

@@ -53,7 +53,8 @@ pub fn read_script<'a>(
     input: &'a [u8],
 ) -> Result<Script<'a>, ScriptError>
     ensures told { GivesTable result (table_of input.now) }
-    ensures in_range { IfOk result (λ script. All (λ setting. is_in_range (setting_told setting) ≡ true) script.settings.items) }
+    ensures in_range { IfOk result (λ script.
+        All (λ setting. is_in_range (setting_told setting) ≡ true) script.settings.items) }
 {
     let text = text_in_front(input);
     let read = script_of_text(alloc, arena, text);
@@ -67,7 +68,8 @@ pub fn read_script<'a>(
 /// The longest front that is text.
 fn text_in_front(input: &[u8]) -> &str
     ensures front { result.now ≡ take (length result.now) input.now }
-    ensures longest { length result.now < length input.now → IsValidUpTo input.now (length result.now) }
+    ensures longest { length result.now < length input.now →
+        IsValidUpTo input.now (length result.now) }
 {
     match from_utf8(input) {
         Ok(text) => text,

@@ -2,7 +2,7 @@
 
 ghost use Rattle.std.specs.Prelude.{◌≢◌, IfOk, codes, option_map};
 ghost use Rattle.papergrid_script.specs.Grammar.{Cell, Set, keyword_says, setting_of, text_says};
-ghost use Rattle.papergrid_script.specs.ForProofs.Seen.{Takes, table_so_far};
+ghost use Rattle.papergrid_script.specs.ForProofs.Seen.{Takes};
 ghost use Rattle.papergrid_script.specs.Texts.{unescaped};
 ghost use Rattle.papergrid_script.specs.ForProofs.Escapes.{IsFirstEscape};
 
@@ -22,7 +22,7 @@ pub fn take_line<'a>(
     escape: usize,
 ) -> Result<bool, AllocError>
     requires { IsFirstEscape line.now escape }
-    ensures { IfOk result (λ fits. Takes (table_so_far draft.old) (text_says line.now) fits (table_so_far draft.new)) }
+    ensures { IfOk result (λ fits. Takes draft.old (text_says line.now) fits draft.new) }
 {
     // Most lines are cells.
     if let Some(spelled) = line.strip_prefix("cell ") {
@@ -46,7 +46,8 @@ pub fn take_line<'a>(
 #[tactic(auto, unfolding(crate::specs::Grammar::keyword_says))]
 fn take_keyword(draft: &mut Draft<'_>, keyword: &str, rest: &str) -> Result<bool, AllocError>
     requires no_cell { keyword.now ≢ codes "cell" }
-    ensures { IfOk result (λ fits. Takes (table_so_far draft.old) (keyword_says keyword.now rest.now) fits (table_so_far draft.new)) }
+    ensures { IfOk result (λ fits.
+        Takes draft.old (keyword_says keyword.now rest.now) fits draft.new) }
 {
     match keyword {
         "columns" => match number(rest) {
@@ -63,7 +64,8 @@ fn take_keyword(draft: &mut Draft<'_>, keyword: &str, rest: &str) -> Result<bool
 /// Takes a cell of the text that is meant; false where the spelling is bad, or there is no row.
 fn take_cell<'a>(draft: &mut Draft<'a>, spelled: &'a str, escape: usize) -> Result<bool, AllocError>
     requires { IsFirstEscape spelled.now escape }
-    ensures { IfOk result (λ fits. Takes (table_so_far draft.old) (option_map Cell (unescaped spelled.now)) fits (table_so_far draft.new)) }
+    ensures { IfOk result (λ fits.
+        Takes draft.old (option_map Cell (unescaped spelled.now)) fits draft.new) }
 {
     match unescaped(draft.arena, spelled, escape)? {
         Some(text) => draft.add_cell(text),
@@ -73,7 +75,8 @@ fn take_cell<'a>(draft: &mut Draft<'a>, spelled: &'a str, escape: usize) -> Resu
 
 /// Takes the setting of a keyword, and of what stands after it and a space; false where there is none.
 fn take_setting(draft: &mut Draft<'_>, keyword: &str, rest: &str) -> Result<bool, AllocError>
-    ensures { IfOk result (λ fits. Takes (table_so_far draft.old) (option_map Set (setting_of keyword.now rest.now)) fits (table_so_far draft.new)) }
+    ensures { IfOk result (λ fits.
+        Takes draft.old (option_map Set (setting_of keyword.now rest.now)) fits draft.new) }
 {
     match line_setting(keyword, rest) {
         Some(setting) => {

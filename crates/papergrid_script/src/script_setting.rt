@@ -78,7 +78,8 @@ pub fn configuration_of(
     settings: Vec<ScriptSetting>,
 ) -> Result<SpannedConfig, AllocError>
     ensures told { IfOk result (λ config. IsTold (map setting_told settings.items) config) }
-    ensures free { All (λ setting. is_free (setting_told setting) ≡ true) settings.items → IsOk result }
+    ensures free { All (λ setting. is_free (setting_told setting) ≡ true) settings.items →
+        IsOk result }
 {
     let mut config = SpannedConfig::new(alloc);
     for setting in settings {

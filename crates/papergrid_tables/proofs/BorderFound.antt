@@ -1,5 +1,5 @@
 -- What is found in a border table, and which lines it has, by the entries of its maps.
-use Rattle.std.proofs.Common.{◌≡◌, ℕ, Bor, Bool, true, false, ◌&&◌, List, length, eqb, Option, Some, None, refl, sym, ap, ◌∙◌, inl, inr, ⊎_elim}
+use Rattle.std.proofs.Common.{◌≡◌, ℕ, Bor, Bool, true, false, ◌&&◌, List, [], length, eqb, Option, Some, None, refl, sym, ap, ◌∙◌, inl, inr, ⊎_elim}
 use Rattle.std.specs.Prelude.{◌||◌, ◌⊎◌, ◌↔◌, IsTrue, IsSome, is_some, is_none, not}
 use Rattle.std.specs.Option.{option_or, option_copied}
 use Rattle.std.specs.List.{list_any, IsDistinct}
@@ -8,16 +8,16 @@ use Rattle.std.specs.Map.{lookup, keys_of}
 use Rattle.std.specs.Ordering.{nat_cmp}
 use Rattle.std.specs.FinMap.{get, from_entries}
 use Rattle.std.proofs.lemmas.Bool.{false≢true, and_parts, and_from, or_left, or_right, eqb-true, eq-eqb}
-use Rattle.papergrid_values.specs.Borders.{frame_parts}
+use Rattle.papergrid_values.specs.Borders.{frame_parts, frame_with}
 use Rattle.papergrid_values.specs.Parts.{none_set}
 use Rattle.papergrid_values.specs.declared.position.Position.{Position}
 use Rattle.papergrid_values.specs.declared.borders.Borders.{Borders}
 use Rattle.papergrid_values.specs.declared.horizontal_line.HorizontalLine.{HorizontalLine}
 use Rattle.papergrid_values.specs.declared.vertical_line.VerticalLine.{VerticalLine}
-use Rattle.papergrid_tables.specs.BorderHeld.{places_of}
+use Rattle.papergrid_tables.specs.BorderHeld.{IsTold}
 use Rattle.papergrid_tables.specs.BorderScan.{has_end}
 use Rattle.papergrid_keys.specs.Keys.{position_eq}
-use Rattle.papergrid_tables.specs.Places.{IsBare, HasEnd}
+use Rattle.papergrid_tables.specs.Places.{HasEnd, Places}
 use Rattle.papergrid_keys.proofs.AnyLemmas.{any_found, any_from_found}
 use Rattle.papergrid_tables.proofs.BorderTold.{table_of}
 use Rattle.papergrid_keys.proofs.KeyLemmas.{get_at_number, get_at_position, position_equiv}
@@ -94,6 +94,42 @@ none_is : {A : Type 0} (o : Option A) → is_none o ≡ true → o ≡ None
 none_is None h = refl
 none_is (Some x) h = absurd (false≢true h)
 
+-- a frame that has no part set is the one without parts
+bare_frame : {T : Type 0} (f : Borders T) → none_set (frame_parts f) ≡ true → f ≡ frame_with None
+bare_frame f none =
+    let p0 = and_parts (is_none f.top) _ none in
+    let p1 = and_parts (is_none f.top_left) _ p0.1 in
+    let p2 = and_parts (is_none f.top_right) _ p1.1 in
+    let p3 = and_parts (is_none f.top_intersection) _ p2.1 in
+    let p4 = and_parts (is_none f.bottom) _ p3.1 in
+    let p5 = and_parts (is_none f.bottom_left) _ p4.1 in
+    let p6 = and_parts (is_none f.bottom_right) _ p5.1 in
+    let p7 = and_parts (is_none f.bottom_intersection) _ p6.1 in
+    let p8 = and_parts (is_none f.horizontal) _ p7.1 in
+    let p9 = and_parts (is_none f.vertical) _ p8.1 in
+    let p10 = and_parts (is_none f.intersection) _ p9.1 in
+    let p11 = and_parts (is_none f.left) _ p10.1 in
+    let p12 = and_parts (is_none f.left_intersection) _ p11.1 in
+    let p13 = and_parts (is_none f.right) _ p12.1 in
+    let p14 = and_parts (is_none f.right_intersection) _ p13.1 in
+    λ i. record {
+      top = none_is f.top p0.0 i;
+      top_left = none_is f.top_left p1.0 i;
+      top_right = none_is f.top_right p2.0 i;
+      top_intersection = none_is f.top_intersection p3.0 i;
+      bottom = none_is f.bottom p4.0 i;
+      bottom_left = none_is f.bottom_left p5.0 i;
+      bottom_right = none_is f.bottom_right p6.0 i;
+      bottom_intersection = none_is f.bottom_intersection p7.0 i;
+      horizontal = none_is f.horizontal p8.0 i;
+      vertical = none_is f.vertical p9.0 i;
+      intersection = none_is f.intersection p10.0 i;
+      left = none_is f.left p11.0 i;
+      left_intersection = none_is f.left_intersection p12.0 i;
+      right = none_is f.right p13.0 i;
+      right_intersection = none_is f.right_intersection p14.0 i;
+    }
+
 pub unset : {A : Type 0} (o : Option A) (b : Bool) → is_some o ≡ not b → b ≡ is_none o
 unset None true h = refl
 unset None false h = absurd (false≢true h)
@@ -103,8 +139,8 @@ unset (Some x) false h = refl
 pub bare : {T : Type 0} (g : Option T) (f : Borders T) (hl : List (ℕ × HorizontalLine T)) (vl : List (ℕ × VerticalLine T)) (he ve ks : List (Position × T)) (a b c d e h k : Bool)
     → a ≡ is_none g → b ≡ none_set (frame_parts f) → (IsTrue c ↔ (length hl ≡ 0)) → (IsTrue d ↔ (length vl ≡ 0))
     → (IsTrue e ↔ (length he ≡ 0)) → (IsTrue h ↔ (length ve ≡ 0)) → (IsTrue k ↔ (length ks ≡ 0))
-    → IsTrue (a && (b && ((c && d) && (e && (h && k))))) ↔ IsBare (places_of (table_of g f hl vl he ve ks))
-bare g f hl vl he ve ks a b c d e h k global frame horizontal_lines vertical_lines horizontal_edges vertical_edges corners = (
+    → IsTrue (a && (b && ((c && d) && (e && (h && k))))) ↔ IsTold [] (table_of g f hl vl he ve ks)
+bare {T} g f hl vl he ve ks a b c d e h k global frame horizontal_lines vertical_lines horizontal_edges vertical_edges corners = (
   (λ all.
       let one = and_parts a _ all in
       let two = and_parts b _ one.1 in
@@ -112,20 +148,20 @@ bare g f hl vl he ve ks a b c d e h k global frame horizontal_lines vertical_lin
       let lines = and_parts c d three.0 in
       let edges = and_parts e _ three.1 in
       let last = and_parts h k edges.1 in
-      record {
-        global = none_is g (sym global ∙ one.0);
-        frame = sym frame ∙ two.0;
-        horizontal_line = λ n. get_at_number hl n ∙ none_of_nothing eqb hl (horizontal_lines.0 lines.0) n;
-        vertical_line = λ n. get_at_number vl n ∙ none_of_nothing eqb vl (vertical_lines.0 lines.1) n;
-        horizontal_edge = λ p. get_at_position he p ∙ none_of_nothing position_eq he (horizontal_edges.0 edges.0) p;
-        vertical_edge = λ p. get_at_position ve p ∙ none_of_nothing position_eq ve (vertical_edges.0 last.0) p;
-        corner = λ p. get_at_position ks p ∙ none_of_nothing position_eq ks (corners.0 last.1) p;
+      λ i. record {
+        global = none_is g (sym global ∙ one.0) i;
+        frame = bare_frame f (sym frame ∙ two.0) i;
+        horizontal_line = λ n. (get_at_number hl n ∙ none_of_nothing eqb hl (horizontal_lines.0 lines.0) n) i;
+        vertical_line = λ n. (get_at_number vl n ∙ none_of_nothing eqb vl (vertical_lines.0 lines.1) n) i;
+        horizontal_edge = λ p. (get_at_position he p ∙ none_of_nothing position_eq he (horizontal_edges.0 edges.0) p) i;
+        vertical_edge = λ p. (get_at_position ve p ∙ none_of_nothing position_eq ve (vertical_edges.0 last.0) p) i;
+        corner = λ p. (get_at_position ks p ∙ none_of_nothing position_eq ks (corners.0 last.1) p) i;
       }),
   (λ none.
-      and_from _ _ (global ∙ ap is_none none.global) (and_from _ _ (frame ∙ none.frame)
-      (and_from _ _ (and_from _ _ (horizontal_lines.1 (no_entries eqb nat_eq_equiv hl (λ n. sym (get_at_number hl n) ∙ none.horizontal_line n)))
-      (vertical_lines.1 (no_entries eqb nat_eq_equiv vl (λ n. sym (get_at_number vl n) ∙ none.vertical_line n))))
-      (and_from _ _ (horizontal_edges.1 (no_entries position_eq position_equiv he (λ p. sym (get_at_position he p) ∙ none.horizontal_edge p)))
-      (and_from _ _ (vertical_edges.1 (no_entries position_eq position_equiv ve (λ p. sym (get_at_position ve p) ∙ none.vertical_edge p)))
-      (corners.1 (no_entries position_eq position_equiv ks (λ p. sym (get_at_position ks p) ∙ none.corner p)))))))),
+      and_from _ _ (global ∙ ap (λ (s : Places T). is_none s.global) none) (and_from _ _ (frame ∙ ap (λ (s : Places T). none_set (frame_parts s.frame)) none)
+      (and_from _ _ (and_from _ _ (horizontal_lines.1 (no_entries eqb nat_eq_equiv hl (λ n. sym (get_at_number hl n) ∙ ap (λ (s : Places T). s.horizontal_line n) none)))
+      (vertical_lines.1 (no_entries eqb nat_eq_equiv vl (λ n. sym (get_at_number vl n) ∙ ap (λ (s : Places T). s.vertical_line n) none))))
+      (and_from _ _ (horizontal_edges.1 (no_entries position_eq position_equiv he (λ p. sym (get_at_position he p) ∙ ap (λ (s : Places T). s.horizontal_edge p) none)))
+      (and_from _ _ (vertical_edges.1 (no_entries position_eq position_equiv ve (λ p. sym (get_at_position ve p) ∙ ap (λ (s : Places T). s.vertical_edge p) none)))
+      (corners.1 (no_entries position_eq position_equiv ks (λ p. sym (get_at_position ks p) ∙ ap (λ (s : Places T). s.corner p) none)))))))),
 )

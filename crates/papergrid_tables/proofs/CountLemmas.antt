@@ -12,6 +12,7 @@ use Rattle.std.proofs.lemmas.List.Sums.{sum_by-cons}
 use Rattle.std.proofs.lemmas.Map.{keys-set_value}
 use Rattle.std.proofs.lemmas.Map.Entries.{sum_by-remove_entry, sum_by_puts_entry, sum_by_values_permutation}
 use Rattle.papergrid_tables.specs.ForProofs.CountedLines.{is_end_set}
+use Rattle.papergrid_tables.specs.ForProofs.Counts.{one_if}
 
 module _ {K X : Type 0} (test : K → Bool) where
   by_entries : (es : List (K × X)) → count_by test (keys_of es) ≡ sum_by (λ e. cond (test e.0) 1 0) es
@@ -61,9 +62,6 @@ counted_one_more counted count new old b on is adds more counts =
     omega (arith, same, adds, more, counts)
 
 -- ---- lines with an end that is set
-
-abbrev one_if : Bool → ℕ
-one_if b = cond b 1 0
 
 module _ {L : Type 0} (is_set : L → Bool) where
   weight_of : (line : Option L) → unwrap_or (option_map (λ l. one_if (is_set l)) line) 0 ≡ one_if (is_end_set is_set line)

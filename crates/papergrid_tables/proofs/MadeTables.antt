@@ -8,13 +8,13 @@ use Rattle.std.specs.Ordering.{eq_by_cmp, nat_cmp}
 use Rattle.std.specs.declared.cmp.Ordering.{Ordering}
 use Rattle.std.specs.FinMap.{nat_cmp-IsAntisymmetric, same_map}
 use Rattle.std.proofs.lemmas.Bool.{false≢true, or_left, or_right, eqb-true, eq-eqb}
+use Rattle.papergrid_values.specs.declared.direction.Direction.TheVariants.{Columns, Rows}
 use Rattle.papergrid_values.specs.declared.position.Position.{Position}
-use Rattle.papergrid_tables.specs.BorderCalls.{at_place, below, right_of, BorderCall, InsertBorder, RemoveBorder, InsertHorizontalLine, RemoveHorizontalLine, InsertVerticalLine, RemoveVerticalLine, at_horizontal_line, at_vertical_line, at_horizontal_edge, at_vertical_edge, at_corner}
+use Rattle.papergrid_tables.specs.BorderCalls.{at_place, below, right_of, BorderCall, InsertBorder, RemoveBorder, InsertHorizontalLine, RemoveHorizontalLine, InsertVerticalLine, RemoveVerticalLine, Clear, is_edge_of, is_corner_of, edge_part, corner_part}
 use Rattle.papergrid_tables.specs.BorderHeld.{HeldBorders, IsTold, places_of}
-use Rattle.papergrid_tables.specs.Changes.{Change, Keeps, Removes, Writes, after, if_set, last}
 use Rattle.papergrid_keys.specs.Keys.{position_cmp, position_eq}
 use Rattle.papergrid_tables.specs.Made.{borders_made, named_columns, named_places, named_rows}
-use Rattle.papergrid_tables.specs.Places.{places_from}
+use Rattle.papergrid_tables.specs.Places.{Places, after_call, no_places, places_from}
 use Rattle.papergrid_keys.proofs.TabulatedLemmas.{tabulates}
 use Rattle.papergrid_keys.proofs.KeyLemmas.{exact_position, exact_positions, position_equiv, position_ties, position_total}
 use Rattle.papergrid_tables.proofs.LineTested.{exact_number}
@@ -25,53 +25,52 @@ any_append : {A : Type 0} (test : A → Bool) (xs ys : List A) → list_any test
 any_append test [] ys = refl
 any_append test (x ∷ xs) ys = elim (test x) as (λ b. (b || list_any test (xs ++ ys)) ≡ ((b || list_any test xs) || list_any test ys)) [ true ↦ refl | false ↦ any_append test xs ys ]
 
-abbrev writes : {A : Type 0} → Change A → Bool
-writes Keeps = false
-writes Removes = false
-writes (Writes v) = true
+or_with_next : (m a n : Bool) → (m || a) ≡ true → (a ≡ true → n ≡ true) → (m || n) ≡ true
+or_with_next true a n h next = refl
+or_with_next false a n h next = next h
 
-written : {A : Type 0} (change : Change A) (old : Option A) → is_some (after change old) ≡ true → (writes change || is_some old) ≡ true
-written Keeps old h = h
-written Removes old h = absurd (false≢true h)
-written (Writes v) old h = refl
+-- where nothing is at first, and a call leaves something only where it names the place or something was there
+module _ {T K A : Type 0} (R : K → K → Ordering) (held : Places T → K → Option A) (named : BorderCall T → List K) (none : (q : K) → is_some (held no_places q) ≡ true → ⊥)
+    (names : (call : BorderCall T) (old : Places T) (q : K) → is_some (held (after_call call old) q) ≡ true → (list_any (eq_by_cmp R q) (named call) || is_some (held old q)) ≡ true) where
+  all_named : (calls : List (BorderCall T)) (q : K) → is_some (held (places_from calls) q) ≡ true → list_any (eq_by_cmp R q) (flat_map named calls) ≡ true
+  all_named [] q h = absurd (none q h)
+  all_named (call ∷ older) q h =
+      any_append (eq_by_cmp R q) (named call) (flat_map named older)
+      ∙ or_with_next (list_any (eq_by_cmp R q) (named call)) (is_some (held (places_from older) q)) _ (names call (places_from older) q h) (all_named older q)
 
-either_names : (a b m n : Bool) → (a || b) ≡ true → (a ≡ true → m ≡ true) → (b ≡ true → n ≡ true) → (m || n) ≡ true
-either_names true b m n h first next = or_left m n (first refl)
-either_names false b m n h first next = or_right m n (next h)
+-- what is there where a test would drop it
+kept_there : {A : Type 0} (b : Bool) (old : Option A) → is_some (cond b None old) ≡ true → is_some old ≡ true
+kept_there true old h = absurd (false≢true h)
+kept_there false old h = h
 
-pub all_named : {C K A : Type 0} (R : K → K → Ordering) (does : K → C → Change A) (named : C → List K)
-    → ((q : K) (call : C) → writes (does q call) ≡ true → list_any (eq_by_cmp R q) (named call) ≡ true)
-    → (calls : List C) (q : K) → is_some (last (does q) calls) ≡ true → list_any (eq_by_cmp R q) (flat_map named calls) ≡ true
-all_named R does named names [] q h = absurd (false≢true h)
-all_named R does named names (call ∷ older) q h =
-    any_append (eq_by_cmp R q) (named call) (flat_map named older)
-    ∙ either_names (writes (does q call)) (is_some (last (does q) older)) _ _ (written (does q call) (last (does q) older) h) (names q call) (all_named R does named names older q)
-
--- a test that decides between two changes of which one alone writes
-writes_where : {A : Type 0} (b : Bool) (v : A) → writes (cond b (Writes v) Keeps) ≡ true → b ≡ true
-writes_where true v h = refl
-writes_where false v h = absurd (false≢true h)
-
-never_removes : (A : Type 0) (b : Bool) → writes {A = A} (cond b Removes Keeps) ≡ true → ⊥
-never_removes A true h = false≢true h
-never_removes A false h = false≢true h
-
-writes_set : {A : Type 0} (o : Option A) → writes (if_set o) ≡ true → is_some o ≡ true
-writes_set None h = absurd (false≢true h)
-writes_set (Some v) h = refl
+gained_named : {A : Type 0} (part old : Option A) (m : Bool) → is_some (option_or part old) ≡ true → (is_some part ≡ true → m ≡ true) → (m || is_some old) ≡ true
+gained_named None old m h named = or_right m (is_some old) h
+gained_named (Some v) old m h named = or_left m (is_some old) (named refl)
 
 number_named : (k q : ℕ) → eqb k q ≡ true → list_any (eq_by_cmp nat_cmp q) (k ∷ []) ≡ true
 number_named k q h = or_left _ _ (unsigned_tied q k ∙ eq-eqb q k (sym (eqb-true k q h)))
 
-row_named : {T : Type 0} (q : ℕ) (call : BorderCall T) → writes (at_horizontal_line q call) ≡ true → list_any (eq_by_cmp nat_cmp q) (named_rows call) ≡ true
-row_named q (InsertHorizontalLine k line) h = number_named k q (writes_where (eqb k q) line h)
-row_named q (RemoveHorizontalLine k) h = absurd (never_removes _ (eqb k q) h)
-row_named q call h = absurd (false≢true h)
+line_named : {L : Type 0} (k q : ℕ) (line : L) (old : Option L) → is_some (cond (eqb k q) (Some line) old) ≡ true
+    → (list_any (eq_by_cmp nat_cmp q) (k ∷ []) || is_some old) ≡ true
+line_named k q line old h =
+    elim (eqb k q) as (λ b. eqb k q ≡ b → is_some (cond b (Some line) old) ≡ true → (list_any (eq_by_cmp nat_cmp q) (k ∷ []) || is_some old) ≡ true) [
+      | true ↦ λ here _. or_left (list_any (eq_by_cmp nat_cmp q) (k ∷ [])) (is_some old) (number_named k q here)
+      | false ↦ λ _ there. or_right (list_any (eq_by_cmp nat_cmp q) (k ∷ [])) (is_some old) there
+    ] refl h
 
-column_named : {T : Type 0} (q : ℕ) (call : BorderCall T) → writes (at_vertical_line q call) ≡ true → list_any (eq_by_cmp nat_cmp q) (named_columns call) ≡ true
-column_named q (InsertVerticalLine k line) h = number_named k q (writes_where (eqb k q) line h)
-column_named q (RemoveVerticalLine k) h = absurd (never_removes _ (eqb k q) h)
-column_named q call h = absurd (false≢true h)
+row_named : {T : Type 0} (call : BorderCall T) (old : Places T) (q : ℕ) → is_some ((after_call call old).horizontal_line q) ≡ true
+    → (list_any (eq_by_cmp nat_cmp q) (named_rows call) || is_some (old.horizontal_line q)) ≡ true
+row_named (InsertHorizontalLine k line) old q h = line_named k q line (old.horizontal_line q) h
+row_named (RemoveHorizontalLine k) old q h = kept_there (eqb k q) (old.horizontal_line q) h
+row_named Clear old q h = absurd (false≢true h)
+row_named call old q h = h
+
+column_named : {T : Type 0} (call : BorderCall T) (old : Places T) (q : ℕ) → is_some ((after_call call old).vertical_line q) ≡ true
+    → (list_any (eq_by_cmp nat_cmp q) (named_columns call) || is_some (old.vertical_line q)) ≡ true
+column_named (InsertVerticalLine k line) old q h = line_named k q line (old.vertical_line q) h
+column_named (RemoveVerticalLine k) old q h = kept_there (eqb k q) (old.vertical_line q) h
+column_named Clear old q h = absurd (false≢true h)
+column_named call old q h = h
 
 -- a part at a place: it is written there alone
 set_at : {T : Type 0} (p q : Position) (part : Option T) → is_some (at_place p q part) ≡ true → eq_by_cmp position_cmp q p ≡ true
@@ -103,23 +102,31 @@ either_set : {T : Type 0} (a b : Option T) (m : Bool) → is_some (option_or a b
 either_set None b m h first next = next h
 either_set (Some v) b m h first next = first refl
 
-module _ {T : Type 0} (q : Position) where
-  horizontal_edge_named : (call : BorderCall T) → writes (at_horizontal_edge q call) ≡ true → list_any (eq_by_cmp position_cmp q) (named_places call) ≡ true
-  horizontal_edge_named (InsertBorder p b) h = either_set (at_place p q b.top) (at_place (below p) q b.bottom) _ (writes_set _ h) (at_cell p q b.top) (at_below p q b.bottom)
-  horizontal_edge_named (RemoveBorder p) h = absurd (never_removes _ (position_eq p q || position_eq (below p) q) h)
-  horizontal_edge_named call h = absurd (false≢true h)
+horizontal_edge_named : {T : Type 0} (call : BorderCall T) (old : Places T) (q : Position) → is_some ((after_call call old).horizontal_edge q) ≡ true
+    → (list_any (eq_by_cmp position_cmp q) (named_places call) || is_some (old.horizontal_edge q)) ≡ true
+horizontal_edge_named (InsertBorder p b) old q h = gained_named (edge_part Rows p b q) (old.horizontal_edge q) (at_one p q) h
+    (λ set. either_set (at_place p q b.top) (at_place (below p) q b.bottom) (at_one p q) set (at_cell p q b.top) (at_below p q b.bottom))
+horizontal_edge_named (RemoveBorder p) old q h = kept_there (is_edge_of Rows p q) (old.horizontal_edge q) h
+horizontal_edge_named Clear old q h = absurd (false≢true h)
+horizontal_edge_named call old q h = h
 
-  vertical_edge_named : (call : BorderCall T) → writes (at_vertical_edge q call) ≡ true → list_any (eq_by_cmp position_cmp q) (named_places call) ≡ true
-  vertical_edge_named (InsertBorder p b) h = either_set (at_place p q b.left) (at_place (right_of p) q b.right) _ (writes_set _ h) (at_cell p q b.left) (at_right p q b.right)
-  vertical_edge_named (RemoveBorder p) h = absurd (never_removes _ (position_eq p q || position_eq (right_of p) q) h)
-  vertical_edge_named call h = absurd (false≢true h)
+vertical_edge_named : {T : Type 0} (call : BorderCall T) (old : Places T) (q : Position) → is_some ((after_call call old).vertical_edge q) ≡ true
+    → (list_any (eq_by_cmp position_cmp q) (named_places call) || is_some (old.vertical_edge q)) ≡ true
+vertical_edge_named (InsertBorder p b) old q h = gained_named (edge_part Columns p b q) (old.vertical_edge q) (at_one p q) h
+    (λ set. either_set (at_place p q b.left) (at_place (right_of p) q b.right) (at_one p q) set (at_cell p q b.left) (at_right p q b.right))
+vertical_edge_named (RemoveBorder p) old q h = kept_there (is_edge_of Columns p q) (old.vertical_edge q) h
+vertical_edge_named Clear old q h = absurd (false≢true h)
+vertical_edge_named call old q h = h
 
-  corner_named : (call : BorderCall T) → writes (at_corner q call) ≡ true → list_any (eq_by_cmp position_cmp q) (named_places call) ≡ true
-  corner_named (InsertBorder p b) h = either_set (at_place p q b.left_top_corner) _ _ (writes_set _ h) (at_cell p q b.left_top_corner)
-      (λ h. either_set (at_place (right_of p) q b.right_top_corner) _ _ h (at_right p q b.right_top_corner)
-      (λ h. either_set (at_place (below p) q b.left_bottom_corner) (at_place (below (right_of p)) q b.right_bottom_corner) _ h (at_below p q b.left_bottom_corner) (at_opposite p q b.right_bottom_corner)))
-  corner_named (RemoveBorder p) h = absurd (never_removes _ ((position_eq p q || position_eq (right_of p) q) || (position_eq (below p) q || position_eq (below (right_of p)) q)) h)
-  corner_named call h = absurd (false≢true h)
+corner_named : {T : Type 0} (call : BorderCall T) (old : Places T) (q : Position) → is_some ((after_call call old).corner q) ≡ true
+    → (list_any (eq_by_cmp position_cmp q) (named_places call) || is_some (old.corner q)) ≡ true
+corner_named (InsertBorder p b) old q h = gained_named (corner_part p b q) (old.corner q) (at_one p q) h
+    (λ h. either_set (at_place p q b.left_top_corner) _ (at_one p q) h (at_cell p q b.left_top_corner)
+    (λ h. either_set (at_place (right_of p) q b.right_top_corner) _ (at_one p q) h (at_right p q b.right_top_corner)
+    (λ h. either_set (at_place (below p) q b.left_bottom_corner) (at_place (below (right_of p)) q b.right_bottom_corner) (at_one p q) h (at_below p q b.left_bottom_corner) (at_opposite p q b.right_bottom_corner))))
+corner_named (RemoveBorder p) old q h = kept_there (is_corner_of p q) (old.corner q) h
+corner_named Clear old q h = absurd (false≢true h)
+corner_named call old q h = h
 
 -- ---- the table
 
@@ -130,11 +137,11 @@ module _ {T : Type 0} where
       λ i. record {
         global = (places_from older).global;
         frame = (places_from older).frame;
-        horizontal_line = λ n. tabulates nat_cmp_total exact_number (places_from older).horizontal_line (flat_map named_rows older) (all_named nat_cmp at_horizontal_line named_rows row_named older) n i;
-        vertical_line = λ n. tabulates nat_cmp_total exact_number (places_from older).vertical_line (flat_map named_columns older) (all_named nat_cmp at_vertical_line named_columns column_named older) n i;
-        horizontal_edge = λ p. tabulates position_total exact_position (places_from older).horizontal_edge (flat_map named_places older) (all_named position_cmp at_horizontal_edge named_places horizontal_edge_named older) p i;
-        vertical_edge = λ p. tabulates position_total exact_position (places_from older).vertical_edge (flat_map named_places older) (all_named position_cmp at_vertical_edge named_places vertical_edge_named older) p i;
-        corner = λ p. tabulates position_total exact_position (places_from older).corner (flat_map named_places older) (all_named position_cmp at_corner named_places corner_named older) p i;
+        horizontal_line = λ n. tabulates nat_cmp_total exact_number (places_from older).horizontal_line (flat_map named_rows older) (all_named nat_cmp (λ (places : Places T). places.horizontal_line) named_rows (λ q h. false≢true h) row_named older) n i;
+        vertical_line = λ n. tabulates nat_cmp_total exact_number (places_from older).vertical_line (flat_map named_columns older) (all_named nat_cmp (λ (places : Places T). places.vertical_line) named_columns (λ q h. false≢true h) column_named older) n i;
+        horizontal_edge = λ p. tabulates position_total exact_position (places_from older).horizontal_edge (flat_map named_places older) (all_named position_cmp (λ (places : Places T). places.horizontal_edge) named_places (λ q h. false≢true h) horizontal_edge_named older) p i;
+        vertical_edge = λ p. tabulates position_total exact_position (places_from older).vertical_edge (flat_map named_places older) (all_named position_cmp (λ (places : Places T). places.vertical_edge) named_places (λ q h. false≢true h) vertical_edge_named older) p i;
+        corner = λ p. tabulates position_total exact_position (places_from older).corner (flat_map named_places older) (all_named position_cmp (λ (places : Places T). places.corner) named_places (λ q h. false≢true h) corner_named older) p i;
       }
 
   -- tables that have the same at each place are the same

@@ -13,10 +13,9 @@ use Rattle.std.proofs.lemmas.Map.Entries.{lookup_clone}
 use Rattle.papergrid_values.specs.declared.offset.Offset.{Offset}
 use Rattle.papergrid_values.specs.declared.offset.Offset.TheVariants.{Start, End}
 use Rattle.papergrid_values.specs.declared.position.Position.{Position}
-use Rattle.papergrid_tables.specs.Changes.{Keeps, Removes, Writes, after, last}
 use Rattle.papergrid_keys.specs.Keys.{position_cmp, position_eq}
 use Rattle.papergrid_keys.specs.Told.{Appends}
-use Rattle.papergrid_tables.specs.Overrides.{HeldOffsets, OffsetCall, SetAt, RemoveAt, RemoveAll, IsClear, IsOverridden, IsTold, at_offset, at_override, is_same_offset, override_at}
+use Rattle.papergrid_tables.specs.Overrides.{HeldOffsets, OffsetCall, SetAt, RemoveAt, RemoveAll, IsOverridden, IsTold, after_call, at_offset, is_same_offset, override_at, overrides_from}
 use Rattle.papergrid_tables.specs.ForProofs.OverrideScan.{AfterSet, AreSet}
 use Rattle.papergrid_keys.proofs.KeyLemmas.{get_at_number, get_at_position, exact_position_eq, position_equiv}
 use Rattle.papergrid_keys.proofs.EntryLemmas.{none_of_nothing}
@@ -74,35 +73,31 @@ module _ {T : Type 0} where
   new_told p o = ap (λ h. option_and_then (λ offsets. at_offset offsets o) h) (get_at_position [] p)
 
   told_step : (old new : FinMap position_cmp (HeldOffsets T)) (call : OffsetCall T)
-      → ((p : Position) (o : Offset) → override_at new p o ≡ after (at_override p o call) (override_at old p o)) → Appends IsTold old new (call ∷ [])
+      → ((p : Position) (o : Offset) → override_at new p o ≡ after_call call (override_at old) p o) → Appends IsTold old new (call ∷ [])
   told_step old new call step calls told p o =
-      step p o ∙ ap (after (at_override p o call)) (told p o) ∙ ap (last (at_override p o)) (sym (reverse-append calls (call ∷ [])))
-
-  written : (b : Bool) (v : T) (old : Option T) → after (cond b (Writes v) Keeps) old ≡ cond b (Some v) old
-  written true v old = refl
-  written false v old = refl
+      step p o ∙ (λ i. after_call call (λ q k. told q k i) p o) ∙ ap (λ all. overrides_from all p o) (sym (reverse-append calls (call ∷ [])))
 
   pub told_set : (es es' : List (Position × HeldOffsets T)) (pos : Position) (offset : Offset) (v : T) → AfterSet pos offset v (λ p. lookup (position_eq p) es) (λ p. lookup (position_eq p) es')
       → Appends IsTold (from_entries es) (from_entries es') (SetAt pos offset v ∷ [])
   told_set es es' pos offset v set = told_step _ _ (SetAt pos offset v) (λ p o.
       let same = is_same_offset offset o in
       let step : option_and_then (λ h. at_offset h o) (cond (position_eq pos p) (Some set.offsets) (lookup (position_eq p) es))
-      ≡ after (cond (position_eq pos p && same) (Writes v) Keeps) (option_and_then (λ h. at_offset h o) (lookup (position_eq p) es)) =
+      ≡ cond (position_eq pos p && same) (Some v) (option_and_then (λ h. at_offset h o) (lookup (position_eq p) es)) =
       elim (position_eq pos p) as (λ b. position_eq pos p ≡ b → option_and_then (λ h. at_offset h o) (cond b (Some set.offsets) (lookup (position_eq p) es))
-      ≡ after (cond (b && same) (Writes v) Keeps) (option_and_then (λ h. at_offset h o) (lookup (position_eq p) es))) [
-        | true ↦ λ e. set.held o ∙ ap (λ q. cond same (Some v) (option_and_then (λ h. at_offset h o) (lookup (position_eq q) es))) (exact_position_eq pos p e) ∙ sym (written same v _)
+      ≡ cond (b && same) (Some v) (option_and_then (λ h. at_offset h o) (lookup (position_eq p) es))) [
+        | true ↦ λ e. set.held o ∙ ap (λ q. cond same (Some v) (option_and_then (λ h. at_offset h o) (lookup (position_eq q) es))) (exact_position_eq pos p e)
         | false ↦ λ e. refl
       ] refl in
       ap (λ h. option_and_then (λ offsets. at_offset offsets o) h) (get_at_position es' p ∙ set.others p)
       ∙ step
-      ∙ ap (λ h. after (cond (position_eq pos p && same) (Writes v) Keeps) (option_and_then (λ offsets. at_offset offsets o) h)) (sym (get_at_position es p)))
+      ∙ ap (λ h. cond (position_eq pos p && same) (Some v) (option_and_then (λ offsets. at_offset offsets o) h)) (sym (get_at_position es p)))
 
   pub told_remove : (es es' : List (Position × HeldOffsets T)) (pos : Position) → ((p : Position) → lookup (position_eq p) es' ≡ cond (position_eq pos p) None (lookup (position_eq p) es))
       → Appends IsTold (from_entries es) (from_entries es') (RemoveAt pos ∷ [])
   told_remove es es' pos removed = told_step _ _ (RemoveAt pos) (λ p o.
       ap (λ h. option_and_then (λ offsets. at_offset offsets o) h) (get_at_position es' p ∙ removed p)
-      ∙ elim (position_eq pos p) as (λ b. option_and_then (λ h. at_offset h o) (cond b None (lookup (position_eq p) es)) ≡ after (cond b Removes Keeps) (option_and_then (λ h. at_offset h o) (lookup (position_eq p) es))) [ true ↦ refl | false ↦ refl ]
-      ∙ ap (λ h. after (cond (position_eq pos p) Removes Keeps) (option_and_then (λ offsets. at_offset offsets o) h)) (sym (get_at_position es p)))
+      ∙ elim (position_eq pos p) as (λ b. option_and_then (λ h. at_offset h o) (cond b None (lookup (position_eq p) es)) ≡ cond b None (option_and_then (λ h. at_offset h o) (lookup (position_eq p) es))) [ true ↦ refl | false ↦ refl ]
+      ∙ ap (λ h. cond (position_eq pos p) None (option_and_then (λ offsets. at_offset offsets o) h)) (sym (get_at_position es p)))
 
   pub told_clear : (es : List (Position × HeldOffsets T)) → Appends IsTold (from_entries es) (from_entries []) (RemoveAll ∷ [])
   told_clear es = told_step _ _ RemoveAll (λ p o. ap (λ h. option_and_then (λ offsets. at_offset offsets o) h) (get_at_position [] p))
@@ -154,7 +149,7 @@ module _ {T : Type 0} where
     (λ h. is ∙ ap is_some (sym (get_at_position es p)) ∙ inner_some (get (from_entries es) p) h.0 h.1),
   )
 
-  pub is_clear : (es : List (Position × HeldOffsets T)) (b : Bool) → AreSet es → (IsTrue b ↔ (length es ≡ 0)) → IsTrue b ↔ IsClear (from_entries es)
+  pub is_clear : (es : List (Position × HeldOffsets T)) (b : Bool) → AreSet es → (IsTrue b ↔ (length es ≡ 0)) → IsTrue b ↔ IsTold [] (from_entries es)
   is_clear [] b set empty = ((λ h p o. ap (λ g. option_and_then (λ k. at_offset k o) g) (get_at_position [] p)), (λ h. empty.1 refl))
   is_clear (e ∷ es) b set empty = (
     (λ h p o. ap (λ g. option_and_then (λ k. at_offset k o) g) (get_at_position (e ∷ es) p ∙ none_of_nothing position_eq (e ∷ es) (empty.0 h) p)),

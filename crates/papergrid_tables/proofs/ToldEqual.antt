@@ -10,7 +10,7 @@ use Rattle.papergrid_tables.specs.ForProofs.BorderEq.{borders_eq, horizontal_lin
 use Rattle.papergrid_tables.specs.BorderHeld as borders
 use Rattle.papergrid_tables.specs.BorderHeld.{HeldBorders}
 use Rattle.papergrid_keys.specs.Keys.{position_cmp}
-use Rattle.papergrid_tables.specs.OffsetEq.{overrides_eq}
+use Rattle.papergrid_tables.specs.ForProofs.OffsetEq.{overrides_eq}
 use Rattle.papergrid_tables.specs.Overrides as overrides
 use Rattle.papergrid_tables.specs.Overrides.{HeldOffsets, OffsetCall}
 use Rattle.papergrid_keys.proofs.EqualLemmas.{numbers_agree, option_same, places_same}

@@ -5,4 +5,6 @@ pub mod CountedLines
 pub mod CountedPlaces
 pub mod CountedTable
 pub mod Counts
+pub mod Maps
+pub mod OffsetEq
 pub mod OverrideScan

@@ -2,10 +2,8 @@ pub mod BorderCalls
 pub mod BorderHeld
 pub mod BorderSame
 pub mod BorderScan
-pub mod Changes
 pub mod LineTests
 pub mod Made
-pub mod OffsetEq
 pub mod Overrides
 pub mod Places
 pub mod ForProofs

@@ -10,7 +10,7 @@ use Rattle.papergrid_values.specs.declared.vertical_line.VerticalLine.{VerticalL
 use Rattle.papergrid_tables.specs.BorderHeld.{HeldBorders}
 use Rattle.papergrid_tables.specs.BorderScan.{has_end}
 use Rattle.papergrid_keys.specs.Keys.{position_cmp}
-use Rattle.papergrid_tables.specs.Places.{in_frame_horizontal, in_frame_vertical}
+use Rattle.papergrid_tables.specs.Places.{in_frame}
 
 module _ {T : Type 0} where
   -- a horizontal line has an end at column c of count, and a vertical line one at row r of count
@@ -30,13 +30,13 @@ module _ {T : Type 0} where
   -- the global value, the frame, an end of a line across, a line, an edge or a corner
   abbrev pub vertical_line_at : HeldBorders T → ℕ → ℕ → Bool
   vertical_line_at held c count =
-      is_some held.global || (in_frame_vertical held.frame c count
+      is_some held.global || (in_frame Columns held.frame c count
       || (list_any (λ r. ends_at_column c count (get held.horizontal_lines r)) (keys held.horizontal_lines)
       || (contains_key held.vertical_lines c || (stands_on Columns c held.vertical_edges || stands_on Columns c held.corners))))
 
   -- the same of a horizontal line
   abbrev pub horizontal_line_at : HeldBorders T → ℕ → ℕ → Bool
   horizontal_line_at held r count =
-      is_some held.global || (in_frame_horizontal held.frame r count
+      is_some held.global || (in_frame Rows held.frame r count
       || (list_any (λ c. ends_at_row r count (get held.vertical_lines c)) (keys held.vertical_lines)
       || (contains_key held.horizontal_lines r || (stands_on Rows r held.horizontal_edges || stands_on Rows r held.corners))))

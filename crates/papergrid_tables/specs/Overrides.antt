@@ -1,12 +1,11 @@
 -- Overrides at the offsets of positions: what the calls leave, what is held, and what is found.
-use Rattle.std.specs.Prelude.{◌≡◌, ℕ, ◌-◌, ◌==◌, ◌&&◌, nat_lt, Bool, false, if◌then◌else◌, List, reverse, Option, None, IsSome, option_and_then}
+use Rattle.std.specs.Prelude.{◌≡◌, ℕ, ◌-◌, ◌==◌, ◌&&◌, nat_lt, Bool, true, false, if◌then◌else◌, List, [], ◌∷◌, reverse, Option, Some, None, IsSome, option_and_then}
 use Rattle.std.specs.FinMap.{FinMap, get}
-use Rattle.std.specs.Option.{option_or}
+use Rattle.std.specs.Option.{option_eq, option_or}
 use Rattle.std.specs.Ordering.{nat_cmp}
 use Rattle.papergrid_values.specs.declared.offset.Offset.{Offset}
 use Rattle.papergrid_values.specs.declared.offset.Offset.TheVariants.{Start, End}
 use Rattle.papergrid_values.specs.declared.position.Position.{Position}
-use Rattle.papergrid_tables.specs.Changes.{Change, Keeps, Removes, Writes, last}
 use Rattle.papergrid_keys.specs.Keys.{position_cmp, position_eq}
 
 -- the calls that change overrides
@@ -27,11 +26,18 @@ pub record HeldOffsets (T : Type 0) : Type 0 where
   pub from_end : FinMap nat_cmp T
 
 module _ {T : Type 0} where
-  -- what a call does to the override of a position at an offset
-  abbrev pub at_override : Position → Offset → OffsetCall T → Change T
-  at_override p o (SetAt q k v) = if position_eq q p && is_same_offset k o then Writes v else Keeps
-  at_override p o (RemoveAt q) = if position_eq q p then Removes else Keeps
-  at_override p o RemoveAll = Removes
+  -- the override of a position at an offset after a call, by those before it
+  abbrev pub after_call : OffsetCall T → (Position → Offset → Option T) → Position → Offset
+      → Option T
+  after_call (SetAt q k v) old p o =
+      if position_eq q p && is_same_offset k o then Some v else old p o
+  after_call (RemoveAt q) old p o = if position_eq q p then None else old p o
+  after_call RemoveAll old p o = None
+
+  -- what the calls leave there; the newest call first
+  abbrev pub overrides_from : List (OffsetCall T) → Position → Offset → Option T
+  overrides_from [] = λ _ _. None
+  overrides_from (call ∷ older) = after_call call (overrides_from older)
 
   -- the override at an offset
   abbrev pub at_offset : HeldOffsets T → Offset → Option T
@@ -44,7 +50,8 @@ module _ {T : Type 0} where
 
   -- a new table that was given the calls holds this
   abbrev pub IsTold : List (OffsetCall T) → FinMap position_cmp (HeldOffsets T) → Type 0
-  IsTold calls held = (p : Position) (o : Offset) → override_at held p o ≡ last (at_override p o) (reverse calls)
+  IsTold calls held =
+      (p : Position) (o : Offset) → override_at held p o ≡ overrides_from (reverse calls) p o
 
   -- what is found at an offset of an end: the one from the start, or else the one from the end
   abbrev pub found_override : (Offset → Option T) → ℕ → ℕ → Option T
@@ -55,6 +62,7 @@ module _ {T : Type 0} where
   abbrev pub IsOverridden : FinMap position_cmp (HeldOffsets T) → Position → Type 0
   IsOverridden held p = (o : Offset) × IsSome (override_at held p o)
 
-  -- no position has one
-  abbrev pub IsClear : FinMap position_cmp (HeldOffsets T) → Type 0
-  IsClear held = (p : Position) (o : Offset) → override_at held p o ≡ None
+  -- at each position and offset both tables hold equal values, or neither holds one
+  abbrev pub HoldTheSame : (T → T → Bool) → FinMap position_cmp (HeldOffsets T) → FinMap position_cmp (HeldOffsets T) → Type 0
+  HoldTheSame eq s t =
+      (p : Position) (o : Offset) → option_eq eq (override_at s p o) (override_at t p o) ≡ true

@@ -1,8 +1,7 @@
--- What is at the places of a border table, what is found there, and which lines there are.
-use Rattle.std.specs.Prelude.{◌≡◌, ℕ, ◌==◌, ◌&&◌, ◌||◌, nat_lt, not, Bool, true, if◌then◌else◌, List, Option, Some, None, IsSome, ◌⊎◌, option_and_then, unwrap_or}
+-- What is at the places of a border table after calls, what is found, and which lines there are.
+use Rattle.std.specs.Prelude.{◌≡◌, ℕ, ◌==◌, ◌&&◌, ◌||◌, nat_lt, not, Bool, true, if◌then◌else◌, List, [], ◌∷◌, Option, Some, None, IsSome, ◌⊎◌, option_and_then}
 use Rattle.std.specs.Option.{option_or}
-use Rattle.papergrid_values.specs.Borders.{frame_parts, has_left, has_right, has_top, has_bottom, has_horizontal, has_vertical}
-use Rattle.papergrid_values.specs.Parts.{none_set}
+use Rattle.papergrid_values.specs.Borders.{frame_with, has_left, has_right, has_top, has_bottom, has_horizontal, has_vertical}
 use Rattle.papergrid_values.specs.Positions.{along}
 use Rattle.papergrid_values.specs.declared.direction.Direction.{Direction}
 use Rattle.papergrid_values.specs.declared.direction.Direction.TheVariants.{Columns, Rows}
@@ -11,8 +10,7 @@ use Rattle.papergrid_values.specs.declared.border.Border.{Border}
 use Rattle.papergrid_values.specs.declared.borders.Borders.{Borders}
 use Rattle.papergrid_values.specs.declared.horizontal_line.HorizontalLine.{HorizontalLine}
 use Rattle.papergrid_values.specs.declared.vertical_line.VerticalLine.{VerticalLine}
-use Rattle.papergrid_tables.specs.BorderCalls.{BorderCall, below, right_of, at_horizontal_edge, at_vertical_edge, at_corner, at_horizontal_line, at_vertical_line, at_frame, at_global}
-use Rattle.papergrid_tables.specs.Changes.{last}
+use Rattle.papergrid_tables.specs.BorderCalls.{BorderCall, InsertBorder, RemoveBorder, InsertHorizontalLine, RemoveHorizontalLine, InsertVerticalLine, RemoveVerticalLine, SetBorders, SetGlobal, Clear, below, right_of, is_edge_of, is_corner_of, edge_part, corner_part}
 
 -- the test for the first place, for the last one, or for those between
 abbrev pub at_ends : ℕ → ℕ → Bool → Bool → Bool → Bool
@@ -29,48 +27,51 @@ pub record Places (T : Type 0) : Type 0 where
   pub vertical_edge : Position → Option T
   pub corner : Position → Option T
 
+-- the lines with this one at a number, or with none there
+abbrev pub with_line : {L : Type 0} → ℕ → Option L → (ℕ → Option L) → ℕ → Option L
+with_line n line old k = if n == k then line else old k
+
 module _ {T : Type 0} where
-  -- a frame without parts
-  abbrev pub no_frame : Borders T
-  no_frame = record {
-    top = None;
-    top_left = None;
-    top_right = None;
-    top_intersection = None;
-    bottom = None;
-    bottom_left = None;
-    bottom_right = None;
-    bottom_intersection = None;
-    horizontal = None;
-    vertical = None;
-    intersection = None;
-    left = None;
-    left_intersection = None;
-    right = None;
-    right_intersection = None;
+  -- nothing at any place
+  abbrev pub no_places : Places T
+  no_places = record {
+    global = None;
+    frame = frame_with None;
+    horizontal_line = λ _. None;
+    vertical_line = λ _. None;
+    horizontal_edge = λ _. None;
+    vertical_edge = λ _. None;
+    corner = λ _. None;
   }
+
+  -- what is at each place after a call
+  abbrev pub after_call : BorderCall T → Places T → Places T
+  after_call (InsertBorder cell b) old = record old {
+    horizontal_edge = λ p. option_or (edge_part Rows cell b p) (old.horizontal_edge p);
+    vertical_edge = λ p. option_or (edge_part Columns cell b p) (old.vertical_edge p);
+    corner = λ p. option_or (corner_part cell b p) (old.corner p);
+  }
+  after_call (RemoveBorder cell) old = record old {
+    horizontal_edge = λ p. if is_edge_of Rows cell p then None else old.horizontal_edge p;
+    vertical_edge = λ p. if is_edge_of Columns cell p then None else old.vertical_edge p;
+    corner = λ p. if is_corner_of cell p then None else old.corner p;
+  }
+  after_call (InsertHorizontalLine n line) old =
+      record old { horizontal_line = with_line n (Some line) old.horizontal_line }
+  after_call (RemoveHorizontalLine n) old =
+      record old { horizontal_line = with_line n None old.horizontal_line }
+  after_call (InsertVerticalLine n line) old =
+      record old { vertical_line = with_line n (Some line) old.vertical_line }
+  after_call (RemoveVerticalLine n) old =
+      record old { vertical_line = with_line n None old.vertical_line }
+  after_call (SetBorders frame) old = record old { frame = frame }
+  after_call (SetGlobal v) old = record old { global = Some v }
+  after_call Clear old = no_places
 
   -- what the calls leave at each place; the newest call first
   abbrev pub places_from : List (BorderCall T) → Places T
-  places_from calls = record {
-    global = last at_global calls;
-    frame = unwrap_or (last at_frame calls) no_frame;
-    horizontal_line = λ n. last (at_horizontal_line n) calls;
-    vertical_line = λ n. last (at_vertical_line n) calls;
-    horizontal_edge = λ p. last (at_horizontal_edge p) calls;
-    vertical_edge = λ p. last (at_vertical_edge p) calls;
-    corner = λ p. last (at_corner p) calls;
-  }
-
-  -- no value, no part of the frame and no line is there
-  pub record IsBare (places : Places T) : Type 0 where
-    pub global : places.global ≡ None
-    pub frame : none_set (frame_parts places.frame) ≡ true
-    pub horizontal_line : (n : ℕ) → places.horizontal_line n ≡ None
-    pub vertical_line : (n : ℕ) → places.vertical_line n ≡ None
-    pub horizontal_edge : (p : Position) → places.horizontal_edge p ≡ None
-    pub vertical_edge : (p : Position) → places.vertical_edge p ≡ None
-    pub corner : (p : Position) → places.corner p ≡ None
+  places_from [] = no_places
+  places_from (call ∷ older) = after_call call (places_from older)
 
   -- ---- what is found: the first that is set
 
@@ -163,34 +164,28 @@ module _ {T : Type 0} where
   abbrev pub StandsOn : Direction → ℕ → (Position → Option T) → Type 0
   StandsOn direction n held = (p : Position) × (along direction p ≡ n) × IsSome (held p)
 
-  -- the vertical line c of count has an end of a horizontal line, a line, an edge or a corner
-  abbrev pub IsVerticalSet : Places T → ℕ → ℕ → Type 0
-  IsVerticalSet places c count =
-      EndsThere places.horizontal_line (λ line. line.left) (λ line. line.right) c count
-      ⊎ IsSome (places.vertical_line c)
-      ⊎ StandsOn Columns c places.vertical_edge ⊎ StandsOn Columns c places.corner
+  -- the line n of a direction has an end of a line across, a line, an edge or a corner
+  abbrev pub IsSet : Direction → Places T → ℕ → ℕ → Type 0
+  IsSet Columns places n count =
+      EndsThere places.horizontal_line (λ line. line.left) (λ line. line.right) n count
+      ⊎ IsSome (places.vertical_line n)
+      ⊎ StandsOn Columns n places.vertical_edge ⊎ StandsOn Columns n places.corner
+  IsSet Rows places n count =
+      EndsThere places.vertical_line (λ line. line.top) (λ line. line.bottom) n count
+      ⊎ IsSome (places.horizontal_line n)
+      ⊎ StandsOn Rows n places.horizontal_edge ⊎ StandsOn Rows n places.corner
 
-  -- the horizontal line r of count has an end of a vertical line, a line, an edge or a corner
-  abbrev pub IsHorizontalSet : Places T → ℕ → ℕ → Type 0
-  IsHorizontalSet places r count =
-      EndsThere places.vertical_line (λ line. line.top) (λ line. line.bottom) r count
-      ⊎ IsSome (places.horizontal_line r)
-      ⊎ StandsOn Rows r places.horizontal_edge ⊎ StandsOn Rows r places.corner
-
-  -- the frame has a part for the vertical line c of count, or for the horizontal line r of count
-  abbrev pub in_frame_vertical : Borders T → ℕ → ℕ → Bool
-  in_frame_vertical frame c count = at_ends c count (has_left frame) (has_right frame) (has_vertical frame)
-
-  -- the same of the horizontal line r of count
-  abbrev pub in_frame_horizontal : Borders T → ℕ → ℕ → Bool
-  in_frame_horizontal frame r count = at_ends r count (has_top frame) (has_bottom frame) (has_horizontal frame)
+  -- whether the frame has a part for the line n of a direction
+  abbrev pub in_frame : Direction → Borders T → ℕ → ℕ → Bool
+  in_frame Columns f n count = at_ends n count (has_left f) (has_right f) (has_vertical f)
+  in_frame Rows f n count = at_ends n count (has_top f) (has_bottom f) (has_horizontal f)
 
   -- there is a vertical line c of count: the global value, the frame, or one of the above
   abbrev pub HasVertical : Places T → ℕ → ℕ → Type 0
   HasVertical places c count =
-      IsSome places.global ⊎ (in_frame_vertical places.frame c count ≡ true) ⊎ IsVerticalSet places c count
+      IsSome places.global ⊎ (in_frame Columns places.frame c count ≡ true) ⊎ IsSet Columns places c count
 
   -- there is a horizontal line r of count, likewise
   abbrev pub HasHorizontal : Places T → ℕ → ℕ → Type 0
   HasHorizontal places r count =
-      IsSome places.global ⊎ (in_frame_horizontal places.frame r count ≡ true) ⊎ IsHorizontalSet places r count
+      IsSome places.global ⊎ (in_frame Rows places.frame r count ≡ true) ⊎ IsSet Rows places r count

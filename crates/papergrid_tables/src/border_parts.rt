@@ -1,14 +1,12 @@
 //! Steps on the maps of a `BorderTable`.
 
-ghost use Rattle.std.specs.Prelude.{◌≡◌, ◌+◌, ◌<◌, ◌^◌, ◌||◌, OnOk, None, if◌then◌else◌, is_some, nat_eq, nat_lt, option_copied, option_and_then};
-ghost use Rattle.std.specs.Option.{option_or};
+ghost use Rattle.std.specs.Prelude.{◌≡◌, ◌+◌, ◌<◌, ◌^◌, ◌||◌, OnOk, nat_eq, option_copied, option_and_then};
 ghost use Rattle.std.specs.HashMap.{get as map_get};
 ghost use Rattle.papergrid_values.specs.declared.direction.Direction.TheVariants.{Columns, Rows};
-ghost use Rattle.papergrid_values.specs.declared.position.Position.{Position};
-ghost use Rattle.papergrid_tables.specs.BorderCalls.{below, right_of, horizontal_part, vertical_part, corner_part};
+ghost use Rattle.papergrid_tables.specs.BorderCalls.{below, right_of, is_edge_of, is_corner_of, edge_part, corner_part};
 ghost use Rattle.papergrid_tables.specs.ForProofs.CountedPlaces.{AreCornersCounted, AreEdgesCounted, HasCornerRoom, HasEdgeRoom};
 ghost use Rattle.papergrid_tables.specs.ForProofs.CountedLines.{is_held, reaches};
-ghost use Rattle.papergrid_keys.specs.Keys.{position_eq};
+ghost use Rattle.papergrid_tables.specs.ForProofs.Maps.{Gains, HoldsAsBefore, Loses};
 ghost use Rattle.papergrid_tables.specs.Places as places;
 
 use crate::counted_lines::Lines;
@@ -21,7 +19,8 @@ use std::collections::HashMap;
 
 /// The main part of the vertical line at a column.
 pub(crate) fn vertical_main<T>(lines: &HashMap<usize, VerticalLine<T>>, col: usize) -> Option<&T>
-    ensures { option_copied result ≡ option_and_then (λ line. line.main) (map_get nat_eq lines.now col) }
+    ensures { option_copied result
+        ≡ option_and_then (λ line. line.main) (map_get nat_eq lines.now col) }
 {
     lines.get(&col)?.main.as_ref()
 }
@@ -31,14 +30,16 @@ pub(crate) fn horizontal_main<T>(
     lines: &HashMap<usize, HorizontalLine<T>>,
     row: usize,
 ) -> Option<&T>
-    ensures { option_copied result ≡ option_and_then (λ line. line.main) (map_get nat_eq lines.now row) }
+    ensures { option_copied result
+        ≡ option_and_then (λ line. line.main) (map_get nat_eq lines.now row) }
 {
     lines.get(&row)?.main.as_ref()
 }
 
 /// The part of a row's line where a column crosses it, in a table of so many columns.
 pub(crate) fn row_part<T>(line: Option<&HorizontalLine<T>>, col: usize, cols: usize) -> Option<&T>
-    ensures { option_copied result ≡ option_and_then (places.of_horizontal_line col cols) (option_copied line.entry) }
+    ensures { option_copied result
+        ≡ option_and_then (places.of_horizontal_line col cols) (option_copied line.entry) }
 {
     let line = line?;
     crossed(col, cols, &line.left, &line.right, &line.intersection)
@@ -46,7 +47,8 @@ pub(crate) fn row_part<T>(line: Option<&HorizontalLine<T>>, col: usize, cols: us
 
 /// The part of a column's line where a row crosses it, in a table of so many rows.
 pub(crate) fn column_part<T>(line: Option<&VerticalLine<T>>, row: usize, rows: usize) -> Option<&T>
-    ensures { option_copied result ≡ option_and_then (places.of_vertical_line row rows) (option_copied line.entry) }
+    ensures { option_copied result
+        ≡ option_and_then (places.of_vertical_line row rows) (option_copied line.entry) }
 {
     let line = line?;
     crossed(row, rows, &line.top, &line.bottom, &line.intersection)
@@ -127,7 +129,7 @@ pub(crate) fn of_frame<T>(frame: &Borders<T>, pos: Position, shape: (usize, usiz
 
 /// Whether the frame has a part for the vertical line at a column.
 pub(crate) fn in_frame_vertical<T>(frame: &Borders<T>, col: usize, count: usize) -> bool
-    ensures { result ≡ places.in_frame_vertical frame.now col count }
+    ensures { result ≡ places.in_frame Columns frame.now col count }
 {
     if 0 < col && col < count {
         return frame.has_vertical();
@@ -137,7 +139,7 @@ pub(crate) fn in_frame_vertical<T>(frame: &Borders<T>, col: usize, count: usize)
 
 /// Whether the frame has a part for the horizontal line at a row.
 pub(crate) fn in_frame_horizontal<T>(frame: &Borders<T>, row: usize, count: usize) -> bool
-    ensures { result ≡ places.in_frame_horizontal frame.now row count }
+    ensures { result ≡ places.in_frame Rows frame.now row count }
 {
     if 0 < row && row < count {
         return frame.has_horizontal();
@@ -153,7 +155,8 @@ pub(crate) fn is_set_at<A, L>(
     lines: (&Lines<A>, &Lines<L>),
     counts: (&LineCounts, &LineCounts),
 ) -> bool
-    ensures { result ≡ (reaches place.0 place.1 lines.entry.0.now || is_held lines.entry.1.now.values counts.entry.0.now counts.entry.1.now place.0) }
+    ensures { result ≡ (reaches place.0 place.1 lines.entry.0.now
+        || is_held lines.entry.1.now.values counts.entry.0.now counts.entry.1.now place.0) }
 {
     lines.0.reach(place.0, place.1) || is_held_at(place.0, &lines.1.values, counts)
 }
@@ -199,11 +202,13 @@ pub(crate) fn reserve<T>(
     vertical: &mut Edges<T>,
     corners: &mut Corners<T>,
 ) -> Result<(), AllocError>
-    ensures same_horizontal { (q : Position) → map_get position_eq horizontal.new.values q ≡ map_get position_eq horizontal.old.values q }
-    ensures same_vertical { (q : Position) → map_get position_eq vertical.new.values q ≡ map_get position_eq vertical.old.values q }
-    ensures same_corners { (q : Position) → map_get position_eq corners.new.values q ≡ map_get position_eq corners.old.values q }
-    ensures counted_horizontal { AreEdgesCounted Rows horizontal.old → AreEdgesCounted Rows horizontal.new }
-    ensures counted_vertical { AreEdgesCounted Columns vertical.old → AreEdgesCounted Columns vertical.new }
+    ensures same_horizontal { HoldsAsBefore horizontal.old.values horizontal.new.values }
+    ensures same_vertical { HoldsAsBefore vertical.old.values vertical.new.values }
+    ensures same_corners { HoldsAsBefore corners.old.values corners.new.values }
+    ensures counted_horizontal { AreEdgesCounted Rows horizontal.old →
+        AreEdgesCounted Rows horizontal.new }
+    ensures counted_vertical { AreEdgesCounted Columns vertical.old →
+        AreEdgesCounted Columns vertical.new }
     ensures counted_corners { AreCornersCounted corners.old → AreCornersCounted corners.new }
     ensures room_horizontal { OnOk result (HasEdgeRoom 2 horizontal.new) }
     ensures room_vertical { OnOk result (HasEdgeRoom 2 vertical.new) }
@@ -230,9 +235,11 @@ pub(crate) fn put_border<T: Drop>(
     requires counted_horizontal { AreEdgesCounted Rows horizontal.old }
     requires counted_vertical { AreEdgesCounted Columns vertical.old }
     requires counted_corners { AreCornersCounted corners.old }
-    ensures horizontal { (q : Position) → map_get position_eq horizontal.new.values q ≡ option_or (horizontal_part pos border q) (map_get position_eq horizontal.old.values q) }
-    ensures vertical { (q : Position) → map_get position_eq vertical.new.values q ≡ option_or (vertical_part pos border q) (map_get position_eq vertical.old.values q) }
-    ensures corners { (q : Position) → map_get position_eq corners.new.values q ≡ option_or (corner_part pos border q) (map_get position_eq corners.old.values q) }
+    ensures horizontal { Gains (edge_part Rows pos border)
+        horizontal.old.values horizontal.new.values }
+    ensures vertical { Gains (edge_part Columns pos border)
+        vertical.old.values vertical.new.values }
+    ensures corners { Gains (corner_part pos border) corners.old.values corners.new.values }
     ensures counted_horizontal { AreEdgesCounted Rows horizontal.new }
     ensures counted_vertical { AreEdgesCounted Columns vertical.new }
     ensures counted_corners { AreCornersCounted corners.new }
@@ -260,11 +267,9 @@ pub(crate) fn take_border<T: Drop>(
     requires counted_horizontal { AreEdgesCounted Rows horizontal.old }
     requires counted_vertical { AreEdgesCounted Columns vertical.old }
     requires counted_corners { AreCornersCounted corners.old }
-    ensures horizontal { (q : Position) → map_get position_eq horizontal.new.values q ≡ (if position_eq pos q || position_eq (below pos) q then None else map_get position_eq horizontal.old.values q) }
-    ensures vertical { (q : Position) → map_get position_eq vertical.new.values q ≡ (if position_eq pos q || position_eq (right_of pos) q then None else map_get position_eq vertical.old.values q) }
-    ensures corners { (q : Position) → map_get position_eq corners.new.values q ≡
-        (if (position_eq pos q || position_eq (right_of pos) q) || (position_eq (below pos) q || position_eq (below (right_of pos)) q) then None
-        else map_get position_eq corners.old.values q) }
+    ensures horizontal { Loses (is_edge_of Rows pos) horizontal.old.values horizontal.new.values }
+    ensures vertical { Loses (is_edge_of Columns pos) vertical.old.values vertical.new.values }
+    ensures corners { Loses (is_corner_of pos) corners.old.values corners.new.values }
     ensures counted_horizontal { AreEdgesCounted Rows horizontal.new }
     ensures counted_vertical { AreEdgesCounted Columns vertical.new }
     ensures counted_corners { AreCornersCounted corners.new }

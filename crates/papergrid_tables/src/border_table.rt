@@ -6,11 +6,12 @@ ghost use Rattle.std.specs.Option.{option_or};
 ghost use Rattle.std.specs.FinMap.{get as value_at};
 ghost use Rattle.papergrid_keys.specs.Told.{Appends};
 ghost use Rattle.papergrid_values.specs.Borders.{border_map};
+ghost use Rattle.papergrid_values.specs.declared.direction.Direction.TheVariants.{Columns, Rows};
 ghost use Rattle.papergrid_tables.specs.BorderCalls.{BorderCall, Clear, InsertBorder, RemoveBorder, InsertHorizontalLine, RemoveHorizontalLine, InsertVerticalLine, RemoveVerticalLine, SetBorders, SetGlobal};
 ghost use Rattle.papergrid_tables.specs.BorderHeld.{IsTold, places_of};
 ghost use Rattle.papergrid_keys.specs.Keys.{position_eq};
 ghost use Rattle.papergrid_tables.specs.LineTests.{horizontal_line_at, vertical_line_at};
-ghost use Rattle.papergrid_tables.specs.Places.{IsBare, HasHorizontal, HasVertical, IsHorizontalSet, IsVerticalSet, found_border, found_horizontal, found_intersection, found_vertical};
+ghost use Rattle.papergrid_tables.specs.Places.{HasHorizontal, HasVertical, IsSet, found_border, found_horizontal, found_intersection, found_vertical};
 
 use crate::border_parts as parts;
 use crate::counted_lines::Lines;
@@ -55,7 +56,8 @@ impl<T> Model for BorderTable<T> {
 
     ghost use Rattle.papergrid_tables.specs.ForProofs.CountedTable.{IsCounted};
 
-    ghost invariant = { λ t. IsCounted t.horizontal_lines t.vertical_lines t.horizontal_edges t.vertical_edges t.corners };
+    ghost invariant = { λ t.
+        IsCounted t.horizontal_lines t.vertical_lines t.horizontal_edges t.vertical_edges t.corners };
 }
 
 impl<T> BorderTable<T> {
@@ -78,7 +80,7 @@ impl<T> BorderTable<T> {
     /// Whether there is no value for all lines, no part of the frame is set, and no edge, corner
     /// or line is held. A line with no part set is one that is held.
     pub fn is_empty(&self) -> bool
-        ensures { IsTrue result ↔ IsBare (places_of self.now) }
+        ensures { IsTrue result ↔ IsTold [] self.now }
     {
         let global = self.global.is_none();
         let frame = self.frame.is_empty();
@@ -120,7 +122,9 @@ impl<T> BorderTable<T> {
         line: Option<&'a T>,
         frame: Option<&'a T>,
     ) -> Option<&'a T>
-        ensures { option_copied result ≡ option_or (map_get position_eq edges.now.values pos) (option_or (option_copied line.entry) (option_or (option_copied frame.entry) self.now.global)) }
+        ensures { option_copied result ≡ option_or (map_get position_eq edges.now.values pos)
+            (option_or (option_copied line.entry)
+            (option_or (option_copied frame.entry) self.now.global)) }
     {
         let edge = edges.values.get(&pos);
         edge.or(line).or(frame).or(self.global.as_ref())
@@ -130,7 +134,8 @@ impl<T> BorderTable<T> {
     /// horizontal line's part, the vertical line's, the frame's or the value for all lines,
     /// whichever is the first set.
     pub fn get_intersection(&self, pos: Position, shape: (usize, usize)) -> Option<&T>
-        ensures { option_copied result ≡ found_intersection (places_of self.now) pos shape.0 shape.1 }
+        ensures { option_copied result
+            ≡ found_intersection (places_of self.now) pos shape.0 shape.1 }
     {
         self.corners
             .values
@@ -146,7 +151,8 @@ impl<T> BorderTable<T> {
     pub fn get_border(&self, pos: Position, shape: (usize, usize)) -> Border<&T>
         requires row { pos.row + 1 < 2 ^ 64 }
         requires col { pos.col + 1 < 2 ^ 64 }
-        ensures { border_map (λ part. part.now) result ≡ found_border (places_of self.now) pos shape.0 shape.1 }
+        ensures { border_map (λ part. part.now) result
+            ≡ found_border (places_of self.now) pos shape.0 shape.1 }
     {
         let (rows, cols) = shape;
         let (below, right, opposite) = parts::neighbours(pos);
@@ -213,7 +219,7 @@ impl<T> BorderTable<T> {
     /// Whether a vertical line, an edge or a corner is held at a column, where there are so many
     /// columns, or a horizontal line that ends there has that end set.
     pub fn is_vertical_set(&self, col: usize, count: usize) -> bool
-        ensures { IsTrue result ↔ IsVerticalSet (places_of self.now) col count }
+        ensures { IsTrue result ↔ IsSet Columns (places_of self.now) col count }
     {
         let lines = (&self.horizontal_lines, &self.vertical_lines);
         let counts = (&self.vertical_edges.on_lines, &self.corners.in_columns);
@@ -223,7 +229,7 @@ impl<T> BorderTable<T> {
     /// Whether a horizontal line, an edge or a corner is held at a row, where there are so many
     /// rows, or a vertical line that ends there has that end set.
     pub fn is_horizontal_set(&self, row: usize, count: usize) -> bool
-        ensures { IsTrue result ↔ IsHorizontalSet (places_of self.now) row count }
+        ensures { IsTrue result ↔ IsSet Rows (places_of self.now) row count }
     {
         let lines = (&self.vertical_lines, &self.horizontal_lines);
         let counts = (&self.horizontal_edges.on_lines, &self.corners.in_rows);
@@ -277,7 +283,8 @@ impl<T: Drop> BorderTable<T> {
         row: usize,
         line: HorizontalLine<T>,
     ) -> Result<(), AllocError>
-        ensures ok { OnOk result (Appends IsTold self.old self.new (InsertHorizontalLine row line ∷ [])) }
+        ensures ok { OnOk result
+            (Appends IsTold self.old self.new (InsertHorizontalLine row line ∷ [])) }
         ensures err { OnErr result (self.new ≡ self.old) }
     {
         self.horizontal_lines.put(row, line)
@@ -290,7 +297,8 @@ impl<T: Drop> BorderTable<T> {
         col: usize,
         line: VerticalLine<T>,
     ) -> Result<(), AllocError>
-        ensures ok { OnOk result (Appends IsTold self.old self.new (InsertVerticalLine col line ∷ [])) }
+        ensures ok { OnOk result
+            (Appends IsTold self.old self.new (InsertVerticalLine col line ∷ [])) }
         ensures err { OnErr result (self.new ≡ self.old) }
     {
         self.vertical_lines.put(col, line)
@@ -330,7 +338,8 @@ impl<T: Clone> BorderTable<T> {
     /// it.
     pub fn get_horizontal_lines(&self) -> Result<HashMap<usize, HorizontalLine<T>>, AllocError>
         requires equal_clones { (x y : T) → T.is_clone x y → y ≡ x }
-        ensures { IfOk result (λ all. (n : ℕ) → map_get nat_eq all n ≡ value_at self.now.horizontal_lines n) }
+        ensures { IfOk result (λ all. (n : ℕ) →
+            map_get nat_eq all n ≡ value_at self.now.horizontal_lines n) }
     {
         self.horizontal_lines.all()
     }
@@ -339,7 +348,8 @@ impl<T: Clone> BorderTable<T> {
     /// it.
     pub fn get_vertical_lines(&self) -> Result<HashMap<usize, VerticalLine<T>>, AllocError>
         requires equal_clones { (x y : T) → T.is_clone x y → y ≡ x }
-        ensures { IfOk result (λ all. (n : ℕ) → map_get nat_eq all n ≡ value_at self.now.vertical_lines n) }
+        ensures { IfOk result (λ all. (n : ℕ) →
+            map_get nat_eq all n ≡ value_at self.now.vertical_lines n) }
     {
         self.vertical_lines.all()
     }

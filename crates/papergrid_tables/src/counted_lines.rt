@@ -1,8 +1,9 @@
 //! Lines by number, with how many of them have each end set.
 
-ghost use Rattle.std.specs.Prelude.{◌≡◌, ◌+◌, ◌<◌, ◌≤◌, ◌^◌, ◌==◌, ◌&&◌, ◌||◌, [], ℕ, Bool, Some, None, OnOk, OnErr, IfOk, if◌then◌else◌, is_some, nat_eq, nat_lt, option_copied};
+ghost use Rattle.std.specs.Prelude.{◌≡◌, ◌+◌, ◌<◌, ◌≤◌, ◌^◌, ◌==◌, ◌&&◌, ◌||◌, [], ℕ, Bool, Some, None, OnOk, OnErr, IfOk, is_some, nat_eq, nat_lt, option_copied};
 ghost use Rattle.std.specs.HashMap.{IsUnchanged, Updates, get as map_get};
 ghost use Rattle.papergrid_tables.specs.ForProofs.CountedLines.{AreEndsCounted, is_end_set, reaches};
+ghost use Rattle.papergrid_tables.specs.ForProofs.Counts.{one_if};
 
 use papergrid_values::{HorizontalLine, VerticalLine};
 use std::alloc::{AllocError, Global};
@@ -77,7 +78,8 @@ impl<L> Lines<L> {
     /// No line. It takes no memory.
     pub(crate) fn new(alloc: Global) -> Self
         ensures empty { result.values.entries ≡ [] }
-        ensures counted { (has_first has_last : L → Bool) → AreEndsCounted has_first has_last result }
+        ensures counted { (has_first has_last : L → Bool) →
+            AreEndsCounted has_first has_last result }
     {
         Lines {
             values: HashMap::new(alloc),
@@ -96,12 +98,13 @@ impl<L> Lines<L> {
 
     // Counts the ends of a line in place of those of an old one.
     fn recount(&mut self, old: Ends, new: Ends)
-        requires held_first { (if old.first then 1 else 0) ≤ self.old.first_ends + (if new.first then 1 else 0) }
-        requires held_last { (if old.last then 1 else 0) ≤ self.old.last_ends + (if new.last then 1 else 0) }
+        requires held_first { one_if old.first ≤ self.old.first_ends + one_if new.first }
+        requires held_last { one_if old.last ≤ self.old.last_ends + one_if new.last }
         requires small { (self.old.first_ends + 1 < 2 ^ 64) × (self.old.last_ends + 1 < 2 ^ 64) }
         ensures values { self.new.values ≡ self.old.values }
-        ensures first { self.new.first_ends + (if old.first then 1 else 0) ≡ self.old.first_ends + (if new.first then 1 else 0) }
-        ensures last { self.new.last_ends + (if old.last then 1 else 0) ≡ self.old.last_ends + (if new.last then 1 else 0) }
+        ensures first { self.new.first_ends + one_if old.first
+            ≡ self.old.first_ends + one_if new.first }
+        ensures last { self.new.last_ends + one_if old.last ≡ self.old.last_ends + one_if new.last }
     {
         self.first_ends = replaced(self.first_ends, old.first, new.first);
         self.last_ends = replaced(self.last_ends, old.last, new.last);
@@ -112,7 +115,8 @@ impl<L: Clone> Lines<L> {
     /// All lines, or out of memory. Condition: a clone of a line equals it.
     pub(crate) fn all(&self) -> Result<HashMap<usize, L>, AllocError>
         requires { (x y : L) → L.is_clone x y → y ≡ x }
-        ensures { IfOk result (λ all. (n : ℕ) → map_get nat_eq all n ≡ map_get nat_eq self.now.values n) }
+        ensures { IfOk result (λ all. (n : ℕ) →
+            map_get nat_eq all n ≡ map_get nat_eq self.now.values n) }
     {
         self.values.clone()
     }
@@ -122,7 +126,8 @@ impl<L: Ended + Drop> Lines<L> {
     /// Writes a line, or leaves all as it was where memory is refused.
     pub(crate) fn put(&mut self, number: usize, line: L) -> Result<(), AllocError>
         requires { AreEndsCounted L.has_first L.has_last self.old }
-        ensures ok { OnOk result (Updates nat_eq self.old.values self.new.values number (Some line)) }
+        ensures ok { OnOk result
+            (Updates nat_eq self.old.values self.new.values number (Some line)) }
         ensures err { OnErr result (IsUnchanged self.old.values self.new.values) }
         ensures counted { AreEndsCounted L.has_first L.has_last self.new }
     {
@@ -159,9 +164,9 @@ fn ends_of<L: Ended>(line: Option<&L>) -> Ends
 }
 
 fn replaced(count: usize, old: bool, new: bool) -> usize
-    requires held { (if old then 1 else 0) ≤ count + (if new then 1 else 0) }
+    requires held { one_if old ≤ count + one_if new }
     requires small { count + 1 < 2 ^ 64 }
-    ensures { result + (if old then 1 else 0) ≡ count + (if new then 1 else 0) }
+    ensures { result + one_if old ≡ count + one_if new }
 {
     count + usize::from(new) - usize::from(old)
 }

@@ -1,14 +1,13 @@
 //! Edges and corners by position, with how many of them stand on each line.
 
-ghost use Rattle.std.specs.Prelude.{◌≡◌, ◌+◌, ◌<◌, ◌≤◌, ◌^◌, ◌==◌, ◌&&◌, [], ℕ, None, OnOk, if◌then◌else◌};
-ghost use Rattle.std.specs.Option.{option_or};
-ghost use Rattle.std.specs.HashMap.{spare, keys, get as map_get};
+ghost use Rattle.std.specs.Prelude.{◌≡◌, ◌+◌, ◌<◌, ◌≤◌, ◌^◌, ◌==◌, ◌&&◌, [], ℕ, OnOk};
+ghost use Rattle.std.specs.HashMap.{spare, keys};
 ghost use Rattle.papergrid_values.specs.Positions.{along};
 ghost use Rattle.papergrid_values.specs.declared.direction.Direction.{Direction};
-ghost use Rattle.papergrid_values.specs.declared.position.Position.{Position};
 ghost use Rattle.papergrid_tables.specs.BorderCalls.{at_place};
 ghost use Rattle.papergrid_tables.specs.ForProofs.CountedPlaces.{AreEdgesCounted, AreCornersCounted, HasEdgeRoom, HasCornerRoom};
-ghost use Rattle.papergrid_tables.specs.ForProofs.Counts.{number_on};
+ghost use Rattle.papergrid_tables.specs.ForProofs.Counts.{number_on, one_if};
+ghost use Rattle.papergrid_tables.specs.ForProofs.Maps.{Gains, HoldsAsBefore, Loses};
 ghost use Rattle.papergrid_keys.specs.Keys.{position_eq};
 
 use crate::line_counts::LineCounts;
@@ -45,8 +44,9 @@ impl<T> Edges<T> {
 
     /// Makes room for so many more edges.
     pub(crate) fn reserve(&mut self, additional: usize) -> Result<(), AllocError>
-        ensures same { (q : Position) → map_get position_eq self.new.values q ≡ map_get position_eq self.old.values q }
-        ensures counted { (direction : Direction) → AreEdgesCounted direction self.old → AreEdgesCounted direction self.new }
+        ensures same { HoldsAsBefore self.old.values self.new.values }
+        ensures counted { (direction : Direction) →
+            AreEdgesCounted direction self.old → AreEdgesCounted direction self.new }
         ensures room { OnOk result (HasEdgeRoom additional self.new) }
     {
         self.values.reserve(additional)?;
@@ -59,7 +59,7 @@ impl<T: Drop> Edges<T> {
     pub(crate) fn put(&mut self, direction: Direction, place: Position, part: Option<T>)
         requires room { HasEdgeRoom 1 self.old }
         requires counted { AreEdgesCounted direction self.old }
-        ensures written { (q : Position) → map_get position_eq self.new.values q ≡ option_or (at_place place q part) (map_get position_eq self.old.values q) }
+        ensures written { Gains (λ q. at_place place q part) self.old.values self.new.values }
         ensures room { (n : ℕ) → HasEdgeRoom (n + 1) self.old → HasEdgeRoom n self.new }
         ensures counted { AreEdgesCounted direction self.new }
     {
@@ -71,7 +71,7 @@ impl<T: Drop> Edges<T> {
     /// Drops an edge. The counts are those along the direction.
     pub(crate) fn take(&mut self, direction: Direction, place: Position)
         requires { AreEdgesCounted direction self.old }
-        ensures taken { (q : Position) → map_get position_eq self.new.values q ≡ (if position_eq place q then None else map_get position_eq self.old.values q) }
+        ensures taken { Loses (position_eq place) self.old.values self.new.values }
         ensures counted { AreEdgesCounted direction self.new }
     {
         if take_part(&mut self.values, place) {
@@ -95,7 +95,7 @@ impl<T> Corners<T> {
 
     /// Makes room for so many more corners.
     pub(crate) fn reserve(&mut self, additional: usize) -> Result<(), AllocError>
-        ensures same { (q : Position) → map_get position_eq self.new.values q ≡ map_get position_eq self.old.values q }
+        ensures same { HoldsAsBefore self.old.values self.new.values }
         ensures counted { AreCornersCounted self.old → AreCornersCounted self.new }
         ensures room { OnOk result (HasCornerRoom additional self.new) }
     {
@@ -110,7 +110,7 @@ impl<T: Drop> Corners<T> {
     pub(crate) fn put(&mut self, place: Position, part: Option<T>)
         requires room { HasCornerRoom 1 self.old }
         requires counted { AreCornersCounted self.old }
-        ensures written { (q : Position) → map_get position_eq self.new.values q ≡ option_or (at_place place q part) (map_get position_eq self.old.values q) }
+        ensures written { Gains (λ q. at_place place q part) self.old.values self.new.values }
         ensures room { (n : ℕ) → HasCornerRoom (n + 1) self.old → HasCornerRoom n self.new }
         ensures counted { AreCornersCounted self.new }
     {
@@ -123,7 +123,7 @@ impl<T: Drop> Corners<T> {
     /// Drops a corner.
     pub(crate) fn take(&mut self, place: Position)
         requires { AreCornersCounted self.old }
-        ensures taken { (q : Position) → map_get position_eq self.new.values q ≡ (if position_eq place q then None else map_get position_eq self.old.values q) }
+        ensures taken { Loses (position_eq place) self.old.values self.new.values }
         ensures counted { AreCornersCounted self.new }
     {
         if take_part(&mut self.values, place) {
@@ -136,11 +136,12 @@ impl<T: Drop> Corners<T> {
 // Writes a part if it is set, where there is room, and tells whether its place had none.
 fn put_part<T: Drop>(map: &mut HashMap<Position, T>, place: Position, part: Option<T>) -> bool
     requires room { 0 < spare map.old }
-    ensures written { (q : Position) → map_get position_eq map.new q ≡ option_or (at_place place q part) (map_get position_eq map.old q) }
+    ensures written { Gains (λ q. at_place place q part) map.old map.new }
     ensures spare { spare map.old ≤ spare map.new + 1 }
-    ensures more { (direction : Direction) (n : ℕ) → number_on direction n (keys map.new) ≡
-        number_on direction n (keys map.old) + (if result && along direction place == n then 1 else 0) }
-    ensures fits { (direction : Direction) (n : ℕ) → number_on direction n (keys map.old) + 1 < 2 ^ 64 }
+    ensures more { (direction : Direction) (n : ℕ) → number_on direction n (keys map.new)
+        ≡ number_on direction n (keys map.old) + one_if (result && along direction place == n) }
+    ensures fits { (direction : Direction) (n : ℕ) →
+        number_on direction n (keys map.old) + 1 < 2 ^ 64 }
 {
     // No count is greater than the length, which is told here.
     let _ = map.len();
@@ -155,9 +156,10 @@ fn put_part<T: Drop>(map: &mut HashMap<Position, T>, place: Position, part: Opti
 
 // Drops a part, and tells whether there was one.
 fn take_part<T: Drop>(map: &mut HashMap<Position, T>, place: Position) -> bool
-    ensures taken { (q : Position) → map_get position_eq map.new q ≡ (if position_eq place q then None else map_get position_eq map.old q) }
-    ensures less { (direction : Direction) (n : ℕ) → number_on direction n (keys map.new) + (if result && along direction place == n then 1 else 0) ≡
-        number_on direction n (keys map.old) }
+    ensures taken { Loses (position_eq place) map.old map.new }
+    ensures less { (direction : Direction) (n : ℕ) →
+        number_on direction n (keys map.new) + one_if (result && along direction place == n)
+        ≡ number_on direction n (keys map.old) }
 {
     map.remove(&place).is_some()
 }

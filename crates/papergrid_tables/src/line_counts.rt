@@ -1,8 +1,8 @@
 //! Counts by the number of a line.
 
-ghost use Rattle.std.specs.Prelude.{◌≡◌, ◌↔◌, ◌+◌, ◌<◌, ◌≤◌, ◌^◌, ◌==◌, ℕ, IsTrue, OnOk, if◌then◌else◌, length, nat_lt};
+ghost use Rattle.std.specs.Prelude.{◌≡◌, ◌↔◌, ◌+◌, ◌<◌, ◌≤◌, ◌^◌, ◌==◌, ℕ, IsTrue, OnOk, length, nat_lt};
 ghost use Rattle.std.specs.HashMap.{spare};
-ghost use Rattle.papergrid_tables.specs.ForProofs.Counts.{count_of};
+ghost use Rattle.papergrid_tables.specs.ForProofs.Counts.{count_of, one_if};
 
 use papergrid_keys::hashed::{look_up, put};
 use std::alloc::{AllocError, Global};
@@ -36,7 +36,8 @@ impl LineCounts {
     pub(crate) fn add(&mut self, line: usize)
         requires room { 0 < spare self.old.counts }
         requires small { count_of self.old.counts line + 1 < 2 ^ 64 }
-        ensures one_more { (n : ℕ) → count_of self.new.counts n ≡ count_of self.old.counts n + (if line == n then 1 else 0) }
+        ensures one_more { (n : ℕ) →
+            count_of self.new.counts n ≡ count_of self.old.counts n + one_if (line == n) }
         ensures spare { spare self.old.counts ≤ spare self.new.counts + 1 }
     {
         let held = self.counts.get(&line).copied().unwrap_or(0);
@@ -46,7 +47,8 @@ impl LineCounts {
     /// One less on a line. Condition: there is one.
     pub(crate) fn remove(&mut self, line: usize)
         requires { 0 < count_of self.old.counts line }
-        ensures { (n : ℕ) → count_of self.new.counts n + (if line == n then 1 else 0) ≡ count_of self.old.counts n }
+        ensures { (n : ℕ) →
+            count_of self.new.counts n + one_if (line == n) ≡ count_of self.old.counts n }
     {
         if let Some(held) = self.counts.get_mut(&line) {
             *held -= 1;

@@ -4,10 +4,10 @@ ghost use Rattle.std.specs.Prelude.{◌≡◌, ◌∷◌, [], ◌↔◌, Some, N
 ghost use Rattle.std.specs.HashMap.{get as map_get};
 ghost use Rattle.papergrid_keys.specs.Told.{Appends};
 ghost use Rattle.papergrid_values.specs.declared.offset.Offset.{Offset};
-ghost use Rattle.papergrid_values.specs.declared.position.Position.{Position};
 ghost use Rattle.papergrid_keys.specs.Keys.{position_eq};
+ghost use Rattle.papergrid_tables.specs.ForProofs.Maps.{HoldsAsBefore};
 ghost use Rattle.papergrid_tables.specs.ForProofs.OverrideScan.{AfterSet, AreSet};
-ghost use Rattle.papergrid_tables.specs.Overrides.{IsClear, IsOverridden, IsTold, RemoveAll, RemoveAt, SetAt, at_offset, found_override, is_same_offset, override_at};
+ghost use Rattle.papergrid_tables.specs.Overrides.{IsOverridden, IsTold, RemoveAll, RemoveAt, SetAt, at_offset, found_override, is_same_offset, override_at};
 
 use papergrid_keys::hashed::{remove, write};
 use papergrid_values::{Offset, Position};
@@ -38,7 +38,10 @@ impl<T> Model for Overrides<T> {
 
     ghost coded = { offsets_code T.code };
 
-    ghost view = { λ s. record { from_start = map.from_entries s.from_start.entries; from_end = map.from_entries s.from_end.entries } };
+    ghost view = { λ s. record {
+      from_start = map.from_entries s.from_start.entries;
+      from_end = map.from_entries s.from_end.entries;
+    } };
 }
 
 impl<T> Model for OffsetTable<T> {
@@ -69,7 +72,8 @@ impl<T> Overrides<T> {
     fn set(&mut self, offset: Offset, value: T) -> Result<(), AllocError>
     where
         T: Drop,
-        ensures ok { OnOk result ((o : Offset) → at_offset self.new o ≡ (if is_same_offset offset o then Some value else at_offset self.old o)) }
+        ensures ok { OnOk result ((o : Offset) → at_offset self.new o
+            ≡ (if is_same_offset offset o then Some value else at_offset self.old o)) }
         ensures err { OnErr result (self.new ≡ self.old) }
     {
         match offset {
@@ -119,7 +123,7 @@ impl<T> OffsetTable<T> {
 
     /// Whether no value is held.
     pub fn is_empty(&self) -> bool
-        ensures { IsTrue result ↔ IsClear self.now }
+        ensures { IsTrue result ↔ IsTold [] self.now }
     {
         self.overrides.is_empty()
     }
@@ -176,7 +180,7 @@ impl<T: Clone> Clone for OffsetTable<T> {
 }
 
 impl<T: PartialEq> PartialEq for Overrides<T> {
-    ghost use Rattle.papergrid_tables.specs.OffsetEq.{offsets_eq, offsets_eq_laws};
+    ghost use Rattle.papergrid_tables.specs.ForProofs.OffsetEq.{offsets_eq, offsets_eq_laws};
 
     ghost eq = { offsets_eq T.eq };
 
@@ -190,7 +194,7 @@ impl<T: PartialEq> PartialEq for Overrides<T> {
 }
 
 impl<T: PartialEq> PartialEq for OffsetTable<T> {
-    ghost use Rattle.papergrid_tables.specs.OffsetEq.{overrides_eq, overrides_eq_laws};
+    ghost use Rattle.papergrid_tables.specs.ForProofs.OffsetEq.{overrides_eq, overrides_eq_laws};
 
     ghost eq = { overrides_eq T.eq };
 
@@ -209,8 +213,9 @@ fn set_override<T: Drop>(
     offset: Offset,
     value: T,
 ) -> Result<(), AllocError>
-    ensures ok { OnOk result (AfterSet pos offset value (map_get position_eq overrides.old) (map_get position_eq overrides.new)) }
-    ensures err { OnErr result ((p : Position) → map_get position_eq overrides.new p ≡ map_get position_eq overrides.old p) }
+    ensures ok { OnOk result (AfterSet pos offset value
+        (map_get position_eq overrides.old) (map_get position_eq overrides.new)) }
+    ensures err { OnErr result (HoldsAsBefore overrides.old overrides.new) }
 {
     if let Some(held) = overrides.get_mut(&pos) {
         return held.set(offset, value);
@@ -222,7 +227,8 @@ fn set_override<T: Drop>(
 
 // The value at an offset from the start of an end, counted from that end.
 fn mirrored<T>(from_end: &HashMap<usize, T>, offset: usize, end: usize) -> Option<&T>
-    ensures { option_copied result ≡ (if nat_lt offset end then map_get nat_eq from_end.now (end - offset - 1) else None) }
+    ensures { option_copied result
+        ≡ (if nat_lt offset end then map_get nat_eq from_end.now (end - offset - 1) else None) }
 {
     if offset < end {
         from_end.get(&(end - offset - 1))

@@ -1,12 +1,12 @@
 -- The lines of a text.
-use Rattle.std.proofs.Common.{◌≡◌, ◌≢◌, ℕ, ◌<◌, List, [], ◌∷◌, ◌++◌, length, refl, ap, sym, ◌∙◌, arith, true, false, Bool, cond}
+use Rattle.std.proofs.Common.{◌≡◌, ◌≢◌, ℕ, ◌<◌, List, [], ◌∷◌, length, refl, ap, sym, ◌∙◌, arith, true, false, Bool, cond}
 use Rattle.std.specs.Prelude.{◌==◌}
 use Rattle.std.specs.List.{join_with_byte, position_or_len, before_first, after_first, onto_first, All}
 use Rattle.std.proofs.lemmas.List.Elements.{All-nil, All-cons, All-head, All-tail}
 use Rattle.std.proofs.lemmas.List.Splits.{slice_split_first, slice_split_none, slice_split_at, length-slice_split, join_with_byte-slice_split}
 use Rattle.std.proofs.lemmas.List.Sums.{fails_before_first}
 use Rattle.std.proofs.lemmas.Bool.{eqb-false, ne_eqb}
-use Rattle.papergrid_text.specs.Text.{HasNoNewline, HasOneSplit, IsLines, split_lines}
+use Rattle.papergrid_text.specs.Text.{HasNoNewline, IsLines, split_lines}
 
 -- ---- the first line
 
@@ -47,11 +47,7 @@ is_split text = record {
   joined = join_with_byte-slice_split 10 text;
 }
 
-pub one_split : (text : List ℕ) → HasOneSplit text
-one_split text = record {
-  is_split = is_split text;
-  is_only = λ parts is. sym (split_of_join parts is.some is.plain) ∙ ap split_lines is.joined;
-  count = length-slice_split (λ b. b == 10) text;
-}
+pub only_split : (text : List ℕ) (parts : List (List ℕ)) → IsLines text parts → parts ≡ split_lines text
+only_split text parts is = sym (split_of_join parts is.some is.plain) ∙ ap split_lines is.joined
 
 -- ---- what an iterator that shows its list gives

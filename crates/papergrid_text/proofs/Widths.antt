@@ -9,7 +9,7 @@ use Rattle.std.proofs.lemmas.List.Splits.{join_with_byte-slice_split}
 use Rattle.std.proofs.lemmas.Str.{chars-nil}
 use Rattle.std.proofs.Math.Dec.{eqb-suc-zero}
 use Rattle.unicode_width.specs.Width.{str_width}
-use Rattle.papergrid_text.specs.Text.{HasNoCrLf, HasSameDimension, greatest_width, width_of, split_lines, kept_by_new, with_width}
+use Rattle.papergrid_text.specs.Text.{HasNoCrLf, greatest_width, width_of, split_lines, text_dimension, text_width, kept_by_new, with_width}
 use Rattle.papergrid_text.specs.Kept.{answered_lines}
 use Rattle.papergrid_text.proofs.Splits.{is_split}
 
@@ -78,7 +78,7 @@ same_widths (x ∷ y ∷ more) h =
     let others = same_widths (y ∷ more) (no_crlf_tail (10 ∷ []) rest (no_crlf_tail x (10 ∷ rest) h)) in
     omega arith
 
-pub same_dimension : (text : List ℕ) → HasSameDimension text
+pub same_dimension : (text : List ℕ) → HasNoCrLf text → text_dimension text ≡ (length (split_lines text), text_width text)
 same_dimension text h =
     let same = same_widths (split_lines text) (subst HasNoCrLf (sym (join_with_byte-slice_split 10 text)) h) in
     ap (λ w. (length (split_lines text), w)) (sym same)

@@ -1,6 +1,7 @@
 -- The rows that records hold.
-use Rattle.std.specs.Prelude.{◌≡◌, ℕ, List, [], ◌∷◌, length, map, Vec, Option, Some, None, slice_get, MatchOption}
+use Rattle.std.specs.Prelude.{◌≡◌, ℕ, List, [], ◌∷◌, length, map, Vec, Option, Some, None, option_and_then, slice_get, MatchOption}
 use Rattle.std.specs.Str.Lines.{lines as std_lines}
+use Rattle.papergrid_values.specs.declared.position.Position.{Position}
 use Rattle.papergrid_text.specs.Text.{text_width, with_width}
 
 -- the number of columns, by the first row
@@ -14,27 +15,23 @@ text_of text None = []
 text_of text (Some cell) = text cell
 
 module _ {T Z : Type 0} where
-  -- the cell in a column of a row
-  abbrev pub in_row : Option (Vec T Z) → ℕ → Option T
-  in_row None col = None
-  in_row (Some row) col = slice_get row.items col
+  -- the cell at a position
+  abbrev pub cell_at : List (Vec T Z) → Position → Option T
+  cell_at rows p = option_and_then (λ row. slice_get row.items p.col) (slice_get rows p.row)
 
-  -- the cell at a place
-  abbrev pub cell_at : List (Vec T Z) → ℕ → ℕ → Option T
-  cell_at rows row col = in_row (slice_get rows row) col
-
-  -- there is a cell at the place
-  abbrev pub HasCell : List (Vec T Z) → ℕ → ℕ → Type 0
-  HasCell rows row col = MatchOption (cell_at rows row col) ⊥ (λ _. Unit {0})
+  -- there is a cell at the position
+  abbrev pub HasCell : List (Vec T Z) → Position → Type 0
+  HasCell rows p = MatchOption (cell_at rows p) ⊥ (λ _. Unit {0})
 
   -- there is one, and P holds of it
-  abbrev pub HoldsOfCell : (T → Type 0) → List (Vec T Z) → ℕ → ℕ → Type 0
-  HoldsOfCell P rows row col = MatchOption (cell_at rows row col) ⊥ P
+  abbrev pub HoldsOfCell : (T → Type 0) → List (Vec T Z) → Position → Type 0
+  HoldsOfCell P rows p = MatchOption (cell_at rows p) ⊥ P
 
-  -- the text of the cell at the place, and the empty text where there is none
-  abbrev pub cell_text : (T → List ℕ) → List (Vec T Z) → ℕ → ℕ → List ℕ
-  cell_text text rows row col = text_of text (cell_at rows row col)
+  -- the text of the cell at the position, and the empty text where there is none
+  abbrev pub cell_text : (T → List ℕ) → List (Vec T Z) → Position → List ℕ
+  cell_text text rows p = text_of text (cell_at rows p)
 
 -- the lines and the width of the cell are those of its text, by std's lines
 abbrev pub IsPlainCell : {T : Type 0} → (T → List ℕ) → (T → List (List ℕ × ℕ)) → (T → ℕ) → T → Type 0
-IsPlainCell text lines width cell = (lines cell ≡ map with_width (std_lines (text cell))) × (width cell ≡ text_width (text cell))
+IsPlainCell text lines width cell =
+    (lines cell ≡ map with_width (std_lines (text cell))) × (width cell ≡ text_width (text cell))

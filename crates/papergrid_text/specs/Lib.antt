@@ -9,3 +9,4 @@ pub mod Records
 pub mod Rows
 pub mod Text
 pub mod TextOrder
+pub mod ForProofs

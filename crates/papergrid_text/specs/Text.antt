@@ -22,12 +22,6 @@ pub record IsLines (text : List ℕ) (parts : List (List ℕ)) : Type 0 where
 abbrev pub split_lines : List ℕ → List (List ℕ)
 split_lines text = slice_split (λ b. b == 10) text
 
--- `split_lines text` is the one list of parts that `IsLines` asks for, one more than there are newlines
-pub record HasOneSplit (text : List ℕ) : Type 0 where
-  pub is_split : IsLines text (split_lines text)
-  pub is_only : (parts : List (List ℕ)) → IsLines text parts → parts ≡ split_lines text
-  pub count : length (split_lines text) ≡ count_by (λ b. b == 10) text + 1
-
 -- ---- measures
 
 -- the width of a text, in columns of a terminal
@@ -51,10 +45,6 @@ text_dimension text = (length (split_lines text), greatest_width (split_lines te
 abbrev pub HasNoCrLf : List ℕ → Type 0
 HasNoCrLf text = (front back : List ℕ) → text ≢ front ++ (13 ∷ 10 ∷ back)
 
--- then the dimension of a text is the number of its lines, and its width by std's lines
-abbrev pub HasSameDimension : List ℕ → Type 0
-HasSameDimension text = HasNoCrLf text → text_dimension text ≡ (length (split_lines text), text_width text)
-
 -- a line with its width
 abbrev pub with_width : List ℕ → List ℕ × ℕ
 with_width line = (line, width_of line)
@@ -76,10 +66,7 @@ is_spaced n left c = (c == 9) && ((n == 4) || not (left == 92))
 abbrev pub in_place_of : ℕ → ℕ × ℕ → List ℕ
 in_place_of n pair = if is_spaced n pair.0 pair.1 then replicate n 32 else pair.1 ∷ []
 
--- each character with its left neighbour, which is 0 for the first
-abbrev pub with_neighbours : List ℕ → List (ℕ × ℕ)
-with_neighbours cs = zip (0 ∷ cs) cs
-
--- the text with n spaces for its tabs, character by character with its left neighbour in the text
+-- the text with n spaces for its tabs, by each character with its left neighbour, 0 for the first
 abbrev pub tabs_replaced : ℕ → List ℕ → List ℕ
-tabs_replaced n text = encode_utf8_all (flat_map (in_place_of n) (with_neighbours (chars text)))
+tabs_replaced n text =
+    encode_utf8_all (flat_map (in_place_of n) (zip (0 ∷ chars text) (chars text)))

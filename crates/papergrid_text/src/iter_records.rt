@@ -35,9 +35,13 @@ where
 
     type IterRows = I;
 
-    ghost is_lawful = { λ s. WalkIsShort (λ w it. it ≡ w) I.can_next I.remaining I.next_gives (WalkIsShort I.Item.into_iter_gives I.Item.IntoIter.can_next I.Item.IntoIter.remaining I.Item.IntoIter.next_gives (λ _. ⊤)) (rows_iterated s) };
+    ghost is_lawful = { λ s. WalkIsShort (λ w it. it ≡ w) I.can_next I.remaining I.next_gives
+        (WalkIsShort I.Item.into_iter_gives I.Item.IntoIter.can_next I.Item.IntoIter.remaining
+        I.Item.IntoIter.next_gives (λ _. ⊤))
+        (rows_iterated s) };
 
-    ghost tells = { λ s cells. GivesRows (λ w it. it ≡ w) I.next_gives I.Item.into_iter_gives I.Item.IntoIter.next_gives (rows_iterated s) cells };
+    ghost tells = { λ s cells. GivesRows (λ w it. it ≡ w) I.next_gives I.Item.into_iter_gives
+        I.Item.IntoIter.next_gives (rows_iterated s) cells };
 
     fn iter_rows(self) -> I {
         self.iter
@@ -112,9 +116,11 @@ where
 {
     type Iter = &'a I;
 
-    ghost is_lawful = { λ s. (lent : Bor I) → lent.now ≡ counted_rows s.now → ⟦<&'a I as IntoRecords>⟧.is_lawful lent };
+    ghost is_lawful = { λ s. (lent : Bor I) → lent.now ≡ counted_rows s.now →
+        ⟦<&'a I as IntoRecords>⟧.is_lawful lent };
 
-    ghost tells = { λ s cells. (lent : Bor I) × (lent.now ≡ counted_rows s.now) × ⟦<&'a I as IntoRecords>⟧.tells lent cells };
+    ghost tells = { λ s cells. (lent : Bor I) × (lent.now ≡ counted_rows s.now)
+        × ⟦<&'a I as IntoRecords>⟧.tells lent cells };
 
     ghost columns = { λ s. counted_columns s.now };
 

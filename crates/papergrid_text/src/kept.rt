@@ -78,7 +78,8 @@ impl KeptLines {
     pub(crate) fn clone_for(&self, old: &str, new: &str) -> Result<KeptLines, AllocError>
         requires { AreInside old.now self.now }
         ensures inside { IfOk result (AreInside new.now) }
-        ensures same { new.now ≡ old.now → IfOk result (λ lines. kept_lines new.now lines ≡ kept_lines old.now self.now) }
+        ensures same { new.now ≡ old.now → IfOk result (λ lines.
+            kept_lines new.now lines ≡ kept_lines old.now self.now) }
         ensures other { new.now ≢ old.now → IfOk result (λ lines. kept_lines new.now lines ≡ []) }
     {
         if new == old {

@@ -1,7 +1,7 @@
 //! Laws of the definitions, each the contract of a function that does nothing. A function that calls one
 //! may cite it in its proof.
 
-ghost use Rattle.std.specs.Prelude.{◌≡◌, ◌<◌, ◌^◌, ◌∷◌, ◌++◌, [], ⊤, List, Vec, length, map, nat_eq, ℕ};
+ghost use Rattle.std.specs.Prelude.{◌≡◌, ◌==◌, ◌<◌, ◌+◌, ◌^◌, ◌∷◌, ◌++◌, [], ⊤, List, Vec, count_by, length, map, nat_eq, ℕ};
 ghost use Rattle.std.specs.Hash as fed;
 ghost use Rattle.std.specs.List.{list_all};
 ghost use Rattle.std.specs.Option.{option_cmp, option_eq};
@@ -22,7 +22,7 @@ ghost use Rattle.papergrid_text.specs.Cut.{cut_rows, cut_whole_rows};
 ghost use Rattle.papergrid_text.specs.HeldRows.{column_count, row_count, rows_held};
 ghost use Rattle.papergrid_text.specs.Kept.{given_line};
 ghost use Rattle.papergrid_text.specs.Records.{WalkIsShort, Gives};
-ghost use Rattle.papergrid_text.specs.Text.{HasOneSplit, HasSameDimension};
+ghost use Rattle.papergrid_text.specs.Text.{HasNoCrLf, IsLines, split_lines, text_dimension, text_width};
 ghost use Rattle.papergrid_text.specs.TextOrder.{line_cmp, line_eq, line_hash};
 
 use crate::iter_records::{IterRecords, RowIter};
@@ -37,13 +37,18 @@ use std::slice::{Chunks, ChunksExact, Iter};
 /// The lines of a text are the one list of parts without a newline that joins to it by newlines.
 /// There is one more of them than newlines.
 pub fn lines_join_to_text()
-    ensures { (text : List ℕ) → HasOneSplit text }
+    ensures is_split { (text : List ℕ) → IsLines text (split_lines text) }
+    ensures is_only { (text : List ℕ) (parts : List (List ℕ)) →
+        IsLines text parts → parts ≡ split_lines text }
+    ensures count { (text : List ℕ) →
+        length (split_lines text) ≡ count_by (λ b. b == 10) text + 1 }
 {}
 
 /// Where no carriage return stands right before a newline, the dimension of a text is the number of
 /// its lines and its width.
 pub fn dimension_without_carriage_returns()
-    ensures { (text : List ℕ) → HasSameDimension text }
+    ensures { (text : List ℕ) → HasNoCrLf text →
+        text_dimension text ≡ (length (split_lines text), text_width text) }
 {}
 
 // ---- records, and the lines of texts, as values
@@ -121,35 +126,60 @@ pub fn hashed_by_fields<T: Hash>()
 
 /// The cells of a row that is a slice, lent: they can be walked, and are the items of the slice.
 pub fn slice_tells_cells<'a, T: 'a>()
-    ensures finite { (row : Bor (List T)) → WalkIsShort ⟦<&'a [T] as IntoIterator>⟧.into_iter_gives ⟦<Iter<'a, T> as Iterator>⟧.can_next ⟦<Iter<'a, T> as Iterator>⟧.remaining ⟦<Iter<'a, T> as Iterator>⟧.next_gives (λ _. ⊤) row }
-    ensures told { (row : Bor (List T)) (cells : List (Bor T)) → Gives ⟦<&'a [T] as IntoIterator>⟧.into_iter_gives ⟦<Iter<'a, T> as Iterator>⟧.next_gives row cells → map (λ cell. cell.now) cells ≡ row.now }
+    ensures finite { (row : Bor (List T)) →
+        WalkIsShort ⟦<&'a [T] as IntoIterator>⟧.into_iter_gives
+        ⟦<Iter<'a, T> as Iterator>⟧.can_next ⟦<Iter<'a, T> as Iterator>⟧.remaining
+        ⟦<Iter<'a, T> as Iterator>⟧.next_gives (λ _. ⊤) row }
+    ensures told { (row : Bor (List T)) (cells : List (Bor T)) →
+        Gives ⟦<&'a [T] as IntoIterator>⟧.into_iter_gives ⟦<Iter<'a, T> as Iterator>⟧.next_gives
+        row cells → map (λ cell. cell.now) cells ≡ row.now }
 {}
 
 /// The cells of a row that is a vector, lent: they can be walked, and are the items of the vector.
 pub fn vector_tells_cells<'a, T: 'a>()
-    ensures finite { (row : Bor (Vec T Global)) → WalkIsShort ⟦<&'a Vec<T> as IntoIterator>⟧.into_iter_gives ⟦<Iter<'a, T> as Iterator>⟧.can_next ⟦<Iter<'a, T> as Iterator>⟧.remaining ⟦<Iter<'a, T> as Iterator>⟧.next_gives (λ _. ⊤) row }
-    ensures told { (row : Bor (Vec T Global)) (cells : List (Bor T)) → Gives ⟦<&'a Vec<T> as IntoIterator>⟧.into_iter_gives ⟦<Iter<'a, T> as Iterator>⟧.next_gives row cells → map (λ cell. cell.now) cells ≡ row.now.items }
+    ensures finite { (row : Bor (Vec T Global)) →
+        WalkIsShort ⟦<&'a Vec<T> as IntoIterator>⟧.into_iter_gives
+        ⟦<Iter<'a, T> as Iterator>⟧.can_next ⟦<Iter<'a, T> as Iterator>⟧.remaining
+        ⟦<Iter<'a, T> as Iterator>⟧.next_gives (λ _. ⊤) row }
+    ensures told { (row : Bor (Vec T Global)) (cells : List (Bor T)) →
+        Gives ⟦<&'a Vec<T> as IntoIterator>⟧.into_iter_gives ⟦<Iter<'a, T> as Iterator>⟧.next_gives
+        row cells → map (λ cell. cell.now) cells ≡ row.now.items }
 {}
 
 /// Rows that an iterator over a slice of vectors gives are lawful where fewer than 2^64 are left. Their
 /// cells are those of the vectors that are left.
 pub fn vectors_tell_rows<'a, T: 'a>()
-    ensures lawful { (iter : Iter (Vec T Global)) → length (iter_rest iter) < 2 ^ 64 → ⟦<RowIter<Iter<'a, Vec<T>>> as IntoRecords>⟧.is_lawful (rows_from iter) }
-    ensures told { (iter : Iter (Vec T Global)) (cells : List (List (Bor T))) → ⟦<RowIter<Iter<'a, Vec<T>>> as IntoRecords>⟧.tells (rows_from iter) cells → map (map (λ cell. cell.now)) cells ≡ map (λ row. row.items) (iter_rest iter) }
+    ensures lawful { (iter : Iter (Vec T Global)) → length (iter_rest iter) < 2 ^ 64 →
+        ⟦<RowIter<Iter<'a, Vec<T>>> as IntoRecords>⟧.is_lawful (rows_from iter) }
+    ensures told { (iter : Iter (Vec T Global)) (cells : List (List (Bor T))) →
+        ⟦<RowIter<Iter<'a, Vec<T>>> as IntoRecords>⟧.tells (rows_from iter) cells →
+        map (map (λ cell. cell.now)) cells ≡ map (λ row. row.items) (iter_rest iter) }
 {}
 
 /// Rows that are the chunks of a slice, of a size above 0, are lawful where fewer than 2^64 items are
 /// left. Their cells are the items that are left, cut into rows of that size, the last of which may be
 /// shorter.
 pub fn chunks_tell_rows<'a, T: 'a>()
-    ensures lawful { (chunks : Chunks T) → 0 < chunks_size chunks → length (chunks_rest chunks) < 2 ^ 64 → ⟦<RowIter<Chunks<'a, T>> as IntoRecords>⟧.is_lawful (rows_from chunks) }
-    ensures told { (chunks : Chunks T) (cells : List (List (Bor T))) → 0 < chunks_size chunks → ⟦<RowIter<Chunks<'a, T>> as IntoRecords>⟧.tells (rows_from chunks) cells → map (map (λ cell. cell.now)) cells ≡ cut_rows (chunks_size chunks) (chunks_rest chunks) }
+    ensures lawful { (chunks : Chunks T) →
+        0 < chunks_size chunks → length (chunks_rest chunks) < 2 ^ 64 →
+        ⟦<RowIter<Chunks<'a, T>> as IntoRecords>⟧.is_lawful (rows_from chunks) }
+    ensures told { (chunks : Chunks T) (cells : List (List (Bor T))) →
+        0 < chunks_size chunks →
+        ⟦<RowIter<Chunks<'a, T>> as IntoRecords>⟧.tells (rows_from chunks) cells →
+        map (map (λ cell. cell.now)) cells
+        ≡ cut_rows (chunks_size chunks) (chunks_rest chunks) }
 {}
 
 /// Rows that are the exact chunks of a slice, of a size above 0, are lawful where fewer than 2^64 items
 /// are left. Their cells are the items that are left, cut into rows of that size. Those at the end that
 /// fill no row are not told.
 pub fn exact_chunks_tell_rows<'a, T: 'a>()
-    ensures lawful { (chunks : ChunksExact T) → 0 < chunks_exact_size chunks → length (chunks_exact_rest chunks) < 2 ^ 64 → ⟦<RowIter<ChunksExact<'a, T>> as IntoRecords>⟧.is_lawful (rows_from chunks) }
-    ensures told { (chunks : ChunksExact T) (cells : List (List (Bor T))) → 0 < chunks_exact_size chunks → ⟦<RowIter<ChunksExact<'a, T>> as IntoRecords>⟧.tells (rows_from chunks) cells → map (map (λ cell. cell.now)) cells ≡ cut_whole_rows (chunks_exact_size chunks) (chunks_exact_rest chunks) }
+    ensures lawful { (chunks : ChunksExact T) →
+        0 < chunks_exact_size chunks → length (chunks_exact_rest chunks) < 2 ^ 64 →
+        ⟦<RowIter<ChunksExact<'a, T>> as IntoRecords>⟧.is_lawful (rows_from chunks) }
+    ensures told { (chunks : ChunksExact T) (cells : List (List (Bor T))) →
+        0 < chunks_exact_size chunks →
+        ⟦<RowIter<ChunksExact<'a, T>> as IntoRecords>⟧.tells (rows_from chunks) cells →
+        map (map (λ cell. cell.now)) cells
+        ≡ cut_whole_rows (chunks_exact_size chunks) (chunks_exact_rest chunks) }
 {}

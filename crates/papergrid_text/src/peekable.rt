@@ -43,8 +43,10 @@ pub trait PeekableRecords {
     fn get_line(&self, pos: Position, line: usize) -> &str
         requires at { has self.now pos }
         requires there { has_line self.now pos line }
-        ensures plain { is_plain self.now → result.now ≡ slice_index_or (std_lines (text self.now pos)) line [] }
-        ensures plain_at { is_plain_at self.now pos → result.now ≡ slice_index_or (std_lines (text self.now pos)) line [] }
+        ensures plain { is_plain self.now →
+            result.now ≡ slice_index_or (std_lines (text self.now pos)) line [] }
+        ensures plain_at { is_plain_at self.now pos →
+            result.now ≡ slice_index_or (std_lines (text self.now pos)) line [] }
     {
         std_line(self.get_text(pos), line)
     }
@@ -53,7 +55,8 @@ pub trait PeekableRecords {
     fn count_lines(&self, pos: Position) -> usize
         requires { has self.now pos }
         ensures plain { is_plain self.now → result ≡ length (std_lines (text self.now pos)) }
-        ensures plain_at { is_plain_at self.now pos → result ≡ length (std_lines (text self.now pos)) }
+        ensures plain_at { is_plain_at self.now pos →
+            result ≡ length (std_lines (text self.now pos)) }
     {
         count_std_lines(self.get_text(pos))
     }
@@ -72,8 +75,10 @@ pub trait PeekableRecords {
     fn get_line_width(&self, pos: Position, line: usize) -> usize
         requires at { has self.now pos }
         requires there { has_line self.now pos line }
-        ensures plain { is_plain self.now → result ≡ width_of (slice_index_or (std_lines (text self.now pos)) line []) }
-        ensures plain_at { is_plain_at self.now pos → result ≡ width_of (slice_index_or (std_lines (text self.now pos)) line []) }
+        ensures plain { is_plain self.now →
+            result ≡ width_of (slice_index_or (std_lines (text self.now pos)) line []) }
+        ensures plain_at { is_plain_at self.now pos →
+            result ≡ width_of (slice_index_or (std_lines (text self.now pos)) line []) }
     {
         get_line_width(self.get_line(pos, line))
     }

@@ -30,8 +30,16 @@ pub trait IntoRecords: Sized {
 
     /// The rows. Of lawful records, the walk over them and that over the cells of each end.
     fn iter_rows(self) -> Self::IterRows
-        ensures finite { is_lawful self → WalkIsShort Self.IterRows.into_iter_gives Self.IterRows.IntoIter.can_next Self.IterRows.IntoIter.remaining Self.IterRows.IntoIter.next_gives (WalkIsShort Self.IterColumns.into_iter_gives Self.IterColumns.IntoIter.can_next Self.IterColumns.IntoIter.remaining Self.IterColumns.IntoIter.next_gives (λ _. ⊤)) result }
-        ensures told { (cells : List (List Self.Cell)) → GivesRows Self.IterRows.into_iter_gives Self.IterRows.IntoIter.next_gives Self.IterColumns.into_iter_gives Self.IterColumns.IntoIter.next_gives result cells → tells self cells };
+        ensures finite { is_lawful self →
+            WalkIsShort Self.IterRows.into_iter_gives Self.IterRows.IntoIter.can_next
+            Self.IterRows.IntoIter.remaining Self.IterRows.IntoIter.next_gives
+            (WalkIsShort Self.IterColumns.into_iter_gives Self.IterColumns.IntoIter.can_next
+            Self.IterColumns.IntoIter.remaining Self.IterColumns.IntoIter.next_gives (λ _. ⊤))
+            result }
+        ensures told { (cells : List (List Self.Cell)) →
+            GivesRows Self.IterRows.into_iter_gives Self.IterRows.IntoIter.next_gives
+            Self.IterColumns.into_iter_gives Self.IterColumns.IntoIter.next_gives result cells
+            → tells self cells };
 }
 
 /// Rows of cells, with a number of columns.
@@ -55,8 +63,17 @@ pub trait Records: Sized {
 
     /// The rows. Of lawful records, the walk over them and that over the cells of each end.
     fn iter_rows(self) -> <Self::Iter as IntoRecords>::IterRows
-        ensures finite { is_lawful self → WalkIsShort Self.Iter.IterRows.into_iter_gives Self.Iter.IterRows.IntoIter.can_next Self.Iter.IterRows.IntoIter.remaining Self.Iter.IterRows.IntoIter.next_gives (WalkIsShort Self.Iter.IterColumns.into_iter_gives Self.Iter.IterColumns.IntoIter.can_next Self.Iter.IterColumns.IntoIter.remaining Self.Iter.IterColumns.IntoIter.next_gives (λ _. ⊤)) result }
-        ensures told { (cells : List (List Self.Iter.Cell)) → GivesRows Self.Iter.IterRows.into_iter_gives Self.Iter.IterRows.IntoIter.next_gives Self.Iter.IterColumns.into_iter_gives Self.Iter.IterColumns.IntoIter.next_gives result cells → tells self cells };
+        ensures finite { is_lawful self →
+            WalkIsShort Self.Iter.IterRows.into_iter_gives Self.Iter.IterRows.IntoIter.can_next
+            Self.Iter.IterRows.IntoIter.remaining Self.Iter.IterRows.IntoIter.next_gives
+            (WalkIsShort Self.Iter.IterColumns.into_iter_gives
+            Self.Iter.IterColumns.IntoIter.can_next Self.Iter.IterColumns.IntoIter.remaining
+            Self.Iter.IterColumns.IntoIter.next_gives (λ _. ⊤))
+            result }
+        ensures told { (cells : List (List Self.Iter.Cell)) →
+            GivesRows Self.Iter.IterRows.into_iter_gives Self.Iter.IterRows.IntoIter.next_gives
+            Self.Iter.IterColumns.into_iter_gives Self.Iter.IterColumns.IntoIter.next_gives
+            result cells → tells self cells };
 
     /// The number of columns.
     fn count_columns(&self) -> usize

@@ -158,7 +158,8 @@ fn dimension_of_lines(text: &str, printable: usize) -> (usize, usize)
 #[inline(always)]
 fn measure_first_line(text: &str, printable: usize) -> (usize, Option<&str>)
     requires { printable ≡ prefix_len (is_in_range 0x20 0x7E) text.now }
-    ensures first { (line : List ℕ) × (split_lines text.now ≡ line ∷ lines_of_rest result.1) × (result.0 ≡ width_of line) }
+    ensures first { (line : List ℕ)
+        × (split_lines text.now ≡ line ∷ lines_of_rest result.1) × (result.0 ≡ width_of line) }
     ensures text { IfSome result.1 (λ rest. IsUtf8 rest.now) }
 {
     if printable == text.len() {
@@ -177,7 +178,8 @@ fn measure_first_line(text: &str, printable: usize) -> (usize, Option<&str>)
 /// A text without a tab comes back as it is, and takes no memory.
 pub fn replace_tab(alloc: Global, text: &str, n: usize) -> Result<CowStr<'_>, AllocError>
     ensures value { IfOk result (λ new. cow_str_bytes new ≡ tabs_replaced n text.now) }
-    ensures takes_no_memory { count_by (λ b. b == 9) text.now ≡ 0 → result ≡ Ok (CowStr.Borrowed text.entry) }
+    ensures takes_no_memory { count_by (λ b. b == 9) text.now ≡ 0 →
+        result ≡ Ok (CowStr.Borrowed text.entry) }
     ensures owned { 0 < count_by (λ b. b == 9) text.now → IfOk result IsOwnedStr }
 {
     if count_tabs(text) == 0 {
@@ -194,7 +196,8 @@ pub fn replace_tab(alloc: Global, text: &str, n: usize) -> Result<CowStr<'_>, Al
 
 // Appends what stands for the character `c`, whose left neighbour is `left`.
 fn push_replaced(out: &mut String, left: char, c: char, n: usize) -> Result<(), AllocError>
-    ensures { IfOk result (λ _. string_bytes out.new ≡ string_bytes out.old ++ encode_utf8_all (in_place_of n (left, c))) }
+    ensures { IfOk result (λ _. string_bytes out.new
+        ≡ string_bytes out.old ++ encode_utf8_all (in_place_of n (left, c))) }
 {
     if is_replaced(left, c, n) {
         push_spaces(out, n)?;

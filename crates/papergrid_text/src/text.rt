@@ -3,8 +3,10 @@
 ghost use Rattle.std.specs.Prelude.{◌≡◌, ◌≢◌, ◌<◌, [], length, map, fold, IfOk, IsOk, slice_index_or};
 ghost use Rattle.std.proofs.Common.{refl};
 ghost use Rattle.papergrid_text.specs.Kept.{AreInside, kept_lines, given_line, answered_lines, line_of_range};
-ghost use Rattle.papergrid_text.specs.Text.{greatest_width, with_width, split_lines, kept_by_new};
-ghost use Rattle.papergrid_text.specs.TextOrder.{line_eq, line_cmp, line_hash, key, key_eq, key_cmp, key_hash, key_equiv, key_total, key_ties, key_alike};
+ghost use Rattle.papergrid_text.specs.Measured.{measured};
+ghost use Rattle.papergrid_text.specs.Text.{greatest_width, with_width, split_lines};
+ghost use Rattle.papergrid_text.specs.TextOrder.{line_eq, line_cmp, line_hash, key, key_eq, key_cmp, key_hash};
+ghost use Rattle.papergrid_text.specs.ForProofs.TextLaws.{key_equiv, key_total, key_ties, key_alike};
 ghost use Rattle.papergrid_text.specs.declared.kept.KeptLines.TheVariants.{Ranges};
 ghost use Rattle.std.specs.Cmp.{on_per, on_equiv, on_total, on_po, po, partial_equiv_from_equiv};
 ghost use Rattle.std.specs.Cmp.Lexicographic.{pointwise, slice_cmp};
@@ -38,7 +40,11 @@ impl<S: AsStr> Model for Text<S> {
 
     ghost Value = { Measured S };
 
-    ghost view = { λ t. record { text = t.text; width = t.width; lines = kept_lines (S.text t.text) t.lines } };
+    ghost view = { λ t. record {
+      text = t.text;
+      width = t.width;
+      lines = kept_lines (S.text t.text) t.lines;
+    } };
 
     ghost invariant = { λ t. AreInside (S.text t.text) t.lines };
 }
@@ -47,7 +53,8 @@ impl<S: AsStr> Text<S> {
     /// Keeps the text with the width, in columns of a terminal, and the lines that are given. Nothing is
     /// measured or checked. Where no line is given the text is its one line.
     pub fn exact(text: S, width: usize, lines: Vec<StrWithWidth<'static>>) -> Text<S>
-        ensures { result ≡ record { text = text; width = width; lines = map given_line lines.entry.items } }
+        ensures { result
+            ≡ record { text = text; width = width; lines = map given_line lines.entry.items } }
     {
         Text {
             text,
@@ -61,9 +68,10 @@ impl<S: AsStr> Text<S> {
     pub fn new(alloc: Global, text: S) -> Result<Text<S>, AllocError>
     where
         S: Drop,
-        ensures value { IfOk result (λ t. t ≡ record { text = text; width = greatest_width (split_lines (S.text text)); lines = kept_by_new (split_lines (S.text text)) }) }
+        ensures value { IfOk result (λ t. t ≡ measured S.text text) }
         // As a cell it has the lines of the text, each with its width.
-        ensures lines { IfOk result (λ t. answered_lines (S.text text) t.width t.lines ≡ map with_width (split_lines (S.text text))) }
+        ensures lines { IfOk result (λ t. answered_lines (S.text text) t.width t.lines
+            ≡ map with_width (split_lines (S.text text))) }
         ensures takes_no_memory { length (split_lines (S.text text)) < 2 → IsOk result }
     {
         let whole = text.as_str();
@@ -156,7 +164,9 @@ impl<S: AsStr> Cell for Text<S> {
 // A clone has the width of the original, and its lines where it has its text. That is tested, since
 // nothing is known of what `S` clones to, and lines kept as places may not lie in another text.
 impl<S: AsStr + Clone> Clone for Text<S> {
-    ghost is_clone = { λ a b. S.is_clone a.text b.text × (b.width ≡ a.width) × (S.text b.text ≡ S.text a.text → b.lines ≡ a.lines) × (S.text b.text ≢ S.text a.text → b.lines ≡ []) };
+    ghost is_clone = { λ a b. S.is_clone a.text b.text × (b.width ≡ a.width)
+        × (S.text b.text ≡ S.text a.text → b.lines ≡ a.lines)
+        × (S.text b.text ≢ S.text a.text → b.lines ≡ []) };
 
     fn clone(&self) -> Result<Text<S>, AllocError> {
         let text = self.text.clone()?;
@@ -183,7 +193,9 @@ impl<S: AsStr> Text<S> {
     fn compare_line(&self, other: &Text<S>, line: usize) -> Ordering
         requires here { line < length self.now.lines }
         requires there { line < length other.now.lines }
-        ensures { result ≡ line_cmp (slice_index_or self.now.lines line ([], 0)) (slice_index_or other.now.lines line ([], 0)) }
+        ensures { result ≡ line_cmp
+            (slice_index_or self.now.lines line ([], 0))
+            (slice_index_or other.now.lines line ([], 0)) }
     {
         let texts = self.kept_line(line).cmp(other.kept_line(line));
         texts.then(self.kept_width(line).cmp(&other.kept_width(line)))
@@ -282,7 +294,8 @@ fn measure_lines(
     count: usize,
 ) -> Result<(Vec<LineRange>, usize), AllocError>
     ensures inside { IfOk result (λ r. AreInside text.now (Ranges r.0)) }
-    ensures lines { IfOk result (λ r. map (line_of_range text.now) r.0.items ≡ map with_width (split_lines text.now)) }
+    ensures lines { IfOk result (λ r.
+        map (line_of_range text.now) r.0.items ≡ map with_width (split_lines text.now)) }
     ensures width { IfOk result (λ r. r.1 ≡ greatest_width (split_lines text.now)) }
 {
     let mut ranges = Vec::with_capacity(alloc, count)?;

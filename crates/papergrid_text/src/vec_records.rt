@@ -113,47 +113,54 @@ impl<T: Cell> PeekableRecords for VecRecords<T> {
     ghost use Rattle.papergrid_text.specs.Held.{HasCell, HoldsOfCell, IsPlainCell, cell_text};
     ghost use Rattle.papergrid_text.specs.HeldRows.{rows_held};
 
-    ghost has = { λ s p. HasCell (rows_held s).items p.row p.col };
+    ghost has = { λ s p. HasCell (rows_held s).items p };
 
-    ghost has_line = { λ s p n. HoldsOfCell (λ cell. n < length (T.lines cell)) (rows_held s).items p.row p.col };
+    ghost has_line = { λ s p n.
+        HoldsOfCell (λ cell. n < length (T.lines cell)) (rows_held s).items p };
 
-    ghost text = { λ s p. cell_text T.text (rows_held s).items p.row p.col };
+    ghost text = { λ s p. cell_text T.text (rows_held s).items p };
 
     // The cells have lines and widths of their own, which may be those of their texts.
     ghost is_plain = { λ _. ⊥ };
 
-    ghost is_plain_at = { λ s p. HoldsOfCell (IsPlainCell T.text T.lines T.width) (rows_held s).items p.row p.col };
+    ghost is_plain_at = { λ s p.
+        HoldsOfCell (IsPlainCell T.text T.lines T.width) (rows_held s).items p };
 
     fn get_text(&self, pos: Position) -> &str {
         self.rows[pos.row][pos.col].text()
     }
 
     fn get_line(&self, pos: Position, line: usize) -> &str
-        requires at { HasCell (rows_held self.now).items pos.row pos.col }
-        requires there { HoldsOfCell (λ cell. line < length (T.lines cell)) (rows_held self.now).items pos.row pos.col }
-        ensures { HoldsOfCell (λ cell. result.now ≡ (slice_index_or (T.lines cell) line ([], 0)).0) (rows_held self.now).items pos.row pos.col }
+        requires at { HasCell (rows_held self.now).items pos }
+        requires there { HoldsOfCell (λ cell. line < length (T.lines cell))
+            (rows_held self.now).items pos }
+        ensures { HoldsOfCell (λ cell. result.now ≡ (slice_index_or (T.lines cell) line ([], 0)).0)
+            (rows_held self.now).items pos }
     {
         self.rows[pos.row][pos.col].line(line)
     }
 
     fn count_lines(&self, pos: Position) -> usize
-        requires { HasCell (rows_held self.now).items pos.row pos.col }
-        ensures { HoldsOfCell (λ cell. result ≡ length (T.lines cell)) (rows_held self.now).items pos.row pos.col }
+        requires { HasCell (rows_held self.now).items pos }
+        ensures { HoldsOfCell (λ cell. result ≡ length (T.lines cell))
+            (rows_held self.now).items pos }
     {
         self.rows[pos.row][pos.col].count_lines()
     }
 
     fn get_width(&self, pos: Position) -> usize
-        requires { HasCell (rows_held self.now).items pos.row pos.col }
-        ensures { HoldsOfCell (λ cell. result ≡ T.width cell) (rows_held self.now).items pos.row pos.col }
+        requires { HasCell (rows_held self.now).items pos }
+        ensures { HoldsOfCell (λ cell. result ≡ T.width cell) (rows_held self.now).items pos }
     {
         self.rows[pos.row][pos.col].width()
     }
 
     fn get_line_width(&self, pos: Position, line: usize) -> usize
-        requires at { HasCell (rows_held self.now).items pos.row pos.col }
-        requires there { HoldsOfCell (λ cell. line < length (T.lines cell)) (rows_held self.now).items pos.row pos.col }
-        ensures { HoldsOfCell (λ cell. result ≡ (slice_index_or (T.lines cell) line ([], 0)).1) (rows_held self.now).items pos.row pos.col }
+        requires at { HasCell (rows_held self.now).items pos }
+        requires there { HoldsOfCell (λ cell. line < length (T.lines cell))
+            (rows_held self.now).items pos }
+        ensures { HoldsOfCell (λ cell. result ≡ (slice_index_or (T.lines cell) line ([], 0)).1)
+            (rows_held self.now).items pos }
     {
         self.rows[pos.row][pos.col].line_width(line)
     }
@@ -180,7 +187,8 @@ impl<T> DerefMut for VecRecords<T> {
     ghost deref_mut_gives = { λ s r. r ≡ rows_held s };
 
     fn deref_mut(&mut self) -> &mut Vec<Vec<T>>
-        ensures* writes_back { sem 𝓛 (Lends (the_row T.row) (rows_row T.row) self.entry result (with_rows self.old)) }
+        ensures* writes_back { sem 𝓛
+            (Lends (the_row T.row) (rows_row T.row) self.entry result (with_rows self.old)) }
         ensures shows { result.now ≡ rows_held self.old }
     {
         &mut self.rows

@@ -8,8 +8,11 @@ use Rattle.std.proofs.lemmas.List.Sums.{sum_by-cons, sum_by-append}
 use Rattle.std.specs.List.{range_with_len, flat_map}
 use Rattle.papergrid_values.specs.declared.entity.Entity.TheVariants.{Global}
 use Rattle.papergrid_values.specs.declared.position.Position.{Position}
-use Rattle.papergrid_values.specs.Entities.{at, positions}
-use Rattle.papergrid_values.specs.Positions.{IsBefore, count_of}
+use Rattle.papergrid_values.specs.Entities.{positions}
+use Rattle.papergrid_values.specs.Positions.{IsBefore, count_of, position_of}
+
+abbrev at : ℕ → ℕ → Position
+at row col = position_of (row, col)
 
 -- ---- lists whose elements rise
 

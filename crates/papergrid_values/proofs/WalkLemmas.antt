@@ -3,7 +3,12 @@ use Rattle.std.proofs.Common.{◌≡◌, ◌∙◌, ap, sym, refl, ℕ, suc, ◌
 use Rattle.std.specs.List.{range_with_len, flat_map}
 use Rattle.papergrid_values.specs.declared.entity.Entity.{Entity}
 use Rattle.papergrid_values.specs.declared.entity.Entity.TheVariants.{Global, Column}
-use Rattle.papergrid_values.specs.Entities.{at, numbers_below, positions_in, row_from, rows_from}
+use Rattle.papergrid_values.specs.Entities.{numbers_below, positions_in, row_from, rows_from}
+use Rattle.papergrid_values.specs.Positions.{position_of}
+use Rattle.papergrid_values.specs.declared.position.Position.{Position}
+
+abbrev at : ℕ → ℕ → Position
+at row col = position_of (row, col)
 
 -- the numbers from a on begin with a
 range-more : (a n : ℕ) → a < n → range_with_len a (n - a) ≡ a ∷ range_with_len (a + 1) (n - (a + 1))

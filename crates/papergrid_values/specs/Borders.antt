@@ -37,22 +37,6 @@ border_map f b = record {
   right_bottom_corner = option_map f b.right_bottom_corner;
 }
 
--- whether an edge of a border or one of its two corners is set
-abbrev pub has_border_top : {T : Type 0} → Border T → Bool
-has_border_top b = any_set (b.top ∷ b.left_top_corner ∷ b.right_top_corner ∷ [])
-
--- at the bottom
-abbrev pub has_border_bottom : {T : Type 0} → Border T → Bool
-has_border_bottom b = any_set (b.bottom ∷ b.left_bottom_corner ∷ b.right_bottom_corner ∷ [])
-
--- at the left
-abbrev pub has_border_left : {T : Type 0} → Border T → Bool
-has_border_left b = any_set (b.left ∷ b.left_top_corner ∷ b.left_bottom_corner ∷ [])
-
--- at the right
-abbrev pub has_border_right : {T : Type 0} → Border T → Bool
-has_border_right b = any_set (b.right ∷ b.right_top_corner ∷ b.right_bottom_corner ∷ [])
-
 -- the fifteen parts of a frame, in the order of the fields
 abbrev pub frame_parts : {T : Type 0} → Borders T → List (Option T)
 frame_parts f =

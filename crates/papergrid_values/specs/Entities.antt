@@ -4,15 +4,8 @@ use Rattle.std.specs.List.{range_with_len, flat_map}
 use Rattle.papergrid_values.specs.declared.entity.Entity.{Entity}
 use Rattle.papergrid_values.specs.declared.entity.Entity.TheVariants.{Global, Column, Row, Cell}
 use Rattle.papergrid_values.specs.declared.entity_iterator.EntityIterator.{EntityIterator}
+use Rattle.papergrid_values.specs.Positions.{position_of}
 use Rattle.papergrid_values.specs.declared.position.Position.{Position}
-
--- the cell at a row and a column
-abbrev pub cell_at : ℕ → ℕ → Entity
-cell_at row col = Cell row col
-
--- the position at a row and a column
-abbrev pub at : ℕ → ℕ → Position
-at row col = record { row = row; col = col }
 
 -- the numbers below n, upwards
 abbrev pub numbers_below : ℕ → List ℕ
@@ -20,10 +13,11 @@ numbers_below n = range_with_len 0 n
 
 -- the positions of an entity where there are so many rows and columns, and neither number is 0
 abbrev pub positions_in : Entity → ℕ → ℕ → List Position
-positions_in Global rows cols = flat_map (λ row. map (λ col. at row col) (numbers_below cols)) (numbers_below rows)
-positions_in (Column col) rows cols = map (λ row. at row col) (numbers_below rows)
-positions_in (Row row) rows cols = map (λ col. at row col) (numbers_below cols)
-positions_in (Cell row col) rows cols = at row col ∷ []
+positions_in Global rows cols =
+    flat_map (λ row. map (λ col. position_of (row, col)) (numbers_below cols)) (numbers_below rows)
+positions_in (Column col) rows cols = map (λ row. position_of (row, col)) (numbers_below rows)
+positions_in (Row row) rows cols = map (λ col. position_of (row, col)) (numbers_below cols)
+positions_in (Cell row col) rows cols = position_of (row, col) ∷ []
 
 -- the same, and none where a count is 0; an entity's own numbers are not compared with the counts
 abbrev pub positions : Entity → ℕ → ℕ → List Position
@@ -34,10 +28,10 @@ positions entity rows cols =
 
 -- the position of an entity at a step down and to the right
 abbrev pub place : Entity → ℕ → ℕ → Position
-place Global row col = at row col
-place (Column c) row col = at row c
-place (Row r) row col = at r col
-place (Cell r c) row col = at r c
+place Global row col = position_of (row, col)
+place (Column c) row col = position_of (row, c)
+place (Row r) row col = position_of (r, col)
+place (Cell r c) row col = position_of (r, c)
 
 -- the places of one row of steps, from a column on
 abbrev pub row_from : Entity → ℕ → ℕ → ℕ → List Position

@@ -1,11 +1,7 @@
 -- Offsets by their numbers.
-use Rattle.std.specs.Prelude.{ℕ, ◌+◌, ℤ, pos, negsuc}
+use Rattle.std.specs.Prelude.{◌+◌, ℤ, pos, negsuc}
 use Rattle.papergrid_values.specs.declared.offset.Offset.{Offset}
 use Rattle.papergrid_values.specs.declared.offset.Offset.TheVariants.{Start, End}
-
--- so far from the start
-abbrev pub from_start : ℕ → Offset
-from_start n = Start n
 
 -- from the start for a number of 0 or more; `negsuc n` is the number -(n + 1)
 abbrev pub offset_of : ℤ → Offset

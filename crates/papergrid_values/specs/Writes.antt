@@ -4,18 +4,10 @@ use Rattle.std.specs.List.{flat_map}
 use Rattle.std.specs.Hash as fed
 use Rattle.std.specs.Hash.{HashWrites}
 
--- each number in turn
-abbrev pub numbers_fed : List ℕ → HashWrites
-numbers_fed numbers = flat_map fed.usize numbers
-
--- the place of a kind in the list of its type
-abbrev pub kind_fed : ℕ → HashWrites
-kind_fed kind = fed.isize (pos kind)
-
--- the kind, and then the numbers
+-- the place of a kind in the list of its type, and then the numbers
 abbrev pub key_fed : List ℕ → HashWrites
 key_fed [] = []
-key_fed (kind ∷ numbers) = kind_fed kind ++ numbers_fed numbers
+key_fed (kind ∷ numbers) = fed.isize (pos kind) ++ flat_map fed.usize numbers
 
 -- the prefix, and then the suffix
 abbrev pub texts_fed : List ℕ × List ℕ → HashWrites

@@ -17,13 +17,15 @@ pub trait ANSIFmt {
 
     /// Writes what stands before.
     fn fmt_ansi_prefix<W: fmt::Write>(&self, f: &mut W) -> fmt::Result
-        ensures { OnOk result (IfSome (prefix_text self.now) (λ text. W.write_str_gives f.old text f.new)) };
+        ensures { OnOk result
+            (IfSome (prefix_text self.now) (λ text. W.write_str_gives f.old text f.new)) };
 
     /// Writes what stands after: ESC and `[0m` for a type that has no suffix of its own.
     ///
     /// Since that body serves every type, all types share a contract that allows it.
     fn fmt_ansi_suffix<W: fmt::Write>(&self, f: &mut W) -> fmt::Result
-        ensures allowed { OnOk result (WritesOrResets W.write_str_gives f.old (suffix_text self.now) f.new) }
+        ensures allowed { OnOk result
+            (WritesOrResets W.write_str_gives f.old (suffix_text self.now) f.new) }
     {
         f.write_str("\u{1b}[0m")
     }

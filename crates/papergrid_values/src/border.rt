@@ -1,11 +1,10 @@
 //! The border of a cell. Source: `config/border.rs`.
 
-ghost use Rattle.std.specs.Prelude.{◌≡◌, ◌↔◌, Some, None, true, IsTrue, IsOk, IfOk};
+ghost use Rattle.std.specs.Prelude.{◌≡◌, ◌↔◌, ◌∷◌, [], Some, None, true, IsTrue, IsOk, IfOk};
 ghost use Rattle.std.specs.List.{AllPairs};
 ghost use Rattle.std.specs.Option.{option_eq};
-ghost use Rattle.papergrid_values.specs.Parts.{none_set, EachSet, PartsGive};
+ghost use Rattle.papergrid_values.specs.Parts.{any_set, none_set, EachSet, PartsGive};
 ghost use Rattle.papergrid_values.specs.Borders.{border_parts, border_with, border_map};
-ghost use Rattle.papergrid_values.specs.Borders.{has_border_top, has_border_bottom, has_border_left, has_border_right};
 
 use std::alloc::AllocError;
 
@@ -126,7 +125,8 @@ impl<T> Border<T> {
     pub fn is_same(&self) -> bool
     where
         T: PartialEq,
-        ensures { IsTrue result ↔ AllPairs (λ a b. option_eq T.eq a b ≡ true) (border_parts self.now) }
+        ensures { IsTrue result ↔
+            AllPairs (λ a b. option_eq T.eq a b ≡ true) (border_parts self.now) }
     {
         self.top == self.bottom
             && self.top == self.left
@@ -139,14 +139,16 @@ impl<T> Border<T> {
 
     /// Whether the upper edge or one of its two corners is set.
     pub fn has_top(&self) -> bool
-        ensures { result ≡ has_border_top self.now }
+        ensures { result
+            ≡ any_set (self.now.top ∷ self.now.left_top_corner ∷ self.now.right_top_corner ∷ []) }
     {
         self.top.is_some() || self.left_top_corner.is_some() || self.right_top_corner.is_some()
     }
 
     /// Whether the lower edge or one of its two corners is set.
     pub fn has_bottom(&self) -> bool
-        ensures { result ≡ has_border_bottom self.now }
+        ensures { result ≡ any_set
+            (self.now.bottom ∷ self.now.left_bottom_corner ∷ self.now.right_bottom_corner ∷ []) }
     {
         self.bottom.is_some()
             || self.left_bottom_corner.is_some()
@@ -155,14 +157,16 @@ impl<T> Border<T> {
 
     /// Whether the left edge or one of its two corners is set.
     pub fn has_left(&self) -> bool
-        ensures { result ≡ has_border_left self.now }
+        ensures { result ≡ any_set
+            (self.now.left ∷ self.now.left_top_corner ∷ self.now.left_bottom_corner ∷ []) }
     {
         self.left.is_some() || self.left_top_corner.is_some() || self.left_bottom_corner.is_some()
     }
 
     /// Whether the right edge or one of its two corners is set.
     pub fn has_right(&self) -> bool
-        ensures { result ≡ has_border_right self.now }
+        ensures { result ≡ any_set
+            (self.now.right ∷ self.now.right_top_corner ∷ self.now.right_bottom_corner ∷ []) }
     {
         self.right.is_some()
             || self.right_top_corner.is_some()
@@ -224,10 +228,12 @@ impl<T> Border<&T> {
     where
         T: Clone,
         ensures clones { IfOk result (λ border.
-            PartsGive (λ part copy. T.is_clone part.now copy) (border_parts self.now) (border_parts border)) }
+            PartsGive (λ part copy. T.is_clone part.now copy)
+            (border_parts self.now) (border_parts border)) }
         ensures equal { ((x y : T) → T.is_clone x y → y ≡ x) →
             IfOk result (λ border. border ≡ border_map (λ part. part.now) self.now) }
-        ensures succeeds { EachSet (λ part. T.is_infallible part.now) (border_parts self.now) → IsOk result }
+        ensures succeeds { EachSet (λ part. T.is_infallible part.now) (border_parts self.now) →
+            IsOk result }
     {
         Ok(Border {
             top: self.top.cloned()?,

@@ -1,7 +1,8 @@
 //! A part of a table. Source: `config/entity.rs`.
 
 ghost use Rattle.std.specs.Prelude.{◌≡◌};
-ghost use Rattle.papergrid_values.specs.Entities.{cell_at, positions, positions_left};
+ghost use Rattle.papergrid_values.specs.Entities.{positions, positions_left};
+ghost use Rattle.papergrid_values.specs.declared.entity.Entity.TheVariants as entities;
 
 use crate::entity_iterator::EntityIterator;
 use crate::position::Position;
@@ -31,7 +32,7 @@ impl Entity {
 }
 
 impl From<Position> for Entity {
-    ghost from_gives = { λ position entity. entity ≡ cell_at position.row position.col };
+    ghost from_gives = { λ position entity. entity ≡ entities.Cell position.row position.col };
 
     fn from(position: Position) -> Entity {
         Entity::Cell(position.row, position.col)
@@ -39,7 +40,7 @@ impl From<Position> for Entity {
 }
 
 impl From<(usize, usize)> for Entity {
-    ghost from_gives = { λ pair entity. entity ≡ cell_at pair.0 pair.1 };
+    ghost from_gives = { λ pair entity. entity ≡ entities.Cell pair.0 pair.1 };
 
     fn from((row, col): (usize, usize)) -> Entity {
         Entity::Cell(row, col)

@@ -1,6 +1,6 @@
 //! Laws over the definitions that the contracts cite.
 
-ghost use Rattle.std.specs.Prelude.{◌≡◌, ◌<◌, ◌≤◌, ◌⊎◌, ◌↔◌, [], ◌∷◌, ◌++◌, ℕ, All, AllPairs, None, false, true};
+ghost use Rattle.std.specs.Prelude.{◌≡◌, ◌<◌, ◌≤◌, ◌⊎◌, ◌↔◌, [], ◌∷◌, ◌++◌, ℕ, All, AllPairs, None, false, pos, true};
 ghost use Rattle.std.specs.Cmp.Lexicographic.{slice_cmp, pointwise};
 ghost use Rattle.std.specs.Hash as fed;
 ghost use Rattle.std.specs.List.{flat_map};
@@ -29,7 +29,7 @@ ghost use Rattle.papergrid_values.specs.Lines.{horizontal_parts, horizontal_with
 ghost use Rattle.papergrid_values.specs.Colors.{texts_of, texts_cmp};
 ghost use Rattle.papergrid_values.specs.Keys.{sides_parts, formatting_flags};
 ghost use Rattle.papergrid_values.specs.Keys.{entity_key, offset_key, horizontal_rank, vertical_rank};
-ghost use Rattle.papergrid_values.specs.Writes.{numbers_fed, key_fed, kind_fed, texts_fed};
+ghost use Rattle.papergrid_values.specs.Writes.{key_fed, texts_fed};
 ghost use Rattle.papergrid_values.specs.Positions.{IsBefore, count_of};
 
 use crate::{
@@ -169,7 +169,7 @@ pub fn equal_directions()
 /// order of the fields, alignments their place in the list, colours the prefix and then the suffix.
 pub fn hashed_by_fields()
     ensures positions { (p : Position) →
-        ⟦<Position as Hash>⟧.hash_input p ≡ numbers_fed (p.row ∷ p.col ∷ []) }
+        ⟦<Position as Hash>⟧.hash_input p ≡ flat_map fed.usize (p.row ∷ p.col ∷ []) }
     ensures entities { (x : Entity) → ⟦<Entity as Hash>⟧.hash_input x ≡ key_fed (entity_key x) }
     ensures offsets { (x : Offset) → ⟦<Offset as Hash>⟧.hash_input x ≡ key_fed (offset_key x) }
     ensures indents { (x : Indent) →
@@ -177,9 +177,9 @@ pub fn hashed_by_fields()
     ensures flags { (x : Formatting) →
         ⟦<Formatting as Hash>⟧.hash_input x ≡ flat_map fed.bool (formatting_flags x) }
     ensures across { (x : AlignmentHorizontal) →
-        ⟦<AlignmentHorizontal as Hash>⟧.hash_input x ≡ kind_fed (horizontal_rank x) }
+        ⟦<AlignmentHorizontal as Hash>⟧.hash_input x ≡ fed.isize (pos (horizontal_rank x)) }
     ensures down { (x : AlignmentVertical) →
-        ⟦<AlignmentVertical as Hash>⟧.hash_input x ≡ kind_fed (vertical_rank x) }
+        ⟦<AlignmentVertical as Hash>⟧.hash_input x ≡ fed.isize (pos (vertical_rank x)) }
     ensures borrowed_colors { (x : ANSIStr) →
         ⟦<ANSIStr<'static> as Hash>⟧.hash_input x ≡ texts_fed (texts_of x) }
     ensures colors { (x : ANSIBuf) → ⟦<ANSIBuf as Hash>⟧.hash_input x ≡ texts_fed x }

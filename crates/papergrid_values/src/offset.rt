@@ -1,7 +1,8 @@
 //! A place in a text, counted from one of its ends. Source: `config/offset.rs`.
 
 ghost use Rattle.std.specs.Prelude.{◌≡◌};
-ghost use Rattle.papergrid_values.specs.Offsets.{offset_of, from_start};
+ghost use Rattle.papergrid_values.specs.Offsets.{offset_of};
+ghost use Rattle.papergrid_values.specs.declared.offset.Offset.TheVariants.{Start};
 
 /// A place counted from the start of a text, or from its end.
 ///
@@ -44,7 +45,7 @@ impl From<i64> for Offset {
 }
 
 impl From<usize> for Offset {
-    ghost from_gives = { λ number offset. offset ≡ from_start number };
+    ghost from_gives = { λ number offset. offset ≡ Start number };
 
     fn from(number: usize) -> Offset {
         Offset::Start(number)

@@ -70,8 +70,10 @@ impl<T> Sides<T> {
     /// What `f` answers in the end: at the first value and left, and then at each answer and the
     /// next of right, top and bottom. Condition: `f` may be called at each of these steps.
     pub fn fold<B, F: FnMut(B, T) -> B>(self, first: B, mut f: F) -> B
-        requires { CanFold F.pre F.step f first (self.left ∷ self.right ∷ self.top ∷ self.bottom ∷ []) }
-        ensures { Folds F.step f first (self.left ∷ self.right ∷ self.top ∷ self.bottom ∷ []) result }
+        requires { CanFold F.pre F.step f first
+            (self.left ∷ self.right ∷ self.top ∷ self.bottom ∷ []) }
+        ensures { Folds F.step f first
+            (self.left ∷ self.right ∷ self.top ∷ self.bottom ∷ []) result }
     {
         let after_left = f(first, self.left);
         let after_right = f(after_left, self.right);

@@ -29,9 +29,11 @@ with_last rows cells = slice_set rows (length rows - 1) cells
 abbrev pub table_so_far : Draft → Table
 table_so_far draft = record { columns = draft.columns; settings = map setting_told draft.settings.items; rows = with_last (rows_seen draft.rows.items) (texts_of draft.last.items) }
 
--- what a line says fits, and makes the one table the other; or it does not fit
-abbrev pub Takes : Table → Option Said → Bool → Table → Type 0
-Takes old says fits new = MatchBool fits (option_and_then (with_line old) says ≡ Some new) (option_and_then (with_line old) says ≡ None)
+-- what a line says fits, and the draft becomes that of the table after it; or it does not fit
+abbrev pub Takes : Draft → Option Said → Bool → Draft → Type 0
+Takes old says fits new =
+    let after = option_and_then (with_line (table_so_far old)) says in
+    MatchBool fits (after ≡ Some (table_so_far new)) (after ≡ None)
 
 -- the table that a script tells, or a bad line; out of memory says nothing
 abbrev pub GivesTable : Result Script ScriptError → Result Table ℕ → Type 0

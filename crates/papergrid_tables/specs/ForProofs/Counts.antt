@@ -1,9 +1,13 @@
 -- Counts by line.
-use Rattle.std.specs.Prelude.{◌≡◌, ℕ, ◌==◌, List, count_by, unwrap_or, nat_eq}
+use Rattle.std.specs.Prelude.{◌≡◌, ℕ, ◌==◌, Bool, if◌then◌else◌, List, count_by, unwrap_or, nat_eq}
 use Rattle.std.specs.HashMap.{HashMap, get}
 use Rattle.papergrid_values.specs.Positions.{along}
 use Rattle.papergrid_values.specs.declared.direction.Direction.{Direction}
 use Rattle.papergrid_values.specs.declared.position.Position.{Position}
+
+-- 1 where something holds
+abbrev pub one_if : Bool → ℕ
+one_if holds = if holds then 1 else 0
 
 -- the count of a line, 0 where none is held
 abbrev pub count_of : {S : Type 0} → HashMap ℕ ℕ S → ℕ → ℕ

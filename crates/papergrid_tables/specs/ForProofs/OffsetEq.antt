@@ -1,16 +1,13 @@
--- When two tables of overrides hold the same.
-use Rattle.std.specs.Prelude.{◌≡◌, Bool, true, ◌&&◌, ◌||◌, unwrap_or}
+-- The test of whether two tables of overrides hold the same.
+use Rattle.std.specs.Prelude.{Bool, true, ◌&&◌, ◌||◌, unwrap_or}
 use Rattle.std.specs.Cmp.{IsPartialEquivalence, and_per, on_per}
 use Rattle.std.specs.FinMap.{FinMap, empty, get, keys, retain_keys}
 use Rattle.std.specs.List.{list_any}
-use Rattle.std.specs.Option.{option_eq}
 use Rattle.std.specs.Ordering.{nat_cmp}
-use Rattle.papergrid_values.specs.declared.offset.Offset.{Offset}
-use Rattle.papergrid_values.specs.declared.position.Position.{Position}
 use Rattle.papergrid_keys.specs.Equal.{numbers_eq, places_eq}
 use Rattle.papergrid_keys.specs.ForProofs.EqualLaws.{numbers_laws, places_laws}
 use Rattle.papergrid_keys.specs.Keys.{position_cmp}
-use Rattle.papergrid_tables.specs.Overrides.{HeldOffsets, override_at}
+use Rattle.papergrid_tables.specs.Overrides.{HeldOffsets}
 
 module _ {T : Type 0} where
   -- no override
@@ -37,10 +34,6 @@ module _ {T : Type 0} (eq : T → T → Bool) where
   -- a position that is kept with no override counts for nothing
   abbrev pub overrides_eq : FinMap position_cmp (HeldOffsets T) → FinMap position_cmp (HeldOffsets T) → Bool
   overrides_eq s t = places_eq offsets_eq (with_overrides s) (with_overrides t)
-
-  -- at each position and offset both hold equal values, or neither holds one
-  abbrev pub HoldTheSame : FinMap position_cmp (HeldOffsets T) → FinMap position_cmp (HeldOffsets T) → Type 0
-  HoldTheSame s t = (p : Position) (o : Offset) → option_eq eq (override_at s p o) (override_at t p o) ≡ true
 
 pub offsets_eq_laws : {T : Type 0} (eq : T → T → Bool) → IsPartialEquivalence eq → IsPartialEquivalence (offsets_eq eq)
 offsets_eq_laws {T} eq laws =
