@@ -100,7 +100,7 @@ module _ (characters : HeldBorders ℕ) (missing : ℕ) (p : Position) where
   horizontal_shown count within =
       shown_where_line (found_horizontal (places_of characters) p count) _ missing (horizontal_tested characters p.row count) (found_on_horizontal (places_of characters) p count within)
 
-  pub crossing_shown : (rows cols : ℕ) → HasHorizontal (places_of characters) p.row rows → HasVertical (places_of characters) p.col cols → IsSome (shown_intersection characters missing p rows cols)
+  pub crossing_shown : (rows cols : ℕ) → HasHorizontal (places_of characters) p.row rows → HasVertical (places_of characters) p.col cols → IsSome (shown_intersection characters missing p (rows, cols))
   crossing_shown rows cols horizontal vertical =
       shown_on_line (found_intersection (places_of characters) p rows cols) (horizontal_line_at characters p.row rows && vertical_line_at characters p.col cols) missing
       (and_from _ _ ((horizontal_tested characters p.row rows).1 horizontal) ((vertical_tested characters p.col cols).1 vertical))

@@ -1,5 +1,5 @@
 -- What a list of settings decides for each cell.
-use Rattle.std.specs.Prelude.{ℕ, Bool, false, List, Option, None}
+use Rattle.std.specs.Prelude.{◌≡◌, ℕ, Bool, false, List, Option, None}
 use Rattle.std.specs.List.{flat_map}
 use Rattle.papergrid_values.specs.declared.alignment.AlignmentHorizontal.{AlignmentHorizontal}
 use Rattle.papergrid_values.specs.declared.alignment.AlignmentHorizontal.TheVariants.{Left}
@@ -12,8 +12,9 @@ use Rattle.papergrid_values.specs.declared.position.Position.{Position}
 use Rattle.papergrid_values.specs.declared.sides.Sides.{Sides}
 use Rattle.papergrid_maps.specs.MapCalls.{decided_value}
 use Rattle.papergrid_config.specs.Parts.{padding_calls, padding_color_calls, trim_horizontal_calls, trim_vertical_calls, line_alignment_calls, alignment_horizontal_calls, alignment_vertical_calls, justification_calls, justification_color_calls}
-use Rattle.papergrid_config.specs.Told.{all_sides, no_room}
+use Rattle.papergrid_config.specs.Told.{IsTold, all_sides, no_room}
 use Rattle.papergrid_config.specs.declared.setting.Setting.{Setting}
+use Rattle.papergrid_config.specs.declared.spanned.SpannedConfig.{SpannedConfig}
 
 -- the paddings of a cell: no room where nothing is set
 abbrev pub padding : List Setting → Position → Sides Indent
@@ -37,7 +38,8 @@ line_alignment settings p = decided_value false (flat_map line_alignment_calls s
 
 -- its alignment across: left where nothing is set
 abbrev pub alignment_horizontal : List Setting → Position → AlignmentHorizontal
-alignment_horizontal settings p = decided_value Left (flat_map alignment_horizontal_calls settings) p
+alignment_horizontal settings p =
+    decided_value Left (flat_map alignment_horizontal_calls settings) p
 
 -- its alignment down: at the top where nothing is set
 abbrev pub alignment_vertical : List Setting → Position → AlignmentVertical
@@ -58,3 +60,8 @@ formatting settings p = record {
   vertical_trim = trim_vertical settings p;
   allow_lines_alignment = line_alignment settings p;
 }
+
+-- whatever settings tell the configuration, the value is what they decide for the position
+abbrev pub IsDecidedAt : {A : Type 0} → SpannedConfig → Position → (List Setting → Position → A) → A → Type 0
+IsDecidedAt config p decided value =
+    (settings : List Setting) → IsTold settings config → value ≡ decided settings p

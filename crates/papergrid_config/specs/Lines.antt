@@ -13,13 +13,18 @@ shown found is_line missing = option_or found (if is_line then Some missing else
 module _ (characters : HeldBorders ℕ) (missing : ℕ) where
   -- on a vertical line, at the edge of a position
   abbrev pub shown_vertical : Position → ℕ → Option ℕ
-  shown_vertical p count = shown (found_vertical (places_of characters) p count) (vertical_line_at characters p.col count) missing
+  shown_vertical p count =
+      shown (found_vertical (places_of characters) p count)
+      (vertical_line_at characters p.col count) missing
 
   -- on a horizontal line, at the edge of a position
   abbrev pub shown_horizontal : Position → ℕ → Option ℕ
-  shown_horizontal p count = shown (found_horizontal (places_of characters) p count) (horizontal_line_at characters p.row count) missing
+  shown_horizontal p count =
+      shown (found_horizontal (places_of characters) p count)
+      (horizontal_line_at characters p.row count) missing
 
-  -- where both lines cross
-  abbrev pub shown_intersection : Position → ℕ → ℕ → Option ℕ
-  shown_intersection p rows cols =
-      shown (found_intersection (places_of characters) p rows cols) (horizontal_line_at characters p.row rows && vertical_line_at characters p.col cols) missing
+  -- where both lines cross, in a table of so many rows and columns
+  abbrev pub shown_intersection : Position → ℕ × ℕ → Option ℕ
+  shown_intersection p shape =
+      shown (found_intersection (places_of characters) p shape.0 shape.1)
+      (horizontal_line_at characters p.row shape.0 && vertical_line_at characters p.col shape.1) missing

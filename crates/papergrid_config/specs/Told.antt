@@ -32,8 +32,8 @@ newest_or default (newest ∷ older) = newest
 abbrev pub last_set : {T : Type 0} → T → (Setting → List T) → List Setting → T
 last_set default values settings = newest_or default (reverse (flat_map values settings))
 
--- a new configuration that was given the settings holds this: each part is told by the settings
--- that belong to it
+-- a new configuration that was given the settings holds this: each part is told by the settings that
+-- belong to it
 pub record IsTold (settings : List Setting) (config : SpannedConfig) : Type 0 where
   pub padding : map.IsTold (all_sides no_room) (flat_map padding_calls settings) config.padding
   pub padding_color : map.IsTold (all_sides None) (flat_map padding_color_calls settings) config.padding_color
@@ -59,3 +59,7 @@ pub record IsTold (settings : List Setting) (config : SpannedConfig) : Type 0 wh
 -- told by any settings, the configuration is told by these and then the further ones
 abbrev pub Appends : SpannedConfig → SpannedConfig → List Setting → Type 0
 Appends old new further = told.Appends IsTold old new further
+
+-- the same for one further setting
+abbrev pub Adds : SpannedConfig → SpannedConfig → Setting → Type 0
+Adds old new setting = Appends old new (setting ∷ [])

@@ -1,6 +1,6 @@
 //! Spans, and which cells they hide. Source: `config/spanned/mod.rs`.
 
-ghost use Rattle.std.specs.Prelude.{◌≡◌, ◌∷◌, [], ◌↔◌, ◌<◌, ◌≤◌, ◌⊎◌, All, AllPairs, OnOk, OnErr, IfOk, IfSome, IsOk, IsSome, IsTrue};
+ghost use Rattle.std.specs.Prelude.{◌≡◌, ◌↔◌, ◌<◌, ◌≤◌, ◌⊎◌, All, AllPairs, OnOk, OnErr, IfOk, IfSome, IsOk, IsSome, IsTrue};
 ghost use Rattle.std.specs.HashMap.{get as map_get};
 ghost use Rattle.std.specs.FinMap.{get as value_at};
 ghost use Rattle.papergrid_values.specs.Positions.{AreRising};
@@ -8,8 +8,8 @@ ghost use Rattle.papergrid_values.specs.declared.position.Position.{Position};
 ghost use Rattle.papergrid_keys.specs.Keys.{position_eq};
 ghost use Rattle.papergrid_maps.specs.Anchors.{AreAnchors, HasAnchor, IsSorted};
 ghost use Rattle.papergrid_maps.specs.Spans.{EndWithin, HasSpan, IsCoveredByBoth, IsCoveredByColumn, IsCoveredByRow, IsVisible, column_span, is_visible, row_span, span_at, spans_along};
-ghost use Rattle.papergrid_config.specs.Told.{Appends};
-ghost use Rattle.papergrid_config.specs.declared.setting.Setting.{Setting};
+ghost use Rattle.papergrid_config.specs.Told.{Adds};
+ghost use Rattle.papergrid_config.specs.declared.setting.Setting.TheVariants.{SetColumnSpan, SetRowSpan, RemoveColumnSpans, RemoveRowSpans};
 
 use crate::spanned::SpannedConfig;
 use papergrid_maps::Anchor;
@@ -24,7 +24,7 @@ impl SpannedConfig {
     /// held, so that neither takes memory or is refused. Where memory is refused the configuration is
     /// as it was.
     pub fn set_column_span(&mut self, pos: Position, span: usize) -> Result<(), AllocError>
-        ensures ok { OnOk result (Appends self.old self.new (Setting.SetColumnSpan pos span ∷ [])) }
+        ensures ok { OnOk result (Adds self.old self.new (SetColumnSpan pos span)) }
         ensures err { OnErr result (self.new ≡ self.old) }
         ensures small { span < 2 → IsOk result }
         ensures others { self.new ≡ record self.old { spans = record self.old.spans { columns = self.new.spans.columns } } }
@@ -36,7 +36,7 @@ impl SpannedConfig {
     /// so that neither takes memory or is refused. Where memory is refused the configuration is as it
     /// was.
     pub fn set_row_span(&mut self, pos: Position, span: usize) -> Result<(), AllocError>
-        ensures ok { OnOk result (Appends self.old self.new (Setting.SetRowSpan pos span ∷ [])) }
+        ensures ok { OnOk result (Adds self.old self.new (SetRowSpan pos span)) }
         ensures err { OnErr result (self.new ≡ self.old) }
         ensures small { span < 2 → IsOk result }
         ensures others { self.new ≡ record self.old { spans = record self.old.spans { rows = self.new.spans.rows } } }
@@ -110,7 +110,7 @@ impl SpannedConfig {
 
     /// Removes all column spans.
     pub fn remove_column_spans(&mut self)
-        ensures told { Appends self.old self.new (Setting.RemoveColumnSpans ∷ []) }
+        ensures told { Adds self.old self.new RemoveColumnSpans }
         ensures others { self.new ≡ record self.old { spans = record self.old.spans { columns = self.new.spans.columns } } }
     {
         self.spans.remove_columns();
@@ -118,7 +118,7 @@ impl SpannedConfig {
 
     /// Removes all row spans.
     pub fn remove_row_spans(&mut self)
-        ensures told { Appends self.old self.new (Setting.RemoveRowSpans ∷ []) }
+        ensures told { Adds self.old self.new RemoveRowSpans }
         ensures others { self.new ≡ record self.old { spans = record self.old.spans { rows = self.new.spans.rows } } }
     {
         self.spans.remove_rows();
