@@ -10,15 +10,16 @@ use Rattle.papergrid_values.specs.declared.formatting.Formatting.{Formatting}
 use Rattle.papergrid_values.specs.declared.indent.Indent.{Indent}
 use Rattle.papergrid_values.specs.declared.position.Position.{Position}
 use Rattle.papergrid_values.specs.declared.sides.Sides.{Sides}
+use Rattle.papergrid_maps.specs.Compact.{all_sides, spaces}
 use Rattle.papergrid_maps.specs.MapCalls.{decided_value}
 use Rattle.papergrid_config.specs.Parts.{padding_calls, padding_color_calls, trim_horizontal_calls, trim_vertical_calls, line_alignment_calls, alignment_horizontal_calls, alignment_vertical_calls, justification_calls, justification_color_calls}
-use Rattle.papergrid_config.specs.Told.{IsTold, all_sides, no_room}
+use Rattle.papergrid_config.specs.Told.{IsTold}
 use Rattle.papergrid_config.specs.declared.setting.Setting.{Setting}
 use Rattle.papergrid_config.specs.declared.spanned.SpannedConfig.{SpannedConfig}
 
 -- the paddings of a cell: no room where nothing is set
 abbrev pub padding : List Setting → Position → Sides Indent
-padding settings p = decided_value (all_sides no_room) (flat_map padding_calls settings) p
+padding settings p = decided_value (all_sides (spaces 0)) (flat_map padding_calls settings) p
 
 -- the colours of its paddings: none where nothing is set
 abbrev pub padding_color : List Setting → Position → Sides (Option ANSIBuf)

@@ -1,12 +1,12 @@
 //! The characters and the colours of lines: the frame, the defaults, lines, and the borders of
 //! cells. Source: `config/spanned/mod.rs`.
 
-ghost use Rattle.std.specs.Prelude.{◌≡◌, ◌+◌, ◌<◌, ◌^◌, nat_eq, ℕ, OnOk, OnErr, IfOk, option_copied};
-ghost use Rattle.std.specs.HashMap.{get as map_get};
+ghost use Rattle.std.specs.Prelude.{◌≡◌, ◌+◌, ◌<◌, ◌^◌, nat_eq, OnOk, OnErr, IfOk, option_copied};
 ghost use Rattle.std.specs.FinMap.{get as value_at};
 ghost use Rattle.papergrid_values.specs.Borders.{border_map};
 ghost use Rattle.papergrid_tables.specs.BorderHeld.{places_of};
 ghost use Rattle.papergrid_tables.specs.Places.{found_border};
+ghost use Rattle.papergrid_maps.specs.Listed.{HasAtEach};
 ghost use Rattle.papergrid_config.specs.Told.{Adds};
 ghost use Rattle.papergrid_config.specs.declared.setting.Setting.TheVariants.{SetBorders, SetBordersColor, SetBorderDefault, SetBorderColorDefault, RemoveBorders, RemoveBordersColors, SetBorder, SetBorderColor, RemoveBorder, RemoveBorderColor, InsertHorizontalLine, InsertVerticalLine, RemoveHorizontalLine, RemoveVerticalLine};
 
@@ -227,14 +227,16 @@ impl SpannedConfig {
 
     /// All horizontal lines that are held, by row, or out of memory.
     pub fn get_horizontal_lines(&self) -> Result<HashMap<usize, HorizontalLine<char>>, AllocError>
-        ensures { IfOk result (λ all. (n : ℕ) → map_get nat_eq all n ≡ value_at self.now.characters.horizontal_lines n) }
+        ensures { IfOk result (λ all.
+            HasAtEach nat_eq all (value_at self.now.characters.horizontal_lines)) }
     {
         self.characters.get_horizontal_lines()
     }
 
     /// All vertical lines that are held, by column, or out of memory.
     pub fn get_vertical_lines(&self) -> Result<HashMap<usize, VerticalLine<char>>, AllocError>
-        ensures { IfOk result (λ all. (n : ℕ) → map_get nat_eq all n ≡ value_at self.now.characters.vertical_lines n) }
+        ensures { IfOk result (λ all.
+            HasAtEach nat_eq all (value_at self.now.characters.vertical_lines)) }
     {
         self.characters.get_vertical_lines()
     }

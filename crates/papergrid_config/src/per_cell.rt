@@ -1,10 +1,8 @@
 //! What is set by entity and asked for by position. Source: `config/spanned/mod.rs`.
 
-ghost use Rattle.std.specs.Prelude.{◌≡◌, ◌≢◌, AllPairs, IfOk, OnOk, OnErr, IsOk, is_some, option_copied};
-ghost use Rattle.std.specs.Set.{is_member};
-ghost use Rattle.papergrid_keys.specs.Keys.{position_eq};
+ghost use Rattle.std.specs.Prelude.{◌≡◌, ◌≢◌, AllPairs, IfOk, OnOk, OnErr, IsOk, option_copied};
 ghost use Rattle.papergrid_values.specs.declared.entity.Entity.{Entity};
-ghost use Rattle.papergrid_values.specs.declared.position.Position.{Position};
+ghost use Rattle.papergrid_maps.specs.Listed.{AreSetCells};
 ghost use Rattle.papergrid_maps.specs.MapHeld.{held_for, held_value};
 ghost use Rattle.papergrid_config.specs.Decided as decided;
 ghost use Rattle.papergrid_config.specs.Decided.{IsDecidedAt};
@@ -50,7 +48,7 @@ impl SpannedConfig {
 
     /// The cells with room of their own, each once, in no order, or out of memory.
     pub fn padded_cells(&self) -> Result<Vec<Position>, AllocError>
-        ensures held { IfOk result (λ cells. (p : Position) → is_member position_eq cells.items p ≡ is_some (held_for self.now.padding (Entity.Cell p.row p.col))) }
+        ensures held { IfOk result (λ cells. AreSetCells (held_for self.now.padding) cells.items) }
         ensures once { IfOk result (λ cells. AllPairs (λ p q. p ≢ q) cells.items) }
     {
         self.padding.held_cells()

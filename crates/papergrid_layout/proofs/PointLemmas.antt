@@ -23,7 +23,7 @@ not-before p q (inr l) e = let same : q.col ≡ p.col = ap (λ (z : Position). z
 
 -- a visible position lies in no other rectangle
 pub none-but-visible : (config : SpannedConfig) (p q : Position) → (spanned_grid config).shows p ≡ true →
-    IsInRectangle ((spanned_grid config).span Columns) ((spanned_grid config).span Rows) q p → q ≢ p → ⊥
+    IsInRectangle (spanned_grid config).span q p → q ≢ p → ⊥
 none-but-visible config p q visible within other = (visible_test config.spans p).0 visible q other within
 
 -- a point of a range from number s on, of n numbers, and the number whose stretch the point lies in
@@ -78,7 +78,7 @@ module _ (grid : Grid) (widths heights : ℕ → ℕ) (shape : ℕ × ℕ) where
     pub over-within : (r c : ℕ) →
         (r < shape.0) × (offset heights (grid.draws Rows shape.0) r ≤ y) × (y < offset heights (grid.draws Rows shape.0) (r + 1)) →
         (c < shape.1) × (offset widths (grid.draws Columns shape.1) c ≤ x) × (x < offset widths (grid.draws Columns shape.1) (c + 1)) →
-        (q : Position) → Over q → IsInRectangle (grid.span Columns) (grid.span Rows) q (record { row = r; col = c })
+        (q : Position) → Over q → IsInRectangle grid.span q (record { row = r; col = c })
     over-within r c down across q over =
         let high = number-within heights (grid.draws Rows shape.0) q.row (grid.span Rows q) y over.covers.below_top over.covers.above_bottom r (down.1, down.2) in
         let wide = number-within widths (grid.draws Columns shape.1) q.col (grid.span Columns q) x over.covers.after_left over.covers.before_right c (across.1, across.2) in

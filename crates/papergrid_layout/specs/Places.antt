@@ -145,7 +145,7 @@ DoNotMeet a b = (x y : ℕ) → Covers a x y → Covers b x y → ⊥
 -- no position lies in the rectangles of both cells
 abbrev pub HaveNoneInCommon : Grid → Position → Position → Type 0
 HaveNoneInCommon grid p q =
-    (r : Position) → IsInRectangle (grid.span Columns) (grid.span Rows) p r → IsInRectangle (grid.span Columns) (grid.span Rows) q r → ⊥
+    (r : Position) → IsInRectangle grid.span p r → IsInRectangle grid.span q r → ⊥
 
 module _ {C : Type 0} (grid : Grid) (measure : C → ℕ × ℕ) (shape : ℕ × ℕ) (widths heights : List ℕ) where
   -- the cell has a place, which is at least as wide and as high as its measure with its paddings

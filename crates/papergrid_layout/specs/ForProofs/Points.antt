@@ -9,4 +9,4 @@ use Rattle.papergrid_layout.specs.Places.{StandsOver}
 -- a position lies in the rectangle of each cell that stands over column x of the terminal in line y
 abbrev pub LiesInEach : Grid → (ℕ → ℕ) → (ℕ → ℕ) → ℕ × ℕ → ℕ → ℕ → Position → Type 0
 LiesInEach grid widths heights shape x y within =
-    (q : Position) → StandsOver grid widths heights shape x y q → IsInRectangle (grid.span Columns) (grid.span Rows) q within
+    (q : Position) → StandsOver grid widths heights shape x y q → IsInRectangle grid.span q within
