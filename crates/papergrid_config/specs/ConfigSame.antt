@@ -1,18 +1,10 @@
 -- When two configurations hold the same.
 use Rattle.std.specs.Prelude.{◌≡◌}
-use Rattle.std.specs.FinMap.{FinMap}
-use Rattle.papergrid_values.specs.declared.offset.Offset.{Offset}
-use Rattle.papergrid_values.specs.declared.position.Position.{Position}
-use Rattle.papergrid_keys.specs.Keys.{position_cmp}
-use Rattle.papergrid_tables.specs.Overrides.{HeldOffsets, override_at}
+use Rattle.papergrid_tables.specs.Overrides.{override_at}
 use Rattle.papergrid_config.specs.declared.spanned.SpannedConfig.{SpannedConfig}
 
--- the same override, or none, at each position and offset
-abbrev pub SameOverrides : {T : Type 0} → (s t : FinMap position_cmp (HeldOffsets T)) → Type 0
-SameOverrides s t = (p : Position) (o : Offset) → override_at s p o ≡ override_at t p o
-
--- the values by entity, the lines, the spans and the values of the whole table are the same, and so
--- are the overrides, however they are kept
+-- the values by entity, the lines, the spans and the values of the whole table are the same, and so is
+-- the override at each position and offset, however it is kept
 pub record HoldTheSameSettings (x y : SpannedConfig) : Type 0 where
   pub but_overrides : x ≡ record y {
     alloc = x.alloc;
@@ -21,7 +13,7 @@ pub record HoldTheSameSettings (x y : SpannedConfig) : Type 0 where
     horizontal_colors = x.horizontal_colors;
     vertical_colors = x.vertical_colors;
   }
-  pub horizontal_chars : SameOverrides x.horizontal_chars y.horizontal_chars
-  pub vertical_chars : SameOverrides x.vertical_chars y.vertical_chars
-  pub horizontal_colors : SameOverrides x.horizontal_colors y.horizontal_colors
-  pub vertical_colors : SameOverrides x.vertical_colors y.vertical_colors
+  pub horizontal_chars : override_at x.horizontal_chars ≡ override_at y.horizontal_chars
+  pub vertical_chars : override_at x.vertical_chars ≡ override_at y.vertical_chars
+  pub horizontal_colors : override_at x.horizontal_colors ≡ override_at y.horizontal_colors
+  pub vertical_colors : override_at x.vertical_colors ≡ override_at y.vertical_colors
