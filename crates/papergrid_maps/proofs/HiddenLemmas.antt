@@ -1,5 +1,5 @@
 -- What the anchors hide is what the spans do not leave visible.
-use Rattle.std.proofs.Common.{ap, arith, sym, subst, inl, inr, ◌∙◌, ◌≡◌, ◌+◌, ◌≢◌, ◌↔◌, ◌≤◌, IsTrue, ℕ, List}
+use Rattle.std.proofs.Common.{ap, arith, sym, subst, inl, inr, ◌∙◌, ◌≡◌, ◌≢◌, ◌↔◌, IsTrue, ℕ, List}
 use Rattle.std.proofs.lemmas.Bool.{cases_lt}
 use Rattle.papergrid_values.specs.declared.direction.Direction.{Direction}
 use Rattle.papergrid_values.specs.declared.direction.Direction.TheVariants.{Columns, Rows}

@@ -1,6 +1,6 @@
 -- What is covered is hidden, and what is not covered is visible.
-use Rattle.std.proofs.Common.{◌≡◌, ℕ, ◌≤◌, true, false, Option, Some, None, refl, ap, arith, ⊎_elim}
-use Rattle.std.specs.Prelude.{unwrap_or, not, ◌≢◌, ◌↔◌}
+use Rattle.std.proofs.Common.{◌≡◌, ℕ, ◌≤◌, true, false, Option, Some, None, refl, ap, arith}
+use Rattle.std.specs.Prelude.{unwrap_or, ◌≢◌, ◌↔◌}
 use Rattle.std.specs.FinMap.{FinMap, get}
 use Rattle.std.proofs.lemmas.Bool.{false≢true}
 use Rattle.papergrid_values.specs.declared.direction.Direction.{Direction}
