@@ -28,7 +28,8 @@ pub fn place_in(
     ensures { let grid = spanned_grid config.now in
         IfOk result (λ place. (widths : List ℕ) × (heights : List ℕ)
         × AreBothSizes grid text_measure 3 (cells_of rows.now) widths heights
-        × HasPlace grid (slice_index widths) (slice_index heights) (length rows.now, 3) position place) }
+        × HasPlace grid (slice_index widths) (slice_index heights) (length rows.now, 3)
+        position place) }
 {
     let mut sizes = IterGridDimension::new(alloc);
     sizes
@@ -43,7 +44,8 @@ pub fn first_place(alloc: Global, settings: Vec<Setting>, rows: &[Vec<&str>]) ->
     ensures { let grid = grid_of settings.items in
         IfOk result (λ place. (widths : List ℕ) × (heights : List ℕ)
         × AreBothSizes grid text_measure 3 (cells_of rows.now) widths heights
-        × HasPlace grid (slice_index widths) (slice_index heights) (length rows.now, 3) (record { row = 0; col = 0 }) place) }
+        × HasPlace grid (slice_index widths) (slice_index heights) (length rows.now, 3)
+        (record { row = 0; col = 0 }) place) }
 {
     grid_by_settings();
     let config = told(alloc, settings)?;

@@ -18,7 +18,8 @@ pub fn place_of<D: Dimension>(
 ) -> Result<Place, PlaceError>
     requires columns { (column : ℕ) → column < shape.1 → D.has_column sizes.now column }
     requires rows { (row : ℕ) → row < shape.0 → D.has_row sizes.now row }
-    ensures { IsPlaced (spanned_grid config.now) (D.width_of sizes.now) (D.height_of sizes.now) shape position result }
+    ensures { IsPlaced (spanned_grid config.now) (D.width_of sizes.now) (D.height_of sizes.now)
+        shape position result }
 {
     place(sizes, config, shape, position)
 }
@@ -32,10 +33,10 @@ pub fn all_places<D: Dimension>(
 ) -> Result<Vec<(Position, Place)>, LayoutError>
     requires columns { (column : ℕ) → column < shape.1 → D.has_column sizes.now column }
     requires rows { (row : ℕ) → row < shape.0 → D.has_row sizes.now row }
-    ensures ok { IfOk result (λ list.
-        HaveAllPlaces (spanned_grid config.now) (D.width_of sizes.now) (D.height_of sizes.now) shape list.items) }
-    ensures err { IfErr result
-        (ArePlacesRefused (spanned_grid config.now) (D.width_of sizes.now) (D.height_of sizes.now) shape) }
+    ensures ok { let grid = spanned_grid config.now in IfOk result (λ list.
+        HaveAllPlaces grid (D.width_of sizes.now) (D.height_of sizes.now) shape list.items) }
+    ensures err { let grid = spanned_grid config.now in IfErr result
+        (ArePlacesRefused grid (D.width_of sizes.now) (D.height_of sizes.now) shape) }
 {
     places(alloc, sizes, config, shape)
 }
@@ -50,7 +51,8 @@ pub fn clicked<D: Dimension>(
 ) -> Option<Position>
     requires columns { (column : ℕ) → column < shape.1 → D.has_column sizes.now column }
     requires rows { (row : ℕ) → row < shape.0 → D.has_row sizes.now row }
-    ensures { IsFirstOver (spanned_grid config.now) (D.width_of sizes.now) (D.height_of sizes.now) shape column line result }
+    ensures { IsFirstOver (spanned_grid config.now) (D.width_of sizes.now) (D.height_of sizes.now)
+        shape column line result }
 {
     cell_at(sizes, config, shape, column, line)
 }
