@@ -22,12 +22,12 @@ use Rattle.papergrid_keys.specs.Tabulated.{tabulated, with_value}
 use Rattle.papergrid_tables.specs.Made.{borders_made, named_columns, named_places, named_rows}
 use Rattle.papergrid_tables.specs.Places.{at_ends, places_from}
 use Rattle.papergrid_maps.specs.Made.{named_anchors, spans_made}
-use Rattle.papergrid_maps.specs.Spans.{SpanCall, Spans, decided_span, from_two, is_hidden_by, is_visible}
+use Rattle.papergrid_maps.specs.Spans.{SpanCall, Spans, decided_span, from_two, is_hidden_by, is_visible, span_along}
 use Rattle.papergrid_keys.proofs.KeyLemmas.{position_total}
 use Rattle.papergrid_config.specs.Decided as decided
 use Rattle.papergrid_config.specs.Parts.{character_calls, span_calls}
 use Rattle.papergrid_config.specs.declared.setting.Setting.{Setting}
-use Rattle.papergrid_maps.specs.Grids.{Grid, size_after, size_before, span_along}
+use Rattle.papergrid_maps.specs.Grids.{Grid, size_after, size_before}
 use Rattle.papergrid_config.specs.Grids.{line_along}
 use Rattle.papergrid_layout.specs.declared.sizing.Sizing.{Sizing}
 use Rattle.papergrid.specs.declared.running.RunEnd.{RunEnd}
@@ -144,21 +144,21 @@ module _ {T : Type 0} (calls : List (BorderCall T)) where
 abbrev pub span_by : List (Position × ℕ) → Position → ℕ
 span_by spans p = unwrap_or (find position_cmp p spans) 1
 
-abbrev pub shows_by : List (Position × ℕ) → List (Position × ℕ) → Position → Bool
-shows_by columns rows p = not (is_hidden_by (span_by columns) (span_by rows) (map (λ e. e.0) columns ++ map (λ e. e.0) rows) p)
-
 abbrev pub spans_by : List (Position × ℕ) → List (Position × ℕ) → Direction → Position → ℕ
 spans_by columns rows Columns p = span_by columns p
 spans_by columns rows Rows p = span_by rows p
 
-shows-entries : (held : Spans) (p : Position) → is_visible held p ≡ shows_by (entries held.columns) (entries held.rows) p
-shows-entries held p = λ i.
-    not (is_hidden_by (λ q. unwrap_or (get-entries held.columns q i) 1) (λ q. unwrap_or (get-entries held.rows q i) 1)
-    (map (λ e. e.0) (entries held.columns) ++ map (λ e. e.0) (entries held.rows)) p)
+abbrev pub shows_by : List (Position × ℕ) → List (Position × ℕ) → Position → Bool
+shows_by columns rows p = not (is_hidden_by (spans_by columns rows) (map (λ e. e.0) columns ++ map (λ e. e.0) rows) p)
 
 spans-entries : (held : Spans) (direction : Direction) (p : Position) → span_along held direction p ≡ spans_by (entries held.columns) (entries held.rows) direction p
 spans-entries held Columns p = λ i. unwrap_or (get-entries held.columns p i) 1
 spans-entries held Rows p = λ i. unwrap_or (get-entries held.rows p i) 1
+
+shows-entries : (held : Spans) (p : Position) → is_visible held p ≡ shows_by (entries held.columns) (entries held.rows) p
+shows-entries held p = λ i.
+    not (is_hidden_by (λ d q. spans-entries held d q i)
+    (map (λ e. e.0) (entries held.columns) ++ map (λ e. e.0) (entries held.rows)) p)
 
 module _ (calls : List SpanCall) where
   abbrev anchors : List Position

@@ -4,7 +4,8 @@ use Rattle.papergrid_maps.specs.Spans.{is_visible}
 use Rattle.papergrid_config.specs.Decided as decided
 use Rattle.papergrid_config.specs.Made.{characters_of, spans_of}
 use Rattle.papergrid_config.specs.declared.setting.Setting.{Setting}
-use Rattle.papergrid_maps.specs.Grids.{Grid, size_after, size_before, span_along}
+use Rattle.papergrid_maps.specs.Grids.{Grid, size_after, size_before}
+use Rattle.papergrid_maps.specs.Spans.{span_along}
 use Rattle.papergrid_config.specs.Grids.{line_along}
 
 -- the visible positions, the spans, the paddings and the lines that settings decide

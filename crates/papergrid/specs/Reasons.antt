@@ -1,6 +1,7 @@
 -- Why an input has no sizes.
 use Rattle.std.specs.Prelude.{ℕ, List, [], ◌∷◌, ◌++◌, length, Option, Some, None, Result, Ok, Err, ⊤, codes, decimal}
-use Rattle.papergrid_maps.specs.Spans.{column_span, row_span}
+use Rattle.papergrid_values.specs.declared.direction.Direction.TheVariants.{Columns, Rows}
+use Rattle.papergrid_maps.specs.Spans.{span_along}
 use Rattle.papergrid_config.specs.Made.{spans_of}
 use Rattle.papergrid_layout.specs.declared.sizing.Sizing.{Sizing}
 use Rattle.papergrid_layout.specs.declared.sizing.Sizing.TheVariants.{ByShares}
@@ -14,7 +15,8 @@ use Rattle.papergrid_script.specs.Texts.{newline}
 -- for the first visible cell out of the table, its spans and the shape of the table, rows first
 abbrev pub estimate_reason : Table → Estimate → Option Reason
 estimate_reason table (OutOfTable place) =
-    Some (reason.OutOfTable place (row_span (spans_of table.settings) place, column_span (spans_of table.settings) place) (length table.rows, table.columns))
+    let span = span_along (spans_of table.settings) in
+    Some (reason.OutOfTable place (span Rows place, span Columns place) (length table.rows, table.columns))
 estimate_reason table TooLarge = Some reason.TooLarge
 estimate_reason table (Sized widths heights total_width total_height width_witness height_witness) = None
 

@@ -1,7 +1,8 @@
 //! Why a script has no sizes.
 
 ghost use Rattle.std.specs.Prelude.{◌≡◌, IfOk, Some};
-ghost use Rattle.papergrid_maps.specs.Spans.{column_span, row_span};
+ghost use Rattle.papergrid_maps.specs.Spans.{span_along};
+ghost use Rattle.papergrid_values.specs.declared.direction.Direction.TheVariants.{Columns, Rows};
 ghost use Rattle.papergrid.specs.Estimates.{estimate_of};
 ghost use Rattle.papergrid.specs.Reasons.{estimate_reason, reason_by};
 ghost use Rattle.papergrid_script.specs.ForProofs.Seen.{table_seen};
@@ -70,8 +71,8 @@ fn table_reason(
 
 /// How many rows and columns a position spans.
 fn spans_at(config: &SpannedConfig, position: Position) -> (usize, usize)
-    ensures rows { result.0 ≡ row_span config.now.spans position }
-    ensures columns { result.1 ≡ column_span config.now.spans position }
+    ensures rows { result.0 ≡ span_along config.now.spans Rows position }
+    ensures columns { result.1 ≡ span_along config.now.spans Columns position }
 {
     let rows = config.get_row_span(position).unwrap_or(1);
     let columns = config.get_column_span(position).unwrap_or(1);

@@ -11,7 +11,11 @@ use Rattle.papergrid_maps.specs.declared.entity_map.MapCall.{MapCall}
 use Rattle.papergrid_maps.specs.declared.entity_map.MapCall.TheVariants.{Insert, Remove}
 use Rattle.papergrid_maps.specs.Keys.{entity_eq}
 use Rattle.papergrid_maps.specs.MapCalls.{decided_value, global_value, pinned_value, standing_value}
-use Rattle.papergrid_config.specs.DecidingCall.{concerns, sets_all, ends_pins, IsLast, EntityStands, IsPin, PinStands, TableStands, NoTable, NoPin, NoEntity, IsDecided, ByPin, ByColumn, ByRow, ByTable, ByDefault}
+use Rattle.papergrid_config.specs.DecidingCall.{concerns, sets_all, ends_pins, IsLast, EntityStands, IsPin, PinStands, TableStands, OrElse, IsDecided}
+
+-- nothing has P
+abbrev NoneHas : {T : Type 0} → (T → Type 0) → Type 0
+NoneHas {T} P = (w : T) → ¬ (P w)
 
 -- the value that these calls decide, newest first
 abbrev decided_by : {T : Type 0} → T → List (MapCall T) → Position → T
@@ -208,10 +212,10 @@ module _ {T : Type 0} (calls : List (MapCall T)) where
   table_is given n v within h = table_found given (newest n) ∙ ap (table_set given) (last_find sets_all n h.0 (Insert Global v) within h.1 refl)
 
   -- it stands, or none does and the value given at first is left
-  table_stands : (given : T) (n : ℕ) → n ≤ length calls → TableStands calls n (global_value given (newest n)) ⊎ (NoTable calls n × (global_value given (newest n) ≡ given))
+  table_stands : (given : T) (n : ℕ) → n ≤ length calls → TableStands calls n (global_value given (newest n)) ⊎ (NoneHas (TableStands calls n) × (global_value given (newest n) ≡ given))
   table_stands given n within = of_found (find sets_all (newest n)) refl
     where
-      of_found : (o : Option (MapCall T)) → find sets_all (newest n) ≡ o → TableStands calls n (global_value given (newest n)) ⊎ (NoTable calls n × (global_value given (newest n) ≡ given))
+      of_found : (o : Option (MapCall T)) → find sets_all (newest n) ≡ o → TableStands calls n (global_value given (newest n)) ⊎ (NoneHas (TableStands calls n) × (global_value given (newest n) ≡ given))
       of_found None e = inr (λ w h. none-some _ (sym e ∙ last_find sets_all n h.0 (Insert Global w) within h.1 refl), table_found given (newest n) ∙ ap (table_set given) e)
       of_found (Some (Insert Global v)) e =
           let last = find_last sets_all n (Insert Global v) within e in
@@ -338,53 +342,49 @@ module _ {T : Type 0} (calls : List (MapCall T)) where
   is_decided : (given : T) (r c n : ℕ) → n ≤ length calls → IsDecided calls given r c n (found_by given r c n)
   is_decided given r c n within = by_pin (pinned_value r c (newest n)) refl
     where
-      by_table : NoPin calls r c n → NoEntity calls (Column c) n → NoEntity calls (Row r) n → IsDecided calls given r c n (global_value given (newest n))
+      by_table : NoneHas (PinStands calls r c n) → NoneHas (EntityStands calls (Column c) n) → NoneHas (EntityStands calls (Row r) n) → IsDecided calls given r c n (global_value given (newest n))
       by_table no_pin no_column no_row = elim (table_stands given n within) [
-        | inl table ↦ ByTable (global_value given (newest n)) no_pin no_column no_row table
-        | inr none ↦ subst (IsDecided calls given r c n) (sym none.1) (ByDefault no_pin no_column no_row none.0)
+        | inl table ↦ inr (no_pin, inr (no_column, inr (no_row, inl table)))
+        | inr none ↦ inr (no_pin, inr (no_column, inr (no_row, inr none)))
       ]
 
-      by_row : (o : Option T) → standing_value (Row r) (newest n) ≡ o → NoPin calls r c n → NoEntity calls (Column c) n → IsDecided calls given r c n (unwrap_or o (global_value given (newest n)))
-      by_row (Some v) e no_pin no_column = ByRow v no_pin no_column (entity_stands (Row r) n v within e)
+      by_row : (o : Option T) → standing_value (Row r) (newest n) ≡ o → NoneHas (PinStands calls r c n) → NoneHas (EntityStands calls (Column c) n) → IsDecided calls given r c n (unwrap_or o (global_value given (newest n)))
+      by_row (Some v) e no_pin no_column = inr (no_pin, inr (no_column, inl (entity_stands (Row r) n v within e)))
       by_row None e no_pin no_column = by_table no_pin no_column (λ w h. none-some w (sym e ∙ entity_is (Row r) refl n w within h))
 
-      by_column : (o : Option T) → standing_value (Column c) (newest n) ≡ o → NoPin calls r c n
+      by_column : (o : Option T) → standing_value (Column c) (newest n) ≡ o → NoneHas (PinStands calls r c n)
           → IsDecided calls given r c n (unwrap_or o (unwrap_or (standing_value (Row r) (newest n)) (global_value given (newest n))))
-      by_column (Some v) e no_pin = ByColumn v no_pin (entity_stands (Column c) n v within e)
+      by_column (Some v) e no_pin = inr (no_pin, inl (entity_stands (Column c) n v within e))
       by_column None e no_pin = by_row (standing_value (Row r) (newest n)) refl no_pin (λ w h. none-some w (sym e ∙ entity_is (Column c) refl n w within h))
 
       by_pin : (o : Option T) → pinned_value r c (newest n) ≡ o
           → IsDecided calls given r c n (unwrap_or o (unwrap_or (standing_value (Column c) (newest n)) (unwrap_or (standing_value (Row r) (newest n)) (global_value given (newest n)))))
-      by_pin (Some v) e = ByPin v (pin_stands r c n v within e)
+      by_pin (Some v) e = inl (pin_stands r c n v within e)
       by_pin None e = by_column (standing_value (Column c) (newest n)) refl (λ w h. none-some w (sym e ∙ pin_found r c n w within h))
 
-  no_pinned : (r c n : ℕ) → n ≤ length calls → NoPin calls r c n → pinned_value r c (newest n) ≡ None
+  no_pinned : (r c n : ℕ) → n ≤ length calls → NoneHas (PinStands calls r c n) → pinned_value r c (newest n) ≡ None
   no_pinned r c n within none = none_of (pinned_value r c (newest n)) (λ w e. none w (pin_stands r c n w within e))
 
-  no_value : (e : Entity) (n : ℕ) → n ≤ length calls → NoEntity calls e n → standing_value e (newest n) ≡ None
+  no_value : (e : Entity) (n : ℕ) → n ≤ length calls → NoneHas (EntityStands calls e n) → standing_value e (newest n) ≡ None
   no_value e n within none = none_of (standing_value e (newest n)) (λ w is. none w (entity_stands e n w within is))
 
   decided_is : (given : T) (r c n : ℕ) (v : T) → n ≤ length calls → IsDecided calls given r c n v → found_by given r c n ≡ v
-  decided_is given r c n _ within (ByPin v pin) = let e = pin_found r c n v within pin in rw e refl
-  decided_is given r c n _ within (ByColumn v none column) =
-      let p = no_pinned r c n within none in
-      let e = entity_is (Column c) refl n v within column in
-      rw (p, e) refl
-  decided_is given r c n _ within (ByRow v none none_column row) =
-      let p = no_pinned r c n within none in
-      let q = no_value (Column c) n within none_column in
-      let e = entity_is (Row r) refl n v within row in
-      rw (p, q, e) refl
-  decided_is given r c n _ within (ByTable v none none_column none_row table) =
-      let p = no_pinned r c n within none in
-      let q = no_value (Column c) n within none_column in
-      let s = no_value (Row r) n within none_row in
-      rw (p, q, s) (table_is given n v within table)
-  decided_is given r c n _ within (ByDefault none none_column none_row none_table) =
-      let p = no_pinned r c n within none in
-      let q = no_value (Column c) n within none_column in
-      let s = no_value (Row r) n within none_row in
-      rw (p, q, s) (elim (table_stands given n within) [ inl table ↦ absurd (none_table _ table) | inr left ↦ left.1 ])
+  decided_is given r c n v within (inl pin) = let e = pin_found r c n v within pin in rw e refl
+  decided_is given r c n v within (inr none) = let p = no_pinned r c n within none.0 in rw p (by_column none.1)
+    where
+      by_table : OrElse (TableStands calls n) (λ w. w ≡ given) v → global_value given (newest n) ≡ v
+      by_table (inl table) = table_is given n v within table
+      by_table (inr no_table) = elim (table_stands given n within) [ inl table ↦ absurd (no_table.0 _ table) | inr left ↦ left.1 ∙ sym no_table.1 ]
+
+      by_row : OrElse (EntityStands calls (Row r) n) (OrElse (TableStands calls n) (λ w. w ≡ given)) v
+          → unwrap_or (standing_value (Row r) (newest n)) (global_value given (newest n)) ≡ v
+      by_row (inl row) = let e = entity_is (Row r) refl n v within row in rw e refl
+      by_row (inr no_row) = let e = no_value (Row r) n within no_row.0 in rw e (by_table no_row.1)
+
+      by_column : OrElse (EntityStands calls (Column c) n) (OrElse (EntityStands calls (Row r) n) (OrElse (TableStands calls n) (λ w. w ≡ given))) v
+          → unwrap_or (standing_value (Column c) (newest n)) (unwrap_or (standing_value (Row r) (newest n)) (global_value given (newest n))) ≡ v
+      by_column (inl column) = let e = entity_is (Column c) refl n v within column in rw e refl
+      by_column (inr no_column) = let e = no_value (Column c) n within no_column.0 in rw e (by_row no_column.1)
 
   -- all the calls
   all_newest : newest (length calls) ≡ reverse calls

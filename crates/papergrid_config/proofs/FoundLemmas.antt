@@ -10,7 +10,7 @@ use Rattle.papergrid_tables.specs.BorderHeld.{HeldBorders, places_of}
 use Rattle.papergrid_tables.specs.LineTests.{horizontal_line_at, vertical_line_at}
 use Rattle.papergrid_tables.specs.Places.{Places, HasHorizontal, HasVertical, at_ends, found_horizontal, found_intersection, found_vertical, frame_horizontal, frame_vertical}
 use Rattle.papergrid_tables.proofs.LineTested.{horizontal_tested, vertical_tested}
-use Rattle.papergrid_config.specs.Lines.{shown, shown_horizontal, shown_intersection, shown_vertical}
+use Rattle.papergrid_config.specs.Lines.{found_or_missing, shown_horizontal, shown_intersection, shown_vertical}
 
 module _ {T : Type 0} where
   some_then : {L : Type 0} (f : L → Option T) (o : Option L) → IsSome (option_and_then f o) → IsSome o
@@ -73,19 +73,19 @@ module _ {T : Type 0} (places : Places T) (p : Position) (count : ℕ) where
       (some_then (λ l. l.main) (places.horizontal_line p.row)) (horizontal_part_found places.frame p.row count within)
 
 -- what is shown is found, or the line is there
-found_or_line : (found : Option ℕ) (is_line : Bool) (missing : ℕ) → IsSome (shown found is_line missing) → IsSome found ⊎ (is_line ≡ true)
+found_or_line : (found : Option ℕ) (is_line : Bool) (missing : ℕ) → IsSome (found_or_missing found is_line missing) → IsSome found ⊎ (is_line ≡ true)
 found_or_line None true missing h = inr refl
 found_or_line None false missing h = absurd (false≢true h)
 found_or_line (Some c) is_line missing h = inl refl
 
-shown_on_line : (found : Option ℕ) (is_line : Bool) (missing : ℕ) → is_line ≡ true → IsSome (shown found is_line missing)
+shown_on_line : (found : Option ℕ) (is_line : Bool) (missing : ℕ) → is_line ≡ true → IsSome (found_or_missing found is_line missing)
 shown_on_line None true missing h = refl
 shown_on_line None false missing h = absurd (false≢true h)
 shown_on_line (Some c) is_line missing h = refl
 
 -- something is shown where there is a line, if what is found is found on one
 shown_where_line : {Line : Type 0} (found : Option ℕ) (is_line : Bool) (missing : ℕ) → (is_line ≡ true) ↔ Line → (IsSome found → Line)
-    → IsSome (shown found is_line missing) ↔ Line
+    → IsSome (found_or_missing found is_line missing) ↔ Line
 shown_where_line found is_line missing tested on_line = (
   (λ h. ⊎_elim on_line tested.0 (found_or_line found is_line missing h)),
   (λ line. shown_on_line found is_line missing (tested.1 line)),
@@ -100,7 +100,7 @@ module _ (characters : HeldBorders ℕ) (missing : ℕ) (p : Position) where
   horizontal_shown count within =
       shown_where_line (found_horizontal (places_of characters) p count) _ missing (horizontal_tested characters p.row count) (found_on_horizontal (places_of characters) p count within)
 
-  pub crossing_shown : (rows cols : ℕ) → HasHorizontal (places_of characters) p.row rows → HasVertical (places_of characters) p.col cols → IsSome (shown_intersection characters missing p rows cols)
+  pub crossing_shown : (rows cols : ℕ) → HasHorizontal (places_of characters) p.row rows → HasVertical (places_of characters) p.col cols → IsSome (shown_intersection characters missing p (rows, cols))
   crossing_shown rows cols horizontal vertical =
       shown_on_line (found_intersection (places_of characters) p rows cols) (horizontal_line_at characters p.row rows && vertical_line_at characters p.col cols) missing
       (and_from _ _ ((horizontal_tested characters p.row rows).1 horizontal) ((vertical_tested characters p.col cols).1 vertical))

@@ -4,8 +4,8 @@ use Rattle.papergrid_values.specs.declared.position.Position.{Position}
 use Rattle.papergrid_values.specs.declared.sides.Sides.{Sides}
 use Rattle.papergrid_values.specs.declared.indent.Indent.{Indent}
 use Rattle.papergrid_tables.specs.BorderHeld.{HeldBorders}
-use Rattle.papergrid_maps.specs.Spans.{Spans, is_visible}
-use Rattle.papergrid_maps.specs.Grids.{Grid, size_after, size_before, span_along}
+use Rattle.papergrid_maps.specs.Spans.{Spans, is_visible, span_along}
+use Rattle.papergrid_maps.specs.Grids.{Grid, size_after, size_before}
 use Rattle.papergrid_config.specs.Grids.{line_along}
 
 -- by its spans, its paddings and its lines

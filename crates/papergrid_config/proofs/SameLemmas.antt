@@ -9,17 +9,11 @@ use Rattle.std.proofs.Math.Bool.{beq}
 use Rattle.std.proofs.lemmas.Bool.{and_from, and_parts, eqb-true, false≢true}
 use Rattle.papergrid_values.specs.Borders.{frame_parts}
 use Rattle.papergrid_values.specs.Lines.{horizontal_parts, vertical_parts}
-use Rattle.papergrid_values.specs.declared.alignment.AlignmentHorizontal.{AlignmentHorizontal}
 use Rattle.papergrid_values.specs.declared.alignment.AlignmentHorizontal.TheVariants as horizontal
-use Rattle.papergrid_values.specs.declared.alignment.AlignmentVertical.{AlignmentVertical}
 use Rattle.papergrid_values.specs.declared.alignment.AlignmentVertical.TheVariants as vertical
-use Rattle.papergrid_values.specs.declared.ansi_buf.ANSIBuf.{ANSIBuf}
 use Rattle.papergrid_values.specs.declared.borders.Borders.{Borders}
 use Rattle.papergrid_values.specs.declared.horizontal_line.HorizontalLine.{HorizontalLine}
-use Rattle.papergrid_values.specs.declared.indent.Indent.{Indent}
-use Rattle.papergrid_values.specs.declared.offset.Offset.{Offset}
 use Rattle.papergrid_values.specs.declared.offset.Offset.TheVariants.{Start, End}
-use Rattle.papergrid_values.specs.declared.sides.Sides.{Sides}
 use Rattle.papergrid_values.specs.declared.vertical_line.VerticalLine.{VerticalLine}
 use Rattle.papergrid_values.specs.contracts.alignment.AlignmentHorizontalPartialEq.TheImpl as alignment_horizontal
 use Rattle.papergrid_values.specs.contracts.alignment.AlignmentVerticalPartialEq.TheImpl as alignment_vertical
@@ -42,7 +36,6 @@ use Rattle.papergrid_maps.specs.MapHeld.{Held, held_for}
 use Rattle.papergrid_maps.specs.ForProofs.SpanEq.{spans_eq}
 use Rattle.papergrid_maps.specs.Spans.{Spans, spans_along}
 use Rattle.papergrid_maps.proofs.HeldAgree.{maps_agree, spans_agree}
-use Rattle.papergrid_config.specs.ConfigSame.{SameOverrides}
 use Rattle.papergrid_values.specs.declared.direction.Direction.TheVariants.{Columns, Rows}
 use Rattle.papergrid_config.proofs.EqualLemmas.{optional_eq, sides_eq}
 
@@ -193,8 +186,8 @@ spans_are s t same = λ i. record {
 }
 
 module _ {T : Type 0} (eq : T → T → Bool) (exact : IsExact eq) where
-  pub exact_overrides : (s t : FinMap position_cmp (HeldOffsets T)) → overrides_eq eq s t ≡ true → SameOverrides s t
-  exact_overrides s t h p o = exact_option eq exact (override_at s p o) (override_at t p o) ((overrides_agree eq s t).0 h p o)
+  pub exact_overrides : (s t : FinMap position_cmp (HeldOffsets T)) → overrides_eq eq s t ≡ true → override_at s ≡ override_at t
+  exact_overrides s t h = λ i p o. exact_option eq exact (override_at s p o) (override_at t p o) ((overrides_agree eq s t).0 h p o) i
 
 -- ---- each equals what is the same
 
@@ -230,5 +223,5 @@ module _ {T : Type 0} (eq : T → T → Bool) (itself : (v : T) → eq v v ≡ t
   pub equal_borders : {s t : HeldBorders T} → s ≡ t → borders_eq eq s t ≡ true
   equal_borders is = equal_at (borders_eq eq) borders_itself is
 
-  pub equal_overrides : (s t : FinMap position_cmp (HeldOffsets T)) → SameOverrides s t → overrides_eq eq s t ≡ true
-  equal_overrides s t same = (overrides_agree eq s t).1 (λ p o. equal_at (option_eq eq) (option_same eq itself) (same p o))
+  pub equal_overrides : (s t : FinMap position_cmp (HeldOffsets T)) → override_at s ≡ override_at t → overrides_eq eq s t ≡ true
+  equal_overrides s t same = (overrides_agree eq s t).1 (λ p o. equal_at (option_eq eq) (option_same eq itself) (ap (λ held. held p o) same))

@@ -1,5 +1,5 @@
 -- Which settings may be applied, and which need no memory.
-use Rattle.std.specs.Prelude.{◌+◌, ◌^◌, ◌&&◌, nat_lt, not, Bool, true, false, Option, Some, None, is_some, option_map, unwrap_or}
+use Rattle.std.specs.Prelude.{◌+◌, ◌^◌, ◌&&◌, nat_lt, Bool, true, false}
 use Rattle.papergrid_values.specs.declared.entity.Entity.{Entity}
 use Rattle.papergrid_values.specs.declared.entity.Entity.TheVariants.{Global}
 use Rattle.papergrid_values.specs.declared.position.Position.{Position}
@@ -18,40 +18,31 @@ is_in_range (RemoveBorder p shape) = has_neighbours p
 is_in_range (RemoveBorderColor p shape) = has_neighbours p
 is_in_range other = true
 
--- the entity for which a setting sets a value
-abbrev pub entity_of : Setting → Option Entity
-entity_of (SetPadding entity v) = Some entity
-entity_of (SetPaddingColor entity v) = Some entity
-entity_of (SetTrimHorizontal entity v) = Some entity
-entity_of (SetTrimVertical entity v) = Some entity
-entity_of (SetLineAlignment entity v) = Some entity
-entity_of (SetAlignmentHorizontal entity v) = Some entity
-entity_of (SetAlignmentVertical entity v) = Some entity
-entity_of (SetJustification entity v) = Some entity
-entity_of (SetJustificationColor entity v) = Some entity
-entity_of other = None
-
--- the calls that may ask for memory
-abbrev pub may_grow : Setting → Bool
-may_grow (InsertHorizontalLine row line) = true
-may_grow (InsertVerticalLine col line) = true
-may_grow (SetHorizontalChar p offset c) = true
-may_grow (SetVerticalChar p offset c) = true
-may_grow (SetHorizontalCharColor p offset color) = true
-may_grow (SetVerticalCharColor p offset color) = true
-may_grow (SetBorder p border) = true
-may_grow (SetBorderColor p border) = true
-may_grow (SetColumnSpan p n) = true
-may_grow (SetRowSpan p n) = true
-may_grow other = is_some (entity_of other)
-
 -- whether an entity is the whole table
 abbrev pub is_global : Entity → Bool
 is_global Global = true
 is_global other = false
 
--- none is asked for by the others, by a value for the whole table, and by a span below 2
+-- no memory is asked for by a value for the whole table, by a span below 2, and by each setting that
+-- is none of these
 abbrev pub is_free : Setting → Bool
+is_free (SetPadding entity v) = is_global entity
+is_free (SetPaddingColor entity v) = is_global entity
+is_free (SetTrimHorizontal entity v) = is_global entity
+is_free (SetTrimVertical entity v) = is_global entity
+is_free (SetLineAlignment entity v) = is_global entity
+is_free (SetAlignmentHorizontal entity v) = is_global entity
+is_free (SetAlignmentVertical entity v) = is_global entity
+is_free (SetJustification entity v) = is_global entity
+is_free (SetJustificationColor entity v) = is_global entity
 is_free (SetColumnSpan p n) = nat_lt n 2
 is_free (SetRowSpan p n) = nat_lt n 2
-is_free other = unwrap_or (option_map is_global (entity_of other)) (not (may_grow other))
+is_free (InsertHorizontalLine row line) = false
+is_free (InsertVerticalLine col line) = false
+is_free (SetHorizontalChar p offset c) = false
+is_free (SetVerticalChar p offset c) = false
+is_free (SetHorizontalCharColor p offset color) = false
+is_free (SetVerticalCharColor p offset color) = false
+is_free (SetBorder p border) = false
+is_free (SetBorderColor p border) = false
+is_free other = true

@@ -1,5 +1,5 @@
 -- What a list of settings decides for each cell.
-use Rattle.std.specs.Prelude.{ℕ, Bool, false, List, Option, None}
+use Rattle.std.specs.Prelude.{◌≡◌, ℕ, Bool, false, List, Option, None}
 use Rattle.std.specs.List.{flat_map}
 use Rattle.papergrid_values.specs.declared.alignment.AlignmentHorizontal.{AlignmentHorizontal}
 use Rattle.papergrid_values.specs.declared.alignment.AlignmentHorizontal.TheVariants.{Left}
@@ -10,14 +10,16 @@ use Rattle.papergrid_values.specs.declared.formatting.Formatting.{Formatting}
 use Rattle.papergrid_values.specs.declared.indent.Indent.{Indent}
 use Rattle.papergrid_values.specs.declared.position.Position.{Position}
 use Rattle.papergrid_values.specs.declared.sides.Sides.{Sides}
+use Rattle.papergrid_maps.specs.Compact.{all_sides, spaces}
 use Rattle.papergrid_maps.specs.MapCalls.{decided_value}
 use Rattle.papergrid_config.specs.Parts.{padding_calls, padding_color_calls, trim_horizontal_calls, trim_vertical_calls, line_alignment_calls, alignment_horizontal_calls, alignment_vertical_calls, justification_calls, justification_color_calls}
-use Rattle.papergrid_config.specs.Told.{all_sides, no_room}
+use Rattle.papergrid_config.specs.Told.{IsTold}
 use Rattle.papergrid_config.specs.declared.setting.Setting.{Setting}
+use Rattle.papergrid_config.specs.declared.spanned.SpannedConfig.{SpannedConfig}
 
 -- the paddings of a cell: no room where nothing is set
 abbrev pub padding : List Setting → Position → Sides Indent
-padding settings p = decided_value (all_sides no_room) (flat_map padding_calls settings) p
+padding settings p = decided_value (all_sides (spaces 0)) (flat_map padding_calls settings) p
 
 -- the colours of its paddings: none where nothing is set
 abbrev pub padding_color : List Setting → Position → Sides (Option ANSIBuf)
@@ -37,7 +39,8 @@ line_alignment settings p = decided_value false (flat_map line_alignment_calls s
 
 -- its alignment across: left where nothing is set
 abbrev pub alignment_horizontal : List Setting → Position → AlignmentHorizontal
-alignment_horizontal settings p = decided_value Left (flat_map alignment_horizontal_calls settings) p
+alignment_horizontal settings p =
+    decided_value Left (flat_map alignment_horizontal_calls settings) p
 
 -- its alignment down: at the top where nothing is set
 abbrev pub alignment_vertical : List Setting → Position → AlignmentVertical
@@ -58,3 +61,8 @@ formatting settings p = record {
   vertical_trim = trim_vertical settings p;
   allow_lines_alignment = line_alignment settings p;
 }
+
+-- whatever settings tell the configuration, the value is what they decide for the position
+abbrev pub IsDecidedAt : {A : Type 0} → SpannedConfig → Position → (List Setting → Position → A) → A → Type 0
+IsDecidedAt config p decided value =
+    (settings : List Setting) → IsTold settings config → value ≡ decided settings p

@@ -24,60 +24,57 @@ module _ {T : Type 0} where
   sets_all (Insert Global v) = true
   sets_all call = false
 
-  -- a call after which no earlier pin of the cell counts: for the whole table, or a remove of the cell, its row or its column
+  -- a call after which no earlier pin of the cell counts: for the whole table, or a remove of the cell,
+  -- its row or its column
   abbrev pub ends_pins : ℕ → ℕ → MapCall T → Bool
   ends_pins r c (Remove (Cell i j)) = (i == r) && (j == c)
   ends_pins r c (Remove (Row i)) = i == r
   ends_pins r c (Remove (Column j)) = j == c
   ends_pins r c call = is_for_all call
 
+  -- what has P, or where nothing has P what has Q
+  abbrev pub OrElse : (T → Type 0) → (T → Type 0) → T → Type 0
+  OrElse P Q v = P v ⊎ (((w : T) → ¬ (P w)) × Q v)
+
 module _ {T : Type 0} (calls : List (MapCall T)) where
-  -- of the first n calls, the oldest being the 0-th, the i-th is this one, and none after it passes the test
+  -- of the first n calls, the oldest being the 0-th, the i-th is this one, and none after it passes
+  -- the test
   pub record IsLast (test : MapCall T → Bool) (n i : ℕ) (call : MapCall T) : Type 0 where
     pub before : i < n
     pub at : slice_get calls i ≡ Some call
-    pub last : (j : ℕ) (other : MapCall T) → i < j → j < n → slice_get calls j ≡ Some other → test other ≡ false
+    pub last : (j : ℕ) (other : MapCall T) → i < j → j < n → slice_get calls j ≡ Some other →
+        test other ≡ false
 
-  -- after the first n calls a column (row) has a value that stands: the last of them that sets it, or is for the whole table, sets it so
+  -- after the first n calls a column (row) has a value that stands: the last of them that sets it, or
+  -- is for the whole table, sets it so
   abbrev pub EntityStands : Entity → ℕ → T → Type 0
   EntityStands entity n v = (i : ℕ) × IsLast (concerns entity) n i (Insert entity v)
 
-  -- the i-th call pins the cell to a value: it sets the cell, or its row while a value of its column stands, or the other way round
+  -- the i-th call pins the cell to a value: it sets the cell, or its row while a value of its column
+  -- stands, or the other way round
   abbrev pub IsPin : ℕ → ℕ → ℕ → T → Type 0
   IsPin r c i v =
       (slice_get calls i ≡ Some (Insert (Cell r c) v))
       ⊎ (((slice_get calls i ≡ Some (Insert (Row r) v)) × ((w : T) × EntityStands (Column c) i w))
       ⊎ ((slice_get calls i ≡ Some (Insert (Column c) v)) × ((w : T) × EntityStands (Row r) i w)))
 
-  -- after the first n calls the cell has a pin that counts: the last one, and no later call ends the pins
+  -- after the first n calls the cell has a pin that counts: the last one, and no later call ends the
+  -- pins
   pub record PinStands (r c n : ℕ) (v : T) : Type 0 where
     pub place : ℕ
     pub before : place < n
     pub pins : IsPin r c place v
     pub last : (j : ℕ) (w : T) → place < j → j < n → ¬ (IsPin r c j w)
-    pub counts : (j : ℕ) (call : MapCall T) → place < j → j < n → slice_get calls j ≡ Some call → ends_pins r c call ≡ false
+    pub counts : (j : ℕ) (call : MapCall T) → place < j → j < n → slice_get calls j ≡ Some call →
+        ends_pins r c call ≡ false
 
   -- after the first n calls the whole table has a value: the last of them that sets it sets it so
   abbrev pub TableStands : ℕ → T → Type 0
   TableStands n v = (i : ℕ) × IsLast sets_all n i (Insert Global v)
 
-  -- no value stands, of the cell's pins, of a column or of a row, and none was set for the whole table
-  abbrev pub NoPin : ℕ → ℕ → ℕ → Type 0
-  NoPin r c n = (w : T) → ¬ (PinStands r c n w)
-
-  -- no value of a column (row) stands
-  abbrev pub NoEntity : Entity → ℕ → Type 0
-  NoEntity entity n = (w : T) → ¬ (EntityStands entity n w)
-
-  -- no value of the whole table stands
-  abbrev pub NoTable : ℕ → Type 0
-  NoTable n = (w : T) → ¬ (TableStands n w)
-
-  -- the first n calls decide a value for the cell: that of the last pin that counts, else the column's that stands, else the row's,
-  -- else the whole table's, else the one given at first
-  pub data IsDecided (given : T) (r c n : ℕ) : T → Type 0 where
-    ByPin : (v : T) → PinStands r c n v → IsDecided given r c n v
-    ByColumn : (v : T) → NoPin r c n → EntityStands (Column c) n v → IsDecided given r c n v
-    ByRow : (v : T) → NoPin r c n → NoEntity (Column c) n → EntityStands (Row r) n v → IsDecided given r c n v
-    ByTable : (v : T) → NoPin r c n → NoEntity (Column c) n → NoEntity (Row r) n → TableStands n v → IsDecided given r c n v
-    ByDefault : NoPin r c n → NoEntity (Column c) n → NoEntity (Row r) n → NoTable n → IsDecided given r c n given
+  -- the value that the first n calls decide for the cell: that of the last pin that counts, else the
+  -- column's that stands, else the row's, else the whole table's, else the one given at first
+  abbrev pub IsDecided : T → ℕ → ℕ → ℕ → T → Type 0
+  IsDecided given r c n =
+      OrElse (PinStands r c n) (OrElse (EntityStands (Column c) n) (OrElse (EntityStands (Row r) n)
+      (OrElse (TableStands n) (λ v. v ≡ given))))

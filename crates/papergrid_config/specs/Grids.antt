@@ -4,9 +4,9 @@ use Rattle.papergrid_values.specs.declared.direction.Direction.{Direction}
 use Rattle.papergrid_values.specs.declared.direction.Direction.TheVariants.{Columns, Rows}
 use Rattle.papergrid_tables.specs.BorderHeld.{HeldBorders}
 use Rattle.papergrid_tables.specs.LineTests.{horizontal_line_at, vertical_line_at}
-use Rattle.papergrid_maps.specs.Grids.{Grid, size_after, size_before, span_along}
+use Rattle.papergrid_maps.specs.Grids.{Grid, size_after, size_before}
 use Rattle.papergrid_maps.specs.MapHeld.{held_value}
-use Rattle.papergrid_maps.specs.Spans.{is_visible}
+use Rattle.papergrid_maps.specs.Spans.{is_visible, span_along}
 use Rattle.papergrid_config.specs.declared.spanned.SpannedConfig.{SpannedConfig}
 
 -- whether there is a line at i of count, along a direction

@@ -11,3 +11,4 @@ pub mod Made
 pub mod Parts
 pub mod Queries
 pub mod Told
+pub mod ForProofs

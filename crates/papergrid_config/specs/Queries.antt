@@ -1,22 +1,19 @@
 -- What the queries of a configuration ask.
-use Rattle.std.specs.Prelude.{◌≡◌, [], Option, None, false}
+use Rattle.std.specs.Prelude.{◌≡◌, [], Option, false}
 use Rattle.papergrid_values.specs.Keys.{sides_parts}
 use Rattle.papergrid_values.specs.Parts.{none_set}
 use Rattle.papergrid_values.specs.declared.ansi_buf.ANSIBuf.{ANSIBuf}
 use Rattle.papergrid_values.specs.declared.sides.Sides.{Sides}
 use Rattle.papergrid_tables.specs.BorderHeld as lines
 use Rattle.papergrid_tables.specs.Overrides as overrides
+use Rattle.papergrid_maps.specs.ColorsHeld.{IsBlank}
 use Rattle.papergrid_maps.specs.MapHeld.{Held, HasNothing, Holds}
 use Rattle.papergrid_config.specs.declared.spanned.SpannedConfig.{SpannedConfig}
 
--- no value is held for a column, a row or a cell, and the global value is none
-pub record IsUncolored (held : Held (Option ANSIBuf)) : Type 0 where
-  pub entities : HasNothing held
-  pub global : held.global ≡ None
-
 -- a value with a side that is set is held, for the whole table or an entity of it
 abbrev pub HasSetSide : Held (Sides (Option ANSIBuf)) → Type 0
-HasSetSide held = (colors : Sides (Option ANSIBuf)) × Holds held colors × (none_set (sides_parts colors) ≡ false)
+HasSetSide held =
+    (colors : Sides (Option ANSIBuf)) × Holds held colors × (none_set (sides_parts colors) ≡ false)
 
 module _ (config : SpannedConfig) where
   -- a colour is held for all lines, in the frame, or for a line, an edge or a corner
@@ -29,8 +26,10 @@ module _ (config : SpannedConfig) where
 
   -- a character that justifies is held for a column, a row or a cell, or a colour of one for any entity
   abbrev pub HasJustification : Type 0
-  HasJustification = HasNothing config.justification × IsUncolored config.justification_color → ⊥
+  HasJustification = HasNothing config.justification × IsBlank config.justification_color → ⊥
 
   -- a flag is held for a column, a row or a cell
   abbrev pub HasFormatting : Type 0
-  HasFormatting = HasNothing config.trim_horizontal × (HasNothing config.trim_vertical × HasNothing config.line_alignment) → ⊥
+  HasFormatting =
+      HasNothing config.trim_horizontal
+      × (HasNothing config.trim_vertical × HasNothing config.line_alignment) → ⊥

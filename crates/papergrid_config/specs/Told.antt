@@ -3,25 +3,16 @@ use Rattle.std.specs.Prelude.{◌≡◌, false, List, [], ◌∷◌, reverse, No
 use Rattle.std.specs.List.{flat_map}
 use Rattle.papergrid_values.specs.declared.alignment.AlignmentHorizontal.TheVariants.{Left}
 use Rattle.papergrid_values.specs.declared.alignment.AlignmentVertical.TheVariants.{Top}
-use Rattle.papergrid_values.specs.declared.indent.Indent.{Indent}
 use Rattle.papergrid_values.specs.declared.offset.Offset.TheVariants.{Start}
-use Rattle.papergrid_values.specs.declared.sides.Sides.{Sides}
 use Rattle.papergrid_keys.specs.Told as told
 use Rattle.papergrid_tables.specs.BorderHeld as lines
 use Rattle.papergrid_tables.specs.Overrides as overrides
+use Rattle.papergrid_maps.specs.Compact.{all_sides, spaces}
 use Rattle.papergrid_maps.specs.MapHeld as map
 use Rattle.papergrid_maps.specs.Spans as spans
 use Rattle.papergrid_config.specs.Parts.{padding_calls, padding_color_calls, trim_horizontal_calls, trim_vertical_calls, line_alignment_calls, alignment_horizontal_calls, alignment_vertical_calls, justification_calls, justification_color_calls, character_calls, color_calls, horizontal_char_calls, vertical_char_calls, horizontal_color_calls, vertical_color_calls, span_calls, margins, margin_colors, margin_offsets, missing_characters}
 use Rattle.papergrid_config.specs.declared.setting.Setting.{Setting}
 use Rattle.papergrid_config.specs.declared.spanned.SpannedConfig.{SpannedConfig}
-
--- the same on each side
-abbrev pub all_sides : {T : Type 0} → T → Sides T
-all_sides v = record { top = v; bottom = v; left = v; right = v }
-
--- no room, with a space as its fill
-abbrev pub no_room : Indent
-no_room = record { fill = 32; size = 0 }
 
 -- the newest of the values set, newest first, or the default
 abbrev pub newest_or : {T : Type 0} → T → List T → T
@@ -32,10 +23,10 @@ newest_or default (newest ∷ older) = newest
 abbrev pub last_set : {T : Type 0} → T → (Setting → List T) → List Setting → T
 last_set default values settings = newest_or default (reverse (flat_map values settings))
 
--- a new configuration that was given the settings holds this: each part is told by the settings
--- that belong to it
+-- a new configuration that was given the settings holds this: each part is told by the settings that
+-- belong to it
 pub record IsTold (settings : List Setting) (config : SpannedConfig) : Type 0 where
-  pub padding : map.IsTold (all_sides no_room) (flat_map padding_calls settings) config.padding
+  pub padding : map.IsTold (all_sides (spaces 0)) (flat_map padding_calls settings) config.padding
   pub padding_color : map.IsTold (all_sides None) (flat_map padding_color_calls settings) config.padding_color
   pub trim_horizontal : map.IsTold false (flat_map trim_horizontal_calls settings) config.trim_horizontal
   pub trim_vertical : map.IsTold false (flat_map trim_vertical_calls settings) config.trim_vertical
@@ -51,7 +42,7 @@ pub record IsTold (settings : List Setting) (config : SpannedConfig) : Type 0 wh
   pub horizontal_colors : overrides.IsTold (flat_map horizontal_color_calls settings) config.horizontal_colors
   pub vertical_colors : overrides.IsTold (flat_map vertical_color_calls settings) config.vertical_colors
   pub spans : spans.IsTold (flat_map span_calls settings) config.spans
-  pub margin : config.margin ≡ last_set (all_sides no_room) margins settings
+  pub margin : config.margin ≡ last_set (all_sides (spaces 0)) margins settings
   pub margin_color : config.margin_color ≡ last_set (all_sides None) margin_colors settings
   pub margin_offset : config.margin_offset ≡ last_set (all_sides (Start 0)) margin_offsets settings
   pub missing : config.missing ≡ last_set 32 missing_characters settings
@@ -59,3 +50,7 @@ pub record IsTold (settings : List Setting) (config : SpannedConfig) : Type 0 wh
 -- told by any settings, the configuration is told by these and then the further ones
 abbrev pub Appends : SpannedConfig → SpannedConfig → List Setting → Type 0
 Appends old new further = told.Appends IsTold old new further
+
+-- the same for one further setting
+abbrev pub Adds : SpannedConfig → SpannedConfig → Setting → Type 0
+Adds old new setting = Appends old new (setting ∷ [])

@@ -4,8 +4,10 @@ ghost use Rattle.std.specs.Prelude.{◌≡◌, ◌↔◌, ◌-◌, ◌<◌, ◌^
 ghost use Rattle.papergrid_tables.specs.BorderHeld.{places_of};
 ghost use Rattle.papergrid_tables.specs.LineTests.{horizontal_line_at, vertical_line_at};
 ghost use Rattle.papergrid_tables.specs.Places.{HasHorizontal, HasVertical, found_horizontal, found_intersection, found_vertical};
+ghost use Rattle.papergrid_config.specs.Grids.{line_along};
 ghost use Rattle.papergrid_config.specs.Lines.{shown_horizontal, shown_intersection, shown_vertical};
 ghost use Rattle.papergrid_values.specs.Lines.{all_lines};
+ghost use Rattle.papergrid_values.specs.declared.direction.Direction.TheVariants.{Columns, Rows};
 
 use crate::spanned::SpannedConfig;
 use papergrid_values::{ANSIBuf, Position};
@@ -33,7 +35,7 @@ impl SpannedConfig {
     /// The character where two lines cross, in a table of so many rows and columns: the one found
     /// in the table of characters, or else the missing one where both lines are there.
     pub fn get_intersection(&self, pos: Position, shape: (usize, usize)) -> Option<char>
-        ensures { result ≡ shown_intersection self.now.characters self.now.missing pos shape.0 shape.1 }
+        ensures { result ≡ shown_intersection self.now.characters self.now.missing pos shape }
     {
         match self.characters.get_intersection(pos, shape) {
             Some(character) => Some(*character),
@@ -59,7 +61,8 @@ impl SpannedConfig {
 
     /// The colour where two lines cross, in a table of so many rows and columns.
     pub fn get_intersection_color(&self, pos: Position, shape: (usize, usize)) -> Option<&ANSIBuf>
-        ensures { option_copied result ≡ found_intersection (places_of self.now.colors) pos shape.0 shape.1 }
+        ensures { option_copied result
+            ≡ found_intersection (places_of self.now.colors) pos shape.0 shape.1 }
     {
         self.colors.get_intersection(pos, shape)
     }
@@ -84,7 +87,7 @@ impl SpannedConfig {
     /// the greatest `usize`.
     pub fn count_vertical(&self, count: usize) -> usize
         requires { count < 2 ^ 64 - 1 }
-        ensures { result ≡ all_lines (λ col. vertical_line_at self.now.characters col count) count }
+        ensures { result ≡ all_lines (line_along self.now.characters Columns count) count }
     {
         (0..count + 1)
             .filter(|col| self.has_vertical(*col, count))
@@ -95,7 +98,7 @@ impl SpannedConfig {
     /// greatest `usize`.
     pub fn count_horizontal(&self, count: usize) -> usize
         requires { count < 2 ^ 64 - 1 }
-        ensures { result ≡ all_lines (λ row. horizontal_line_at self.now.characters row count) count }
+        ensures { result ≡ all_lines (line_along self.now.characters Rows count) count }
     {
         (0..count + 1)
             .filter(|row| self.has_horizontal(*row, count))

@@ -35,45 +35,55 @@ pub fn told_decides()
 /// else the one given at first; and nothing else is.
 pub fn decided_by_place<T>()
     ensures decided { (given : T) (calls : List (MapCall T)) (r c : ℕ) →
-        IsDecided calls given r c (length calls) (decided_value given calls (record { row = r; col = c })) }
+        IsDecided calls given r c (length calls)
+        (decided_value given calls (record { row = r; col = c })) }
     ensures only { (given : T) (calls : List (MapCall T)) (r c : ℕ) (v : T) →
-        IsDecided calls given r c (length calls) v → v ≡ decided_value given calls (record { row = r; col = c }) }
+        IsDecided calls given r c (length calls) v →
+        v ≡ decided_value given calls (record { row = r; col = c }) }
 {}
 
 /// There is a line among those that settings make exactly where what the settings leave at each
 /// place has one.
 pub fn lines_by_place()
     ensures vertical { (settings : List Setting) (col count : ℕ) →
-        IsTrue (vertical_line_at (characters_of settings) col count) ↔ HasVertical (lines_left settings) col count }
+        IsTrue (vertical_line_at (characters_of settings) col count)
+        ↔ HasVertical (lines_left settings) col count }
     ensures horizontal { (settings : List Setting) (row count : ℕ) →
-        IsTrue (horizontal_line_at (characters_of settings) row count) ↔ HasHorizontal (lines_left settings) row count }
+        IsTrue (horizontal_line_at (characters_of settings) row count)
+        ↔ HasHorizontal (lines_left settings) row count }
 {}
 
 /// In a table of so many columns (rows) a character is shown on a line exactly where the line is
 /// there, and one is shown where two lines that are there cross.
 pub fn shown_where_lines_are()
-    ensures vertical { (characters : HeldBorders ℕ) (missing : ℕ) (p : Position) (count : ℕ) → p.col ≤ count →
-        IsSome (shown_vertical characters missing p count) ↔ HasVertical (places_of characters) p.col count }
-    ensures horizontal { (characters : HeldBorders ℕ) (missing : ℕ) (p : Position) (count : ℕ) → p.row ≤ count →
-        IsSome (shown_horizontal characters missing p count) ↔ HasHorizontal (places_of characters) p.row count }
+    ensures vertical { (characters : HeldBorders ℕ) (missing : ℕ) (p : Position) (count : ℕ) →
+        p.col ≤ count → IsSome (shown_vertical characters missing p count)
+        ↔ HasVertical (places_of characters) p.col count }
+    ensures horizontal { (characters : HeldBorders ℕ) (missing : ℕ) (p : Position) (count : ℕ) →
+        p.row ≤ count → IsSome (shown_horizontal characters missing p count)
+        ↔ HasHorizontal (places_of characters) p.row count }
     ensures crossing { (characters : HeldBorders ℕ) (missing : ℕ) (p : Position) (rows cols : ℕ) →
-        HasHorizontal (places_of characters) p.row rows → HasVertical (places_of characters) p.col cols →
-        IsSome (shown_intersection characters missing p rows cols) }
+        HasHorizontal (places_of characters) p.row rows →
+        HasVertical (places_of characters) p.col cols →
+        IsSome (shown_intersection characters missing p (rows, cols)) }
 {}
 
 /// Configurations are equal exactly where each of their parts is, and they are where they are told
 /// by the same settings.
 pub fn equal_where_told()
-    ensures by_parts { (x y : SpannedConfig) → ⟦<SpannedConfig as PartialEq>⟧.eq x y ≡ list_all (λ same. same) (
+    ensures by_parts { (x y : SpannedConfig) →
+        ⟦<SpannedConfig as PartialEq>⟧.eq x y ≡ list_all (λ same. same) (
         ⟦<EntityMap<Sides<Indent>> as PartialEq>⟧.eq x.padding y.padding
         ∷ ⟦<EntityMap<Sides<Option<ANSIBuf>>> as PartialEq>⟧.eq x.padding_color y.padding_color
         ∷ ⟦<EntityMap<bool> as PartialEq>⟧.eq x.trim_horizontal y.trim_horizontal
         ∷ ⟦<EntityMap<bool> as PartialEq>⟧.eq x.trim_vertical y.trim_vertical
         ∷ ⟦<EntityMap<bool> as PartialEq>⟧.eq x.line_alignment y.line_alignment
-        ∷ ⟦<EntityMap<AlignmentHorizontal> as PartialEq>⟧.eq x.alignment_horizontal y.alignment_horizontal
+        ∷ ⟦<EntityMap<AlignmentHorizontal> as PartialEq>⟧.eq
+        x.alignment_horizontal y.alignment_horizontal
         ∷ ⟦<EntityMap<AlignmentVertical> as PartialEq>⟧.eq x.alignment_vertical y.alignment_vertical
         ∷ ⟦<EntityMap<char> as PartialEq>⟧.eq x.justification y.justification
-        ∷ ⟦<EntityMap<Option<ANSIBuf>> as PartialEq>⟧.eq x.justification_color y.justification_color
+        ∷ ⟦<EntityMap<Option<ANSIBuf>> as PartialEq>⟧.eq
+        x.justification_color y.justification_color
         ∷ ⟦<BorderTable<char> as PartialEq>⟧.eq x.characters y.characters
         ∷ ⟦<BorderTable<ANSIBuf> as PartialEq>⟧.eq x.colors y.colors
         ∷ ⟦<OffsetTable<char> as PartialEq>⟧.eq x.horizontal_chars y.horizontal_chars
@@ -85,7 +95,8 @@ pub fn equal_where_told()
         ∷ ⟦<Sides<Option<ANSIBuf>> as PartialEq>⟧.eq x.margin_color y.margin_color
         ∷ ⟦<Sides<Offset> as PartialEq>⟧.eq x.margin_offset y.margin_offset
         ∷ ⟦<char as PartialEq>⟧.eq x.missing y.missing ∷ []) }
-    ensures told { (settings : List Setting) (x y : SpannedConfig) → IsTold settings x → IsTold settings y →
+    ensures told { (settings : List Setting) (x y : SpannedConfig) →
+        IsTold settings x → IsTold settings y →
         IsTrue (⟦<SpannedConfig as PartialEq>⟧.eq x y) }
 {}
 

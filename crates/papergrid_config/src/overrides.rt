@@ -1,10 +1,10 @@
 //! Characters and colours at offsets along the lines of single cells. Source:
 //! `config/spanned/mod.rs`.
 
-ghost use Rattle.std.specs.Prelude.{◌≡◌, ◌∷◌, [], ◌↔◌, OnOk, OnErr, IsTrue, option_copied};
+ghost use Rattle.std.specs.Prelude.{◌≡◌, ◌↔◌, OnOk, OnErr, IsTrue, option_copied};
 ghost use Rattle.papergrid_tables.specs.Overrides.{IsOverridden, found_override, override_at};
-ghost use Rattle.papergrid_config.specs.Told.{Appends};
-ghost use Rattle.papergrid_config.specs.declared.setting.Setting.{Setting};
+ghost use Rattle.papergrid_config.specs.Told.{Adds};
+ghost use Rattle.papergrid_config.specs.declared.setting.Setting.TheVariants.{SetHorizontalChar, RemoveOverriddenHorizontal, RemoveHorizontalChars, SetHorizontalCharColor, RemoveColorLineHorizontal, SetVerticalChar, RemoveOverriddenVertical, RemoveVerticalChars, SetVerticalCharColor, RemoveColorLineVertical};
 
 use crate::spanned::SpannedConfig;
 use papergrid_values::{ANSIBuf, Offset, Position};
@@ -21,9 +21,10 @@ impl SpannedConfig {
         offset: Offset,
         character: char,
     ) -> Result<(), AllocError>
-        ensures ok { OnOk result (Appends self.old self.new (Setting.SetHorizontalChar pos offset character ∷ [])) }
+        ensures ok { OnOk result (Adds self.old self.new (SetHorizontalChar pos offset character)) }
         ensures err { OnErr result (self.new ≡ self.old) }
-        ensures others { self.new ≡ record self.old { horizontal_chars = self.new.horizontal_chars } }
+        ensures others { self.new ≡
+            record self.old { horizontal_chars = self.new.horizontal_chars } }
     {
         self.horizontal_chars.set(pos, offset, character)
     }
@@ -45,16 +46,18 @@ impl SpannedConfig {
 
     /// Removes the characters set on the line above a cell.
     pub fn remove_overridden_horizontal(&mut self, pos: Position)
-        ensures told { Appends self.old self.new (Setting.RemoveOverriddenHorizontal pos ∷ []) }
-        ensures others { self.new ≡ record self.old { horizontal_chars = self.new.horizontal_chars } }
+        ensures told { Adds self.old self.new (RemoveOverriddenHorizontal pos) }
+        ensures others { self.new ≡
+            record self.old { horizontal_chars = self.new.horizontal_chars } }
     {
         self.horizontal_chars.remove(pos);
     }
 
     /// Removes the characters set on the lines above cells.
     pub fn remove_horizontal_chars(&mut self)
-        ensures told { Appends self.old self.new (Setting.RemoveHorizontalChars ∷ []) }
-        ensures others { self.new ≡ record self.old { horizontal_chars = self.new.horizontal_chars } }
+        ensures told { Adds self.old self.new RemoveHorizontalChars }
+        ensures others { self.new ≡
+            record self.old { horizontal_chars = self.new.horizontal_chars } }
     {
         self.horizontal_chars.clear();
     }
@@ -67,9 +70,11 @@ impl SpannedConfig {
         offset: Offset,
         color: ANSIBuf,
     ) -> Result<(), AllocError>
-        ensures ok { OnOk result (Appends self.old self.new (Setting.SetHorizontalCharColor pos offset color ∷ [])) }
+        ensures ok { OnOk result
+            (Adds self.old self.new (SetHorizontalCharColor pos offset color)) }
         ensures err { OnErr result (self.new ≡ self.old) }
-        ensures others { self.new ≡ record self.old { horizontal_colors = self.new.horizontal_colors } }
+        ensures others { self.new ≡
+            record self.old { horizontal_colors = self.new.horizontal_colors } }
     {
         self.horizontal_colors.set(pos, offset, color)
     }
@@ -82,15 +87,17 @@ impl SpannedConfig {
         offset: usize,
         end: usize,
     ) -> Option<&ANSIBuf>
-        ensures { option_copied result ≡ found_override (override_at self.now.horizontal_colors pos) offset end }
+        ensures { option_copied result
+            ≡ found_override (override_at self.now.horizontal_colors pos) offset end }
     {
         self.horizontal_colors.lookup(pos, offset, end)
     }
 
     /// Removes the colours set on the lines above cells.
     pub fn remove_color_line_horizontal(&mut self)
-        ensures told { Appends self.old self.new (Setting.RemoveColorLineHorizontal ∷ []) }
-        ensures others { self.new ≡ record self.old { horizontal_colors = self.new.horizontal_colors } }
+        ensures told { Adds self.old self.new RemoveColorLineHorizontal }
+        ensures others { self.new ≡
+            record self.old { horizontal_colors = self.new.horizontal_colors } }
     {
         self.horizontal_colors.clear();
     }
@@ -103,7 +110,7 @@ impl SpannedConfig {
         offset: Offset,
         character: char,
     ) -> Result<(), AllocError>
-        ensures ok { OnOk result (Appends self.old self.new (Setting.SetVerticalChar pos offset character ∷ [])) }
+        ensures ok { OnOk result (Adds self.old self.new (SetVerticalChar pos offset character)) }
         ensures err { OnErr result (self.new ≡ self.old) }
         ensures others { self.new ≡ record self.old { vertical_chars = self.new.vertical_chars } }
     {
@@ -127,7 +134,7 @@ impl SpannedConfig {
 
     /// Removes the characters set on the line left of a cell.
     pub fn remove_overridden_vertical(&mut self, pos: Position)
-        ensures told { Appends self.old self.new (Setting.RemoveOverriddenVertical pos ∷ []) }
+        ensures told { Adds self.old self.new (RemoveOverriddenVertical pos) }
         ensures others { self.new ≡ record self.old { vertical_chars = self.new.vertical_chars } }
     {
         self.vertical_chars.remove(pos);
@@ -135,7 +142,7 @@ impl SpannedConfig {
 
     /// Removes the characters set on the lines left of cells.
     pub fn remove_vertical_chars(&mut self)
-        ensures told { Appends self.old self.new (Setting.RemoveVerticalChars ∷ []) }
+        ensures told { Adds self.old self.new RemoveVerticalChars }
         ensures others { self.new ≡ record self.old { vertical_chars = self.new.vertical_chars } }
     {
         self.vertical_chars.clear();
@@ -149,7 +156,7 @@ impl SpannedConfig {
         offset: Offset,
         color: ANSIBuf,
     ) -> Result<(), AllocError>
-        ensures ok { OnOk result (Appends self.old self.new (Setting.SetVerticalCharColor pos offset color ∷ [])) }
+        ensures ok { OnOk result (Adds self.old self.new (SetVerticalCharColor pos offset color)) }
         ensures err { OnErr result (self.new ≡ self.old) }
         ensures others { self.new ≡ record self.old { vertical_colors = self.new.vertical_colors } }
     {
@@ -164,14 +171,15 @@ impl SpannedConfig {
         offset: usize,
         end: usize,
     ) -> Option<&ANSIBuf>
-        ensures { option_copied result ≡ found_override (override_at self.now.vertical_colors pos) offset end }
+        ensures { option_copied result
+            ≡ found_override (override_at self.now.vertical_colors pos) offset end }
     {
         self.vertical_colors.lookup(pos, offset, end)
     }
 
     /// Removes the colours set on the lines left of cells.
     pub fn remove_color_line_vertical(&mut self)
-        ensures told { Appends self.old self.new (Setting.RemoveColorLineVertical ∷ []) }
+        ensures told { Adds self.old self.new RemoveColorLineVertical }
         ensures others { self.new ≡ record self.old { vertical_colors = self.new.vertical_colors } }
     {
         self.vertical_colors.clear();

@@ -1,14 +1,13 @@
 //! What is set by entity and asked for by position. Source: `config/spanned/mod.rs`.
 
-ghost use Rattle.std.specs.Prelude.{◌≡◌, ◌≢◌, ◌∷◌, [], AllPairs, IfOk, List, OnOk, OnErr, IsOk, is_some, option_copied};
-ghost use Rattle.std.specs.Set.{is_member};
-ghost use Rattle.papergrid_keys.specs.Keys.{position_eq};
+ghost use Rattle.std.specs.Prelude.{◌≡◌, ◌≢◌, AllPairs, IfOk, OnOk, OnErr, IsOk, option_copied};
 ghost use Rattle.papergrid_values.specs.declared.entity.Entity.{Entity};
-ghost use Rattle.papergrid_values.specs.declared.position.Position.{Position};
+ghost use Rattle.papergrid_maps.specs.Listed.{AreSetCells};
 ghost use Rattle.papergrid_maps.specs.MapHeld.{held_for, held_value};
 ghost use Rattle.papergrid_config.specs.Decided as decided;
-ghost use Rattle.papergrid_config.specs.Told.{Appends, IsTold};
-ghost use Rattle.papergrid_config.specs.declared.setting.Setting.{Setting};
+ghost use Rattle.papergrid_config.specs.Decided.{IsDecidedAt};
+ghost use Rattle.papergrid_config.specs.Told.{Adds};
+ghost use Rattle.papergrid_config.specs.declared.setting.Setting.TheVariants.{SetPadding, SetPaddingColor, SetTrimHorizontal, SetTrimVertical, SetLineAlignment, SetAlignmentHorizontal, SetAlignmentVertical, SetJustification, SetJustificationColor};
 
 use crate::spanned::SpannedConfig;
 use papergrid_values::{
@@ -23,7 +22,7 @@ impl SpannedConfig {
     /// (top, bottom). Where memory is refused the configuration is as it was; a value for the whole
     /// table is never refused.
     pub fn set_padding(&mut self, entity: Entity, padding: Sides<Indent>) -> Result<(), AllocError>
-        ensures ok { OnOk result (Appends self.old self.new (Setting.SetPadding entity padding ∷ [])) }
+        ensures ok { OnOk result (Adds self.old self.new (SetPadding entity padding)) }
         ensures err { OnErr result (self.new ≡ self.old) }
         ensures global { entity ≡ Entity.Global → IsOk result }
         ensures others { self.new ≡ record self.old { padding = self.new.padding } }
@@ -34,7 +33,7 @@ impl SpannedConfig {
     /// The room round a cell, in columns of a terminal (left, right) and lines (top, bottom).
     pub fn get_padding(&self, pos: Position) -> &Sides<Indent>
         ensures held { result.now ≡ held_value self.now.padding pos }
-        ensures decided { (settings : List Setting) → IsTold settings self.now → result.now ≡ decided.padding settings pos }
+        ensures decided { IsDecidedAt self.now pos decided.padding result.now }
     {
         self.padding.get(pos)
     }
@@ -49,7 +48,7 @@ impl SpannedConfig {
 
     /// The cells with room of their own, each once, in no order, or out of memory.
     pub fn padded_cells(&self) -> Result<Vec<Position>, AllocError>
-        ensures held { IfOk result (λ cells. (p : Position) → is_member position_eq cells.items p ≡ is_some (held_for self.now.padding (Entity.Cell p.row p.col))) }
+        ensures held { IfOk result (λ cells. AreSetCells (held_for self.now.padding) cells.items) }
         ensures once { IfOk result (λ cells. AllPairs (λ p q. p ≢ q) cells.items) }
     {
         self.padding.held_cells()
@@ -62,7 +61,7 @@ impl SpannedConfig {
         entity: Entity,
         colors: Sides<Option<ANSIBuf>>,
     ) -> Result<(), AllocError>
-        ensures ok { OnOk result (Appends self.old self.new (Setting.SetPaddingColor entity colors ∷ [])) }
+        ensures ok { OnOk result (Adds self.old self.new (SetPaddingColor entity colors)) }
         ensures err { OnErr result (self.new ≡ self.old) }
         ensures global { entity ≡ Entity.Global → IsOk result }
         ensures others { self.new ≡ record self.old { padding_color = self.new.padding_color } }
@@ -73,7 +72,7 @@ impl SpannedConfig {
     /// The colours of the room round a cell.
     pub fn get_padding_color(&self, pos: Position) -> &Sides<Option<ANSIBuf>>
         ensures held { result.now ≡ held_value self.now.padding_color pos }
-        ensures decided { (settings : List Setting) → IsTold settings self.now → result.now ≡ decided.padding_color settings pos }
+        ensures decided { IsDecidedAt self.now pos decided.padding_color result.now }
     {
         self.padding_color.get(pos)
     }
@@ -81,7 +80,7 @@ impl SpannedConfig {
     /// Sets whether spaces of an entity's texts are trimmed left and right. Where memory is refused
     /// the configuration is as it was; a value for the whole table is never refused.
     pub fn set_trim_horizontal(&mut self, entity: Entity, on: bool) -> Result<(), AllocError>
-        ensures ok { OnOk result (Appends self.old self.new (Setting.SetTrimHorizontal entity on ∷ [])) }
+        ensures ok { OnOk result (Adds self.old self.new (SetTrimHorizontal entity on)) }
         ensures err { OnErr result (self.new ≡ self.old) }
         ensures global { entity ≡ Entity.Global → IsOk result }
         ensures others { self.new ≡ record self.old { trim_horizontal = self.new.trim_horizontal } }
@@ -92,7 +91,7 @@ impl SpannedConfig {
     /// Whether spaces of a cell's text are trimmed left and right. The name is the original's.
     pub fn get_trim_horizonal(&self, pos: Position) -> bool
         ensures held { result ≡ held_value self.now.trim_horizontal pos }
-        ensures decided { (settings : List Setting) → IsTold settings self.now → result ≡ decided.trim_horizontal settings pos }
+        ensures decided { IsDecidedAt self.now pos decided.trim_horizontal result }
     {
         *self.trim_horizontal.get(pos)
     }
@@ -101,7 +100,7 @@ impl SpannedConfig {
     /// memory is refused the configuration is as it was; a value for the whole table is never
     /// refused.
     pub fn set_trim_vertical(&mut self, entity: Entity, on: bool) -> Result<(), AllocError>
-        ensures ok { OnOk result (Appends self.old self.new (Setting.SetTrimVertical entity on ∷ [])) }
+        ensures ok { OnOk result (Adds self.old self.new (SetTrimVertical entity on)) }
         ensures err { OnErr result (self.new ≡ self.old) }
         ensures global { entity ≡ Entity.Global → IsOk result }
         ensures others { self.new ≡ record self.old { trim_vertical = self.new.trim_vertical } }
@@ -112,7 +111,7 @@ impl SpannedConfig {
     /// Whether blank lines of a cell's text are trimmed at the top and the bottom.
     pub fn get_trim_vertical(&self, pos: Position) -> bool
         ensures held { result ≡ held_value self.now.trim_vertical pos }
-        ensures decided { (settings : List Setting) → IsTold settings self.now → result ≡ decided.trim_vertical settings pos }
+        ensures decided { IsDecidedAt self.now pos decided.trim_vertical result }
     {
         *self.trim_vertical.get(pos)
     }
@@ -120,7 +119,7 @@ impl SpannedConfig {
     /// Sets whether each line of an entity's texts is aligned by itself. Where memory is refused
     /// the configuration is as it was; a value for the whole table is never refused.
     pub fn set_line_alignment(&mut self, entity: Entity, on: bool) -> Result<(), AllocError>
-        ensures ok { OnOk result (Appends self.old self.new (Setting.SetLineAlignment entity on ∷ [])) }
+        ensures ok { OnOk result (Adds self.old self.new (SetLineAlignment entity on)) }
         ensures err { OnErr result (self.new ≡ self.old) }
         ensures global { entity ≡ Entity.Global → IsOk result }
         ensures others { self.new ≡ record self.old { line_alignment = self.new.line_alignment } }
@@ -131,7 +130,7 @@ impl SpannedConfig {
     /// Whether each line of a cell's text is aligned by itself.
     pub fn get_line_alignment(&self, pos: Position) -> bool
         ensures held { result ≡ held_value self.now.line_alignment pos }
-        ensures decided { (settings : List Setting) → IsTold settings self.now → result ≡ decided.line_alignment settings pos }
+        ensures decided { IsDecidedAt self.now pos decided.line_alignment result }
     {
         *self.line_alignment.get(pos)
     }
@@ -143,7 +142,7 @@ impl SpannedConfig {
           vertical_trim = held_value self.now.trim_vertical pos;
           allow_lines_alignment = held_value self.now.line_alignment pos;
         } }
-        ensures decided { (settings : List Setting) → IsTold settings self.now → result ≡ decided.formatting settings pos }
+        ensures decided { IsDecidedAt self.now pos decided.formatting result }
     {
         Formatting::new(
             self.get_trim_horizonal(pos),
@@ -159,10 +158,12 @@ impl SpannedConfig {
         entity: Entity,
         alignment: AlignmentHorizontal,
     ) -> Result<(), AllocError>
-        ensures ok { OnOk result (Appends self.old self.new (Setting.SetAlignmentHorizontal entity alignment ∷ [])) }
+        ensures ok { OnOk result
+            (Adds self.old self.new (SetAlignmentHorizontal entity alignment)) }
         ensures err { OnErr result (self.new ≡ self.old) }
         ensures global { entity ≡ Entity.Global → IsOk result }
-        ensures others { self.new ≡ record self.old { alignment_horizontal = self.new.alignment_horizontal } }
+        ensures others { self.new ≡
+            record self.old { alignment_horizontal = self.new.alignment_horizontal } }
     {
         self.alignment_horizontal.insert(entity, alignment)
     }
@@ -170,7 +171,7 @@ impl SpannedConfig {
     /// Where a cell's text stands between left and right.
     pub fn get_alignment_horizontal(&self, pos: Position) -> &AlignmentHorizontal
         ensures held { result.now ≡ held_value self.now.alignment_horizontal pos }
-        ensures decided { (settings : List Setting) → IsTold settings self.now → result.now ≡ decided.alignment_horizontal settings pos }
+        ensures decided { IsDecidedAt self.now pos decided.alignment_horizontal result.now }
     {
         self.alignment_horizontal.get(pos)
     }
@@ -182,10 +183,11 @@ impl SpannedConfig {
         entity: Entity,
         alignment: AlignmentVertical,
     ) -> Result<(), AllocError>
-        ensures ok { OnOk result (Appends self.old self.new (Setting.SetAlignmentVertical entity alignment ∷ [])) }
+        ensures ok { OnOk result (Adds self.old self.new (SetAlignmentVertical entity alignment)) }
         ensures err { OnErr result (self.new ≡ self.old) }
         ensures global { entity ≡ Entity.Global → IsOk result }
-        ensures others { self.new ≡ record self.old { alignment_vertical = self.new.alignment_vertical } }
+        ensures others { self.new ≡
+            record self.old { alignment_vertical = self.new.alignment_vertical } }
     {
         self.alignment_vertical.insert(entity, alignment)
     }
@@ -193,7 +195,7 @@ impl SpannedConfig {
     /// Where a cell's text stands between top and bottom.
     pub fn get_alignment_vertical(&self, pos: Position) -> &AlignmentVertical
         ensures held { result.now ≡ held_value self.now.alignment_vertical pos }
-        ensures decided { (settings : List Setting) → IsTold settings self.now → result.now ≡ decided.alignment_vertical settings pos }
+        ensures decided { IsDecidedAt self.now pos decided.alignment_vertical result.now }
     {
         self.alignment_vertical.get(pos)
     }
@@ -201,7 +203,7 @@ impl SpannedConfig {
     /// Sets the character that fills up the lines of an entity's texts. Where memory is refused the
     /// configuration is as it was; a value for the whole table is never refused.
     pub fn set_justification(&mut self, entity: Entity, character: char) -> Result<(), AllocError>
-        ensures ok { OnOk result (Appends self.old self.new (Setting.SetJustification entity character ∷ [])) }
+        ensures ok { OnOk result (Adds self.old self.new (SetJustification entity character)) }
         ensures err { OnErr result (self.new ≡ self.old) }
         ensures global { entity ≡ Entity.Global → IsOk result }
         ensures others { self.new ≡ record self.old { justification = self.new.justification } }
@@ -212,7 +214,7 @@ impl SpannedConfig {
     /// The character that fills up the lines of a cell's text.
     pub fn get_justification(&self, pos: Position) -> char
         ensures held { result ≡ held_value self.now.justification pos }
-        ensures decided { (settings : List Setting) → IsTold settings self.now → result ≡ decided.justification settings pos }
+        ensures decided { IsDecidedAt self.now pos decided.justification result }
     {
         *self.justification.get(pos)
     }
@@ -224,10 +226,11 @@ impl SpannedConfig {
         entity: Entity,
         color: Option<ANSIBuf>,
     ) -> Result<(), AllocError>
-        ensures ok { OnOk result (Appends self.old self.new (Setting.SetJustificationColor entity color ∷ [])) }
+        ensures ok { OnOk result (Adds self.old self.new (SetJustificationColor entity color)) }
         ensures err { OnErr result (self.new ≡ self.old) }
         ensures global { entity ≡ Entity.Global → IsOk result }
-        ensures others { self.new ≡ record self.old { justification_color = self.new.justification_color } }
+        ensures others { self.new ≡
+            record self.old { justification_color = self.new.justification_color } }
     {
         self.justification_color.insert(entity, color)
     }
@@ -235,7 +238,8 @@ impl SpannedConfig {
     /// The colour of that character.
     pub fn get_justification_color(&self, pos: Position) -> Option<&ANSIBuf>
         ensures held { option_copied result ≡ held_value self.now.justification_color pos }
-        ensures decided { (settings : List Setting) → IsTold settings self.now → option_copied result ≡ decided.justification_color settings pos }
+        ensures decided { IsDecidedAt self.now pos decided.justification_color
+            (option_copied result) }
     {
         self.justification_color.get(pos).as_ref()
     }

@@ -1,15 +1,16 @@
 //! Spans, and which cells they hide. Source: `config/spanned/mod.rs`.
 
-ghost use Rattle.std.specs.Prelude.{◌≡◌, ◌∷◌, [], ◌↔◌, ◌<◌, ◌≤◌, ◌⊎◌, All, AllPairs, OnOk, OnErr, IfOk, IfSome, IsOk, IsSome, IsTrue};
-ghost use Rattle.std.specs.HashMap.{get as map_get};
+ghost use Rattle.std.specs.Prelude.{◌≡◌, ◌↔◌, ◌<◌, ◌≤◌, ◌⊎◌, All, AllPairs, OnOk, OnErr, IfOk, IfSome, IsOk, IsSome, IsTrue};
 ghost use Rattle.std.specs.FinMap.{get as value_at};
 ghost use Rattle.papergrid_values.specs.Positions.{AreRising};
+ghost use Rattle.papergrid_values.specs.declared.direction.Direction.{Direction};
 ghost use Rattle.papergrid_values.specs.declared.position.Position.{Position};
 ghost use Rattle.papergrid_keys.specs.Keys.{position_eq};
 ghost use Rattle.papergrid_maps.specs.Anchors.{AreAnchors, HasAnchor, IsSorted};
-ghost use Rattle.papergrid_maps.specs.Spans.{EndWithin, HasSpan, IsCoveredByBoth, IsCoveredByColumn, IsCoveredByRow, IsVisible, column_span, is_visible, row_span, span_at, spans_along};
-ghost use Rattle.papergrid_config.specs.Told.{Appends};
-ghost use Rattle.papergrid_config.specs.declared.setting.Setting.{Setting};
+ghost use Rattle.papergrid_maps.specs.Listed.{HasAtEach};
+ghost use Rattle.papergrid_maps.specs.Spans.{EndWithin, HasSpan, IsCoveredByBoth, IsCoveredByColumn, IsCoveredByRow, IsVisible, is_visible, span_along, spans_along};
+ghost use Rattle.papergrid_config.specs.Told.{Adds};
+ghost use Rattle.papergrid_config.specs.declared.setting.Setting.TheVariants.{SetColumnSpan, SetRowSpan, RemoveColumnSpans, RemoveRowSpans};
 
 use crate::spanned::SpannedConfig;
 use papergrid_maps::Anchor;
@@ -24,10 +25,12 @@ impl SpannedConfig {
     /// held, so that neither takes memory or is refused. Where memory is refused the configuration is
     /// as it was.
     pub fn set_column_span(&mut self, pos: Position, span: usize) -> Result<(), AllocError>
-        ensures ok { OnOk result (Appends self.old self.new (Setting.SetColumnSpan pos span ∷ [])) }
+        ensures ok { OnOk result (Adds self.old self.new (SetColumnSpan pos span)) }
         ensures err { OnErr result (self.new ≡ self.old) }
         ensures small { span < 2 → IsOk result }
-        ensures others { self.new ≡ record self.old { spans = record self.old.spans { columns = self.new.spans.columns } } }
+        ensures others { self.new ≡ record self.old {
+          spans = record self.old.spans { columns = self.new.spans.columns };
+        } }
     {
         self.spans.set_column(pos, span)
     }
@@ -36,10 +39,12 @@ impl SpannedConfig {
     /// so that neither takes memory or is refused. Where memory is refused the configuration is as it
     /// was.
     pub fn set_row_span(&mut self, pos: Position, span: usize) -> Result<(), AllocError>
-        ensures ok { OnOk result (Appends self.old self.new (Setting.SetRowSpan pos span ∷ [])) }
+        ensures ok { OnOk result (Adds self.old self.new (SetRowSpan pos span)) }
         ensures err { OnErr result (self.new ≡ self.old) }
         ensures small { span < 2 → IsOk result }
-        ensures others { self.new ≡ record self.old { spans = record self.old.spans { rows = self.new.spans.rows } } }
+        ensures others { self.new ≡ record self.old {
+          spans = record self.old.spans { rows = self.new.spans.rows };
+        } }
     {
         self.spans.set_row(pos, span)
     }
@@ -62,14 +67,14 @@ impl SpannedConfig {
 
     /// All column spans that are held, or out of memory.
     pub fn get_column_spans(&self) -> Result<HashMap<Position, usize>, AllocError>
-        ensures { IfOk result (λ all. (p : Position) → map_get position_eq all p ≡ value_at self.now.spans.columns p) }
+        ensures { IfOk result (λ all. HasAtEach position_eq all (value_at self.now.spans.columns)) }
     {
         self.spans.columns()
     }
 
     /// All row spans that are held, or out of memory.
     pub fn get_row_spans(&self) -> Result<HashMap<Position, usize>, AllocError>
-        ensures { IfOk result (λ all. (p : Position) → map_get position_eq all p ≡ value_at self.now.spans.rows p) }
+        ensures { IfOk result (λ all. HasAtEach position_eq all (value_at self.now.spans.rows)) }
     {
         self.spans.rows()
     }
@@ -77,10 +82,11 @@ impl SpannedConfig {
     /// An anchor for each position that holds a span, by row and then by column, or out of memory.
     pub fn anchors(&self) -> Result<Vec<Anchor>, AllocError>
         ensures sorted { IfOk result (λ anchors. IsSorted anchors.items) }
-        ensures spans { IfOk result (λ anchors. AreAnchors (column_span self.now.spans) (row_span self.now.spans) anchors.items) }
+        ensures spans { IfOk result (λ anchors.
+            AreAnchors (span_along self.now.spans) anchors.items) }
         ensures held { IfOk result (λ anchors. (p : Position) → HasAnchor anchors.items p →
             IsSome (value_at self.now.spans.columns p) ⊎ IsSome (value_at self.now.spans.rows p)) }
-        ensures from_one { (p : Position) → (1 ≤ column_span self.now.spans p) × (1 ≤ row_span self.now.spans p) }
+        ensures from_one { (d : Direction) (p : Position) → 1 ≤ span_along self.now.spans d p }
     {
         self.spans.anchors()
     }
@@ -88,8 +94,9 @@ impl SpannedConfig {
     /// Whether each span of the direction that is held ends within so many columns (rows), wherever its
     /// position stands in the other direction. It takes no memory.
     pub fn spans_end_within(&self, direction: Direction, count: usize) -> bool
-        ensures ends { IsTrue result ↔ EndWithin direction (spans_along direction self.now.spans) count }
-        ensures from_one { (p : Position) → 1 ≤ span_at (spans_along direction self.now.spans) p }
+        ensures ends { IsTrue result
+            ↔ EndWithin direction (spans_along direction self.now.spans) count }
+        ensures from_one { (p : Position) → 1 ≤ span_along self.now.spans direction p }
     {
         self.spans.end_within(direction, count)
     }
@@ -110,16 +117,20 @@ impl SpannedConfig {
 
     /// Removes all column spans.
     pub fn remove_column_spans(&mut self)
-        ensures told { Appends self.old self.new (Setting.RemoveColumnSpans ∷ []) }
-        ensures others { self.new ≡ record self.old { spans = record self.old.spans { columns = self.new.spans.columns } } }
+        ensures told { Adds self.old self.new RemoveColumnSpans }
+        ensures others { self.new ≡ record self.old {
+          spans = record self.old.spans { columns = self.new.spans.columns };
+        } }
     {
         self.spans.remove_columns();
     }
 
     /// Removes all row spans.
     pub fn remove_row_spans(&mut self)
-        ensures told { Appends self.old self.new (Setting.RemoveRowSpans ∷ []) }
-        ensures others { self.new ≡ record self.old { spans = record self.old.spans { rows = self.new.spans.rows } } }
+        ensures told { Adds self.old self.new RemoveRowSpans }
+        ensures others { self.new ≡ record self.old {
+          spans = record self.old.spans { rows = self.new.spans.rows };
+        } }
     {
         self.spans.remove_rows();
     }
@@ -127,7 +138,7 @@ impl SpannedConfig {
     /// Whether the position lies in no rectangle of another anchor. An anchor need not be a cell
     /// of the table, and a hidden one still hides.
     pub fn is_cell_visible(&self, pos: Position) -> bool
-        ensures visible { IsTrue result ↔ IsVisible (column_span self.now.spans) (row_span self.now.spans) pos }
+        ensures visible { IsTrue result ↔ IsVisible (span_along self.now.spans) pos }
         ensures test { result ≡ is_visible self.now.spans pos }
     {
         self.spans.is_visible(pos)
@@ -144,21 +155,21 @@ impl SpannedConfig {
 
     /// Whether the position stands right of an anchor, in its row and its rectangle.
     pub fn is_cell_covered_by_column_span(&self, pos: Position) -> bool
-        ensures { IsTrue result ↔ IsCoveredByColumn (column_span self.now.spans) (row_span self.now.spans) pos }
+        ensures { IsTrue result ↔ IsCoveredByColumn (span_along self.now.spans) pos }
     {
         self.spans.covered_by_column(pos)
     }
 
     /// Whether the position stands below an anchor, in its column and its rectangle.
     pub fn is_cell_covered_by_row_span(&self, pos: Position) -> bool
-        ensures { IsTrue result ↔ IsCoveredByRow (column_span self.now.spans) (row_span self.now.spans) pos }
+        ensures { IsTrue result ↔ IsCoveredByRow (span_along self.now.spans) pos }
     {
         self.spans.covered_by_row(pos)
     }
 
     /// Whether the position stands below and right of an anchor, in its rectangle.
     pub fn is_cell_covered_by_both_spans(&self, pos: Position) -> bool
-        ensures { IsTrue result ↔ IsCoveredByBoth (column_span self.now.spans) (row_span self.now.spans) pos }
+        ensures { IsTrue result ↔ IsCoveredByBoth (span_along self.now.spans) pos }
     {
         self.spans.covered_by_both(pos)
     }

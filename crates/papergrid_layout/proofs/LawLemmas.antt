@@ -25,7 +25,8 @@ use Rattle.papergrid_tables.proofs.MadeTables.{told_borders}
 use Rattle.papergrid_maps.proofs.MadeTables.{told_spans}
 use Rattle.papergrid_maps.proofs.MapHeldLemmas.{held_decided}
 use Rattle.papergrid_config.specs.Parts.{character_calls, padding_calls, span_calls}
-use Rattle.papergrid_config.specs.Told.{IsTold, all_sides, no_room}
+use Rattle.papergrid_config.specs.Told.{IsTold}
+use Rattle.papergrid_maps.specs.Compact.{all_sides, spaces}
 use Rattle.papergrid_config.specs.declared.setting.Setting.{Setting}
 use Rattle.papergrid_config.specs.declared.spanned.SpannedConfig.{SpannedConfig}
 use Rattle.papergrid_walk.specs.Cells.{demands_by, demands_of, placed_from, placed_row, side}
@@ -163,7 +164,7 @@ swapped_tell settings other s =
           ∙ sym (decided_around s.before s.after s.second_way s.first_way s.second_cell s.first_cell s.second_span s.first_span d r)
           ∙ sym (ap (λ xs. spans.decided_span d r (flat_map span_calls xs)) s.other_order);
       padding = λ p.
-          ap (λ calls. decided_value (all_sides no_room) calls p)
+          ap (λ calls. decided_value (all_sides (spaces 0)) calls p)
           (ap (flat_map padding_calls) s.one_order
           ∙ apart padding_calls s.before s.after a b (padding_calls-set s.first_way s.first_cell s.first_span) (padding_calls-set s.second_way s.second_cell s.second_span)
           ∙ sym (ap (flat_map padding_calls) s.other_order));
@@ -210,7 +211,7 @@ span_from-concerned d p (SetSpan e q n ∷ older) =
 pub reordered_tell : (settings other : List Setting) → AreReordered settings other → TellTheSame settings other
 reordered_tell settings other same = record {
   spans = λ d p. by_concerned d p (flat_map span_calls settings) ∙ ap (λ calls. span_from d p (reverse calls)) (same.spans d p) ∙ sym (by_concerned d p (flat_map span_calls other));
-  padding = λ p. ap (λ calls. decided_value (all_sides no_room) calls p) same.padding;
+  padding = λ p. ap (λ calls. decided_value (all_sides (spaces 0)) calls p) same.padding;
   characters = ap borders_made same.characters;
 }
   where

@@ -22,7 +22,7 @@ not-before p q (inr l) e = let same : q.col ≡ p.col = ap (λ (z : Position). z
 
 -- a visible position lies in no other rectangle
 pub none-but-visible : (config : SpannedConfig) (p q : Position) → (spanned_grid config).shows p ≡ true →
-    IsInRectangle ((spanned_grid config).span Columns) ((spanned_grid config).span Rows) q p → q ≢ p → ⊥
+    IsInRectangle (spanned_grid config).span q p → q ≢ p → ⊥
 none-but-visible config p q visible within other = (visible_test config.spans p).0 visible q other within
 
 -- a point of a range from number s on, of n numbers, and the number whose stretch the point lies in
@@ -77,7 +77,7 @@ module _ (table : TableView) where
     pub over-within : (r c : ℕ) →
         (r < table.shape.0) × (offset table.heights (table.grid.draws Rows table.shape.0) r ≤ y) × (y < offset table.heights (table.grid.draws Rows table.shape.0) (r + 1)) →
         (c < table.shape.1) × (offset table.widths (table.grid.draws Columns table.shape.1) c ≤ x) × (x < offset table.widths (table.grid.draws Columns table.shape.1) (c + 1)) →
-        (q : Position) → Over q → IsInRectangle (table.grid.span Columns) (table.grid.span Rows) q (record { row = r; col = c })
+        (q : Position) → Over q → IsInRectangle table.grid.span q (record { row = r; col = c })
     over-within r c down across q over =
         let high = number-within table.heights (table.grid.draws Rows table.shape.0) q.row (table.grid.span Rows q) y over.covers.below_top over.covers.above_bottom r (down.1, down.2) in
         let wide = number-within table.widths (table.grid.draws Columns table.shape.1) q.col (table.grid.span Columns q) x over.covers.after_left over.covers.before_right c (across.1, across.2) in

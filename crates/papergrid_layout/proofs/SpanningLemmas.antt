@@ -165,8 +165,7 @@ module _ (table : TableView) where
     }
       where
         anchored : (direction : Direction) (p : Position) → 2 ≤ table.grid.span direction p → HasAnchor anchors p
-        anchored Columns p long = of.spans.wide p long
-        anchored Rows p long = of.spans.tall p long
+        anchored direction p long = of.spans.has_each direction p long
 
         kept : (p : Position) → IsInside table p → HasAnchor anchors p → IsListed found.cells.items p
         kept p inside here =
@@ -185,7 +184,7 @@ module _ (table : TableView) where
     }
 
     module _ (cells : List SpanningCell) (within : Position) (all : HaveAllSpanning table cells) (hidden : false ≡ table.grid.shows within)
-        (lies : (q : Position) → StandsOver table x y q → IsInRectangle (table.grid.span Columns) (table.grid.span Rows) q within) where
+        (lies : (q : Position) → StandsOver table x y q → IsInRectangle table.grid.span q within) where
       -- only cells in whose rows the point lies cover it
       pub cover-in-row : CoverInRow table within.row x y cells
       cover-in-row k d l = λ covers.
@@ -197,7 +196,7 @@ module _ (table : TableView) where
       over-listed : (q : Position) → StandsOver table x y q → (a : SpanningCell) × Contains cells a × (a.position ≡ q) × Covers a.place x y
       over-listed q over = (listed.0, listed.1, listed.2, covers)
         where
-          has : IsInRectangle (table.grid.span Columns) (table.grid.span Rows) q within
+          has : IsInRectangle table.grid.span q within
           has = lies q over
 
           differ : q ≢ within

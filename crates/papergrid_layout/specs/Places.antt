@@ -185,7 +185,7 @@ DoNotMeet a b = (x y : ℕ) → Covers a x y → Covers b x y → ⊥
 -- no position lies in the rectangles of both cells
 abbrev pub HaveNoneInCommon : Grid → Position → Position → Type 0
 HaveNoneInCommon grid p q =
-    (r : Position) → IsInRectangle (grid.span Columns) (grid.span Rows) p r → IsInRectangle (grid.span Columns) (grid.span Rows) q r → ⊥
+    (r : Position) → IsInRectangle grid.span p r → IsInRectangle grid.span q r → ⊥
 
 -- the cell has a place, which is at least as wide and as high as its measure with its paddings
 pub record HasRoomAtPlace {C : Type 0} (table : TableView) (measure : C → ℕ × ℕ) (cell : Position × C) : Type 0 where

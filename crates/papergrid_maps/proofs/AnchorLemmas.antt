@@ -25,7 +25,7 @@ use Rattle.papergrid_values.specs.declared.position.Position.{Position}
 use Rattle.papergrid_keys.specs.Keys.{position_cmp, position_eq}
 use Rattle.papergrid_keys.proofs.KeyLemmas.{exact_position_eq, exact_positions, position_equiv, position_ties, position_total}
 use Rattle.papergrid_maps.specs.Anchors.{AreAnchors, HasAnchor, IsSorted}
-use Rattle.papergrid_maps.specs.Spans.{HasSpan, span_at}
+use Rattle.papergrid_maps.specs.Spans.{HasSpan, span_along, span_at}
 use Rattle.papergrid_maps.specs.ForProofs.SpanIndex.{AreAt, DirectedSpans, IsRising, anchor_along, anchor_at, entry_anchor, held_along, key_of}
 use Rattle.papergrid_maps.specs.declared.anchors.Anchor.{Anchor}
 use Rattle.papergrid_maps.proofs.IndexKeys.{held_at, key_key}
@@ -146,12 +146,14 @@ module _ (columns rows : FinMap position_cmp ℕ) (anchors : List Anchor)
         is_there = refl;
       }
 
-  pub anchors-of : AreAnchors (span_at columns) (span_at rows) anchors
+  pub anchors-of : AreAnchors (span_along (record { columns = columns; rows = rows })) anchors
   anchors-of = record {
     has_rows = λ k a h. ap (λ (b : Anchor). b.rows) (made-at k a h);
     has_cols = λ k a h. ap (λ (b : Anchor). b.cols) (made-at k a h);
-    wide = λ p h. has-anchor p (inl (held-above-one (get columns p) h));
-    tall = λ p h. has-anchor p (inr (held-above-one (get rows p) h));
+    has_each = λ d p. elim d as (λ d. 2 ≤ span_along (record { columns = columns; rows = rows }) d p → HasAnchor anchors p) [
+      | Columns ↦ λ h. has-anchor p (inl (held-above-one (get columns p) h))
+      | Rows ↦ λ h. has-anchor p (inr (held-above-one (get rows p) h))
+    ];
   }
 
   pub anchors-held : (p : Position) → HasAnchor anchors p → IsSome (get columns p) ⊎ IsSome (get rows p)

@@ -1,5 +1,5 @@
 -- A loop that looks for a value, and the values that a map holds.
-use Rattle.std.proofs.Common.{◌≡◌, ℕ, zero, suc, Bool, true, false, List, [], ◌∷◌, ◌++◌, map, eqb, Some, sym, ap, subst, ◌∙◌, append_assoc, length, arith, ◌<◌, inl, inr, ⊎_elim}
+use Rattle.std.proofs.Common.{◌≡◌, ℕ, zero, suc, Bool, true, false, List, [], ◌∷◌, ◌++◌, map, eqb, Some, sym, ap, subst, ◌∙◌, append_assoc, length, arith, ◌<◌}
 use Rattle.std.specs.Prelude.{All, Any, IfSome}
 use Rattle.std.specs.Bool.{OnTrue, OnFalse}
 use Rattle.std.specs.List.{IsDistinct, slice_get, slice_index_or}
@@ -8,7 +8,10 @@ use Rattle.std.specs.Map.{lookup, keys_of, values_of}
 use Rattle.std.proofs.lemmas.Map.Entries.{lookup_from_place, All-lookup}
 use Rattle.papergrid_values.specs.declared.position.Position.{Position}
 use Rattle.papergrid_keys.specs.Keys.{position_eq}
-use Rattle.papergrid_maps.specs.MapHeld.{Holds}
+use Rattle.papergrid_maps.specs.MapHeld.{Holds, held_for}
+use Rattle.papergrid_values.specs.declared.entity.Entity.{Entity}
+use Rattle.papergrid_values.specs.declared.entity.Entity.TheVariants.{Global, Column, Row, Cell}
+use Rattle.std.proofs.lemmas.Option.{same_Some}
 use Rattle.papergrid_keys.proofs.KeyLemmas.{get_at_number, get_at_position, position_equiv}
 use Rattle.papergrid_maps.proofs.MapHeldLemmas.{view_of}
 use Rattle.std.proofs.lemmas.List.{map-append, append-nil, length-append}
@@ -63,24 +66,28 @@ module _ {T : Type 0} (g : T) (cs rs : List (ℕ × T)) (ks : List (Position × 
   pub held_in_columns : IsDistinct eqb (keys_of cs) → Any P (values_of cs) → (v : T) × Holds (view_of g cs rs ks) v × P v
   held_in_columns distinct any =
       let found = value_by_key nat_eq_equiv P cs distinct any in
-      (found.1, inr (inl (found.0, get_at_number cs found.0 ∙ found.2)), found.3)
+      (found.1, (Column found.0, get_at_number cs found.0 ∙ found.2), found.3)
 
   pub held_in_rows : IsDistinct eqb (keys_of rs) → Any P (values_of rs) → (v : T) × Holds (view_of g cs rs ks) v × P v
   held_in_rows distinct any =
       let found = value_by_key nat_eq_equiv P rs distinct any in
-      (found.1, inr (inr (inl (found.0, get_at_number rs found.0 ∙ found.2))), found.3)
+      (found.1, (Row found.0, get_at_number rs found.0 ∙ found.2), found.3)
 
   pub held_in_cells : IsDistinct position_eq (keys_of ks) → Any P (values_of ks) → (v : T) × Holds (view_of g cs rs ks) v × P v
   held_in_cells distinct any =
       let found = value_by_key position_equiv P ks distinct any in
-      (found.1, inr (inr (inr (found.0, get_at_position ks found.0 ∙ found.2))), found.3)
+      (found.1, (Cell found.0.row found.0.col, get_at_position ks found.0 ∙ found.2), found.3)
 
   pub all_held : P g → All P (values_of cs) → All P (values_of rs) → All P (values_of ks) → (v : T) → Holds (view_of g cs rs ks) v → P v
-  all_held global columns rows cells v held =
-      ⊎_elim (λ is. subst P (sym is) global)
-      (λ held. ⊎_elim (λ column. at_key P (eqb column.0) cs v columns (sym (get_at_number cs column.0) ∙ column.1))
-      (λ held. ⊎_elim (λ row. at_key P (eqb row.0) rs v rows (sym (get_at_number rs row.0) ∙ row.1))
-      (λ cell. at_key P (position_eq cell.0) ks v cells (sym (get_at_position ks cell.0) ∙ cell.1)) held) held) held
+  all_held global columns rows cells v held = of_entity held.0 held.1
+    where
+      of_entity : (entity : Entity) → held_for (view_of g cs rs ks) entity ≡ Some v → P v
+      of_entity Global is = subst P (same_Some g v is) global
+      of_entity (Column c) is = at_key P (eqb c) cs v columns (sym (get_at_number cs c) ∙ is)
+      of_entity (Row r) is = at_key P (eqb r) rs v rows (sym (get_at_number rs r) ∙ is)
+      of_entity (Cell r c) is =
+          let p : Position = record { row = r; col = c } in
+          at_key P (position_eq p) ks v cells (sym (get_at_position ks p) ∙ is)
 
 pub on_true_map : {P Q : Type 0} (b : Bool) → (P → Q) → OnTrue b P → OnTrue b Q
 on_true_map true f p = f p

@@ -16,7 +16,7 @@ use Rattle.papergrid_values.specs.declared.position.Position.{Position}
 use Rattle.papergrid_keys.specs.Keys.{position_cmp}
 use Rattle.papergrid_keys.proofs.KeyLemmas.{exact_position_eq, exact_positions, position_ties, position_total}
 use Rattle.papergrid_maps.specs.ForProofs.SpanIndex.{DirectedSpans, HoldsBoth, IsReachedByBoth, extent_held, extent_of}
-use Rattle.papergrid_maps.specs.Spans.{IsCoveredByBoth, Spans, column_span, row_span}
+use Rattle.papergrid_maps.specs.Spans.{IsCoveredByBoth, Spans, span_along}
 use Rattle.papergrid_maps.specs.declared.span_index.Extent.{Extent}
 use Rattle.papergrid_maps.proofs.IndexRanges.{any_between, is_above, of_above}
 use Rattle.papergrid_maps.proofs.IndexReached.{held_above_one}
@@ -135,7 +135,7 @@ both_reached both p ordered =
 
 -- in the words of rectangles
 pub inside_reached : (index : DirectedSpans) (others : FinMap position_cmp ℕ) (both : BTreeMap Position Extent) → index.direction ≡ Columns → HoldsBoth index others both → (p : Position)
-    → let spans : Spans = record { columns = index.spans; rows = others } in IsReachedByBoth both p ↔ IsCoveredByBoth (column_span spans) (row_span spans) p
+    → let spans : Spans = record { columns = index.spans; rows = others } in IsReachedByBoth both p ↔ IsCoveredByBoth (span_along spans) p
 inside_reached index others both is holds p =
     let held : (q : Position) → tree_get position_cmp both q ≡ extent_held Columns (get index.spans q) (get others q) = λ q. holds q ∙ ap (λ d. extent_held d (get index.spans q) (get others q)) is in (
       λ h.

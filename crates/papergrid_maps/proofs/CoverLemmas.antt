@@ -17,39 +17,44 @@ use Rattle.papergrid_values.specs.declared.position.Position.{Position}
 use Rattle.papergrid_keys.specs.Keys.{position_cmp, position_eq}
 use Rattle.papergrid_keys.proofs.AnyLemmas.{any_found, any_from_found}
 use Rattle.papergrid_keys.proofs.KeyLemmas.{exact_position_eq, position_ties, position_total}
-use Rattle.papergrid_maps.specs.Spans.{Spans, column_span, row_span, is_visible, IsInRectangle}
+use Rattle.papergrid_maps.specs.Spans.{Spans, span_along, is_visible, IsInRectangle}
 use Rattle.papergrid_maps.specs.ForProofs.SpanIndex.{CoversOne, DirectedSpans, covers, covers_held, extent_of, held_along, key_of}
 use Rattle.papergrid_maps.proofs.IndexKeys.{held_at, key_key}
 use Rattle.papergrid_maps.proofs.SpanVisible.{apart_by_test, apart_from_test, visible_test}
 
-module _ (columns rows : Position → ℕ) (a p : Position) where
-  covered_inside : covers a (columns a) (rows a) p ≡ true → (a ≢ p) × IsInRectangle columns rows a p
+module _ (span : Direction → Position → ℕ) (a p : Position) where
+  covered_inside : covers a (span Columns a) (span Rows a) p ≡ true → (a ≢ p) × IsInRectangle span a p
   covered_inside h =
       let apart = and_parts (not (position_eq a p)) _ h in
       let below = and_parts (leb a.row p.row) _ apart.1 in
-      let above = and_parts (ltb (p.row - a.row) (rows a)) _ below.1 in
+      let above = and_parts (ltb (p.row - a.row) (span Rows a)) _ below.1 in
       let right = and_parts (leb a.col p.col) _ above.1 in
       let top : a.row ≤ p.row = leb-true _ _ below.0 in
-      let down : p.row - a.row < rows a = ltb-true _ _ above.0 in
+      let down : p.row - a.row < span Rows a = ltb-true _ _ above.0 in
       let left : a.col ≤ p.col = leb-true _ _ right.0 in
-      let wide : p.col - a.col < columns a = ltb-true _ _ right.1 in
+      let wide : p.col - a.col < span Columns a = ltb-true _ _ right.1 in
       (apart_from_test a p apart.0, record { below_top = top; above_bottom = omega arith; after_left = left; before_right = omega arith })
 
-  inside_covered : a ≢ p → IsInRectangle columns rows a p → covers a (columns a) (rows a) p ≡ true
+  inside_covered : a ≢ p → IsInRectangle span a p → covers a (span Columns a) (span Rows a) p ≡ true
   inside_covered apart within =
       let top : a.row ≤ p.row = within.below_top in
-      let down : p.row < a.row + rows a = within.above_bottom in
+      let down : p.row < a.row + span Rows a = within.above_bottom in
       let left : a.col ≤ p.col = within.after_left in
-      let wide : p.col < a.col + columns a = within.before_right in
+      let wide : p.col < a.col + span Columns a = within.before_right in
       and_from _ _ (apart_by_test a p apart) (and_from _ _ (le-leb _ _ top) (and_from _ _ (lt-ltb _ _ (omega arith))
       (and_from _ _ (le-leb _ _ left) (lt-ltb _ _ (omega arith)))))
 
 -- ---- what lies past the rectangle, by the number that rises
 
+-- the same spans everywhere
+abbrev same_spans : ℕ → ℕ → Direction → Position → ℕ
+same_spans columns rows Columns p = columns
+same_spans columns rows Rows p = rows
+
 module _ (a : Position) (columns rows : ℕ) (p : Position) where
-  not_covered : (IsInRectangle (λ _. columns) (λ _. rows) a p → ⊥) → covers a columns rows p ≡ false
+  not_covered : (IsInRectangle (same_spans columns rows) a p → ⊥) → covers a columns rows p ≡ false
   not_covered none = elim (cases_Bool (covers a columns rows p)) [
-    | inl t ↦ absurd (none (covered_inside (λ _. columns) (λ _. rows) a p t).1)
+    | inl t ↦ absurd (none (covered_inside (same_spans columns rows) a p t).1)
     | inr f ↦ f
   ]
 
@@ -103,15 +108,15 @@ module _ (d : Direction) (m : BTreeMap Position ℕ) (others : FinMap position_c
 
 module _ (spans : Spans) (places : List Position) where
   abbrev covers_some : Position → Bool
-  covers_some a = list_any (covers a (column_span spans a) (row_span spans a)) places
+  covers_some a = list_any (covers a (span_along spans Columns a) (span_along spans Rows a)) places
 
   -- a position that is covered is not visible
   hidden : (a : Position) → covers_some a ≡ true → All (λ p. IsTrue (is_visible spans p)) places → ⊥
   hidden a h all =
-      let found = Any-from_list_any (covers a (column_span spans a) (row_span spans a)) places h in
+      let found = Any-from_list_any (covers a (span_along spans Columns a) (span_along spans Rows a)) places h in
       let p = get_or places found.0 found.1 in
-      let covered : covers a (column_span spans a) (row_span spans a) p ≡ true = rw found.3 found.4 in
-      let inside = covered_inside (column_span spans) (row_span spans) a p covered in
+      let covered : covers a (span_along spans Columns a) (span_along spans Rows a) p ≡ true = rw found.3 found.4 in
+      let inside = covered_inside (span_along spans) a p covered in
       (visible_test spans p).0 (all found.0 found.1 found.2) a inside.0 inside.1
 
   -- where neither direction covers a position, all are visible
@@ -119,15 +124,15 @@ module _ (spans : Spans) (places : List Position) where
       → All (λ p. IsTrue (is_visible spans p)) places
   all_seen narrow short k d l = (visible_test spans (get_or places k d)).1 (λ a apart within.
       let p = get_or places k d in
-      let covered : covers_some a ≡ true = list_any-from_Any (covers a (column_span spans a) (row_span spans a)) places
-      (k, p, l, get_or_default places k p d l, inside_covered (column_span spans) (row_span spans) a p apart within) in
+      let covered : covers_some a ≡ true = list_any-from_Any (covers a (span_along spans Columns a) (span_along spans Rows a)) places
+      (k, p, l, get_or_default places k p d l, inside_covered (span_along spans) a p apart within) in
       elim (held (get spans.columns a)) [
         | inl wide ↦ narrow a wide covered
         | inr one ↦ elim (held (get spans.rows a)) [
           | inl tall ↦ short a tall covered
           | inr one' ↦
-              let columns_one : column_span spans a ≡ 1 = ap (λ o. unwrap_or o 1) one in
-              let rows_one : row_span spans a ≡ 1 = ap (λ o. unwrap_or o 1) one' in
+              let columns_one : span_along spans Columns a ≡ 1 = ap (λ o. unwrap_or o 1) one in
+              let rows_one : span_along spans Rows a ≡ 1 = ap (λ o. unwrap_or o 1) one' in
               let row : a.row ≡ p.row = omega (arith, rows_one, within.below_top, within.above_bottom) in
               let col : a.col ≡ p.col = omega (arith, columns_one, within.after_left, within.before_right) in
               apart (λ i. record { row = row i; col = col i })
@@ -142,13 +147,13 @@ module _ (columns rows : DirectedSpans) (by_columns : columns.direction ≡ Colu
   abbrev both_spans : Spans
   both_spans = record { columns = columns.spans; rows = rows.spans }
 
-  wide_one : (a : Position) → list_any (covers a ((extent_of columns.direction (column_span both_spans a) (row_span both_spans a)).columns) ((extent_of columns.direction (column_span both_spans a) (row_span both_spans a)).rows)) places
+  wide_one : (a : Position) → list_any (covers a ((extent_of columns.direction (span_along both_spans Columns a) (span_along both_spans Rows a)).columns) ((extent_of columns.direction (span_along both_spans Columns a) (span_along both_spans Rows a)).rows)) places
       ≡ covers_some both_spans places a
-  wide_one a = ap (λ d. let extent = extent_of d (column_span both_spans a) (row_span both_spans a) in list_any (covers a extent.columns extent.rows) places) by_columns
+  wide_one a = ap (λ d. let extent = extent_of d (span_along both_spans Columns a) (span_along both_spans Rows a) in list_any (covers a extent.columns extent.rows) places) by_columns
 
-  tall_one : (a : Position) → list_any (covers a ((extent_of rows.direction (row_span both_spans a) (column_span both_spans a)).columns) ((extent_of rows.direction (row_span both_spans a) (column_span both_spans a)).rows)) places
+  tall_one : (a : Position) → list_any (covers a ((extent_of rows.direction (span_along both_spans Rows a) (span_along both_spans Columns a)).columns) ((extent_of rows.direction (span_along both_spans Rows a) (span_along both_spans Columns a)).rows)) places
       ≡ covers_some both_spans places a
-  tall_one a = ap (λ d. let extent = extent_of d (row_span both_spans a) (column_span both_spans a) in list_any (covers a extent.columns extent.rows) places) by_rows
+  tall_one a = ap (λ d. let extent = extent_of d (span_along both_spans Rows a) (span_along both_spans Columns a) in list_any (covers a extent.columns extent.rows) places) by_rows
 
   pub hidden_wide : CoversOne columns rows.spans places → All (λ p. IsTrue (is_visible both_spans p)) places → ⊥
   hidden_wide h = hidden both_spans places h.0 (sym (wide_one h.0) ∙ h.2)

@@ -1,10 +1,12 @@
 -- What the anchors hide is what the spans do not leave visible.
-use Rattle.std.proofs.Common.{ap, arith, sym, subst, inl, inr, ◌∙◌, ◌≡◌, ◌+◌, ◌≢◌, ◌↔◌, ◌≤◌, IsTrue, ℕ, List}
+use Rattle.std.proofs.Common.{ap, arith, sym, subst, inl, inr, ◌∙◌, ◌≡◌, ◌≢◌, ◌↔◌, IsTrue, ℕ, List}
 use Rattle.std.proofs.lemmas.Bool.{cases_lt}
+use Rattle.papergrid_values.specs.declared.direction.Direction.{Direction}
+use Rattle.papergrid_values.specs.declared.direction.Direction.TheVariants.{Columns, Rows}
 use Rattle.papergrid_values.specs.declared.position.Position.{Position}
 use Rattle.papergrid_maps.specs.declared.anchors.Anchor.{Anchor}
 use Rattle.papergrid_maps.specs.Hidden.{IsHidden}
-use Rattle.papergrid_maps.specs.Spans.{IsInRectangle, IsVisible, Spans, column_span, is_visible, row_span}
+use Rattle.papergrid_maps.specs.Spans.{IsInRectangle, IsVisible, Spans, is_visible, span_along}
 use Rattle.papergrid_maps.proofs.SpanVisible.{visible_test}
 use Rattle.papergrid_maps.specs.Anchors.{HasAnchor, AreAnchors}
 
@@ -14,9 +16,9 @@ position-same p q e f =
     let at_col : ℕ → Position = λ c. record { row = q.row; col = c } in
     ap at_row e ∙ ap at_col f
 
-pub visible-not-hidden : (columns rows : Position → ℕ) (anchors : List Anchor) (p : Position) → AreAnchors columns rows anchors
-    → IsVisible columns rows p → IsHidden anchors p → ⊥
-visible-not-hidden columns rows anchors p are visible hidden =
+pub visible-not-hidden : (span : Direction → Position → ℕ) (anchors : List Anchor) (p : Position) → AreAnchors span anchors
+    → IsVisible span p → IsHidden anchors p → ⊥
+visible-not-hidden span anchors p are visible hidden =
     visible hidden.anchor.position hidden.is_other (record {
       below_top = hidden.is_in.below_top;
       above_bottom = omega (arith, hidden.is_in.above_bottom, are.has_rows hidden.index hidden.anchor hidden.is_anchor);
@@ -24,10 +26,10 @@ visible-not-hidden columns rows anchors p are visible hidden =
       before_right = omega (arith, hidden.is_in.before_right, are.has_cols hidden.index hidden.anchor hidden.is_anchor);
     })
 
-hidden-by : (columns rows : Position → ℕ) (anchors : List Anchor) (p q : Position) → AreAnchors columns rows anchors
-    → q ≢ p → IsInRectangle columns rows q p → HasAnchor anchors q → IsHidden anchors p
-hidden-by columns rows anchors p q are other within has =
-    let inside = subst (λ r. IsInRectangle columns rows r p) (sym has.is_there) within in
+hidden-by : (span : Direction → Position → ℕ) (anchors : List Anchor) (p q : Position) → AreAnchors span anchors
+    → q ≢ p → IsInRectangle span q p → HasAnchor anchors q → IsHidden anchors p
+hidden-by span anchors p q are other within has =
+    let inside = subst (λ r. IsInRectangle span r p) (sym has.is_there) within in
     record {
       index = has.index;
       anchor = has.anchor;
@@ -41,26 +43,26 @@ hidden-by columns rows anchors p q are other within has =
       };
     }
 
-pub not-hidden-visible : (columns rows : Position → ℕ) (anchors : List Anchor) (p : Position) → AreAnchors columns rows anchors
-    → (IsHidden anchors p → ⊥) → IsVisible columns rows p
-not-hidden-visible columns rows anchors p are shown q other within =
-    elim (cases_lt (columns q) 2) [
-      | inr wide ↦ shown (hidden-by columns rows anchors p q are other within (are.wide q wide))
-      | inl narrow ↦ elim (cases_lt (rows q) 2) [
-        | inr tall ↦ shown (hidden-by columns rows anchors p q are other within (are.tall q tall))
+pub not-hidden-visible : (span : Direction → Position → ℕ) (anchors : List Anchor) (p : Position) → AreAnchors span anchors
+    → (IsHidden anchors p → ⊥) → IsVisible span p
+not-hidden-visible span anchors p are shown q other within =
+    elim (cases_lt (span Columns q) 2) [
+      | inr wide ↦ shown (hidden-by span anchors p q are other within (are.has_each Columns q wide))
+      | inl narrow ↦ elim (cases_lt (span Rows q) 2) [
+        | inr tall ↦ shown (hidden-by span anchors p q are other within (are.has_each Rows q tall))
         | inl low ↦ other (position-same q p
             (omega (arith, within.below_top, within.above_bottom)) (omega (arith, within.after_left, within.before_right)))
       ]
     ]
 
-pub visible-by-hidden : (columns rows : Position → ℕ) (anchors : List Anchor) (p : Position) → AreAnchors columns rows anchors
-    → IsVisible columns rows p ↔ (IsHidden anchors p → ⊥)
-visible-by-hidden columns rows anchors p are =
-    (visible-not-hidden columns rows anchors p are, not-hidden-visible columns rows anchors p are)
+pub visible-by-hidden : (span : Direction → Position → ℕ) (anchors : List Anchor) (p : Position) → AreAnchors span anchors
+    → IsVisible span p ↔ (IsHidden anchors p → ⊥)
+visible-by-hidden span anchors p are =
+    (visible-not-hidden span anchors p are, not-hidden-visible span anchors p are)
 
-pub test-by-hidden : (spans : Spans) (anchors : List Anchor) (p : Position) → AreAnchors (column_span spans) (row_span spans) anchors
+pub test-by-hidden : (spans : Spans) (anchors : List Anchor) (p : Position) → AreAnchors (span_along spans) anchors
     → IsTrue (is_visible spans p) ↔ (IsHidden anchors p → ⊥)
 test-by-hidden spans anchors p are =
     let tested = visible_test spans p in
-    let shown = visible-by-hidden (column_span spans) (row_span spans) anchors p are in
+    let shown = visible-by-hidden (span_along spans) anchors p are in
     (λ t. shown.0 (tested.0 t), λ h. tested.1 (shown.1 h))

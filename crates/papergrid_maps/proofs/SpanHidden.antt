@@ -1,11 +1,13 @@
 -- What is covered is hidden, and what is not covered is visible.
-use Rattle.std.proofs.Common.{◌≡◌, ℕ, ◌≤◌, true, false, Option, Some, None, refl, ap, arith, ⊎_elim}
-use Rattle.std.specs.Prelude.{unwrap_or, not, ◌≢◌, ◌↔◌}
+use Rattle.std.proofs.Common.{◌≡◌, ℕ, ◌≤◌, true, false, Option, Some, None, refl, ap, arith}
+use Rattle.std.specs.Prelude.{unwrap_or, ◌≢◌, ◌↔◌}
 use Rattle.std.specs.FinMap.{FinMap, get}
 use Rattle.std.proofs.lemmas.Bool.{false≢true}
+use Rattle.papergrid_values.specs.declared.direction.Direction.{Direction}
+use Rattle.papergrid_values.specs.declared.direction.Direction.TheVariants.{Columns, Rows}
 use Rattle.papergrid_values.specs.declared.position.Position.{Position}
 use Rattle.papergrid_keys.specs.Keys.{position_cmp}
-use Rattle.papergrid_maps.specs.Spans.{Spans, column_span, row_span, IsCoveredByColumn, IsCoveredByRow, IsVisible}
+use Rattle.papergrid_maps.specs.Spans.{Spans, span_along, IsCoveredByColumn, IsCoveredByRow, IsVisible}
 use Rattle.papergrid_maps.specs.ForProofs.SpanIndex.{AreFromTwo}
 
 -- a span that is held is at least 1, and where none is held it is 1
@@ -13,16 +15,21 @@ at_least_one : (spans : FinMap position_cmp ℕ) → AreFromTwo spans → (p : P
 at_least_one spans big p None e = omega arith
 at_least_one spans big p (Some n) e = omega (arith, big p n e)
 
+-- each span is at least 1
+pub spans_from_one : (spans : Spans) → AreFromTwo spans.columns → AreFromTwo spans.rows → (d : Direction) (p : Position) → 1 ≤ span_along spans d p
+spans_from_one spans wide tall Columns p = at_least_one spans.columns wide p _ refl
+spans_from_one spans wide tall Rows p = at_least_one spans.rows tall p _ refl
+
 -- what is covered is not visible
-pub hidden_right : (spans : Spans) → AreFromTwo spans.rows → (p : Position) → IsCoveredByColumn (column_span spans) (row_span spans) p → IsVisible (column_span spans) (row_span spans) p → ⊥
+pub hidden_right : (spans : Spans) → AreFromTwo spans.rows → (p : Position) → IsCoveredByColumn (span_along spans) p → IsVisible (span_along spans) p → ⊥
 hidden_right spans big p h visible =
-    let tall : 1 ≤ row_span spans h.0 = at_least_one spans.rows big h.0 _ refl in
+    let tall : 1 ≤ span_along spans Rows h.0 = at_least_one spans.rows big h.0 _ refl in
     let apart : h.0 ≢ p = λ e. let same : h.0.col ≡ p.col = ap (λ q. q.col) e in absurd (omega (arith, h.2)) in
     visible h.0 apart (record { below_top = omega (arith, h.1); above_bottom = omega (arith, h.1); after_left = omega (arith, h.2); before_right = h.3 })
 
-pub hidden_below : (spans : Spans) → AreFromTwo spans.columns → (p : Position) → IsCoveredByRow (column_span spans) (row_span spans) p → IsVisible (column_span spans) (row_span spans) p → ⊥
+pub hidden_below : (spans : Spans) → AreFromTwo spans.columns → (p : Position) → IsCoveredByRow (span_along spans) p → IsVisible (span_along spans) p → ⊥
 hidden_below spans big p h visible =
-    let wide : 1 ≤ column_span spans h.0 = at_least_one spans.columns big h.0 _ refl in
+    let wide : 1 ≤ span_along spans Columns h.0 = at_least_one spans.columns big h.0 _ refl in
     let apart : h.0 ≢ p = λ e. let same : h.0.row ≡ p.row = ap (λ q. q.row) e in absurd (omega (arith, h.2)) in
     visible h.0 apart (record { below_top = omega (arith, h.2); above_bottom = h.3; after_left = omega (arith, h.1); before_right = omega (arith, h.1) })
 

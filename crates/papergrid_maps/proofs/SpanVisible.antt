@@ -5,15 +5,17 @@ use Rattle.std.specs.List.{list_any}
 use Rattle.std.specs.FinMap.{FinMap, get, keys, contains_key-keys}
 use Rattle.std.proofs.lemmas.Bool.{false≢true, and_parts, and_from, or_right, leb-true, le-leb, ltb-true, lt-ltb}
 use Rattle.std.proofs.lemmas.Map.Keys.{any_passes_from_place}
+use Rattle.papergrid_values.specs.declared.direction.Direction.{Direction}
+use Rattle.papergrid_values.specs.declared.direction.Direction.TheVariants.{Columns, Rows}
 use Rattle.papergrid_values.specs.declared.position.Position.{Position}
 use Rattle.papergrid_keys.specs.Keys.{position_cmp, position_eq}
-use Rattle.papergrid_maps.specs.Spans.{HasSpan, Spans, column_span, row_span, is_hidden_by, is_in_rectangle, is_visible, IsVisible, IsInRectangle}
+use Rattle.papergrid_maps.specs.Spans.{HasSpan, Spans, span_along, is_hidden_by, is_in_rectangle, is_visible, IsVisible, IsInRectangle}
 use Rattle.papergrid_keys.proofs.AnyLemmas.{any_place}
 use Rattle.papergrid_keys.proofs.KeyLemmas.{exact_position_eq, position_ties, position_equiv}
 
 -- the test of a rectangle
-in_rectangle : (columns rows : Position → ℕ) (anchor p : Position) → is_in_rectangle columns rows anchor p ≡ true → IsInRectangle columns rows anchor p
-in_rectangle columns rows anchor p h =
+in_rectangle : (span : Direction → Position → ℕ) (anchor p : Position) → is_in_rectangle span anchor p ≡ true → IsInRectangle span anchor p
+in_rectangle span anchor p h =
     let below = and_parts _ _ h in
     let above = and_parts _ _ below.1 in
     let right = and_parts _ _ above.1 in
@@ -24,8 +26,8 @@ in_rectangle columns rows anchor p h =
       before_right = ltb-true _ _ right.1;
     }
 
-tests_rectangle : (columns rows : Position → ℕ) (anchor p : Position) → IsInRectangle columns rows anchor p → is_in_rectangle columns rows anchor p ≡ true
-tests_rectangle columns rows anchor p within =
+tests_rectangle : (span : Direction → Position → ℕ) (anchor p : Position) → IsInRectangle span anchor p → is_in_rectangle span anchor p ≡ true
+tests_rectangle span anchor p within =
     and_from _ _ (le-leb _ _ within.below_top) (and_from _ _ (lt-ltb _ _ within.above_bottom)
     (and_from _ _ (le-leb _ _ within.after_left) (lt-ltb _ _ within.before_right)))
 
@@ -69,38 +71,38 @@ held_or_not (Some n) = inl refl
 
 -- a position with no span hides no other one
 hides_none : (spans : Spans) (anchor p : Position) → (is_some (get spans.columns anchor) ≡ true → ⊥) → (is_some (get spans.rows anchor) ≡ true → ⊥)
-    → anchor ≢ p → IsInRectangle (column_span spans) (row_span spans) anchor p → ⊥
+    → anchor ≢ p → IsInRectangle (span_along spans) anchor p → ⊥
 hides_none spans anchor p narrow short apart within =
-    let one_column : column_span spans anchor ≡ 1 = one_where_none (get spans.columns anchor) narrow in
-    let one_row : row_span spans anchor ≡ 1 = one_where_none (get spans.rows anchor) short in
+    let one_column : span_along spans Columns anchor ≡ 1 = one_where_none (get spans.columns anchor) narrow in
+    let one_row : span_along spans Rows anchor ≡ 1 = one_where_none (get spans.rows anchor) short in
     let row : anchor.row ≡ p.row = omega (arith, one_row, within.below_top, within.above_bottom) in
     let col : anchor.col ≡ p.col = omega (arith, one_column, within.after_left, within.before_right) in
     apart (λ i. record { row = row i; col = col i })
 
-pub visible_without_spans : (spans : Spans) (p : Position) → (HasSpan spans.columns → ⊥) → (HasSpan spans.rows → ⊥) → IsVisible (column_span spans) (row_span spans) p
+pub visible_without_spans : (spans : Spans) (p : Position) → (HasSpan spans.columns → ⊥) → (HasSpan spans.rows → ⊥) → IsVisible (span_along spans) p
 visible_without_spans spans p narrow short anchor = hides_none spans anchor p (λ held. narrow (anchor, held)) (λ held. short (anchor, held))
 
-hides : (spans : Spans) (p anchor : Position) → anchor ≢ p → IsInRectangle (column_span spans) (row_span spans) anchor p
-    → is_hidden_by (column_span spans) (row_span spans) (keys spans.columns ++ keys spans.rows) p ≡ true
+hides : (spans : Spans) (p anchor : Position) → anchor ≢ p → IsInRectangle (span_along spans) anchor p
+    → is_hidden_by (span_along spans) (keys spans.columns ++ keys spans.rows) p ≡ true
 hides spans p anchor apart within =
-    let test : Position → Bool = λ q. not (position_eq q p) && is_in_rectangle (column_span spans) (row_span spans) q p in
-    let passes : test anchor ≡ true = and_from _ _ (apart_by_test anchor p apart) (tests_rectangle _ _ anchor p within) in
+    let test : Position → Bool = λ q. not (position_eq q p) && is_in_rectangle (span_along spans) q p in
+    let passes : test anchor ≡ true = and_from _ _ (apart_by_test anchor p apart) (tests_rectangle (span_along spans) anchor p within) in
     ⊎_elim (λ wide. any_append test (keys spans.columns) (keys spans.rows) (among spans.columns anchor test wide passes))
     (λ narrow. ⊎_elim (λ tall. any_prepend test (keys spans.columns) (keys spans.rows) (among spans.rows anchor test tall passes))
     (λ short. absurd (hides_none spans anchor p narrow short apart within))
     (held_or_not (get spans.rows anchor)))
     (held_or_not (get spans.columns anchor))
 
-pub visible_test : (spans : Spans) (p : Position) → IsTrue (is_visible spans p) ↔ IsVisible (column_span spans) (row_span spans) p
+pub visible_test : (spans : Spans) (p : Position) → IsTrue (is_visible spans p) ↔ IsVisible (span_along spans) p
 visible_test spans p = (
   (λ h anchor apart within. not_true _ h (hides spans p anchor apart within)),
   (λ visible.
       let anchors = keys spans.columns ++ keys spans.rows in
-      elim (is_hidden_by (column_span spans) (row_span spans) anchors p) as (λ b. is_hidden_by (column_span spans) (row_span spans) anchors p ≡ b → not b ≡ true) [
+      elim (is_hidden_by (span_along spans) anchors p) as (λ b. is_hidden_by (span_along spans) anchors p ≡ b → not b ≡ true) [
         | true ↦ λ hidden.
-            let place = any_place (λ q. not (position_eq q p) && is_in_rectangle (column_span spans) (row_span spans) q p) anchors hidden in
+            let place = any_place (λ q. not (position_eq q p) && is_in_rectangle (span_along spans) q p) anchors hidden in
             let parts = and_parts (not (position_eq place.1 p)) _ place.3 in
-            absurd (visible place.1 (apart_from_test place.1 p parts.0) (in_rectangle _ _ place.1 p parts.1))
+            absurd (visible place.1 (apart_from_test place.1 p parts.0) (in_rectangle (span_along spans) place.1 p parts.1))
         | false ↦ λ seen. refl
       ] refl),
 )

@@ -1,5 +1,6 @@
 -- What a new compact configuration has, and how two of them compare.
 use Rattle.std.specs.Prelude.{◌≡◌, ℕ, List, [], ◌∷◌, None}
+use Rattle.std.specs.List.{AllByRecursion}
 use Rattle.std.specs.declared.cmp.Ordering.{Ordering}
 use Rattle.std.specs.declared.cmp.Ordering.TheVariants.{Equal}
 use Rattle.std.specs.Ordering.{ordering_then}
@@ -9,30 +10,29 @@ use Rattle.papergrid_values.specs.declared.indent.Indent.{Indent}
 use Rattle.papergrid_values.specs.declared.sides.Sides.{Sides}
 use Rattle.papergrid_values.specs.Borders.{frame_with}
 use Rattle.papergrid_values.specs.Colors.{texts_of}
+use Rattle.papergrid_values.specs.Keys.{sides_parts}
 use Rattle.papergrid_maps.specs.declared.compact.CompactConfig.{CompactConfig}
 
 -- so many spaces
 abbrev pub spaces : ℕ → Indent
 spaces n = record { fill = 32; size = n }
 
--- both texts are empty
-abbrev pub IsEmptyColor : ANSIStr → Type 0
-IsEmptyColor color = texts_of color ≡ ([], [])
+-- the same on each side
+abbrev pub all_sides : {T : Type 0} → T → Sides T
+all_sides v = record { top = v; bottom = v; left = v; right = v }
 
 -- the colour of each side is of two empty texts
-pub record AreEmptyColors (colors : Sides ANSIStr) : Type 0 where
-  pub top : IsEmptyColor colors.top
-  pub bottom : IsEmptyColor colors.bottom
-  pub left : IsEmptyColor colors.left
-  pub right : IsEmptyColor colors.right
+abbrev pub AreEmptyColors : Sides ANSIStr → Type 0
+AreEmptyColors colors = AllByRecursion (λ color. texts_of color ≡ ([], [])) (sides_parts colors)
 
--- a new compact configuration: no lines and no colours, a space left and right of each text, and texts at the left
+-- a new compact configuration: no lines and no colours, a space left and right of each text, and texts
+-- at the left
 pub record IsNew (config : CompactConfig) : Type 0 where
   pub borders : config.borders ≡ frame_with None
   pub border_colors : config.border_colors ≡ frame_with None
-  pub margin : config.margin ≡ record { top = spaces 0; bottom = spaces 0; left = spaces 0; right = spaces 0 }
+  pub margin : config.margin ≡ all_sides (spaces 0)
   pub margin_color : AreEmptyColors config.margin_color
-  pub padding : config.padding ≡ record { top = spaces 0; bottom = spaces 0; left = spaces 1; right = spaces 1 }
+  pub padding : config.padding ≡ record (all_sides (spaces 0)) { left = spaces 1; right = spaces 1 }
   pub padding_color : AreEmptyColors config.padding_color
   pub alignment : config.alignment ≡ Left
 

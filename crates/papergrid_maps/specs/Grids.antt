@@ -3,13 +3,13 @@ use Rattle.std.specs.Prelude.{ℕ, Bool, true, false}
 use Rattle.papergrid_values.specs.declared.position.Position.{Position}
 use Rattle.papergrid_values.specs.declared.sides.Sides.{Sides}
 use Rattle.papergrid_values.specs.declared.indent.Indent.{Indent}
-use Rattle.papergrid_maps.specs.Spans.{Spans, column_span, row_span}
 use Rattle.papergrid_maps.specs.declared.compact.CompactConfig.{CompactConfig}
 use Rattle.papergrid_values.specs.declared.direction.Direction.{Direction}
 use Rattle.papergrid_values.specs.declared.direction.Direction.TheVariants.{Columns, Rows}
 
--- which positions are visible, and along each direction the span of a position, the paddings before and after its text,
--- and, of so many columns (rows), before which of them, or at their count after the last, there is a line
+-- which positions are visible, and along each direction the span of a position, the paddings before
+-- and after its text, and, of so many columns (rows), before which of them, or at their count after the
+-- last, there is a line
 pub record Grid : Type 0 where
   pub shows : Position → Bool
   pub span : Direction → Position → ℕ
@@ -26,11 +26,6 @@ size_before Rows padding = padding.top.size
 abbrev pub size_after : Direction → Sides Indent → ℕ
 size_after Columns padding = padding.right.size
 size_after Rows padding = padding.bottom.size
-
--- how many columns (rows) the cell at a position spans
-abbrev pub span_along : Spans → Direction → Position → ℕ
-span_along spans Columns p = column_span spans p
-span_along spans Rows p = row_span spans p
 
 -- all cells are visible, of span 1 and with one padding, and there are no lines
 abbrev pub compact_grid : CompactConfig → Grid

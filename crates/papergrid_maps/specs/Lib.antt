@@ -6,6 +6,7 @@ pub mod Hidden
 pub mod DecidingSpan
 pub mod HeldSame
 pub mod Keys
+pub mod Listed
 pub mod Made
 pub mod MapCalls
 pub mod MapEq

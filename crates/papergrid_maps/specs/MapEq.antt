@@ -1,18 +1,11 @@
 -- When two maps hold the same.
 use Rattle.std.specs.Prelude.{Bool, ◌&&◌}
-use Rattle.std.specs.Cmp.{IsPartialEquivalence, and_per, on_per}
 use Rattle.papergrid_keys.specs.Equal.{numbers_eq, places_eq}
-use Rattle.papergrid_keys.specs.ForProofs.EqualLaws.{numbers_laws, places_laws}
 use Rattle.papergrid_maps.specs.MapHeld.{Held}
 
 -- the global values are equal, and the columns, the rows and the cells have equal values
 abbrev pub held_eq : {T : Type 0} → (T → T → Bool) → Held T → Held T → Bool
 held_eq eq m n =
     eq m.global n.global
-    && (numbers_eq eq m.columns n.columns && (numbers_eq eq m.rows n.rows && places_eq eq m.cells n.cells))
-
-pub held_eq_laws : {T : Type 0} (eq : T → T → Bool) → IsPartialEquivalence eq → IsPartialEquivalence (held_eq eq)
-held_eq_laws {T} eq laws =
-    and_per (on_per (λ (m : Held T). m.global) laws)
-    (and_per (on_per (λ (m : Held T). m.columns) (numbers_laws eq laws))
-    (and_per (on_per (λ (m : Held T). m.rows) (numbers_laws eq laws)) (on_per (λ (m : Held T). m.cells) (places_laws eq laws))))
+    && (numbers_eq eq m.columns n.columns
+    && (numbers_eq eq m.rows n.rows && places_eq eq m.cells n.cells))

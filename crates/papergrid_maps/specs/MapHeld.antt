@@ -1,5 +1,5 @@
 -- What a map of values by entity holds.
-use Rattle.std.specs.Prelude.{◌≡◌, ◌⊎◌, ℕ, List, reverse, Option, Some, None, unwrap_or, refl}
+use Rattle.std.specs.Prelude.{◌≡◌, ℕ, List, reverse, Option, Some, None, unwrap_or, refl}
 use Rattle.std.specs.Ordering.{nat_cmp}
 use Rattle.std.specs.FinMap.{FinMap, get, code}
 use Rattle.std.specs.Coded.{Coded, code_by, coded×, coded_ℕ}
@@ -31,7 +31,8 @@ module _ {T : Type 0} where
   -- the value held for a position: the cell's, or else the column's, the row's or the global one
   abbrev pub held_value : Held T → Position → T
   held_value held p =
-      unwrap_or (get held.cells p) (unwrap_or (get held.columns p.col) (unwrap_or (get held.rows p.row) held.global))
+      unwrap_or (get held.cells p)
+      (unwrap_or (get held.columns p.col) (unwrap_or (get held.rows p.row) held.global))
 
   -- a map that was made with a value, and then given the calls, holds this
   pub record IsTold (given : T) (calls : List (MapCall T)) (held : Held T) : Type 0 where
@@ -50,17 +51,13 @@ module _ {T : Type 0} where
     pub rows : (r : ℕ) → get held.rows r ≡ None
     pub cells : (p : Position) → get held.cells p ≡ None
 
-  -- the value is held for some entity
-  abbrev pub Holds : Held T → T → Type 0
-  Holds held v =
-      (v ≡ held.global)
-      ⊎ ((c : ℕ) × (get held.columns c ≡ Some v))
-      ⊎ ((r : ℕ) × (get held.rows r ≡ Some v))
-      ⊎ ((p : Position) × (get held.cells p ≡ Some v))
-
   -- the value held for an entity
   abbrev pub held_for : Held T → Entity → Option T
   held_for held Global = Some held.global
   held_for held (Column c) = get held.columns c
   held_for held (Row r) = get held.rows r
   held_for held (Cell r c) = get held.cells (record { row = r; col = c })
+
+  -- the value is held for some entity
+  abbrev pub Holds : Held T → T → Type 0
+  Holds held v = (entity : Entity) × (held_for held entity ≡ Some v)

@@ -1,7 +1,5 @@
 -- The paddings of a cell on its four sides, and what decides them.
-use Rattle.std.specs.Prelude.{◌≡◌, ℕ, IfSome, List, Option, None, Some, is_some, unwrap_or}
-use Rattle.std.specs.Set.{is_member}
-use Rattle.papergrid_keys.specs.Keys.{position_eq}
+use Rattle.std.specs.Prelude.{◌≡◌, ℕ, IfSome, Option, None, Some, unwrap_or}
 use Rattle.papergrid_values.specs.declared.direction.Direction.TheVariants.{Columns, Rows}
 use Rattle.papergrid_values.specs.declared.entity.Entity.{Entity}
 use Rattle.papergrid_values.specs.declared.entity.Entity.TheVariants.{Cell, Column, Global, Row}
@@ -32,13 +30,7 @@ no_paddings = record { left = 0; right = 0; top = 0; bottom = 0 }
 -- what is set for the table alone
 abbrev pub for_all_cells : Paddings → Entity → Option Paddings
 for_all_cells paddings Global = Some paddings
-for_all_cells paddings (Column _) = None
-for_all_cells paddings (Row _) = None
-for_all_cells paddings (Cell _ _) = None
-
--- these are the cells for which something is set, in any order
-abbrev pub ArePadded : (Entity → Option Paddings) → List Position → Type 0
-ArePadded set cells = (p : Position) → is_member position_eq cells p ≡ is_some (set (Cell p.row p.col))
+for_all_cells paddings other = None
 
 -- what is set for a row, or else for the whole table
 abbrev pub set_in_row : (Entity → Option Paddings) → ℕ → Paddings
@@ -47,4 +39,5 @@ set_in_row set r = unwrap_or (set (Row r)) (unwrap_or (set Global) no_paddings)
 -- the paddings of a cell are its own, else its column's, its row's or the table's
 abbrev pub AreDecided : Grid → (Entity → Option Paddings) → Type 0
 AreDecided grid set = (p : Position) →
-    paddings_at grid p ≡ unwrap_or (set (Cell p.row p.col)) (unwrap_or (set (Column p.col)) (set_in_row set p.row))
+    paddings_at grid p
+    ≡ unwrap_or (set (Cell p.row p.col)) (unwrap_or (set (Column p.col)) (set_in_row set p.row))

@@ -7,6 +7,7 @@ use Rattle.papergrid_values.specs.declared.direction.Direction.{Direction}
 use Rattle.papergrid_values.specs.declared.direction.Direction.TheVariants.{Columns, Rows}
 use Rattle.papergrid_values.specs.declared.position.Position.{Position}
 use Rattle.papergrid_keys.specs.Keys.{position_cmp, position_eq}
+use Rattle.papergrid_maps.specs.Anchors.{IsWithin}
 
 -- whether two directions are the same
 abbrev pub is_same_direction : Direction → Direction → Bool
@@ -55,29 +56,24 @@ HasSpan spans = (p : Position) × IsSome (get spans p)
 
 -- each span of the direction that is held ends within so many columns (rows)
 abbrev pub EndWithin : Direction → FinMap position_cmp ℕ → ℕ → Type 0
-EndWithin direction spans count = (p : Position) (n : ℕ) → get spans p ≡ Some n → along direction p + n ≤ count
+EndWithin direction spans count =
+    (p : Position) (n : ℕ) → get spans p ≡ Some n → along direction p + n ≤ count
 
 -- the span of a position, 1 where none is held
 abbrev pub span_at : FinMap position_cmp ℕ → Position → ℕ
 span_at spans p = unwrap_or (get spans p) 1
 
--- how many columns the cell at a position spans
-abbrev pub column_span : Spans → Position → ℕ
-column_span spans p = span_at spans.columns p
+-- how many columns (rows) the cell at a position spans
+abbrev pub span_along : Spans → Direction → Position → ℕ
+span_along spans d p = span_at (spans_along d spans) p
 
--- how many rows it spans
-abbrev pub row_span : Spans → Position → ℕ
-row_span spans p = span_at spans.rows p
+-- ---- rectangles, by the spans of all positions along both directions
 
--- ---- rectangles, by the column spans and the row spans of all positions
-
-module _ (columns rows : Position → ℕ) where
-  -- the position lies in the anchor's rectangle
-  pub record IsInRectangle (anchor p : Position) : Type 0 where
-    pub below_top : anchor.row ≤ p.row
-    pub above_bottom : p.row < anchor.row + rows anchor
-    pub after_left : anchor.col ≤ p.col
-    pub before_right : p.col < anchor.col + columns anchor
+module _ (span : Direction → Position → ℕ) where
+  -- the position lies in the rectangle of the anchor, by the spans of the anchor
+  abbrev pub IsInRectangle : Position → Position → Type 0
+  IsInRectangle anchor p =
+      IsWithin (record { position = anchor; rows = span Rows anchor; cols = span Columns anchor }) p
 
   -- in no rectangle of another anchor
   abbrev pub IsVisible : Position → Type 0
@@ -86,30 +82,33 @@ module _ (columns rows : Position → ℕ) where
   -- right of an anchor in its row
   abbrev pub IsCoveredByColumn : Position → Type 0
   IsCoveredByColumn p =
-      (anchor : Position) × (anchor.row ≡ p.row) × (anchor.col < p.col) × (p.col < anchor.col + columns anchor)
+      (anchor : Position) × (anchor.row ≡ p.row) × (anchor.col < p.col)
+      × (p.col < anchor.col + span Columns anchor)
 
   -- below an anchor in its column
   abbrev pub IsCoveredByRow : Position → Type 0
   IsCoveredByRow p =
-      (anchor : Position) × (anchor.col ≡ p.col) × (anchor.row < p.row) × (p.row < anchor.row + rows anchor)
+      (anchor : Position) × (anchor.col ≡ p.col) × (anchor.row < p.row)
+      × (p.row < anchor.row + span Rows anchor)
 
   -- inside the rectangle of an anchor
   abbrev pub IsCoveredByBoth : Position → Type 0
   IsCoveredByBoth p =
-      (anchor : Position) × (anchor.row < p.row) × (p.row < anchor.row + rows anchor)
-      × (anchor.col < p.col) × (p.col < anchor.col + columns anchor)
+      (anchor : Position) × (anchor.row < p.row) × (p.row < anchor.row + span Rows anchor)
+      × (anchor.col < p.col) × (p.col < anchor.col + span Columns anchor)
 
   -- whether the position lies in the anchor's rectangle
   abbrev pub is_in_rectangle : Position → Position → Bool
   is_in_rectangle anchor p =
-      nat_le anchor.row p.row && (nat_lt p.row (anchor.row + rows anchor)
-      && (nat_le anchor.col p.col && nat_lt p.col (anchor.col + columns anchor)))
+      nat_le anchor.row p.row && (nat_lt p.row (anchor.row + span Rows anchor)
+      && (nat_le anchor.col p.col && nat_lt p.col (anchor.col + span Columns anchor)))
 
   -- whether one of these anchors, if it is another position, hides this one
   abbrev pub is_hidden_by : List Position → Position → Bool
-  is_hidden_by anchors p = list_any (λ anchor. not (position_eq anchor p) && is_in_rectangle anchor p) anchors
+  is_hidden_by anchors p =
+      list_any (λ anchor. not (position_eq anchor p) && is_in_rectangle anchor p) anchors
 
 -- whether the position is visible: only where a span is held can another position hide it
 abbrev pub is_visible : Spans → Position → Bool
 is_visible spans p =
-    not (is_hidden_by (column_span spans) (row_span spans) (keys spans.columns ++ keys spans.rows) p)
+    not (is_hidden_by (span_along spans) (keys spans.columns ++ keys spans.rows) p)

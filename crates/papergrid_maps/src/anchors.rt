@@ -6,7 +6,7 @@ ghost use Rattle.papergrid_values.specs.Positions.{IsBefore};
 ghost use Rattle.papergrid_values.specs.declared.direction.Direction.TheVariants.{Columns, Rows};
 ghost use Rattle.papergrid_values.specs.declared.position.Position.{Position};
 ghost use Rattle.papergrid_maps.specs.Anchors.{AreAnchors, HasAnchor, IsSorted};
-ghost use Rattle.papergrid_maps.specs.Spans.{span_at};
+ghost use Rattle.papergrid_maps.specs.Spans.{span_along};
 
 use crate::span_index::SpanIndex;
 use papergrid_values::Position;
@@ -40,7 +40,8 @@ pub(crate) fn anchors_of(
     requires columns { columns.now.direction ≡ Columns }
     requires rows { rows.now.direction ≡ Rows }
     ensures sorted { IfOk result (λ anchors. IsSorted anchors.items) }
-    ensures spans { IfOk result (λ anchors. AreAnchors (span_at columns.now.spans) (span_at rows.now.spans) anchors.items) }
+    ensures spans { IfOk result (λ anchors. AreAnchors (span_along
+        (record { columns = columns.now.spans; rows = rows.now.spans })) anchors.items) }
     ensures held { IfOk result (λ anchors. (p : Position) → HasAnchor anchors.items p →
         IsSome (value_at columns.now.spans p) ⊎ IsSome (value_at rows.now.spans p)) }
 {

@@ -90,7 +90,8 @@ impl<C: ANSIFmt> Colors for BTreeMap<Position, C> {
 
 // It is empty where the colour of the whole table is unset and nothing else is held.
 impl<C: ANSIFmt> Colors for EntityMap<Option<C>> {
-    ghost use Rattle.papergrid_maps.specs.ColorsHeld.{IsBlank, blank_value};
+    ghost use Rattle.papergrid_maps.specs.ColorsHeld.{IsBlank};
+    ghost use Rattle.papergrid_maps.specs.ForProofs.BlankColors.{blank_value};
 
     type Color = C;
 

@@ -1,6 +1,6 @@
 //! A value for each position, set by entity. Source: `config/spanned/entity_map.rs`.
 
-ghost use Rattle.std.specs.Prelude.{All, AllPairs, Any, true, false, List, ◌≡◌, ◌≢◌, ◌∷◌, [], map, length, IfOk, OnOk, OnErr, IsOk, IfErr, IsTrue, take, slice_get, IsSomeAnd, Some, if◌then◌else◌, filter, is_some, not, option_copied, ◌==◌, ◌<◌, ◌↔◌};
+ghost use Rattle.std.specs.Prelude.{All, AllPairs, Any, true, false, List, ◌≡◌, ◌≢◌, ◌∷◌, [], map, length, IfOk, OnOk, OnErr, IsOk, IfErr, IsTrue, take, slice_get, IsSomeAnd, Some, if◌then◌else◌, filter, not, option_copied, ◌==◌, ◌<◌, ◌↔◌};
 ghost use Rattle.std.specs.Bool.{OnTrue, OnFalse};
 ghost use Rattle.std.specs.Fn.{FnReturnsAt};
 ghost use Rattle.std.specs.HashMap.{IsUnique, keys, values, get as map_get};
@@ -9,6 +9,7 @@ ghost use Rattle.papergrid_values.specs.declared.entity.Entity.{Entity};
 ghost use Rattle.papergrid_values.specs.declared.position.Position.{Position};
 ghost use Rattle.papergrid_keys.specs.Keys.{position_eq};
 ghost use Rattle.papergrid_maps.specs.Keys.{entity_eq};
+ghost use Rattle.papergrid_maps.specs.Listed.{AreSetCells, HasAtEach};
 ghost use Rattle.papergrid_maps.specs.MapCalls.{decided_value, may_grow};
 ghost use Rattle.papergrid_maps.specs.MapHeld.{IsTold, Appends, HasNothing, Holds, held_for, held_value};
 ghost use Rattle.papergrid_maps.specs.declared.entity_map.MapCall.{MapCall};
@@ -38,7 +39,7 @@ pub struct Stopped {
 }
 
 /// A value for each position: one for the whole table, and values for some columns, rows and cells.
-#[derive(Debug, Drop)]
+#[derive(Debug)]
 pub struct EntityMap<T> {
     alloc: Global,
     global: T,
@@ -56,6 +57,19 @@ impl<T> Model for EntityMap<T> {
     ghost coded = { held_code T.code };
 
     ghost view = { λ m. record { global = m.global; columns = map.from_entries m.columns.entries; rows = map.from_entries m.rows.entries; cells = map.from_entries m.cells.entries } };
+}
+
+// By hand, since what a derive makes is proved anew in each function that drops a map.
+impl<T: Drop> Drop for EntityMap<T> {
+    fn drop(self) {
+        let EntityMap {
+            alloc: _,
+            global: _,
+            columns: _,
+            rows: _,
+            cells: _,
+        } = self;
+    }
 }
 
 impl<T> EntityMap<T> {
@@ -86,7 +100,8 @@ impl<T> EntityMap<T> {
     /// table: where calls tell the map, the one that they decide.
     pub fn get(&self, pos: Position) -> &T
         ensures held { result.now ≡ held_value self.now pos }
-        ensures decided { (given : T) (calls : List (MapCall T)) → IsTold given calls self.now → result.now ≡ decided_value given calls pos }
+        ensures decided { (given : T) (calls : List (MapCall T)) →
+            IsTold given calls self.now → result.now ≡ decided_value given calls pos }
     {
         if let Some(value) = look_up(&self.cells, pos) {
             return value;
@@ -115,7 +130,7 @@ impl<T> EntityMap<T> {
 
     /// The cells that hold a value of their own, each once, in no order, or out of memory.
     pub fn held_cells(&self) -> Result<Vec<Position>, AllocError>
-        ensures held { IfOk result (λ cells. (p : Position) → is_member position_eq cells.items p ≡ is_some (held_for self.now (Entity.Cell p.row p.col))) }
+        ensures held { IfOk result (λ cells. AreSetCells (held_for self.now) cells.items) }
         ensures once { IfOk result (λ cells. AllPairs (λ p q. p ≢ q) cells.items) }
     {
         keys_of_cells(self.alloc, &self.cells)
@@ -146,7 +161,7 @@ impl<T> EntityMap<T> {
     pub fn into_map(self) -> Result<HashMap<Entity, T>, AllocError>
     where
         T: Drop,
-        ensures { IfOk result (λ all. (entity : Entity) → map_get entity_eq all entity ≡ held_for self entity) }
+        ensures { IfOk result (λ all. HasAtEach entity_eq all (held_for self)) }
     {
         let EntityMap {
             alloc,
@@ -194,7 +209,8 @@ impl<T: Clone> Clone for EntityMap<T> {
 }
 
 impl<T: PartialEq> PartialEq for EntityMap<T> {
-    ghost use Rattle.papergrid_maps.specs.MapEq.{held_eq, held_eq_laws};
+    ghost use Rattle.papergrid_maps.specs.MapEq.{held_eq};
+    ghost use Rattle.papergrid_maps.specs.ForProofs.MapEqLaws.{held_eq_laws};
 
     ghost eq = { held_eq T.eq };
 
@@ -272,9 +288,11 @@ impl<T: Clone> EntityMap<T> {
     pub fn apply_all(&mut self, calls: Vec<MapCall<T>>) -> Result<(), Stopped>
         requires equal_clones { (x y : T) → T.is_clone x y → y ≡ x }
         ensures ok { OnOk result (Appends self.old self.new calls.items) }
-        ensures err { IfErr result (λ stopped. Appends self.old self.new (take stopped.done calls.items)) }
+        ensures err { IfErr result (λ stopped.
+            Appends self.old self.new (take stopped.done calls.items)) }
         ensures refused { IfErr result (λ stopped. stopped.done < length calls.items) }
-        ensures blamed { IfErr result (λ stopped. IsSomeAnd (slice_get calls.items stopped.done) (λ call. may_grow call ≡ true)) }
+        ensures blamed { IfErr result (λ stopped.
+            IsSomeAnd (slice_get calls.items stopped.done) (λ call. may_grow call ≡ true)) }
         ensures free { All (λ call. may_grow call ≡ false) calls.items → IsOk result }
     {
         let mut done = 0;
@@ -320,7 +338,8 @@ fn crossings_of_column<T>(
     rows: &HashMap<usize, T>,
     col: usize,
 ) -> Result<Vec<Position>, AllocError>
-    ensures { IfOk result (λ v. v.items ≡ map (λ r. record { row = r; col = col }) (keys rows.now)) }
+    ensures { IfOk result (λ cells.
+        cells.items ≡ map (λ row. record { row = row; col = col }) (keys rows.now)) }
 {
     rows.keys()
         .map(|row| Position { row: *row, col })
@@ -333,7 +352,8 @@ fn crossings_of_row<T>(
     columns: &HashMap<usize, T>,
     row: usize,
 ) -> Result<Vec<Position>, AllocError>
-    ensures { IfOk result (λ v. v.items ≡ map (λ c. record { row = row; col = c }) (keys columns.now)) }
+    ensures { IfOk result (λ cells.
+        cells.items ≡ map (λ col. record { row = row; col = col }) (keys columns.now)) }
 {
     columns
         .keys()
@@ -349,8 +369,10 @@ fn write_copies<T: Clone>(
     value: &T,
 ) -> Result<(), AllocError>
     requires equal_clones { (x y : T) → T.is_clone x y → y ≡ x }
-    ensures ok { OnOk result ((q : Position) → map_get position_eq cells.new q ≡ (if is_member position_eq places.now q then Some value.now else map_get position_eq cells.old q)) }
-    ensures err { OnErr result ((q : Position) → map_get position_eq cells.new q ≡ map_get position_eq cells.old q) }
+    ensures ok { OnOk result (HasAtEach position_eq cells.new (λ q.
+        if is_member position_eq places.now q then Some value.now
+        else map_get position_eq cells.old q)) }
+    ensures err { OnErr result (HasAtEach position_eq cells.new (map_get position_eq cells.old)) }
 {
     let mut copies = vec![in alloc; value.clone()?; places.len()]?;
     cells.reserve(places.len())?;
@@ -375,7 +397,8 @@ fn drop_row<T: Drop>(cells: &mut HashMap<Position, T>, row: usize)
 
 // Whether `f` is true of a value of the map.
 fn any_value<K: Eq + Hash, T, F: Fn(&T) -> bool>(map: &HashMap<K, T>, f: &F) -> bool
-    requires { IsUnique K.eq map.now → (lent : _) → Any (λ v. v ≡ lent.now) (values map.now) → F.pre f.now lent }
+    requires { IsUnique K.eq map.now → (lent : _) →
+        Any (λ v. v ≡ lent.now) (values map.now) → F.pre f.now lent }
     ensures yes { OnTrue result (Any (λ v. FnReturnsAt F.Fn f.now v true) (values map.now)) }
     ensures no { OnFalse result (All (λ v. FnReturnsAt F.Fn f.now v false) (values map.now)) }
     ensures unique { IsUnique K.eq map.now }

@@ -20,7 +20,7 @@ ghost use Rattle.papergrid_maps.specs.Made.{spans_made};
 ghost use Rattle.papergrid_maps.specs.MapCalls.{decided_value};
 ghost use Rattle.papergrid_maps.specs.MapHeld.{Held, IsTold, held_value};
 ghost use Rattle.papergrid_maps.specs.Spans as spans;
-ghost use Rattle.papergrid_maps.specs.Spans.{IsVisible, SpanCall, Spans, column_span, decided_span, is_visible, row_span};
+ghost use Rattle.papergrid_maps.specs.Spans.{IsVisible, SpanCall, Spans, decided_span, is_visible, span_along};
 
 use crate::{
     Anchor, Colors, CompactConfig, EntityMap, MapCall, NoColor, NoColors, Paddings, SpanTable,
@@ -40,7 +40,8 @@ pub fn told_decides<T>()
 /// The spans that calls make are told by them, and no others are.
 pub fn told_makes_spans()
     ensures told { (calls : List SpanCall) → spans.IsTold calls (spans_made calls) }
-    ensures only { (calls : List SpanCall) (held : Spans) → spans.IsTold calls held → held ≡ spans_made calls }
+    ensures only { (calls : List SpanCall) (held : Spans) →
+        spans.IsTold calls held → held ≡ spans_made calls }
 {}
 
 /// The span that calls decide is the one that their deciding call sets, by its place in the list:
@@ -57,23 +58,26 @@ pub fn spans_by_place()
 /// rectangle, whatever spans are held.
 pub fn visible_by_rectangles()
     ensures { (held : Spans) (pos : Position) →
-        IsTrue (is_visible held pos) ↔ IsVisible (column_span held) (row_span held) pos }
+        IsTrue (is_visible held pos) ↔ IsVisible (span_along held) pos }
 {}
 
 /// A position is visible exactly where no anchor of the spans hides it.
 pub fn visible_where_not_hidden()
-    ensures rectangles { (columns rows : Position → ℕ) (anchors : List Anchor) (p : Position) →
-        AreAnchors columns rows anchors → (IsVisible columns rows p ↔ (IsHidden anchors p → ⊥)) }
+    ensures rectangles { (span : Direction → Position → ℕ) (anchors : List Anchor) (p : Position) →
+        AreAnchors span anchors → (IsVisible span p ↔ (IsHidden anchors p → ⊥)) }
     ensures test { (spans : Spans) (anchors : List Anchor) (p : Position) →
-        AreAnchors (column_span spans) (row_span spans) anchors → (IsTrue (is_visible spans p) ↔ (IsHidden anchors p → ⊥)) }
+        AreAnchors (span_along spans) anchors →
+        (IsTrue (is_visible spans p) ↔ (IsHidden anchors p → ⊥)) }
 {}
 
 /// Two maps that were made with the same value and are told by the same calls are equal, and so
 /// are two tables of spans that are told by the same calls.
 pub fn equal_told_maps<T: Eq>()
-    ensures maps { (given : T) (calls : List (MapCall T)) (m n : Held T) → IsTold given calls m → IsTold given calls n →
+    ensures maps { (given : T) (calls : List (MapCall T)) (m n : Held T) →
+        IsTold given calls m → IsTold given calls n →
         ⟦<EntityMap<T> as PartialEq>⟧.eq m n ≡ true }
-    ensures spans { (calls : List SpanCall) (s t : Spans) → spans.IsTold calls s → spans.IsTold calls t →
+    ensures spans { (calls : List SpanCall) (s t : Spans) →
+        spans.IsTold calls s → spans.IsTold calls t →
         ⟦<SpanTable as PartialEq>⟧.eq s t ≡ true }
 {}
 

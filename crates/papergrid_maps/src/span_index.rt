@@ -5,13 +5,13 @@ ghost use Rattle.std.specs.BTreeMap.Range.{entries_between};
 ghost use Rattle.std.specs.FinMap as map;
 ghost use Rattle.std.specs.FinMap.{get as value_at};
 ghost use Rattle.std.specs.Prelude.{map as list_map};
-ghost use Rattle.std.specs.HashMap.{get as map_get};
 ghost use Rattle.std.specs.List.{list_all, list_any};
 ghost use Rattle.papergrid_values.specs.declared.direction.Direction.TheVariants.{Columns};
 ghost use Rattle.papergrid_values.specs.declared.position.Position.{Position};
 ghost use Rattle.papergrid_values.specs.Positions.{AreRising};
 ghost use Rattle.papergrid_keys.specs.Equal.{places_eq};
 ghost use Rattle.papergrid_keys.specs.Keys.{position_cmp, position_eq};
+ghost use Rattle.papergrid_maps.specs.Listed.{HasAtEach};
 ghost use Rattle.papergrid_maps.specs.Spans.{EndWithin, HasSpan};
 ghost use Rattle.papergrid_maps.specs.ForProofs.SpanIndex.{AreAt, CoversOne, IsReached, IsRising, anchor_along, covers_held, entry_anchor, extent_of, key_of};
 
@@ -81,7 +81,8 @@ impl SpanIndex {
     /// Holds a span at a position. Only where none is held there can memory be refused: then the index
     /// is as it was.
     pub(crate) fn insert(&mut self, pos: Position, span: usize) -> Result<(), AllocError>
-        ensures ok { OnOk result (self.new ≡ record self.old { spans = map.insert self.old.spans pos span }) }
+        ensures ok { OnOk result
+            (self.new ≡ record self.old { spans = map.insert self.old.spans pos span }) }
         ensures err { OnErr result (self.new ≡ self.old) }
         ensures absent { OnErr result (value_at self.old.spans pos ≡ None) }
     {
@@ -143,14 +144,15 @@ impl SpanIndex {
         ensures spans { IfOk result (λ anchors. AreAt
             (anchor_along self.now.direction (value_at self.now.spans) (value_at others.now.spans))
             (λ p. IsSome (value_at self.now.spans p)) anchors.items) }
-        ensures sorted { IfOk result (λ anchors. self.now.direction ≡ Columns → IsRising anchors.items) }
+        ensures sorted { IfOk result (λ anchors.
+            self.now.direction ≡ Columns → IsRising anchors.items) }
     {
         anchors_along(alloc, self.direction, &self.spans, others)
     }
 
     /// The spans by position, or out of memory.
     pub(crate) fn by_position(&self, alloc: Global) -> Result<HashMap<Position, usize>, AllocError>
-        ensures { IfOk result (λ all. (p : Position) → map_get position_eq all p ≡ value_at self.now.spans p) }
+        ensures { IfOk result (λ all. HasAtEach position_eq all (value_at self.now.spans)) }
     {
         let direction = self.direction;
         self.spans
@@ -226,7 +228,8 @@ fn anchors_along(
     spans: &BTreeMap<Position, usize>,
     others: &SpanIndex,
 ) -> Result<Vec<Anchor>, AllocError>
-    ensures { IfOk result (λ anchors. anchors.items ≡ list_map (entry_anchor direction others.now.spans) spans.now.entries) }
+    ensures { IfOk result (λ anchors.
+        anchors.items ≡ list_map (entry_anchor direction others.now.spans) spans.now.entries) }
 {
     spans
         .iter()
@@ -251,8 +254,8 @@ fn anchor_of(direction: Direction, key: Position, span: usize, others: &SpanInde
 // before the key, so that no difference is cut off.
 fn reaches_key(spans: &BTreeMap<Position, usize>, key: Position) -> bool
     ensures { result ≡ list_any (λ e. nat_lt (key.col - e.0.col) e.1)
-        (entries_between position_cmp (Bound.Included (record { row = key.row; col = 0 })) (Bound.Excluded key)
-        spans.now.entries) }
+        (entries_between position_cmp (Bound.Included (record { row = key.row; col = 0 }))
+        (Bound.Excluded key) spans.now.entries) }
 {
     spans
         .range(Position::new(key.row, 0)..key)
@@ -268,7 +271,8 @@ fn entries_cover(
     places: &[Position],
 ) -> bool
     requires { AllPairs (AreRising rising) places.now }
-    ensures { result ≡ list_any (covers_held direction others.now.spans places.now) spans.now.entries }
+    ensures { result
+        ≡ list_any (covers_held direction others.now.spans places.now) spans.now.entries }
 {
     spans.iter().any(|(key, span)| {
         let anchor = key_of(direction, *key);

@@ -4,7 +4,6 @@ ghost use Rattle.std.specs.Prelude.{◌≡◌, ◌∷◌, [], ◌<◌, ◌≤◌
 ghost use Rattle.std.specs.BTreeMap.{IsOrdered};
 ghost use Rattle.std.specs.BTreeMap.Range.{entries_between};
 ghost use Rattle.std.specs.List.{list_any};
-ghost use Rattle.std.specs.HashMap.{get as map_get};
 ghost use Rattle.std.specs.FinMap as map;
 ghost use Rattle.std.specs.FinMap.{get as value_at};
 ghost use Rattle.papergrid_keys.specs.Told.{Appends};
@@ -12,8 +11,10 @@ ghost use Rattle.papergrid_values.specs.Positions.{AreRising};
 ghost use Rattle.papergrid_values.specs.declared.direction.Direction.TheVariants.{Columns, Rows};
 ghost use Rattle.papergrid_values.specs.declared.position.Position.{Position};
 ghost use Rattle.papergrid_keys.specs.Keys.{position_cmp, position_eq};
+ghost use Rattle.papergrid_values.specs.declared.direction.Direction.{Direction};
 ghost use Rattle.papergrid_maps.specs.Anchors.{AreAnchors, HasAnchor, IsSorted};
-ghost use Rattle.papergrid_maps.specs.Spans.{IsTold, EndWithin, HasSpan, IsVisible, IsCoveredByColumn, IsCoveredByRow, IsCoveredByBoth, SetSpan, RemoveSpans, column_span, row_span, is_visible, span_at, spans_along};
+ghost use Rattle.papergrid_maps.specs.Listed.{HasAtEach};
+ghost use Rattle.papergrid_maps.specs.Spans.{IsTold, EndWithin, HasSpan, IsVisible, IsCoveredByColumn, IsCoveredByRow, IsCoveredByBoth, SetSpan, RemoveSpans, is_visible, span_along, spans_along};
 ghost use Rattle.papergrid_maps.specs.ForProofs.SpanIndex.{AreFromTwo, HoldsBoth, span_set};
 
 use crate::anchors::{Anchor, anchors_of};
@@ -28,7 +29,7 @@ use std::ops::Bound;
 ///
 /// The rectangle of an anchor at (r, c) has the rows from r up to r + row span, and the columns
 /// from c up to c + column span, however large these sums are.
-#[derive(Debug, Drop)]
+#[derive(Debug)]
 pub struct SpanTable {
     alloc: Global,
     columns: SpanIndex,
@@ -55,6 +56,18 @@ impl Model for SpanTable {
         × AreFromTwo s.columns.spans × AreFromTwo s.rows.spans × HoldsBoth s.columns s.rows.spans s.both };
 }
 
+// By hand, since what a derive makes is proved anew in each function that drops a table.
+impl Drop for SpanTable {
+    fn drop(self) {
+        let SpanTable {
+            alloc: _,
+            columns: _,
+            rows: _,
+            both: _,
+        } = self;
+    }
+}
+
 impl SpanTable {
     /// The table with no span. It takes no memory.
     pub fn new(alloc: Global) -> Self
@@ -71,7 +84,8 @@ impl SpanTable {
     /// Sets the column span of a position: 0 does nothing and 1 removes the one that is held, so
     /// that neither takes memory. Where memory is refused the table is as it was.
     pub fn set_column(&mut self, pos: Position, span: usize) -> Result<(), AllocError>
-        ensures ok { OnOk result (Appends IsTold self.old self.new (SetSpan Columns pos span ∷ [])) }
+        ensures ok { OnOk result
+            (Appends IsTold self.old self.new (SetSpan Columns pos span ∷ [])) }
         ensures err { OnErr result (self.new ≡ self.old) }
         ensures others { self.new.rows ≡ self.old.rows }
         ensures small { span < 2 → IsOk result }
@@ -81,7 +95,8 @@ impl SpanTable {
 
     /// Sets the row span of a position, as `set_column` does the column span.
     pub fn set_row(&mut self, pos: Position, span: usize) -> Result<(), AllocError>
-        ensures ok { OnOk result (Appends IsTold self.old self.new (SetSpan Rows pos span ∷ [])) }
+        ensures ok { OnOk result
+            (Appends IsTold self.old self.new (SetSpan Rows pos span ∷ [])) }
         ensures err { OnErr result (self.new ≡ self.old) }
         ensures others { self.new.columns ≡ self.old.columns }
         ensures small { span < 2 → IsOk result }
@@ -139,14 +154,14 @@ impl SpanTable {
 
     /// All column spans that are held, or out of memory.
     pub fn columns(&self) -> Result<HashMap<Position, usize>, AllocError>
-        ensures { IfOk result (λ all. (p : Position) → map_get position_eq all p ≡ value_at self.now.columns p) }
+        ensures { IfOk result (λ all. HasAtEach position_eq all (value_at self.now.columns)) }
     {
         self.columns.by_position(self.alloc)
     }
 
     /// All row spans that are held, or out of memory.
     pub fn rows(&self) -> Result<HashMap<Position, usize>, AllocError>
-        ensures { IfOk result (λ all. (p : Position) → map_get position_eq all p ≡ value_at self.now.rows p) }
+        ensures { IfOk result (λ all. HasAtEach position_eq all (value_at self.now.rows)) }
     {
         self.rows.by_position(self.alloc)
     }
@@ -154,10 +169,10 @@ impl SpanTable {
     /// An anchor for each position that holds a span, by row and then by column, or out of memory.
     pub fn anchors(&self) -> Result<Vec<Anchor>, AllocError>
         ensures sorted { IfOk result (λ anchors. IsSorted anchors.items) }
-        ensures spans { IfOk result (λ anchors. AreAnchors (column_span self.now) (row_span self.now) anchors.items) }
+        ensures spans { IfOk result (λ anchors. AreAnchors (span_along self.now) anchors.items) }
         ensures held { IfOk result (λ anchors. (p : Position) → HasAnchor anchors.items p →
             IsSome (value_at self.now.columns p) ⊎ IsSome (value_at self.now.rows p)) }
-        ensures from_one { (p : Position) → (1 ≤ column_span self.now p) × (1 ≤ row_span self.now p) }
+        ensures from_one { (d : Direction) (p : Position) → 1 ≤ span_along self.now d p }
     {
         anchors_of(self.alloc, &self.columns, &self.rows)
     }
@@ -166,7 +181,7 @@ impl SpanTable {
     /// position stands in the other direction. It takes no memory.
     pub fn end_within(&self, direction: Direction, count: usize) -> bool
         ensures ends { IsTrue result ↔ EndWithin direction (spans_along direction self.now) count }
-        ensures from_one { (p : Position) → 1 ≤ span_at (spans_along direction self.now) p }
+        ensures from_one { (p : Position) → 1 ≤ span_along self.now direction p }
     {
         match direction {
             Direction::Columns => self.columns.ends_within(count),
@@ -176,28 +191,28 @@ impl SpanTable {
 
     /// Whether the position stands right of an anchor, in its row and its rectangle.
     pub fn covered_by_column(&self, pos: Position) -> bool
-        ensures { IsTrue result ↔ IsCoveredByColumn (column_span self.now) (row_span self.now) pos }
+        ensures { IsTrue result ↔ IsCoveredByColumn (span_along self.now) pos }
     {
         self.columns.reaches(pos)
     }
 
     /// Whether the position stands below an anchor, in its column and its rectangle.
     pub fn covered_by_row(&self, pos: Position) -> bool
-        ensures { IsTrue result ↔ IsCoveredByRow (column_span self.now) (row_span self.now) pos }
+        ensures { IsTrue result ↔ IsCoveredByRow (span_along self.now) pos }
     {
         self.rows.reaches(pos)
     }
 
     /// Whether the position stands below and right of an anchor, in its rectangle.
     pub fn covered_by_both(&self, pos: Position) -> bool
-        ensures { IsTrue result ↔ IsCoveredByBoth (column_span self.now) (row_span self.now) pos }
+        ensures { IsTrue result ↔ IsCoveredByBoth (span_along self.now) pos }
     {
         reaches_inside(&self.both, pos)
     }
 
     /// Whether the position lies in no rectangle of another anchor.
     pub fn is_visible(&self, pos: Position) -> bool
-        ensures visible { IsTrue result ↔ IsVisible (column_span self.now) (row_span self.now) pos }
+        ensures visible { IsTrue result ↔ IsVisible (span_along self.now) pos }
         ensures test { result ≡ is_visible self.now pos }
     {
         let _held = &self.columns;
@@ -289,7 +304,8 @@ fn hold_span(
     span: usize,
 ) -> Result<(), AllocError>
     requires { HoldsBoth index.old others.now.spans both.old }
-    ensures ok { OnOk result (index.new ≡ record index.old { spans = map.insert index.old.spans pos span }) }
+    ensures ok { OnOk result
+        (index.new ≡ record index.old { spans = map.insert index.old.spans pos span }) }
     ensures err { OnErr result (index.new ≡ index.old) }
     ensures both { HoldsBoth index.new others.now.spans both.new }
 {
@@ -311,8 +327,8 @@ fn hold_span(
 fn reaches_inside(both: &BTreeMap<Position, Extent>, pos: Position) -> bool
     ensures value { result ≡ list_any (λ e. nat_lt e.0.col pos.col
         && (nat_lt (pos.col - e.0.col) e.1.columns && nat_lt (pos.row - e.0.row) e.1.rows))
-        (entries_between position_cmp Bound.Unbounded (Bound.Excluded (record { row = pos.row; col = 0 }))
-        both.now.entries) }
+        (entries_between position_cmp
+        Bound.Unbounded (Bound.Excluded (record { row = pos.row; col = 0 })) both.now.entries) }
     ensures ordered { IsOrdered position_cmp both.now }
 {
     both.range(..Position::new(pos.row, 0)).any(|(anchor, extent)| anchor.col < pos.col

@@ -6,7 +6,8 @@ ghost use Rattle.papergrid_values.specs.declared.entity.Entity.{Entity};
 ghost use Rattle.papergrid_maps.specs.Anchors.{IsSorted};
 ghost use Rattle.papergrid_maps.specs.Grids.{Grid, compact_grid, size_after, size_before};
 ghost use Rattle.papergrid_maps.specs.Hidden.{AreAnchorsOf};
-ghost use Rattle.papergrid_maps.specs.Paddings.{AreCommon, AreDecided, ArePadded, for_all_cells, sizes};
+ghost use Rattle.papergrid_maps.specs.Listed.{AreSetCells};
+ghost use Rattle.papergrid_maps.specs.Paddings.{AreCommon, AreDecided, for_all_cells, sizes};
 ghost use Rattle.papergrid_maps.specs.declared.view.Paddings.{Paddings};
 
 use crate::{Anchor, CompactConfig};
@@ -72,7 +73,7 @@ pub trait ConfigView {
 
     /// The cells that have paddings of their own, in no order, or out of memory.
     fn padded_cells(&self, alloc: Global) -> Result<Vec<Position>, AllocError>
-        ensures { IfOk result (λ cells. ArePadded (set_for self.now) cells.items) };
+        ensures { IfOk result (λ cells. AreSetCells (set_for self.now) cells.items) };
 
     /// The paddings of all cells, where it is known that they are alike.
     fn common_paddings(&self) -> Option<Paddings>

@@ -39,8 +39,9 @@ pub fn of_people(
     columns: usize,
     config: &SpannedConfig,
 ) -> Result<Vec<usize>, LayoutError>
-    ensures { IsSized (problem_of (spanned_grid config.now)
-        (line_measure (λ person. string_bytes person.name)) columns (cells_of rows.now) Columns) result }
+    ensures { let measure = line_measure (λ person. string_bytes person.name) in
+        IsSized (problem_of (spanned_grid config.now) measure columns (cells_of rows.now) Columns)
+        result }
 {
     IterGridDimension::width(alloc, IterRecords::new(rows, columns, None), config)
 }

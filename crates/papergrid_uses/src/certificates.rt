@@ -26,7 +26,8 @@ pub fn is_certified(
     config: &SpannedConfig,
 ) -> Result<bool, LayoutError>
     ensures { let problem = texts_problem config.now 3 rows.now Columns in
-        MatchResult result (λ certified. IsTrue certified ↔ IsKeptApart problem.demands) (IsRefused problem) }
+        MatchResult result (λ certified. IsTrue certified ↔ IsKeptApart problem.demands)
+        (IsRefused problem) }
 {
     let records = IterRecords::new(rows, 3, None);
     let widths = IterGridDimension::width(alloc, records, config)?;
@@ -43,8 +44,11 @@ where
     <<R as Records>::Iter as IntoRecords>::Cell: AsStr + Drop,
     requires { R.is_lawful records }
     ensures { (rows : List (List R.Iter.Cell)) × R.tells records rows
-        × (let problem = problem_of (spanned_grid config.now) (line_measure R.Iter.Cell.text) (R.columns records) rows Columns in
-        (IsTrue result ↔ IsAccepted problem widths.now cells.now) × (IsTrue result → IsLeast problem widths.now)) }
+        × (let measure = line_measure R.Iter.Cell.text in
+        let grid = spanned_grid config.now in
+        let problem = problem_of grid measure (R.columns records) rows Columns in
+        (IsTrue result ↔ IsAccepted problem widths.now cells.now)
+        × (IsTrue result → IsLeast problem widths.now)) }
 {
     check_width_witness(records, config, widths, cells)
 }

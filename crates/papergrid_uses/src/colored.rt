@@ -14,7 +14,8 @@ use std::fmt::Write;
 /// Bold texts in the first row, and plain ones in all others.
 pub fn bold_head(alloc: Global) -> Result<EntityMap<Option<ANSIBuf>>, AllocError>
     ensures { IfOk result (λ colors. (col : ℕ) →
-        held_value colors (record { row = 0; col = col }) ≡ Some (codes "\u{1b}[1m", codes "\u{1b}[0m")) }
+        held_value colors (record { row = 0; col = col })
+        ≡ Some (codes "\u{1b}[1m", codes "\u{1b}[0m")) }
 {
     let bold = ANSIBuf::new(alloc, "\u{1b}[1m", "\u{1b}[0m")?;
     let mut colors = EntityMap::new(alloc, None);
@@ -25,7 +26,8 @@ pub fn bold_head(alloc: Global) -> Result<EntityMap<Option<ANSIBuf>>, AllocError
 
 /// Appends a text with its colour round it.
 pub fn paint(out: &mut String, color: &ANSIBuf, text: &str) -> fmt::Result
-    ensures { OnOk result (string_bytes out.new ≡ string_bytes out.old ++ color.now.0 ++ text.now ++ color.now.1) }
+    ensures { OnOk result
+        (string_bytes out.new ≡ string_bytes out.old ++ color.now.0 ++ text.now ++ color.now.1) }
 {
     color.fmt_ansi_prefix(out)?;
     out.write_str(text)?;

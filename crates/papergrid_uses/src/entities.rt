@@ -10,8 +10,10 @@ use std::alloc::{AllocError, Global};
 
 /// A mark for each cell: `x` in the second column, and a blank elsewhere.
 pub fn marks(alloc: Global) -> Result<EntityMap<char>, AllocError>
-    ensures marked { IfOk result (λ marks. (row : ℕ) → held_value marks (record { row = row; col = 1 }) ≡ 120) }
-    ensures blank { IfOk result (λ marks. (row : ℕ) → held_value marks (record { row = row; col = 0 }) ≡ 32) }
+    ensures marked { IfOk result (λ marks. (row : ℕ) →
+        held_value marks (record { row = row; col = 1 }) ≡ 120) }
+    ensures blank { IfOk result (λ marks. (row : ℕ) →
+        held_value marks (record { row = row; col = 0 }) ≡ 32) }
 {
     let mut marks = EntityMap::new(alloc, ' ');
     marks.insert(Entity::Column(1), 'x')?;

@@ -43,7 +43,8 @@ pub fn first_place(alloc: Global, settings: Vec<Setting>, rows: &[Vec<&str>]) ->
     ensures { let grid = grid_of settings.items in
         IfOk result (λ place. (widths : List ℕ) × (heights : List ℕ)
         × AreBothSizes grid text_measure 3 (cells_of rows.now) widths heights
-        × HasPlace (sized_table grid widths heights (length rows.now, 3)) (record { row = 0; col = 0 }) place) }
+        × HasPlace (sized_table grid widths heights (length rows.now, 3))
+        (record { row = 0; col = 0 }) place) }
 {
     grid_by_settings();
     let config = told(alloc, settings)?;

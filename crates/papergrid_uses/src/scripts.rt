@@ -13,7 +13,8 @@ use std::alloc::{AllocError, Global};
 pub fn answer_to<W: Sink>(alloc: Global, script: &[u8], writer: &mut W) -> Result<RunEnd, RunFault>
     requires { W.has_failed writer.old ≡ false }
     ensures end { IfOk result (λ end. end ≡ end_of script.now) }
-    ensures written { OnOk result (Appends (W.contents writer.old) (W.contents writer.new) (output_of script.now)) }
+    ensures written { OnOk result
+        (Appends (W.contents writer.old) (W.contents writer.new) (output_of script.now)) }
     ensures beginning { OnErr result ((n : ℕ) ×
         Appends (W.contents writer.old) (W.contents writer.new) (take n (output_of script.now))) }
 {

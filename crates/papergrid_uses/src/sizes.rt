@@ -38,7 +38,8 @@ pub fn first_width(
     rows: &[Vec<&str>],
     config: &SpannedConfig,
 ) -> Result<usize, LayoutError>
-    ensures { MatchResult result (λ width. width ≡ slice_index (sizes_of (texts_problem config.now 3 rows.now Columns)) 0)
+    ensures { let problem = texts_problem config.now 3 rows.now Columns in
+        MatchResult result (λ width. width ≡ slice_index (sizes_of problem) 0)
         (IsBothRefused (spanned_grid config.now) text_measure 3 (cells_of rows.now)) }
 {
     let mut dimension = IterGridDimension::new(alloc);
@@ -70,14 +71,18 @@ where
     R: Records + Drop,
     <<R as Records>::Iter as IntoRecords>::Cell: AsStr + Drop,
     requires { R.is_lawful records }
-    ensures fits { UnlessMemory result ((cells : List (List R.Iter.Cell)) × R.tells records cells
+    ensures fits { let grid = spanned_grid config.now in
+        let measure = line_measure R.Iter.Cell.text in
+        UnlessMemory result ((cells : List (List R.Iter.Cell)) × R.tells records cells
         × Answers (λ problem total. (widths : List ℕ) × (sum widths ≤ total) × Fits problem widths)
-        (problem_of (spanned_grid config.now) (line_measure R.Iter.Cell.text) (R.columns records) cells Columns) result) }
+        (problem_of grid measure (R.columns records) cells Columns) result) }
     ensures covers { let grid = spanned_grid config.now in
         let measure = line_measure R.Iter.Cell.text in
-        UnlessMemory result ((cells : List (List R.Iter.Cell)) × R.tells records cells × MatchResult result
-        (λ total. All (λ cell. side Columns (measure cell.1) + grid.before Columns cell.0 + grid.after Columns cell.0 ≤ total)
-        (visible_cells grid cells)) (IsRefused (problem_of grid measure (R.columns records) cells Columns))) }
+        UnlessMemory result ((cells : List (List R.Iter.Cell)) × R.tells records cells
+        × MatchResult result (λ total. All (λ cell.
+        side Columns (measure cell.1) + grid.before Columns cell.0 + grid.after Columns cell.0
+        ≤ total) (visible_cells grid cells))
+        (IsRefused (problem_of grid measure (R.columns records) cells Columns))) }
 {
     total_covers_cells::<<<R as Records>::Iter as IntoRecords>::Cell>();
     IterGridDimension::width_total(alloc, records, config)

@@ -12,7 +12,7 @@ use Rattle.papergrid_keys.proofs.KeyLemmas.{exact_position_eq}
 use Rattle.papergrid_values.specs.declared.entity.Entity.{Entity}
 use Rattle.papergrid_values.specs.declared.entity.Entity.TheVariants.{Cell}
 use Rattle.papergrid_walk.specs.ForProofs.Filters.{passes, slot}
-use Rattle.papergrid_maps.specs.Paddings.{ArePadded}
+use Rattle.papergrid_maps.specs.Listed.{AreSetCells}
 use Rattle.papergrid_walk.specs.ForProofs.Paddings.{TellsOwn}
 use Rattle.papergrid_walk.specs.declared.position_filter.PositionFilter.{PositionFilter}
 use Rattle.papergrid_maps.specs.declared.view.Paddings.{Paddings}
@@ -54,7 +54,7 @@ has_none None h = refl
 has_none (Some a) h = absurd (true≢false h)
 
 -- a filter that all padded cells pass
-pub tells_own : (set : Entity → Option Paddings) (cells : List Position) (filter : PositionFilter) → ArePadded set cells → All (λ p. passes filter p ≡ true) cells → TellsOwn set filter
+pub tells_own : (set : Entity → Option Paddings) (cells : List Position) (filter : PositionFilter) → AreSetCells set cells → All (λ p. passes filter p ≡ true) cells → TellsOwn set filter
 tells_own set cells filter padded pass p not = elim (cases_Bool (is_member position_eq cells p)) [
   | inl t ↦ absurd (true≢false (sym (member_holds (λ q. passes filter q ≡ true) cells p pass t) ∙ not))
   | inr f ↦ has_none (set (Cell p.row p.col)) (sym (padded p) ∙ f)

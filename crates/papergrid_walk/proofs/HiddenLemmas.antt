@@ -7,9 +7,9 @@ use Rattle.papergrid_values.specs.declared.position.Position.{Position}
 use Rattle.papergrid_walk.specs.declared.levels.Levels.{Levels}
 use Rattle.papergrid_walk.specs.ForProofs.Levels.{end_at, raised_end}
 use Rattle.papergrid_values.specs.Positions.{IsBefore}
-use Rattle.papergrid_maps.specs.Hidden.{IsWithin, IsHidden}
+use Rattle.papergrid_maps.specs.Hidden.{IsHidden}
 use Rattle.papergrid_walk.specs.ForProofs.Swept.{cut, end_with, end_of, AllBefore, Holds}
-use Rattle.papergrid_maps.specs.Anchors.{IsSorted}
+use Rattle.papergrid_maps.specs.Anchors.{IsSorted, IsWithin}
 use Rattle.papergrid_maps.proofs.HiddenLemmas.{position-same}
 
 raised-first : (first last end old column row : ℕ) → row < raised_end first last end old column → old ≤ row → first ≤ column

@@ -22,8 +22,8 @@ span_one n from low = elim (cases_lt n 2) [ inl below ↦ omega arith | inr big 
 pub single_in : (grid : Grid) (anchors : List Anchor) (p : Position) → AreAnchorsOf grid anchors → (HasAnchor anchors p → ⊥) →
     record { position = p; rows = 1; cols = 1 } ≡ anchor_in grid p
 single_in grid anchors p are none =
-    let tall = span_one (grid.span Rows p) (are.from_one Rows p) (λ big. none (are.spans.tall p big)) in
-    let wide = span_one (grid.span Columns p) (are.from_one Columns p) (λ big. none (are.spans.wide p big)) in
+    let tall = span_one (grid.span Rows p) (are.from_one Rows p) (λ big. none (are.spans.has_each Rows p big)) in
+    let wide = span_one (grid.span Columns p) (are.from_one Columns p) (λ big. none (are.spans.has_each Columns p big)) in
     λ i. record { position = p; rows = sym tall i; cols = sym wide i }
 
 -- the spans of an anchor are those of its position

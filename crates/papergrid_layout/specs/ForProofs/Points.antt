@@ -8,4 +8,4 @@ use Rattle.papergrid_layout.specs.Places.{StandsOver, TableView}
 -- a position lies in the rectangle of each cell that stands over column x of the terminal in line y
 abbrev pub LiesInEach : TableView → ℕ → ℕ → Position → Type 0
 LiesInEach table x y within =
-    (q : Position) → StandsOver table x y q → IsInRectangle (table.grid.span Columns) (table.grid.span Rows) q within
+    (q : Position) → StandsOver table x y q → IsInRectangle table.grid.span q within

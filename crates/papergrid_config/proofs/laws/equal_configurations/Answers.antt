@@ -1,4 +1,4 @@
-use Rattle.std.proofs.Common.{◌≡◌, true}
+use Rattle.std.proofs.Common.{ap}
 use Rattle.std.proofs.Math.Bool.{beq}
 use Rattle.std.specs.Prelude.{nat_eq}
 use Rattle.std.specs.Cmp.{bool_eq_equiv, nat_eq_equiv}
@@ -36,46 +36,53 @@ returns c x y = (
       let p17 = and_parts _ _ p16.1 in
       let p18 = and_parts _ _ p17.1 in
       record {
-        padding = exact_map (sides_eq indent.ghosts.eq) (exact_sides indent.ghosts.eq exact_indent) x.padding y.padding p0.0;
-        padding_color = exact_map (sides_eq optional_eq) (exact_sides optional_eq exact_optional) x.padding_color y.padding_color p1.0;
-        trim_horizontal = exact_map beq exact_bool x.trim_horizontal y.trim_horizontal p2.0;
-        trim_vertical = exact_map beq exact_bool x.trim_vertical y.trim_vertical p3.0;
-        line_alignment = exact_map beq exact_bool x.line_alignment y.line_alignment p4.0;
-        alignment_horizontal = exact_map alignment_horizontal.ghosts.eq exact_horizontal x.alignment_horizontal y.alignment_horizontal p5.0;
-        alignment_vertical = exact_map alignment_vertical.ghosts.eq exact_vertical x.alignment_vertical y.alignment_vertical p6.0;
-        justification = exact_map nat_eq eqb-true x.justification y.justification p7.0;
-        justification_color = exact_map optional_eq exact_optional x.justification_color y.justification_color p8.0;
-        characters = exact_borders nat_eq eqb-true x.characters y.characters p9.0;
-        colors = exact_borders color.ghosts.eq exact_color x.colors y.colors p10.0;
+        but_overrides = λ i. record {
+          alloc = x.alloc;
+          padding = exact_map (sides_eq indent.ghosts.eq) (exact_sides indent.ghosts.eq exact_indent) x.padding y.padding p0.0 i;
+          padding_color = exact_map (sides_eq optional_eq) (exact_sides optional_eq exact_optional) x.padding_color y.padding_color p1.0 i;
+          trim_horizontal = exact_map beq exact_bool x.trim_horizontal y.trim_horizontal p2.0 i;
+          trim_vertical = exact_map beq exact_bool x.trim_vertical y.trim_vertical p3.0 i;
+          line_alignment = exact_map beq exact_bool x.line_alignment y.line_alignment p4.0 i;
+          alignment_horizontal = exact_map alignment_horizontal.ghosts.eq exact_horizontal x.alignment_horizontal y.alignment_horizontal p5.0 i;
+          alignment_vertical = exact_map alignment_vertical.ghosts.eq exact_vertical x.alignment_vertical y.alignment_vertical p6.0 i;
+          justification = exact_map nat_eq eqb-true x.justification y.justification p7.0 i;
+          justification_color = exact_map optional_eq exact_optional x.justification_color y.justification_color p8.0 i;
+          characters = exact_borders nat_eq eqb-true x.characters y.characters p9.0 i;
+          colors = exact_borders color.ghosts.eq exact_color x.colors y.colors p10.0 i;
+          horizontal_chars = x.horizontal_chars;
+          vertical_chars = x.vertical_chars;
+          horizontal_colors = x.horizontal_colors;
+          vertical_colors = x.vertical_colors;
+          spans = spans_are x.spans y.spans ((spans_agree x.spans y.spans).0 p15.0) i;
+          margin = (exact_sides indent.ghosts.eq exact_indent) x.margin y.margin p16.0 i;
+          margin_color = (exact_sides optional_eq exact_optional) x.margin_color y.margin_color p17.0 i;
+          margin_offset = (exact_sides offset.ghosts.eq exact_offset) x.margin_offset y.margin_offset p18.0 i;
+          missing = eqb-true x.missing y.missing p18.1 i;
+        };
         horizontal_chars = exact_overrides nat_eq eqb-true x.horizontal_chars y.horizontal_chars p11.0;
         vertical_chars = exact_overrides nat_eq eqb-true x.vertical_chars y.vertical_chars p12.0;
         horizontal_colors = exact_overrides color.ghosts.eq exact_color x.horizontal_colors y.horizontal_colors p13.0;
         vertical_colors = exact_overrides color.ghosts.eq exact_color x.vertical_colors y.vertical_colors p14.0;
-        spans = spans_are x.spans y.spans ((spans_agree x.spans y.spans).0 p15.0);
-        margin = (exact_sides indent.ghosts.eq exact_indent) x.margin y.margin p16.0;
-        margin_color = (exact_sides optional_eq exact_optional) x.margin_color y.margin_color p17.0;
-        margin_offset = (exact_sides offset.ghosts.eq exact_offset) x.margin_offset y.margin_offset p18.0;
-        missing = eqb-true x.missing y.missing p18.1;
       },
   λ same.
-      and_from _ _ (equal_maps (sides_eq indent.ghosts.eq) (same_sides indent.ghosts.eq same_indent) same.padding)
-      (and_from _ _ (equal_maps (sides_eq optional_eq) (same_sides optional_eq same_optional) same.padding_color)
-      (and_from _ _ (equal_maps beq bool_eq_equiv.refl same.trim_horizontal)
-      (and_from _ _ (equal_maps beq bool_eq_equiv.refl same.trim_vertical)
-      (and_from _ _ (equal_maps beq bool_eq_equiv.refl same.line_alignment)
-      (and_from _ _ (equal_maps alignment_horizontal.ghosts.eq same_horizontal same.alignment_horizontal)
-      (and_from _ _ (equal_maps alignment_vertical.ghosts.eq same_vertical same.alignment_vertical)
-      (and_from _ _ (equal_maps nat_eq nat_eq_equiv.refl same.justification)
-      (and_from _ _ (equal_maps optional_eq same_optional same.justification_color)
-      (and_from _ _ (equal_borders nat_eq nat_eq_equiv.refl same.characters)
-      (and_from _ _ (equal_borders color.ghosts.eq same_color same.colors)
+      and_from _ _ (equal_maps (sides_eq indent.ghosts.eq) (same_sides indent.ghosts.eq same_indent) (ap (λ c. c.padding) same.but_overrides))
+      (and_from _ _ (equal_maps (sides_eq optional_eq) (same_sides optional_eq same_optional) (ap (λ c. c.padding_color) same.but_overrides))
+      (and_from _ _ (equal_maps beq bool_eq_equiv.refl (ap (λ c. c.trim_horizontal) same.but_overrides))
+      (and_from _ _ (equal_maps beq bool_eq_equiv.refl (ap (λ c. c.trim_vertical) same.but_overrides))
+      (and_from _ _ (equal_maps beq bool_eq_equiv.refl (ap (λ c. c.line_alignment) same.but_overrides))
+      (and_from _ _ (equal_maps alignment_horizontal.ghosts.eq same_horizontal (ap (λ c. c.alignment_horizontal) same.but_overrides))
+      (and_from _ _ (equal_maps alignment_vertical.ghosts.eq same_vertical (ap (λ c. c.alignment_vertical) same.but_overrides))
+      (and_from _ _ (equal_maps nat_eq nat_eq_equiv.refl (ap (λ c. c.justification) same.but_overrides))
+      (and_from _ _ (equal_maps optional_eq same_optional (ap (λ c. c.justification_color) same.but_overrides))
+      (and_from _ _ (equal_borders nat_eq nat_eq_equiv.refl (ap (λ c. c.characters) same.but_overrides))
+      (and_from _ _ (equal_borders color.ghosts.eq same_color (ap (λ c. c.colors) same.but_overrides))
       (and_from _ _ (equal_overrides nat_eq nat_eq_equiv.refl x.horizontal_chars y.horizontal_chars same.horizontal_chars)
       (and_from _ _ (equal_overrides nat_eq nat_eq_equiv.refl x.vertical_chars y.vertical_chars same.vertical_chars)
       (and_from _ _ (equal_overrides color.ghosts.eq same_color x.horizontal_colors y.horizontal_colors same.horizontal_colors)
       (and_from _ _ (equal_overrides color.ghosts.eq same_color x.vertical_colors y.vertical_colors same.vertical_colors)
-      (and_from _ _ (equal_spans same.spans)
-      (and_from _ _ (equal_at (sides_eq indent.ghosts.eq) (same_sides indent.ghosts.eq same_indent) same.margin)
-      (and_from _ _ (equal_at (sides_eq optional_eq) (same_sides optional_eq same_optional) same.margin_color)
-      (and_from _ _ (equal_at (sides_eq offset.ghosts.eq) (same_sides offset.ghosts.eq same_offset) same.margin_offset)
-      (equal_at nat_eq nat_eq_equiv.refl same.missing))))))))))))))))))),
+      (and_from _ _ (equal_spans (ap (λ c. c.spans) same.but_overrides))
+      (and_from _ _ (equal_at (sides_eq indent.ghosts.eq) (same_sides indent.ghosts.eq same_indent) (ap (λ c. c.margin) same.but_overrides))
+      (and_from _ _ (equal_at (sides_eq optional_eq) (same_sides optional_eq same_optional) (ap (λ c. c.margin_color) same.but_overrides))
+      (and_from _ _ (equal_at (sides_eq offset.ghosts.eq) (same_sides offset.ghosts.eq same_offset) (ap (λ c. c.margin_offset) same.but_overrides))
+      (equal_at nat_eq nat_eq_equiv.refl (ap (λ c. c.missing) same.but_overrides)))))))))))))))))))),
 )

@@ -1,6 +1,6 @@
 use Rattle.std.proofs.Common.{◌≡◌, refl, sym, ap, ◌∙◌}
 use Rattle.std.proofs.lemmas.Bool.{false≢true}
-use Rattle.papergrid_config.specs.Applied.{may_grow}
+use Rattle.papergrid_config.specs.ForProofs.Growing.{may_grow}
 use Rattle.papergrid_config.specs.declared.setting.Setting.{Setting}
 use Rattle.papergrid_config.specs.declared.setting.Setting.TheVariants.{SetMargin, SetMarginColor, SetMarginOffset, RemoveBorders, RemoveBordersColors, RemoveColorLineHorizontal, RemoveColorLineVertical, RemoveHorizontalChars, RemoveVerticalChars, SetBorders, SetBorderDefault, SetBordersColor, SetBorderColorDefault, SetBordersMissing, InsertHorizontalLine, RemoveHorizontalLine, InsertVerticalLine, RemoveVerticalLine, SetHorizontalChar, RemoveOverriddenHorizontal, SetVerticalChar, RemoveOverriddenVertical, SetHorizontalCharColor, SetVerticalCharColor, SetPadding, SetPaddingColor, SetTrimHorizontal, SetTrimVertical, SetLineAlignment, SetAlignmentHorizontal, SetAlignmentVertical, SetJustification, SetJustificationColor, SetBorder, SetBorderColor, RemoveBorder, RemoveBorderColor, SetColumnSpan, SetRowSpan, RemoveColumnSpans, RemoveRowSpans}
 use Rattle.papergrid_config.proofs.spanned.SpannedConfig.apply_free.Goals as goal

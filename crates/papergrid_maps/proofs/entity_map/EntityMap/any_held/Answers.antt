@@ -1,11 +1,12 @@
-use Rattle.std.proofs.Common.{◌≡◌, refl, inl, subst}
+use Rattle.std.proofs.Common.{◌≡◌, refl, subst}
+use Rattle.papergrid_values.specs.declared.entity.Entity.TheVariants.{Global}
 use Rattle.papergrid_maps.specs.MapHeld.{Holds}
 use Rattle.papergrid_maps.proofs.AnyHeld.{all_held, held_in_cells, held_in_columns, held_in_rows, on_false_map, on_true_map}
 use Rattle.papergrid_maps.proofs.entity_map.EntityMap.any_held.Goals as goal
 
 pub returns-then-f-clause-yes : goal.returns-then-f-clause-yes
 returns-then-f-clause-yes g c = rw (← c.self.view_is)
-    (c.self.inside.global, inl refl, record { shown = _; shows = refl; says = record { met = c.if-f.ensures } })
+    (c.self.inside.global, (Global, refl), record { shown = _; shows = refl; says = record { met = c.if-f.ensures } })
 
 pub returns-then-any_value-clause-yes : goal.returns-then-any_value-clause-yes
 returns-then-any_value-clause-yes g c = rw (← c.self.view_is) (held_in_columns _ _ _ _ _ c.any_value.ensures.unique c.if-any_value.ensures.yes)
