@@ -36,7 +36,8 @@ fn earlier(p: Option<Position>, q: Option<Position>) -> Option<Position>
 /// The position of the first cell that reaches out of the table, by its range along columns or by
 /// that along rows.
 fn find_out_of_both(columns: usize, rows: usize, both: &KeptBoth) -> Option<Position>
-    ensures { result ≡ earlier (first_out columns both.now.columns.rest.items) (first_out rows both.now.rows.rest.items) }
+    ensures { result ≡ earlier (first_out columns both.now.columns.rest.items)
+        (first_out rows both.now.rows.rest.items) }
 {
     earlier(
         find_out(columns, &both.columns.rest),
@@ -53,9 +54,12 @@ fn conclude<T: Solver, M: Measure<C>, C, S: ConfigView>(
     settings: &S,
     certify: bool,
 ) -> Found<(Solved, Solved)>
-    requires { (cells : List (List C)) × (rows ≡ length cells) × AreBothKept (S.grid settings.now) M.measured columns cells both.now }
-    ensures { (cells : List (List C)) → rows ≡ length cells → AreBothKept (S.grid settings.now) M.measured columns cells both.now →
-        AnswersBothWhere (S.grid settings.now) M.measured columns cells T.too_large (T.solves certify) result }
+    requires { (cells : List (List C)) × (rows ≡ length cells)
+        × AreBothKept (S.grid settings.now) M.measured columns cells both.now }
+    ensures { (cells : List (List C)) → rows ≡ length cells →
+        AreBothKept (S.grid settings.now) M.measured columns cells both.now →
+        AnswersBothWhere (S.grid settings.now) M.measured columns cells T.too_large
+        (T.solves certify) result }
 {
     if let Some(pos) = find_out_of_both(columns, rows, both) {
         return Err(LayoutError::OutOfTable(pos));

@@ -32,7 +32,8 @@ fn need_along<S: ConfigView>(settings: &S, direction: Direction, pos: Position, 
 /// Whether the cell at a position is visible. Where the list is in order this is known of the listed
 /// cells, and no span is looked at.
 fn is_shown<S: ConfigView>(settings: &S, candidate: &Candidate<'_>, pos: Position) -> bool
-    requires ordered { IsCandidate ((S.grid settings.now).span candidate.now.direction) candidate.now }
+    requires ordered { IsCandidate ((S.grid settings.now).span candidate.now.direction)
+        candidate.now }
     requires shown { IsShownCandidate (S.grid settings.now) candidate.now }
     ensures { result ≡ (S.grid settings.now).shows pos }
 {
@@ -52,7 +53,8 @@ fn check_cell<M: Measure<C>, C, S: ConfigView>(
     cell: &C,
 ) -> Checked
     requires bounded { AreBounded candidate.now.places.now checked }
-    requires ordered { IsCandidate ((S.grid settings.now).span candidate.now.direction) candidate.now }
+    requires ordered { IsCandidate ((S.grid settings.now).span candidate.now.direction)
+        candidate.now }
     requires shown { IsShownCandidate (S.grid settings.now) candidate.now }
     ensures bounded { AreBounded candidate.now.places.now result }
     ensures checks { let grid = S.grid settings.now in
@@ -130,12 +132,14 @@ where
     M: Measure<<<R as Records>::Iter as IntoRecords>::Cell>,
     <<R as Records>::Iter as IntoRecords>::Cell: Drop,
     requires lawful { R.is_lawful records }
-    requires ordered { IsCandidate ((S.grid settings.now).span candidate.now.direction) candidate.now }
+    requires ordered { IsCandidate ((S.grid settings.now).span candidate.now.direction)
+        candidate.now }
     requires shown { IsShownCandidate (S.grid settings.now) candidate.now }
     ensures bounded { AreBounded candidate.now.places.now result.0 }
     ensures checks { let grid = S.grid settings.now in
         (cells : List (List R.Iter.Cell)) × R.tells records cells
-        × ChecksBy grid candidate.now result.0 (demands_of candidate.now.direction grid M.measured cells)
+        × ChecksBy grid candidate.now result.0
+        (demands_of candidate.now.direction grid M.measured cells)
         × (result.1 ≡ length cells) }
 {
     let mut checker = Checker::<M, S> {
@@ -160,11 +164,13 @@ where
     M: Measure<<<R as Records>::Iter as IntoRecords>::Cell>,
     <<R as Records>::Iter as IntoRecords>::Cell: Drop,
     requires lawful { R.is_lawful records }
-    requires ordered { IsCandidate ((S.grid settings.now).span candidate.now.direction) candidate.now }
+    requires ordered { IsCandidate ((S.grid settings.now).span candidate.now.direction)
+        candidate.now }
     requires shown { IsShownCandidate (S.grid settings.now) candidate.now }
     ensures { (cells : List (List R.Iter.Cell)) × R.tells records cells
         × IsChecked (problem_of (S.grid settings.now) M.measured
-        (R.columns records) cells candidate.now.direction) candidate.now.sizes.now candidate.now.places.now result }
+        (R.columns records) cells candidate.now.direction) candidate.now.sizes.now
+        candidate.now.places.now result }
 {
     let columns = records.count_columns();
     let axis = Along {
@@ -190,7 +196,8 @@ where
     M: Measure<<<R as Records>::Iter as IntoRecords>::Cell>,
     <<R as Records>::Iter as IntoRecords>::Cell: Drop,
     requires lawful { R.is_lawful records }
-    requires reason { (length sizes.now < length places.now) ⊎ (AreShown (S.grid settings.now) places.now → ⊥) }
+    requires reason { (length sizes.now < length places.now)
+        ⊎ (AreShown (S.grid settings.now) places.now → ⊥) }
     ensures { (cells : List (List R.Iter.Cell)) × R.tells records cells
         × IsChecked (problem_of (S.grid settings.now) M.measured
         (R.columns records) cells direction) sizes.now places.now result }

@@ -15,7 +15,7 @@ ghost use Rattle.papergrid_least.specs.Answers.{AreLeastSizes, AreLongest, IsLea
 ghost use Rattle.papergrid_config.specs.Told.{IsTold};
 ghost use Rattle.papergrid_config.specs.declared.setting.Setting.{Setting};
 ghost use Rattle.papergrid_config.specs.declared.spanned.SpannedConfig.{SpannedConfig};
-ghost use Rattle.papergrid_walk.specs.Cells.{demands_of, placed, problem_of, side, visible_cells};
+ghost use Rattle.papergrid_walk.specs.Cells.{demand_by, demands_of, placed, problem_of, visible_cells};
 ghost use Rattle.papergrid_maps.specs.Grids.{Grid};
 ghost use Rattle.papergrid_config.specs.Grids.{spanned_grid};
 ghost use Rattle.papergrid_walk.specs.Measures.{cell_measure, line_measure};
@@ -45,13 +45,15 @@ use std::convert::AsStr;
 pub fn equal_text_measures<S: AsStr>()
     ensures { (rows : List (List (Measured S))) → All (All (IsNewText S.text)) rows →
         (direction : Direction) (grid : Grid) →
-        demands_of direction grid (cell_measure ⟦<Text<S> as Cell>⟧.width ⟦<Text<S> as Cell>⟧.lines) rows
+        demands_of direction grid (cell_measure ⟦<Text<S> as Cell>⟧.width ⟦<Text<S> as Cell>⟧.lines)
+        rows
         ≡ demands_of direction grid (line_measure ⟦<Text<S> as AsStr>⟧.text) rows }
 {}
 
 /// The cells with their positions are those that the rows have there, by row and then by column.
 pub fn cells_by_place<C>()
-    ensures cells { (rows : List (List C)) (p : Position) (cell : C) → Contains (placed rows) (p, cell) ↔ IsCellAt rows p cell }
+    ensures cells { (rows : List (List C)) (p : Position) (cell : C) →
+        Contains (placed rows) (p, cell) ↔ IsCellAt rows p cell }
     ensures order { (rows : List (List C)) → AllPairs (λ x y. IsBefore x.0 y.0) (placed rows) }
 {}
 
@@ -61,20 +63,26 @@ pub fn order_of_spans<C>()
     ensures sizes { (settings other : List Setting) → AreSwapped settings other →
         (x y : SpannedConfig) → IsTold settings x → IsTold other y →
         (direction : Direction) (measure : C → ℕ × ℕ) (n : ℕ) (rows : List (List C)) →
-        sizes_told direction (spanned_grid x) measure n rows ≡ sizes_told direction (spanned_grid y) measure n rows }
-    ensures swapped { (settings other : List Setting) → AreSwapped settings other → TellTheSame settings other }
-    ensures reordered { (settings other : List Setting) → AreReordered settings other → TellTheSame settings other }
+        sizes_told direction (spanned_grid x) measure n rows
+        ≡ sizes_told direction (spanned_grid y) measure n rows }
+    ensures swapped { (settings other : List Setting) → AreSwapped settings other →
+        TellTheSame settings other }
+    ensures reordered { (settings other : List Setting) → AreReordered settings other →
+        TellTheSame settings other }
     ensures read { (settings other : List Setting) → TellTheSame settings other →
-        (x y : SpannedConfig) → IsTold settings x → IsTold other y → spanned_grid x ≡ spanned_grid y }
+        (x y : SpannedConfig) → IsTold settings x → IsTold other y →
+        spanned_grid x ≡ spanned_grid y }
 {}
 
 /// What lent cells ask for is what the cells held ask for, whether each is measured through the loan
 /// or taken through it first; lent texts as `Text::new` keeps them are measured alike in both ways.
 pub fn lent_cells<C, D, S: AsStr>()
-    ensures lent { (lend : C → D) (measure : D → ℕ × ℕ) (rows : List (List C)) (direction : Direction) (grid : Grid) →
+    ensures lent { (lend : C → D) (measure : D → ℕ × ℕ)
+        (rows : List (List C)) (direction : Direction) (grid : Grid) →
         demands_of direction grid (λ cell. measure (lend cell)) rows
         ≡ demands_of direction grid measure (map (map lend) rows) }
-    ensures texts { (rows : List (List (Bor (Measured S)))) → All (All (λ t. IsNewText S.text t.now)) rows →
+    ensures texts { (rows : List (List (Bor (Measured S)))) →
+        All (All (λ t. IsNewText S.text t.now)) rows →
         (direction : Direction) (grid : Grid) →
         demands_of direction grid (cell_measure ⟦<&'static Text<S> as Cell>⟧.width ⟦<&'static Text<S> as Cell>⟧.lines) rows
         ≡ demands_of direction grid (line_measure ⟦<&'static Text<S> as AsStr>⟧.text) rows }
@@ -92,31 +100,36 @@ pub fn none_reaches_out<C>()
 /// No visible cell needs more than the total with its lines, whatever sizes fit: none is wider, or higher, than the table.
 /// So it is of the total by shares and of the least one.
 pub fn total_covers_cells<C>()
-    ensures fitting { (grid : Grid) (measure : C → ℕ × ℕ) (columns : ℕ) (rows : List (List C)) (direction : Direction) (sizes : List ℕ) →
+    ensures fitting { (grid : Grid) (measure : C → ℕ × ℕ)
+        (columns : ℕ) (rows : List (List C)) (direction : Direction) (sizes : List ℕ) →
         let problem = problem_of grid measure columns rows direction in
         first_out problem.count problem.demands ≡ None → Fits problem sizes →
-        All (λ cell. side direction (measure cell.1) + grid.before direction cell.0 + grid.after direction cell.0 ≤ total_of problem sizes)
-        (visible_cells grid rows) }
-    ensures shares { (grid : Grid) (measure : C → ℕ × ℕ) (columns : ℕ) (rows : List (List C)) (direction : Direction) (total : ℕ) →
+        All (λ cell. (demand_by direction grid measure cell).need
+        ≤ total_of problem sizes) (visible_cells grid rows) }
+    ensures shares { (grid : Grid) (measure : C → ℕ × ℕ)
+        (columns : ℕ) (rows : List (List C)) (direction : Direction) (total : ℕ) →
         IsTotal (problem_of grid measure columns rows direction) total →
-        All (λ cell. side direction (measure cell.1) + grid.before direction cell.0 + grid.after direction cell.0 ≤ total)
-        (visible_cells grid rows) }
-    ensures least { (grid : Grid) (measure : C → ℕ × ℕ) (columns : ℕ) (rows : List (List C)) (direction : Direction) (total : ℕ) →
+        All (λ cell. (demand_by direction grid measure cell).need
+        ≤ total) (visible_cells grid rows) }
+    ensures least { (grid : Grid) (measure : C → ℕ × ℕ)
+        (columns : ℕ) (rows : List (List C)) (direction : Direction) (total : ℕ) →
         IsLeastTotal (problem_of grid measure columns rows direction) total →
-        All (λ cell. side direction (measure cell.1) + grid.before direction cell.0 + grid.after direction cell.0 ≤ total)
-        (visible_cells grid rows) }
+        All (λ cell. (demand_by direction grid measure cell).need
+        ≤ total) (visible_cells grid rows) }
 {}
 
 /// Where each span is at least 1, as those of a configuration are, the least sizes along a direction are
 /// those by shares wherever these are least, and so where ranges are kept apart. What certifies least sizes is
 /// a certificate that the checkers accept.
 pub fn least_as_by_shares<C>()
-    ensures same { (grid : Grid) (measure : C → ℕ × ℕ) (columns : ℕ) (rows : List (List C)) (direction : Direction) →
+    ensures same { (grid : Grid) (measure : C → ℕ × ℕ)
+        (columns : ℕ) (rows : List (List C)) (direction : Direction) →
         ((p : Position) → 1 ≤ grid.span direction p) → (sizes least : List ℕ) →
         AreSizes (problem_of grid measure columns rows direction) sizes →
         AreLeastSizes (problem_of grid measure columns rows direction) least →
         IsLeast (problem_of grid measure columns rows direction) sizes → least ≡ sizes }
-    ensures kept_apart { (grid : Grid) (measure : C → ℕ × ℕ) (columns : ℕ) (rows : List (List C)) (direction : Direction) →
+    ensures kept_apart { (grid : Grid) (measure : C → ℕ × ℕ)
+        (columns : ℕ) (rows : List (List C)) (direction : Direction) →
         ((p : Position) → 1 ≤ grid.span direction p) → (sizes least : List ℕ) →
         AreSizes (problem_of grid measure columns rows direction) sizes →
         AreLeastSizes (problem_of grid measure columns rows direction) least →
@@ -127,10 +140,14 @@ pub fn least_as_by_shares<C>()
 
 /// A clone of a dimension, of a place or of an error equals it.
 pub fn equal_clones()
-    ensures iterable { (x y : IterGridDimension) → ⟦<IterGridDimension as Clone>⟧.is_clone x y → y ≡ x }
-    ensures least { (x y : LeastGridDimension) → ⟦<LeastGridDimension as Clone>⟧.is_clone x y → y ≡ x }
-    ensures peekable { (x y : PeekableGridDimension) → ⟦<PeekableGridDimension as Clone>⟧.is_clone x y → y ≡ x }
-    ensures compact { (x y : CompactGridDimension) → ⟦<CompactGridDimension as Clone>⟧.is_clone x y → y ≡ x }
+    ensures iterable { (x y : IterGridDimension) → ⟦<IterGridDimension as Clone>⟧.is_clone x y →
+        y ≡ x }
+    ensures least { (x y : LeastGridDimension) → ⟦<LeastGridDimension as Clone>⟧.is_clone x y →
+        y ≡ x }
+    ensures peekable { (x y : PeekableGridDimension) →
+        ⟦<PeekableGridDimension as Clone>⟧.is_clone x y → y ≡ x }
+    ensures compact { (x y : CompactGridDimension) →
+        ⟦<CompactGridDimension as Clone>⟧.is_clone x y → y ≡ x }
     ensures place { (x y : Place) → ⟦<Place as Clone>⟧.is_clone x y → y ≡ x }
     ensures place_error { (x y : PlaceError) → ⟦<PlaceError as Clone>⟧.is_clone x y → y ≡ x }
     ensures layout_error { (x y : LayoutError) → ⟦<LayoutError as Clone>⟧.is_clone x y → y ≡ x }
@@ -138,16 +155,21 @@ pub fn equal_clones()
 
 /// Dimensions are equal exactly where their sizes are, places and errors exactly where they are the same.
 pub fn equal_where_same()
-    ensures iterable { (x y : IterGridDimension) → (⟦<IterGridDimension as PartialEq>⟧.eq x y ≡ true)
+    ensures iterable { (x y : IterGridDimension) →
+        (⟦<IterGridDimension as PartialEq>⟧.eq x y ≡ true)
         ↔ ((x.widths ≡ y.widths) × (x.heights ≡ y.heights)) }
     ensures least { (x y : LeastGridDimension) → (⟦<LeastGridDimension as PartialEq>⟧.eq x y ≡ true)
         ↔ ((x.widths ≡ y.widths) × (x.heights ≡ y.heights)) }
-    ensures peekable { (x y : PeekableGridDimension) → (⟦<PeekableGridDimension as PartialEq>⟧.eq x y ≡ true)
+    ensures peekable { (x y : PeekableGridDimension) →
+        (⟦<PeekableGridDimension as PartialEq>⟧.eq x y ≡ true)
         ↔ ((x.widths ≡ y.widths) × (x.heights ≡ y.heights)) }
-    ensures compact { (x y : CompactGridDimension) → (⟦<CompactGridDimension as PartialEq>⟧.eq x y ≡ true) ↔ (x.widths ≡ y.widths) }
+    ensures compact { (x y : CompactGridDimension) →
+        (⟦<CompactGridDimension as PartialEq>⟧.eq x y ≡ true) ↔ (x.widths ≡ y.widths) }
     ensures place { (x y : Place) → (⟦<Place as PartialEq>⟧.eq x y ≡ true) ↔ (x ≡ y) }
-    ensures place_error { (x y : PlaceError) → (⟦<PlaceError as PartialEq>⟧.eq x y ≡ true) ↔ (x ≡ y) }
-    ensures layout_error { (x y : LayoutError) → (⟦<LayoutError as PartialEq>⟧.eq x y ≡ true) ↔ (x ≡ y) }
+    ensures place_error { (x y : PlaceError) → (⟦<PlaceError as PartialEq>⟧.eq x y ≡ true)
+        ↔ (x ≡ y) }
+    ensures layout_error { (x y : LayoutError) → (⟦<LayoutError as PartialEq>⟧.eq x y ≡ true)
+        ↔ (x ≡ y) }
 {}
 
 /// The places of two cells of one table whose rectangles have no position in common do not meet.
@@ -168,26 +190,37 @@ pub fn points_in_one_cell()
 /// place, and room in it, and none is refused as too large. The totals fit; by shares and for least sizes they are those
 /// of the records' table.
 pub fn places_have_room<C>()
-    ensures room { (grid : Grid) (measure : C → ℕ × ℕ) (columns : ℕ) (rows : List (List C)) (widths heights : List ℕ) →
+    ensures room { (grid : Grid) (measure : C → ℕ × ℕ)
+        (columns : ℕ) (rows : List (List C)) (widths heights : List ℕ) →
         HoldAlong grid measure columns rows HaveRoom widths heights →
         All (HasRoomAtPlace (sized_table grid widths heights (length rows, columns)) measure)
         (visible_cells grid rows) }
-    ensures never_too_large { (grid : Grid) (measure : C → ℕ × ℕ) (columns : ℕ) (rows : List (List C)) (widths heights : List ℕ) →
+    ensures never_too_large { (grid : Grid) (measure : C → ℕ × ℕ)
+        (columns : ℕ) (rows : List (List C)) (widths heights : List ℕ) →
         HoldAlong grid measure columns rows HaveRoom widths heights → (p : Position) →
         IsPlaced (sized_table grid widths heights (length rows, columns)) p (Err TooLarge) → ⊥ }
-    ensures fit { (grid : Grid) (measure : C → ℕ × ℕ) (columns : ℕ) (rows : List (List C)) (widths heights : List ℕ) →
+    ensures fit { (grid : Grid) (measure : C → ℕ × ℕ)
+        (columns : ℕ) (rows : List (List C)) (widths heights : List ℕ) →
         HoldAlong grid measure columns rows HaveRoom widths heights → (direction : Direction) →
         total_along (sized_table grid widths heights (length rows, columns)) direction < 2 ^ 64 }
-    ensures shares { (grid : Grid) (measure : C → ℕ × ℕ) (columns : ℕ) (rows : List (List C)) (widths heights : List ℕ) →
-        AreBothSizes grid measure columns rows widths heights → HoldAlong grid measure columns rows HaveRoom widths heights }
-    ensures least { (grid : Grid) (measure : C → ℕ × ℕ) (columns : ℕ) (rows : List (List C)) (widths heights : List ℕ) →
-        AreBothLeast grid measure columns rows widths heights → HoldAlong grid measure columns rows HaveRoom widths heights }
-    ensures totals { (grid : Grid) (measure : C → ℕ × ℕ) (columns : ℕ) (rows : List (List C)) (widths heights : List ℕ) →
-        AreBothSizes grid measure columns rows widths heights → (direction : Direction) (total : ℕ) →
+    ensures shares { (grid : Grid) (measure : C → ℕ × ℕ)
+        (columns : ℕ) (rows : List (List C)) (widths heights : List ℕ) →
+        AreBothSizes grid measure columns rows widths heights →
+        HoldAlong grid measure columns rows HaveRoom widths heights }
+    ensures least { (grid : Grid) (measure : C → ℕ × ℕ)
+        (columns : ℕ) (rows : List (List C)) (widths heights : List ℕ) →
+        AreBothLeast grid measure columns rows widths heights →
+        HoldAlong grid measure columns rows HaveRoom widths heights }
+    ensures totals { (grid : Grid) (measure : C → ℕ × ℕ)
+        (columns : ℕ) (rows : List (List C)) (widths heights : List ℕ) →
+        AreBothSizes grid measure columns rows widths heights →
+        (direction : Direction) (total : ℕ) →
         IsTotal (problem_of grid measure columns rows direction) total
         ↔ (total ≡ total_along (sized_table grid widths heights (length rows, columns)) direction) }
-    ensures least_totals { (grid : Grid) (measure : C → ℕ × ℕ) (columns : ℕ) (rows : List (List C)) (widths heights : List ℕ) →
-        AreBothLeast grid measure columns rows widths heights → (direction : Direction) (total : ℕ) →
+    ensures least_totals { (grid : Grid) (measure : C → ℕ × ℕ)
+        (columns : ℕ) (rows : List (List C)) (widths heights : List ℕ) →
+        AreBothLeast grid measure columns rows widths heights →
+        (direction : Direction) (total : ℕ) →
         IsLeastTotal (problem_of grid measure columns rows direction) total
         ↔ (total ≡ total_along (sized_table grid widths heights (length rows, columns)) direction) }
 {}

@@ -112,7 +112,8 @@ impl LeastGridDimension {
         <<R as Records>::Iter as IntoRecords>::Cell: AsStr + Drop,
         requires { R.is_lawful records }
         ensures { UnlessMemory result ((cells : List (List R.Iter.Cell)) × R.tells records cells
-            × LeastAnswers IsLeastTotal (problem_of (spanned_grid config.now) (line_measure R.Iter.Cell.text)
+            × LeastAnswers IsLeastTotal (problem_of (spanned_grid config.now)
+            (line_measure R.Iter.Cell.text)
             (R.columns records) cells Columns) result) }
     {
         total_along(alloc, records, config, Direction::Columns)
@@ -135,7 +136,8 @@ impl LeastGridDimension {
         <<R as Records>::Iter as IntoRecords>::Cell: AsStr + Drop,
         requires { R.is_lawful records }
         ensures { UnlessMemory result ((cells : List (List R.Iter.Cell)) × R.tells records cells
-            × LeastAnswers IsLeastTotal (problem_of (spanned_grid config.now) (line_measure R.Iter.Cell.text)
+            × LeastAnswers IsLeastTotal (problem_of (spanned_grid config.now)
+            (line_measure R.Iter.Cell.text)
             (R.columns records) cells Rows) result) }
     {
         total_along(alloc, records, config, Direction::Rows)
@@ -185,7 +187,8 @@ where
     <<R as Records>::Iter as IntoRecords>::Cell: AsStr + Drop,
     requires { R.is_lawful records }
     ensures { UnlessMemory result ((cells : List (List R.Iter.Cell)) × R.tells records cells
-        × LeastAnswers IsLeastTotal (problem_of (spanned_grid config.now) (line_measure R.Iter.Cell.text)
+        × LeastAnswers IsLeastTotal (problem_of (spanned_grid config.now)
+        (line_measure R.Iter.Cell.text)
         (R.columns records) cells direction) result) }
 {
     let found = solve_along::<ByLeastTotal, ByLines, _, _>(

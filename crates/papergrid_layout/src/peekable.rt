@@ -60,7 +60,8 @@ impl PeekableGridDimension {
         requires { R.is_lawful records }
         ensures { UnlessMemory result ((cells : List (List R.Iter.Cell)) × R.tells records cells
             × IsSized (problem_of (spanned_grid config.now)
-            (cell_measure R.Iter.Cell.width R.Iter.Cell.lines) (R.columns records) cells Columns) result) }
+            (cell_measure R.Iter.Cell.width R.Iter.Cell.lines)
+            (R.columns records) cells Columns) result) }
     {
         let found = solve_along::<ByShares, ByCell, _, _>(
             alloc,
@@ -90,7 +91,8 @@ impl PeekableGridDimension {
         requires { R.is_lawful records }
         ensures { UnlessMemory result ((cells : List (List R.Iter.Cell)) × R.tells records cells
             × IsSized (problem_of (spanned_grid config.now)
-            (cell_measure R.Iter.Cell.width R.Iter.Cell.lines) (R.columns records) cells Rows) result) }
+            (cell_measure R.Iter.Cell.width R.Iter.Cell.lines)
+            (R.columns records) cells Rows) result) }
     {
         let found = solve_along::<ByShares, ByCell, _, _>(
             alloc,

@@ -30,7 +30,8 @@ pub fn place<D: Dimension>(
     requires rows { (row : ℕ) → row < shape.0 → D.has_row dim.now row }
     ensures exact { let table = table_by cfg.now (D.width_of dim.now) (D.height_of dim.now) shape in
         IsPlaced table pos result }
-    ensures within { let table = table_by cfg.now (D.width_of dim.now) (D.height_of dim.now) shape in
+    ensures within { let table = table_by cfg.now (D.width_of dim.now)
+        (D.height_of dim.now) shape in
         IfOk result (EndsWithin table) }
 {
     let (rows, columns) = shape;

@@ -38,7 +38,8 @@ impl Placing {
     ) -> Result<Placing, AllocError>
         requires columns { (column : ℕ) → column < shape.1 → D.has_column dim.now column }
         requires rows { (row : ℕ) → row < shape.0 → D.has_row dim.now row }
-        requires fit { let table = table_by cfg.now (D.width_of dim.now) (D.height_of dim.now) shape in
+        requires fit { let table = table_by cfg.now (D.width_of dim.now)
+            (D.height_of dim.now) shape in
             (direction : Direction) → total_along table direction < 2 ^ 64 }
         ensures { let table = table_by cfg.now (D.width_of dim.now) (D.height_of dim.now) shape in
             IfOk result (HasPlaced table 0 0) }
@@ -61,7 +62,8 @@ impl Placing {
         requires placed { (table : TableView) × HasPlaced table pos.row pos.col self.old }
         requires row_in { pos.row < 2 ^ 64 - 1 }
         requires col_in { pos.col < 2 ^ 64 - 1 }
-        ensures ok { IfOk result (λ _. (table : TableView) → HasPlaced table pos.row pos.col self.old →
+        ensures ok { IfOk result (λ _. (table : TableView) →
+            HasPlaced table pos.row pos.col self.old →
             HasPlaced table pos.row (pos.col + 1) self.new) }
         ensures err { IfErr result (λ error. (table : TableView) →
             pos.row < table.shape.0 → pos.col < table.shape.1 →
@@ -86,7 +88,8 @@ impl Placing {
         ensures ok { IfOk result (λ _. (table : TableView) → columns ≡ table.shape.1 →
             HasPlaced table row 0 self.old → HasPlaced table (row + 1) 0 self.new) }
         ensures err { IfErr result (λ error. (table : TableView) → row < table.shape.0 →
-            columns ≡ table.shape.1 → HasPlaced table row 0 self.old → ArePlacesRefused table error) }
+            columns ≡ table.shape.1 → HasPlaced table row 0 self.old →
+            ArePlacesRefused table error) }
     {
         for col in 0..columns {
             self.visit(alloc, Position { row, col })?;
@@ -96,7 +99,8 @@ impl Placing {
 
     /// Visits all rows of a table of the shape (rows, columns).
     fn visit_rows(&mut self, alloc: Global, shape: (usize, usize)) -> Result<(), LayoutError>
-        requires placed { (table : TableView) × (shape ≡ table.shape) × HasPlaced table 0 0 self.old }
+        requires placed { (table : TableView) × (shape ≡ table.shape)
+            × HasPlaced table 0 0 self.old }
         ensures ok { IfOk result (λ _. (table : TableView) → shape ≡ table.shape →
             HasPlaced table 0 0 self.old → HaveAllPlaces table self.new.places.items) }
         ensures err { IfErr result (λ error. (table : TableView) → shape ≡ table.shape →
@@ -133,7 +137,8 @@ pub fn places<D: Dimension>(
         IfOk result (λ places. HaveAllPlaces table places.items) }
     ensures err { let table = table_by cfg.now (D.width_of dim.now) (D.height_of dim.now) shape in
         IfErr result (ArePlacesRefused table) }
-    ensures within { let table = table_by cfg.now (D.width_of dim.now) (D.height_of dim.now) shape in
+    ensures within { let table = table_by cfg.now (D.width_of dim.now)
+        (D.height_of dim.now) shape in
         IfOk result (λ places. All (λ x. EndsWithin table x.1) places.items) }
     ensures empty { (shape.0 ≡ 0) ⊎ (shape.1 ≡ 0) → IsOkAnd result (λ places. places.items ≡ []) }
 {

@@ -28,7 +28,8 @@ impl<'a, D: Dimension> Point<'a, D> {
     /// Whether the cell at a position, none below or right of the one within, stands over the point. Most do
     /// not by their spans alone.
     fn is_under(&self, pos: Position) -> bool
-        requires columns { (column : ℕ) → column < self.now.shape.1 → D.has_column self.now.dim.now column }
+        requires columns { (column : ℕ) → column < self.now.shape.1 →
+            D.has_column self.now.dim.now column }
         requires rows { (row : ℕ) → row < self.now.shape.0 → D.has_row self.now.dim.now row }
         requires before { (pos.row ≤ self.now.within.row) × (pos.col ≤ self.now.within.col) }
         requires reach { let table = table_by self.now.cfg.now (D.width_of self.now.dim.now)
@@ -52,7 +53,8 @@ impl<'a, D: Dimension> Point<'a, D> {
 
     /// The first position of a row whose cell stands over the point.
     fn first_in_row(&self, row: usize) -> Option<Position>
-        requires columns { (column : ℕ) → column < self.now.shape.1 → D.has_column self.now.dim.now column }
+        requires columns { (column : ℕ) → column < self.now.shape.1 →
+            D.has_column self.now.dim.now column }
         requires rows { (row : ℕ) → row < self.now.shape.0 → D.has_row self.now.dim.now row }
         requires before { row ≤ self.now.within.row }
         requires reach { let table = table_by self.now.cfg.now (D.width_of self.now.dim.now)
@@ -62,7 +64,8 @@ impl<'a, D: Dimension> Point<'a, D> {
             (D.height_of self.now.dim.now) self.now.shape in
             let IsUnder = StandsOver table self.now.column self.now.line in
             MatchOption result ((q : Position) → q.row ≡ row → IsUnder q → ⊥)
-            (λ p. (p.row ≡ row) × IsUnder p × ((q : Position) → q.row ≡ row → q.col < p.col → IsUnder q → ⊥)) }
+            (λ p. (p.row ≡ row) × IsUnder p × ((q : Position) → q.row ≡ row → q.col < p.col →
+            IsUnder q → ⊥)) }
     {
         for col in 0..=self.within.col {
             let pos = Position { row, col };
@@ -75,7 +78,8 @@ impl<'a, D: Dimension> Point<'a, D> {
 
     /// The first position, by row and then by column, whose cell stands over the point.
     fn first(&self) -> Option<Position>
-        requires columns { (column : ℕ) → column < self.now.shape.1 → D.has_column self.now.dim.now column }
+        requires columns { (column : ℕ) → column < self.now.shape.1 →
+            D.has_column self.now.dim.now column }
         requires rows { (row : ℕ) → row < self.now.shape.0 → D.has_row self.now.dim.now row }
         requires reach { let table = table_by self.now.cfg.now (D.width_of self.now.dim.now)
             (D.height_of self.now.dim.now) self.now.shape in

@@ -43,7 +43,8 @@ impl<'a, D: Dimension, S: ConfigView> Ruler<'a, D, S> {
 
     /// The width of a column, or the height of a row.
     fn size(&self, i: usize) -> usize
-        requires { has_along (D.has_column self.now.dim.now) (D.has_row self.now.dim.now) self.now.direction i }
+        requires { has_along (D.has_column self.now.dim.now)
+            (D.has_row self.now.dim.now) self.now.direction i }
         ensures { result ≡ size_along (D.width_of self.now.dim.now) (D.height_of self.now.dim.now)
             self.now.direction i }
     {
@@ -55,7 +56,8 @@ impl<'a, D: Dimension, S: ConfigView> Ruler<'a, D, S> {
 
     /// What the line at `i` takes: 1 where it is drawn.
     fn line(&self, i: usize) -> usize
-        ensures { let line = (S.grid self.now.settings.now).draws self.now.direction self.now.count in
+        ensures { let line = (S.grid self.now.settings.now).draws self.now.direction self.now.count
+            in
             result ≡ cond (line i) 1 0 }
     {
         if self.settings.has_line(self.direction, self.count, i) {
@@ -69,7 +71,8 @@ impl<'a, D: Dimension, S: ConfigView> Ruler<'a, D, S> {
     fn offset_from(&self, start: usize, from: usize, end: usize) -> Option<usize>
         requires order { start ≤ end }
         requires sizes { (i : ℕ) → i < end →
-            has_along (D.has_column self.now.dim.now) (D.has_row self.now.dim.now) self.now.direction i }
+            has_along (D.has_column self.now.dim.now)
+            (D.has_row self.now.dim.now) self.now.direction i }
         requires from { let size = size_along (D.width_of self.now.dim.now)
             (D.height_of self.now.dim.now) self.now.direction in
             let line = (S.grid self.now.settings.now).draws self.now.direction self.now.count in
@@ -103,7 +106,8 @@ impl<'a, D: Dimension, S: ConfigView> Ruler<'a, D, S> {
         requires inside { let span = (S.grid self.now.settings.now).span self.now.direction pos in
             along self.now.direction pos + span ≤ self.now.count }
         requires sizes { (i : ℕ) → i < self.now.count →
-            has_along (D.has_column self.now.dim.now) (D.has_row self.now.dim.now) self.now.direction i }
+            has_along (D.has_column self.now.dim.now)
+            (D.has_row self.now.dim.now) self.now.direction i }
         ensures { let size = size_along (D.width_of self.now.dim.now)
             (D.height_of self.now.dim.now) self.now.direction in
             let line = (S.grid self.now.settings.now).draws self.now.direction self.now.count in
@@ -124,7 +128,8 @@ impl<'a, D: Dimension, S: ConfigView> Ruler<'a, D, S> {
     /// The total of all sizes and lines, if it fits.
     pub fn total(&self) -> Option<usize>
         requires { (i : ℕ) → i < self.now.count →
-            has_along (D.has_column self.now.dim.now) (D.has_row self.now.dim.now) self.now.direction i }
+            has_along (D.has_column self.now.dim.now)
+            (D.has_row self.now.dim.now) self.now.direction i }
         ensures { let size = size_along (D.width_of self.now.dim.now)
             (D.height_of self.now.dim.now) self.now.direction in
             let line = (S.grid self.now.settings.now).draws self.now.direction self.now.count in
@@ -137,7 +142,8 @@ impl<'a, D: Dimension, S: ConfigView> Ruler<'a, D, S> {
     /// Where each column (row) begins and ends, where the total fits.
     pub fn marks(&self, alloc: Global) -> Result<Marks, AllocError>
         requires sizes { (i : ℕ) → i < self.now.count →
-            has_along (D.has_column self.now.dim.now) (D.has_row self.now.dim.now) self.now.direction i }
+            has_along (D.has_column self.now.dim.now)
+            (D.has_row self.now.dim.now) self.now.direction i }
         requires fits { let size = size_along (D.width_of self.now.dim.now)
             (D.height_of self.now.dim.now) self.now.direction in
             let line = (S.grid self.now.settings.now).draws self.now.direction self.now.count in
@@ -163,7 +169,8 @@ impl<'a, D: Dimension, S: ConfigView> Ruler<'a, D, S> {
     /// where it lies before the first begin or not before the end of the table.
     pub fn number_at(&self, point: usize) -> Option<usize>
         requires sizes { (i : ℕ) → i < self.now.count →
-            has_along (D.has_column self.now.dim.now) (D.has_row self.now.dim.now) self.now.direction i }
+            has_along (D.has_column self.now.dim.now)
+            (D.has_row self.now.dim.now) self.now.direction i }
         requires fits { let size = size_along (D.width_of self.now.dim.now)
             (D.height_of self.now.dim.now) self.now.direction in
             let line = (S.grid self.now.settings.now).draws self.now.direction self.now.count in
@@ -171,8 +178,10 @@ impl<'a, D: Dimension, S: ConfigView> Ruler<'a, D, S> {
         ensures { let size = size_along (D.width_of self.now.dim.now)
             (D.height_of self.now.dim.now) self.now.direction in
             let line = (S.grid self.now.settings.now).draws self.now.direction self.now.count in
-            MatchOption result ((point < offset size line 0) ⊎ (offset size line self.now.count ≤ point))
-            (λ i. (i < self.now.count) × (offset size line i ≤ point) × (point < offset size line (i + 1))) }
+            MatchOption result ((point < offset size line 0)
+            ⊎ (offset size line self.now.count ≤ point))
+            (λ i. (i < self.now.count) × (offset size line i ≤ point)
+            × (point < offset size line (i + 1))) }
     {
         let mut begin = self.line(0);
         if point < begin {

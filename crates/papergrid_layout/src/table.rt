@@ -283,7 +283,8 @@ impl<'a> Table<'a> {
     /// Whether there is a line before column (row) `index`, or, at their count, after the last.
     fn has_line(&self, direction: Direction, index: usize) -> bool
         ensures { let table = view_of self.now in
-            result ≡ nat_le index (track_count table direction) && track_line table direction index }
+            result ≡ nat_le index (track_count table direction)
+            && track_line table direction index }
     {
         let count = match direction {
             Direction::Columns => self.sizes.columns.len(),

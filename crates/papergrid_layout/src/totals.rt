@@ -19,7 +19,8 @@ fn total_along<D: Dimension>(
     direction: Direction,
     count: usize,
 ) -> Result<usize, LayoutError>
-    requires { (i : ℕ) → i < count → has_along (D.has_column dim.now) (D.has_row dim.now) direction i }
+    requires { (i : ℕ) → i < count → has_along (D.has_column dim.now)
+        (D.has_row dim.now) direction i }
     ensures { let size = size_along (D.width_of dim.now) (D.height_of dim.now) direction in
         IsTotalOf (total size ((spanned_grid cfg.now).draws direction count) count) result }
 {
@@ -41,7 +42,8 @@ pub fn total_width<D: Dimension>(
     columns: usize,
 ) -> Result<usize, LayoutError>
     requires { (column : ℕ) → column < columns → D.has_column dim.now column }
-    ensures { IsTotalOf (total (D.width_of dim.now) ((spanned_grid cfg.now).draws Columns columns) columns) result }
+    ensures { IsTotalOf (total (D.width_of dim.now)
+        ((spanned_grid cfg.now).draws Columns columns) columns) result }
 {
     total_along(dim, cfg, Direction::Columns, columns)
 }
@@ -60,7 +62,8 @@ pub fn total_height<D: Dimension>(
     rows: usize,
 ) -> Result<usize, LayoutError>
     requires { (row : ℕ) → row < rows → D.has_row dim.now row }
-    ensures { IsTotalOf (total (D.height_of dim.now) ((spanned_grid cfg.now).draws Rows rows) rows) result }
+    ensures { IsTotalOf (total (D.height_of dim.now)
+        ((spanned_grid cfg.now).draws Rows rows) rows) result }
 {
     total_along(dim, cfg, Direction::Rows, rows)
 }

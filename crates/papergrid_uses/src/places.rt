@@ -65,7 +65,8 @@ pub fn place_of<D: Dimension>(
 ) -> Result<Place, PlaceError>
     requires columns { (column : ℕ) → column < shape.1 → D.has_column sizes.now column }
     requires rows { (row : ℕ) → row < shape.0 → D.has_row sizes.now row }
-    ensures { let table = table_by config.now (D.width_of sizes.now) (D.height_of sizes.now) shape in
+    ensures { let table = table_by config.now (D.width_of sizes.now)
+        (D.height_of sizes.now) shape in
         IsPlaced table position result }
 {
     place(sizes, config, shape, position)
