@@ -1,5 +1,5 @@
 -- The cells that are chosen to certify that the sizes are least.
-use Rattle.std.specs.Prelude.{ℕ, Bool, ◌&&◌, ◌==◌, nat_lt, nat_le, if◌then◌else◌, List, [], ◌∷◌, filter_map, find, slice_index, Option, Some, None}
+use Rattle.std.specs.Prelude.{ℕ, Bool, ◌&&◌, ◌==◌, nat_lt, nat_le, if◌then◌else◌, List, [], ◌∷◌, filter_map, find, slice_index, Option, None}
 use Rattle.std.specs.List.{range_with_len, list_any}
 use Rattle.std.specs.Option.{option_or}
 use Rattle.papergrid_axis.specs.declared.demand.Demand.{Demand}

@@ -1,6 +1,6 @@
 //! Laws of the definitions, each the contract of a function that does nothing.
 
-ghost use Rattle.std.specs.Prelude.{ℕ, ◌≡◌, ◌<◌, ◌≤◌, ◌↔◌, All, Bool, IsTrue, List, false, slice_index, true};
+ghost use Rattle.std.specs.Prelude.{ℕ, ◌≡◌, ◌<◌, ◌≤◌, ◌↔◌, All, IsTrue, List, false, slice_index, true};
 ghost use Rattle.papergrid_axis.specs.declared.candidate.Candidate.{Candidate};
 ghost use Rattle.papergrid_axis.specs.declared.checked.Checked.{Checked};
 ghost use Rattle.papergrid_axis.specs.declared.demand.Demand.{Demand};

@@ -1,7 +1,7 @@
 //! What the sizes along a direction begin with: the lines, what single numbers need, the cells in their
 //! order; and why there are none.
 
-ghost use Rattle.std.specs.Prelude.{All, Bool, EachIndex, IfNone, IfOk, IfSome, List, None, false, length, nat_lt, replicate, slice_index, slice_index_or, ℕ, ◌+◌, ◌≤◌, ◌≡◌};
+ghost use Rattle.std.specs.Prelude.{All, Bool, EachIndex, IfNone, IfOk, IfSome, List, None, false, length, nat_lt, slice_index, slice_index_or, ℕ, ◌+◌, ◌≤◌, ◌≡◌};
 ghost use Rattle.papergrid_axis.specs.Problem.{given};
 ghost use Rattle.papergrid_axis.specs.Ranges.{IsInTable, end_of, first_out};
 ghost use Rattle.papergrid_axis.specs.ForProofs.Kept.{IsKept, no_demand};

@@ -1,11 +1,11 @@
 -- Sums of sizes with their lines.
-use Rattle.std.proofs.Common.{◌≡◌, ◌∙◌, ℕ, ◌+◌, ◌<◌, ◌≤◌, List, [], ◌∷◌, ap, arith, length, nat_lt, map, subst, sym}
-use Rattle.std.specs.Prelude.{All, Bool, None, sum}
+use Rattle.std.proofs.Common.{◌≡◌, ℕ, ◌+◌, ◌≤◌, List, [], ◌∷◌, arith, nat_lt, map, subst, sym}
+use Rattle.std.specs.Prelude.{All, None, sum}
 use Rattle.std.proofs.lemmas.Bool.{ltb-false}
 use Rattle.std.proofs.lemmas.List.Elements.{All-cons, All-head, All-nil, All-tail}
 use Rattle.papergrid_values.specs.declared.position.Position.{Position}
 use Rattle.papergrid_values.specs.declared.direction.Direction.{Direction}
-use Rattle.papergrid_axis.specs.Answers.{IsTotal, IsTotalBy}
+use Rattle.papergrid_axis.specs.Answers.{IsTotal}
 use Rattle.papergrid_axis.specs.Fits.{Fits, HasRoom}
 use Rattle.papergrid_axis.specs.Problem.{Problem, total_of}
 use Rattle.papergrid_values.specs.Lines.{all_lines}

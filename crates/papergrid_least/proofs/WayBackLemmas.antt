@@ -1,5 +1,5 @@
 -- The cells of the longest way are those of the one way back from the end.
-use Rattle.std.proofs.Common.{◌≡◌, ◌∙◌, ◌≢◌, ℕ, zero, suc, ◌+◌, ◌-◌, ◌<◌, ◌≤◌, ◌==◌, inl, inr, List, [], ◌∷◌, refl, sym, ap, subst, arith, eq-eqb, ne_eqb, Option, Some, None}
+use Rattle.std.proofs.Common.{◌≡◌, ◌∙◌, ◌≢◌, ℕ, zero, suc, ◌+◌, ◌-◌, ◌<◌, ◌≤◌, inl, inr, List, [], ◌∷◌, refl, sym, ap, subst, arith, eq-eqb, ne_eqb, Option, Some, None}
 use Rattle.std.specs.Prelude.{◌↔◌, All, reverse}
 use Rattle.std.proofs.lemmas.Bool.{cases_eq}
 use Rattle.std.proofs.lemmas.List.{reverse-reverse}
@@ -10,7 +10,7 @@ use Rattle.papergrid_axis.specs.Ranges.{IsInTable, end_of}
 use Rattle.papergrid_least.specs.Edges.{asked}
 use Rattle.papergrid_least.specs.Longest.{IsFirstPusher, IsWayBack, longest, lowest, pusher, pushers, with_earlier}
 use Rattle.papergrid_least.proofs.EarliestLemmas.{earliest-monotone, earliest-rises}
-use Rattle.papergrid_least.proofs.LongestLemmas.{Pushes, pusher-none, pusher-pushes}
+use Rattle.papergrid_least.proofs.LongestLemmas.{pusher-none, pusher-pushes}
 
 module _ (problem : Problem) (table : All (IsInTable problem.count) problem.demands) where
   abbrev met : ℕ → ℕ → List Demand
