@@ -24,6 +24,7 @@ ghost use Rattle.papergrid.specs.Totals.{AreSized, IsTooLarge};
 use crate::explained::Reason;
 use crate::running::{RunEnd, RunFault};
 use crate::transfer::Failed;
+use papergrid_layout::Sizing;
 pub use papergrid_script::laws::{
     entity_form, line_form, number_form, script_by_lines, script_lines_form,
     script_settings_in_range,
