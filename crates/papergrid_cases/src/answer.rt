@@ -1,20 +1,22 @@
 //! What comes of a question, as a text.
 
+use crate::marks::Marked;
 use papergrid_values::Position;
-use std::alloc::{AllocError, Global};
+use std::alloc::Global;
 use std::cmp::Ordering;
-use std::fmt;
 
-/// The words of an answer, with a space between two.
+/// The words of an answer, with a space between two. Where memory is refused, the answer is lost, and no call fails.
 #[derive(Drop)]
 pub struct Answer {
     text: String,
+    is_lost: bool,
 }
 
 impl Answer {
     pub fn new(alloc: Global) -> Answer {
         Answer {
             text: String::new(alloc),
+            is_lost: false,
         }
     }
 
@@ -22,91 +24,113 @@ impl Answer {
         self.text.as_str()
     }
 
-    pub fn word(&mut self, word: &str) -> Result<(), AllocError> {
-        self.space()?;
-        self.text.push_str(word)
+    /// Whether this is the answer.
+    pub fn is(&self, text: &str) -> bool {
+        !self.is_lost && self.text.as_str() == text
     }
 
-    pub fn flag(&mut self, flag: bool) -> Result<(), AllocError> {
-        self.word(if flag { "true" } else { "false" })
+    pub fn word(&mut self, word: &str) {
+        self.space();
+        self.push(word);
     }
 
-    pub fn ordering(&mut self, ordering: Ordering) -> Result<(), AllocError> {
+    pub fn flag(&mut self, flag: bool) {
+        self.word(if flag { "true" } else { "false" });
+    }
+
+    pub fn ordering(&mut self, ordering: Ordering) {
         self.word(match ordering {
             Ordering::Less => "Less",
             Ordering::Equal => "Equal",
             Ordering::Greater => "Greater",
-        })
+        });
     }
 
-    /// What a value displays.
-    pub fn shown<T: fmt::Display + Drop>(&mut self, value: T) -> Result<(), AllocError> {
-        self.space()?;
-        write!(self.text, "{value}")
-    }
-
-    pub fn number(&mut self, number: usize) -> Result<(), AllocError> {
-        self.shown(number)
-    }
-
-    pub fn position(&mut self, pos: Position) -> Result<(), AllocError> {
-        let Position { row, col } = pos;
-        self.shown(format_args!("{row},{col}"))
+    pub fn number(&mut self, number: usize) {
+        self.space();
+        self.digits(number);
     }
 
     /// A number, or `_` for none.
-    pub fn found_number(&mut self, number: Option<usize>) -> Result<(), AllocError> {
+    pub fn found_number(&mut self, number: Option<usize>) {
         match number {
             Some(number) => self.number(number),
             None => self.word("_"),
         }
     }
 
-    /// A character, or `_` for none.
-    pub fn character(&mut self, character: Option<char>) -> Result<(), AllocError> {
-        self.marks(&[character])
+    pub fn position(&mut self, pos: Position) {
+        self.space();
+        self.digits(pos.row);
+        self.push(",");
+        self.digits(pos.col);
     }
 
-    /// A word of characters, each `_` where there is none, and `\s` for a space.
-    pub fn marks(&mut self, characters: &[Option<char>]) -> Result<(), AllocError> {
-        self.space()?;
-        for character in characters {
-            match character {
-                Some(' ') => self.text.push_str("\\s")?,
-                Some(c) => self.text.push(*c)?,
-                None => self.text.push('_')?,
+    /// The mark of a value, or `_` for none.
+    pub fn mark<T: Marked>(&mut self, value: Option<&T>) {
+        self.marks(&[value]);
+    }
+
+    /// A character, or `_` for none.
+    pub fn character(&mut self, character: Option<char>) {
+        self.mark(character.as_ref());
+    }
+
+    /// A word of marks.
+    pub fn marks<T: Marked>(&mut self, values: &[Option<&T>]) {
+        self.space();
+        for value in values {
+            match value {
+                Some(value) => self.spelled(value.letter(), ' '),
+                None => self.push("_"),
             }
         }
-        Ok(())
     }
 
     /// A text in quotes, with escapes.
-    pub fn text(&mut self, text: &str) -> Result<(), AllocError> {
-        self.space()?;
-        self.text.push('"')?;
+    pub fn text(&mut self, text: &str) {
+        self.word("\"");
         for c in text.chars() {
-            self.spelled(c)?;
+            self.spelled(c, '"');
         }
-        self.text.push('"')
-    }
-
-    fn spelled(&mut self, c: char) -> Result<(), AllocError> {
-        match c {
-            '\n' => self.text.push_str("\\n"),
-            '\r' => self.text.push_str("\\r"),
-            '\t' => self.text.push_str("\\t"),
-            '\u{1b}' => self.text.push_str("\\u{1b}"),
-            '"' => self.text.push_str("\\\""),
-            '\\' => self.text.push_str("\\\\"),
-            c => self.text.push(c),
-        }
+        self.push("\"");
     }
 
     /// Ends the word before.
-    fn space(&mut self) -> Result<(), AllocError> {
-        if self.text.is_empty() {
-            return Ok(());
+    pub fn space(&mut self) {
+        if !self.text.is_empty() {
+            self.push(" ");
         }
-        self.text.push(' ')
+    }
+
+    pub fn push(&mut self, text: &str) {
+        if self.text.push_str(text).is_err() {
+            self.is_lost = true;
+        }
+    }
+
+    pub fn digits(&mut self, number: usize) {
+        if write!(self.text, "{number}").is_err() {
+            self.is_lost = true;
+        }
+    }
+
+    /// A character, by an escape where it is no printed one, or the one that would end what it stands in.
+    pub fn spelled(&mut self, c: char, end: char) {
+        match c {
+            '\n' => self.push("\\n"),
+            '\r' => self.push("\\r"),
+            '\t' => self.push("\\t"),
+            '\u{1b}' => self.push("\\u{1b}"),
+            '\\' => self.push("\\\\"),
+            c if c == end => self.push(if end == ' ' { "\\s" } else { "\\\"" }),
+            c => self.pushed(c),
+        }
+    }
+
+    fn pushed(&mut self, c: char) {
+        if self.text.push(c).is_err() {
+            self.is_lost = true;
+        }
     }
 }

@@ -1,86 +1,104 @@
 //! Questions on the cells that certify sizes.
 
 use crate::answer::Answer;
-use crate::fault::Fault;
-use crate::lists::{cells, numbers_to};
+use crate::hidden_questions::ask_hidden;
 use crate::reading::Words;
-use crate::showing::{show_cells, show_refusal};
+use crate::size_questions::show;
 use crate::table::Told;
+use crate::table_cases::numbers_to;
+use papergrid_layout::LeastGridDimension;
 use papergrid_layout::iterable::{
     check_height_witness, check_width_witness, height_witness, width_witness,
 };
 use papergrid_layout::least::{height_certificate, width_certificate};
-use papergrid_layout::{Found, LeastGridDimension};
 use papergrid_values::Position;
+use std::alloc::AllocError;
 
-/// Answers a question on witnesses or on certificates, or what a checker says of sizes and cells.
+/// Answers a question on witnesses or on certificates, what a checker says of sizes and cells, or another question.
 pub fn ask_certificates(
     told: Told<'_>,
     word: &str,
     words: &mut Words<'_>,
     answer: &mut Answer,
-) -> Result<(), Fault> {
+) -> Result<(), AllocError> {
+    let Told {
+        alloc,
+        table,
+        config,
+        sizes: _,
+    } = told;
     match word {
-        "width_witness" => show_witness(
-            answer,
-            width_witness(told.alloc, told.table.lent(), told.config),
-        ),
-        "height_witness" => show_witness(
-            answer,
-            height_witness(told.alloc, told.table.lent(), told.config),
-        ),
-        "width_certificate" => show_certificate(answer, certified_widths(told)?),
-        "height_certificate" => show_certificate(answer, certified_heights(told)?),
-        _ => {
-            let sizes = numbers_to(words, "by")?;
-            let cells = cells(words)?;
-            let is_right = if word == "check_widths" {
-                check_width_witness(told.table.lent(), told.config, &sizes, &cells)
-            } else {
-                check_height_witness(told.table.lent(), told.config, &sizes, &cells)
-            };
-            Ok(answer.flag(is_right)?)
-        }
+        "width_witness" => show(width_witness(alloc, table.lent(), config), answer),
+        "height_witness" => show(height_witness(alloc, table.lent(), config), answer),
+        "width_certificate" => ask_width_certificate(told, answer),
+        "height_certificate" => ask_height_certificate(told, answer),
+        "check_widths" | "check_heights" => return ask_checker(told, word, words, answer),
+        _ => return ask_hidden(told, word, words, answer),
     }
+    Ok(())
 }
 
-/// The cells that certify the least widths, once the checker has accepted them.
-fn certified_widths(told: Told<'_>) -> Result<Found<Vec<Position>>, Fault> {
+/// Shows the cells that certify the least widths, and whether the checker refuses them.
+fn ask_width_certificate(told: Told<'_>, answer: &mut Answer) {
     let found = width_certificate(told.alloc, told.table.lent(), told.config);
     let sizes = LeastGridDimension::width(told.alloc, told.table.lent(), told.config);
     if let (Ok(cells), Ok(sizes)) = (&found, &sizes) {
         if !check_width_witness(told.table.lent(), told.config, sizes, cells) {
-            return Err(Fault::Line("cells that the checker accepts"));
+            answer.word("refused by the checker");
         }
     }
-    Ok(found)
+    show(found, answer);
 }
 
 /// The same of the least heights.
-fn certified_heights(told: Told<'_>) -> Result<Found<Vec<Position>>, Fault> {
+fn ask_height_certificate(told: Told<'_>, answer: &mut Answer) {
     let found = height_certificate(told.alloc, told.table.lent(), told.config);
     let sizes = LeastGridDimension::height(told.alloc, told.table.lent(), told.config);
     if let (Ok(cells), Ok(sizes)) = (&found, &sizes) {
         if !check_height_witness(told.table.lent(), told.config, sizes, cells) {
-            return Err(Fault::Line("cells that the checker accepts"));
+            answer.word("refused by the checker");
         }
     }
-    Ok(found)
+    show(found, answer);
 }
 
-fn show_certificate(answer: &mut Answer, cells: Found<Vec<Position>>) -> Result<(), Fault> {
-    match cells {
-        Ok(cells) => show_cells(answer, &cells)?,
-        Err(error) => show_refusal(answer, error)?,
-    }
+/// Answers what a checker says of sizes, the word `by` and cells.
+fn ask_checker(
+    told: Told<'_>,
+    word: &str,
+    words: &mut Words<'_>,
+    answer: &mut Answer,
+) -> Result<(), AllocError> {
+    let sizes = numbers_to(words, "by")?;
+    let cells = cells(words)?;
+    answer.flag(if word == "check_widths" {
+        check_width_witness(told.table.lent(), told.config, &sizes, &cells)
+    } else {
+        check_height_witness(told.table.lent(), told.config, &sizes, &cells)
+    });
     Ok(())
 }
 
-fn show_witness(answer: &mut Answer, cells: Found<Option<Vec<Position>>>) -> Result<(), Fault> {
-    match cells {
-        Ok(Some(cells)) => show_cells(answer, &cells)?,
-        Ok(None) => answer.word("none")?,
-        Err(error) => show_refusal(answer, error)?,
+/// The cells that are left, or one so many times, as `times 1000 9,9`.
+fn cells(words: &mut Words<'_>) -> Result<Vec<Position>, AllocError> {
+    let mut cells = Vec::new(words.alloc());
+    for _ in 0..usize::MAX {
+        if words.is_empty() {
+            break;
+        }
+        let (count, cell) = next_cell(words);
+        for _ in 0..count {
+            cells.push(cell)?;
+        }
     }
-    Ok(())
+    Ok(cells)
+}
+
+/// The next cell, and how many times it stands.
+fn next_cell(words: &mut Words<'_>) -> (usize, Position) {
+    if words.passes("times ") {
+        (words.number(), words.position())
+    } else {
+        (1, words.position())
+    }
 }

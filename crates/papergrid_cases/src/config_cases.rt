@@ -1,94 +1,96 @@
-//! Cases of configurations: settings, and what each cell, line and margin is set to by them.
+//! Configurations: settings, and what each cell, line and margin is set to by them.
 
 use crate::answer::Answer;
-use crate::fault::Fault;
+use crate::compact_cases::with_setting;
+use crate::config_questions;
+use crate::pair::Kind;
 use crate::reading::Words;
-use crate::running::Subject;
 use crate::settings::setting;
-use crate::{compact_cases, config_questions};
 use papergrid_config::{CompactConfig, Setting, SpannedConfig};
-use std::alloc::Global;
+use std::alloc::{AllocError, Global};
 use std::mem;
 
-/// A configuration, and another one that it is compared with. The settings of a case are applied as lists, before the
-/// next line that is none.
+/// A configuration, and a compact one that it may be made of. Settings are applied as lists, before the next line that
+/// is none.
 #[derive(Drop)]
-pub struct ConfigCases {
+pub struct Config {
     alloc: Global,
     config: SpannedConfig,
-    other: SpannedConfig,
     compact: CompactConfig,
     settings: Vec<Setting>,
 }
 
-impl Subject for ConfigCases {
-    fn new(alloc: Global) -> ConfigCases {
-        ConfigCases {
+impl Kind for Config {
+    fn new_one(alloc: Global) -> Config {
+        Config {
             alloc,
             config: SpannedConfig::new(alloc),
-            other: SpannedConfig::new(alloc),
             compact: CompactConfig::new(),
             settings: Vec::new(alloc),
         }
     }
 
-    fn tell(&mut self, word: &str, words: &mut Words<'_>) -> Result<(), Fault> {
+    fn tell(&mut self, word: &str, words: &mut Words<'_>) -> Result<(), AllocError> {
         match word {
-            "swap" => self.swap()?,
-            "copy" => self.copy()?,
             "compact" => {
-                self.compact = compact_cases::told(self.compact, words.word()?, words)?;
+                let word = words.word();
+                self.compact = with_setting(self.compact, word, words);
             }
-            "from_compact" => self.take_compact()?,
-            _ => self.settings.push(setting(word, words)?)?,
+            "from_compact" => {
+                self.config = SpannedConfig::from_compact(self.alloc, &self.compact)?;
+            }
+            _ => {
+                if let Some(setting) = setting(word, words) {
+                    self.settings.push(setting)?;
+                }
+            }
         }
         Ok(())
     }
 
-    fn ask(&mut self, word: &str, words: &mut Words<'_>, answer: &mut Answer) -> Result<(), Fault> {
-        self.settle()?;
-        match word {
-            "equals_other" => answer.flag(self.config == self.other)?,
-            "is_in_range" => {
-                let setting = setting(words.word()?, words)?;
-                answer.flag(setting.is_in_range())?;
-            }
-            _ => return config_questions::ask(&self.config, word, words, answer),
-        }
-        Ok(())
-    }
-}
-
-impl ConfigCases {
-    /// Applies the settings that were told.
-    fn settle(&mut self) -> Result<(), Fault> {
+    fn settle(&mut self, words: &mut Words<'_>) -> Result<(), AllocError> {
         let settings = mem::replace(&mut self.settings, Vec::new(self.alloc));
         if !settings.iter().all(|setting| setting.is_in_range()) {
-            return Err(Fault::Line("settings in range above"));
+            words.lacks("settings in range above");
+            drop(settings);
+            return Ok(());
         }
         match self.config.apply_all(settings) {
             Ok(()) => Ok(()),
-            Err(_) => Err(Fault::Memory),
+            Err(_) => Err(AllocError),
         }
     }
 
-    /// Exchanges the configuration and the other one.
-    fn swap(&mut self) -> Result<(), Fault> {
-        self.settle()?;
-        mem::swap(&mut self.config, &mut self.other);
-        Ok(())
+    fn ask(
+        &self,
+        word: &str,
+        words: &mut Words<'_>,
+        answer: &mut Answer,
+    ) -> Result<(), AllocError> {
+        if word == "is_in_range" {
+            let word = words.word();
+            let setting = setting(word, words);
+            answer.flag(
+                setting
+                    .as_ref()
+                    .is_some_and(|setting| setting.is_in_range()),
+            );
+            drop(setting);
+            return Ok(());
+        }
+        config_questions::ask(&self.config, word, words, answer)
     }
 
-    /// Makes the other configuration equal this one.
-    fn copy(&mut self) -> Result<(), Fault> {
-        self.settle()?;
-        self.other = self.config.clone()?;
-        Ok(())
+    fn is_like(&self, other: &Config) -> bool {
+        self.config == other.config
     }
 
-    /// Makes the configuration that of the compact one.
-    fn take_compact(&mut self) -> Result<(), Fault> {
-        self.config = SpannedConfig::from_compact(self.alloc, &self.compact)?;
-        Ok(())
+    fn copied(&self) -> Result<Config, AllocError> {
+        Ok(Config {
+            alloc: self.alloc,
+            config: self.config.clone()?,
+            compact: self.compact,
+            settings: Vec::new(self.alloc),
+        })
     }
 }

@@ -1,108 +1,93 @@
-//! Cases of values by entity: characters.
+//! Maps of characters by entity.
 
 use crate::answer::Answer;
-use crate::fault::Fault;
+use crate::pair::Kind;
 use crate::reading::Words;
-use crate::running::Subject;
 use papergrid_maps::{EntityMap, MapCall};
-use std::alloc::Global;
+use std::alloc::{AllocError, Global};
 use std::mem;
 
-/// A map of characters that begins with `g` for all cells, and another one that it is compared with. The calls of a
-/// case are applied as lists, before the next line that is none.
+/// A map of characters that begins with `g` for all cells. Calls are made as lists, before the next line that is none.
 #[derive(Drop)]
-pub struct MapCases {
+pub struct Map {
     alloc: Global,
     map: EntityMap<char>,
-    other: EntityMap<char>,
     calls: Vec<MapCall<char>>,
 }
 
-impl Subject for MapCases {
-    fn new(alloc: Global) -> MapCases {
-        MapCases {
+impl Kind for Map {
+    fn new_one(alloc: Global) -> Map {
+        Map {
             alloc,
             map: EntityMap::new(alloc, 'g'),
-            other: EntityMap::new(alloc, 'g'),
             calls: Vec::new(alloc),
         }
     }
 
-    fn tell(&mut self, word: &str, words: &mut Words<'_>) -> Result<(), Fault> {
-        match word {
-            "insert" => {
-                let call = MapCall::Insert(words.entity()?, words.character()?);
-                self.calls.push(call)?;
+    fn tell(&mut self, word: &str, words: &mut Words<'_>) -> Result<(), AllocError> {
+        let call = match word {
+            "insert" => MapCall::Insert(words.entity(), words.character()),
+            "remove" => MapCall::Remove(words.entity()),
+            _ => {
+                words.lacks("insert, remove, swap or copy");
+                return Ok(());
             }
-            "remove" => self.calls.push(MapCall::Remove(words.entity()?))?,
-            "swap" => self.swap()?,
-            "copy" => self.copy()?,
-            _ => return Err(Fault::Line("insert, remove, swap or copy")),
-        }
+        };
+        self.calls.push(call)?;
         Ok(())
     }
 
-    fn ask(&mut self, word: &str, words: &mut Words<'_>, answer: &mut Answer) -> Result<(), Fault> {
-        self.settle()?;
-        match word {
-            "equals_other" => answer.flag(self.map == self.other)?,
-            _ => return asked(&self.map, word, words, answer),
-        }
-        Ok(())
-    }
-}
-
-impl MapCases {
-    /// Makes the calls that were told.
-    fn settle(&mut self) -> Result<(), Fault> {
+    fn settle(&mut self, _words: &mut Words<'_>) -> Result<(), AllocError> {
         let calls = mem::replace(&mut self.calls, Vec::new(self.alloc));
         match self.map.apply_all(calls) {
             Ok(()) => Ok(()),
-            Err(_) => Err(Fault::Memory),
+            Err(_) => Err(AllocError),
         }
     }
 
-    /// Exchanges the map and the other one.
-    fn swap(&mut self) -> Result<(), Fault> {
-        self.settle()?;
-        mem::swap(&mut self.map, &mut self.other);
-        Ok(())
-    }
-
-    /// Makes the other map equal this one.
-    fn copy(&mut self) -> Result<(), Fault> {
-        self.settle()?;
-        self.other = self.map.clone()?;
-        Ok(())
-    }
-}
-
-fn asked(
-    map: &EntityMap<char>,
-    word: &str,
-    words: &mut Words<'_>,
-    answer: &mut Answer,
-) -> Result<(), Fault> {
-    match word {
-        "get" => answer.character(Some(*map.get(words.position()?)))?,
-        "as_ref" => answer.character(Some(*map.as_ref()))?,
-        "any_held" => {
-            let wanted = words.character()?;
-            answer.flag(map.any_held(|value| *value == wanted))?;
+    fn ask(
+        &self,
+        word: &str,
+        words: &mut Words<'_>,
+        answer: &mut Answer,
+    ) -> Result<(), AllocError> {
+        match word {
+            "get" => answer.mark(Some(self.map.get(words.position()))),
+            "as_ref" => answer.mark(Some(self.map.as_ref())),
+            "any_held" => {
+                let wanted = words.character();
+                answer.flag(self.map.any_held(|value| *value == wanted));
+            }
+            "is_empty" => answer.flag(self.map.is_empty()),
+            "into_map" => return in_map(self.map.clone()?, words, answer),
+            _ => words.lacks("a question"),
         }
-        "is_empty" => answer.flag(map.is_empty())?,
-        "into_map" => return in_map(map, words, answer),
-        _ => return Err(Fault::Line("a question")),
+        Ok(())
     }
-    Ok(())
+
+    fn is_like(&self, other: &Map) -> bool {
+        self.map == other.map
+    }
+
+    fn copied(&self) -> Result<Map, AllocError> {
+        Ok(Map {
+            alloc: self.alloc,
+            map: self.map.clone()?,
+            calls: Vec::new(self.alloc),
+        })
+    }
 }
 
 /// How many values the map holds, and that of the entity that the line names, if it names one.
-fn in_map(map: &EntityMap<char>, words: &mut Words<'_>, answer: &mut Answer) -> Result<(), Fault> {
-    let all = map.clone()?.into_map()?;
-    answer.number(all.len())?;
+fn in_map(
+    map: EntityMap<char>,
+    words: &mut Words<'_>,
+    answer: &mut Answer,
+) -> Result<(), AllocError> {
+    let all = map.into_map()?;
+    answer.number(all.len());
     if !words.is_empty() {
-        answer.character(all.get(&words.entity()?).copied())?;
+        answer.mark(all.get(&words.entity()));
     }
     Ok(())
 }

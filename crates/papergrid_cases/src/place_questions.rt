@@ -1,17 +1,15 @@
 //! Questions on where cells stand, by the sizes that are told or else by those of an estimate.
 
 use crate::answer::Answer;
-use crate::fault::Fault;
 use crate::reading::Words;
-use crate::showing::{show_cell, show_cells, show_refusal};
-use crate::size_questions::{by_texts, show_totals};
+use crate::size_questions::{Sizes, ask_sizes, by_texts, show};
 use crate::table::Told;
 use papergrid_config::SpannedConfig;
 use papergrid_layout::{
-    Dimension, Found, Place, PlaceError, cell_at, place, places, total_height, total_width,
+    Dimension, Place, PlaceError, cell_at, place, places, total_height, total_width,
 };
 use papergrid_values::Position;
-use std::alloc::{AllocError, Global};
+use std::alloc::Global;
 
 /// Widths of columns and heights of rows.
 #[derive(Clone, Copy)]
@@ -40,49 +38,43 @@ impl<'a> Dimension for Taken<'a> {
     }
 }
 
-/// Answers a question on places.
-pub fn ask_places(
-    told: Told<'_>,
-    word: &str,
-    words: &mut Words<'_>,
-    answer: &mut Answer,
-) -> Result<(), Fault> {
+/// Answers a question on places, or on sizes.
+pub fn ask_places(told: Told<'_>, word: &str, words: &mut Words<'_>, answer: &mut Answer) {
+    match word {
+        "place" | "places" | "cell_at" | "totals_of_sizes" => {
+            ask_sized(told, word, words, answer);
+        }
+        _ => ask_sizes(told, word, words, answer),
+    }
+}
+
+fn ask_sized(told: Told<'_>, word: &str, words: &mut Words<'_>, answer: &mut Answer) {
     match told.sizes {
-        Some((widths, heights)) => by_sizes(told, Taken { widths, heights }, word, words, answer),
+        Some(sizes) => by_sizes(told, sizes, word, words, answer),
         None => match by_texts(told) {
-            Ok((widths, heights)) => {
-                let taken = Taken {
-                    widths: &widths,
-                    heights: &heights,
-                };
-                by_sizes(told, taken, word, words, answer)
-            }
-            Err(error) => Ok(show_refusal(answer, error)?),
+            Ok(sizes) => by_sizes(told, &sizes, word, words, answer),
+            Err(error) => show(Err::<usize, _>(error), answer),
         },
     }
 }
 
-fn by_sizes(
-    told: Told<'_>,
-    taken: Taken<'_>,
-    word: &str,
-    words: &mut Words<'_>,
-    answer: &mut Answer,
-) -> Result<(), Fault> {
+fn by_sizes(told: Told<'_>, sizes: &Sizes, word: &str, words: &mut Words<'_>, answer: &mut Answer) {
+    let taken = Taken {
+        widths: sizes.0.as_slice(),
+        heights: sizes.1.as_slice(),
+    };
     match word {
-        "place" => Ok(show_place(answer, place_of(taken, told.config, words.position()?))?),
-        "places" => ask_all(told, taken, answer),
+        "place" => show_place(answer, place_of(taken, told.config, words.position())),
+        "places" => show_places(told.alloc, told.config, taken, answer),
         "cell_at" => ask_points(told.config, taken, words, answer),
-        _ => show_totals(answer, totals_of(taken, told.config)),
+        _ => {
+            show(total_width(&taken, told.config, taken.widths.len()), answer);
+            show(
+                total_height(&taken, told.config, taken.heights.len()),
+                answer,
+            );
+        }
     }
-}
-
-/// The width and the height with the lines.
-fn totals_of(taken: Taken<'_>, config: &SpannedConfig) -> (Found<usize>, Found<usize>) {
-    (
-        total_width(&taken, config, taken.widths.len()),
-        total_height(&taken, config, taken.heights.len()),
-    )
 }
 
 fn place_of(taken: Taken<'_>, config: &SpannedConfig, cell: Position) -> Result<Place, PlaceError> {
@@ -95,46 +87,36 @@ fn place_of(taken: Taken<'_>, config: &SpannedConfig, cell: Position) -> Result<
 }
 
 /// Shows the first column of the terminal and the first line, the width and the height.
-fn show_place(answer: &mut Answer, place: Result<Place, PlaceError>) -> Result<(), AllocError> {
+fn show_place(answer: &mut Answer, place: Result<Place, PlaceError>) {
     match place {
-        Ok(place) => show_corner(answer, place),
+        Ok(place) => {
+            for number in [place.left, place.top, place.width, place.height] {
+                answer.number(number);
+            }
+        }
         Err(PlaceError::Hidden) => answer.word("hidden"),
         Err(PlaceError::OutOfTable) => answer.word("out of table"),
         Err(PlaceError::TooLarge) => answer.word("too large"),
     }
 }
 
-fn show_corner(answer: &mut Answer, place: Place) -> Result<(), AllocError> {
-    for number in [place.left, place.top, place.width, place.height] {
-        answer.number(number)?;
-    }
-    Ok(())
-}
-
 /// Shows all cells that have a place, once the place of each is the one that it has alone.
-fn ask_all(told: Told<'_>, taken: Taken<'_>, answer: &mut Answer) -> Result<(), Fault> {
+fn show_places(alloc: Global, config: &SpannedConfig, taken: Taken<'_>, answer: &mut Answer) {
     let shape = (taken.heights.len(), taken.widths.len());
-    match places(told.alloc, &taken, told.config, shape) {
-        Ok(found) => show_all(told.alloc, told.config, taken, &found, answer),
-        Err(error) => Ok(show_refusal(answer, error)?),
-    }
-}
-
-fn show_all(
-    alloc: Global,
-    config: &SpannedConfig,
-    taken: Taken<'_>,
-    found: &[(Position, Place)],
-    answer: &mut Answer,
-) -> Result<(), Fault> {
-    let mut cells = Vec::new(alloc);
-    for (cell, place) in found {
-        if place_of(taken, config, *cell) != Ok(*place) {
-            return Err(Fault::Line("the place of each cell alone"));
+    match places(alloc, &taken, config, shape) {
+        Ok(found) => {
+            for (cell, place) in found.as_slice() {
+                answer.position(*cell);
+                if place_of(taken, config, *cell) != Ok(*place) {
+                    answer.word("at another place alone");
+                }
+            }
+            if found.is_empty() {
+                answer.word("-");
+            }
         }
-        cells.push(*cell)?;
+        Err(error) => show(Err::<usize, _>(error), answer),
     }
-    Ok(show_cells(answer, &cells)?)
 }
 
 /// Shows the cell at each of the points, a column of the terminal and a line.
@@ -143,14 +125,16 @@ fn ask_points(
     taken: Taken<'_>,
     words: &mut Words<'_>,
     answer: &mut Answer,
-) -> Result<(), Fault> {
+) {
     let shape = (taken.heights.len(), taken.widths.len());
     for _ in 0..usize::MAX {
         if words.is_empty() {
             break;
         }
-        let (column, line) = words.pair()?;
-        show_cell(answer, cell_at(&taken, config, shape, column, line))?;
+        let (column, line) = words.pair();
+        match cell_at(&taken, config, shape, column, line) {
+            Some(cell) => answer.position(cell),
+            None => answer.word("none"),
+        }
     }
-    Ok(())
 }

@@ -1,17 +1,17 @@
 //! The words of a line.
 
-ghost use Rattle.std.specs.Prelude.{◌+◌, ◌-◌, ◌<◌, ◌^◌, IfOk};
+ghost use Rattle.std.specs.Prelude.{◌+◌, ◌-◌, ◌<◌, ◌^◌};
 
-use crate::fault::Fault;
-use papergrid_values::{Entity, Position};
-use std::alloc::Global;
-use std::str::Chars;
+use papergrid_values::{Direction, Entity, Position};
+use std::alloc::{AllocError, Global};
 
-/// What is left of a line.
+/// What is left of a line. What can't be read is noted, and something is given in its place: so no call fails before the
+/// line ends.
 #[derive(Drop)]
 pub struct Words<'a> {
     alloc: Global,
     rest: &'a str,
+    lack: Option<&'static str>,
 }
 
 impl<'a> Words<'a> {
@@ -19,6 +19,7 @@ impl<'a> Words<'a> {
         Words {
             alloc,
             rest: line.trim(),
+            lack: None,
         }
     }
 
@@ -31,30 +32,24 @@ impl<'a> Words<'a> {
         self.rest.is_empty()
     }
 
-    /// Nothing more.
-    pub fn end(&self) -> Result<(), Fault> {
-        if self.is_empty() {
-            return Ok(());
-        }
-        Err(Fault::Line("the end of the line"))
+    /// Notes what is lacking.
+    pub fn lacks(&mut self, what: &'static str) {
+        self.lack = Some(what);
     }
 
-    /// The next word, up to a space.
-    pub fn word(&mut self) -> Result<&'a str, Fault> {
-        if self.rest.is_empty() {
-            return Err(Fault::Line("one more word"));
+    /// What was lacking, which may be the end of the line.
+    pub fn lack(&self) -> Option<&'static str> {
+        if self.lack.is_some() || self.rest.is_empty() {
+            return self.lack;
         }
-        match self.rest.split_once(' ') {
-            Some((word, rest)) => {
-                self.rest = rest.trim_start();
-                Ok(word)
-            }
-            None => {
-                let word = self.rest;
-                self.rest = "";
-                Ok(word)
-            }
-        }
+        Some("the end of the line")
+    }
+
+    /// The next word, up to a space; empty where the line ends.
+    pub fn word(&mut self) -> &'a str {
+        let (word, rest) = self.rest.split_once(' ').unwrap_or((self.rest, ""));
+        self.rest = rest.trim_start();
+        word
     }
 
     /// All that is left.
@@ -64,162 +59,192 @@ impl<'a> Words<'a> {
         rest
     }
 
-    /// Whether this word is the next one; it is passed then.
-    pub fn passes(&mut self, word: &str) -> bool {
-        match self.rest.split_once(' ') {
-            Some((next, rest)) if next == word => {
-                self.rest = rest.trim_start();
+    /// Whether what is left begins like this; that is passed then.
+    pub fn passes(&mut self, text: &str) -> bool {
+        match self.rest.strip_prefix(text) {
+            Some(rest) => {
+                self.rest = rest;
                 true
             }
-            _ => false,
+            None => false,
         }
     }
 
-    pub fn number(&mut self) -> Result<usize, Fault> {
-        number_of(self.word()?)
+    pub fn number(&mut self) -> usize {
+        let word = self.word();
+        self.number_of(word)
     }
 
-    /// Two numbers, as `3,4`.
-    pub fn pair(&mut self) -> Result<(usize, usize), Fault> {
-        pair_of(self.word()?)
-    }
-
-    /// A row and a column, as `3,4`.
-    pub fn position(&mut self) -> Result<Position, Fault> {
-        let (row, col) = pair_of(self.word()?)?;
-        Ok(Position::new(row, col))
-    }
-
-    /// A row and a column that have next ones.
-    pub fn inner_position(&mut self) -> Result<Position, Fault>
-        ensures row { IfOk result (λ pos. pos.row + 1 < 2 ^ 64) }
-        ensures col { IfOk result (λ pos. pos.col + 1 < 2 ^ 64) }
-    {
-        let pos = self.position()?;
-        if pos.row < usize::MAX && pos.col < usize::MAX {
-            return Ok(pos);
+    /// The number that a word spells.
+    pub fn number_of(&mut self, word: &str) -> usize {
+        match word.parse::<usize>() {
+            Ok(number) => number,
+            Err(_) => {
+                self.lacks("a number");
+                0
+            }
         }
-        Err(Fault::Line("a row and a column that have next ones"))
     }
 
     /// A number that has a next one.
-    pub fn inner_number(&mut self) -> Result<usize, Fault>
-        ensures { IfOk result (λ number. number < 2 ^ 64 - 1) }
+    pub fn inner_number(&mut self) -> usize
+        ensures { result < 2 ^ 64 - 1 }
     {
-        let number = self.number()?;
+        let number = self.number();
         if number < usize::MAX {
-            return Ok(number);
+            return number;
         }
-        Err(Fault::Line("a number that has a next one"))
+        self.lacks("a number that has a next one");
+        0
+    }
+
+    /// Two numbers, as `3,4`.
+    pub fn pair(&mut self) -> (usize, usize) {
+        let word = self.word();
+        self.pair_of(word)
+    }
+
+    fn pair_of(&mut self, word: &str) -> (usize, usize) {
+        let (first, second) = word.split_once(',').unwrap_or(("", ""));
+        (self.number_of(first), self.number_of(second))
+    }
+
+    /// A row and a column, as `3,4`.
+    pub fn position(&mut self) -> Position {
+        let (row, col) = self.pair();
+        Position { row, col }
+    }
+
+    /// A row and a column that have next ones.
+    pub fn inner_position(&mut self) -> Position
+        ensures row { result.row + 1 < 2 ^ 64 }
+        ensures col { result.col + 1 < 2 ^ 64 }
+    {
+        let pos = self.position();
+        if pos.row < usize::MAX && pos.col < usize::MAX {
+            return pos;
+        }
+        self.lacks("a row and a column that have next ones");
+        Position { row: 0, col: 0 }
     }
 
     /// All cells, a column, a row or a cell: `*`, `c4`, `r3` or `3,4`.
-    pub fn entity(&mut self) -> Result<Entity, Fault> {
-        let word = self.word()?;
+    pub fn entity(&mut self) -> Entity {
+        let word = self.word();
         if word == "*" {
-            return Ok(Entity::Global);
+            return Entity::Global;
         }
         if let Some(number) = word.strip_prefix('c') {
-            return Ok(Entity::Column(number_of(number)?));
+            return Entity::Column(self.number_of(number));
         }
         if let Some(number) = word.strip_prefix('r') {
-            return Ok(Entity::Row(number_of(number)?));
+            return Entity::Row(self.number_of(number));
         }
-        let (row, col) = pair_of(word)?;
-        Ok(Entity::Cell(row, col))
+        let (row, col) = self.pair_of(word);
+        Entity::Cell(row, col)
     }
 
-    pub fn flag(&mut self) -> Result<bool, Fault> {
-        match self.word()? {
-            "true" => Ok(true),
-            "false" => Ok(false),
-            _ => Err(Fault::Line("true or false")),
-        }
-    }
-
-    /// One character, or an escape: `\s` is a space.
-    pub fn character(&mut self) -> Result<char, Fault> {
-        let mut chars = self.word()?.chars();
-        let c = character_of(&mut chars)?;
-        match chars.next() {
-            None => Ok(c),
-            Some(_) => Err(Fault::Line("one character")),
+    pub fn direction(&mut self) -> Direction {
+        match self.word() {
+            "columns" => Direction::Columns,
+            "rows" => Direction::Rows,
+            _ => {
+                self.lacks("columns or rows");
+                Direction::Rows
+            }
         }
     }
 
-    /// The next character, whether a space follows or not, or none for `_`.
-    pub fn mark(&mut self) -> Result<Option<char>, Fault> {
-        let mut chars = self.rest.chars();
-        let c = character_of(&mut chars)?;
+    pub fn flag(&mut self) -> bool {
+        let word = self.word();
+        if word != "true" && word != "false" {
+            self.lacks("true or false");
+        }
+        word == "true"
+    }
+
+    /// The next character, whether a space follows or not.
+    pub fn character(&mut self) -> char {
+        let c = self.next();
+        self.rest = self.rest.trim_start();
+        c
+    }
+
+    /// The same, or none for `_`.
+    pub fn mark(&mut self) -> Option<char> {
         let is_none = self.rest.starts_with('_');
-        self.rest = chars.as_str().trim_start();
-        Ok(if is_none { None } else { Some(c) })
+        let c = self.character();
+        if is_none { None } else { Some(c) }
     }
 
     /// A text in quotes, with escapes.
-    pub fn text(&mut self) -> Result<String, Fault> {
-        let Some(quoted) = self.rest.strip_prefix('"') else {
-            return Err(Fault::Line("a text in quotes"));
-        };
+    pub fn text(&mut self) -> String {
         let mut text = String::new(self.alloc);
-        let mut chars = quoted.chars();
-        for _ in 0..quoted.len() {
-            if let Some(rest) = chars.as_str().strip_prefix('"') {
-                self.rest = rest.trim_start();
-                return Ok(text);
-            }
-            text.push(character_of(&mut chars)?)?;
+        match self.rest.strip_prefix('"') {
+            Some(quoted) => self.rest = quoted,
+            None => self.lacks("a text in quotes"),
         }
-        Err(Fault::Line("the quote that ends a text"))
+        for _ in 0..self.rest.len() {
+            if let Some(rest) = self.rest.strip_prefix('"') {
+                self.rest = rest.trim_start();
+                return text;
+            }
+            let c = self.next();
+            if text.push(c).is_err() {
+                self.lacks("memory");
+            }
+        }
+        self.lacks("the quote that ends a text");
+        text
     }
-}
 
-/// The number that a word spells.
-pub fn number_of(word: &str) -> Result<usize, Fault> {
-    match word.parse::<usize>() {
-        Ok(number) => Ok(number),
-        Err(_) => Err(Fault::Line("a number")),
+    /// The next character, where a backslash begins an escape.
+    fn next(&mut self) -> char {
+        match self.passed() {
+            Some('\\') => self.escaped(),
+            Some(c) => c,
+            None => {
+                self.lacks("one more character");
+                ' '
+            }
+        }
     }
-}
 
-fn pair_of(word: &str) -> Result<(usize, usize), Fault> {
-    match word.split_once(',') {
-        Some((first, second)) => Ok((number_of(first)?, number_of(second)?)),
-        None => Err(Fault::Line("two numbers")),
+    fn passed(&mut self) -> Option<char> {
+        let mut chars = self.rest.chars();
+        let c = chars.next();
+        self.rest = chars.as_str();
+        c
     }
-}
 
-/// The next character, where a backslash begins an escape.
-pub fn character_of(chars: &mut Chars<'_>) -> Result<char, Fault> {
-    match chars.next() {
-        Some('\\') => escaped(chars),
-        Some(c) => Ok(c),
-        None => Err(Fault::Line("one more character")),
+    /// What stands for itself after a backslash but for `n`, `r`, `t`, `s` and `u{..}`.
+    fn escaped(&mut self) -> char {
+        match self.passed() {
+            Some('n') => '\n',
+            Some('r') => '\r',
+            Some('t') => '\t',
+            Some('s') => ' ',
+            Some('u') => self.numbered(),
+            Some(c) => c,
+            None => {
+                self.lacks("what a backslash escapes");
+                ' '
+            }
+        }
     }
-}
 
-/// What stands for itself after a backslash but for `n`, `r`, `t`, `s` and `u{..}`.
-fn escaped(chars: &mut Chars<'_>) -> Result<char, Fault> {
-    match chars.next() {
-        Some('n') => Ok('\n'),
-        Some('r') => Ok('\r'),
-        Some('t') => Ok('\t'),
-        Some('s') => Ok(' '),
-        Some('u') => numbered(chars),
-        Some(c) => Ok(c),
-        None => Err(Fault::Line("what a backslash escapes")),
-    }
-}
-
-/// The character with the hexadecimal number in braces.
-fn numbered(chars: &mut Chars<'_>) -> Result<char, Fault> {
-    let Some((number, rest)) = chars.as_str().split_once('}') else {
-        return Err(Fault::Line("a closing brace"));
-    };
-    *chars = rest.chars();
-    let digits = number.strip_prefix('{').unwrap_or("");
-    match u32::from_str_radix(digits, 16) {
-        Ok(number) => char::from_u32(number).ok_or(Fault::Line("the number of a character")),
-        Err(_) => Err(Fault::Line("a hexadecimal number")),
+    /// The character with the hexadecimal number in braces.
+    fn numbered(&mut self) -> char {
+        let (number, rest) = self.rest.split_once('}').unwrap_or(("", ""));
+        self.rest = rest;
+        let digits = number.strip_prefix('{').unwrap_or("");
+        let number = u32::from_str_radix(digits, 16).unwrap_or(u32::MAX);
+        match char::from_u32(number) {
+            Some(c) => c,
+            None => {
+                self.lacks("the number of a character");
+                ' '
+            }
+        }
     }
 }

@@ -1,20 +1,24 @@
 //! The cases of a file: what is told and asked, line by line.
 
 use crate::answer::Answer;
-use crate::fault::Fault;
 use crate::reading::Words;
-use std::alloc::Global;
+use std::alloc::{AllocError, Global};
 
 /// What the lines of a case speak of.
-pub trait Subject {
+pub trait Subject: Sized + Drop {
     /// What a case begins with.
-    fn new(alloc: Global) -> Self;
+    fn start(alloc: Global) -> Self;
 
     /// Does what the line says that begins with the word.
-    fn tell(&mut self, word: &str, words: &mut Words<'_>) -> Result<(), Fault>;
+    fn tell(&mut self, word: &str, words: &mut Words<'_>) -> Result<(), AllocError>;
 
     /// Answers the question that begins with the word.
-    fn ask(&mut self, word: &str, words: &mut Words<'_>, answer: &mut Answer) -> Result<(), Fault>;
+    fn ask(
+        &mut self,
+        word: &str,
+        words: &mut Words<'_>,
+        answer: &mut Answer,
+    ) -> Result<(), AllocError>;
 }
 
 /// What came of a file.
@@ -26,122 +30,78 @@ pub struct Report {
     pub is_right: bool,
 }
 
-/// A line of a file.
-#[derive(Clone, Copy)]
-enum Line<'a> {
-    /// An empty line, or one that begins with `#`.
-    Comment,
-    /// `case NAME`: what follows speaks of a new subject.
-    Case,
-    /// `WORD ARGUMENTS`
-    Told(&'a str),
-    /// `WORD ARGUMENTS = ANSWER`
-    Asked(&'a str, &'a str),
+impl Report {
+    /// That of a file that is none of cases.
+    pub fn of_no_case() -> Report {
+        Report {
+            cases: 0,
+            answers: 0,
+            is_right: false,
+        }
+    }
 }
 
-/// Runs the cases of a text, and writes a line for each answer that differs.
-pub fn run<S: Subject + Drop>(rt: &HostRuntime, file: &str, text: &str) -> Report {
+/// Runs the cases of a text, and writes a line for each answer that differs. An empty line says nothing, and neither
+/// does one that begins with `#`. After `case NAME` a new subject is spoken of. Other lines are `WORD ARGUMENTS`, which
+/// tells something, and `WORD ARGUMENTS = ANSWER`.
+pub fn run<S: Subject>(rt: &HostRuntime, file: &str, text: &str) -> Report {
     let mut report = Report {
         cases: 0,
         answers: 0,
         is_right: true,
     };
-    let mut subject = S::new(rt.alloc());
-    for (index, text) in text.lines().enumerate() {
-        let line = line_of(text);
-        report = counted(report, line);
-        let outcome = followed(rt.alloc(), &mut subject, line);
-        report.is_right = is_as_wanted(rt, file, index, text, outcome) && report.is_right;
+    let mut subject = S::start(rt.alloc());
+    for (index, line) in text.lines().enumerate() {
+        if line.starts_with("case ") {
+            report.cases = report.cases.saturating_add(1);
+            subject = S::start(rt.alloc());
+        } else if !line.is_empty() && !line.starts_with('#') {
+            let (said, wanted) = match line.split_once(" = ") {
+                Some((question, wanted)) => (question, Some(wanted)),
+                None => (line, None),
+            };
+            report.answers = report.answers.saturating_add(usize::from(wanted.is_some()));
+            let came = followed(rt.alloc(), &mut subject, said, wanted.is_some());
+            report.is_right = is_as_wanted(rt, file, index, line, wanted, came) && report.is_right;
+        }
     }
     report
 }
 
-/// Whether nothing came in place of what a line wants, else writes what came. Lines are counted from 1.
+/// Whether the answer is the one that a line wants, which is none where it is no question; else writes the answer. Lines
+/// are counted from 1.
 fn is_as_wanted(
     rt: &impl Print,
     file: &str,
     index: usize,
-    text: &str,
-    outcome: Result<Option<Answer>, Fault>,
+    line: &str,
+    wanted: Option<&str>,
+    came: Answer,
 ) -> bool {
-    let number = index.saturating_add(1);
-    let written = match outcome {
-        Ok(None) => return true,
-        Ok(Some(answer)) => println!(rt; "{file}:{number}: {text}: came {}", answer.as_str()),
-        Err(fault) => println!(rt; "{file}:{number}: {text}: {fault}"),
-    };
-    let _ = written;
-    false
+    let is_right = came.is(wanted.unwrap_or(""));
+    if !is_right {
+        let number = index.saturating_add(1);
+        let _ = println!(rt; "{file}:{number}: {line}: came {}", came.as_str());
+    }
+    is_right
 }
 
-/// What a line of a file is.
-fn line_of(text: &str) -> Line<'_> {
-    if text.is_empty() || text.starts_with('#') {
-        return Line::Comment;
-    }
-    if text.starts_with("case ") {
-        return Line::Case;
-    }
-    match text.split_once(" = ") {
-        Some((question, wanted)) => Line::Asked(question, wanted),
-        None => Line::Told(text),
-    }
-}
-
-/// The report with one more line counted.
-fn counted(report: Report, line: Line<'_>) -> Report {
-    let Report {
-        cases,
-        answers,
-        is_right,
-    } = report;
-    match line {
-        Line::Case => Report {
-            cases: cases.saturating_add(1),
-            answers,
-            is_right,
-        },
-        Line::Asked(_, _) => Report {
-            cases,
-            answers: answers.saturating_add(1),
-            is_right,
-        },
-        _ => report,
-    }
-}
-
-/// Does what a line says; what came in place of the answer that is wanted.
-fn followed<S: Subject + Drop>(
-    alloc: Global,
-    subject: &mut S,
-    line: Line<'_>,
-) -> Result<Option<Answer>, Fault> {
-    match line {
-        Line::Comment => {}
-        Line::Case => *subject = S::new(alloc),
-        Line::Told(line) => told(alloc, subject, line)?,
-        Line::Asked(question, wanted) => {
-            let answer = asked(alloc, subject, question)?;
-            if answer.as_str() != wanted {
-                return Ok(Some(answer));
-            }
-        }
-    }
-    Ok(None)
-}
-
-fn told<S: Subject>(alloc: Global, subject: &mut S, line: &str) -> Result<(), Fault> {
-    let mut words = Words::new(alloc, line);
-    let word = words.word()?;
-    subject.tell(word, &mut words)?;
-    words.end()
-}
-
-fn asked<S: Subject>(alloc: Global, subject: &mut S, question: &str) -> Result<Answer, Fault> {
+/// Does what a line says: the answer, and what the line lacks.
+fn followed<S: Subject>(alloc: Global, subject: &mut S, line: &str, is_asked: bool) -> Answer {
     let mut answer = Answer::new(alloc);
-    let mut words = Words::new(alloc, question);
-    let word = words.word()?;
-    subject.ask(word, &mut words, &mut answer)?;
-    words.end()?;
-    Ok(answer)
+    let mut words = Words::new(alloc, line);
+    let word = words.word();
+    let done = if is_asked {
+        subject.ask(word, &mut words, &mut answer)
+    } else {
+        subject.tell(word, &mut words)
+    };
+    if done.is_err() {
+        words.lacks("memory");
+    }
+    if let Some(what) = words.lack() {
+        answer.word("expected");
+        answer.word(what);
+    }
+    answer
 }

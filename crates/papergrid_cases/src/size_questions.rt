@@ -1,39 +1,103 @@
 //! Questions on the sizes of a table.
 
 use crate::answer::Answer;
-use crate::fault::Fault;
-use crate::showing::{agreed, show_both, show_refusal, show_sizes};
+use crate::reading::Words;
 use crate::table::Told;
 use papergrid_config::{CompactConfig, SpannedConfig};
 use papergrid_layout::{
-    CompactGridDimension, Estimate, Found, IterGridDimension, LeastGridDimension,
+    CompactGridDimension, Estimate, Found, IterGridDimension, LayoutError, LeastGridDimension,
     PeekableGridDimension,
 };
 use papergrid_text::VecRecords;
+use papergrid_values::Position;
 use std::alloc::{AllocError, Global};
 
 /// Widths and heights.
-type Sizes = (Vec<usize>, Vec<usize>);
+pub type Sizes = (Vec<usize>, Vec<usize>);
 
-/// The width and the height with the lines, each or why there is none.
-type Totals = (Found<usize>, Found<usize>);
+/// What is found for a table.
+pub trait Shown: Drop {
+    fn show(&self, answer: &mut Answer);
+}
 
-/// Answers a question on sizes: by shares, where texts and measured texts have to agree, or as its word says.
-pub fn ask_sizes(told: Told<'_>, word: &str, answer: &mut Answer) -> Result<(), Fault> {
-    match word {
-        "sizes" => show_found_both(answer, by_shares(told)?),
-        "widths" => show_found(answer, widths(told)?),
-        "heights" => show_found(answer, heights(told)?),
-        "totals" => show_totals(answer, totals(told)),
-        "kept_sizes" => show_found_both(answer, kept(told)),
-        "own_sizes" => show_found_both(answer, own(told)),
-        "compact_sizes" => show_found_both(answer, compact(told)?),
-        _ => ask_least(told, word, answer),
+impl Shown for usize {
+    fn show(&self, answer: &mut Answer) {
+        answer.number(*self);
     }
 }
 
-/// Answers a question on the least sizes.
-fn ask_least(told: Told<'_>, word: &str, answer: &mut Answer) -> Result<(), Fault> {
+/// The sizes, `-` where there are none; many alike as `1009 times 1`.
+impl Shown for Vec<usize> {
+    fn show(&self, answer: &mut Answer) {
+        let Some(first) = self.first() else {
+            return answer.word("-");
+        };
+        if 9 < self.len() && self.iter().all(|size| size == first) {
+            answer.number(self.len());
+            answer.word("times");
+            return answer.number(*first);
+        }
+        for size in self.as_slice() {
+            answer.number(*size);
+        }
+    }
+}
+
+/// Widths, a bar and heights.
+impl Shown for (Vec<usize>, Vec<usize>) {
+    fn show(&self, answer: &mut Answer) {
+        self.0.show(answer);
+        answer.word("|");
+        self.1.show(answer);
+    }
+}
+
+/// The cells, `-` where there are none.
+impl Shown for Vec<Position> {
+    fn show(&self, answer: &mut Answer) {
+        for cell in self.as_slice() {
+            answer.position(*cell);
+        }
+        if self.is_empty() {
+            answer.word("-");
+        }
+    }
+}
+
+impl Shown for Option<Vec<Position>> {
+    fn show(&self, answer: &mut Answer) {
+        match self {
+            Some(cells) => cells.show(answer),
+            None => answer.word("none"),
+        }
+    }
+}
+
+/// Shows what is found, or why nothing is.
+pub fn show<T: Shown>(found: Found<T>, answer: &mut Answer) {
+    match found {
+        Ok(value) => value.show(answer),
+        Err(LayoutError::OutOfTable(cell)) => {
+            answer.word("out of table at");
+            answer.position(cell);
+        }
+        Err(LayoutError::TooLarge) => answer.word("too large"),
+        Err(LayoutError::Memory(_)) => answer.word("out of memory"),
+    }
+}
+
+/// Shows what both ways to ask find.
+fn show_both<T: Shown + PartialEq>(one: Found<T>, other: Found<T>, answer: &mut Answer) {
+    let is_same = one == other;
+    show(one, answer);
+    if !is_same {
+        answer.word("or");
+        show(other, answer);
+    }
+}
+
+/// Answers a question on sizes: by shares, where texts and measured texts have to agree, or as its word says.
+pub fn ask_sizes(told: Told<'_>, word: &str, words: &mut Words<'_>, answer: &mut Answer) {
     let Told {
         alloc,
         table,
@@ -41,59 +105,75 @@ fn ask_least(told: Told<'_>, word: &str, answer: &mut Answer) -> Result<(), Faul
         sizes: _,
     } = told;
     match word {
-        "least_sizes" => show_found_both(answer, least(told)),
-        "least_widths" => show_found(
-            answer,
-            LeastGridDimension::width(alloc, table.lent(), config),
-        ),
-        "least_heights" => {
-            show_found(
-                answer,
-                LeastGridDimension::height(alloc, table.lent(), config),
-            )
+        "sizes" => {
+            let is_same = by_texts(told) == at_once(told);
+            show_both(by_measured(told), at_once(told), answer);
+            if !is_same {
+                answer.word("or others of texts");
+            }
         }
-        "least_totals" => show_totals(answer, least_totals(told)),
-        _ => Err(Fault::Line("a question")),
+        "widths" => show_both(
+            IterGridDimension::width(alloc, table.lent(), config),
+            PeekableGridDimension::width(alloc, table.measured(), config),
+            answer,
+        ),
+        "heights" => show_both(
+            IterGridDimension::height(alloc, table.lent(), config),
+            PeekableGridDimension::height(alloc, table.measured(), config),
+            answer,
+        ),
+        "totals" => {
+            show(
+                IterGridDimension::width_total(alloc, table.lent(), config),
+                answer,
+            );
+            show(
+                IterGridDimension::height_total(alloc, table.lent(), config),
+                answer,
+            );
+        }
+        "kept_sizes" => show(kept(told), answer),
+        "own_sizes" => {
+            show(
+                PeekableGridDimension::dimension(alloc, table.texts(), config),
+                answer,
+            );
+        }
+        "compact_sizes" => ask_compact(told, answer),
+        _ => ask_least(told, word, words, answer),
     }
 }
 
-/// The sizes by estimates and by one call.
-fn by_shares(told: Told<'_>) -> Result<Found<Sizes>, Fault> {
-    let measured = agreed(by_measured(told), at_once(told))?;
-    agreed(by_texts(told), measured)
-}
-
-fn totals(told: Told<'_>) -> Totals {
-    (
-        IterGridDimension::width_total(told.alloc, told.table.lent(), told.config),
-        IterGridDimension::height_total(told.alloc, told.table.lent(), told.config),
-    )
-}
-
-fn least_totals(told: Told<'_>) -> Totals {
-    (
-        LeastGridDimension::width_total(told.alloc, told.table.lent(), told.config),
-        LeastGridDimension::height_total(told.alloc, told.table.lent(), told.config),
-    )
-}
-
-/// The sizes of texts by the lines that a plain text has of its own.
-fn own(told: Told<'_>) -> Found<Sizes> {
-    PeekableGridDimension::dimension(told.alloc, told.table.texts(), told.config)
-}
-
-fn widths(told: Told<'_>) -> Result<Found<Vec<usize>>, Fault> {
-    agreed(
-        IterGridDimension::width(told.alloc, told.table.lent(), told.config),
-        PeekableGridDimension::width(told.alloc, told.table.measured(), told.config),
-    )
-}
-
-fn heights(told: Told<'_>) -> Result<Found<Vec<usize>>, Fault> {
-    agreed(
-        IterGridDimension::height(told.alloc, told.table.lent(), told.config),
-        PeekableGridDimension::height(told.alloc, told.table.measured(), told.config),
-    )
+/// Answers a question on the least sizes.
+fn ask_least(told: Told<'_>, word: &str, words: &mut Words<'_>, answer: &mut Answer) {
+    let Told {
+        alloc,
+        table,
+        config,
+        sizes: _,
+    } = told;
+    match word {
+        "least_sizes" => show(least(told), answer),
+        "least_widths" => show(
+            LeastGridDimension::width(alloc, table.lent(), config),
+            answer,
+        ),
+        "least_heights" => show(
+            LeastGridDimension::height(alloc, table.lent(), config),
+            answer,
+        ),
+        "least_totals" => {
+            show(
+                LeastGridDimension::width_total(alloc, table.lent(), config),
+                answer,
+            );
+            show(
+                LeastGridDimension::height_total(alloc, table.lent(), config),
+                answer,
+            );
+        }
+        _ => words.lacks("a question"),
+    }
 }
 
 /// The sizes by an estimate of the texts.
@@ -119,68 +199,46 @@ fn least(told: Told<'_>) -> Found<Sizes> {
     Ok(dimension.get_values())
 }
 
-/// The sizes by the default configuration, whatever is told.
-fn compact(told: Told<'_>) -> Result<Found<Sizes>, Fault> {
-    let config = CompactConfig::new();
-    let widths = CompactGridDimension::width(told.alloc, told.table.texts(), &config);
-    let heights = CompactGridDimension::height(told.alloc, told.table.texts(), &config);
-    let alone = match (widths, heights) {
-        (Ok(widths), Ok(heights)) => Ok((widths, heights)),
-        (Err(error), _) | (_, Err(error)) => Err(error),
-    };
-    agreed(
-        alone,
-        CompactGridDimension::dimension(told.alloc, told.table.texts(), &config),
-    )
+/// Shows the sizes by the default configuration, whatever is told, along each direction alone and at once.
+fn ask_compact(told: Told<'_>, answer: &mut Answer) {
+    let (alloc, config) = (told.alloc, CompactConfig::new());
+    let mut alone = Answer::new(alloc);
+    show(
+        CompactGridDimension::width(alloc, told.table.texts(), &config),
+        &mut alone,
+    );
+    alone.word("|");
+    show(
+        CompactGridDimension::height(alloc, told.table.texts(), &config),
+        &mut alone,
+    );
+    show(
+        CompactGridDimension::dimension(alloc, told.table.texts(), &config),
+        answer,
+    );
+    if !answer.is(alone.as_str()) {
+        answer.word("or others");
+    }
 }
 
 /// The sizes that a dimension holds of one cell `ab`, after an estimate of the table that is refused or not.
 fn kept(told: Told<'_>) -> Found<Sizes> {
-    let mut dimension = of_small(told.alloc)?;
+    let config = SpannedConfig::new(told.alloc);
+    let small = of_small(told.alloc, &config);
+    drop(config);
+    let mut dimension = small?;
     let _ = dimension.estimate(told.table.texts(), told.config);
     Ok(dimension.get_values())
 }
 
-fn small(alloc: Global) -> Result<VecRecords<&'static str>, AllocError> {
-    Ok(VecRecords::new(vec![in alloc; vec![in alloc; "ab"]?]?))
-}
-
 /// A dimension that holds the sizes of a cell of its own.
-fn of_small(alloc: Global) -> Found<IterGridDimension> {
+fn of_small(alloc: Global, config: &SpannedConfig) -> Found<IterGridDimension> {
     let records = small(alloc)?;
     let mut dimension = IterGridDimension::new(alloc);
-    let config = SpannedConfig::new(alloc);
-    let outcome = dimension.estimate(records, &config);
-    drop(config);
-    outcome?;
+    dimension.estimate(records, config)?;
     Ok(dimension)
 }
 
-fn show_found(answer: &mut Answer, sizes: Found<Vec<usize>>) -> Result<(), Fault> {
-    match sizes {
-        Ok(sizes) => show_sizes(answer, &sizes)?,
-        Err(error) => show_refusal(answer, error)?,
-    }
-    Ok(())
-}
-
-fn show_found_both(answer: &mut Answer, sizes: Found<Sizes>) -> Result<(), Fault> {
-    match sizes {
-        Ok(sizes) => show_both(answer, &sizes)?,
-        Err(error) => show_refusal(answer, error)?,
-    }
-    Ok(())
-}
-
-pub fn show_totals(answer: &mut Answer, totals: Totals) -> Result<(), Fault> {
-    show_total(answer, totals.0)?;
-    show_total(answer, totals.1)
-}
-
-fn show_total(answer: &mut Answer, total: Found<usize>) -> Result<(), Fault> {
-    match total {
-        Ok(total) => answer.number(total)?,
-        Err(error) => show_refusal(answer, error)?,
-    }
-    Ok(())
+fn small(alloc: Global) -> Result<VecRecords<&'static str>, AllocError> {
+    Ok(VecRecords::new(vec![in alloc; vec![in alloc; "ab"]?]?))
 }

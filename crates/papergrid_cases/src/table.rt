@@ -1,7 +1,5 @@
 //! The table that a script tells.
 
-use crate::fault::Fault;
-use crate::reading::Words;
 use papergrid_config::SpannedConfig;
 use papergrid_text::{IterRecords, Text, VecRecords};
 use std::alloc::{AllocError, Global};
@@ -25,18 +23,14 @@ pub struct Told<'a> {
 }
 
 impl Table {
-    pub fn new<'a>(
+    pub fn new(
         alloc: Global,
-        rows: Vec<&'a [&'a str]>,
+        rows: &[&[&str]],
         count_rows: usize,
         columns: usize,
     ) -> Result<Table, AllocError> {
-        let mut texts = Vec::new(alloc);
-        let mut measured = Vec::new(alloc);
-        for row in rows {
-            texts.push(texts_of(alloc, row)?)?;
-            measured.push(measured_of(alloc, row)?)?;
-        }
+        let texts = rows_of::<String>(alloc, rows)?;
+        let measured = rows_of::<Text<String>>(alloc, rows)?;
         Ok(Table {
             texts: VecRecords::with_size(texts, count_rows, columns),
             measured: VecRecords::with_size(measured, count_rows, columns),
@@ -59,29 +53,37 @@ impl Table {
     }
 }
 
-fn texts_of(alloc: Global, row: &[&str]) -> Result<Vec<String>, AllocError> {
-    let mut texts = Vec::new(alloc);
-    for text in row {
-        texts.push(String::from_str(alloc, *text)?)?;
-    }
-    Ok(texts)
+/// What a cell is held as.
+trait Held: Sized + Drop {
+    fn of(alloc: Global, text: &str) -> Result<Self, AllocError>;
 }
 
-fn measured_of(alloc: Global, row: &[&str]) -> Result<Vec<Text<String>>, AllocError> {
-    let mut texts = Vec::new(alloc);
-    for text in row {
-        texts.push(Text::new(alloc, String::from_str(alloc, *text)?)?)?;
+impl Held for String {
+    fn of(alloc: Global, text: &str) -> Result<String, AllocError> {
+        String::from_str(alloc, text)
     }
-    Ok(texts)
 }
 
-/// Adds a line to a script so many times.
-pub fn add_times(script: &mut String, count: usize, words: &mut Words<'_>) -> Result<(), Fault> {
-    let (word, rest) = (words.word()?, words.rest());
-    for _ in 0..count {
-        add_line(script, word, rest)?;
+impl Held for Text<String> {
+    fn of(alloc: Global, text: &str) -> Result<Text<String>, AllocError> {
+        Text::new(alloc, String::from_str(alloc, text)?)
     }
-    Ok(())
+}
+
+fn rows_of<C: Held>(alloc: Global, rows: &[&[&str]]) -> Result<Vec<Vec<C>>, AllocError> {
+    let mut held = Vec::new(alloc);
+    for row in rows {
+        held.push(row_of(alloc, *row)?)?;
+    }
+    Ok(held)
+}
+
+fn row_of<C: Held>(alloc: Global, row: &[&str]) -> Result<Vec<C>, AllocError> {
+    let mut held = Vec::new(alloc);
+    for text in row {
+        held.push(C::of(alloc, *text)?)?;
+    }
+    Ok(held)
 }
 
 /// Adds the line of a script that begins with the word, or the row whose cells stand between bars.

@@ -2,18 +2,14 @@
 
 use crate::answer::Answer;
 use crate::certificate_questions::ask_certificates;
-use crate::fault::Fault;
-use crate::hidden_questions::ask_hidden;
-use crate::lists::{numbers, numbers_to};
-use crate::place_questions::ask_places;
 use crate::reading::Words;
 use crate::run_questions::ask_run;
 use crate::running::Subject;
-use crate::size_questions::ask_sizes;
-use crate::table::{Table, Told, add_line, add_times};
+use crate::table::{Table, Told, add_line};
 use bumpalo::Bump;
+use papergrid_config::SpannedConfig;
 use papergrid_script::{Script, ScriptError, configuration_of, read_script};
-use std::alloc::Global;
+use std::alloc::{AllocError, Global};
 
 /// A script, how many rows the records say that they have, and sizes for the questions on places.
 #[derive(Drop)]
@@ -25,7 +21,7 @@ pub struct TableCases {
 }
 
 impl Subject for TableCases {
-    fn new(alloc: Global) -> TableCases {
+    fn start(alloc: Global) -> TableCases {
         TableCases {
             alloc,
             script: String::new(alloc),
@@ -36,18 +32,28 @@ impl Subject for TableCases {
 
     /// `rows N` tells the records' count, `sizes 3 4 | 1 1` the sizes, `text "…"` a part of the script, `times N
     /// LINE` a line so many times. Any other line is one of the script, or a row of cells between bars.
-    fn tell(&mut self, word: &str, words: &mut Words<'_>) -> Result<(), Fault> {
+    fn tell(&mut self, word: &str, words: &mut Words<'_>) -> Result<(), AllocError> {
         match word {
-            "rows" => self.count_rows = words.number()?,
-            "sizes" => self.sizes = Some((numbers_to(words, "|")?, numbers(words)?)),
-            "text" => self.script.push_str(words.text()?.as_str())?,
-            "times" => add_times(&mut self.script, words.number()?, words)?,
+            "rows" => self.count_rows = words.number(),
+            "sizes" => self.sizes = Some((numbers_to(words, "|")?, numbers_to(words, "")?)),
+            "text" => self.script.push_str(words.text().as_str())?,
+            "times" => {
+                let (count, word, rest) = (words.number(), words.word(), words.rest());
+                for _ in 0..count {
+                    add_line(&mut self.script, word, rest)?;
+                }
+            }
             _ => add_line(&mut self.script, word, words.rest())?,
         }
         Ok(())
     }
 
-    fn ask(&mut self, word: &str, words: &mut Words<'_>, answer: &mut Answer) -> Result<(), Fault> {
+    fn ask(
+        &mut self,
+        word: &str,
+        words: &mut Words<'_>,
+        answer: &mut Answer,
+    ) -> Result<(), AllocError> {
         match word {
             "run" | "run_by_shares" | "run_least" | "bad_line" => {
                 ask_run(self.alloc, self.script.as_bytes(), word, words, answer)
@@ -64,49 +70,65 @@ impl TableCases {
         word: &str,
         words: &mut Words<'_>,
         answer: &mut Answer,
-    ) -> Result<(), Fault> {
+    ) -> Result<(), AllocError> {
         let arena = Bump::new(self.alloc);
-        let Script {
-            columns,
-            settings,
-            rows,
-        } = match read_script(self.alloc, &arena, self.script.as_bytes()) {
-            Ok(script) => script,
-            Err(ScriptError::Bad(_)) => return Err(Fault::Line("lines of a script before it")),
-            Err(ScriptError::Memory) => return Err(Fault::Memory),
-        };
+        match read_script(self.alloc, &arena, self.script.as_bytes()) {
+            Ok(
+                Script {
+                    columns,
+                    settings,
+                    rows,
+                },
+            ) => {
+                let config = configuration_of(self.alloc, settings)?;
+                let outcome = self.ask_rows(&config, &rows, columns, word, words, answer);
+                drop(config);
+                outcome
+            }
+            Err(ScriptError::Bad(_)) => {
+                words.lacks("lines of a script before it");
+                Ok(())
+            }
+            Err(ScriptError::Memory) => Err(AllocError),
+        }
+    }
+
+    /// The same by a configuration and the rows.
+    fn ask_rows(
+        &self,
+        config: &SpannedConfig,
+        rows: &[&[&str]],
+        columns: usize,
+        word: &str,
+        words: &mut Words<'_>,
+        answer: &mut Answer,
+    ) -> Result<(), AllocError> {
         let table = Table::new(self.alloc, rows, self.count_rows, columns)?;
-        let config = configuration_of(self.alloc, settings)?;
         let told = Told {
             alloc: self.alloc,
             table: &table,
-            config: &config,
+            config,
             sizes: &self.sizes,
         };
-        let outcome = answered(told, word, words, answer);
-        drop(config);
+        let outcome = ask_certificates(told, word, words, answer);
+        drop(table);
         outcome
     }
 }
 
-/// Answers a question by the part of it that its word names.
-fn answered(
-    told: Told<'_>,
-    word: &str,
-    words: &mut Words<'_>,
-    answer: &mut Answer,
-) -> Result<(), Fault> {
-    match word {
-        "hidden" | "anchors" => ask_hidden(told, word, words, answer),
-        "place" | "places" | "cell_at" | "totals_of_sizes" => {
-            ask_places(told, word, words, answer)
+/// The numbers before the next word that is this one, which is passed; all that are left for the empty word.
+pub fn numbers_to(words: &mut Words<'_>, end: &str) -> Result<Vec<usize>, AllocError> {
+    let mut numbers = Vec::new(words.alloc());
+    for _ in 0..usize::MAX {
+        let word = words.word();
+        if word == end {
+            return Ok(numbers);
         }
-        "check_widths"
-        | "check_heights"
-        | "width_witness"
-        | "height_witness"
-        | "width_certificate"
-        | "height_certificate" => { ask_certificates(told, word, words, answer) }
-        _ => ask_sizes(told, word, answer),
+        if word.is_empty() {
+            words.lacks("one more word");
+            break;
+        }
+        numbers.push(words.number_of(word))?;
     }
+    Ok(numbers)
 }
