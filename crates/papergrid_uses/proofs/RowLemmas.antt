@@ -10,9 +10,14 @@ use Rattle.papergrid_axis.specs.declared.error.LayoutError.TheVariants.{OutOfTab
 use Rattle.papergrid_axis.specs.Answers.{AnswersWhere, IsRefusedWhere, NoneHolds}
 use Rattle.papergrid_axis.specs.Problem.{Problem}
 use Rattle.papergrid_axis.specs.Ranges.{place_of}
+use Rattle.papergrid_config.specs.Grids.{spanned_grid}
+use Rattle.papergrid_config.specs.declared.spanned.SpannedConfig.{SpannedConfig}
+use Rattle.papergrid_least.specs.Answers.{AreLeastSizes, NoneFits}
 use Rattle.papergrid_walk.specs.Cells.{demand_by, demands_of, problem_of, visible_cells}
 use Rattle.papergrid_maps.specs.Grids.{Grid}
 use Rattle.papergrid_layout.specs.Answers.{AnswersBothWhere, HoldAlong, IsBothRefusedWhere, UnlessMemory, UnlessMemoryError}
+use Rattle.papergrid_layout.specs.Tables.{IsTableOf, TableParts}
+use Rattle.papergrid_layout.specs.declared.sizing.Sizing.TheVariants.{Least}
 use Rattle.papergrid_layout.specs.declared.iterable.IterGridDimension.{IterGridDimension}
 use Rattle.papergrid_layout.proofs.Told.{first_told, problem_told}
 use Rattle.papergrid.specs.Layouts.{IsLaidOut}
@@ -75,3 +80,13 @@ module _ {A B : Type 0} (grid : Grid) (v : A → B) (f : B → ℕ × ℕ) (colu
       → UnlessMemory result ((cells : List (List A)) × (map (map v) cells ≡ rows) × IsLaidOut grid (λ x. f (v x)) columns cells result) → IsLaidOut grid f columns rows result
   laid_told (Ok dimension) is = both_told is.0 is.1 _ _ _ is.2
   laid_told (Err e) is = both_refused NoneHolds e is
+
+-- the table of the cells told, of least sizes, is that of the rows
+pub table_told : {A B : Type 0} (config : SpannedConfig) (v : A → B) (f : B → ℕ × ℕ) (columns : ℕ) (rows : List (List B)) (result : Result TableParts LayoutError)
+    → UnlessMemory result ((cells : List (List A)) × (map (map v) cells ≡ rows) × IsTableOf config (λ x. f (v x)) columns cells Least result)
+    → UnlessMemory result (IsTableOf config f columns rows Least result)
+table_told config v f columns rows (Ok table) is =
+    (is.2.0, both_told (spanned_grid config) v f columns rows is.0 is.1 AreLeastSizes table.widths table.heights is.2.1)
+table_told config v f columns rows (Err (OutOfTable place)) is = both_refused (spanned_grid config) v f columns rows NoneFits (OutOfTable place) is
+table_told config v f columns rows (Err TooLarge) is = both_refused (spanned_grid config) v f columns rows NoneFits TooLarge is
+table_told config v f columns rows (Err (Memory e)) is = tt
