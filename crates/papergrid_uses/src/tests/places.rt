@@ -7,7 +7,7 @@ use papergrid::Table;
 use papergrid::config::Position;
 use papergrid::config::spanned::SpannedConfig;
 use papergrid::dimension::{Dimension, LayoutError, Place, cell_at, places};
-use std::alloc::Global;
+use std::alloc::{AllocError, Global};
 
 /// Columns that are all as wide, and rows that are all as high.
 struct Even {
@@ -53,10 +53,14 @@ const POINTS: [((usize, usize), Option<Position>); 8] = [
     ((13, 3), None),
 ];
 
-/// The same sizes as a table of two rows and three columns.
+/// The same sizes of three columns and two rows.
+fn even_sizes(alloc: Global) -> Result<(Vec<usize>, Vec<usize>), AllocError> {
+    Ok((vec![in alloc; 3, 3, 3]?, vec![in alloc; 1, 1]?))
+}
+
+/// The table of these.
 fn even_table<'a>(alloc: Global, config: &'a SpannedConfig) -> Result<Table<'a>, LayoutError> {
-    let widths = vec![in alloc; 3, 3, 3]?;
-    let heights = vec![in alloc; 1, 1]?;
+    let (widths, heights) = even_sizes(alloc)?;
     Table::from_sizes(alloc, config, widths, heights)
 }
 
