@@ -12,6 +12,8 @@ ghost use Rattle.papergrid_least.specs.Edges.{AreEdges, asked, edges_of, sizes_b
 ghost use Rattle.papergrid_least.specs.Least.{AreFurthestRight, latest, least_of, least_sizes};
 ghost use Rattle.papergrid_least.specs.Longest.{IsWayBack, longest};
 
+pub use crate::worked::crossing_worked;
+
 /// Sizes fit exactly where their sums are edges.
 pub fn fits_by_edges()
     ensures fits { (problem : Problem) (sizes : List ℕ) →
