@@ -10,20 +10,20 @@ use Rattle.papergrid_axis.specs.declared.error.LayoutError.{LayoutError}
 use Rattle.papergrid_axis.specs.declared.error.LayoutError.TheVariants as layout_errors
 use Rattle.papergrid_axis.specs.Problem.{Problem, total_of}
 use Rattle.papergrid_axis.specs.Ranges.{first_out, place_of}
-use Rattle.papergrid_least.proofs.LeastLemmas.{exact-least, exact-longest}
+use Rattle.papergrid_least.proofs.LeastLemmas.{exact-least, exact-critical_path}
 use Rattle.papergrid_walk.specs.Cells.{demand_by, demands_of, problem_of, visible_cells}
 use Rattle.papergrid_maps.specs.Grids.{Grid}
-use Rattle.papergrid_layout.specs.Answers.{IsBothRefusedWhere, UnlessMemoryError, first_out_of_table, reaches_out}
-use Rattle.papergrid_layout.specs.Witnesses.{AreCertifiedWhere}
+use Rattle.papergrid_layout.specs.Answers.{IsBothRefusedWhere, UnlessMemoryError, first_out_of_table, overflows}
+use Rattle.papergrid_layout.specs.Certificates.{AreCertifiedWhere}
 use Rattle.papergrid_layout.specs.declared.certificates.Certified.{Certified}
-use Rattle.papergrid_layout.proofs.Told.{first_told, problem_told, witness_is}
-use Rattle.papergrid_layout.proofs.PairLemmas.{none_reaches_out}
+use Rattle.papergrid_layout.proofs.Told.{first_told, problem_told, certificate_is}
+use Rattle.papergrid_layout.proofs.PairLemmas.{none_overflows}
 use Rattle.papergrid.specs.declared.estimate.Sizes.{Sizes}
 use Rattle.papergrid_layout.specs.declared.sizing.Sizing.{Sizing}
 use Rattle.papergrid_layout.specs.declared.sizing.Sizing.TheVariants.{ByShares, Least}
-use Rattle.papergrid.specs.Estimates.{Estimate, OutOfTable, TooLarge, Sized, unless_large, unless_out, sizes_by, witness_by, totalled, estimate_by}
+use Rattle.papergrid.specs.Estimates.{Estimate, OutOfTable, TooLarge, Sized, unless_large, unless_out, sizes_by, certificate_by, totalled_sizes, estimate_by}
 use Rattle.papergrid.specs.Totals.{AreSizesBy, HasNone}
-use Rattle.papergrid.specs.ForProofs.Seen.{GivesEstimate, IsFoundWitness, places_seen, total_along}
+use Rattle.papergrid.specs.ForProofs.Seen.{GivesEstimate, IsFoundCertificate, places_seen, total_along}
 
 -- ---- tests and options
 
@@ -62,10 +62,10 @@ none_large : (sizing : Sizing) (problem : Problem) → HasNone sizing problem �
 none_large ByShares problem none = none.too_large
 none_large Least problem none = none.too_large
 
-found_witness : (sizing : Sizing) (problem : Problem) (found : Option (Vec Position Global)) → IsFoundWitness sizing problem found → places_seen found ≡ witness_by sizing problem
-found_witness ByShares problem found is = witness_is problem found is
-found_witness Least problem None is = absurd is
-found_witness Least problem (Some places) longest = ap Some (exact-longest problem places.items longest)
+found_certificate : (sizing : Sizing) (problem : Problem) (found : Option (Vec Position Global)) → IsFoundCertificate sizing problem found → places_seen found ≡ certificate_by sizing problem
+found_certificate ByShares problem found is = certificate_is problem found is
+found_certificate Least problem None is = absurd is
+found_certificate Least problem (Some places) critical_path = ap Some (exact-critical_path problem places.items critical_path)
 
 module _ {C : Type 0} (grid : Grid) (measure : C → ℕ × ℕ) (columns : ℕ) (cells : List (List C)) where
   module _ (sizing : Sizing) where
@@ -79,22 +79,22 @@ module _ {C : Type 0} (grid : Grid) (measure : C → ℕ × ℕ) (columns : ℕ)
 
     pub estimate_out : (place : Position) → first_out_of_table grid measure columns cells ≡ Some place → estimate_by sizing grid measure columns cells ≡ OutOfTable place
     unfolding estimate_by
-    estimate_out place first = ap (λ o. unless_out o (totalled sizing across down)) first
+    estimate_out place first = ap (λ o. unless_out o (totalled_sizes sizing across down)) first
 
-    estimate_inside : first_out_of_table grid measure columns cells ≡ None → estimate_by sizing grid measure columns cells ≡ totalled sizing across down
+    estimate_inside : first_out_of_table grid measure columns cells ≡ None → estimate_by sizing grid measure columns cells ≡ totalled_sizes sizing across down
     unfolding estimate_by
-    estimate_inside none = ap (λ o. unless_out o (totalled sizing across down)) none
+    estimate_inside none = ap (λ o. unless_out o (totalled_sizes sizing across down)) none
 
     pub estimate_large : first_out_of_table grid measure columns cells ≡ None → (2 ^ 64 ≤ total_of across (sizes_by sizing across)) ⊎ (2 ^ 64 ≤ total_of down (sizes_by sizing down))
         → estimate_by sizing grid measure columns cells ≡ TooLarge
     estimate_large none past =
         estimate_inside none
-        ∙ large (sizes_by sizing across) (sizes_by sizing down) (total_of across (sizes_by sizing across)) (total_of down (sizes_by sizing down)) (witness_by sizing across) (witness_by sizing down) past
+        ∙ large (sizes_by sizing across) (sizes_by sizing down) (total_of across (sizes_by sizing across)) (total_of down (sizes_by sizing down)) (certificate_by sizing across) (certificate_by sizing down) past
 
     pub estimate_none : first_out_of_table grid measure columns cells ≡ None → HasNone sizing across ⊎ HasNone sizing down → estimate_by sizing grid measure columns cells ≡ TooLarge
     estimate_none none too_large = estimate_large none (elim too_large [ inl wide ↦ inl (none_large sizing across wide) | inr high ↦ inr (none_large sizing down high) ])
 
-    module _ (certified : Certified) (are : AreCertifiedWhere grid measure columns cells (AreSizesBy sizing) (IsFoundWitness sizing) certified) where
+    module _ (certified : Certified) (are : AreCertifiedWhere grid measure columns cells (AreSizesBy sizing) (IsFoundCertificate sizing) certified) where
       wide : AreFound sizing across certified.widths.items
       wide = are_found sizing across certified.widths.items are.widths.0
 
@@ -112,10 +112,10 @@ module _ {C : Type 0} (grid : Grid) (measure : C → ℕ × ℕ) (columns : ℕ)
           ≡ Sized certified.widths.items certified.heights.items (total_along Columns grid (length certified.widths.items) certified.widths.items)
           (total_along Rows grid (length certified.heights.items) certified.heights.items) (places_seen certified.width_witness) (places_seen certified.height_witness)
       estimate_certified =
-          estimate_inside ((none_reaches_out grid measure columns cells).1 (wide.none_out, high.none_out))
+          estimate_inside ((none_overflows grid measure columns cells).1 (wide.none_out, high.none_out))
           ∙ (λ i. unless_large (sym wide.exact i) (sym high.exact i)
           (total_along Columns grid (sym wide.one_each i) (sym wide.exact i)) (total_along Rows grid (sym high.one_each i) (sym high.exact i))
-          (sym (found_witness sizing across certified.width_witness are.widths.1) i) (sym (found_witness sizing down certified.height_witness are.heights.1) i))
+          (sym (found_certificate sizing across certified.width_witness are.widths.1) i) (sym (found_certificate sizing down certified.height_witness are.heights.1) i))
           ∙ sized certified.widths.items certified.heights.items (total_along Columns grid (length certified.widths.items) certified.widths.items)
           (total_along Rows grid (length certified.heights.items) certified.heights.items) (places_seen certified.width_witness) (places_seen certified.height_witness) width_fits height_fits
 
@@ -127,7 +127,7 @@ module _ {A B : Type 0} (grid : Grid) (v : A → B) (f : B → ℕ × ℕ) (colu
       let wide = problem_told grid v f cells rows same Columns columns in
       let high = problem_told grid v f cells rows same Rows columns in
       let first = first_told grid v f cells rows same columns in
-      λ i. unless_out (first i) (totalled sizing (wide i) (high i))
+      λ i. unless_out (first i) (totalled_sizes sizing (wide i) (high i))
 
 -- ---- results
 

@@ -7,16 +7,16 @@ use Rattle.papergrid_values.specs.declared.direction.Direction.{Direction}
 use Rattle.papergrid_values.specs.declared.direction.Direction.TheVariants.{Columns, Rows}
 use Rattle.papergrid_axis.specs.declared.error.LayoutError.{LayoutError}
 use Rattle.papergrid_axis.specs.declared.error.LayoutError.TheVariants.{OutOfTable, TooLarge, Memory}
-use Rattle.papergrid_maps.specs.MapHeld.{held_value}
+use Rattle.papergrid_maps.specs.StoredMap.{stored_value}
 use Rattle.papergrid_maps.specs.Spans as spans
 use Rattle.papergrid_maps.specs.Spans.{from_two, is_visible}
-use Rattle.papergrid_tables.proofs.MadeTables.{told_borders}
-use Rattle.papergrid_maps.proofs.MadeTables.{spans_made_told, told_spans}
-use Rattle.papergrid_maps.proofs.MapHeldLemmas.{held_decided}
-use Rattle.papergrid_config.specs.Decided as decided
+use Rattle.papergrid_tables.proofs.MadeTables.{border_history}
+use Rattle.papergrid_maps.proofs.MadeTables.{spans_made_history, span_history}
+use Rattle.papergrid_maps.proofs.StoredMapLemmas.{stored_effective}
+use Rattle.papergrid_config.specs.Effective as effective
 use Rattle.papergrid_config.specs.Made.{characters_of, spans_of}
 use Rattle.papergrid_config.specs.Parts.{character_calls, span_calls}
-use Rattle.papergrid_config.specs.Told.{IsTold}
+use Rattle.papergrid_config.specs.History.{HasSettingHistory}
 use Rattle.papergrid_config.specs.declared.setting.Setting.{Setting}
 use Rattle.papergrid_config.specs.declared.spanned.SpannedConfig.{SpannedConfig}
 use Rattle.papergrid_maps.specs.Grids.{Grid, size_after, size_before}
@@ -27,12 +27,12 @@ use Rattle.papergrid_layout.specs.Answers.{UnlessMemory, UnlessMemoryError}
 use Rattle.papergrid.specs.Grids.{grid_of}
 use Rattle.papergrid.specs.Layouts.{IsConfiguredBy}
 
-pub grid_told : (settings : List Setting) (config : SpannedConfig) → IsTold settings config → spanned_grid config ≡ grid_of settings
+pub grid_told : (settings : List Setting) (config : SpannedConfig) → HasSettingHistory settings config → spanned_grid config ≡ grid_of settings
 unfolding grid_of
 grid_told settings config told =
-    let spans_same = told_spans (flat_map span_calls settings) config.spans told.spans in
-    let lines_same = told_borders (flat_map character_calls settings) config.characters told.characters in
-    let padding_same : (p : Position) → held_value config.padding p ≡ decided.padding settings p = λ p. held_decided _ _ _ told.padding p in
+    let spans_same = span_history (flat_map span_calls settings) config.spans told.spans in
+    let lines_same = border_history (flat_map character_calls settings) config.characters told.characters in
+    let padding_same : (p : Position) → stored_value config.padding p ≡ effective.padding settings p = λ p. stored_effective _ _ _ told.padding p in
     same_grid_by spans_same padding_same lines_same
 
 -- ---- spans are 1 or more
@@ -45,8 +45,8 @@ one_at_least n = by_test (nat_le 2 n) refl
     by_test false e = rw e (omega arith)
 
 spans_cover : (settings : List Setting) (direction : Direction) (p : Position) → 1 ≤ span_along (spans_of settings) direction p
-spans_cover settings Columns p = rw (spans_made_told (flat_map span_calls settings) Columns p) (one_at_least (spans.decided_span Columns p (flat_map span_calls settings)))
-spans_cover settings Rows p = rw (spans_made_told (flat_map span_calls settings) Rows p) (one_at_least (spans.decided_span Rows p (flat_map span_calls settings)))
+spans_cover settings Columns p = rw (spans_made_history (flat_map span_calls settings) Columns p) (one_at_least (spans.effective_span Columns p (flat_map span_calls settings)))
+spans_cover settings Rows p = rw (spans_made_history (flat_map span_calls settings) Rows p) (one_at_least (spans.effective_span Rows p (flat_map span_calls settings)))
 
 pub grid_covers : (settings : List Setting) (direction : Direction) (p : Position) → 1 ≤ (grid_of settings).span direction p
 unfolding grid_of
@@ -70,7 +70,7 @@ answer_read {C = C} Tells holds grid other same (Err TooLarge) ok err = subst (�
 answer_read Tells holds grid other same (Err (Memory e)) ok err = tt
 
 -- what holds of a result by a configuration holds of it by the settings that this is told
-pub settings_read : {A C : Type 0} (Tells : List (List C) → Type 0) (holds : Grid → List (List C) → Result A LayoutError → Type 0) (settings : List Setting) (config : SpannedConfig) → IsTold settings config → (result : Result A LayoutError)
+pub settings_read : {A C : Type 0} (Tells : List (List C) → Type 0) (holds : Grid → List (List C) → Result A LayoutError → Type 0) (settings : List Setting) (config : SpannedConfig) → HasSettingHistory settings config → (result : Result A LayoutError)
     → IfOk result (λ x. (cells : List (List C)) × Tells cells × holds (spanned_grid config) cells (Ok x))
     → IfErr result (λ e. UnlessMemoryError e ((cells : List (List C)) × Tells cells × holds (spanned_grid config) cells (Err e)))
     → UnlessMemory result ((cells : List (List C)) × Tells cells × holds (grid_of settings) cells result)

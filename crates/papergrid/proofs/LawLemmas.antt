@@ -7,28 +7,28 @@ use Rattle.papergrid_values.specs.declared.position.Position.{Position}
 use Rattle.papergrid_axis.specs.declared.demand.Demand.{Demand}
 use Rattle.papergrid_values.specs.declared.direction.Direction.{Direction}
 use Rattle.papergrid_values.specs.declared.direction.Direction.TheVariants.{Columns, Rows}
-use Rattle.papergrid_axis.specs.Chosen.{chosen_of}
-use Rattle.papergrid_axis.specs.KeptApart.{is_kept_apart}
+use Rattle.papergrid_axis.specs.Certificates.{certificate_cells_of}
+use Rattle.papergrid_axis.specs.Laminar.{is_laminar}
 use Rattle.papergrid_axis.specs.Problem.{Problem, total_of}
 use Rattle.papergrid_axis.specs.Ranges.{IsInTable, first_out, place_of}
 use Rattle.papergrid_axis.specs.Sizes.{sizes_of}
-use Rattle.papergrid_axis.proofs.KeptApartLemmas.{Decides-is_kept_apart, SomeCross-from_test}
+use Rattle.papergrid_axis.proofs.LaminarLemmas.{Decides-is_laminar, SomeCross-from_test}
 use Rattle.papergrid_axis.proofs.OutLemmas as out_lemmas
-use Rattle.papergrid_axis.proofs.Theorems.{AreSizes-sizes_of, Fits-sizes_of, IsCertificate-chosen_of, NoneHolds-sizes_of}
+use Rattle.papergrid_axis.proofs.Theorems.{AreSizes-sizes_of, Fits-sizes_of, IsCertificate-certificate_cells_of, NoneHolds-sizes_of}
 use Rattle.papergrid_least.specs.Least.{least_of}
-use Rattle.papergrid_least.proofs.LeastLemmas.{AreLeastSizes-least_of, AreLongest-longest, IsLeast-least_of, NoneFits-least_of}
+use Rattle.papergrid_least.proofs.LeastLemmas.{AreLeastSizes-least_of, AreCriticalPath-critical_path, IsLeast-least_of, NoneFits-least_of}
 use Rattle.papergrid_values.specs.Lines.{all_lines}
 use Rattle.papergrid_walk.specs.Cells.{demand_by, visible_cells}
 use Rattle.papergrid_maps.specs.Grids.{Grid}
 use Rattle.papergrid_layout.specs.Answers.{first_out_of_table}
-use Rattle.papergrid_layout.specs.Witnesses.{witness_of}
-use Rattle.papergrid_layout.proofs.PairLemmas.{none_reaches_out}
+use Rattle.papergrid_layout.specs.Certificates.{certificate_by_shares}
+use Rattle.papergrid_layout.proofs.PairLemmas.{none_overflows}
 use Rattle.papergrid_layout.specs.declared.sizing.Sizing.{Sizing}
 use Rattle.papergrid_layout.specs.declared.sizing.Sizing.TheVariants.{ByShares, Least}
-use Rattle.papergrid.specs.Estimates.{Estimate, OutOfTable, TooLarge, Sized, unless_large, unless_out, text_measure, sizes_by, witness_by, estimate_by, estimate_of}
+use Rattle.papergrid.specs.Estimates.{Estimate, OutOfTable, TooLarge, Sized, unless_large, unless_out, text_measure, sizes_by, certificate_by, estimate_by, estimate_of}
 use Rattle.papergrid.specs.Grids.{grid_of}
 use Rattle.papergrid_script.specs.Scripts.{Table}
-use Rattle.papergrid.specs.Totals.{AreSized, AreSizesBy, HasNone, IsTooLarge, IsWitnessOf, problem_of_table}
+use Rattle.papergrid.specs.Totals.{AreSized, AreSizesBy, HasNone, IsTableTooLarge, IsCertificateBy, problem_of_table}
 use Rattle.papergrid.proofs.EstimateLemmas.{estimate_large, estimate_out}
 use Rattle.papergrid.proofs.GridLemmas.{grid_covers, grid_draws}
 
@@ -43,18 +43,18 @@ module _ (problem : Problem) (table : All (IsInTable problem.count) problem.dema
   has_none ByShares past = NoneHolds-sizes_of problem table (λ small. absurd (omega arith))
   has_none Least past = NoneFits-least_of problem table inside past
 
-  shares_witness : total_of problem (sizes_of problem) < 2 ^ 64 → IsWitnessOf ByShares problem (witness_of problem)
-  shares_witness small = by_test (is_kept_apart problem.demands) refl
+  shares_certificate : total_of problem (sizes_of problem) < 2 ^ 64 → IsCertificateBy ByShares problem (certificate_by_shares problem)
+  shares_certificate small = by_test (is_laminar problem.demands) refl
     where
-      by_test : (test : Bool) → is_kept_apart problem.demands ≡ test → IsWitnessOf ByShares problem (if test then Some (map place_of (chosen_of problem)) else None)
+      by_test : (test : Bool) → is_laminar problem.demands ≡ test → IsCertificateBy ByShares problem (if test then Some (map place_of (certificate_cells_of problem)) else None)
       by_test true t =
-          let apart = (Decides-is_kept_apart problem.demands).0 t in
-          record { none_out = inside; total = small; kept_apart = apart; exact = refl; certificate = IsCertificate-chosen_of problem table apart }
-      by_test false f = record { none_out = inside; total = small; not_kept_apart = SomeCross-from_test problem.demands f }
+          let apart = (Decides-is_laminar problem.demands).0 t in
+          record { none_out = inside; total = small; laminar = apart; exact = refl; certificate = IsCertificate-certificate_cells_of problem table apart }
+      by_test false f = record { none_out = inside; total = small; not_laminar = SomeCross-from_test problem.demands f }
 
-  is_witness : (sizing : Sizing) → total_of problem (sizes_by sizing problem) < 2 ^ 64 → IsWitnessOf sizing problem (witness_by sizing problem)
-  is_witness ByShares small = shares_witness small
-  is_witness Least small = AreLongest-longest problem table inside small
+  is_certificate : (sizing : Sizing) → total_of problem (sizes_by sizing problem) < 2 ^ 64 → IsCertificateBy sizing problem (certificate_by sizing problem)
+  is_certificate ByShares small = shares_certificate small
+  is_certificate Least small = AreCriticalPath-critical_path problem table inside small
 
   -- where the least sizes are too large, so are those by shares
   least_past : 2 ^ 64 ≤ total_of problem (least_of problem) → 2 ^ 64 ≤ total_of problem (sizes_of problem)
@@ -106,7 +106,7 @@ module _ (table : Table) where
     total direction = total_of (problem_of_table table direction) (sizes direction)
 
     abbrev witness : Direction → Option (List Position)
-    witness direction = witness_by sizing (problem_of_table table direction)
+    witness direction = certificate_by sizing (problem_of_table table direction)
 
     cases : (e : Estimate) → estimate_of sizing table ≡ e
         → ((place : Position) × (first ≡ Some place) × (e ≡ OutOfTable place))
@@ -117,7 +117,7 @@ module _ (table : Table) where
 
     are_sized : first ≡ None → total Columns < 2 ^ 64 → total Rows < 2 ^ 64 → AreSized sizing table (sizes Columns) (sizes Rows) (total Columns) (total Rows) (witness Columns) (witness Rows)
     are_sized none narrow low =
-        let inside = (none_reaches_out grid text_measure table.columns table.rows).0 none in
+        let inside = (none_overflows grid text_measure table.columns table.rows).0 none in
         record {
           sizes = record {
             widths = sizes_are (problem_of_table table Columns) (in_table Columns inside.0) inside.0 sizing narrow;
@@ -127,13 +127,13 @@ module _ (table : Table) where
           is_height = ap (λ draws. sum (sizes Rows) + all_lines (draws (length table.rows)) (length table.rows)) (grid_draws table.settings Rows);
           width_fits = narrow;
           height_fits = low;
-          certifies_widths = is_witness (problem_of_table table Columns) (in_table Columns inside.0) inside.0 sizing narrow;
-          certifies_heights = is_witness (problem_of_table table Rows) (in_table Rows inside.1) inside.1 sizing low;
+          certifies_widths = is_certificate (problem_of_table table Columns) (in_table Columns inside.0) inside.0 sizing narrow;
+          certifies_heights = is_certificate (problem_of_table table Rows) (in_table Rows inside.1) inside.1 sizing low;
         }
 
-    are_large : first ≡ None → (2 ^ 64 ≤ total Columns) ⊎ (2 ^ 64 ≤ total Rows) → IsTooLarge sizing table
+    are_large : first ≡ None → (2 ^ 64 ≤ total Columns) ⊎ (2 ^ 64 ≤ total Rows) → IsTableTooLarge sizing table
     are_large none past =
-        let inside = (none_reaches_out grid text_measure table.columns table.rows).0 none in
+        let inside = (none_overflows grid text_measure table.columns table.rows).0 none in
         record {
           inside = none;
           too_large = elim past [
@@ -157,7 +157,7 @@ module _ (table : Table) where
       | inr other ↦ elim other [ inl large ↦ (large.0, large.2) | inr sized ↦ cc sized.1 ]
     ]
 
-    pub too_large : estimate_of sizing table ≡ TooLarge → IsTooLarge sizing table
+    pub too_large : estimate_of sizing table ≡ TooLarge → IsTableTooLarge sizing table
     too_large is = let named = named_large is in are_large named.0 named.1
 
     pub all_sized : (ws hs : List ℕ) (m n : ℕ) (a b : Option (List Position)) → estimate_of sizing table ≡ Sized ws hs m n a b → AreSized sizing table ws hs m n a b
@@ -181,7 +181,7 @@ module _ (table : Table) where
   pub least_too_large : estimate_of Least table ≡ TooLarge → estimate_of ByShares table ≡ TooLarge
   least_too_large is =
       let named = named_large Least is in
-      let inside = (none_reaches_out grid text_measure table.columns table.rows).0 named.0 in
+      let inside = (none_overflows grid text_measure table.columns table.rows).0 named.0 in
       estimate_large grid text_measure table.columns table.rows ByShares named.0 (elim named.1 [
         | inl wide ↦ inl (least_past (problem_of_table table Columns) (in_table Columns inside.0) inside.0 wide)
         | inr high ↦ inr (least_past (problem_of_table table Rows) (in_table Rows inside.1) inside.1 high)

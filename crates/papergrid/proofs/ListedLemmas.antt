@@ -18,13 +18,13 @@ use Rattle.papergrid_values.specs.declared.direction.Direction.TheVariants.{Colu
 use Rattle.papergrid_tables.specs.BorderCalls.{BorderCall}
 use Rattle.papergrid_keys.specs.Keys.{position_cmp}
 use Rattle.papergrid_tables.specs.LineTests.{ends_at_column, ends_at_row, vertical_line_at, horizontal_line_at}
-use Rattle.papergrid_keys.specs.Tabulated.{tabulated, with_value}
-use Rattle.papergrid_tables.specs.Made.{borders_made, named_columns, named_places, named_rows}
-use Rattle.papergrid_tables.specs.Places.{at_ends, places_from}
+use Rattle.papergrid_keys.specs.Tabulated.{tabulation, with_value}
+use Rattle.papergrid_tables.specs.Made.{borders_made, named_columns, named_positions, named_rows}
+use Rattle.papergrid_tables.specs.BorderParts.{at_ends, parts_from}
 use Rattle.papergrid_maps.specs.Made.{named_anchors, spans_made}
-use Rattle.papergrid_maps.specs.Spans.{SpanCall, Spans, decided_span, from_two, is_hidden_by, is_visible, span_along}
+use Rattle.papergrid_maps.specs.Spans.{SpanCall, Spans, effective_span, from_two, is_hidden_by, is_visible, span_along}
 use Rattle.papergrid_keys.proofs.KeyLemmas.{position_total}
-use Rattle.papergrid_config.specs.Decided as decided
+use Rattle.papergrid_config.specs.Effective as effective
 use Rattle.papergrid_config.specs.Parts.{character_calls, span_calls}
 use Rattle.papergrid_config.specs.declared.setting.Setting.{Setting}
 use Rattle.papergrid_maps.specs.Grids.{Grid, size_after, size_before}
@@ -55,10 +55,10 @@ module _ {K X : Type 0} (R : K → K → Ordering) where
   entries-with_value total m key None = refl
   entries-with_value total m key (Some v) = entries-insert total m key v
 
-  entries-tabulated : IsTotalOrder R → (value : K → Option X) (keys : List K) → entries (tabulated {R = R} value keys) ≡ listed value keys
+  entries-tabulated : IsTotalOrder R → (value : K → Option X) (keys : List K) → entries (tabulation {R = R} value keys) ≡ listed value keys
   entries-tabulated total value [] = no_entries _ (sym (len-entries (empty {R = R})) ∙ len-empty R X)
   entries-tabulated total value (key ∷ keys) =
-      entries-with_value total (tabulated value keys) key (value key)
+      entries-with_value total (tabulation value keys) key (value key)
       ∙ ap (λ es. with_entry es key (value key)) (entries-tabulated total value keys)
 
 -- ---- lines, by lists
@@ -98,46 +98,46 @@ module _ {T : Type 0} (calls : List (BorderCall T)) where
   older = reverse calls
 
   abbrev rows_listed : List (ℕ × HorizontalLine T)
-  rows_listed = listed nat_cmp (places_from older).horizontal_line (flat_map named_rows older)
+  rows_listed = listed nat_cmp (parts_from older).horizontal_line (flat_map named_rows older)
 
   abbrev columns_listed : List (ℕ × VerticalLine T)
-  columns_listed = listed nat_cmp (places_from older).vertical_line (flat_map named_columns older)
+  columns_listed = listed nat_cmp (parts_from older).vertical_line (flat_map named_columns older)
 
   abbrev horizontal_edges_listed : List (Position × T)
-  horizontal_edges_listed = listed position_cmp (places_from older).horizontal_edge (flat_map named_places older)
+  horizontal_edges_listed = listed position_cmp (parts_from older).horizontal_edge (flat_map named_positions older)
 
   abbrev vertical_edges_listed : List (Position × T)
-  vertical_edges_listed = listed position_cmp (places_from older).vertical_edge (flat_map named_places older)
+  vertical_edges_listed = listed position_cmp (parts_from older).vertical_edge (flat_map named_positions older)
 
   abbrev corners_listed : List (Position × T)
-  corners_listed = listed position_cmp (places_from older).corner (flat_map named_places older)
+  corners_listed = listed position_cmp (parts_from older).corner (flat_map named_positions older)
 
   abbrev pub vertical_listed : ℕ → ℕ → Bool
-  vertical_listed = vertical_by (places_from older).global (places_from older).frame rows_listed columns_listed vertical_edges_listed corners_listed
+  vertical_listed = vertical_by (parts_from older).global (parts_from older).frame rows_listed columns_listed vertical_edges_listed corners_listed
 
   abbrev pub horizontal_listed : ℕ → ℕ → Bool
-  horizontal_listed = horizontal_by (places_from older).global (places_from older).frame columns_listed rows_listed horizontal_edges_listed corners_listed
+  horizontal_listed = horizontal_by (parts_from older).global (parts_from older).frame columns_listed rows_listed horizontal_edges_listed corners_listed
 
   rows_are : entries (borders_made calls).horizontal_lines ≡ rows_listed
-  rows_are = entries-tabulated nat_cmp nat_cmp_total (places_from older).horizontal_line (flat_map named_rows older)
+  rows_are = entries-tabulated nat_cmp nat_cmp_total (parts_from older).horizontal_line (flat_map named_rows older)
 
   columns_are : entries (borders_made calls).vertical_lines ≡ columns_listed
-  columns_are = entries-tabulated nat_cmp nat_cmp_total (places_from older).vertical_line (flat_map named_columns older)
+  columns_are = entries-tabulated nat_cmp nat_cmp_total (parts_from older).vertical_line (flat_map named_columns older)
 
   corners_are : entries (borders_made calls).corners ≡ corners_listed
-  corners_are = entries-tabulated position_cmp position_total (places_from older).corner (flat_map named_places older)
+  corners_are = entries-tabulated position_cmp position_total (parts_from older).corner (flat_map named_positions older)
 
   made_vertical : (c count : ℕ) → vertical_line_at (borders_made calls) c count ≡ vertical_listed c count
   made_vertical c count =
       let made = borders_made calls in
       line-entries made.global (at_ends c count (has_left made.frame) (has_right made.frame) (has_vertical made.frame)) (ends_at_column c count) made.horizontal_lines made.vertical_lines (λ p. p.col) made.vertical_edges made.corners c
-      ∙ (λ i. vertical_by (places_from older).global (places_from older).frame (rows_are i) (columns_are i) (entries-tabulated position_cmp position_total (places_from older).vertical_edge (flat_map named_places older) i) (corners_are i) c count)
+      ∙ (λ i. vertical_by (parts_from older).global (parts_from older).frame (rows_are i) (columns_are i) (entries-tabulated position_cmp position_total (parts_from older).vertical_edge (flat_map named_positions older) i) (corners_are i) c count)
 
   made_horizontal : (r count : ℕ) → horizontal_line_at (borders_made calls) r count ≡ horizontal_listed r count
   made_horizontal r count =
       let made = borders_made calls in
       line-entries made.global (at_ends r count (has_top made.frame) (has_bottom made.frame) (has_horizontal made.frame)) (ends_at_row r count) made.vertical_lines made.horizontal_lines (λ p. p.row) made.horizontal_edges made.corners r
-      ∙ (λ i. horizontal_by (places_from older).global (places_from older).frame (columns_are i) (rows_are i) (entries-tabulated position_cmp position_total (places_from older).horizontal_edge (flat_map named_places older) i) (corners_are i) r count)
+      ∙ (λ i. horizontal_by (parts_from older).global (parts_from older).frame (columns_are i) (rows_are i) (entries-tabulated position_cmp position_total (parts_from older).horizontal_edge (flat_map named_positions older) i) (corners_are i) r count)
 
 -- ---- spans, by lists
 
@@ -165,16 +165,16 @@ module _ (calls : List SpanCall) where
   anchors = flat_map named_anchors (reverse calls)
 
   abbrev pub column_spans_listed : List (Position × ℕ)
-  column_spans_listed = listed position_cmp (λ p. from_two (decided_span Columns p calls)) anchors
+  column_spans_listed = listed position_cmp (λ p. from_two (effective_span Columns p calls)) anchors
 
   abbrev pub row_spans_listed : List (Position × ℕ)
-  row_spans_listed = listed position_cmp (λ p. from_two (decided_span Rows p calls)) anchors
+  row_spans_listed = listed position_cmp (λ p. from_two (effective_span Rows p calls)) anchors
 
   column_spans_are : entries (spans_made calls).columns ≡ column_spans_listed
-  column_spans_are = entries-tabulated position_cmp position_total (λ p. from_two (decided_span Columns p calls)) anchors
+  column_spans_are = entries-tabulated position_cmp position_total (λ p. from_two (effective_span Columns p calls)) anchors
 
   row_spans_are : entries (spans_made calls).rows ≡ row_spans_listed
-  row_spans_are = entries-tabulated position_cmp position_total (λ p. from_two (decided_span Rows p calls)) anchors
+  row_spans_are = entries-tabulated position_cmp position_total (λ p. from_two (effective_span Rows p calls)) anchors
 
   made_shows : (p : Position) → is_visible (spans_made calls) p ≡ shows_by column_spans_listed row_spans_listed p
   made_shows p = shows-entries (spans_made calls) p ∙ (λ i. shows_by (column_spans_are i) (row_spans_are i) p)
@@ -204,7 +204,7 @@ grid_by padding columns rows lines = record {
 abbrev pub listed_grid : List Setting → Grid
 listed_grid settings =
     let calls = flat_map span_calls settings in
-    grid_by (decided.padding settings) (column_spans_listed calls) (row_spans_listed calls) (flat_map character_calls settings)
+    grid_by (effective.padding settings) (column_spans_listed calls) (row_spans_listed calls) (flat_map character_calls settings)
 
 grid_listed : (settings : List Setting) → grid_of settings ≡ listed_grid settings
 unfolding grid_of
@@ -214,8 +214,8 @@ grid_listed settings =
     λ i. record {
       shows = λ p. made_shows calls p i;
       span = λ direction p. made_spans calls direction p i;
-      before = λ direction p. size_before direction (decided.padding settings p);
-      after = λ direction p. size_after direction (decided.padding settings p);
+      before = λ direction p. size_before direction (effective.padding settings p);
+      after = λ direction p. size_after direction (effective.padding settings p);
       draws = λ direction count place. made_lines lines direction count place i;
     }
 

@@ -4,7 +4,7 @@ use Rattle.std.specs.Prelude.{Result}
 use Rattle.std.specs.Borrow.{Bor}
 use Rattle.papergrid_text.proofs.RowSteps.{told_by}
 use Rattle.papergrid_axis.specs.declared.error.LayoutError.{LayoutError}
-use Rattle.papergrid_config.specs.Told.{IsTold}
+use Rattle.papergrid_config.specs.History.{HasSettingHistory}
 use Rattle.papergrid_config.specs.declared.spanned.SpannedConfig.{SpannedConfig}
 use Rattle.papergrid_config.specs.Grids.{spanned_grid}
 use Rattle.papergrid_walk.specs.Measures.{line_measure}
@@ -21,7 +21,7 @@ use Rattle.papergrid.proofs.GridLemmas.{grid_told}
 
 -- what is estimated of the cells that the records tell, by the configuration, is estimated of the script's table
 seen : {A : Type 0} (view : A → Bor (List ℕ)) (script : Script) (config : SpannedConfig) (cells : List (List A)) (rows : List (Bor (List (Bor (List ℕ))))) (columns : ℕ) (sizing : Sizing) (e : Estimate)
-    → IsTold (map setting_told script.settings.items) config → map (map view) cells ≡ map (λ row. row.now) rows → rows ≡ script.rows.items → columns ≡ script.columns
+    → HasSettingHistory (map setting_told script.settings.items) config → map (map view) cells ≡ map (λ row. row.now) rows → rows ≡ script.rows.items → columns ≡ script.columns
     → e ≡ estimate_by sizing (spanned_grid config) (line_measure (λ cell. (view cell).now)) columns cells → e ≡ estimate_of sizing (table_seen script)
 seen view script config cells rows columns sizing e told tells same_rows same_columns is =
     let texts = told_by view (λ text. text.now) (λ row. row.now) cells script.rows.items (tells ∙ ap (map (λ row. row.now)) same_rows) in
@@ -31,7 +31,7 @@ seen view script config cells rows columns sizing e told tells same_rows same_co
 
 -- so whatever is estimated of records whose cells are the script's is estimated of its table
 pub gives_seen : {A : Type 0} (view : A → Bor (List ℕ)) (script : Script) (config : SpannedConfig) (rows : List (Bor (List (Bor (List ℕ))))) (columns : ℕ) (sizing : Sizing) (result : Result Sizes LayoutError)
-    → IsTold (map setting_told script.settings.items) config → rows ≡ script.rows.items → columns ≡ script.columns
+    → HasSettingHistory (map setting_told script.settings.items) config → rows ≡ script.rows.items → columns ≡ script.columns
     → GivesEstimate result (λ e. (cells : List (List A)) × (map (map view) cells ≡ map (λ row. row.now) rows) × (e ≡ estimate_by sizing (spanned_grid config) (line_measure (λ cell. (view cell).now)) columns cells))
     → GivesEstimate result (λ e. e ≡ estimate_of sizing (table_seen script))
 gives_seen view script config rows columns sizing result told same_rows same_columns gave =

@@ -9,12 +9,12 @@ use Rattle.papergrid_axis.specs.Problem.{Problem, total_of}
 use Rattle.papergrid_axis.specs.Ranges.{place_of}
 use Rattle.papergrid_axis.specs.Sizes.{sizes_of}
 use Rattle.papergrid_least.specs.Least.{least_of}
-use Rattle.papergrid_least.specs.Longest.{longest}
+use Rattle.papergrid_least.specs.CriticalPath.{critical_path}
 use Rattle.papergrid_walk.specs.Cells.{problem_of}
 use Rattle.papergrid_maps.specs.Grids.{Grid}
 use Rattle.papergrid_walk.specs.Measures.{line_measure}
 use Rattle.papergrid_layout.specs.Answers.{first_out_of_table}
-use Rattle.papergrid_layout.specs.Witnesses.{witness_of}
+use Rattle.papergrid_layout.specs.Certificates.{certificate_by_shares}
 use Rattle.papergrid_layout.specs.declared.sizing.Sizing.{Sizing}
 use Rattle.papergrid_layout.specs.declared.sizing.Sizing.TheVariants.{ByShares, Least}
 use Rattle.papergrid.specs.Grids.{grid_of}
@@ -44,22 +44,22 @@ sizes_by ByShares problem = sizes_of problem
 sizes_by Least problem = least_of problem
 
 -- the places of the cells that certify them
-abbrev pub witness_by : Sizing → Problem → Option (List Position)
-witness_by ByShares problem = witness_of problem
-witness_by Least problem = Some (map place_of (longest problem))
+abbrev pub certificate_by : Sizing → Problem → Option (List Position)
+certificate_by ByShares problem = certificate_by_shares problem
+certificate_by Least problem = Some (map place_of (critical_path problem))
 
 -- the sizes along both directions, with totals and witnesses
-abbrev pub totalled : Sizing → Problem → Problem → Estimate
-totalled sizing across down =
+abbrev pub totalled_sizes : Sizing → Problem → Problem → Estimate
+totalled_sizes sizing across down =
     unless_large (sizes_by sizing across) (sizes_by sizing down)
     (total_of across (sizes_by sizing across)) (total_of down (sizes_by sizing down))
-    (witness_by sizing across) (witness_by sizing down)
+    (certificate_by sizing across) (certificate_by sizing down)
 
 -- of rows of cells that are measured so, by what is read of settings
 unfoldable pub estimate_by : {C : Type 0} → Sizing → Grid → (C → ℕ × ℕ) → ℕ → List (List C) → Estimate
 estimate_by sizing grid measure columns rows =
     unless_out (first_out_of_table grid measure columns rows)
-    (totalled sizing (problem_of grid measure columns rows Columns) (problem_of grid measure columns rows Rows))
+    (totalled_sizes sizing (problem_of grid measure columns rows Columns) (problem_of grid measure columns rows Rows))
 
 -- a cell of a script is its text
 abbrev pub text_measure : List ℕ → ℕ × ℕ

@@ -11,21 +11,21 @@ use Rattle.papergrid.specs.Estimates.{Estimate, OutOfTable, TooLarge, Sized, est
 use Rattle.papergrid_script.specs.Texts.{newline}
 
 -- a space and a number for each
-abbrev pub spaced : List ℕ → List ℕ
-spaced numbers = flat_map (λ n. space ∷ decimal n) numbers
+abbrev pub spaced_numbers : List ℕ → List ℕ
+spaced_numbers numbers = flat_map (λ n. space ∷ decimal n) numbers
 
 -- a line of a word and numbers
 abbrev pub number_line : List ℕ → List ℕ → List ℕ
-number_line word numbers = word ++ spaced numbers ++ newline ∷ []
+number_line word numbers = word ++ spaced_numbers numbers ++ newline ∷ []
 
 -- a space, a row, a comma and a column for each
 abbrev pub spaced_places : List Position → List ℕ
 spaced_places places = flat_map (λ place. space ∷ (decimal place.row ++ (comma ∷ decimal place.col))) places
 
 -- the cells that certify, by their places, or that there are none such
-abbrev pub witness_line : List ℕ → Option (List Position) → List ℕ
-witness_line word None = word ++ codes " none" ++ newline ∷ []
-witness_line word (Some places) = word ++ spaced_places places ++ newline ∷ []
+abbrev pub certificate_line : List ℕ → Option (List Position) → List ℕ
+certificate_line word None = word ++ codes " none" ++ newline ∷ []
+certificate_line word (Some places) = word ++ spaced_places places ++ newline ∷ []
 
 -- the lines that are written of an estimate
 abbrev pub estimate_text : Estimate → List ℕ
@@ -34,7 +34,7 @@ estimate_text TooLarge = codes "refused: too large" ++ newline ∷ []
 estimate_text (Sized widths heights total_width total_height width_witness height_witness) =
     number_line (codes "widths") widths ++ number_line (codes "heights") heights
     ++ number_line (codes "total") (total_width ∷ total_height ∷ [])
-    ++ witness_line (codes "witness widths") width_witness ++ witness_line (codes "witness heights") height_witness
+    ++ certificate_line (codes "witness widths") width_witness ++ certificate_line (codes "witness heights") height_witness
 
 -- the lines that are written of a script: its first bad line, or the estimate of its table
 abbrev pub script_text : Sizing → Result Table ℕ → List ℕ
@@ -65,13 +65,13 @@ abbrev pub output_of : List ℕ → List ℕ
 output_of input = output_by ByShares input
 
 -- how a run by shares ends
-abbrev pub end_of : List ℕ → RunEnd
-end_of input = end_by ByShares input
+abbrev pub run_end_of : List ℕ → RunEnd
+run_end_of input = end_by ByShares input
 
 -- of the least sizes
 abbrev pub least_output_of : List ℕ → List ℕ
 least_output_of input = output_by Least input
 
 -- how a run for the least sizes ends
-abbrev pub least_end_of : List ℕ → RunEnd
-least_end_of input = end_by Least input
+abbrev pub least_run_end_of : List ℕ → RunEnd
+least_run_end_of input = end_by Least input

@@ -1,9 +1,9 @@
 -- What the answers for a table are, apart from how they are found.
 use Rattle.std.specs.Prelude.{◌≡◌, ◌⊎◌, ℕ, ◌+◌, ◌^◌, ◌<◌, List, Option, Some, None, length, sum}
 use Rattle.papergrid_values.specs.declared.position.Position.{Position}
-use Rattle.papergrid_axis.specs.Answers.{AreChosen, AreSizes, NoneChosen, NoneHolds}
+use Rattle.papergrid_axis.specs.Answers.{AreCertifying, AreSizes, NoneCertify, NoneHolds}
 use Rattle.papergrid_axis.specs.Problem.{Problem}
-use Rattle.papergrid_least.specs.Answers.{AreLeastSizes, AreLongest, NoneFits}
+use Rattle.papergrid_least.specs.Answers.{AreLeastSizes, AreCriticalPath, NoneFits}
 use Rattle.papergrid_values.specs.declared.direction.Direction.{Direction}
 use Rattle.papergrid_values.specs.declared.direction.Direction.TheVariants.{Columns, Rows}
 use Rattle.papergrid_values.specs.Lines.{all_lines}
@@ -32,7 +32,7 @@ HasNone ByShares = NoneHolds
 HasNone Least = NoneFits
 
 -- no visible cell reaches out, and the sizes along one direction with its lines do not fit 64 bits
-pub record IsTooLarge (sizing : Sizing) (table : Table) : Type 0 where
+pub record IsTableTooLarge (sizing : Sizing) (table : Table) : Type 0 where
   pub inside : first_out_of_table (grid_of table.settings) text_measure table.columns table.rows ≡ None
   pub too_large : HasNone sizing (problem_of_table table Columns) ⊎ HasNone sizing (problem_of_table table Rows)
 
@@ -43,11 +43,11 @@ AreSizesBy Least = AreLeastSizes
 
 -- the places of the cells that certify that the sizes are least. By shares there are none where two longer ranges are neither
 -- nested nor disjoint, and only there; least sizes always have them
-abbrev pub IsWitnessOf : Sizing → Problem → Option (List Position) → Type 0
-IsWitnessOf ByShares problem None = NoneChosen problem
-IsWitnessOf ByShares problem (Some places) = AreChosen problem places
-IsWitnessOf Least problem None = ⊥
-IsWitnessOf Least problem (Some places) = AreLongest problem places
+abbrev pub IsCertificateBy : Sizing → Problem → Option (List Position) → Type 0
+IsCertificateBy ByShares problem None = NoneCertify problem
+IsCertificateBy ByShares problem (Some places) = AreCertifying problem places
+IsCertificateBy Least problem None = ⊥
+IsCertificateBy Least problem (Some places) = AreCriticalPath problem places
 
 -- exactly the sizes, with what holds of them, their totals with the lines, which fit 64 bits, and what certifies them
 pub record AreSized (sizing : Sizing) (table : Table) (widths heights : List ℕ) (total_width total_height : ℕ) (width_witness height_witness : Option (List Position)) : Type 0 where
@@ -56,5 +56,5 @@ pub record AreSized (sizing : Sizing) (table : Table) (widths heights : List ℕ
   pub is_height : total_height ≡ sum heights + lines_along Rows table.settings (length table.rows)
   pub width_fits : total_width < 2 ^ 64
   pub height_fits : total_height < 2 ^ 64
-  pub certifies_widths : IsWitnessOf sizing (problem_of_table table Columns) width_witness
-  pub certifies_heights : IsWitnessOf sizing (problem_of_table table Rows) height_witness
+  pub certifies_widths : IsCertificateBy sizing (problem_of_table table Columns) width_witness
+  pub certifies_heights : IsCertificateBy sizing (problem_of_table table Rows) height_witness

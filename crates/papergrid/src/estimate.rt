@@ -10,7 +10,7 @@ ghost use Rattle.papergrid.specs.ForProofs.Seen.{GivesEstimate, IsCertifiedBy, t
 
 use papergrid_config::SpannedConfig;
 use papergrid_layout::certificates::{Certified, certified_least, certified_sizes};
-use papergrid_layout::{Found, Sizing};
+use papergrid_layout::{LayoutResult, Sizing};
 use papergrid_text::{IntoRecords, Records};
 use std::alloc::Global;
 use std::convert::AsStr;
@@ -31,7 +31,7 @@ pub struct Sizes {
 ///
 /// `OutOfTable` with the first visible cell that reaches out, else `TooLarge` where a total is more than the
 /// greatest `usize`; `Memory` in place of any answer.
-pub fn estimate<R>(alloc: Global, sizing: Sizing, records: R, cfg: &SpannedConfig) -> Found<Sizes>
+pub fn estimate<R>(alloc: Global, sizing: Sizing, records: R, cfg: &SpannedConfig) -> LayoutResult<Sizes>
 where
     R: Records + Drop,
     <<R as Records>::Iter as IntoRecords>::Cell: AsStr + Drop,
@@ -46,7 +46,7 @@ where
 }
 
 /// The sizes that are chosen so, with the cells that certify them.
-fn certify<R>(alloc: Global, sizing: Sizing, records: R, cfg: &SpannedConfig) -> Found<Certified>
+fn certify<R>(alloc: Global, sizing: Sizing, records: R, cfg: &SpannedConfig) -> LayoutResult<Certified>
 where
     R: Records + Drop,
     <<R as Records>::Iter as IntoRecords>::Cell: AsStr + Drop,

@@ -2,7 +2,7 @@
 
 ghost use Rattle.std.specs.Prelude.{◌≡◌, ◌↔◌, ℕ, List, Option, Some, true};
 ghost use Rattle.papergrid_values.specs.declared.position.Position.{Position};
-ghost use Rattle.papergrid_config.specs.Told.{IsTold};
+ghost use Rattle.papergrid_config.specs.History.{HasSettingHistory};
 ghost use Rattle.papergrid_config.specs.declared.spanned.SpannedConfig.{SpannedConfig};
 ghost use Rattle.papergrid_config.specs.declared.setting.Setting.{Setting};
 ghost use Rattle.papergrid_config.specs.Grids.{spanned_grid};
@@ -17,9 +17,9 @@ ghost use Rattle.papergrid.specs.Estimates.{OutOfTable, Sized, TooLarge, estimat
 ghost use Rattle.papergrid.specs.Grids.{grid_of};
 ghost use Rattle.papergrid.specs.Outputs.{end_by, output_by};
 ghost use Rattle.papergrid.specs.Reasons.{IsOfTable, reason_by, reason_text};
-ghost use Rattle.papergrid.specs.Rows.{WorkedRows};
+ghost use Rattle.papergrid.specs.Rows.{WorkedScripts};
 ghost use Rattle.papergrid_script.specs.Scripts.{Table};
-ghost use Rattle.papergrid.specs.Totals.{AreSized, IsTooLarge};
+ghost use Rattle.papergrid.specs.Totals.{AreSized, IsTableTooLarge};
 
 use crate::explained::Reason;
 use crate::running::{RunEnd, RunFault};
@@ -32,13 +32,13 @@ pub use papergrid_script::laws::{
 
 /// What the worked scripts give, by the definitions alone.
 pub fn worked_rows()
-    ensures { WorkedRows }
+    ensures { WorkedScripts }
 {}
 
 /// What an estimate reads of a configuration that settings tell, which is which positions are visible and the spans,
 /// the paddings and the lines, is what the settings decide.
 pub fn grid_by_settings()
-    ensures { (settings : List Setting) (config : SpannedConfig) → IsTold settings config →
+    ensures { (settings : List Setting) (config : SpannedConfig) → HasSettingHistory settings config →
         spanned_grid config ≡ grid_of settings }
 {}
 
@@ -55,7 +55,7 @@ pub fn estimate_by_grid()
         ↔ (first_out_of_table (grid_of table.settings) text_measure table.columns table.rows
         ≡ Some place) }
     ensures too_large { (sizing : Sizing) (table : Table) → estimate_of sizing table ≡ TooLarge →
-        IsTooLarge sizing table }
+        IsTableTooLarge sizing table }
     ensures sized { (sizing : Sizing) (table : Table) (widths heights : List ℕ)
         (total_width total_height : ℕ) (width_witness height_witness : Option (List Position)) →
         estimate_of sizing table ≡ Sized widths heights total_width total_height width_witness

@@ -2,7 +2,7 @@
 
 ghost use Rattle.std.specs.Prelude.{◌≡◌, ◌∷◌, ◌++◌, [], IfOk, OnOk, codes, decimal};
 ghost use Rattle.papergrid.specs.Estimates.{OutOfTable, TooLarge};
-ghost use Rattle.papergrid.specs.Outputs.{estimate_text, number_line, spaced_places, witness_line};
+ghost use Rattle.papergrid.specs.Outputs.{estimate_text, number_line, spaced_places, certificate_line};
 ghost use Rattle.papergrid.specs.ForProofs.Seen.{places_seen, sizes_seen};
 
 use crate::estimate::Sizes;
@@ -20,8 +20,8 @@ pub fn sizes_text(alloc: Global, sizes: &Sizes) -> Result<Vec<u8>, AllocError>
     push_line(&mut text, b"heights", certified.heights.as_slice())?;
     let totals = [sizes.total_width, sizes.total_height];
     push_line(&mut text, b"total", totals.as_slice())?;
-    push_witness(&mut text, b"witness widths", &certified.width_witness)?;
-    push_witness(&mut text, b"witness heights", &certified.height_witness)?;
+    push_certificate(&mut text, b"witness widths", &certified.width_witness)?;
+    push_certificate(&mut text, b"witness heights", &certified.height_witness)?;
     Ok(text)
 }
 
@@ -41,12 +41,12 @@ fn push_line(text: &mut Vec<u8>, word: &[u8], numbers: &[usize]) -> Result<(), A
 }
 
 /// Adds a line: the word, and the cells that certify sizes, or that there are none such.
-fn push_witness(
+fn push_certificate(
     text: &mut Vec<u8>,
     word: &[u8],
     witness: &Option<Vec<Position>>,
 ) -> Result<(), AllocError>
-    ensures { OnOk result (text.new.items ≡ text.old.items ++ witness_line word.now
+    ensures { OnOk result (text.new.items ≡ text.old.items ++ certificate_line word.now
         (places_seen witness.now)) }
 {
     text.extend_from_slice(word)?;

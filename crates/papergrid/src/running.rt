@@ -3,7 +3,7 @@
 ghost use Rattle.std.specs.Prelude.{◌≡◌, ◌⊎◌, ℕ, take, true, false, IfOk, IfSome, OnOk, OnErr, IsErrOf};
 ghost use Rattle.std.specs.Io.KnownBytes.{Appends, Consumes, IsAtEnd};
 ghost use Rattle.papergrid.specs.Estimates.{estimate_of};
-ghost use Rattle.papergrid.specs.Outputs.{end_by, end_of, estimate_end, estimate_text, least_end_of, least_output_of, output_by, output_of};
+ghost use Rattle.papergrid.specs.Outputs.{end_by, run_end_of, estimate_end, estimate_text, least_run_end_of, least_output_of, output_by, output_of};
 ghost use Rattle.papergrid.specs.Runs.{IsBrokenLeastRun, IsBrokenRun, IsWholeInput, IsWholeLeastRun, IsWholeRun};
 ghost use Rattle.papergrid_script.specs.ForProofs.Seen.{table_seen};
 ghost use Rattle.papergrid.specs.ForProofs.Seen.{GivesEstimate};
@@ -170,7 +170,7 @@ pub fn run<S: Source, W: Sink>(
     ensures written { OnOk result (IfSome (S.remaining reader.old) (λ input.
         Appends (W.contents writer.old) (W.contents writer.new) (output_of input))) }
     ensures answer { IfOk result (λ end. IfSome (S.remaining reader.old) (λ input.
-        end ≡ end_of input)) }
+        end ≡ run_end_of input)) }
     // So of some input where the reader does not tell its bytes.
     ensures some_input { IfOk result
         (IsWholeRun (S.remaining reader.old) (S.remaining reader.new) (W.contents writer.old)
@@ -216,7 +216,7 @@ pub fn run_least<S: Source, W: Sink>(
     ensures written { OnOk result (IfSome (S.remaining reader.old) (λ input.
         Appends (W.contents writer.old) (W.contents writer.new) (least_output_of input))) }
     ensures answer { IfOk result (λ end. IfSome (S.remaining reader.old) (λ input.
-        end ≡ least_end_of input)) }
+        end ≡ least_run_end_of input)) }
     // So of some input where the reader does not tell its bytes.
     ensures some_input { IfOk result
         (IsWholeLeastRun (S.remaining reader.old) (S.remaining reader.new) (W.contents writer.old)

@@ -9,7 +9,7 @@ ghost use Rattle.papergrid_layout.specs.Answers.{UnlessMemory};
 ghost use Rattle.papergrid.specs.Layouts.{IsConfiguredBy, IsLaidOut, IsLaidOutLeast};
 ghost use Rattle.papergrid.specs.Grids.{grid_of};
 
-use papergrid_config::laws::told_decides;
+use papergrid_config::laws::history_decides;
 use papergrid_config::{Setting, SpannedConfig};
 use papergrid_layout::{Estimate, IterGridDimension, LayoutError, LeastGridDimension};
 use papergrid_text::{IntoRecords, Records};
@@ -105,7 +105,7 @@ pub fn configuration(alloc: Global, settings: Vec<Setting>) -> Result<SpannedCon
     requires { All (λ setting. is_in_range setting ≡ true) settings.items }
     ensures { IfOk result (IsConfiguredBy settings.items) }
 {
-    told_decides();
+    history_decides();
     let mut config = SpannedConfig::new(alloc);
     match config.apply_all(settings) {
         Ok(()) => Ok(config),

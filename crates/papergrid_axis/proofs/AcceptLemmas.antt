@@ -8,7 +8,7 @@ use Rattle.std.proofs.lemmas.Bool.{cases_Bool, and_parts, and_from}
 use Rattle.std.proofs.lemmas.List.{get_or_default, length-map}
 use Rattle.std.proofs.lemmas.List.Sums.{sum_by-cons}
 use Rattle.std.proofs.lemmas.List.Elements.{All-contains, recursion_from_All, All-from_recursion, All-weaker}
-use Rattle.papergrid_axis.specs.Problem.{given}
+use Rattle.papergrid_axis.specs.Problem.{problem_of_demands}
 use Rattle.papergrid_values.specs.declared.position.Position.{Position}
 use Rattle.papergrid_axis.specs.declared.checked.Checked.{Checked}
 use Rattle.papergrid_axis.specs.declared.demand.Demand.{Demand}
@@ -180,7 +180,7 @@ sum_by-ones (c ∷ cells) =
 
 module _ (direction : Direction) (span_of : Position → ℕ) where
   abbrev IsRanged : Demand → Type 0
-  IsRanged d = d ≡ demand_of direction (place_of d) (span_of (place_of d)) d.need
+  IsRanged d = d ≡ demand_of direction (place_of d) (span_of (place_of d)) d.minimum
 
   disjoint-from_cells : (a b : Demand) → IsRanged a → IsRanged b → AreDisjoint a b → AreDisjointAt direction span_of (place_of a) (place_of b)
   disjoint-from_cells a b ra rb = subst₂ AreDisjoint ra rb
@@ -214,15 +214,15 @@ module _ (line : ℕ → Bool) (sizes : List ℕ) (places : List Position) (dire
   listed-at : (f : Demand → ℕ) (cells : List Demand) → map place_of cells ≡ places → AllByRecursion (Contains ds) cells → all_listed f places ds ≡ sum_by f cells
   listed-at f cells at all = ap (λ ps. all_listed f ps ds) (sym at) ∙ all_listed-cells f ds distinct cells all
 
-  pub accepted-from : SumsAgree checked sizes places → AllPairs (AreDisjointAt direction span_of) places → IsAccepted (given line (length sizes) ds) sizes places
+  pub accepted-from : SumsAgree checked sizes places → AllPairs (AreDisjointAt direction span_of) places → IsAccepted (problem_of_demands line (length sizes) ds) sizes places
   accepted-from agree disjoint =
       let all = h.holds agree.holds in
       let table : All (IsInTable (length sizes)) ds = λ k e l. record { covers_one = h.spans k e l; ends_within = all.table k e l } in
       let listed : (cells : List Demand) × (map place_of cells ≡ places) × AllByRecursion (Contains ds) cells = listed_cells places ds distinct (sym all.found ∙ agree.found) in
       let visible : All (Contains ds) listed.0 = All-from_recursion (Contains ds) listed.0 listed.2 in
-      let needs : checked.needs ≡ sum_by (λ d. d.need) listed.0 = all.needs ∙ listed-at (λ d. d.need) listed.0 listed.1 listed.2 in
+      let minimums : checked.minimums ≡ sum_by (λ d. d.minimum) listed.0 = all.minimums ∙ listed-at (λ d. d.minimum) listed.0 listed.1 listed.2 in
       let inner : checked.inner ≡ sum_by (inner_lines line) listed.0 = all.inner ∙ listed-at (inner_lines line) listed.0 listed.1 listed.2 in
-      let adds : checked.needs ≡ sum sizes + checked.inner = agree.adds_up in
+      let adds : checked.minimums ≡ sum sizes + checked.inner = agree.adds_up in
       record {
         none_out = first_out-none (length sizes) ds (recursion_from_All (IsInTable (length sizes)) ds table);
         fits = record { one_each = refl; room = all.room };
@@ -235,7 +235,7 @@ module _ (line : ℕ → Bool) (sizes : List ℕ) (places : List Position) (dire
         };
       }
 
-  pub sums-from_accepted : IsAccepted (given line (length sizes) ds) sizes places → SumsAgree checked sizes places
+  pub sums-from_accepted : IsAccepted (problem_of_demands line (length sizes) ds) sizes places → SumsAgree checked sizes places
   sums-from_accepted a =
       let table = none_out (length sizes) ds a.none_out h.spans in
       let so : checked.holds ≡ true = elim (cases_Bool checked.holds) [
@@ -244,9 +244,9 @@ module _ (line : ℕ → Bool) (sizes : List ℕ) (places : List Position) (dire
       ] in
       let all = h.holds so in
       let cells : AllByRecursion (Contains ds) a.cells = recursion_from_All (Contains ds) a.cells a.certificate.visible in
-      let needs : checked.needs ≡ sum_by (λ d. d.need) a.cells = all.needs ∙ listed-at (λ d. d.need) a.cells a.at_places cells in
+      let minimums : checked.minimums ≡ sum_by (λ d. d.minimum) a.cells = all.minimums ∙ listed-at (λ d. d.minimum) a.cells a.at_places cells in
       let inner : checked.inner ≡ sum_by (inner_lines line) a.cells = all.inner ∙ listed-at (inner_lines line) a.cells a.at_places cells in
-      let adds : sum_by (λ d. d.need) a.cells ≡ sum sizes + sum_by (inner_lines line) a.cells = a.certificate.adds_up in
+      let adds : sum_by (λ d. d.minimum) a.cells ≡ sum sizes + sum_by (inner_lines line) a.cells = a.certificate.adds_up in
       let count : checked.found ≡ length a.cells = all.found ∙ listed-at (λ _. 1) a.cells a.at_places cells ∙ sum_by-ones a.cells in
       record {
         holds = so;
@@ -254,13 +254,13 @@ module _ (line : ℕ → Bool) (sizes : List ℕ) (places : List Position) (dire
         adds_up = omega arith;
       }
 
-  pub disjoint-from_accepted : IsAccepted (given line (length sizes) ds) sizes places → AllPairs (AreDisjointAt direction span_of) places
+  pub disjoint-from_accepted : IsAccepted (problem_of_demands line (length sizes) ds) sizes places → AllPairs (AreDisjointAt direction span_of) places
   disjoint-from_accepted a =
       subst (AllPairs (AreDisjointAt direction span_of)) a.at_places
       (pairs-from_cells direction span_of a.cells (ranged_cells a.cells a.certificate.visible) a.certificate.disjoint)
 
 -- accepted sizes are least
-pub IsLeast-accepted : (line : ℕ → Bool) (n : ℕ) (ds : List Demand) (sizes : List ℕ) (places : List Position) → All (λ d. 1 ≤ d.span) ds → IsAccepted (given line n ds) sizes places → IsLeast (given line n ds) sizes
+pub IsLeast-accepted : (line : ℕ → Bool) (n : ℕ) (ds : List Demand) (sizes : List ℕ) (places : List Position) → All (λ d. 1 ≤ d.span) ds → IsAccepted (problem_of_demands line n ds) sizes places → IsLeast (problem_of_demands line n ds) sizes
 IsLeast-accepted line n ds sizes places spans a =
     IsLeast-from_certificate line n ds a.cells sizes (none_out n ds a.none_out spans) a.fits a.certificate
 
@@ -280,7 +280,7 @@ ones_below (c ∷ cells) spans =
     omega arith
 
 -- ranges of a table that have no number in common are no more than its numbers
-pub few_places : (line : ℕ → Bool) (n : ℕ) (ds : List Demand) (sizes : List ℕ) (places : List Position) → All (λ d. 1 ≤ d.span) ds → IsAccepted (given line n ds) sizes places → length places ≤ n
+pub few_places : (line : ℕ → Bool) (n : ℕ) (ds : List Demand) (sizes : List ℕ) (places : List Position) → All (λ d. 1 ≤ d.span) ds → IsAccepted (problem_of_demands line n ds) sizes places → length places ≤ n
 few_places line n ds sizes places spans a =
     let table : All (IsInTable n) ds = none_out n ds a.none_out spans in
     let cells : All (IsInTable n) a.cells = All-weaker (Contains ds) (IsInTable n) (λ d m. All-contains (IsInTable n) ds d table m) a.cells a.certificate.visible in

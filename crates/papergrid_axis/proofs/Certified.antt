@@ -6,18 +6,18 @@ use Rattle.std.proofs.lemmas.Bool.{cases_Bool, and_parts, or_parts, or_left, or_
 use Rattle.std.proofs.lemmas.List.Sums.{sum_by-cons}
 use Rattle.std.proofs.lemmas.List.Elements.{recursion_from_All, All-from_recursion, All-contains_itself}
 use Rattle.std.specs.Option.{option_or}
-use Rattle.papergrid_axis.specs.Problem.{given}
+use Rattle.papergrid_axis.specs.Problem.{problem_of_demands}
 use Rattle.papergrid_axis.specs.declared.demand.Demand.{Demand}
 use Rattle.papergrid_axis.specs.Ranges.{end_of, holds, AreDisjoint, inner_lines, IsInTable}
 use Rattle.papergrid_axis.specs.Fits.{range_sum, IsCertificate, IsLeast}
 use Rattle.papergrid_axis.specs.Sizes.{base_size, base_sizes}
-use Rattle.papergrid_axis.specs.Chosen.{growing, outermost, single_at, chosen}
+use Rattle.papergrid_axis.specs.Certificates.{growing_demands, outermost, single_at, certificate_cells}
 use Rattle.papergrid_axis.proofs.Upto.{upto, upto-ext, upto-add, upto-zero, sum-upto, within, range_sum-within, holds_cases}
 use Rattle.papergrid_axis.proofs.RangeLemmas.{ArePairwiseDisjoint, AllPairs-from_pairwise, covered, outside, partition}
 use Rattle.papergrid_axis.proofs.Duality.{IsLeast-from_certificate}
 use Rattle.papergrid_axis.proofs.Greatest.{holds_alone, get_or-base_sizes, length-base_sizes}
-use Rattle.papergrid_axis.proofs.FitBound.{TakesAll, sizes_after, table_of_taken, Fits-sizes_after, length-taken, ByRecursion-weaker}
-use Rattle.papergrid_axis.proofs.GrowLemmas.{IsLaminar, IsTight, growing-all, outermost-all, size-not_covered, ArePairwiseDisjoint-outermost, tight-outermost, covered-outermost}
+use Rattle.papergrid_axis.proofs.FitBound.{TakesAll, sizes_after, table_of_by_span, Fits-sizes_after, length-by_span, ByRecursion-weaker}
+use Rattle.papergrid_axis.proofs.GrowLemmas.{IsLaminarInOrder, IsTight, growing-all, outermost-all, size-not_covered, ArePairwiseDisjoint-outermost, tight-outermost, covered-outermost}
 use Rattle.papergrid_axis.proofs.Counting.{weight, sum_by-filter_map, filter_map-all, ArePairwiseDisjoint-filter_map, find-all, sum-by_start, find-greatest}
 
 pub AreDisjoint-sym : (a b : Demand) → AreDisjoint a b → AreDisjoint b a
@@ -79,7 +79,7 @@ record IsSingle (demands growing_cells : List Demand) (sizes : List ℕ) (i : �
   free : covered growing_cells i ≡ false
   one : d.span ≡ 1
   at : d.start ≡ i
-  size : d.need ≡ get_or sizes i 0
+  size : d.minimum ≡ get_or sizes i 0
   cell : Contains demands d
 
 single_is : (demands growing_cells : List Demand) (sizes : List ℕ) (i : ℕ) (d : Demand) → single_at demands growing_cells sizes i ≡ Some d → IsSingle demands growing_cells sizes i d
@@ -88,13 +88,13 @@ single_is demands growing_cells sizes i d e = elim (cases_Bool (covered growing_
   | inr f ↦ elim (cases_Bool (eqb (get_or sizes i 0) 0)) [
     | inl z ↦ absurd (none_some {d = d} (rw (f, z) at e))
     | inr nz ↦
-        let e' : find (λ c. c.span == 1 && c.start == i && c.need == get_or sizes i 0) demands ≡ Some d = rw (f, nz) at e in
-        let found : ((d.span == 1 && d.start == i && d.need == get_or sizes i 0) ≡ true) × Contains demands d =
-        find-all (Contains demands) (λ c. c.span == 1 && c.start == i && c.need == get_or sizes i 0) demands d
+        let e' : find (λ c. c.span == 1 && c.start == i && c.minimum == get_or sizes i 0) demands ≡ Some d = rw (f, nz) at e in
+        let found : ((d.span == 1 && d.start == i && d.minimum == get_or sizes i 0) ≡ true) × Contains demands d =
+        find-all (Contains demands) (λ c. c.span == 1 && c.start == i && c.minimum == get_or sizes i 0) demands d
         (recursion_from_All (Contains demands) demands (All-contains_itself demands)) e' in
-        let parts : ((d.span == 1 && d.start == i) ≡ true) × (eqb d.need (get_or sizes i 0) ≡ true) = and_parts (d.span == 1 && d.start == i) (eqb d.need (get_or sizes i 0)) found.0 in
+        let parts : ((d.span == 1 && d.start == i) ≡ true) × (eqb d.minimum (get_or sizes i 0) ≡ true) = and_parts (d.span == 1 && d.start == i) (eqb d.minimum (get_or sizes i 0)) found.0 in
         let alone : (d.span ≡ 1) × (d.start ≡ i) = holds_alone d i parts.0 in
-        record { free = f; one = alone.0; at = alone.1; size = eqb-true d.need (get_or sizes i 0) parts.1; cell = found.1 }
+        record { free = f; one = alone.0; at = alone.1; size = eqb-true d.minimum (get_or sizes i 0) parts.1; cell = found.1 }
   ]
 ]
 
@@ -102,16 +102,16 @@ single-none : (demands growing_cells : List Demand) (sizes : List ℕ) (i : ℕ)
 single-none demands growing_cells sizes i t = rw t refl
 
 sum-tight : (line : ℕ → Bool) (sizes : List ℕ) (ds : List Demand) → AllByRecursion (IsTight line sizes) ds →
-    sum_by (λ d. d.need) ds ≡ sum_by (within (λ i. get_or sizes i 0)) ds + sum_by (inner_lines line) ds
+    sum_by (λ d. d.minimum) ds ≡ sum_by (within (λ i. get_or sizes i 0)) ds + sum_by (inner_lines line) ds
 sum-tight line sizes [] all = omega arith
 sum-tight line sizes (d ∷ ds) all =
-    let ih : sum_by (λ d. d.need) ds ≡ sum_by (within (λ i. get_or sizes i 0)) ds + sum_by (inner_lines line) ds = sum-tight line sizes ds all.1 in
-    let a : sum_by (λ d. d.need) (d ∷ ds) ≡ d.need + sum_by (λ d. d.need) ds = sum_by-cons (λ d. d.need) d ds in
+    let ih : sum_by (λ d. d.minimum) ds ≡ sum_by (within (λ i. get_or sizes i 0)) ds + sum_by (inner_lines line) ds = sum-tight line sizes ds all.1 in
+    let a : sum_by (λ d. d.minimum) (d ∷ ds) ≡ d.minimum + sum_by (λ d. d.minimum) ds = sum_by-cons (λ d. d.minimum) d ds in
     let b : sum_by (within (λ i. get_or sizes i 0)) (d ∷ ds) ≡ within (λ i. get_or sizes i 0) d + sum_by (within (λ i. get_or sizes i 0)) ds =
     sum_by-cons (within (λ i. get_or sizes i 0)) d ds in
     let c : sum_by (inner_lines line) (d ∷ ds) ≡ inner_lines line d + sum_by (inner_lines line) ds = sum_by-cons (inner_lines line) d ds in
     let r : range_sum sizes d ≡ within (λ i. get_or sizes i 0) d = range_sum-within sizes d in
-    let t : d.need ≡ range_sum sizes d + inner_lines line d = all.0 in
+    let t : d.minimum ≡ range_sum sizes d + inner_lines line d = all.0 in
     omega arith
 
 -- the facts on the growing cells that the rest stands on
@@ -160,12 +160,12 @@ module _ (line : ℕ → Bool) (n : ℕ) (demands growing_cells : List Demand) (
         ]
       ]
 
-  chosen-disjoint : ArePairwiseDisjoint (chosen n demands growing_cells sizes)
-  chosen-disjoint =
+  certificate_cells-disjoint : ArePairwiseDisjoint (certificate_cells n demands growing_cells sizes)
+  certificate_cells-disjoint =
       ArePairwiseDisjoint-filter_map (λ i. option_or (find (λ d. d.start == i) (outermost growing_cells)) (single_at demands growing_cells sizes i)) 0 n pair_apart
 
-  chosen-cells : AllByRecursion (Contains demands) (chosen n demands growing_cells sizes)
-  chosen-cells =
+  certificate_cells-cells : AllByRecursion (Contains demands) (certificate_cells n demands growing_cells sizes)
+  certificate_cells-cells =
       filter_map-all (Contains demands) (λ i. option_or (find (λ d. d.start == i) (outermost growing_cells)) (single_at demands growing_cells sizes i)) (range_with_len 0 n)
       (λ i d e. elim (option_or_cases (find (λ d. d.start == i) (outermost growing_cells)) (single_at demands growing_cells sizes i) d e) [
         | inl x ↦ (find-all (Contains demands) (λ d. d.start == i) (outermost growing_cells) d g.cells x).1
@@ -173,9 +173,9 @@ module _ (line : ℕ → Bool) (n : ℕ) (demands growing_cells : List Demand) (
       ])
 
   -- a sum over the chosen cells is one over the outermost growing cells and one over the single cells
-  sum-chosen : (w : Demand → ℕ) → sum_by w (chosen n demands growing_cells sizes) ≡ sum_by w (outermost growing_cells) + upto (λ i. weight w (single_at demands growing_cells sizes i)) n
-  sum-chosen w =
-      let a : sum_by w (chosen n demands growing_cells sizes) ≡ upto (λ i. weight w (option_or (find (λ d. d.start == i) (outermost growing_cells)) (single_at demands growing_cells sizes i))) n =
+  sum-certificate_cells : (w : Demand → ℕ) → sum_by w (certificate_cells n demands growing_cells sizes) ≡ sum_by w (outermost growing_cells) + upto (λ i. weight w (single_at demands growing_cells sizes i)) n
+  sum-certificate_cells w =
+      let a : sum_by w (certificate_cells n demands growing_cells sizes) ≡ upto (λ i. weight w (option_or (find (λ d. d.start == i) (outermost growing_cells)) (single_at demands growing_cells sizes i))) n =
       sum_by-filter_map w (λ i. option_or (find (λ d. d.start == i) (outermost growing_cells)) (single_at demands growing_cells sizes i)) n in
       let b : upto (λ i. weight w (option_or (find (λ d. d.start == i) (outermost growing_cells)) (single_at demands growing_cells sizes i))) n
       ≡ upto (λ i. weight w (find (λ d. d.start == i) (outermost growing_cells)) + weight w (single_at demands growing_cells sizes i)) n =
@@ -193,8 +193,8 @@ module _ (line : ℕ → Bool) (n : ℕ) (demands growing_cells : List Demand) (
       omega arith
 
   -- a single cell needs what lies outside of the growing cells there
-  single-need : (i : ℕ) → i < n → weight (λ d. d.need) (single_at demands growing_cells sizes i) ≡ outside (outermost growing_cells) (λ i. get_or sizes i 0) i
-  single-need i l = elim (cases_Bool (covered growing_cells i)) [
+  single-minimum : (i : ℕ) → i < n → weight (λ d. d.minimum) (single_at demands growing_cells sizes i) ≡ outside (outermost growing_cells) (λ i. get_or sizes i 0) i
+  single-minimum i l = elim (cases_Bool (covered growing_cells i)) [
     | inl t ↦
         let t' : covered (outermost growing_cells) i ≡ true = covered-outermost growing_cells i ∙ t in
         rw (t, t') refl
@@ -205,10 +205,10 @@ module _ (line : ℕ → Bool) (n : ℕ) (demands growing_cells : List Demand) (
           | inr nz ↦
               let ne : get_or sizes i 0 ≢ 0 = eqb-false (get_or sizes i 0) 0 nz in
               let b : base_size demands i ≡ get_or sizes i 0 = sym (g.base i l f) in
-              let found : (d : Demand) × (find (λ e. (e.span == 1 && e.start == i) && e.need == get_or sizes i 0) demands ≡ Some d) =
+              let found : (d : Demand) × (find (λ e. (e.span == 1 && e.start == i) && e.minimum == get_or sizes i 0) demands ≡ Some d) =
               find-greatest (λ e. e.span == 1 && e.start == i) demands (get_or sizes i 0) (omega arith) b in
               let e : single_at demands growing_cells sizes i ≡ Some found.0 = rw (f, nz) found.1 in
-              ap (weight (λ d. d.need)) e ∙ (single_is demands growing_cells sizes i found.0 e).size
+              ap (weight (λ d. d.minimum)) e ∙ (single_is demands growing_cells sizes i found.0 e).size
         ])
   ]
 
@@ -222,66 +222,66 @@ module _ (line : ℕ → Bool) (n : ℕ) (demands growing_cells : List Demand) (
           let z : d.span - 1 ≡ 0 = omega arith in
           ap (λ k. count_by line (range_with_len (d.start + 1) k)) z
 
-  chosen-adds_up : sum_by (λ d. d.need) (chosen n demands growing_cells sizes) ≡ sum sizes + sum_by (inner_lines line) (chosen n demands growing_cells sizes)
-  chosen-adds_up =
-      let a : sum_by (λ d. d.need) (chosen n demands growing_cells sizes) ≡ sum_by (λ d. d.need) (outermost growing_cells) + upto (λ i. weight (λ d. d.need) (single_at demands growing_cells sizes i)) n = sum-chosen (λ d. d.need) in
-      let b : sum_by (inner_lines line) (chosen n demands growing_cells sizes) ≡ sum_by (inner_lines line) (outermost growing_cells) + upto (λ i. weight (inner_lines line) (single_at demands growing_cells sizes i)) n = sum-chosen (inner_lines line) in
+  certificate_cells-adds_up : sum_by (λ d. d.minimum) (certificate_cells n demands growing_cells sizes) ≡ sum sizes + sum_by (inner_lines line) (certificate_cells n demands growing_cells sizes)
+  certificate_cells-adds_up =
+      let a : sum_by (λ d. d.minimum) (certificate_cells n demands growing_cells sizes) ≡ sum_by (λ d. d.minimum) (outermost growing_cells) + upto (λ i. weight (λ d. d.minimum) (single_at demands growing_cells sizes i)) n = sum-certificate_cells (λ d. d.minimum) in
+      let b : sum_by (inner_lines line) (certificate_cells n demands growing_cells sizes) ≡ sum_by (inner_lines line) (outermost growing_cells) + upto (λ i. weight (inner_lines line) (single_at demands growing_cells sizes i)) n = sum-certificate_cells (inner_lines line) in
       let z : upto (λ i. weight (inner_lines line) (single_at demands growing_cells sizes i)) n ≡ 0 = upto-zero (λ i. weight (inner_lines line) (single_at demands growing_cells sizes i)) n (λ i l. single-inner i) in
-      let o : upto (λ i. weight (λ d. d.need) (single_at demands growing_cells sizes i)) n ≡ upto (outside (outermost growing_cells) (λ i. get_or sizes i 0)) n =
-      upto-ext (λ i. weight (λ d. d.need) (single_at demands growing_cells sizes i)) (outside (outermost growing_cells) (λ i. get_or sizes i 0)) n single-need in
+      let o : upto (λ i. weight (λ d. d.minimum) (single_at demands growing_cells sizes i)) n ≡ upto (outside (outermost growing_cells) (λ i. get_or sizes i 0)) n =
+      upto-ext (λ i. weight (λ d. d.minimum) (single_at demands growing_cells sizes i)) (outside (outermost growing_cells) (λ i. get_or sizes i 0)) n single-minimum in
       let inside : AllByRecursion (λ d. end_of d ≤ n) (outermost growing_cells) = ByRecursion-weaker (IsInTable n) (λ d. end_of d ≤ n) (λ d t. t.ends_within) (outermost growing_cells) g.table in
       let p : upto (λ i. get_or sizes i 0) n ≡ sum_by (within (λ i. get_or sizes i 0)) (outermost growing_cells) + upto (outside (outermost growing_cells) (λ i. get_or sizes i 0)) n =
       partition (λ i. get_or sizes i 0) n (outermost growing_cells) inside g.disjoint in
-      let t : sum_by (λ d. d.need) (outermost growing_cells) ≡ sum_by (within (λ i. get_or sizes i 0)) (outermost growing_cells) + sum_by (inner_lines line) (outermost growing_cells) =
+      let t : sum_by (λ d. d.minimum) (outermost growing_cells) ≡ sum_by (within (λ i. get_or sizes i 0)) (outermost growing_cells) + sum_by (inner_lines line) (outermost growing_cells) =
       sum-tight line sizes (outermost growing_cells) g.tight in
       let s : sum sizes ≡ upto (λ i. get_or sizes i 0) (length sizes) = sum-upto sizes in
       let s' : upto (λ i. get_or sizes i 0) (length sizes) ≡ upto (λ i. get_or sizes i 0) n = ap (upto (λ i. get_or sizes i 0)) g.many in
       omega arith
 
-  pub certificate_of_growing_cells : IsCertificate (given line n demands) sizes (chosen n demands growing_cells sizes)
+  pub certificate_of_growing_cells : IsCertificate (problem_of_demands line n demands) sizes (certificate_cells n demands growing_cells sizes)
   certificate_of_growing_cells = record {
-    visible = All-from_recursion (Contains demands) (chosen n demands growing_cells sizes) chosen-cells;
-    disjoint = AllPairs-from_pairwise (chosen n demands growing_cells sizes) chosen-disjoint;
-    adds_up = chosen-adds_up;
+    visible = All-from_recursion (Contains demands) (certificate_cells n demands growing_cells sizes) certificate_cells-cells;
+    disjoint = AllPairs-from_pairwise (certificate_cells n demands growing_cells sizes) certificate_cells-disjoint;
+    adds_up = certificate_cells-adds_up;
   }
 
 -- where no growing cell's range holds i, its size is the base size
-pub base-not_covered : (line : ℕ → Bool) (n : ℕ) (demands taken : List Demand) → All (IsInTable n) demands → TakesAll demands taken → (i : ℕ) → i < n →
-    covered (growing line (base_sizes n demands) taken) i ≡ false → get_or (sizes_after line n demands taken) i 0 ≡ base_size demands i
-base-not_covered line n demands taken table takes i l f =
+pub base-not_covered : (line : ℕ → Bool) (n : ℕ) (demands by_span : List Demand) → All (IsInTable n) demands → TakesAll demands by_span → (i : ℕ) → i < n →
+    covered (growing_demands line (base_sizes n demands) by_span) i ≡ false → get_or (sizes_after line n demands by_span) i 0 ≡ base_size demands i
+base-not_covered line n demands by_span table takes i l f =
     let many : length (base_sizes n demands) ≡ n = length-base_sizes n demands in
-    let table' : AllByRecursion (IsInTable (length (base_sizes n demands))) taken =
-    recursion_from_All (IsInTable (length (base_sizes n demands))) taken (table_of_taken line n demands taken table takes) in
-    let ones : AllByRecursion (λ d. 1 ≤ d.span) taken =
-    ByRecursion-weaker (IsInTable (length (base_sizes n demands))) (λ d. 1 ≤ d.span) (λ d t. t.covers_one) taken table' in
-    size-not_covered line (base_sizes n demands) taken i ones (omega arith) f ∙ get_or-base_sizes n demands i l
+    let table' : AllByRecursion (IsInTable (length (base_sizes n demands))) by_span =
+    recursion_from_All (IsInTable (length (base_sizes n demands))) by_span (table_of_by_span line n demands by_span table takes) in
+    let ones : AllByRecursion (λ d. 1 ≤ d.span) by_span =
+    ByRecursion-weaker (IsInTable (length (base_sizes n demands))) (λ d. 1 ≤ d.span) (λ d t. t.covers_one) by_span table' in
+    size-not_covered line (base_sizes n demands) by_span i ones (omega arith) f ∙ get_or-base_sizes n demands i l
 
-growing_cells_are : (line : ℕ → Bool) (n : ℕ) (demands taken : List Demand) → All (IsInTable n) demands → TakesAll demands taken → IsLaminar taken →
-    GrowingCellsAre line n demands (growing line (base_sizes n demands) taken) (sizes_after line n demands taken)
-growing_cells_are line n demands taken table takes laminar =
+growing_cells_are : (line : ℕ → Bool) (n : ℕ) (demands by_span : List Demand) → All (IsInTable n) demands → TakesAll demands by_span → IsLaminarInOrder by_span →
+    GrowingCellsAre line n demands (growing_demands line (base_sizes n demands) by_span) (sizes_after line n demands by_span)
+growing_cells_are line n demands by_span table takes laminar =
     let many : length (base_sizes n demands) ≡ n = length-base_sizes n demands in
-    let cells : AllByRecursion (Contains demands) taken = recursion_from_All (Contains demands) taken takes.cells in
-    let table' : AllByRecursion (IsInTable (length (base_sizes n demands))) taken =
-    recursion_from_All (IsInTable (length (base_sizes n demands))) taken (table_of_taken line n demands taken table takes) in
-    let table'' : AllByRecursion (IsInTable n) taken = rw many at table' in
+    let cells : AllByRecursion (Contains demands) by_span = recursion_from_All (Contains demands) by_span takes.cells in
+    let table' : AllByRecursion (IsInTable (length (base_sizes n demands))) by_span =
+    recursion_from_All (IsInTable (length (base_sizes n demands))) by_span (table_of_by_span line n demands by_span table takes) in
+    let table'' : AllByRecursion (IsInTable n) by_span = rw many at table' in
     record {
-      many = length-taken line (base_sizes n demands) taken ∙ many;
-      cells = outermost-all (Contains demands) (growing line (base_sizes n demands) taken) (growing-all (Contains demands) line (base_sizes n demands) taken cells);
-      table = outermost-all (IsInTable n) (growing line (base_sizes n demands) taken) (growing-all (IsInTable n) line (base_sizes n demands) taken table'');
-      disjoint = ArePairwiseDisjoint-outermost line (base_sizes n demands) taken laminar;
-      tight = tight-outermost line (base_sizes n demands) taken table' laminar;
-      base = base-not_covered line n demands taken table takes;
+      many = length-by_span line (base_sizes n demands) by_span ∙ many;
+      cells = outermost-all (Contains demands) (growing_demands line (base_sizes n demands) by_span) (growing-all (Contains demands) line (base_sizes n demands) by_span cells);
+      table = outermost-all (IsInTable n) (growing_demands line (base_sizes n demands) by_span) (growing-all (IsInTable n) line (base_sizes n demands) by_span table'');
+      disjoint = ArePairwiseDisjoint-outermost line (base_sizes n demands) by_span laminar;
+      tight = tight-outermost line (base_sizes n demands) by_span table' laminar;
+      base = base-not_covered line n demands by_span table takes;
     }
 
 -- the chosen cells are a certificate
-pub certificate_of : (line : ℕ → Bool) (n : ℕ) (demands taken : List Demand) → All (IsInTable n) demands → TakesAll demands taken → IsLaminar taken →
-    IsCertificate (given line n demands) (sizes_after line n demands taken) (chosen n demands (growing line (base_sizes n demands) taken) (sizes_after line n demands taken))
-certificate_of line n demands taken table takes laminar =
-    certificate_of_growing_cells line n demands (growing line (base_sizes n demands) taken) (sizes_after line n demands taken) (growing_cells_are line n demands taken table takes laminar)
+pub certificate_of : (line : ℕ → Bool) (n : ℕ) (demands by_span : List Demand) → All (IsInTable n) demands → TakesAll demands by_span → IsLaminarInOrder by_span →
+    IsCertificate (problem_of_demands line n demands) (sizes_after line n demands by_span) (certificate_cells n demands (growing_demands line (base_sizes n demands) by_span) (sizes_after line n demands by_span))
+certificate_of line n demands by_span table takes laminar =
+    certificate_of_growing_cells line n demands (growing_demands line (base_sizes n demands) by_span) (sizes_after line n demands by_span) (growing_cells_are line n demands by_span table takes laminar)
 
 -- so the sizes are least
-pub IsLeast-sizes_after : (line : ℕ → Bool) (n : ℕ) (demands taken : List Demand) → All (IsInTable n) demands → TakesAll demands taken → IsLaminar taken →
-    IsLeast (given line n demands) (sizes_after line n demands taken)
-IsLeast-sizes_after line n demands taken table takes laminar =
-    IsLeast-from_certificate line n demands (chosen n demands (growing line (base_sizes n demands) taken) (sizes_after line n demands taken)) (sizes_after line n demands taken) table
-    (Fits-sizes_after line n demands taken table takes) (certificate_of line n demands taken table takes laminar)
+pub IsLeast-sizes_after : (line : ℕ → Bool) (n : ℕ) (demands by_span : List Demand) → All (IsInTable n) demands → TakesAll demands by_span → IsLaminarInOrder by_span →
+    IsLeast (problem_of_demands line n demands) (sizes_after line n demands by_span)
+IsLeast-sizes_after line n demands by_span table takes laminar =
+    IsLeast-from_certificate line n demands (certificate_cells n demands (growing_demands line (base_sizes n demands) by_span) (sizes_after line n demands by_span)) (sizes_after line n demands by_span) table
+    (Fits-sizes_after line n demands by_span table takes) (certificate_of line n demands by_span table takes laminar)

@@ -57,7 +57,7 @@ All-front P ds d all = let r = go ds (recursion_from_All P (ds ++ d ∷ []) all)
 
 module _ (line : ℕ → Bool) (sizes : List ℕ) (places : List Position) (direction : Direction) (span_of : Position → ℕ) (old : Checked) (ds : List Demand) (d : Demand)
     (h : Checks line sizes places direction span_of old ds)
-    (ranged : d ≡ demand_of direction (place_of d) (span_of (place_of d)) d.need) (one : 1 ≤ d.span) where
+    (ranged : d ≡ demand_of direction (place_of d) (span_of (place_of d)) d.minimum) (one : 1 ≤ d.span) where
   CanHold-front : CanHold line sizes places (ds ++ d ∷ []) → CanHold line sizes places ds
   CanHold-front can =
       let e : all_listed (λ _. 1) places (ds ++ d ∷ []) ≡ all_listed (λ _. 1) places ds + 1 * times_listed places d = all_listed_push (λ _. 1) places ds d in
@@ -69,47 +69,47 @@ module _ (line : ℕ → Bool) (sizes : List ℕ) (places : List Position) (dire
       }
 
   -- the cell has room, and does not make more listed cells than there are places
-  pub Checks-more : old.holds ≡ true → end_of d ≤ length sizes → HasRoom line sizes d → old.found + times_listed places d ≤ length places → d.need ≤ 73786976294838206464 → inner_lines line d ≤ 18446744073709551616 →
+  pub Checks-more : old.holds ≡ true → end_of d ≤ length sizes → HasRoom line sizes d → old.found + times_listed places d ≤ length places → d.minimum ≤ 73786976294838206464 → inner_lines line d ≤ 18446744073709551616 →
       Checks line sizes places direction span_of
-      (record { holds = true; found = old.found + times_listed places d; needs = old.needs + d.need * times_listed places d; inner = old.inner + inner_lines line d * times_listed places d }) (ds ++ d ∷ [])
-  Checks-more so ends has few need_small inner_small =
+      (record { holds = true; found = old.found + times_listed places d; minimums = old.minimums + d.minimum * times_listed places d; inner = old.inner + inner_lines line d * times_listed places d }) (ds ++ d ∷ [])
+  Checks-more so ends has few minimum_small inner_small =
       let all = h.holds so in
       let e : all_listed (λ _. 1) places (ds ++ d ∷ []) ≡ all_listed (λ _. 1) places ds + 1 * times_listed places d = all_listed_push (λ _. 1) places ds d in
       let found : old.found ≡ all_listed (λ _. 1) places ds = all.found in
-      let needs : old.needs ≡ all_listed (λ c. c.need) places ds = all.needs in
+      let minimums : old.minimums ≡ all_listed (λ c. c.minimum) places ds = all.minimums in
       let inner : old.inner ≡ all_listed (inner_lines line) places ds = all.inner in
-      let n : all_listed (λ c. c.need) places (ds ++ d ∷ []) ≡ all_listed (λ c. c.need) places ds + d.need * times_listed places d = all_listed_push (λ c. c.need) places ds d in
+      let n : all_listed (λ c. c.minimum) places (ds ++ d ∷ []) ≡ all_listed (λ c. c.minimum) places ds + d.minimum * times_listed places d = all_listed_push (λ c. c.minimum) places ds d in
       let i : all_listed (inner_lines line) places (ds ++ d ∷ []) ≡ all_listed (inner_lines line) places ds + inner_lines line d * times_listed places d = all_listed_push (inner_lines line) places ds d in
-      let nb : old.needs ≤ 73786976294838206464 * old.found = h.bounded.needs in
+      let nb : old.minimums ≤ 73786976294838206464 * old.found = h.bounded.minimums in
       let ib : old.inner ≤ 18446744073709551616 * old.found = h.bounded.inner in
-      let nm : d.need * times_listed places d ≤ 73786976294838206464 * times_listed places d = mul-le-mul_right (times_listed places d) need_small in
+      let nm : d.minimum * times_listed places d ≤ 73786976294838206464 * times_listed places d = mul-le-mul_right (times_listed places d) minimum_small in
       let im : inner_lines line d * times_listed places d ≤ 18446744073709551616 * times_listed places d = mul-le-mul_right (times_listed places d) inner_small in
       record {
-        ranged = All_push (λ c. c ≡ demand_of direction (place_of c) (span_of (place_of c)) c.need) ds d h.ranged ranged;
+        ranged = All_push (λ c. c ≡ demand_of direction (place_of c) (span_of (place_of c)) c.minimum) ds d h.ranged ranged;
         spans = All_push (λ c. 1 ≤ c.span) ds d h.spans one;
         holds = λ so. record {
           table = All_push (λ c. end_of c ≤ length sizes) ds d all.table ends;
           room = All_push (HasRoom line sizes) ds d all.room has;
           found = omega arith;
-          needs = omega arith;
+          minimums = omega arith;
           inner = omega arith;
         };
         fails = λ so. absurd (true≢false so);
-        bounded = record { few = few; needs = omega arith; inner = omega arith };
+        bounded = record { few = few; minimums = omega arith; inner = omega arith };
       }
 
   -- something fails, and with this cell does still
   pub Checks-fails : (old.holds ≡ true → CanHold line sizes places (ds ++ d ∷ []) → ⊥) →
-      Checks line sizes places direction span_of (record { holds = false; found = old.found; needs = old.needs; inner = old.inner }) (ds ++ d ∷ [])
+      Checks line sizes places direction span_of (record { holds = false; found = old.found; minimums = old.minimums; inner = old.inner }) (ds ++ d ∷ [])
   Checks-fails why = record {
-    ranged = All_push (λ c. c ≡ demand_of direction (place_of c) (span_of (place_of c)) c.need) ds d h.ranged ranged;
+    ranged = All_push (λ c. c ≡ demand_of direction (place_of c) (span_of (place_of c)) c.minimum) ds d h.ranged ranged;
     spans = All_push (λ c. 1 ≤ c.span) ds d h.spans one;
     holds = λ so. absurd (false≢true so);
     fails = λ so can. elim (cases_Bool old.holds) [
       | inl t ↦ why t can
       | inr other ↦ h.fails other (CanHold-front can)
     ];
-    bounded = record { few = h.bounded.few; needs = h.bounded.needs; inner = h.bounded.inner };
+    bounded = record { few = h.bounded.few; minimums = h.bounded.minimums; inner = h.bounded.inner };
   }
 
   -- because it has no room in the table
@@ -152,11 +152,11 @@ first_of_range sizes d one l = go d.span one
         omega (arith, first)
 
 -- what is listed no time changes nothing
-pub none_listed : (checked : Checked) (need inner times : ℕ) → checked.holds ≡ true → times ≡ 0 →
-    record { holds = true; found = checked.found + times; needs = checked.needs + need * times; inner = checked.inner + inner * times } ≡ checked
-none_listed checked need inner times so none =
+pub none_listed : (checked : Checked) (minimum inner times : ℕ) → checked.holds ≡ true → times ≡ 0 →
+    record { holds = true; found = checked.found + times; minimums = checked.minimums + minimum * times; inner = checked.inner + inner * times } ≡ checked
+none_listed checked minimum inner times so none =
     let found : checked.found + 0 ≡ checked.found = omega arith in
-    let needs : checked.needs + need * 0 ≡ checked.needs = omega arith in
+    let minimums : checked.minimums + minimum * 0 ≡ checked.minimums = omega arith in
     let inners : checked.inner + inner * 0 ≡ checked.inner = omega arith in
-    subst (λ t. record { holds = true; found = checked.found + t; needs = checked.needs + need * t; inner = checked.inner + inner * t } ≡ checked) (sym none)
-    (λ i. record { holds = sym so i; found = found i; needs = needs i; inner = inners i })
+    subst (λ t. record { holds = true; found = checked.found + t; minimums = checked.minimums + minimum * t; inner = checked.inner + inner * t } ≡ checked) (sym none)
+    (λ i. record { holds = sym so i; found = found i; minimums = minimums i; inner = inners i })

@@ -6,7 +6,7 @@ use Rattle.std.proofs.lemmas.Bool.{cases_Bool, cases_eq, and_from, and_left, and
 use Rattle.std.proofs.lemmas.List.Sums.{sum_by-cons}
 use Rattle.papergrid_axis.specs.declared.demand.Demand.{Demand}
 use Rattle.papergrid_axis.specs.Ranges.{AreDisjoint}
-use Rattle.papergrid_axis.specs.Fits.{greatest_need}
+use Rattle.papergrid_axis.specs.Fits.{greatest_minimum}
 use Rattle.papergrid_axis.proofs.Upto.{upto, upto-ext, upto-zero, upto-add, upto-front}
 use Rattle.papergrid_axis.proofs.RangeLemmas.{ArePairwiseDisjoint}
 
@@ -130,19 +130,19 @@ sum-by_start w n (d ∷ ds) ones inside disjoint =
     ]
 
 -- a greatest need above 0 is the need of some cell
-pub find-greatest : (test : Demand → Bool) (ds : List Demand) (v : ℕ) → 0 < v → greatest_need test ds ≡ v →
-    (d : Demand) × (find (λ e. test e && e.need == v) ds ≡ Some d)
+pub find-greatest : (test : Demand → Bool) (ds : List Demand) (v : ℕ) → 0 < v → greatest_minimum test ds ≡ v →
+    (d : Demand) × (find (λ e. test e && e.minimum == v) ds ≡ Some d)
 find-greatest test [] v positive e = absurd (omega arith)
 find-greatest test (d ∷ ds) v positive e = elim (cases_Bool (test d)) [
   | inr f ↦
-      let e' : greatest_need test ds ≡ v = rw f at e in
-      rw (and_left (test d) (eqb d.need v) f) (find-greatest test ds v positive e')
+      let e' : greatest_minimum test ds ≡ v = rw f at e in
+      rw (and_left (test d) (eqb d.minimum v) f) (find-greatest test ds v positive e')
   | inl t ↦
-      let e' : max d.need (greatest_need test ds) ≡ v = rw t at e in
-      elim (cases_eq d.need v) [
-        | inl same ↦ rw (and_from (test d) (eqb d.need v) t (eq-eqb d.need v same)) (d, refl)
+      let e' : max d.minimum (greatest_minimum test ds) ≡ v = rw t at e in
+      elim (cases_eq d.minimum v) [
+        | inl same ↦ rw (and_from (test d) (eqb d.minimum v) t (eq-eqb d.minimum v same)) (d, refl)
         | inr ne ↦
-            let e'' : greatest_need test ds ≡ v = omega arith in
-            rw (and_right (test d) (eqb d.need v) (ne_eqb d.need v ne)) (find-greatest test ds v positive e'')
+            let e'' : greatest_minimum test ds ≡ v = omega arith in
+            rw (and_right (test d) (eqb d.minimum v) (ne_eqb d.minimum v ne)) (find-greatest test ds v positive e'')
       ]
 ]

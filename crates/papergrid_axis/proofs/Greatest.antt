@@ -7,37 +7,37 @@ use Rattle.std.proofs.lemmas.List.Elements.{All-from_recursion, All-contains}
 use Rattle.std.proofs.lemmas.List.FromFn.{get_or-map-range_with_len, length-map-range_with_len}
 use Rattle.papergrid_axis.specs.declared.demand.Demand.{Demand}
 use Rattle.papergrid_axis.specs.Ranges.{IsInTable}
-use Rattle.papergrid_axis.specs.Fits.{greatest_need, range_sum, HasRoom}
+use Rattle.papergrid_axis.specs.Fits.{greatest_minimum, range_sum, HasRoom}
 use Rattle.papergrid_axis.specs.Sizes.{base_size, base_sizes}
 use Rattle.papergrid_axis.proofs.Upto.{upto, range_sum-within}
 
 -- each cell that passes needs at most the greatest need
-pub greatest_need-above : (test : Demand → Bool) (ds : List Demand) (m : ℕ) → greatest_need test ds ≤ m → AllByRecursion (λ d. test d ≡ true → d.need ≤ m) ds
-greatest_need-above test [] m le = tt
-greatest_need-above test (d ∷ ds) m le = elim (cases_Bool (test d)) [
+pub greatest_minimum-above : (test : Demand → Bool) (ds : List Demand) (m : ℕ) → greatest_minimum test ds ≤ m → AllByRecursion (λ d. test d ≡ true → d.minimum ≤ m) ds
+greatest_minimum-above test [] m le = tt
+greatest_minimum-above test (d ∷ ds) m le = elim (cases_Bool (test d)) [
   | inl t ↦
-      let le' : max d.need (greatest_need test ds) ≤ m = rw t at le in
-      ((λ t'. omega arith), greatest_need-above test ds m (omega arith))
+      let le' : max d.minimum (greatest_minimum test ds) ≤ m = rw t at le in
+      ((λ t'. omega arith), greatest_minimum-above test ds m (omega arith))
   | inr f ↦
-      let le' : greatest_need test ds ≤ m = rw f at le in
-      ((λ t'. absurd (true≢false (sym t' ∙ f))), greatest_need-above test ds m le')
+      let le' : greatest_minimum test ds ≤ m = rw f at le in
+      ((λ t'. absurd (true≢false (sym t' ∙ f))), greatest_minimum-above test ds m le')
 ]
 
-pub greatest_need-below : (test : Demand → Bool) (ds : List Demand) (m : ℕ) → AllByRecursion (λ d. test d ≡ true → d.need ≤ m) ds → greatest_need test ds ≤ m
-greatest_need-below test [] m each = omega arith
-greatest_need-below test (d ∷ ds) m each = elim (cases_Bool (test d)) [
+pub greatest_minimum-below : (test : Demand → Bool) (ds : List Demand) (m : ℕ) → AllByRecursion (λ d. test d ≡ true → d.minimum ≤ m) ds → greatest_minimum test ds ≤ m
+greatest_minimum-below test [] m each = omega arith
+greatest_minimum-below test (d ∷ ds) m each = elim (cases_Bool (test d)) [
   | inl t ↦
-      let ih : greatest_need test ds ≤ m = greatest_need-below test ds m each.1 in
-      let here : d.need ≤ m = each.0 t in
+      let ih : greatest_minimum test ds ≤ m = greatest_minimum-below test ds m each.1 in
+      let here : d.minimum ≤ m = each.0 t in
       rw t (omega arith)
-  | inr f ↦ rw f (greatest_need-below test ds m each.1)
+  | inr f ↦ rw f (greatest_minimum-below test ds m each.1)
 ]
 
 -- a cell that passes needs at most the greatest need
-pub need-below_greatest : (test : Demand → Bool) (ds : List Demand) (d : Demand) → Contains ds d → test d ≡ true → d.need ≤ greatest_need test ds
-need-below_greatest test ds d m t =
-    All-contains (λ d. test d ≡ true → d.need ≤ greatest_need test ds) ds d
-    (All-from_recursion (λ d. test d ≡ true → d.need ≤ greatest_need test ds) ds (greatest_need-above test ds (greatest_need test ds) (omega arith))) m t
+pub minimum-below_greatest : (test : Demand → Bool) (ds : List Demand) (d : Demand) → Contains ds d → test d ≡ true → d.minimum ≤ greatest_minimum test ds
+minimum-below_greatest test ds d m t =
+    All-contains (λ d. test d ≡ true → d.minimum ≤ greatest_minimum test ds) ds d
+    (All-from_recursion (λ d. test d ≡ true → d.minimum ≤ greatest_minimum test ds) ds (greatest_minimum-above test ds (greatest_minimum test ds) (omega arith))) m t
 
 -- each base size is at most the top need, as the cells that cover i alone hold i
 pub holds_alone : (d : Demand) (i : ℕ) → (d.span == 1 && d.start == i) ≡ true → (d.span ≡ 1) × (d.start ≡ i)
@@ -64,7 +64,7 @@ pub HasRoom-base : (line : ℕ → Bool) (n : ℕ) (demands : List Demand) (d : 
     HasRoom line (base_sizes n demands) d
 HasRoom-base line n demands d table m one =
     let test : (d.span == 1 && d.start == d.start) ≡ true = and_from (eqb d.span 1) (eqb d.start d.start) (eq-eqb d.span 1 one) (eq-eqb d.start d.start refl) in
-    let a : d.need ≤ base_size demands d.start = need-below_greatest (λ e. e.span == 1 && e.start == d.start) demands d m test in
+    let a : d.minimum ≤ base_size demands d.start = minimum-below_greatest (λ e. e.span == 1 && e.start == d.start) demands d m test in
     let inside : d.start < n = omega (arith, table.ends_within) in
     let b : get_or (base_sizes n demands) d.start 0 ≡ base_size demands d.start = get_or-base_sizes n demands d.start inside in
     let c : range_sum (base_sizes n demands) d ≡ get_or (base_sizes n demands) d.start 0 = range_sum-one (base_sizes n demands) d one in

@@ -8,8 +8,8 @@ use Rattle.std.proofs.lemmas.Bool.Decides.{nat_tests}
 use Rattle.std.proofs.lemmas.List.Elements.{recursion_from_All, All-from_recursion, filter_agree}
 use Rattle.papergrid_axis.specs.declared.demand.Demand.{Demand}
 use Rattle.papergrid_axis.specs.Ranges.{end_of, IsInTable}
-use Rattle.papergrid_axis.specs.KeptApart.{longer}
-use Rattle.papergrid_axis.specs.Sizes.{taken}
+use Rattle.papergrid_axis.specs.Laminar.{longer}
+use Rattle.papergrid_axis.specs.Sizes.{by_span}
 use Rattle.papergrid_axis.proofs.FitBound.{ByRecursion-weaker}
 
 abbrev of_span : List Demand → ℕ → List Demand
@@ -84,7 +84,7 @@ flat_map-agree f g a (suc m) h = ap₂ (λ xs ys. xs ++ ys) (h a (omega arith)) 
 -- a stable sort by span keeps the cells of each span as they come
 of_span-stable : (xs ys : List Demand) (k : ℕ) → IsStableByKey (λ (d : Demand). d.span) nat_cmp xs ys → of_span ys k ≡ of_span xs k
 of_span-stable xs ys k stable =
-    let d : Demand = record { row = 0; col = 0; start = 0; span = k; need = 0 } in
+    let d : Demand = record { row = 0; col = 0; start = 0; span = k; minimum = 0 } in
     filter_agree (λ e. e.span == k) (ties (λ x y. is_lt (nat_cmp x.span y.span)) d) (λ e. tie k e) ys
     ∙ stable d
     ∙ filter_agree (ties (λ x y. is_lt (nat_cmp x.span y.span)) d) (λ e. e.span == k) (λ e. sym (tie k e)) xs
@@ -104,9 +104,9 @@ filter-filter p q h (d ∷ ds) = elim (cases_Bool (q d)) [
 ]
 
 -- what a stable sort of the cells of longer spans gives
-pub taken-from_sort : (n : ℕ) (demands sorted : List Demand) → IsNonDecreasingBy (λ d. d.span) sorted → IsStableByKey (λ (d : Demand). d.span) nat_cmp (longer demands) sorted →
-    AllByRecursion (λ d. (2 ≤ d.span) × (d.span ≤ n)) sorted → sorted ≡ taken n demands
-taken-from_sort n demands sorted up stable all =
+pub by_span-from_sort : (n : ℕ) (demands sorted : List Demand) → IsNonDecreasingBy (λ d. d.span) sorted → IsStableByKey (λ (d : Demand). d.span) nat_cmp (longer demands) sorted →
+    AllByRecursion (λ d. (2 ≤ d.span) × (d.span ≤ n)) sorted → sorted ≡ by_span n demands
+by_span-from_sort n demands sorted up stable all =
     sym (groups (n - 1) 2 sorted (IsAscending-from sorted up)
     (ByRecursion-weaker (λ d. (2 ≤ d.span) × (d.span ≤ n)) (λ d. (2 ≤ d.span) × (d.span < 2 + (n - 1))) (λ d h. let x : 2 ≤ d.span = h.0 in let y : d.span ≤ n = h.1 in ((omega arith), (omega arith))) sorted all))
     ∙ flat_map-agree (of_span sorted) (of_span demands) 2 (n - 1)

@@ -7,13 +7,13 @@ use Rattle.std.proofs.lemmas.Bool.{cases_Bool, cases_eq, cases_lt, or_parts, or_
 use Rattle.std.proofs.lemmas.List.Elements.{All-contains, All-from_recursion}
 use Rattle.std.specs.Option.{option_or}
 use Rattle.papergrid_axis.specs.declared.demand.Demand.{Demand}
-use Rattle.papergrid_axis.specs.Sizes.{taken}
-use Rattle.papergrid_axis.specs.Ranges.{end_of, holds, AreDisjoint, AreNested, IsKeptApart, IsInTable, LiesIn}
-use Rattle.papergrid_axis.specs.ForProofs.LastCells.{Precedes, IsLaminar, last_holding}
-use Rattle.papergrid_axis.specs.Chosen.{lies_in, outermost, single_at}
+use Rattle.papergrid_axis.specs.Sizes.{by_span}
+use Rattle.papergrid_axis.specs.Ranges.{end_of, holds, AreDisjoint, AreNested, IsLaminar, IsInTable, LiesIn}
+use Rattle.papergrid_axis.specs.ForProofs.LastCells.{Precedes, IsLaminarInOrder, last_holding}
+use Rattle.papergrid_axis.specs.Certificates.{lies_in, outermost, single_at}
 use Rattle.papergrid_axis.proofs.Upto.{holds_cases}
 use Rattle.papergrid_axis.proofs.RangeLemmas.{covered, not_covered, not_both}
-use Rattle.papergrid_axis.proofs.Orders.{TakesAll-taken}
+use Rattle.papergrid_axis.proofs.Orders.{TakesAll-by_span}
 use Rattle.papergrid_axis.proofs.GrowLemmas.{disjoint-from_outer, covered_by_later}
 use Rattle.papergrid_axis.proofs.Certified.{AreDisjoint-sym, holds_start, none_some, some_same}
 
@@ -58,7 +58,7 @@ starting_at-other d i None f = elim (cases_Bool (holds d i)) [
 ]
 
 -- the outermost cell that starts at i is the one that the table holds at i, where that one starts there
-pub find-outermost : (ds : List Demand) (i : ℕ) → IsLaminar ds → AllByRecursion (λ d. 1 ≤ d.span) ds →
+pub find-outermost : (ds : List Demand) (i : ℕ) → IsLaminarInOrder ds → AllByRecursion (λ d. 1 ≤ d.span) ds →
     find (λ d. d.start == i) (outermost ds) ≡ starting_at i (last_holding ds i)
 find-outermost [] i laminar ones = refl
 find-outermost (d ∷ rest) i laminar ones =
@@ -85,9 +85,9 @@ find-outermost (d ∷ rest) i laminar ones =
     ]
 
 -- the chosen cell at i, by one look at the table
-pub chosen-at : (demands growing_cells : List Demand) (sizes : List ℕ) (i : ℕ) → IsLaminar growing_cells → AllByRecursion (λ d. 1 ≤ d.span) growing_cells →
+pub certificate_cells-at : (demands growing_cells : List Demand) (sizes : List ℕ) (i : ℕ) → IsLaminarInOrder growing_cells → AllByRecursion (λ d. 1 ≤ d.span) growing_cells →
     option_or (find (λ d. d.start == i) (outermost growing_cells)) (single_at demands growing_cells sizes i) ≡ option_or (starting_at i (last_holding growing_cells i)) (single_at demands growing_cells sizes i)
-chosen-at demands growing_cells sizes i laminar ones = ap (λ o. option_or o (single_at demands growing_cells sizes i)) (find-outermost growing_cells i laminar ones)
+certificate_cells-at demands growing_cells sizes i laminar ones = ap (λ o. option_or o (single_at demands growing_cells sizes i)) (find-outermost growing_cells i laminar ones)
 
 -- the last cell that holds i is one of the cells, and holds i
 pub last_holding-all : (P : Demand → Type 0) (ds : List Demand) (i : ℕ) (o : Demand) → AllByRecursion P ds → last_holding ds i ≡ Some o → (holds o i ≡ true) × P o
@@ -127,7 +127,7 @@ pub together : (a b : Demand) (i : ℕ) → holds a i ≡ true → holds b i ≡
 together a b i h h' disjoint = true≢false (sym h' ∙ not_both a b i disjoint h)
 
 -- where each cell precedes all later ones, one more cell comes after all of them if the last one at each number of its range lies in it
-pub precedes-from_last : (ds : List Demand) (d : Demand) → IsLaminar ds → 1 ≤ d.span → AllByRecursion (λ c. 1 ≤ c.span) ds →
+pub precedes-from_last : (ds : List Demand) (d : Demand) → IsLaminarInOrder ds → 1 ≤ d.span → AllByRecursion (λ c. 1 ≤ c.span) ds →
     ((i : ℕ) (o : Demand) → holds d i ≡ true → last_holding ds i ≡ Some o → LiesIn o d) → AllByRecursion (λ c. Precedes c d) ds
 precedes-from_last [] d laminar one ones each = tt
 precedes-from_last (c ∷ rest) d laminar one ones each =
@@ -174,10 +174,10 @@ compatible-refl : (a : Demand) → AreCompatible a a
 compatible-refl a = inl (inl ((omega arith), (omega arith)))
 
 -- any two cells of a laminar list are nested or disjoint
-compatible-pairs : (ds : List Demand) (a b : Demand) → IsLaminar ds → Contains ds a → Contains ds b → AreCompatible a b
+compatible-pairs : (ds : List Demand) (a b : Demand) → IsLaminarInOrder ds → Contains ds a → Contains ds b → AreCompatible a b
 compatible-pairs ds a b laminar m m' = go ds laminar m.0 m'.0 m.1 m'.1 m.2 m'.2
   where
-    go : (ds : List Demand) → IsLaminar ds → (i j : ℕ) → i < length ds → j < length ds → get_or ds i a ≡ a → get_or ds j b ≡ b → AreCompatible a b
+    go : (ds : List Demand) → IsLaminarInOrder ds → (i j : ℕ) → i < length ds → j < length ds → get_or ds i a ≡ a → get_or ds j b ≡ b → AreCompatible a b
     go [] laminar i j l l' e e' = absurd (omega arith)
     go (d ∷ ds) laminar zero zero l l' e e' = subst (λ x. AreCompatible a x) (sym e ∙ e') (compatible-refl a)
     go (d ∷ ds) laminar zero (suc j) l l' e e' =
@@ -189,12 +189,12 @@ compatible-pairs ds a b laminar m m' = go ds laminar m.0 m'.0 m.1 m'.1 m.2 m'.2
     go (d ∷ ds) laminar (suc i) (suc j) l l' e e' = go ds laminar.1 i j (omega arith) (omega arith) e e'
 
 -- so whether ranges are kept apart is decided on the cells that are taken
-pub IsKeptApart-from_laminar : (n : ℕ) (demands : List Demand) → All (IsInTable n) demands → IsLaminar (taken n demands) → IsKeptApart demands
-IsKeptApart-from_laminar n demands table laminar a b m m' two two' =
-    let takes = TakesAll-taken n demands table in
-    compatible-pairs (taken n demands) a b laminar
-    (All-contains (λ d. 2 ≤ d.span → Contains (taken n demands) d) demands a takes.long m two)
-    (All-contains (λ d. 2 ≤ d.span → Contains (taken n demands) d) demands b takes.long m' two')
+pub IsLaminar-from_laminar : (n : ℕ) (demands : List Demand) → All (IsInTable n) demands → IsLaminarInOrder (by_span n demands) → IsLaminar demands
+IsLaminar-from_laminar n demands table laminar a b m m' two two' =
+    let takes = TakesAll-by_span n demands table in
+    compatible-pairs (by_span n demands) a b laminar
+    (All-contains (λ d. 2 ≤ d.span → Contains (by_span n demands) d) demands a takes.long m two)
+    (All-contains (λ d. 2 ≤ d.span → Contains (by_span n demands) d) demands b takes.long m' two')
 
 -- ---- one more cell
 
@@ -207,10 +207,10 @@ ByRecursion-last P [] d es all = all.0
 ByRecursion-last P (c ∷ ds) d es all = ByRecursion-last P ds d es all.1
 
 -- the cells before one of a laminar list precede it
-pub IsLaminar-before : (ds : List Demand) (d : Demand) (es : List Demand) → IsLaminar (ds ++ d ∷ es) → AllByRecursion (λ c. Precedes c d) ds
+pub IsLaminar-before : (ds : List Demand) (d : Demand) (es : List Demand) → IsLaminarInOrder (ds ++ d ∷ es) → AllByRecursion (λ c. Precedes c d) ds
 IsLaminar-before [] d es laminar = tt
 IsLaminar-before (c ∷ ds) d es laminar = (ByRecursion-last (Precedes c) ds d es laminar.0, IsLaminar-before ds d es laminar.1)
 
-pub IsLaminar_push : (ds : List Demand) (d : Demand) → IsLaminar ds → AllByRecursion (λ c. Precedes c d) ds → IsLaminar (ds ++ d ∷ [])
-IsLaminar_push [] d laminar all = (tt, tt)
-IsLaminar_push (c ∷ ds) d laminar all = (ByRecursion_push (Precedes c) ds d laminar.0 all.0, IsLaminar_push ds d laminar.1 all.1)
+pub IsLaminarInOrder_push : (ds : List Demand) (d : Demand) → IsLaminarInOrder ds → AllByRecursion (λ c. Precedes c d) ds → IsLaminarInOrder (ds ++ d ∷ [])
+IsLaminarInOrder_push [] d laminar all = (tt, tt)
+IsLaminarInOrder_push (c ∷ ds) d laminar all = (ByRecursion_push (Precedes c) ds d laminar.0 all.0, IsLaminarInOrder_push ds d laminar.1 all.1)

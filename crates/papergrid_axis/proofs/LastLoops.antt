@@ -8,15 +8,15 @@ use Rattle.std.proofs.lemmas.List.{get_or_past}
 use Rattle.std.specs.Option.{option_or}
 use Rattle.papergrid_axis.specs.declared.demand.Demand.{Demand}
 use Rattle.papergrid_axis.specs.Ranges.{end_of, holds, IsInTable, LiesIn}
-use Rattle.papergrid_axis.specs.Chosen.{exact_single, single_at, outermost, chosen}
+use Rattle.papergrid_axis.specs.Certificates.{exact_single, single_at, outermost, certificate_cells}
 use Rattle.papergrid_axis.proofs.RangeLemmas.{covered}
 use Rattle.papergrid_axis.proofs.LoopLemmas.{range_with_len-append}
-use Rattle.papergrid_axis.specs.ForProofs.LastCells.{AreExact, IsLaminar, last_holding, slot_of, chosen_slot}
-use Rattle.papergrid_axis.specs.ForProofs.Kept.{no_demand}
+use Rattle.papergrid_axis.specs.ForProofs.LastCells.{AreExact, IsLaminarInOrder, last_holding, slot_of, certificate_slot}
+use Rattle.papergrid_axis.specs.ForProofs.Demands.{no_demand}
 use Rattle.papergrid_axis.proofs.Upto.{holds_cases}
 use Rattle.papergrid_axis.proofs.FitBound.{ByRecursion-weaker}
 use Rattle.papergrid_axis.proofs.Certified.{none_some}
-use Rattle.papergrid_axis.proofs.LastLemmas.{chosen-at, starting_at, last_holding-some, last_holding-none, last_holding-all, last_holding_push, precedes-from_last, last-from_precedes, IsLaminar-before, IsLaminar_push}
+use Rattle.papergrid_axis.proofs.LastLemmas.{certificate_cells-at, starting_at, last_holding-some, last_holding-none, last_holding-all, last_holding_push, precedes-from_last, last-from_precedes, IsLaminar-before, IsLaminarInOrder_push}
 
 -- the cell is written below i
 pub record WrittenOver (d : Demand) (old new : List (Option Demand)) (i : ℕ) : Type 0 where
@@ -31,7 +31,7 @@ AreUnder d last i = (k : ℕ) (o : Demand) → d.start ≤ k → k < i → get_o
 pub record IsTableOf (n : ℕ) (ds : List Demand) (last : List (Option Demand)) : Type 0 where
   pub many : length last ≡ n
   pub holds_last : (k : ℕ) → k < n → get_or last k None ≡ last_holding ds k
-  pub laminar : IsLaminar ds
+  pub laminar : IsLaminarInOrder ds
 
 module _ (n : ℕ) (ds : List Demand) (last : List (Option Demand)) (table : AllByRecursion (IsInTable n) ds) (is : IsTableOf n ds last) where
   -- what stands in the table is a cell of the list
@@ -63,12 +63,12 @@ module _ (n : ℕ) (ds : List Demand) (last : List (Option Demand)) (table : All
       record {
         many = same ∙ many;
         holds_last = λ k l. written k (omega arith) ∙ ap (cond (holds d k) (Some d)) (is.holds_last k l) ∙ sym (last_holding_push ds d k);
-        laminar = IsLaminar_push ds d is.laminar
+        laminar = IsLaminarInOrder_push ds d is.laminar
             (precedes-from_last ds d is.laminar t.covers_one ones (λ i o h e. covers i o h (is.holds_last i (in_table d i t h) ∙ e)));
       }
 
   -- where all the cells are laminar, what stands in the range of the next one lies in it
-  pub under-from_laminar : (d : Demand) (es : List Demand) → IsInTable n d → IsLaminar (ds ++ d ∷ es) → (i : ℕ) (o : Demand) → holds d i ≡ true → get_or last i None ≡ Some o → LiesIn o d
+  pub under-from_laminar : (d : Demand) (es : List Demand) → IsInTable n d → IsLaminarInOrder (ds ++ d ∷ es) → (i : ℕ) (o : Demand) → holds d i ≡ true → get_or last i None ≡ Some o → LiesIn o d
   under-from_laminar d es t laminar i o h e =
       last-from_precedes ds d (IsLaminar-before ds d es laminar) i o h (sym (is.holds_last i (in_table d i t h)) ∙ e)
 
@@ -88,11 +88,11 @@ option_or-none None = refl
 option_or-none (Some d) = refl
 
 -- the cell in the slot is the chosen one
-slot-chosen : (demands growing_cells : List Demand) (sizes : List ℕ) (i : ℕ) → IsLaminar growing_cells → AllByRecursion (λ d. 1 ≤ d.span) growing_cells →
+slot-certificate_cells : (demands growing_cells : List Demand) (sizes : List ℕ) (i : ℕ) → IsLaminarInOrder growing_cells → AllByRecursion (λ d. 1 ≤ d.span) growing_cells →
     slot_of (last_holding growing_cells i) (exact_single demands sizes i) (get_or sizes i 0) i
     ≡ option_or (find (λ d. d.start == i) (outermost growing_cells)) (single_at demands growing_cells sizes i)
-slot-chosen demands growing_cells sizes i laminar ones =
-    sym (chosen-at demands growing_cells sizes i laminar ones
+slot-certificate_cells demands growing_cells sizes i laminar ones =
+    sym (certificate_cells-at demands growing_cells sizes i laminar ones
     ∙ elim (cases_Bool (covered growing_cells i)) [
       | inl t ↦
           let found : (d : Demand) × (last_holding growing_cells i ≡ Some d) = last_holding-some growing_cells i t in
@@ -112,10 +112,10 @@ slot-kept demands growing_cells sizes single_span i l exact = elim (cases_Bool (
 ]
 
 -- the cells by one look at each number are the chosen ones
-pub chosen-by_slots : (demands growing_cells : List Demand) (sizes : List ℕ) (last : List (Option Demand)) (single_span : List Demand) → IsLaminar growing_cells → AllByRecursion (λ d. 1 ≤ d.span) growing_cells →
+pub certificate_cells-by_slots : (demands growing_cells : List Demand) (sizes : List ℕ) (last : List (Option Demand)) (single_span : List Demand) → IsLaminarInOrder growing_cells → AllByRecursion (λ d. 1 ≤ d.span) growing_cells →
     ((i : ℕ) → i < length sizes → get_or last i None ≡ last_holding growing_cells i) → AreExact demands growing_cells sizes single_span →
-    filter_map (chosen_slot last single_span sizes) (range_with_len 0 (length sizes)) ≡ chosen (length sizes) demands growing_cells sizes
-chosen-by_slots demands growing_cells sizes last single_span laminar each lasts exact =
-    filter_map-agree (chosen_slot last single_span sizes) (λ i. option_or (find (λ d. d.start == i) (outermost growing_cells)) (single_at demands growing_cells sizes i)) 0 (length sizes)
+    filter_map (certificate_slot last single_span sizes) (range_with_len 0 (length sizes)) ≡ certificate_cells (length sizes) demands growing_cells sizes
+certificate_cells-by_slots demands growing_cells sizes last single_span laminar each lasts exact =
+    filter_map-agree (certificate_slot last single_span sizes) (λ i. option_or (find (λ d. d.start == i) (outermost growing_cells)) (single_at demands growing_cells sizes i)) 0 (length sizes)
     (λ i l l'. ap (λ o. slot_of o (Some (get_or single_span i no_demand)) (get_or sizes i 0) i) (lasts i (omega arith))
-    ∙ slot-kept demands growing_cells sizes single_span i (omega arith) exact ∙ slot-chosen demands growing_cells sizes i laminar each)
+    ∙ slot-kept demands growing_cells sizes single_span i (omega arith) exact ∙ slot-certificate_cells demands growing_cells sizes i laminar each)

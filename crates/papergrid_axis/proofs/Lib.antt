@@ -9,7 +9,7 @@ pub mod FitBound
 pub mod Greatest
 pub mod Groups
 pub mod GrowLemmas
-pub mod KeptApartLemmas
+pub mod LaminarLemmas
 pub mod LastLemmas
 pub mod LastLoops
 pub mod LoopLemmas
@@ -17,10 +17,10 @@ pub mod Orders
 pub mod OutLemmas
 pub mod PairLemmas
 pub mod RangeLemmas
-pub mod KeptLemmas
+pub mod DemandLemmas
 mod SettleLemmas
-pub mod ShareLemmas
+pub mod DistributionLemmas
 pub mod Steps
 pub mod Theorems
 pub mod Upto
-pub mod WitnessLemmas
+pub mod CertificateLemmas

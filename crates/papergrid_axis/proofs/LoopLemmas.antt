@@ -10,9 +10,9 @@ use Rattle.papergrid_axis.specs.ForProofs.Settled.{line_at}
 use Rattle.papergrid_values.specs.Lines.{all_lines}
 use Rattle.papergrid_axis.specs.Ranges.{end_of, inner_lines, IsInTable}
 use Rattle.papergrid_axis.specs.Fits.{range_sum, HasRoom}
-use Rattle.papergrid_axis.specs.Sizes.{share, with_shares}
+use Rattle.papergrid_axis.specs.Sizes.{share, distributed}
 use Rattle.papergrid_axis.proofs.Upto.{upto-point, within, holds_cases}
-use Rattle.papergrid_axis.proofs.Steps.{share-out, shares_sum, length-with_shares, get_or-with_shares}
+use Rattle.papergrid_axis.proofs.Steps.{share-out, distributed_sum, length-distributed, get_or-distributed}
 
 -- the sum of a range is at most the whole
 pub range_sum-le : (sizes : List ℕ) (d : Demand) → range_sum sizes d ≤ sum sizes
@@ -58,32 +58,32 @@ share-le amount d i one = elim (holds_cases d i) [
       let e : d.start + (i - d.start) ≡ i = omega arith in
       let p : share amount d (d.start + (i - d.start)) ≤ within (share amount d) d = upto-point (λ k. share amount d (d.start + k)) d.span (i - d.start) (omega arith) in
       let p' : share amount d (d.start + (i - d.start)) ≡ share amount d i = ap (share amount d) e in
-      let s : within (share amount d) d ≡ amount = shares_sum amount d one in
+      let s : within (share amount d) d ≡ amount = distributed_sum amount d one in
       omega arith
   | inr h ↦ let z : share amount d i ≡ 0 = share-out amount d i one h.1 in omega arith
 ]
 
 -- the shares are added below i
-pub record SharesAdded (amount : ℕ) (d : Demand) (old new : List ℕ) (i next_share : ℕ) : Type 0 where
+pub record Distributes (amount : ℕ) (d : Demand) (old new : List ℕ) (i next_share : ℕ) : Type 0 where
   pub below : (k : ℕ) → k < i → get_or new k 0 ≡ get_or old k 0 + share amount d k
   pub rest : (k : ℕ) → i ≤ k → get_or new k 0 ≡ get_or old k 0
   pub next : i < end_of d → next_share ≡ share amount d i
 
-pub SharesAdded-all : (amount : ℕ) (d : Demand) (old new : List ℕ) (next_share : ℕ) → 1 ≤ d.span → length new ≡ length old →
-    SharesAdded amount d old new (end_of d) next_share → new ≡ with_shares amount d old
-SharesAdded-all amount d old new next_share one same h =
-    same_number_lists new (with_shares amount d old) (same ∙ sym (length-with_shares amount d old))
+pub Distributes-all : (amount : ℕ) (d : Demand) (old new : List ℕ) (next_share : ℕ) → 1 ≤ d.span → length new ≡ length old →
+    Distributes amount d old new (end_of d) next_share → new ≡ distributed amount d old
+Distributes-all amount d old new next_share one same h =
+    same_number_lists new (distributed amount d old) (same ∙ sym (length-distributed amount d old))
     (λ k l. elim (cases_lt k (end_of d)) [
       | inl lt ↦ h.below k lt ∙ sym (at k (omega arith))
       | inr le ↦
           let z : share amount d k ≡ 0 = share-out amount d k one (inr le) in
-          let e : get_or (with_shares amount d old) k 0 ≡ get_or old k 0 + share amount d k = at k (omega arith) in
+          let e : get_or (distributed amount d old) k 0 ≡ get_or old k 0 + share amount d k = at k (omega arith) in
           let r : get_or new k 0 ≡ get_or old k 0 = h.rest k le in
           omega arith
     ])
   where
-    at : (k : ℕ) → k < length old → get_or (with_shares amount d old) k 0 ≡ get_or old k 0 + share amount d k
-    at k l = get_or-with_shares amount d old k l
+    at : (k : ℕ) → k < length old → get_or (distributed amount d old) k 0 ≡ get_or old k 0 + share amount d k
+    at k l = get_or-distributed amount d old k l
 
 -- all lines of a list of lines
 pub all_lines-drawn : (lines : List Bool) (n : ℕ) → length lines ≡ n + 1 → count_by (λ x. x) lines ≡ all_lines (line_at lines) n
@@ -118,8 +118,8 @@ inner_lines-le line n d table =
     omega arith
 
 -- a cell with room needs no more than the total with all lines
-pub need_within_total : (line : ℕ → Bool) (n : ℕ) (sizes : List ℕ) (d : Demand) → end_of d ≤ n → HasRoom line sizes d → d.need ≤ sum sizes + all_lines line n
-need_within_total line n sizes d le room =
+pub minimum_within_total : (line : ℕ → Bool) (n : ℕ) (sizes : List ℕ) (d : Demand) → end_of d ≤ n → HasRoom line sizes d → d.minimum ≤ sum sizes + all_lines line n
+minimum_within_total line n sizes d le room =
     let a : range_sum sizes d ≤ sum sizes = range_sum-le sizes d in
     elim (cases_lt 0 d.span) [
       | inl one ↦ let b : inner_lines line d ≤ all_lines line n = inner_lines-le line n d record { covers_one = omega arith; ends_within = le } in omega arith
@@ -130,8 +130,8 @@ need_within_total line n sizes d le room =
     ]
 
 -- a need past the greatest `usize`: every list that fits is too large
-pub large_need : (line : ℕ → Bool) (n : ℕ) (sizes : List ℕ) (d : Demand) → IsInTable n d → 18446744073709551615 < d.need → HasRoom line sizes d → 18446744073709551616 ≤ sum sizes + all_lines line n
-large_need line n sizes d table large room =
-    let a : d.need ≤ sum sizes + all_lines line n = need_within_total line n sizes d table.ends_within room in
+pub large_minimum : (line : ℕ → Bool) (n : ℕ) (sizes : List ℕ) (d : Demand) → IsInTable n d → 18446744073709551615 < d.minimum → HasRoom line sizes d → 18446744073709551616 ≤ sum sizes + all_lines line n
+large_minimum line n sizes d table large room =
+    let a : d.minimum ≤ sum sizes + all_lines line n = minimum_within_total line n sizes d table.ends_within room in
     let c : 18446744073709551616 ≤ sum sizes + all_lines line n = omega arith in
     c

@@ -6,9 +6,9 @@ use Rattle.std.proofs.lemmas.Bool.{cases_Bool, cases_eq}
 use Rattle.std.proofs.lemmas.List.{get_or_default}
 use Rattle.std.proofs.lemmas.List.Elements.{recursion_from_All, All-from_recursion, All-contains, All-contains_itself, Contains-append_left, Contains-append_right}
 use Rattle.papergrid_axis.specs.declared.demand.Demand.{Demand}
-use Rattle.papergrid_axis.specs.Ranges.{end_of, IsInTable, AreNested, AreDisjoint, IsKeptApart}
-use Rattle.papergrid_axis.specs.Sizes.{taken}
-use Rattle.papergrid_axis.specs.ForProofs.LastCells.{Precedes, IsLaminar}
+use Rattle.papergrid_axis.specs.Ranges.{end_of, IsInTable, AreNested, AreDisjoint, IsLaminar}
+use Rattle.papergrid_axis.specs.Sizes.{by_span}
+use Rattle.papergrid_axis.specs.ForProofs.LastCells.{Precedes, IsLaminarInOrder}
 use Rattle.papergrid_axis.proofs.FitBound.{TakesAll, ByRecursion-weaker}
 
 pub Contains-later : (ds : List Demand) (c d : Demand) → Contains ds d → Contains (c ∷ ds) d
@@ -76,22 +76,22 @@ spans_from-contains demands d a (suc m) c l l' = elim (cases_eq d.span a) [
       (spans_from-contains demands d (a + 1) m c (omega arith) (omega arith))
 ]
 
-pub TakesAll-taken : (n : ℕ) (demands : List Demand) → All (IsInTable n) demands → TakesAll demands (taken n demands)
-TakesAll-taken n demands table = record {
-  cells = All-from_recursion (Contains demands) (taken n demands)
-      (ByRecursion-weaker (IsFrom demands 2) (Contains demands) (λ d h. h.cell) (taken n demands) (spans_from-all demands 2 (n - 1)));
+pub TakesAll-by_span : (n : ℕ) (demands : List Demand) → All (IsInTable n) demands → TakesAll demands (by_span n demands)
+TakesAll-by_span n demands table = record {
+  cells = All-from_recursion (Contains demands) (by_span n demands)
+      (ByRecursion-weaker (IsFrom demands 2) (Contains demands) (λ d h. h.cell) (by_span n demands) (spans_from-all demands 2 (n - 1)));
   long = λ k d l two.
       let le : end_of (get_or demands k d) ≤ n = (All-contains (IsInTable n) demands (get_or demands k d) table (Contains-get_or_self demands k d l)).ends_within in
       spans_from-contains demands (get_or demands k d) 2 (n - 1) (Contains-get_or_self demands k d l) two (omega arith);
 }
 
 -- where any two precede each other, the order does not matter
-laminar_of_pairs : (P : Demand → Type 0) → ((a b : Demand) → P a → P b → Precedes a b) → (ds : List Demand) → AllByRecursion P ds → IsLaminar ds
+laminar_of_pairs : (P : Demand → Type 0) → ((a b : Demand) → P a → P b → Precedes a b) → (ds : List Demand) → AllByRecursion P ds → IsLaminarInOrder ds
 laminar_of_pairs P related [] all = tt
 laminar_of_pairs P related (d ∷ ds) all =
     (ByRecursion-weaker P (Precedes d) (λ e p. related d e all.0 p) ds all.1, laminar_of_pairs P related ds all.1)
 
-laminar-append : (xs ys : List Demand) → IsLaminar xs → IsLaminar ys → AllByRecursion (λ x. AllByRecursion (Precedes x) ys) xs → IsLaminar (xs ++ ys)
+laminar-append : (xs ys : List Demand) → IsLaminarInOrder xs → IsLaminarInOrder ys → AllByRecursion (λ x. AllByRecursion (Precedes x) ys) xs → IsLaminarInOrder (xs ++ ys)
 laminar-append [] ys lx ly cross = ly
 laminar-append (x ∷ xs) ys lx ly cross = (ByRecursion-append (Precedes x) xs ys lx.0 cross.0, laminar-append xs ys lx.1 ly cross.1)
 
@@ -101,20 +101,20 @@ smaller_first a b le (inl (inl x)) = inr x
 smaller_first a b le (inl (inr y)) = let p : a.start ≤ b.start = y.0 in let q : end_of b ≤ end_of a = y.1 in inr ((omega arith), (omega arith))
 smaller_first a b le (inr y) = inl y
 
-laminar_from : (demands : List Demand) → IsKeptApart demands → (a m : ℕ) → 2 ≤ a → IsLaminar (flat_map (of_span demands) (range_with_len a m))
-laminar_from demands kept_apart a zero two = tt
-laminar_from demands kept_apart a (suc m) two =
+laminar_from : (demands : List Demand) → IsLaminar demands → (a m : ℕ) → 2 ≤ a → IsLaminarInOrder (flat_map (of_span demands) (range_with_len a m))
+laminar_from demands laminar a zero two = tt
+laminar_from demands laminar a (suc m) two =
     laminar-append (of_span demands a) (flat_map (of_span demands) (range_with_len (a + 1) m))
     (laminar_of_pairs (λ d. (d.span ≡ a) × Contains demands d)
-    (λ x y p q. let e : x.span ≡ a = p.0 in let e' : y.span ≡ a = q.0 in smaller_first x y (omega arith) (kept_apart x y p.1 q.1 (omega arith) (omega arith)))
+    (λ x y p q. let e : x.span ≡ a = p.0 in let e' : y.span ≡ a = q.0 in smaller_first x y (omega arith) (laminar x y p.1 q.1 (omega arith) (omega arith)))
     (of_span demands a) (of_span-all demands a))
-    (laminar_from demands kept_apart (a + 1) m (omega arith))
+    (laminar_from demands laminar (a + 1) m (omega arith))
     (ByRecursion-weaker (λ d. (d.span ≡ a) × Contains demands d) (λ x. AllByRecursion (Precedes x) (flat_map (of_span demands) (range_with_len (a + 1) m)))
     (λ x p. ByRecursion-weaker (IsFrom demands (a + 1)) (Precedes x)
-    (λ y q. let e : x.span ≡ a = p.0 in let l : a + 1 ≤ y.span = q.long in smaller_first x y (omega arith) (kept_apart x y p.1 q.cell (omega arith) (omega arith)))
+    (λ y q. let e : x.span ≡ a = p.0 in let l : a + 1 ≤ y.span = q.long in smaller_first x y (omega arith) (laminar x y p.1 q.cell (omega arith) (omega arith)))
     (flat_map (of_span demands) (range_with_len (a + 1) m)) (spans_from-all demands (a + 1) m))
     (of_span demands a) (of_span-all demands a))
 
 -- where the ranges are kept apart, no cell is taken after one that its range meets and that does not lie in it
-pub IsLaminar-taken : (n : ℕ) (demands : List Demand) → IsKeptApart demands → IsLaminar (taken n demands)
-IsLaminar-taken n demands kept_apart = laminar_from demands kept_apart 2 (n - 1) (omega arith)
+pub IsLaminar-by_span : (n : ℕ) (demands : List Demand) → IsLaminar demands → IsLaminarInOrder (by_span n demands)
+IsLaminar-by_span n demands laminar = laminar_from demands laminar 2 (n - 1) (omega arith)

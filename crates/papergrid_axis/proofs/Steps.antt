@@ -4,19 +4,19 @@ use Rattle.std.proofs.lemmas.List.FromFn.{get_or-map-range_with_len, length-map-
 use Rattle.papergrid_axis.specs.declared.demand.Demand.{Demand}
 use Rattle.papergrid_axis.specs.Ranges.{end_of, inner_lines}
 use Rattle.papergrid_axis.specs.Fits.{range_sum, HasRoom}
-use Rattle.papergrid_axis.specs.Sizes.{share, with_shares, lack, grown}
+use Rattle.papergrid_axis.specs.Sizes.{share, distributed, deficit, grown_sizes}
 use Rattle.papergrid_axis.proofs.Upto.{upto, upto-ext, upto-add, upto-split, within, range_sum-within, holds_cases}
 
-pub length-with_shares : (amount : ℕ) (d : Demand) (xs : List ℕ) → length (with_shares amount d xs) ≡ length xs
-length-with_shares amount d xs = length-map-range_with_len (λ i. get_or xs i 0 + share amount d i) 0 (length xs)
+pub length-distributed : (amount : ℕ) (d : Demand) (xs : List ℕ) → length (distributed amount d xs) ≡ length xs
+length-distributed amount d xs = length-map-range_with_len (λ i. get_or xs i 0 + share amount d i) 0 (length xs)
 
-pub get_or-with_shares : (amount : ℕ) (d : Demand) (xs : List ℕ) (i : ℕ) → i < length xs →
-    get_or (with_shares amount d xs) i 0 ≡ get_or xs i 0 + share amount d i
-get_or-with_shares amount d xs i l = get_or-map-range_with_len (λ i. get_or xs i 0 + share amount d i) 0 (length xs) i i 0 l (omega arith)
+pub get_or-distributed : (amount : ℕ) (d : Demand) (xs : List ℕ) (i : ℕ) → i < length xs →
+    get_or (distributed amount d xs) i 0 ≡ get_or xs i 0 + share amount d i
+get_or-distributed amount d xs i l = get_or-map-range_with_len (λ i. get_or xs i 0 + share amount d i) 0 (length xs) i i 0 l (omega arith)
 
 pub get_or-grown : (line : ℕ → Bool) (sizes : List ℕ) (d : Demand) (i : ℕ) → i < length sizes →
-    get_or (grown line sizes d) i 0 ≡ get_or sizes i 0 + share (lack line sizes d) d i
-get_or-grown line sizes d i l = get_or-with_shares (lack line sizes d) d sizes i l
+    get_or (grown_sizes line sizes d) i 0 ≡ get_or sizes i 0 + share (deficit line sizes d) d i
+get_or-grown line sizes d i l = get_or-distributed (deficit line sizes d) d sizes i l
 
 pub share-first : (amount : ℕ) (d : Demand) (i : ℕ) → i ≡ d.start → share amount d i ≡ amount / d.span + amount % d.span
 share-first amount d i e = rw (eq-eqb i d.start e) refl
@@ -40,8 +40,8 @@ upto-same q zero = omega arith
 upto-same q (suc k) = let e : upto (λ i. q) k ≡ k * q = upto-same q k in let e' : suc k * q ≡ k * q + q = suc-mul k q in omega arith
 
 -- the shares add up to what is shared out
-pub shares_sum : (amount : ℕ) (d : Demand) → 1 ≤ d.span → within (share amount d) d ≡ amount
-shares_sum amount d one =
+pub distributed_sum : (amount : ℕ) (d : Demand) → 1 ≤ d.span → within (share amount d) d ≡ amount
+distributed_sum amount d one =
     let k : ℕ = d.span - 1 in
     let q : ℕ = amount / d.span in
     let e : d.span ≡ 1 + k = omega arith in
@@ -60,44 +60,44 @@ shares_sum amount d one =
 
 -- what a range's sum becomes
 pub within-grown : (line : ℕ → Bool) (sizes : List ℕ) (d e : Demand) → end_of e ≤ length sizes →
-    range_sum (grown line sizes d) e ≡ range_sum sizes e + within (share (lack line sizes d) d) e
+    range_sum (grown_sizes line sizes d) e ≡ range_sum sizes e + within (share (deficit line sizes d) d) e
 within-grown line sizes d e le =
-    let a : range_sum (grown line sizes d) e ≡ within (λ i. get_or (grown line sizes d) i 0) e = range_sum-within (grown line sizes d) e in
+    let a : range_sum (grown_sizes line sizes d) e ≡ within (λ i. get_or (grown_sizes line sizes d) i 0) e = range_sum-within (grown_sizes line sizes d) e in
     let b : range_sum sizes e ≡ within (λ i. get_or sizes i 0) e = range_sum-within sizes e in
-    let c : within (λ i. get_or (grown line sizes d) i 0) e ≡ within (λ i. get_or sizes i 0 + share (lack line sizes d) d i) e =
-    upto-ext (λ i. get_or (grown line sizes d) (e.start + i) 0) (λ i. get_or sizes (e.start + i) 0 + share (lack line sizes d) d (e.start + i)) e.span
+    let c : within (λ i. get_or (grown_sizes line sizes d) i 0) e ≡ within (λ i. get_or sizes i 0 + share (deficit line sizes d) d i) e =
+    upto-ext (λ i. get_or (grown_sizes line sizes d) (e.start + i) 0) (λ i. get_or sizes (e.start + i) 0 + share (deficit line sizes d) d (e.start + i)) e.span
     (λ i l. get_or-grown line sizes d (e.start + i) (omega arith)) in
-    let s : within (λ i. get_or sizes i 0 + share (lack line sizes d) d i) e ≡ within (λ i. get_or sizes i 0) e + within (share (lack line sizes d) d) e =
-    upto-add (λ i. get_or sizes (e.start + i) 0) (λ i. share (lack line sizes d) d (e.start + i)) e.span in
+    let s : within (λ i. get_or sizes i 0 + share (deficit line sizes d) d i) e ≡ within (λ i. get_or sizes i 0) e + within (share (deficit line sizes d) d) e =
+    upto-add (λ i. get_or sizes (e.start + i) 0) (λ i. share (deficit line sizes d) d (e.start + i)) e.span in
     omega arith
 
 pub range_sum-grown_self : (line : ℕ → Bool) (sizes : List ℕ) (d : Demand) → 1 ≤ d.span → end_of d ≤ length sizes →
-    range_sum (grown line sizes d) d ≡ range_sum sizes d + lack line sizes d
+    range_sum (grown_sizes line sizes d) d ≡ range_sum sizes d + deficit line sizes d
 range_sum-grown_self line sizes d one le =
-    let a : range_sum (grown line sizes d) d ≡ range_sum sizes d + within (share (lack line sizes d) d) d = within-grown line sizes d d le in
-    let b : within (share (lack line sizes d) d) d ≡ lack line sizes d = shares_sum (lack line sizes d) d one in
+    let a : range_sum (grown_sizes line sizes d) d ≡ range_sum sizes d + within (share (deficit line sizes d) d) d = within-grown line sizes d d le in
+    let b : within (share (deficit line sizes d) d) d ≡ deficit line sizes d = distributed_sum (deficit line sizes d) d one in
     omega arith
 
 pub range_sum-grown_le : (line : ℕ → Bool) (sizes : List ℕ) (d e : Demand) → end_of e ≤ length sizes →
-    range_sum sizes e ≤ range_sum (grown line sizes d) e
+    range_sum sizes e ≤ range_sum (grown_sizes line sizes d) e
 range_sum-grown_le line sizes d e le =
-    let a : range_sum (grown line sizes d) e ≡ range_sum sizes e + within (share (lack line sizes d) d) e = within-grown line sizes d e le in
+    let a : range_sum (grown_sizes line sizes d) e ≡ range_sum sizes e + within (share (deficit line sizes d) d) e = within-grown line sizes d e le in
     omega arith
 
 -- a cell with room keeps it, and the cell that is taken gets it
-pub HasRoom-kept : (line : ℕ → Bool) (sizes : List ℕ) (d e : Demand) → end_of e ≤ length sizes → HasRoom line sizes e → HasRoom line (grown line sizes d) e
+pub HasRoom-kept : (line : ℕ → Bool) (sizes : List ℕ) (d e : Demand) → end_of e ≤ length sizes → HasRoom line sizes e → HasRoom line (grown_sizes line sizes d) e
 HasRoom-kept line sizes d e le room =
-    let a : range_sum sizes e ≤ range_sum (grown line sizes d) e = range_sum-grown_le line sizes d e le in
+    let a : range_sum sizes e ≤ range_sum (grown_sizes line sizes d) e = range_sum-grown_le line sizes d e le in
     omega arith
 
-pub HasRoom-grown : (line : ℕ → Bool) (sizes : List ℕ) (d : Demand) → 1 ≤ d.span → end_of d ≤ length sizes → HasRoom line (grown line sizes d) d
+pub HasRoom-grown : (line : ℕ → Bool) (sizes : List ℕ) (d : Demand) → 1 ≤ d.span → end_of d ≤ length sizes → HasRoom line (grown_sizes line sizes d) d
 HasRoom-grown line sizes d one le =
-    let a : range_sum (grown line sizes d) d ≡ range_sum sizes d + lack line sizes d = range_sum-grown_self line sizes d one le in
+    let a : range_sum (grown_sizes line sizes d) d ≡ range_sum sizes d + deficit line sizes d = range_sum-grown_self line sizes d one le in
     omega arith
 
 -- a cell that grows has no more than its need afterwards
-pub tight-grown : (line : ℕ → Bool) (sizes : List ℕ) (d : Demand) → 1 ≤ d.span → end_of d ≤ length sizes → 0 < lack line sizes d →
-    d.need ≡ range_sum (grown line sizes d) d + inner_lines line d
+pub tight-grown : (line : ℕ → Bool) (sizes : List ℕ) (d : Demand) → 1 ≤ d.span → end_of d ≤ length sizes → 0 < deficit line sizes d →
+    d.minimum ≡ range_sum (grown_sizes line sizes d) d + inner_lines line d
 tight-grown line sizes d one le grows =
-    let a : range_sum (grown line sizes d) d ≡ range_sum sizes d + lack line sizes d = range_sum-grown_self line sizes d one le in
+    let a : range_sum (grown_sizes line sizes d) d ≡ range_sum sizes d + deficit line sizes d = range_sum-grown_self line sizes d one le in
     omega arith

@@ -8,12 +8,12 @@ use Rattle.papergrid_axis.specs.declared.demand.Demand.{Demand}
 use Rattle.papergrid_axis.specs.Answers.{AreSizes, NoneHolds}
 use Rattle.papergrid_axis.specs.Problem.{Problem, total_of}
 use Rattle.papergrid_values.specs.Lines.{all_lines}
-use Rattle.papergrid_axis.specs.Ranges.{IsInTable, IsKeptApart, end_of, first_out}
-use Rattle.papergrid_axis.specs.Fits.{Fits, IsLeast, IsTooLarge, IsCertificate, top_need}
-use Rattle.papergrid_axis.specs.Sizes.{base_sizes, taken, sizes_of}
-use Rattle.papergrid_axis.specs.Chosen.{growing_cells_of, chosen_of}
+use Rattle.papergrid_axis.specs.Ranges.{IsInTable, IsLaminar, end_of, first_out}
+use Rattle.papergrid_axis.specs.Fits.{Fits, IsLeast, IsTooLarge, IsCertificate, top_minimum}
+use Rattle.papergrid_axis.specs.Sizes.{base_sizes, by_span, sizes_of}
+use Rattle.papergrid_axis.specs.Certificates.{growing_cells_of, certificate_cells_of}
 use Rattle.papergrid_axis.proofs.FitBound.{Fits-sizes_after, bound-sizes_after}
-use Rattle.papergrid_axis.proofs.Orders.{TakesAll-taken, IsLaminar-taken}
+use Rattle.papergrid_axis.proofs.Orders.{TakesAll-by_span, IsLaminar-by_span}
 use Rattle.papergrid_axis.proofs.Certified.{certificate_of, IsLeast-sizes_after}
 use Rattle.papergrid_axis.proofs.GrowLemmas.{growing-all}
 
@@ -24,23 +24,23 @@ first_out-none n (d ∷ ds) table = rw (le-ltb n (end_of d) table.0.ends_within)
 
 module _ (problem : Problem) (table : All (IsInTable problem.count) problem.demands) where
   pub Fits-sizes_of : Fits problem (sizes_of problem)
-  Fits-sizes_of = Fits-sizes_after problem.line problem.count problem.demands (taken problem.count problem.demands) table (TakesAll-taken problem.count problem.demands table)
+  Fits-sizes_of = Fits-sizes_after problem.line problem.count problem.demands (by_span problem.count problem.demands) table (TakesAll-by_span problem.count problem.demands table)
 
-  pub bound-sizes_of : (i : ℕ) → i < problem.count → get_or (sizes_of problem) i 0 ≤ top_need problem.demands i
-  bound-sizes_of = bound-sizes_after problem.line problem.count problem.demands (taken problem.count problem.demands) table (TakesAll-taken problem.count problem.demands table)
+  pub bound-sizes_of : (i : ℕ) → i < problem.count → get_or (sizes_of problem) i 0 ≤ top_minimum problem.demands i
+  bound-sizes_of = bound-sizes_after problem.line problem.count problem.demands (by_span problem.count problem.demands) table (TakesAll-by_span problem.count problem.demands table)
 
-  pub IsCertificate-chosen_of : IsKeptApart problem.demands → IsCertificate problem (sizes_of problem) (chosen_of problem)
-  IsCertificate-chosen_of disjoint =
-      certificate_of problem.line problem.count problem.demands (taken problem.count problem.demands) table (TakesAll-taken problem.count problem.demands table)
-      (IsLaminar-taken problem.count problem.demands disjoint)
+  pub IsCertificate-certificate_cells_of : IsLaminar problem.demands → IsCertificate problem (sizes_of problem) (certificate_cells_of problem)
+  IsCertificate-certificate_cells_of disjoint =
+      certificate_of problem.line problem.count problem.demands (by_span problem.count problem.demands) table (TakesAll-by_span problem.count problem.demands table)
+      (IsLaminar-by_span problem.count problem.demands disjoint)
 
-  pub IsLeast-sizes_of : IsKeptApart problem.demands → IsLeast problem (sizes_of problem)
+  pub IsLeast-sizes_of : IsLaminar problem.demands → IsLeast problem (sizes_of problem)
   IsLeast-sizes_of disjoint =
-      IsLeast-sizes_after problem.line problem.count problem.demands (taken problem.count problem.demands) table (TakesAll-taken problem.count problem.demands table)
-      (IsLaminar-taken problem.count problem.demands disjoint)
+      IsLeast-sizes_after problem.line problem.count problem.demands (by_span problem.count problem.demands) table (TakesAll-by_span problem.count problem.demands table)
+      (IsLaminar-by_span problem.count problem.demands disjoint)
 
   -- no table was refused that another choice of sizes could have held
-  pub none_holds-sizes_of : IsKeptApart problem.demands → IsTooLarge problem (sizes_of problem) →
+  pub none_holds-sizes_of : IsLaminar problem.demands → IsTooLarge problem (sizes_of problem) →
       (other : List ℕ) → Fits problem other → IsTooLarge problem other
   none_holds-sizes_of disjoint large other fits =
       let le : sum (sizes_of problem) ≤ sum other = (IsLeast-sizes_of disjoint).least other fits in
@@ -49,15 +49,15 @@ module _ (problem : Problem) (table : All (IsInTable problem.count) problem.dema
       all
 
   -- the cells that are taken are cells of the table
-  pub table-taken : All (IsInTable problem.count) (taken problem.count problem.demands)
-  table-taken =
-      All-weaker (Contains problem.demands) (IsInTable problem.count) (λ d m. All-contains (IsInTable problem.count) problem.demands d table m) (taken problem.count problem.demands) (TakesAll-taken problem.count problem.demands table).cells
+  pub table-by_span : All (IsInTable problem.count) (by_span problem.count problem.demands)
+  table-by_span =
+      All-weaker (Contains problem.demands) (IsInTable problem.count) (λ d m. All-contains (IsInTable problem.count) problem.demands d table m) (by_span problem.count problem.demands) (TakesAll-by_span problem.count problem.demands table).cells
 
   -- and so are those that grow
   pub table-growing : All (IsInTable problem.count) (growing_cells_of problem)
   table-growing =
       All-from_recursion (IsInTable problem.count) (growing_cells_of problem)
-      (growing-all (IsInTable problem.count) problem.line (base_sizes problem.count problem.demands) (taken problem.count problem.demands) (recursion_from_All (IsInTable problem.count) (taken problem.count problem.demands) table-taken))
+      (growing-all (IsInTable problem.count) problem.line (base_sizes problem.count problem.demands) (by_span problem.count problem.demands) (recursion_from_All (IsInTable problem.count) (by_span problem.count problem.demands) table-by_span))
 
   -- ---- the answers
 

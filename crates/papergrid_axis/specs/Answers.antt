@@ -7,10 +7,10 @@ use Rattle.papergrid_axis.specs.declared.error.LayoutError.{LayoutError}
 use Rattle.papergrid_axis.specs.declared.error.LayoutError.TheVariants.{OutOfTable, TooLarge, Memory}
 use Rattle.papergrid_axis.specs.declared.solution.Solved.{Solved}
 use Rattle.papergrid_axis.specs.Problem.{Problem, total_of}
-use Rattle.papergrid_axis.specs.Ranges.{IsKeptApart, SomeCross, first_out, place_of}
-use Rattle.papergrid_axis.specs.Fits.{Fits, IsLeast, IsTooLarge, IsCertificate, top_need}
+use Rattle.papergrid_axis.specs.Ranges.{IsLaminar, SomeCross, first_out, place_of}
+use Rattle.papergrid_axis.specs.Fits.{Fits, IsLeast, IsTooLarge, IsCertificate, top_minimum}
 use Rattle.papergrid_axis.specs.Sizes.{sizes_of}
-use Rattle.papergrid_axis.specs.Chosen.{chosen_of}
+use Rattle.papergrid_axis.specs.Certificates.{certificate_cells_of}
 
 module _ (problem : Problem) where
   -- these are the sizes, and what holds of them
@@ -19,14 +19,14 @@ module _ (problem : Problem) where
     pub exact : sizes ≡ sizes_of problem
     pub total : total_of problem sizes < 2 ^ 64
     pub fits : Fits problem sizes
-    pub bound : EachIndex sizes (λ i. slice_index sizes i ≤ top_need problem.demands i)
-    pub least : IsKeptApart problem.demands → IsLeast problem sizes
+    pub bound : EachIndex sizes (λ i. slice_index sizes i ≤ top_minimum problem.demands i)
+    pub least : IsLaminar problem.demands → IsLeast problem sizes
 
   -- the sizes are too large, and where ranges are kept apart so is every list that fits
   pub record NoneHolds : Type 0 where
     pub none_out : first_out problem.count problem.demands ≡ None
     pub too_large : IsTooLarge problem (sizes_of problem)
-    pub none_holds : IsKeptApart problem.demands → (other : List ℕ) → Fits problem other → IsTooLarge problem other
+    pub none_holds : IsLaminar problem.demands → (other : List ℕ) → Fits problem other → IsTooLarge problem other
 
   -- out of the table by the first cell that reaches out, else too large, of which this is known; memory may be refused in place
   -- of any answer
@@ -40,18 +40,18 @@ module _ (problem : Problem) where
   IsRefused e = IsRefusedWhere NoneHolds e
 
   -- the places of the chosen cells, which certify the sizes
-  pub record AreChosen (places : List Position) : Type 0 where
+  pub record AreCertifying (places : List Position) : Type 0 where
     pub none_out : first_out problem.count problem.demands ≡ None
     pub total : total_of problem (sizes_of problem) < 2 ^ 64
-    pub kept_apart : IsKeptApart problem.demands
-    pub exact : places ≡ map place_of (chosen_of problem)
-    pub certificate : IsCertificate problem (sizes_of problem) (chosen_of problem)
+    pub laminar : IsLaminar problem.demands
+    pub exact : places ≡ map place_of (certificate_cells_of problem)
+    pub certificate : IsCertificate problem (sizes_of problem) (certificate_cells_of problem)
 
   -- there are sizes, and two longer ranges are neither nested nor disjoint
-  pub record NoneChosen : Type 0 where
+  pub record NoneCertify : Type 0 where
     pub none_out : first_out problem.count problem.demands ≡ None
     pub total : total_of problem (sizes_of problem) < 2 ^ 64
-    pub not_kept_apart : SomeCross problem.demands
+    pub not_laminar : SomeCross problem.demands
 
   -- the sum of sizes of which this holds, and of all lines
   pub record IsTotalBy (holds : List ℕ → Type 0) (total : ℕ) : Type 0 where
@@ -64,9 +64,9 @@ module _ (problem : Problem) where
   IsTotal total = IsTotalBy AreSizes total
 
 -- the places of the chosen cells, none where ranges are not kept apart
-abbrev pub IsWitness : {Z : Type 0} → Problem → Option (Vec Position Z) → Type 0
-IsWitness problem None = NoneChosen problem
-IsWitness problem (Some places) = AreChosen problem places.items
+abbrev pub IsCertificateOrNone : {Z : Type 0} → Problem → Option (Vec Position Z) → Type 0
+IsCertificateOrNone problem None = NoneCertify problem
+IsCertificateOrNone problem (Some places) = AreCertifying problem places.items
 
 -- what a solver finds of a problem: sizes of which this holds, their total with all lines, and what
 -- certifies them, of which this holds, where that is asked for, else nothing

@@ -10,7 +10,7 @@ range_sum sizes d = sum (take d.span (drop d.start sizes))
 
 -- the sizes in the cell's range, with the lines inside of it, come to its need
 abbrev pub HasRoom : (ℕ → Bool) → List ℕ → Demand → Type 0
-HasRoom line sizes d = d.need ≤ range_sum sizes d + inner_lines line d
+HasRoom line sizes d = d.minimum ≤ range_sum sizes d + inner_lines line d
 
 -- one size for each number, and room for each cell
 pub record Fits (problem : Problem) (sizes : List ℕ) : Type 0 where
@@ -32,15 +32,15 @@ greatest [] = 0
 greatest (x ∷ xs) = max x (greatest xs)
 
 -- the greatest need of the cells that pass the test
-abbrev pub greatest_need : (Demand → Bool) → List Demand → ℕ
-greatest_need test demands = greatest (map (λ d. d.need) (filter test demands))
+abbrev pub greatest_minimum : (Demand → Bool) → List Demand → ℕ
+greatest_minimum test demands = greatest (map (λ d. d.minimum) (filter test demands))
 
 -- the greatest need of a cell whose range holds i
-abbrev pub top_need : List Demand → ℕ → ℕ
-top_need demands i = greatest_need (λ d. holds d i) demands
+abbrev pub top_minimum : List Demand → ℕ → ℕ
+top_minimum demands i = greatest_minimum (λ d. holds d i) demands
 
 -- visible cells of pairwise disjoint ranges, whose needs less their inner lines add up to the total
 pub record IsCertificate (problem : Problem) (sizes : List ℕ) (cells : List Demand) : Type 0 where
   pub visible : All (Contains problem.demands) cells
   pub disjoint : AllPairs AreDisjoint cells
-  pub adds_up : sum_by (λ d. d.need) cells ≡ sum sizes + sum_by (inner_lines problem.line) cells
+  pub adds_up : sum_by (λ d. d.minimum) cells ≡ sum sizes + sum_by (inner_lines problem.line) cells

@@ -1,7 +1,7 @@
 pub mod Answers
-pub mod Chosen
+pub mod Certificates
 pub mod Fits
-pub mod KeptApart
+pub mod Laminar
 pub mod Problem
 pub mod Ranges
 pub mod Rows

@@ -11,8 +11,8 @@ pub record Problem : Type 0 where
   pub demands : List Demand
 
 -- the problem of these lines, so many columns (rows) and these demands
-abbrev pub given : (ℕ → Bool) → ℕ → List Demand → Problem
-given line count demands = record { count = count; line = line; demands = demands }
+abbrev pub problem_of_demands : (ℕ → Bool) → ℕ → List Demand → Problem
+problem_of_demands line count demands = record { count = count; line = line; demands = demands }
 
 -- the sum of the sizes and of all lines
 abbrev pub total_of : Problem → List ℕ → ℕ

@@ -10,8 +10,8 @@ use Rattle.papergrid_values.specs.Positions.{along}
 
 -- what the cell at a place asks for along a direction, by its span and its need
 abbrev pub demand_of : Direction → Position → ℕ → ℕ → Demand
-demand_of direction place span need =
-    record { row = place.row; col = place.col; start = along direction place; span = span; need = need }
+demand_of direction place span minimum =
+    record { row = place.row; col = place.col; start = along direction place; span = span; minimum = minimum }
 
 -- where the range ends: the first number past it
 abbrev pub end_of : Demand → ℕ
@@ -48,8 +48,8 @@ abbrev pub AreNested : Demand → Demand → Type 0
 AreNested a b = LiesIn a b ⊎ LiesIn b a
 
 -- any two ranges of two or more numbers are nested or disjoint
-abbrev pub IsKeptApart : List Demand → Type 0
-IsKeptApart demands =
+abbrev pub IsLaminar : List Demand → Type 0
+IsLaminar demands =
     (a b : Demand) → Contains demands a → Contains demands b → 2 ≤ a.span → 2 ≤ b.span → AreNested a b ⊎ AreDisjoint a b
 
 -- two ranges of two or more numbers are neither nested nor disjoint

@@ -4,19 +4,19 @@ use Rattle.std.specs.List.{range_with_len}
 use Rattle.papergrid_axis.specs.declared.demand.Demand.{Demand}
 use Rattle.papergrid_axis.specs.Problem.{Problem}
 use Rattle.papergrid_axis.specs.Ranges.{holds, inner_lines}
-use Rattle.papergrid_axis.specs.Fits.{greatest_need, range_sum}
+use Rattle.papergrid_axis.specs.Fits.{greatest_minimum, range_sum}
 
 -- the greatest need of the cells that cover i alone
 abbrev pub base_size : List Demand → ℕ → ℕ
-base_size demands i = greatest_need (λ d. d.span == 1 && d.start == i) demands
+base_size demands i = greatest_minimum (λ d. d.span == 1 && d.start == i) demands
 
 -- these needs for each of n numbers
 abbrev pub base_sizes : ℕ → List Demand → List ℕ
 base_sizes n demands = map (base_size demands) (range_with_len 0 n)
 
 -- how much the sizes in the range, with the lines inside of it, fall short of the need
-abbrev pub lack : (ℕ → Bool) → List ℕ → Demand → ℕ
-lack line sizes d = d.need - (range_sum sizes d + inner_lines line d)
+abbrev pub deficit : (ℕ → Bool) → List ℕ → Demand → ℕ
+deficit line sizes d = d.minimum - (range_sum sizes d + inner_lines line d)
 
 -- what number i gets of an amount: each of the range the same, and its first what is left over
 abbrev pub share : ℕ → Demand → ℕ → ℕ
@@ -24,20 +24,20 @@ share amount d i =
     if i == d.start then amount / d.span + amount % d.span else (if holds d i then amount / d.span else 0)
 
 -- these sizes, each with its share
-abbrev pub with_shares : ℕ → Demand → List ℕ → List ℕ
-with_shares amount d sizes =
+abbrev pub distributed : ℕ → Demand → List ℕ → List ℕ
+distributed amount d sizes =
     map (λ i. slice_index sizes i + share amount d i) (range_with_len 0 (length sizes))
 
 -- the sizes after the cell was taken: its range shares what it lacks
-abbrev pub grown : (ℕ → Bool) → List ℕ → Demand → List ℕ
-grown line sizes d = with_shares (lack line sizes d) d sizes
+abbrev pub grown_sizes : (ℕ → Bool) → List ℕ → Demand → List ℕ
+grown_sizes line sizes d = distributed (deficit line sizes d) d sizes
 
 -- the cells of longer ranges in the order in which they are taken, by (span, row, column): those of span 2, then those of
 -- span 3, and so on up to n
-abbrev pub taken : ℕ → List Demand → List Demand
-taken n demands = flat_map (λ span. filter (λ d. d.span == span) demands) (range_with_len 2 (n - 1))
+abbrev pub by_span : ℕ → List Demand → List Demand
+by_span n demands = flat_map (λ span. filter (λ d. d.span == span) demands) (range_with_len 2 (n - 1))
 
 -- the sizes after they were taken
 abbrev pub sizes_of : Problem → List ℕ
 sizes_of problem =
-    fold (grown problem.line) (base_sizes problem.count problem.demands) (taken problem.count problem.demands)
+    fold (grown_sizes problem.line) (base_sizes problem.count problem.demands) (by_span problem.count problem.demands)

@@ -2,7 +2,7 @@
 
 ghost use Rattle.std.specs.Prelude.{ℕ, Bool, ◌==◌, ◌&&◌, ◌*◌, ◌-◌, true, false, ◌≡◌, ◌+◌, ◌<◌, ◌≤◌, ◌^◌, ◌↔◌, ◌∷◌, ◌++◌, [], IfNone, IfSome, IsTrue, List, length, slice_index, sum};
 ghost use Rattle.papergrid_values.specs.declared.position.Position.{Position};
-ghost use Rattle.papergrid_axis.specs.Problem.{given};
+ghost use Rattle.papergrid_axis.specs.Problem.{problem_of_demands};
 ghost use Rattle.papergrid_axis.specs.declared.demand.Demand.{Demand};
 ghost use Rattle.papergrid_values.specs.declared.direction.Direction.{Direction};
 ghost use Rattle.papergrid_axis.specs.ForProofs.Checks.{AreBounded, AreDistinct, Checks, ChecksFor, IsCandidate, SumsAgree, range_of};
@@ -20,7 +20,7 @@ use papergrid_values::Position;
 pub struct Checked {
     pub holds: bool,
     pub found: usize,
-    pub needs: u128,
+    pub minimums: u128,
     pub inner: u128,
 }
 
@@ -35,14 +35,14 @@ impl Checked {
         Checked {
             holds: true,
             found: 0,
-            needs: 0,
+            minimums: 0,
             inner: 0,
         }
     }
 }
 
 /// The measure with the paddings before and after it.
-pub fn wide_need(measure: usize, before: usize, after: usize) -> u128
+pub fn wide_minimum(measure: usize, before: usize, after: usize) -> u128
     ensures sum { result ≡ measure + before + after }
     ensures small { result ≤ 2 ^ 66 }
 {
@@ -78,21 +78,21 @@ fn count_inner<A: Axis>(axis: &A, start: usize, span: usize) -> usize
 
 /// The lines inside of a range, where it lies in the table and the sizes in it and these lines come
 /// to the need.
-fn room<A: Axis>(axis: &A, sizes: &[usize], start: usize, span: usize, need: u128) -> Option<usize>
+fn room<A: Axis>(axis: &A, sizes: &[usize], start: usize, span: usize, minimum: u128) -> Option<usize>
     requires { 1 ≤ span }
     ensures inside { IfSome result (λ inner. start + span ≤ length sizes.now) }
     ensures inner { IfSome result (λ inner.
-        inner ≡ inner_lines (A.line axis.now) (range_of start span need)) }
+        inner ≡ inner_lines (A.line axis.now) (range_of start span minimum)) }
     ensures room { IfSome result (λ inner.
-        HasRoom (A.line axis.now) sizes.now (range_of start span need)) }
+        HasRoom (A.line axis.now) sizes.now (range_of start span minimum)) }
     ensures none { IfNone result (start + span ≤ length sizes.now →
-        HasRoom (A.line axis.now) sizes.now (range_of start span need) → ⊥) }
+        HasRoom (A.line axis.now) sizes.now (range_of start span minimum) → ⊥) }
 {
     if start > sizes.len() || span > sizes.len() - start {
         return None;
     }
     let inner = count_inner(axis, start, span);
-    if need <= wide_sum(&sizes[start..start + span]) + inner as u128 {
+    if minimum <= wide_sum(&sizes[start..start + span]) + inner as u128 {
         Some(inner)
     } else {
         None
@@ -106,22 +106,22 @@ fn failed(checked: Checked) -> Checked
     Checked {
         holds: false,
         found: checked.found,
-        needs: checked.needs,
+        minimums: checked.minimums,
         inner: checked.inner,
     }
 }
 
 /// What was kept, and a cell that is listed so often, with its need and its inner lines.
-fn with_cell(checked: Checked, times: usize, need: u128, inner: usize) -> Checked
+fn with_cell(checked: Checked, times: usize, minimum: u128, inner: usize) -> Checked
     requires holds { checked.holds ≡ true }
     requires found { checked.found + times < 2 ^ 59 }
-    requires needs { checked.needs ≤ 2 ^ 66 * checked.found }
+    requires minimums { checked.minimums ≤ 2 ^ 66 * checked.found }
     requires inner { checked.inner ≤ 2 ^ 64 * checked.found }
-    requires need { need ≤ 2 ^ 66 }
+    requires minimum { minimum ≤ 2 ^ 66 }
     ensures { result ≡ record {
       holds = true;
       found = checked.found + times;
-      needs = checked.needs + need * times;
+      minimums = checked.minimums + minimum * times;
       inner = checked.inner + inner * times;
     } }
 {
@@ -131,19 +131,19 @@ fn with_cell(checked: Checked, times: usize, need: u128, inner: usize) -> Checke
     Checked {
         holds: true,
         found: checked.found + times,
-        needs: checked.needs + need * times as u128,
+        minimums: checked.minimums + minimum * times as u128,
         inner: checked.inner + inner as u128 * times as u128,
     }
 }
 
 /// Whether a range that begins at a number has room for the need whatever its span is, since the size
 /// of that number has.
-fn has_room_alone(candidate: &Candidate<'_>, start: usize, need: u128) -> bool
+fn has_room_alone(candidate: &Candidate<'_>, start: usize, minimum: u128) -> bool
     ensures { IsTrue result → (candidate.now.ends_within ≡ true)
         × (start < length candidate.now.sizes.now)
-        × (need ≤ slice_index candidate.now.sizes.now start) }
+        × (minimum ≤ slice_index candidate.now.sizes.now start) }
 {
-    candidate.ends_within && start < candidate.sizes.len() && need <= candidate.sizes[start] as u128
+    candidate.ends_within && start < candidate.sizes.len() && minimum <= candidate.sizes[start] as u128
 }
 
 /// What is kept of the cells met and of one more, the visible cell at a position with its need.
@@ -154,29 +154,29 @@ pub fn visit<A: Axis>(
     candidate: &Candidate<'_>,
     axis: &A,
     place: Position,
-    need: u128,
+    minimum: u128,
 ) -> Checked
     requires bounded { AreBounded candidate.now.places.now checked }
     requires ordered { IsCandidate (A.span_of axis.now) candidate.now }
-    requires need { need ≤ 2 ^ 66 }
+    requires minimum { minimum ≤ 2 ^ 66 }
     ensures bounded { AreBounded candidate.now.places.now result }
     ensures checks { let checks = ChecksFor (A.line axis.now) (A.span_of axis.now) candidate.now in
-        let demand = demand_of candidate.now.direction place (A.span_of axis.now place) need in
+        let demand = demand_of candidate.now.direction place (A.span_of axis.now place) minimum in
         (demands : List Demand) → checks checked demands → checks result (demands ++ demand ∷ []) }
 {
     let start = candidate.direction.number_of(place);
     let times = count_listed(candidate, place);
-    if checked.holds && times == 0 && has_room_alone(candidate, start, need) {
+    if checked.holds && times == 0 && has_room_alone(candidate, start, minimum) {
         return checked;
     }
     let span = axis.span(place);
     if !checked.holds {
         return failed(checked);
     }
-    match room(axis, candidate.sizes, start, span, need) {
+    match room(axis, candidate.sizes, start, span, minimum) {
         Some(inner) => {
             if times <= candidate.places.len() - checked.found {
-                with_cell(checked, times, need, inner)
+                with_cell(checked, times, minimum, inner)
             } else {
                 failed(checked)
             }
@@ -192,7 +192,7 @@ pub fn is_unchanged(before: Checked, after: Checked) -> bool
     if before.holds != after.holds {
         return false;
     }
-    before.found == after.found && before.needs == after.needs && before.inner == after.inner
+    before.found == after.found && before.minimums == after.minimums && before.inner == after.inner
 }
 
 /// Whether all cells have room, each position is a cell's, and the needs of the listed cells less
@@ -207,7 +207,7 @@ fn sums_agree(checked: Checked, sizes: &[usize], places: &[Position]) -> bool
     if checked.found != places.len() {
         return false;
     }
-    checked.needs == wide_sum(sizes) + checked.inner
+    checked.minimums == wide_sum(sizes) + checked.inner
 }
 
 /// Whether the sizes of `count` columns (rows) fit the visible cells met, of which none reaches out,
@@ -218,11 +218,11 @@ pub fn accepts<A: Axis>(checked: Checked, candidate: &Candidate<'_>, axis: &A, c
     requires ordered { IsCandidate (A.span_of axis.now) candidate.now }
     ensures exact { let checks = ChecksFor (A.line axis.now) (A.span_of axis.now) candidate.now in
         (demands : List Demand) → AreDistinct demands → checks checked demands →
-        let problem = given (A.line axis.now) count demands in
+        let problem = problem_of_demands (A.line axis.now) count demands in
         IsTrue result ↔ IsAccepted problem candidate.now.sizes.now candidate.now.places.now }
     ensures least { let checks = ChecksFor (A.line axis.now) (A.span_of axis.now) candidate.now in
         (demands : List Demand) → AreDistinct demands → checks checked demands → IsTrue result →
-        IsLeast (given (A.line axis.now) count demands) candidate.now.sizes.now }
+        IsLeast (problem_of_demands (A.line axis.now) count demands) candidate.now.sizes.now }
 {
     if candidate.sizes.len() != count {
         return false;

@@ -21,7 +21,7 @@ pub enum LayoutError {
 }
 
 /// What is found of a table, or why it has no sizes.
-pub type Found<T> = Result<T, LayoutError>;
+pub type LayoutResult<T> = Result<T, LayoutError>;
 
 impl From<AllocError> for LayoutError {
     ghost use Rattle.std.specs.Prelude.{◌≡◌};

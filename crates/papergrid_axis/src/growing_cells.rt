@@ -5,8 +5,8 @@ ghost use Rattle.std.specs.Option.{SomeIff};
 ghost use Rattle.papergrid_axis.specs.ForProofs.Settled.{line_at};
 ghost use Rattle.papergrid_values.specs.Lines.{all_lines};
 ghost use Rattle.papergrid_axis.specs.Ranges.{IsInTable, end_of, inner_lines};
-ghost use Rattle.papergrid_axis.specs.Sizes.{grown, lack, with_shares};
-ghost use Rattle.papergrid_axis.specs.Chosen.{growing};
+ghost use Rattle.papergrid_axis.specs.Sizes.{grown_sizes, deficit, distributed};
+ghost use Rattle.papergrid_axis.specs.Certificates.{growing_demands};
 
 use crate::demand::Demand;
 use std::alloc::{AllocError, Global};
@@ -58,23 +58,23 @@ pub fn lines_within(lines: &[bool], demand: Demand) -> usize
 }
 
 /// How much the sizes in the range of a cell, with the lines inside of it, fall short of its need.
-fn lack_of(sizes: &[usize], lines: &[bool], demand: Demand) -> usize
+fn deficit_of(sizes: &[usize], lines: &[bool], demand: Demand) -> usize
     requires table { IsInTable (length sizes.now) demand }
     requires lines { length sizes.now ≤ length lines.now }
-    ensures { result ≡ lack (line_at lines.now) sizes.now demand }
+    ensures { result ≡ deficit (line_at lines.now) sizes.now demand }
 {
     let room = sum_of(&sizes[demand.start..demand.start + demand.span]);
     let inner = lines_within(lines, demand);
-    demand.need.saturating_sub(room).saturating_sub(inner)
+    demand.minimum.saturating_sub(room).saturating_sub(inner)
 }
 
 /// Adds to each size in the range of a cell its share of the amount, and to the first what is left
 /// over.
-fn add_shares(sizes: &mut [usize], demand: Demand, amount: usize)
+fn distribute(sizes: &mut [usize], demand: Demand, amount: usize)
     requires table { IsInTable (length sizes.old) demand }
     requires room { (i : ℕ) → demand.start ≤ i → i < end_of demand →
         slice_index sizes.old i + amount < 2 ^ 64 }
-    ensures { sizes.new ≡ with_shares amount demand sizes.old }
+    ensures { sizes.new ≡ distributed amount demand sizes.old }
 {
     let each = amount / demand.span;
     let mut share = each + amount % demand.span;
@@ -89,14 +89,14 @@ fn add_shares(sizes: &mut [usize], demand: Demand, amount: usize)
 fn grow(sizes: &mut [usize], lines: &[bool], demand: Demand) -> bool
     requires table { IsInTable (length sizes.old) demand }
     requires lines { length sizes.old ≤ length lines.now }
-    ensures grown { sizes.new ≡ grown (line_at lines.now) sizes.old demand }
-    ensures grew { IsTrue result ↔ 0 < lack (line_at lines.now) sizes.old demand }
+    ensures grown { sizes.new ≡ grown_sizes (line_at lines.now) sizes.old demand }
+    ensures grew { IsTrue result ↔ 0 < deficit (line_at lines.now) sizes.old demand }
 {
-    let lack = lack_of(sizes, lines, demand);
-    if lack == 0 {
+    let deficit = deficit_of(sizes, lines, demand);
+    if deficit == 0 {
         return false;
     }
-    add_shares(sizes, demand, lack);
+    distribute(sizes, demand, deficit);
     true
 }
 
@@ -110,8 +110,8 @@ pub fn grow_all(
     requires cells { All (IsInTable (length sizes.old)) cells.now }
     requires lines { length lines.now ≡ length sizes.old + 1 }
     ensures growing_cells { IfOk result (λ growing_cells.
-        growing_cells.items ≡ growing (line_at lines.now) sizes.old cells.now) }
-    ensures sizes { OnOk result (sizes.new ≡ fold (grown (line_at lines.now)) sizes.old cells.now) }
+        growing_cells.items ≡ growing_demands (line_at lines.now) sizes.old cells.now) }
+    ensures sizes { OnOk result (sizes.new ≡ fold (grown_sizes (line_at lines.now)) sizes.old cells.now) }
 {
     let mut growing_cells = Vec::new(alloc);
     for demand in cells {

@@ -2,7 +2,7 @@
 
 ghost use Rattle.std.specs.Prelude.{◌≡◌, ◌+◌, ◌<◌, ◌^◌, ◌↔◌, ℕ, All, EachIndex, IsTrue, None, Some, if◌then◌else◌, length, slice_index_or, true};
 ghost use Rattle.papergrid_axis.specs.declared.demand.Demand.{Demand};
-ghost use Rattle.papergrid_axis.specs.ForProofs.LastCells.{IsLaminar, last_holding};
+ghost use Rattle.papergrid_axis.specs.ForProofs.LastCells.{IsLaminarInOrder, last_holding};
 ghost use Rattle.papergrid_axis.specs.Ranges.{IsInTable, LiesIn, end_of, holds};
 
 use crate::demand::Demand;
@@ -62,7 +62,7 @@ fn covers_all(last: &[Option<Demand>], demand: Demand) -> bool
 pub fn are_laminar(last: &mut [Option<Demand>], cells: &[Demand]) -> bool
     requires none { All (λ cell. cell ≡ None) last.old }
     requires table { All (IsInTable (length last.old)) cells.now }
-    ensures { IsTrue result ↔ IsLaminar cells.now }
+    ensures { IsTrue result ↔ IsLaminarInOrder cells.now }
 {
     for demand in cells {
         if !covers_all(last, *demand) {

@@ -5,11 +5,11 @@ ghost use Rattle.papergrid_axis.specs.declared.candidate.Candidate.{Candidate};
 ghost use Rattle.papergrid_axis.specs.declared.checked.Checked.{Checked};
 ghost use Rattle.papergrid_axis.specs.declared.demand.Demand.{Demand};
 ghost use Rattle.papergrid_axis.specs.declared.error.LayoutError.{LayoutError};
-ghost use Rattle.papergrid_axis.specs.Chosen.{chosen_of};
-ghost use Rattle.papergrid_axis.specs.Fits.{Fits, IsCertificate, IsLeast, top_need};
-ghost use Rattle.papergrid_axis.specs.KeptApart.{is_kept_apart};
+ghost use Rattle.papergrid_axis.specs.Certificates.{certificate_cells_of};
+ghost use Rattle.papergrid_axis.specs.Fits.{Fits, IsCertificate, IsLeast, top_minimum};
+ghost use Rattle.papergrid_axis.specs.Laminar.{is_laminar};
 ghost use Rattle.papergrid_axis.specs.Problem.{Problem};
-ghost use Rattle.papergrid_axis.specs.Ranges.{IsInTable, IsKeptApart, SomeCross};
+ghost use Rattle.papergrid_axis.specs.Ranges.{IsInTable, IsLaminar, SomeCross};
 ghost use Rattle.papergrid_axis.specs.Sizes.{sizes_of};
 
 pub use crate::worked::worked_rows;
@@ -40,21 +40,21 @@ pub fn certified_are_least()
 
 /// The sizes along a direction fit, and none is above the greatest need over its column (row); where
 /// ranges are kept apart, the chosen cells certify them.
-pub fn sizes_by_needs()
+pub fn sizes_by_minimums()
     ensures fit { (problem : Problem) → All (IsInTable problem.count) problem.demands →
         Fits problem (sizes_of problem) }
     ensures bound { (problem : Problem) → All (IsInTable problem.count) problem.demands →
         (i : ℕ) → i < problem.count →
-        slice_index (sizes_of problem) i ≤ top_need problem.demands i }
+        slice_index (sizes_of problem) i ≤ top_minimum problem.demands i }
     ensures certified { (problem : Problem) → All (IsInTable problem.count) problem.demands →
-        IsKeptApart problem.demands → IsCertificate problem (sizes_of problem) (chosen_of problem) }
+        IsLaminar problem.demands → IsCertificate problem (sizes_of problem) (certificate_cells_of problem) }
 {}
 
 /// Whether any two longer ranges are nested or disjoint can be computed; where they are not, two of
 /// them are neither.
-pub fn kept_apart_is_computed()
-    ensures kept_apart { (demands : List Demand) →
-        IsTrue (is_kept_apart demands) ↔ IsKeptApart demands }
+pub fn laminar_is_computed()
+    ensures laminar { (demands : List Demand) →
+        IsTrue (is_laminar demands) ↔ IsLaminar demands }
     ensures crossing { (demands : List Demand) →
-        (is_kept_apart demands ≡ false) ↔ SomeCross demands }
+        (is_laminar demands ≡ false) ↔ SomeCross demands }
 {}

@@ -5,23 +5,23 @@
 pub mod axis;
 pub mod candidate;
 pub mod checked;
-mod chosen;
+mod certificate_cells;
 pub mod demand;
 mod disjoint;
 pub mod error;
 pub mod growing_cells;
-pub mod kept;
+pub mod demands;
 mod last_cells;
 pub mod laws;
 pub mod settled;
 pub mod solution;
-mod witness;
+mod certificate;
 pub mod worked;
 
 pub use axis::Axis;
 pub use candidate::Candidate;
 pub use checked::Checked;
 pub use demand::Demand;
-pub use error::{Found, LayoutError};
-pub use kept::Kept;
+pub use error::{LayoutResult, LayoutError};
+pub use demands::Demands;
 pub use solution::{ByShares, Solved, Solver};

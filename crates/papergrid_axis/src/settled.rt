@@ -2,11 +2,11 @@
 //! order; and why there are none.
 
 ghost use Rattle.std.specs.Prelude.{All, Bool, EachIndex, IfNone, IfOk, IfSome, List, None, false, length, nat_lt, slice_index, slice_index_or, ℕ, ◌+◌, ◌≤◌, ◌≡◌};
-ghost use Rattle.papergrid_axis.specs.Problem.{given};
+ghost use Rattle.papergrid_axis.specs.Problem.{problem_of_demands};
 ghost use Rattle.papergrid_axis.specs.Ranges.{IsInTable, end_of, first_out};
-ghost use Rattle.papergrid_axis.specs.ForProofs.Kept.{IsKept, no_demand};
-ghost use Rattle.papergrid_axis.specs.KeptApart.{longer};
-ghost use Rattle.papergrid_axis.specs.Sizes.{taken};
+ghost use Rattle.papergrid_axis.specs.ForProofs.Demands.{AreGathered, no_demand};
+ghost use Rattle.papergrid_axis.specs.Laminar.{longer};
+ghost use Rattle.papergrid_axis.specs.Sizes.{by_span};
 ghost use Rattle.papergrid_axis.specs.declared.demand.Demand.{Demand};
 ghost use Rattle.papergrid_axis.specs.Answers.{IsRefusedWhere};
 ghost use Rattle.papergrid_axis.specs.ForProofs.Settled.{IsLargeInside, line_at};
@@ -14,7 +14,7 @@ ghost use Rattle.papergrid_axis.specs.ForProofs.Settled.{IsLargeInside, line_at}
 use crate::axis::Axis;
 use crate::demand::Demand;
 use crate::error::LayoutError;
-use crate::kept::{Kept, single_at};
+use crate::demands::{Demands, single_at};
 use papergrid_values::Position;
 use std::alloc::{AllocError, Global};
 
@@ -45,10 +45,10 @@ pub fn lines_of<A: Axis>(alloc: Global, axis: &A, count: usize) -> Result<Vec<bo
 pub fn write_base(sizes: &mut [usize], single_span: &[Demand])
     ensures length { length sizes.new ≡ length sizes.old }
     ensures base { EachIndex sizes.new (λ k.
-        slice_index sizes.new k ≡ (slice_index_or single_span.now k no_demand).need) }
+        slice_index sizes.new k ≡ (slice_index_or single_span.now k no_demand).minimum) }
 {
     for i in 0..sizes.len() {
-        sizes[i] = single_at(single_span, i).need;
+        sizes[i] = single_at(single_span, i).minimum;
     }
 }
 
@@ -64,9 +64,9 @@ fn longer(alloc: Global, demands: &[Demand]) -> Result<Vec<Demand>, AllocError>
 }
 
 /// The cells of longer ranges, the smaller spans first, and those of one span as they come.
-pub fn taken(alloc: Global, count: usize, demands: &[Demand]) -> Result<Vec<Demand>, AllocError>
+pub fn by_span(alloc: Global, count: usize, demands: &[Demand]) -> Result<Vec<Demand>, AllocError>
     requires { All (IsInTable count) demands.now }
-    ensures { IfOk result (λ cells. cells.items ≡ taken count demands.now) }
+    ensures { IfOk result (λ cells. cells.items ≡ by_span count demands.now) }
 {
     let mut cells = longer(alloc, demands)?;
     cells.sort_by_key(|demand| demand.span)?;
@@ -74,7 +74,7 @@ pub fn taken(alloc: Global, count: usize, demands: &[Demand]) -> Result<Vec<Dema
 }
 
 /// Whether the range of a cell ends past the last of `count` columns (rows).
-fn reaches_out(count: usize, demand: Demand) -> bool
+fn overflows(count: usize, demand: Demand) -> bool
     ensures { result ≡ nat_lt count (end_of demand) }
 {
     match demand.start.checked_add(demand.span) {
@@ -88,7 +88,7 @@ pub fn find_out(count: usize, demands: &[Demand]) -> Option<Position>
     ensures { result ≡ first_out count demands.now }
 {
     for demand in demands {
-        if reaches_out(count, *demand) {
+        if overflows(count, *demand) {
             return Some(demand.place());
         }
     }
@@ -96,11 +96,11 @@ pub fn find_out(count: usize, demands: &[Demand]) -> Option<Position>
 }
 
 /// Why the kept cells have no sizes, where one of them reaches out or has a large need.
-pub fn refusal(count: usize, kept: &Kept) -> Option<LayoutError>
-    requires { (demands : List Demand) × IsKept count kept.now demands }
+pub fn refusal(count: usize, kept: &Demands) -> Option<LayoutError>
+    requires { (demands : List Demand) × AreGathered count kept.now demands }
     ensures refused { IfSome result (λ error.
-        (line : ℕ → Bool) (demands : List Demand) → IsKept count kept.now demands →
-        IsRefusedWhere (given line count demands) (IsLargeInside count kept.now) error) }
+        (line : ℕ → Bool) (demands : List Demand) → AreGathered count kept.now demands →
+        IsRefusedWhere (problem_of_demands line count demands) (IsLargeInside count kept.now) error) }
     ensures inside { IfNone result (first_out count kept.now.rest.items ≡ None) }
     ensures small { IfNone result (kept.now.is_large ≡ false) }
 {

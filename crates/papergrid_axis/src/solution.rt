@@ -2,17 +2,17 @@
 
 ghost use Rattle.std.specs.Prelude.{Bool, List};
 ghost use Rattle.papergrid_axis.specs.Answers.{AnswersWhere};
-ghost use Rattle.papergrid_axis.specs.Problem.{Problem, given};
+ghost use Rattle.papergrid_axis.specs.Problem.{Problem, problem_of_demands};
 ghost use Rattle.papergrid_axis.specs.declared.demand.Demand.{Demand};
 ghost use Rattle.papergrid_axis.specs.declared.solution.Solved.{Solved};
-ghost use Rattle.papergrid_axis.specs.ForProofs.Kept.{IsKept};
+ghost use Rattle.papergrid_axis.specs.ForProofs.Demands.{AreGathered};
 
 use crate::axis::Axis;
-use crate::error::{Found, LayoutError};
+use crate::error::{LayoutResult, LayoutError};
 use crate::growing_cells::{checked_total, grow_all};
-use crate::kept::Kept;
-use crate::settled::{lines_of, refusal, taken, write_base};
-use crate::witness::certificate_of;
+use crate::demands::Demands;
+use crate::settled::{lines_of, refusal, by_span, write_base};
+use crate::certificate::certificate_of;
 use papergrid_values::Position;
 use std::alloc::Global;
 
@@ -43,13 +43,13 @@ pub trait Solver {
     fn solve<A: Axis>(
         alloc: Global,
         count: usize,
-        kept: &Kept,
+        kept: &Demands,
         axis: &A,
         certify: bool,
-    ) -> Found<Solved>
-        requires { (demands : List Demand) × IsKept count kept.now demands }
-        ensures { (demands : List Demand) → IsKept count kept.now demands →
-            let problem = given (A.line axis.now) count demands in
+    ) -> LayoutResult<Solved>
+        requires { (demands : List Demand) × AreGathered count kept.now demands }
+        ensures { (demands : List Demand) → AreGathered count kept.now demands →
+            let problem = problem_of_demands (A.line axis.now) count demands in
             AnswersWhere too_large (solves certify) problem result };
 }
 
@@ -58,19 +58,19 @@ pub trait Solver {
 pub struct ByShares {}
 
 impl Solver for ByShares {
-    ghost use Rattle.papergrid_axis.specs.Answers.{AreSizes, IsSolvedBy, IsWitness, NoneHolds};
+    ghost use Rattle.papergrid_axis.specs.Answers.{AreSizes, IsSolvedBy, IsCertificateOrNone, NoneHolds};
 
-    ghost solves = { λ certify problem solved. IsSolvedBy AreSizes IsWitness certify problem solved };
+    ghost solves = { λ certify problem solved. IsSolvedBy AreSizes IsCertificateOrNone certify problem solved };
 
     ghost too_large = { NoneHolds };
 
     fn solve<A: Axis>(
         alloc: Global,
         count: usize,
-        kept: &Kept,
+        kept: &Demands,
         axis: &A,
         certify: bool,
-    ) -> Found<Solved> {
+    ) -> LayoutResult<Solved> {
         // A count that no memory holds is refused before it is counted up to.
         let mut sizes = vec![in alloc; 0; count]?;
         let lines = lines_of(alloc, axis, count)?;
@@ -78,7 +78,7 @@ impl Solver for ByShares {
             return Err(error);
         }
         write_base(&mut sizes, &kept.single_span);
-        let cells = taken(alloc, count, &kept.rest)?;
+        let cells = by_span(alloc, count, &kept.rest)?;
         let growing_cells = grow_all(alloc, &mut sizes, &lines, &cells)?;
         let Some(total) = checked_total(&sizes, &lines) else {
             return Err(LayoutError::TooLarge);

@@ -5,7 +5,7 @@ use crate::reading::Words;
 use crate::table::Told;
 use papergrid_config::{CompactConfig, SpannedConfig};
 use papergrid_layout::{
-    CompactGridDimension, Estimate, Found, IterGridDimension, LayoutError, LeastGridDimension,
+    CompactGridDimension, Estimate, LayoutResult, IterGridDimension, LayoutError, LeastGridDimension,
     PeekableGridDimension,
 };
 use papergrid_text::VecRecords;
@@ -74,7 +74,7 @@ impl Shown for Option<Vec<Position>> {
 }
 
 /// Shows what is found, or why nothing is.
-pub fn show<T: Shown>(found: Found<T>, answer: &mut Answer) {
+pub fn show<T: Shown>(found: LayoutResult<T>, answer: &mut Answer) {
     match found {
         Ok(value) => value.show(answer),
         Err(LayoutError::OutOfTable(cell)) => {
@@ -87,7 +87,7 @@ pub fn show<T: Shown>(found: Found<T>, answer: &mut Answer) {
 }
 
 /// Shows what both ways to ask find.
-fn show_both<T: Shown + PartialEq>(one: Found<T>, other: Found<T>, answer: &mut Answer) {
+fn show_both<T: Shown + PartialEq>(one: LayoutResult<T>, other: LayoutResult<T>, answer: &mut Answer) {
     let is_same = one == other;
     show(one, answer);
     if !is_same {
@@ -177,23 +177,23 @@ fn ask_least(told: Told<'_>, word: &str, words: &mut Words<'_>, answer: &mut Ans
 }
 
 /// The sizes by an estimate of the texts.
-pub fn by_texts(told: Told<'_>) -> Found<Sizes> {
+pub fn by_texts(told: Told<'_>) -> LayoutResult<Sizes> {
     let mut dimension = IterGridDimension::new(told.alloc);
     dimension.estimate(told.table.texts(), told.config)?;
     Ok(dimension.get_values())
 }
 
-fn by_measured(told: Told<'_>) -> Found<Sizes> {
+fn by_measured(told: Told<'_>) -> LayoutResult<Sizes> {
     let mut dimension = PeekableGridDimension::new(told.alloc);
     dimension.estimate(told.table.measured(), told.config)?;
     Ok(dimension.get_values())
 }
 
-fn at_once(told: Told<'_>) -> Found<Sizes> {
+fn at_once(told: Told<'_>) -> LayoutResult<Sizes> {
     PeekableGridDimension::dimension(told.alloc, told.table.measured(), told.config)
 }
 
-fn least(told: Told<'_>) -> Found<Sizes> {
+fn least(told: Told<'_>) -> LayoutResult<Sizes> {
     let mut dimension = LeastGridDimension::new(told.alloc);
     dimension.estimate(told.table.lent(), told.config)?;
     Ok(dimension.get_values())
@@ -222,7 +222,7 @@ fn ask_compact(told: Told<'_>, answer: &mut Answer) {
 }
 
 /// The sizes that a dimension holds of one cell `ab`, after an estimate of the table that is refused or not.
-fn kept(told: Told<'_>) -> Found<Sizes> {
+fn kept(told: Told<'_>) -> LayoutResult<Sizes> {
     let config = SpannedConfig::new(told.alloc);
     let small = of_small(told.alloc, &config);
     drop(config);
@@ -232,7 +232,7 @@ fn kept(told: Told<'_>) -> Found<Sizes> {
 }
 
 /// A dimension that holds the sizes of a cell of its own.
-fn of_small(alloc: Global, config: &SpannedConfig) -> Found<IterGridDimension> {
+fn of_small(alloc: Global, config: &SpannedConfig) -> LayoutResult<IterGridDimension> {
     let records = small(alloc)?;
     let mut dimension = IterGridDimension::new(alloc);
     dimension.estimate(records, config)?;

@@ -4,7 +4,7 @@ use Rattle.std.specs.Prelude.{slice_set, replicate}
 use Rattle.std.specs.List.{fold}
 use Rattle.std.proofs.lemmas.List.{map-append, length-map}
 use Rattle.std.proofs.lemmas.List.Sums.{fold-append}
-use Rattle.papergrid_checks.specs.ColumnWidths.{widen, greatest_widths, raised}
+use Rattle.papergrid_checks.specs.ColumnWidths.{widen, greatest_widths, raised_widths}
 use Rattle.papergrid_text.proofs.RowSteps.{map_map_twice, told_by}
 
 pub widen-none : (ws : List ℕ) → widen ws [] ≡ ws
@@ -12,22 +12,22 @@ widen-none [] = refl
 widen-none (w ∷ ws) = refl
 
 -- one more cell raises the number of its column, if there is one
-widen-more : (ws row : List ℕ) (c : ℕ) → widen ws (row ++ c ∷ []) ≡ raised (widen ws row) (length row) c
+widen-more : (ws row : List ℕ) (c : ℕ) → widen ws (row ++ c ∷ []) ≡ raised_widths (widen ws row) (length row) c
 widen-more [] row c = refl
 widen-more (w ∷ ws) [] c = ap (λ ys. max w c ∷ ys) (widen-none ws)
 widen-more (w ∷ ws) (r ∷ row) c = ap (λ ys. max w r ∷ ys) (widen-more ws row c)
 
-pub raised-past : (xs : List ℕ) (n v : ℕ) → length xs ≤ n → raised xs n v ≡ xs
+pub raised-past : (xs : List ℕ) (n v : ℕ) → length xs ≤ n → raised_widths xs n v ≡ xs
 raised-past [] n v h = refl
 raised-past (x ∷ xs) zero v h = absurd (omega arith)
 raised-past (x ∷ xs) (suc n) v h = ap (λ ys. x ∷ ys) (raised-past xs n v (omega arith))
 
-pub raised-keeps : (xs : List ℕ) (n v : ℕ) → n < length xs → v ≤ get_or xs n 0 → raised xs n v ≡ xs
+pub raised-keeps : (xs : List ℕ) (n v : ℕ) → n < length xs → v ≤ get_or xs n 0 → raised_widths xs n v ≡ xs
 raised-keeps [] n v h k = absurd (omega arith)
 raised-keeps (x ∷ xs) zero v h k = let e : max x v ≡ x = omega arith in cc
 raised-keeps (x ∷ xs) (suc n) v h k = ap (λ ys. x ∷ ys) (raised-keeps xs n v (omega arith) k)
 
-pub raised-writes : (xs : List ℕ) (n v : ℕ) → n < length xs → get_or xs n 0 < v → raised xs n v ≡ slice_set xs n v
+pub raised-writes : (xs : List ℕ) (n v : ℕ) → n < length xs → get_or xs n 0 < v → raised_widths xs n v ≡ slice_set xs n v
 raised-writes [] n v h k = absurd (omega arith)
 raised-writes (x ∷ xs) zero v h k = let e : max x v ≡ v = omega arith in cc
 raised-writes (x ∷ xs) (suc n) v h k = ap (λ ys. x ∷ ys) (raised-writes xs n v (omega arith) k)
@@ -35,7 +35,7 @@ raised-writes (x ∷ xs) (suc n) v h k = ap (λ ys. x ∷ ys) (raised-writes xs 
 pub ruleset raise_rules = (raised-past, raised-keeps, raised-writes)
 
 -- the same, in terms of the cells themselves
-pub step-cell : {C : Type 0} (f : C → ℕ) (ws old new : List ℕ) (cells : List C) (cell : C) (n v : ℕ) → old ≡ widen ws (map f cells) → n ≡ length cells → v ≡ f cell → new ≡ raised old n v → new ≡ widen ws (map f (cells ++ cell ∷ []))
+pub step-cell : {C : Type 0} (f : C → ℕ) (ws old new : List ℕ) (cells : List C) (cell : C) (n v : ℕ) → old ≡ widen ws (map f cells) → n ≡ length cells → v ≡ f cell → new ≡ raised_widths old n v → new ≡ widen ws (map f (cells ++ cell ∷ []))
 step-cell f ws old new cells cell n v e same is step =
     let m = map-append f cells (cell ∷ []) in let l = same ∙ sym (length-map cells f) in
     rw (m, widen-more ws (map f cells) (f cell), ← e, ← l, ← is) step

@@ -13,7 +13,7 @@ abbrev pub greatest_widths : ℕ → List (List ℕ) → List ℕ
 greatest_widths n rows = fold widen (replicate n 0) rows
 
 -- the numbers, with v in place n where that is greater
-abbrev pub raised : List ℕ → ℕ → ℕ → List ℕ
-raised [] n v = []
-raised (x ∷ xs) zero v = max x v ∷ xs
-raised (x ∷ xs) (suc n) v = x ∷ raised xs n v
+abbrev pub raised_widths : List ℕ → ℕ → ℕ → List ℕ
+raised_widths [] n v = []
+raised_widths (x ∷ xs) zero v = max x v ∷ xs
+raised_widths (x ∷ xs) (suc n) v = x ∷ raised_widths xs n v

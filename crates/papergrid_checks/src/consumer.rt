@@ -1,7 +1,7 @@
 //! A consumer of any lawful records: their contracts suffice for an exact answer.
 
 ghost use Rattle.std.specs.Prelude.{◌≡◌, List, map, IfOk};
-ghost use Rattle.papergrid_checks.specs.ColumnWidths.{greatest_widths, raised};
+ghost use Rattle.papergrid_checks.specs.ColumnWidths.{greatest_widths, raised_widths};
 ghost use Rattle.papergrid_text.specs.Text.{text_width};
 
 use papergrid_text::records::{IntoRecords, Records};
@@ -31,7 +31,7 @@ where
 
 #[tactic(auto, using(crate::proofs::ColumnWidths::raise_rules))]
 fn raise(widths: &mut Vec<usize>, column: usize, width: usize)
-    ensures { widths.new.items ≡ raised widths.old.items column width }
+    ensures { widths.new.items ≡ raised_widths widths.old.items column width }
 {
     if column < widths.len() {
         if widths[column] < width {

@@ -25,18 +25,18 @@ fn laws_of_values() {
 
 #[test]
 fn laws_of_tables() {
-    tables::told_makes_borders::<char>();
+    tables::history_makes_borders::<char>();
     tables::equal_overrides::<char>();
     tables::equal_borders::<char>();
-    tables::equal_told_tables::<char>();
+    tables::equal_tables_by_history::<char>();
 }
 
 #[test]
 fn laws_of_maps() {
-    maps::told_decides::<char>();
-    maps::told_makes_spans();
+    maps::history_decides::<char>();
+    maps::history_makes_spans();
     maps::visible_by_rectangles();
-    maps::equal_told_maps::<char>();
+    maps::equal_maps_by_history::<char>();
     maps::plain_default();
     maps::one_value_each();
     maps::empty_colors::<NoColors>();
@@ -67,7 +67,7 @@ fn laws_of_texts() {
 fn laws_of_sizes() {
     axis::worked_rows();
     axis::certified_are_least();
-    axis::sizes_by_needs();
+    axis::sizes_by_minimums();
     axis::equal_by_fields();
     axis::equal_clones();
     layout::equal_clones();

@@ -6,7 +6,7 @@ use Rattle.papergrid_values.specs.declared.direction.Direction.TheVariants.{Colu
 use Rattle.papergrid_maps.proofs.Applied.{AppliedSoFar}
 use Rattle.papergrid_config.specs.Changed.{changed_by, if_called, span_calls_along}
 use Rattle.papergrid_config.specs.Parts.{padding_calls, padding_color_calls, trim_horizontal_calls, trim_vertical_calls, line_alignment_calls, alignment_horizontal_calls, alignment_vertical_calls, justification_calls, justification_color_calls, character_calls, color_calls, horizontal_char_calls, vertical_char_calls, horizontal_color_calls, vertical_color_calls, margins, margin_colors, margin_offsets, missing_characters}
-use Rattle.papergrid_config.specs.Told.{Appends}
+use Rattle.papergrid_config.specs.History.{AppendsSettings}
 use Rattle.papergrid_config.specs.declared.setting.Setting.{Setting}
 use Rattle.papergrid_config.specs.declared.spanned.SpannedConfig.{SpannedConfig}
 use Rattle.papergrid_config.proofs.Applied.{appends_more}
@@ -89,13 +89,13 @@ module _ (xs ys : List Setting) where
 
 -- what is told of a configuration to which settings were applied, and what is as it was
 pub record Applies (old new : SpannedConfig) (settings : List Setting) : Type 0 where
-  pub told : Appends old new settings
+  pub told : AppendsSettings old new settings
   pub others : new ≡ changed_by settings old new
 
-pub applies_none : (old : SpannedConfig) → Appends old old [] → Applies old old []
+pub applies_none : (old : SpannedConfig) → AppendsSettings old old [] → Applies old old []
 applies_none old told = record { told = told; others = unchanged [] [] old }
 
-pub applies_more : {old mid new : SpannedConfig} (xs ys : List Setting) → Applies old mid xs → Appends mid new ys → new ≡ changed_by ys mid new → Applies old new (xs ++ ys)
+pub applies_more : {old mid new : SpannedConfig} (xs ys : List Setting) → Applies old mid xs → AppendsSettings mid new ys → new ≡ changed_by ys mid new → Applies old new (xs ++ ys)
 applies_more {old = old} {mid = mid} {new = new} xs ys first told others = record {
   told = appends_more xs ys first.told told;
   others = changed_more xs ys old mid new first.others others;

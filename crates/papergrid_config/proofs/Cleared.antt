@@ -3,16 +3,16 @@ use Rattle.std.proofs.Common.{ℕ, arith, List, [], ◌∷◌, ◌++◌}
 use Rattle.std.proofs.lemmas.Grind.{common_steps}
 use Rattle.papergrid_values.specs.declared.ansi_buf.ANSIBuf.{ANSIBuf}
 use Rattle.papergrid_tables.specs.BorderCalls.{BorderCall, Clear}
-use Rattle.papergrid_tables.specs.BorderHeld.{HeldBorders}
-use Rattle.papergrid_tables.specs.BorderHeld as lines
-use Rattle.papergrid_config.specs.Told.{Appends}
+use Rattle.papergrid_tables.specs.StoredBorders.{StoredBorders}
+use Rattle.papergrid_tables.specs.StoredBorders as lines
+use Rattle.papergrid_config.specs.History.{AppendsSettings}
 use Rattle.papergrid_config.specs.declared.setting.Setting.TheVariants.{RemoveBorders, RemoveBordersColors}
 use Rattle.papergrid_config.specs.declared.spanned.SpannedConfig.{SpannedConfig}
 
-pub characters_cleared : (config : SpannedConfig) (table : HeldBorders ℕ) → ((calls : List (BorderCall ℕ)) → lines.IsTold (calls ++ Clear ∷ []) table)
-    → Appends config (record config { characters = table }) (RemoveBorders ∷ [])
+pub characters_cleared : (config : SpannedConfig) (table : StoredBorders ℕ) → ((calls : List (BorderCall ℕ)) → lines.HasBorderHistory (calls ++ Clear ∷ []) table)
+    → AppendsSettings config (record config { characters = table }) (RemoveBorders ∷ [])
 characters_cleared config table cleared settings told = grind (arith, common_steps)
 
-pub colors_cleared : (config : SpannedConfig) (table : HeldBorders ANSIBuf) → ((calls : List (BorderCall ANSIBuf)) → lines.IsTold (calls ++ Clear ∷ []) table)
-    → Appends config (record config { colors = table }) (RemoveBordersColors ∷ [])
+pub colors_cleared : (config : SpannedConfig) (table : StoredBorders ANSIBuf) → ((calls : List (BorderCall ANSIBuf)) → lines.HasBorderHistory (calls ++ Clear ∷ []) table)
+    → AppendsSettings config (record config { colors = table }) (RemoveBordersColors ∷ [])
 colors_cleared config table cleared settings told = grind (arith, common_steps)

@@ -2,7 +2,7 @@ pub mod Applied
 pub mod ChangedLemmas
 pub mod Cleared
 pub mod Closures
-pub mod DecidingCallLemmas
+pub mod EffectiveCallLemmas
 pub mod EqualLemmas
 pub mod FoundLemmas
 pub mod GridLemmas

@@ -21,21 +21,21 @@ use Rattle.papergrid_values.specs.contracts.ansi_buf.ANSIBufPartialEq.TheImpl as
 use Rattle.papergrid_values.specs.contracts.indent.IndentPartialEq.TheImpl as indent
 use Rattle.papergrid_values.specs.contracts.offset.OffsetPartialEq.TheImpl as offset
 use Rattle.papergrid_keys.proofs.KeyLemmas.{exact_positions, position_total}
-use Rattle.papergrid_keys.proofs.EqualLemmas.{numbers_agree, option_same, places_agree}
+use Rattle.papergrid_keys.proofs.EqualLemmas.{numbers_agree, option_same, positions_agree}
 use Rattle.papergrid_keys.specs.Keys.{position_cmp}
-use Rattle.papergrid_tables.specs.BorderHeld.{HeldBorders}
+use Rattle.papergrid_tables.specs.StoredBorders.{StoredBorders}
 use Rattle.papergrid_tables.specs.BorderSame.{same_parts}
 use Rattle.papergrid_tables.specs.ForProofs.BorderEq.{borders_eq}
 use Rattle.papergrid_tables.specs.ForProofs.OffsetEq.{overrides_eq}
-use Rattle.papergrid_tables.specs.Overrides.{HeldOffsets, override_at}
+use Rattle.papergrid_tables.specs.Overrides.{StoredOffsets, override_at}
 use Rattle.papergrid_tables.proofs.BorderAgree.{borders_agree}
 use Rattle.papergrid_tables.proofs.OffsetEqual.{overrides_agree}
-use Rattle.papergrid_maps.specs.HeldSame.{HoldTheSameSpans}
-use Rattle.papergrid_maps.specs.MapEq.{held_eq}
-use Rattle.papergrid_maps.specs.MapHeld.{Held, held_for}
+use Rattle.papergrid_maps.specs.StoredSame.{HoldTheSameSpans}
+use Rattle.papergrid_maps.specs.MapEq.{stored_eq}
+use Rattle.papergrid_maps.specs.StoredMap.{Stored, held_for}
 use Rattle.papergrid_maps.specs.ForProofs.SpanEq.{spans_eq}
 use Rattle.papergrid_maps.specs.Spans.{Spans, spans_along}
-use Rattle.papergrid_maps.proofs.HeldAgree.{maps_agree, spans_agree}
+use Rattle.papergrid_maps.proofs.StoredAgree.{maps_agree, spans_agree}
 use Rattle.papergrid_values.specs.declared.direction.Direction.TheVariants.{Columns, Rows}
 use Rattle.papergrid_config.proofs.EqualLemmas.{optional_eq, sides_eq}
 
@@ -113,7 +113,7 @@ module _ {T : Type 0} (eq : T → T → Bool) (exact : IsExact eq) where
         right = exact x.right y.right c.1 i;
       }
 
-  pub exact_map : IsExact (held_eq eq)
+  pub exact_map : IsExact (stored_eq eq)
   exact_map m n h =
       let a = and_parts _ _ h in
       let b = and_parts _ _ a.1 in
@@ -122,7 +122,7 @@ module _ {T : Type 0} (eq : T → T → Bool) (exact : IsExact eq) where
         global = exact m.global n.global a.0 i;
         columns = same_map nat_cmp_total nat_cmp-IsAntisymmetric m.columns n.columns (λ k. exact_option eq exact (get m.columns k) (get n.columns k) ((numbers_agree eq m.columns n.columns).0 b.0 k)) i;
         rows = same_map nat_cmp_total nat_cmp-IsAntisymmetric m.rows n.rows (λ k. exact_option eq exact (get m.rows k) (get n.rows k) ((numbers_agree eq m.rows n.rows).0 c.0 k)) i;
-        cells = same_map position_total exact_positions m.cells n.cells (λ p. exact_option eq exact (get m.cells p) (get n.cells p) ((places_agree eq m.cells n.cells).0 c.1 p)) i;
+        cells = same_map position_total exact_positions m.cells n.cells (λ p. exact_option eq exact (get m.cells p) (get n.cells p) ((positions_agree eq m.cells n.cells).0 c.1 p)) i;
       }
 
   exact_parts : IsExact (same_parts eq)
@@ -186,7 +186,7 @@ spans_are s t same = λ i. record {
 }
 
 module _ {T : Type 0} (eq : T → T → Bool) (exact : IsExact eq) where
-  pub exact_overrides : (s t : FinMap position_cmp (HeldOffsets T)) → overrides_eq eq s t ≡ true → override_at s ≡ override_at t
+  pub exact_overrides : (s t : FinMap position_cmp (StoredOffsets T)) → overrides_eq eq s t ≡ true → override_at s ≡ override_at t
   exact_overrides s t h = λ i p o. exact_option eq exact (override_at s p o) (override_at t p o) ((overrides_agree eq s t).0 h p o) i
 
 -- ---- each equals what is the same
@@ -198,8 +198,8 @@ pub equal_spans : {s t : Spans} → s ≡ t → spans_eq s t ≡ true
 equal_spans {s = s} {t = t} is = (spans_agree s t).1 (λ d p. ap (λ spans. get (spans_along d spans) p) is)
 
 module _ {T : Type 0} (eq : T → T → Bool) (itself : (v : T) → eq v v ≡ true) where
-  pub equal_maps : {m n : Held T} → m ≡ n → held_eq eq m n ≡ true
-  equal_maps is = equal_at (held_eq eq) (λ m. (maps_agree eq m m).1 (λ entity. option_same eq itself (held_for m entity))) is
+  pub equal_maps : {m n : Stored T} → m ≡ n → stored_eq eq m n ≡ true
+  equal_maps is = equal_at (stored_eq eq) (λ m. (maps_agree eq m m).1 (λ entity. option_same eq itself (held_for m entity))) is
 
   parts_itself : (xs : List (Option T)) → same_parts eq xs xs ≡ true
   parts_itself [] = refl
@@ -209,7 +209,7 @@ module _ {T : Type 0} (eq : T → T → Bool) (itself : (v : T) → eq v v ≡ t
   line_itself parts None = refl
   line_itself parts (Some line) = parts_itself (parts line)
 
-  borders_itself : (s : HeldBorders T) → borders_eq eq s s ≡ true
+  borders_itself : (s : StoredBorders T) → borders_eq eq s s ≡ true
   borders_itself s = (borders_agree eq s s).1 (record {
     global = option_same eq itself s.global;
     frame = parts_itself (frame_parts s.frame);
@@ -220,8 +220,8 @@ module _ {T : Type 0} (eq : T → T → Bool) (itself : (v : T) → eq v v ≡ t
     corner = λ p. option_same eq itself (get s.corners p);
   })
 
-  pub equal_borders : {s t : HeldBorders T} → s ≡ t → borders_eq eq s t ≡ true
+  pub equal_borders : {s t : StoredBorders T} → s ≡ t → borders_eq eq s t ≡ true
   equal_borders is = equal_at (borders_eq eq) borders_itself is
 
-  pub equal_overrides : (s t : FinMap position_cmp (HeldOffsets T)) → override_at s ≡ override_at t → overrides_eq eq s t ≡ true
-  equal_overrides s t same = (overrides_agree eq s t).1 (λ p o. equal_at (option_eq eq) (option_same eq itself) (ap (λ held. held p o) same))
+  pub equal_overrides : (s t : FinMap position_cmp (StoredOffsets T)) → override_at s ≡ override_at t → overrides_eq eq s t ≡ true
+  equal_overrides s t same = (overrides_agree eq s t).1 (λ p o. equal_at (option_eq eq) (option_same eq itself) (ap (λ stored. stored p o) same))

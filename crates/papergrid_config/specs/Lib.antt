@@ -2,13 +2,13 @@
 pub mod Applied
 pub mod Changed
 pub mod ConfigSame
-pub mod Decided
-pub mod DecidingCall
+pub mod Effective
+pub mod EffectiveCall
 pub mod Grids
 pub mod Laws
 pub mod Lines
 pub mod Made
 pub mod Parts
 pub mod Queries
-pub mod Told
+pub mod History
 pub mod ForProofs

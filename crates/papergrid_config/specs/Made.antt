@@ -6,9 +6,9 @@ use Rattle.papergrid_values.specs.declared.ansi_str.ANSIStr.{ANSIStr}
 use Rattle.papergrid_values.specs.declared.borders.Borders.{Borders}
 use Rattle.papergrid_values.specs.declared.entity.Entity.TheVariants.{Global}
 use Rattle.papergrid_values.specs.declared.sides.Sides.{Sides}
-use Rattle.papergrid_tables.specs.BorderHeld.{HeldBorders}
+use Rattle.papergrid_tables.specs.StoredBorders.{StoredBorders}
 use Rattle.papergrid_tables.specs.Made.{borders_made}
-use Rattle.papergrid_tables.specs.Places.{Places, places_from}
+use Rattle.papergrid_tables.specs.BorderParts.{BorderParts, parts_from}
 use Rattle.papergrid_maps.specs.Made.{spans_made}
 use Rattle.papergrid_maps.specs.Spans.{Spans}
 use Rattle.papergrid_maps.specs.declared.compact.CompactConfig.{CompactConfig}
@@ -17,12 +17,12 @@ use Rattle.papergrid_config.specs.declared.setting.Setting.{Setting}
 use Rattle.papergrid_config.specs.declared.setting.Setting.TheVariants.{SetPadding, SetPaddingColor, SetAlignmentHorizontal, SetMargin, SetMarginColor, SetBorders, SetBordersColor}
 
 -- the characters of lines, and the spans
-abbrev pub characters_of : List Setting → HeldBorders ℕ
+abbrev pub characters_of : List Setting → StoredBorders ℕ
 characters_of settings = borders_made (flat_map character_calls settings)
 
 -- what the settings leave at each place of the lines, as the last call that sets it
-abbrev pub lines_left : List Setting → Places ℕ
-lines_left settings = places_from (reverse (flat_map character_calls settings))
+abbrev pub lines_left : List Setting → BorderParts ℕ
+lines_left settings = parts_from (reverse (flat_map character_calls settings))
 
 -- the spans
 abbrev pub spans_of : List Setting → Spans

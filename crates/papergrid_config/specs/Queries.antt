@@ -4,25 +4,25 @@ use Rattle.papergrid_values.specs.Keys.{sides_parts}
 use Rattle.papergrid_values.specs.Parts.{none_set}
 use Rattle.papergrid_values.specs.declared.ansi_buf.ANSIBuf.{ANSIBuf}
 use Rattle.papergrid_values.specs.declared.sides.Sides.{Sides}
-use Rattle.papergrid_tables.specs.BorderHeld as lines
+use Rattle.papergrid_tables.specs.StoredBorders as lines
 use Rattle.papergrid_tables.specs.Overrides as overrides
-use Rattle.papergrid_maps.specs.ColorsHeld.{IsBlank}
-use Rattle.papergrid_maps.specs.MapHeld.{Held, HasNothing, Holds}
+use Rattle.papergrid_maps.specs.StoredColors.{IsBlank}
+use Rattle.papergrid_maps.specs.StoredMap.{Stored, HasNothing, HoldsValue}
 use Rattle.papergrid_config.specs.declared.spanned.SpannedConfig.{SpannedConfig}
 
 -- a value with a side that is set is held, for the whole table or an entity of it
-abbrev pub HasSetSide : Held (Sides (Option ANSIBuf)) → Type 0
-HasSetSide held =
-    (colors : Sides (Option ANSIBuf)) × Holds held colors × (none_set (sides_parts colors) ≡ false)
+abbrev pub HasSetSide : Stored (Sides (Option ANSIBuf)) → Type 0
+HasSetSide stored =
+    (colors : Sides (Option ANSIBuf)) × HoldsValue stored colors × (none_set (sides_parts colors) ≡ false)
 
 module _ (config : SpannedConfig) where
   -- a colour is held for all lines, in the frame, or for a line, an edge or a corner
   abbrev pub HasBorderColors : Type 0
-  HasBorderColors = lines.IsTold [] config.colors → ⊥
+  HasBorderColors = lines.HasBorderHistory [] config.colors → ⊥
 
   -- some single character of a line is set
   abbrev pub HasOffsetChars : Type 0
-  HasOffsetChars = overrides.IsTold [] config.horizontal_chars × overrides.IsTold [] config.vertical_chars → ⊥
+  HasOffsetChars = overrides.HasOverrideHistory [] config.horizontal_chars × overrides.HasOverrideHistory [] config.vertical_chars → ⊥
 
   -- a character that justifies is held for a column, a row or a cell, or a colour of one for any entity
   abbrev pub HasJustification : Type 0

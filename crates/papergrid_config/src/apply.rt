@@ -2,9 +2,9 @@
 
 ghost use Rattle.std.specs.Prelude.{◌≡◌, ◌∷◌, [], ◌<◌, All, true, false, OnOk, OnErr, IfErr, IfSome, IsOk, length, slice_get, take};
 ghost use Rattle.papergrid_config.specs.Applied.{is_free, is_in_range};
-ghost use Rattle.papergrid_config.specs.ForProofs.Growing.{may_grow};
+ghost use Rattle.papergrid_config.specs.ForProofs.Growing.{may_grow_by};
 ghost use Rattle.papergrid_config.specs.Changed.{changed_by};
-ghost use Rattle.papergrid_config.specs.Told.{Adds, Appends};
+ghost use Rattle.papergrid_config.specs.History.{AddsSetting, AppendsSettings};
 
 use crate::setting::Setting;
 use crate::spanned::SpannedConfig;
@@ -18,7 +18,7 @@ impl SpannedConfig {
     /// setting is in range.
     pub fn apply(&mut self, setting: Setting) -> Result<(), AllocError>
         requires { is_in_range setting ≡ true }
-        ensures ok { OnOk result (Adds self.old self.new setting) }
+        ensures ok { OnOk result (AddsSetting self.old self.new setting) }
         ensures err { OnErr result (self.new ≡ self.old) }
         ensures free { is_free setting ≡ true → IsOk result }
         ensures others { self.new ≡ changed_by (setting ∷ []) self.old self.new }
@@ -64,9 +64,9 @@ impl SpannedConfig {
     /// belongs are as they were. Condition: each setting is in range.
     pub fn apply_all(&mut self, settings: Vec<Setting>) -> Result<(), Stopped>
         requires { All (λ setting. is_in_range setting ≡ true) settings.items }
-        ensures ok { OnOk result (Appends self.old self.new settings.items) }
+        ensures ok { OnOk result (AppendsSettings self.old self.new settings.items) }
         ensures err { IfErr result (λ stopped.
-            Appends self.old self.new (take stopped.done settings.items)) }
+            AppendsSettings self.old self.new (take stopped.done settings.items)) }
         ensures refused { IfErr result (λ stopped. stopped.done < length settings.items) }
         ensures blamed { IfErr result (λ stopped.
             IfSome (slice_get settings.items stopped.done) (λ setting. is_free setting ≡ false)) }
@@ -85,9 +85,9 @@ impl SpannedConfig {
 
     // Makes one of the calls that never ask for memory.
     fn apply_free(&mut self, setting: Setting)
-        requires free { may_grow setting ≡ false }
+        requires free { may_grow_by setting ≡ false }
         requires range { is_in_range setting ≡ true }
-        ensures told { Adds self.old self.new setting }
+        ensures told { AddsSetting self.old self.new setting }
         ensures others { self.new ≡ changed_by (setting ∷ []) self.old self.new }
     {
         match setting {

@@ -4,10 +4,10 @@
 ghost use Rattle.std.specs.Prelude.{◌≡◌, ◌+◌, ◌<◌, ◌^◌, nat_eq, OnOk, OnErr, IfOk, option_copied};
 ghost use Rattle.std.specs.FinMap.{get as value_at};
 ghost use Rattle.papergrid_values.specs.Borders.{border_map};
-ghost use Rattle.papergrid_tables.specs.BorderHeld.{places_of};
-ghost use Rattle.papergrid_tables.specs.Places.{found_border};
+ghost use Rattle.papergrid_tables.specs.StoredBorders.{parts_of_borders};
+ghost use Rattle.papergrid_tables.specs.BorderParts.{found_border};
 ghost use Rattle.papergrid_maps.specs.Listed.{HasAtEach};
-ghost use Rattle.papergrid_config.specs.Told.{Adds};
+ghost use Rattle.papergrid_config.specs.History.{AddsSetting};
 ghost use Rattle.papergrid_config.specs.declared.setting.Setting.TheVariants.{SetBorders, SetBordersColor, SetBorderDefault, SetBorderColorDefault, RemoveBorders, RemoveBordersColors, SetBorder, SetBorderColor, RemoveBorder, RemoveBorderColor, InsertHorizontalLine, InsertVerticalLine, RemoveHorizontalLine, RemoveVerticalLine};
 
 use crate::spanned::SpannedConfig;
@@ -19,7 +19,7 @@ use std::collections::HashMap;
 impl SpannedConfig {
     /// Sets the characters of the frame.
     pub fn set_borders(&mut self, borders: Borders<char>)
-        ensures told { Adds self.old self.new (SetBorders borders) }
+        ensures told { AddsSetting self.old self.new (SetBorders borders) }
         ensures others { self.new ≡ record self.old { characters = self.new.characters } }
     {
         self.characters.set_borders(borders);
@@ -34,7 +34,7 @@ impl SpannedConfig {
 
     /// Sets the colours of the frame.
     pub fn set_borders_color(&mut self, colors: Borders<ANSIBuf>)
-        ensures told { Adds self.old self.new (SetBordersColor colors) }
+        ensures told { AddsSetting self.old self.new (SetBordersColor colors) }
         ensures others { self.new ≡ record self.old { colors = self.new.colors } }
     {
         self.colors.set_borders(colors);
@@ -49,7 +49,7 @@ impl SpannedConfig {
 
     /// Sets the character of all lines.
     pub fn set_border_default(&mut self, character: char)
-        ensures told { Adds self.old self.new (SetBorderDefault character) }
+        ensures told { AddsSetting self.old self.new (SetBorderDefault character) }
         ensures others { self.new ≡ record self.old { characters = self.new.characters } }
     {
         self.characters.set_global(character);
@@ -64,7 +64,7 @@ impl SpannedConfig {
 
     /// Sets the colour of all lines, and drops all other colours of lines.
     pub fn set_border_color_default(&mut self, color: ANSIBuf)
-        ensures told { Adds self.old self.new (SetBorderColorDefault color) }
+        ensures told { AddsSetting self.old self.new (SetBorderColorDefault color) }
         ensures others { self.new ≡ record self.old { colors = self.new.colors } }
     {
         self.remove_borders_colors();
@@ -80,7 +80,7 @@ impl SpannedConfig {
 
     /// Drops all characters of lines, and keeps the missing character.
     pub fn remove_borders(&mut self)
-        ensures told { Adds self.old self.new RemoveBorders }
+        ensures told { AddsSetting self.old self.new RemoveBorders }
         ensures others { self.new ≡ record self.old { characters = self.new.characters } }
     {
         self.characters = BorderTable::new(self.alloc);
@@ -88,7 +88,7 @@ impl SpannedConfig {
 
     /// Drops all colours of lines.
     pub fn remove_borders_colors(&mut self)
-        ensures told { Adds self.old self.new RemoveBordersColors }
+        ensures told { AddsSetting self.old self.new RemoveBordersColors }
         ensures others { self.new ≡ record self.old { colors = self.new.colors } }
     {
         self.colors = BorderTable::new(self.alloc);
@@ -99,7 +99,7 @@ impl SpannedConfig {
     pub fn set_border(&mut self, pos: Position, border: Border<char>) -> Result<(), AllocError>
         requires row { pos.row + 1 < 2 ^ 64 }
         requires col { pos.col + 1 < 2 ^ 64 }
-        ensures ok { OnOk result (Adds self.old self.new (SetBorder pos border)) }
+        ensures ok { OnOk result (AddsSetting self.old self.new (SetBorder pos border)) }
         ensures err { OnErr result (self.new ≡ self.old) }
         ensures others { self.new ≡ record self.old { characters = self.new.characters } }
     {
@@ -115,7 +115,7 @@ impl SpannedConfig {
     ) -> Result<(), AllocError>
         requires row { pos.row + 1 < 2 ^ 64 }
         requires col { pos.col + 1 < 2 ^ 64 }
-        ensures ok { OnOk result (Adds self.old self.new (SetBorderColor pos border)) }
+        ensures ok { OnOk result (AddsSetting self.old self.new (SetBorderColor pos border)) }
         ensures err { OnErr result (self.new ≡ self.old) }
         ensures others { self.new ≡ record self.old { colors = self.new.colors } }
     {
@@ -127,7 +127,7 @@ impl SpannedConfig {
     pub fn get_border(&self, pos: Position, shape: (usize, usize)) -> Border<char>
         requires row { pos.row + 1 < 2 ^ 64 }
         requires col { pos.col + 1 < 2 ^ 64 }
-        ensures { result ≡ found_border (places_of self.now.characters) pos shape.0 shape.1 }
+        ensures { result ≡ found_border (parts_of_borders self.now.characters) pos shape.0 shape.1 }
     {
         self.characters.get_border(pos, shape).copied()
     }
@@ -138,7 +138,7 @@ impl SpannedConfig {
         requires row { pos.row + 1 < 2 ^ 64 }
         requires col { pos.col + 1 < 2 ^ 64 }
         ensures { border_map (λ part. part.now) result
-            ≡ found_border (places_of self.now.colors) pos shape.0 shape.1 }
+            ≡ found_border (parts_of_borders self.now.colors) pos shape.0 shape.1 }
     {
         self.colors.get_border(pos, shape)
     }
@@ -149,7 +149,7 @@ impl SpannedConfig {
     pub fn remove_border(&mut self, pos: Position, shape: (usize, usize))
         requires row { pos.row + 1 < 2 ^ 64 }
         requires col { pos.col + 1 < 2 ^ 64 }
-        ensures told { Adds self.old self.new (RemoveBorder pos shape) }
+        ensures told { AddsSetting self.old self.new (RemoveBorder pos shape) }
         ensures others { self.new ≡ record self.old { characters = self.new.characters } }
     {
         self.characters.remove_border(pos, shape);
@@ -161,7 +161,7 @@ impl SpannedConfig {
     pub fn remove_border_color(&mut self, pos: Position, shape: (usize, usize))
         requires row { pos.row + 1 < 2 ^ 64 }
         requires col { pos.col + 1 < 2 ^ 64 }
-        ensures told { Adds self.old self.new (RemoveBorderColor pos shape) }
+        ensures told { AddsSetting self.old self.new (RemoveBorderColor pos shape) }
         ensures others { self.new ≡ record self.old { colors = self.new.colors } }
     {
         self.colors.remove_border(pos, shape);
@@ -174,7 +174,7 @@ impl SpannedConfig {
         row: usize,
         line: HorizontalLine<char>,
     ) -> Result<(), AllocError>
-        ensures ok { OnOk result (Adds self.old self.new (InsertHorizontalLine row line)) }
+        ensures ok { OnOk result (AddsSetting self.old self.new (InsertHorizontalLine row line)) }
         ensures err { OnErr result (self.new ≡ self.old) }
         ensures others { self.new ≡ record self.old { characters = self.new.characters } }
     {
@@ -188,7 +188,7 @@ impl SpannedConfig {
         col: usize,
         line: VerticalLine<char>,
     ) -> Result<(), AllocError>
-        ensures ok { OnOk result (Adds self.old self.new (InsertVerticalLine col line)) }
+        ensures ok { OnOk result (AddsSetting self.old self.new (InsertVerticalLine col line)) }
         ensures err { OnErr result (self.new ≡ self.old) }
         ensures others { self.new ≡ record self.old { characters = self.new.characters } }
     {
@@ -197,7 +197,7 @@ impl SpannedConfig {
 
     /// Removes the horizontal line above a row. The count of rows decides nothing.
     pub fn remove_horizontal_line(&mut self, row: usize, count: usize)
-        ensures told { Adds self.old self.new (RemoveHorizontalLine row count) }
+        ensures told { AddsSetting self.old self.new (RemoveHorizontalLine row count) }
         ensures others { self.new ≡ record self.old { characters = self.new.characters } }
     {
         self.characters.remove_horizontal_line(row, count);
@@ -205,7 +205,7 @@ impl SpannedConfig {
 
     /// Removes the vertical line left of a column. The count of columns decides nothing.
     pub fn remove_vertical_line(&mut self, col: usize, count: usize)
-        ensures told { Adds self.old self.new (RemoveVerticalLine col count) }
+        ensures told { AddsSetting self.old self.new (RemoveVerticalLine col count) }
         ensures others { self.new ≡ record self.old { characters = self.new.characters } }
     {
         self.characters.remove_vertical_line(col, count);

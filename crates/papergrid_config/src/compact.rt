@@ -3,7 +3,7 @@
 ghost use Rattle.std.specs.Prelude.{◌≡◌, IfOk, OnOk, option_map};
 ghost use Rattle.papergrid_values.specs.Colors.{texts_of};
 ghost use Rattle.papergrid_config.specs.Made.{colored_frame, colored_sides, compact_settings};
-ghost use Rattle.papergrid_config.specs.Told.{IsTold};
+ghost use Rattle.papergrid_config.specs.History.{HasSettingHistory};
 
 use crate::spanned::SpannedConfig;
 use papergrid_maps::CompactConfig;
@@ -15,7 +15,7 @@ impl SpannedConfig {
     /// alignment for the whole table, its margin, its frame and their colours, or out of memory.
     /// Colours of a padding and a margin are set even where both of their texts are empty.
     pub fn from_compact(alloc: Global, compact: &CompactConfig) -> Result<SpannedConfig, AllocError>
-        ensures { IfOk result (λ config. IsTold (compact_settings compact.now) config) }
+        ensures { IfOk result (λ config. HasSettingHistory (compact_settings compact.now) config) }
     {
         let mut config = SpannedConfig::new(alloc);
         config.set_padding(Entity::Global, *compact.get_padding())?;

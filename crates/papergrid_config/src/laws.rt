@@ -3,17 +3,17 @@
 ghost use Rattle.std.specs.Prelude.{◌≡◌, ◌∷◌, [], ◌↔◌, ◌≤◌, ℕ, IsSome, IsTrue, List, length, true};
 ghost use Rattle.std.specs.List.{list_all};
 ghost use Rattle.papergrid_values.specs.declared.position.Position.{Position};
-ghost use Rattle.papergrid_tables.specs.BorderHeld.{HeldBorders, places_of};
+ghost use Rattle.papergrid_tables.specs.StoredBorders.{StoredBorders, parts_of_borders};
 ghost use Rattle.papergrid_tables.specs.LineTests.{horizontal_line_at, vertical_line_at};
-ghost use Rattle.papergrid_tables.specs.Places.{HasHorizontal, HasVertical};
-ghost use Rattle.papergrid_maps.specs.MapCalls.{decided_value};
+ghost use Rattle.papergrid_tables.specs.BorderParts.{HasHorizontal, HasVertical};
+ghost use Rattle.papergrid_maps.specs.MapCalls.{effective_value};
 ghost use Rattle.papergrid_maps.specs.declared.entity_map.MapCall.{MapCall};
 ghost use Rattle.papergrid_config.specs.ConfigSame.{HoldTheSameSettings};
-ghost use Rattle.papergrid_config.specs.DecidingCall.{IsDecided};
-ghost use Rattle.papergrid_config.specs.Laws.{HoldsWhatIsDecided};
+ghost use Rattle.papergrid_config.specs.EffectiveCall.{IsEffective};
+ghost use Rattle.papergrid_config.specs.Laws.{HoldsEffectiveValues};
 ghost use Rattle.papergrid_config.specs.Lines.{shown_horizontal, shown_intersection, shown_vertical};
 ghost use Rattle.papergrid_config.specs.Made.{characters_of, lines_left};
-ghost use Rattle.papergrid_config.specs.Told.{IsTold};
+ghost use Rattle.papergrid_config.specs.History.{HasSettingHistory};
 ghost use Rattle.papergrid_config.specs.declared.setting.Setting.{Setting};
 ghost use Rattle.papergrid_config.specs.declared.spanned.SpannedConfig.{SpannedConfig};
 
@@ -25,21 +25,21 @@ use papergrid_values::{ANSIBuf, AlignmentHorizontal, AlignmentVertical, Indent, 
 
 /// A configuration that is told by the settings has at each position what they decide, and the
 /// lines and spans that they make.
-pub fn told_decides()
-    ensures { (settings : List Setting) (config : SpannedConfig) → IsTold settings config →
-        HoldsWhatIsDecided settings config }
+pub fn history_decides()
+    ensures { (settings : List Setting) (config : SpannedConfig) → HasSettingHistory settings config →
+        HoldsEffectiveValues settings config }
 {}
 
 /// What is decided for a cell is what its deciding call says, by its place in the list: the last
 /// pin that counts, else the column's value that stands, else the row's, else the whole table's,
 /// else the one given at first; and nothing else is.
-pub fn decided_by_place<T>()
-    ensures decided { (given : T) (calls : List (MapCall T)) (r c : ℕ) →
-        IsDecided calls given r c (length calls)
-        (decided_value given calls (record { row = r; col = c })) }
+pub fn effective_by_place<T>()
+    ensures effective { (given : T) (calls : List (MapCall T)) (r c : ℕ) →
+        IsEffective calls given r c (length calls)
+        (effective_value given calls (record { row = r; col = c })) }
     ensures only { (given : T) (calls : List (MapCall T)) (r c : ℕ) (v : T) →
-        IsDecided calls given r c (length calls) v →
-        v ≡ decided_value given calls (record { row = r; col = c }) }
+        IsEffective calls given r c (length calls) v →
+        v ≡ effective_value given calls (record { row = r; col = c }) }
 {}
 
 /// There is a line among those that settings make exactly where what the settings leave at each
@@ -56,21 +56,21 @@ pub fn lines_by_place()
 /// In a table of so many columns (rows) a character is shown on a line exactly where the line is
 /// there, and one is shown where two lines that are there cross.
 pub fn shown_where_lines_are()
-    ensures vertical { (characters : HeldBorders ℕ) (missing : ℕ) (p : Position) (count : ℕ) →
+    ensures vertical { (characters : StoredBorders ℕ) (missing : ℕ) (p : Position) (count : ℕ) →
         p.col ≤ count → IsSome (shown_vertical characters missing p count)
-        ↔ HasVertical (places_of characters) p.col count }
-    ensures horizontal { (characters : HeldBorders ℕ) (missing : ℕ) (p : Position) (count : ℕ) →
+        ↔ HasVertical (parts_of_borders characters) p.col count }
+    ensures horizontal { (characters : StoredBorders ℕ) (missing : ℕ) (p : Position) (count : ℕ) →
         p.row ≤ count → IsSome (shown_horizontal characters missing p count)
-        ↔ HasHorizontal (places_of characters) p.row count }
-    ensures crossing { (characters : HeldBorders ℕ) (missing : ℕ) (p : Position) (rows cols : ℕ) →
-        HasHorizontal (places_of characters) p.row rows →
-        HasVertical (places_of characters) p.col cols →
+        ↔ HasHorizontal (parts_of_borders characters) p.row count }
+    ensures crossing { (characters : StoredBorders ℕ) (missing : ℕ) (p : Position) (rows cols : ℕ) →
+        HasHorizontal (parts_of_borders characters) p.row rows →
+        HasVertical (parts_of_borders characters) p.col cols →
         IsSome (shown_intersection characters missing p (rows, cols)) }
 {}
 
 /// Configurations are equal exactly where each of their parts is, and they are where they are told
 /// by the same settings.
-pub fn equal_where_told()
+pub fn equal_by_history()
     ensures by_parts { (x y : SpannedConfig) →
         ⟦<SpannedConfig as PartialEq>⟧.eq x y ≡ list_all (λ same. same) (
         ⟦<EntityMap<Sides<Indent>> as PartialEq>⟧.eq x.padding y.padding
@@ -96,7 +96,7 @@ pub fn equal_where_told()
         ∷ ⟦<Sides<Offset> as PartialEq>⟧.eq x.margin_offset y.margin_offset
         ∷ ⟦<char as PartialEq>⟧.eq x.missing y.missing ∷ []) }
     ensures told { (settings : List Setting) (x y : SpannedConfig) →
-        IsTold settings x → IsTold settings y →
+        HasSettingHistory settings x → HasSettingHistory settings y →
         IsTrue (⟦<SpannedConfig as PartialEq>⟧.eq x y) }
 {}
 

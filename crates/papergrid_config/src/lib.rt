@@ -4,7 +4,7 @@
 mod apply;
 mod borders;
 mod compact;
-mod found;
+mod line_queries;
 pub mod laws;
 mod margins;
 mod overrides;

@@ -1,7 +1,7 @@
 //! The margin of the whole table, and the missing character. Source: `config/spanned/mod.rs`.
 
 ghost use Rattle.std.specs.Prelude.{◌≡◌, option_copied};
-ghost use Rattle.papergrid_config.specs.Told.{Adds};
+ghost use Rattle.papergrid_config.specs.History.{AddsSetting};
 ghost use Rattle.papergrid_config.specs.declared.setting.Setting.TheVariants.{SetMargin, SetMarginColor, SetMarginOffset, SetBordersMissing};
 
 use crate::spanned::SpannedConfig;
@@ -11,7 +11,7 @@ impl SpannedConfig {
     /// Sets the room round the table, in columns of a terminal (left, right) and lines (top,
     /// bottom). It is never refused.
     pub fn set_margin(&mut self, margin: Sides<Indent>)
-        ensures told { Adds self.old self.new (SetMargin margin) }
+        ensures told { AddsSetting self.old self.new (SetMargin margin) }
         ensures others { self.new ≡ record self.old { margin = self.new.margin } }
     {
         self.margin = margin;
@@ -19,7 +19,7 @@ impl SpannedConfig {
 
     /// Sets the colours of that room. It is never refused.
     pub fn set_margin_color(&mut self, colors: Sides<Option<ANSIBuf>>)
-        ensures told { Adds self.old self.new (SetMarginColor colors) }
+        ensures told { AddsSetting self.old self.new (SetMarginColor colors) }
         ensures others { self.new ≡ record self.old { margin_color = self.new.margin_color } }
     {
         self.margin_color = colors;
@@ -27,7 +27,7 @@ impl SpannedConfig {
 
     /// Sets where that room begins and ends beside the table. It is never refused.
     pub fn set_margin_offset(&mut self, offsets: Sides<Offset>)
-        ensures told { Adds self.old self.new (SetMarginOffset offsets) }
+        ensures told { AddsSetting self.old self.new (SetMarginOffset offsets) }
         ensures others { self.new ≡ record self.old { margin_offset = self.new.margin_offset } }
     {
         self.margin_offset = offsets;
@@ -64,7 +64,7 @@ impl SpannedConfig {
 
     /// Sets the character of lines that have none. It is never refused.
     pub fn set_borders_missing(&mut self, character: char)
-        ensures told { Adds self.old self.new (SetBordersMissing character) }
+        ensures told { AddsSetting self.old self.new (SetBordersMissing character) }
         ensures others { self.new ≡ record self.old { missing = self.new.missing } }
     {
         self.missing = character;

@@ -3,7 +3,7 @@
 
 ghost use Rattle.std.specs.Prelude.{◌≡◌, ◌↔◌, OnOk, OnErr, IsTrue, option_copied};
 ghost use Rattle.papergrid_tables.specs.Overrides.{IsOverridden, found_override, override_at};
-ghost use Rattle.papergrid_config.specs.Told.{Adds};
+ghost use Rattle.papergrid_config.specs.History.{AddsSetting};
 ghost use Rattle.papergrid_config.specs.declared.setting.Setting.TheVariants.{SetHorizontalChar, RemoveOverriddenHorizontal, RemoveHorizontalChars, SetHorizontalCharColor, RemoveColorLineHorizontal, SetVerticalChar, RemoveOverriddenVertical, RemoveVerticalChars, SetVerticalCharColor, RemoveColorLineVertical};
 
 use crate::spanned::SpannedConfig;
@@ -21,7 +21,7 @@ impl SpannedConfig {
         offset: Offset,
         character: char,
     ) -> Result<(), AllocError>
-        ensures ok { OnOk result (Adds self.old self.new (SetHorizontalChar pos offset character)) }
+        ensures ok { OnOk result (AddsSetting self.old self.new (SetHorizontalChar pos offset character)) }
         ensures err { OnErr result (self.new ≡ self.old) }
         ensures others { self.new ≡
             record self.old { horizontal_chars = self.new.horizontal_chars } }
@@ -46,7 +46,7 @@ impl SpannedConfig {
 
     /// Removes the characters set on the line above a cell.
     pub fn remove_overridden_horizontal(&mut self, pos: Position)
-        ensures told { Adds self.old self.new (RemoveOverriddenHorizontal pos) }
+        ensures told { AddsSetting self.old self.new (RemoveOverriddenHorizontal pos) }
         ensures others { self.new ≡
             record self.old { horizontal_chars = self.new.horizontal_chars } }
     {
@@ -55,7 +55,7 @@ impl SpannedConfig {
 
     /// Removes the characters set on the lines above cells.
     pub fn remove_horizontal_chars(&mut self)
-        ensures told { Adds self.old self.new RemoveHorizontalChars }
+        ensures told { AddsSetting self.old self.new RemoveHorizontalChars }
         ensures others { self.new ≡
             record self.old { horizontal_chars = self.new.horizontal_chars } }
     {
@@ -71,7 +71,7 @@ impl SpannedConfig {
         color: ANSIBuf,
     ) -> Result<(), AllocError>
         ensures ok { OnOk result
-            (Adds self.old self.new (SetHorizontalCharColor pos offset color)) }
+            (AddsSetting self.old self.new (SetHorizontalCharColor pos offset color)) }
         ensures err { OnErr result (self.new ≡ self.old) }
         ensures others { self.new ≡
             record self.old { horizontal_colors = self.new.horizontal_colors } }
@@ -95,7 +95,7 @@ impl SpannedConfig {
 
     /// Removes the colours set on the lines above cells.
     pub fn remove_color_line_horizontal(&mut self)
-        ensures told { Adds self.old self.new RemoveColorLineHorizontal }
+        ensures told { AddsSetting self.old self.new RemoveColorLineHorizontal }
         ensures others { self.new ≡
             record self.old { horizontal_colors = self.new.horizontal_colors } }
     {
@@ -110,7 +110,7 @@ impl SpannedConfig {
         offset: Offset,
         character: char,
     ) -> Result<(), AllocError>
-        ensures ok { OnOk result (Adds self.old self.new (SetVerticalChar pos offset character)) }
+        ensures ok { OnOk result (AddsSetting self.old self.new (SetVerticalChar pos offset character)) }
         ensures err { OnErr result (self.new ≡ self.old) }
         ensures others { self.new ≡ record self.old { vertical_chars = self.new.vertical_chars } }
     {
@@ -134,7 +134,7 @@ impl SpannedConfig {
 
     /// Removes the characters set on the line left of a cell.
     pub fn remove_overridden_vertical(&mut self, pos: Position)
-        ensures told { Adds self.old self.new (RemoveOverriddenVertical pos) }
+        ensures told { AddsSetting self.old self.new (RemoveOverriddenVertical pos) }
         ensures others { self.new ≡ record self.old { vertical_chars = self.new.vertical_chars } }
     {
         self.vertical_chars.remove(pos);
@@ -142,7 +142,7 @@ impl SpannedConfig {
 
     /// Removes the characters set on the lines left of cells.
     pub fn remove_vertical_chars(&mut self)
-        ensures told { Adds self.old self.new RemoveVerticalChars }
+        ensures told { AddsSetting self.old self.new RemoveVerticalChars }
         ensures others { self.new ≡ record self.old { vertical_chars = self.new.vertical_chars } }
     {
         self.vertical_chars.clear();
@@ -156,7 +156,7 @@ impl SpannedConfig {
         offset: Offset,
         color: ANSIBuf,
     ) -> Result<(), AllocError>
-        ensures ok { OnOk result (Adds self.old self.new (SetVerticalCharColor pos offset color)) }
+        ensures ok { OnOk result (AddsSetting self.old self.new (SetVerticalCharColor pos offset color)) }
         ensures err { OnErr result (self.new ≡ self.old) }
         ensures others { self.new ≡ record self.old { vertical_colors = self.new.vertical_colors } }
     {
@@ -179,7 +179,7 @@ impl SpannedConfig {
 
     /// Removes the colours set on the lines left of cells.
     pub fn remove_color_line_vertical(&mut self)
-        ensures told { Adds self.old self.new RemoveColorLineVertical }
+        ensures told { AddsSetting self.old self.new RemoveColorLineVertical }
         ensures others { self.new ≡ record self.old { vertical_colors = self.new.vertical_colors } }
     {
         self.vertical_colors.clear();

@@ -3,10 +3,10 @@
 ghost use Rattle.std.specs.Prelude.{◌≡◌, ◌≢◌, AllPairs, IfOk, OnOk, OnErr, IsOk, option_copied};
 ghost use Rattle.papergrid_values.specs.declared.entity.Entity.{Entity};
 ghost use Rattle.papergrid_maps.specs.Listed.{AreSetCells};
-ghost use Rattle.papergrid_maps.specs.MapHeld.{held_for, held_value};
-ghost use Rattle.papergrid_config.specs.Decided as decided;
-ghost use Rattle.papergrid_config.specs.Decided.{IsDecidedAt};
-ghost use Rattle.papergrid_config.specs.Told.{Adds};
+ghost use Rattle.papergrid_maps.specs.StoredMap.{held_for, stored_value};
+ghost use Rattle.papergrid_config.specs.Effective as effective;
+ghost use Rattle.papergrid_config.specs.Effective.{IsEffectiveAt};
+ghost use Rattle.papergrid_config.specs.History.{AddsSetting};
 ghost use Rattle.papergrid_config.specs.declared.setting.Setting.TheVariants.{SetPadding, SetPaddingColor, SetTrimHorizontal, SetTrimVertical, SetLineAlignment, SetAlignmentHorizontal, SetAlignmentVertical, SetJustification, SetJustificationColor};
 
 use crate::spanned::SpannedConfig;
@@ -22,7 +22,7 @@ impl SpannedConfig {
     /// (top, bottom). Where memory is refused the configuration is as it was; a value for the whole
     /// table is never refused.
     pub fn set_padding(&mut self, entity: Entity, padding: Sides<Indent>) -> Result<(), AllocError>
-        ensures ok { OnOk result (Adds self.old self.new (SetPadding entity padding)) }
+        ensures ok { OnOk result (AddsSetting self.old self.new (SetPadding entity padding)) }
         ensures err { OnErr result (self.new ≡ self.old) }
         ensures global { entity ≡ Entity.Global → IsOk result }
         ensures others { self.new ≡ record self.old { padding = self.new.padding } }
@@ -32,8 +32,8 @@ impl SpannedConfig {
 
     /// The room round a cell, in columns of a terminal (left, right) and lines (top, bottom).
     pub fn get_padding(&self, pos: Position) -> &Sides<Indent>
-        ensures held { result.now ≡ held_value self.now.padding pos }
-        ensures decided { IsDecidedAt self.now pos decided.padding result.now }
+        ensures stored { result.now ≡ stored_value self.now.padding pos }
+        ensures effective { IsEffectiveAt self.now pos effective.padding result.now }
     {
         self.padding.get(pos)
     }
@@ -48,7 +48,7 @@ impl SpannedConfig {
 
     /// The cells with room of their own, each once, in no order, or out of memory.
     pub fn padded_cells(&self) -> Result<Vec<Position>, AllocError>
-        ensures held { IfOk result (λ cells. AreSetCells (held_for self.now.padding) cells.items) }
+        ensures stored { IfOk result (λ cells. AreSetCells (held_for self.now.padding) cells.items) }
         ensures once { IfOk result (λ cells. AllPairs (λ p q. p ≢ q) cells.items) }
     {
         self.padding.held_cells()
@@ -61,7 +61,7 @@ impl SpannedConfig {
         entity: Entity,
         colors: Sides<Option<ANSIBuf>>,
     ) -> Result<(), AllocError>
-        ensures ok { OnOk result (Adds self.old self.new (SetPaddingColor entity colors)) }
+        ensures ok { OnOk result (AddsSetting self.old self.new (SetPaddingColor entity colors)) }
         ensures err { OnErr result (self.new ≡ self.old) }
         ensures global { entity ≡ Entity.Global → IsOk result }
         ensures others { self.new ≡ record self.old { padding_color = self.new.padding_color } }
@@ -71,8 +71,8 @@ impl SpannedConfig {
 
     /// The colours of the room round a cell.
     pub fn get_padding_color(&self, pos: Position) -> &Sides<Option<ANSIBuf>>
-        ensures held { result.now ≡ held_value self.now.padding_color pos }
-        ensures decided { IsDecidedAt self.now pos decided.padding_color result.now }
+        ensures stored { result.now ≡ stored_value self.now.padding_color pos }
+        ensures effective { IsEffectiveAt self.now pos effective.padding_color result.now }
     {
         self.padding_color.get(pos)
     }
@@ -80,7 +80,7 @@ impl SpannedConfig {
     /// Sets whether spaces of an entity's texts are trimmed left and right. Where memory is refused
     /// the configuration is as it was; a value for the whole table is never refused.
     pub fn set_trim_horizontal(&mut self, entity: Entity, on: bool) -> Result<(), AllocError>
-        ensures ok { OnOk result (Adds self.old self.new (SetTrimHorizontal entity on)) }
+        ensures ok { OnOk result (AddsSetting self.old self.new (SetTrimHorizontal entity on)) }
         ensures err { OnErr result (self.new ≡ self.old) }
         ensures global { entity ≡ Entity.Global → IsOk result }
         ensures others { self.new ≡ record self.old { trim_horizontal = self.new.trim_horizontal } }
@@ -90,8 +90,8 @@ impl SpannedConfig {
 
     /// Whether spaces of a cell's text are trimmed left and right. The name is the original's.
     pub fn get_trim_horizonal(&self, pos: Position) -> bool
-        ensures held { result ≡ held_value self.now.trim_horizontal pos }
-        ensures decided { IsDecidedAt self.now pos decided.trim_horizontal result }
+        ensures stored { result ≡ stored_value self.now.trim_horizontal pos }
+        ensures effective { IsEffectiveAt self.now pos effective.trim_horizontal result }
     {
         *self.trim_horizontal.get(pos)
     }
@@ -100,7 +100,7 @@ impl SpannedConfig {
     /// memory is refused the configuration is as it was; a value for the whole table is never
     /// refused.
     pub fn set_trim_vertical(&mut self, entity: Entity, on: bool) -> Result<(), AllocError>
-        ensures ok { OnOk result (Adds self.old self.new (SetTrimVertical entity on)) }
+        ensures ok { OnOk result (AddsSetting self.old self.new (SetTrimVertical entity on)) }
         ensures err { OnErr result (self.new ≡ self.old) }
         ensures global { entity ≡ Entity.Global → IsOk result }
         ensures others { self.new ≡ record self.old { trim_vertical = self.new.trim_vertical } }
@@ -110,8 +110,8 @@ impl SpannedConfig {
 
     /// Whether blank lines of a cell's text are trimmed at the top and the bottom.
     pub fn get_trim_vertical(&self, pos: Position) -> bool
-        ensures held { result ≡ held_value self.now.trim_vertical pos }
-        ensures decided { IsDecidedAt self.now pos decided.trim_vertical result }
+        ensures stored { result ≡ stored_value self.now.trim_vertical pos }
+        ensures effective { IsEffectiveAt self.now pos effective.trim_vertical result }
     {
         *self.trim_vertical.get(pos)
     }
@@ -119,7 +119,7 @@ impl SpannedConfig {
     /// Sets whether each line of an entity's texts is aligned by itself. Where memory is refused
     /// the configuration is as it was; a value for the whole table is never refused.
     pub fn set_line_alignment(&mut self, entity: Entity, on: bool) -> Result<(), AllocError>
-        ensures ok { OnOk result (Adds self.old self.new (SetLineAlignment entity on)) }
+        ensures ok { OnOk result (AddsSetting self.old self.new (SetLineAlignment entity on)) }
         ensures err { OnErr result (self.new ≡ self.old) }
         ensures global { entity ≡ Entity.Global → IsOk result }
         ensures others { self.new ≡ record self.old { line_alignment = self.new.line_alignment } }
@@ -129,20 +129,20 @@ impl SpannedConfig {
 
     /// Whether each line of a cell's text is aligned by itself.
     pub fn get_line_alignment(&self, pos: Position) -> bool
-        ensures held { result ≡ held_value self.now.line_alignment pos }
-        ensures decided { IsDecidedAt self.now pos decided.line_alignment result }
+        ensures stored { result ≡ stored_value self.now.line_alignment pos }
+        ensures effective { IsEffectiveAt self.now pos effective.line_alignment result }
     {
         *self.line_alignment.get(pos)
     }
 
     /// The three flags of a cell's text.
     pub fn get_formatting(&self, pos: Position) -> Formatting
-        ensures held { result ≡ record {
-          horizontal_trim = held_value self.now.trim_horizontal pos;
-          vertical_trim = held_value self.now.trim_vertical pos;
-          allow_lines_alignment = held_value self.now.line_alignment pos;
+        ensures stored { result ≡ record {
+          horizontal_trim = stored_value self.now.trim_horizontal pos;
+          vertical_trim = stored_value self.now.trim_vertical pos;
+          allow_lines_alignment = stored_value self.now.line_alignment pos;
         } }
-        ensures decided { IsDecidedAt self.now pos decided.formatting result }
+        ensures effective { IsEffectiveAt self.now pos effective.formatting result }
     {
         Formatting::new(
             self.get_trim_horizonal(pos),
@@ -159,7 +159,7 @@ impl SpannedConfig {
         alignment: AlignmentHorizontal,
     ) -> Result<(), AllocError>
         ensures ok { OnOk result
-            (Adds self.old self.new (SetAlignmentHorizontal entity alignment)) }
+            (AddsSetting self.old self.new (SetAlignmentHorizontal entity alignment)) }
         ensures err { OnErr result (self.new ≡ self.old) }
         ensures global { entity ≡ Entity.Global → IsOk result }
         ensures others { self.new ≡
@@ -170,8 +170,8 @@ impl SpannedConfig {
 
     /// Where a cell's text stands between left and right.
     pub fn get_alignment_horizontal(&self, pos: Position) -> &AlignmentHorizontal
-        ensures held { result.now ≡ held_value self.now.alignment_horizontal pos }
-        ensures decided { IsDecidedAt self.now pos decided.alignment_horizontal result.now }
+        ensures stored { result.now ≡ stored_value self.now.alignment_horizontal pos }
+        ensures effective { IsEffectiveAt self.now pos effective.alignment_horizontal result.now }
     {
         self.alignment_horizontal.get(pos)
     }
@@ -183,7 +183,7 @@ impl SpannedConfig {
         entity: Entity,
         alignment: AlignmentVertical,
     ) -> Result<(), AllocError>
-        ensures ok { OnOk result (Adds self.old self.new (SetAlignmentVertical entity alignment)) }
+        ensures ok { OnOk result (AddsSetting self.old self.new (SetAlignmentVertical entity alignment)) }
         ensures err { OnErr result (self.new ≡ self.old) }
         ensures global { entity ≡ Entity.Global → IsOk result }
         ensures others { self.new ≡
@@ -194,8 +194,8 @@ impl SpannedConfig {
 
     /// Where a cell's text stands between top and bottom.
     pub fn get_alignment_vertical(&self, pos: Position) -> &AlignmentVertical
-        ensures held { result.now ≡ held_value self.now.alignment_vertical pos }
-        ensures decided { IsDecidedAt self.now pos decided.alignment_vertical result.now }
+        ensures stored { result.now ≡ stored_value self.now.alignment_vertical pos }
+        ensures effective { IsEffectiveAt self.now pos effective.alignment_vertical result.now }
     {
         self.alignment_vertical.get(pos)
     }
@@ -203,7 +203,7 @@ impl SpannedConfig {
     /// Sets the character that fills up the lines of an entity's texts. Where memory is refused the
     /// configuration is as it was; a value for the whole table is never refused.
     pub fn set_justification(&mut self, entity: Entity, character: char) -> Result<(), AllocError>
-        ensures ok { OnOk result (Adds self.old self.new (SetJustification entity character)) }
+        ensures ok { OnOk result (AddsSetting self.old self.new (SetJustification entity character)) }
         ensures err { OnErr result (self.new ≡ self.old) }
         ensures global { entity ≡ Entity.Global → IsOk result }
         ensures others { self.new ≡ record self.old { justification = self.new.justification } }
@@ -213,8 +213,8 @@ impl SpannedConfig {
 
     /// The character that fills up the lines of a cell's text.
     pub fn get_justification(&self, pos: Position) -> char
-        ensures held { result ≡ held_value self.now.justification pos }
-        ensures decided { IsDecidedAt self.now pos decided.justification result }
+        ensures stored { result ≡ stored_value self.now.justification pos }
+        ensures effective { IsEffectiveAt self.now pos effective.justification result }
     {
         *self.justification.get(pos)
     }
@@ -226,7 +226,7 @@ impl SpannedConfig {
         entity: Entity,
         color: Option<ANSIBuf>,
     ) -> Result<(), AllocError>
-        ensures ok { OnOk result (Adds self.old self.new (SetJustificationColor entity color)) }
+        ensures ok { OnOk result (AddsSetting self.old self.new (SetJustificationColor entity color)) }
         ensures err { OnErr result (self.new ≡ self.old) }
         ensures global { entity ≡ Entity.Global → IsOk result }
         ensures others { self.new ≡
@@ -237,8 +237,8 @@ impl SpannedConfig {
 
     /// The colour of that character.
     pub fn get_justification_color(&self, pos: Position) -> Option<&ANSIBuf>
-        ensures held { option_copied result ≡ held_value self.now.justification_color pos }
-        ensures decided { IsDecidedAt self.now pos decided.justification_color
+        ensures stored { option_copied result ≡ stored_value self.now.justification_color pos }
+        ensures effective { IsEffectiveAt self.now pos effective.justification_color
             (option_copied result) }
     {
         self.justification_color.get(pos).as_ref()

@@ -3,7 +3,7 @@
 ghost use Rattle.std.specs.Prelude.{◌≡◌, ◌↔◌, IsTrue, not};
 ghost use Rattle.papergrid_values.specs.Keys.{sides_parts};
 ghost use Rattle.papergrid_values.specs.Parts.{none_set};
-ghost use Rattle.papergrid_maps.specs.MapHeld.{HasNothing};
+ghost use Rattle.papergrid_maps.specs.StoredMap.{HasNothing};
 ghost use Rattle.papergrid_config.specs.Queries.{HasBorderColors, HasFormatting, HasJustification, HasOffsetChars, HasSetSide};
 
 use crate::spanned::SpannedConfig;

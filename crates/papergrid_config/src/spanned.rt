@@ -1,7 +1,7 @@
 //! The settings of a table. Source: `config/spanned/mod.rs`.
 
 ghost use Rattle.std.specs.Prelude.{[]};
-ghost use Rattle.papergrid_config.specs.Told.{IsTold};
+ghost use Rattle.papergrid_config.specs.History.{HasSettingHistory};
 
 use papergrid_maps::{EntityMap, SpanTable};
 use papergrid_tables::{BorderTable, OffsetTable};
@@ -40,7 +40,7 @@ impl SpannedConfig {
     /// texts at the left and the top, justified by spaces, and a space where a line has no
     /// character. It takes no memory.
     pub fn new(alloc: Global) -> SpannedConfig
-        ensures { IsTold [] result }
+        ensures { HasSettingHistory [] result }
     {
         SpannedConfig {
             alloc,

@@ -9,7 +9,7 @@ ghost use Rattle.papergrid_keys.specs.Keys.{position_eq};
 ghost use Rattle.papergrid_maps.specs.Anchors.{AreAnchors, HasAnchor, IsSorted};
 ghost use Rattle.papergrid_maps.specs.Listed.{HasAtEach};
 ghost use Rattle.papergrid_maps.specs.Spans.{EndWithin, HasSpan, IsCoveredByBoth, IsCoveredByColumn, IsCoveredByRow, IsVisible, is_visible, span_along, spans_along};
-ghost use Rattle.papergrid_config.specs.Told.{Adds};
+ghost use Rattle.papergrid_config.specs.History.{AddsSetting};
 ghost use Rattle.papergrid_config.specs.declared.setting.Setting.TheVariants.{SetColumnSpan, SetRowSpan, RemoveColumnSpans, RemoveRowSpans};
 
 use crate::spanned::SpannedConfig;
@@ -25,7 +25,7 @@ impl SpannedConfig {
     /// held, so that neither takes memory or is refused. Where memory is refused the configuration is
     /// as it was.
     pub fn set_column_span(&mut self, pos: Position, span: usize) -> Result<(), AllocError>
-        ensures ok { OnOk result (Adds self.old self.new (SetColumnSpan pos span)) }
+        ensures ok { OnOk result (AddsSetting self.old self.new (SetColumnSpan pos span)) }
         ensures err { OnErr result (self.new ≡ self.old) }
         ensures small { span < 2 → IsOk result }
         ensures others { self.new ≡ record self.old {
@@ -39,7 +39,7 @@ impl SpannedConfig {
     /// so that neither takes memory or is refused. Where memory is refused the configuration is as it
     /// was.
     pub fn set_row_span(&mut self, pos: Position, span: usize) -> Result<(), AllocError>
-        ensures ok { OnOk result (Adds self.old self.new (SetRowSpan pos span)) }
+        ensures ok { OnOk result (AddsSetting self.old self.new (SetRowSpan pos span)) }
         ensures err { OnErr result (self.new ≡ self.old) }
         ensures small { span < 2 → IsOk result }
         ensures others { self.new ≡ record self.old {
@@ -51,7 +51,7 @@ impl SpannedConfig {
 
     /// The column span held at a position, of 2 or more: a number of columns.
     pub fn get_column_span(&self, pos: Position) -> Option<usize>
-        ensures held { result ≡ value_at self.now.spans.columns pos }
+        ensures stored { result ≡ value_at self.now.spans.columns pos }
         ensures from_two { IfSome result (λ n. 2 ≤ n) }
     {
         self.spans.get_column(pos)
@@ -59,7 +59,7 @@ impl SpannedConfig {
 
     /// The row span held at a position, of 2 or more: a number of rows.
     pub fn get_row_span(&self, pos: Position) -> Option<usize>
-        ensures held { result ≡ value_at self.now.spans.rows pos }
+        ensures stored { result ≡ value_at self.now.spans.rows pos }
         ensures from_two { IfSome result (λ n. 2 ≤ n) }
     {
         self.spans.get_row(pos)
@@ -84,7 +84,7 @@ impl SpannedConfig {
         ensures sorted { IfOk result (λ anchors. IsSorted anchors.items) }
         ensures spans { IfOk result (λ anchors.
             AreAnchors (span_along self.now.spans) anchors.items) }
-        ensures held { IfOk result (λ anchors. (p : Position) → HasAnchor anchors.items p →
+        ensures stored { IfOk result (λ anchors. (p : Position) → HasAnchor anchors.items p →
             IsSome (value_at self.now.spans.columns p) ⊎ IsSome (value_at self.now.spans.rows p)) }
         ensures from_one { (d : Direction) (p : Position) → 1 ≤ span_along self.now.spans d p }
     {
@@ -117,7 +117,7 @@ impl SpannedConfig {
 
     /// Removes all column spans.
     pub fn remove_column_spans(&mut self)
-        ensures told { Adds self.old self.new RemoveColumnSpans }
+        ensures told { AddsSetting self.old self.new RemoveColumnSpans }
         ensures others { self.new ≡ record self.old {
           spans = record self.old.spans { columns = self.new.spans.columns };
         } }
@@ -127,7 +127,7 @@ impl SpannedConfig {
 
     /// Removes all row spans.
     pub fn remove_row_spans(&mut self)
-        ensures told { Adds self.old self.new RemoveRowSpans }
+        ensures told { AddsSetting self.old self.new RemoveRowSpans }
         ensures others { self.new ≡ record self.old {
           spans = record self.old.spans { rows = self.new.spans.rows };
         } }

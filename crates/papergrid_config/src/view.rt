@@ -1,9 +1,9 @@
 //! What is read of a configuration by entity, cell by cell and line by line.
 
 ghost use Rattle.std.specs.Prelude.{option_map};
-ghost use Rattle.papergrid_maps.specs.MapHeld.{held_for};
+ghost use Rattle.papergrid_maps.specs.StoredMap.{held_for};
 ghost use Rattle.papergrid_maps.specs.Paddings.{sizes};
-ghost use Rattle.papergrid_maps.specs.ForProofs.PaddingLaws.{held_decides};
+ghost use Rattle.papergrid_maps.specs.ForProofs.PaddingLaws.{stored_decides};
 ghost use Rattle.papergrid_config.specs.Grids.{spanned_grid};
 
 use crate::spanned::SpannedConfig;
@@ -30,11 +30,11 @@ impl ConfigView for SpannedConfig {
     }
 
     fn span(&self, direction: Direction, pos: Position) -> usize {
-        let held = match direction {
+        let stored = match direction {
             Direction::Columns => self.get_column_span(pos),
             Direction::Rows => self.get_row_span(pos),
         };
-        match held {
+        match stored {
             Some(span) => span,
             None => 1,
         }
@@ -55,7 +55,7 @@ impl ConfigView for SpannedConfig {
 
     ghost set_for = { λ s entity. option_map sizes (held_for s.padding entity) };
 
-    ghost decided = { λ s. held_decides s.padding };
+    ghost effective = { λ s. stored_decides s.padding };
 
     // Each walk over cells with paddings asks it for each of its cells.
     #[inline(always)]

@@ -32,5 +32,5 @@ module _ {T : Type 0} where
   pub same_numbers : (es fs : List (ℕ × T)) → ((q : ℕ) → lookup (eqb q) fs ≡ lookup (eqb q) es) → from_entries {R = nat_cmp} fs ≡ from_entries es
   same_numbers es fs same = same_map nat_cmp_total nat_cmp-IsAntisymmetric _ _ (λ q. get_at_number fs q ∙ same q ∙ sym (get_at_number es q))
 
-  pub same_places : (es fs : List (Position × T)) → ((q : Position) → lookup (position_eq q) fs ≡ lookup (position_eq q) es) → from_entries {R = position_cmp} fs ≡ from_entries es
-  same_places es fs same = same_map position_total exact_positions _ _ (λ q. get_at_position fs q ∙ same q ∙ sym (get_at_position es q))
+  pub same_positions : (es fs : List (Position × T)) → ((q : Position) → lookup (position_eq q) fs ≡ lookup (position_eq q) es) → from_entries {R = position_cmp} fs ≡ from_entries es
+  same_positions es fs same = same_map position_total exact_positions _ _ (λ q. get_at_position fs q ∙ same q ∙ sym (get_at_position es q))

@@ -11,7 +11,7 @@ use Rattle.std.specs.declared.cmp.Ordering.{Ordering}
 use Rattle.std_collections.specs.Layout.HashMap.{hash_map}
 use Rattle.std_collections.specs.HashMap.Eq.{hash_map_eq_from_get, get_from_hash_map_eq}
 use Rattle.papergrid_keys.specs.Keys.{position_cmp, position_eq}
-use Rattle.papergrid_keys.specs.Equal.{numbers_eq, places_eq}
+use Rattle.papergrid_keys.specs.Equal.{numbers_eq, positions_eq}
 use Rattle.papergrid_values.specs.declared.position.Position.{Position}
 use Rattle.papergrid_keys.proofs.KeyLemmas.{get_at_number, get_at_position, find-lookup, position_equiv, position_ties}
 use Rattle.std.specs.Cmp.{unsigned_ties}
@@ -55,8 +55,8 @@ module _ {K X : Type 0} (E : K → K → Bool) (R : K → K → Ordering) (laws 
 pub numbers_agree : {X : Type 0} (eq : X → X → Bool) (m n : FinMap nat_cmp X) → (numbers_eq eq m n ≡ true) ↔ ((q : ℕ) → option_eq eq (get m q) (get n q) ≡ true)
 numbers_agree eq m n = agree eqb nat_cmp nat_eq_equiv unsigned_ties eq m n
 
-pub places_agree : {X : Type 0} (eq : X → X → Bool) (m n : FinMap position_cmp X) → (places_eq eq m n ≡ true) ↔ ((q : Position) → option_eq eq (get m q) (get n q) ≡ true)
-places_agree eq m n = agree position_eq position_cmp position_equiv position_ties eq m n
+pub positions_agree : {X : Type 0} (eq : X → X → Bool) (m n : FinMap position_cmp X) → (positions_eq eq m n ≡ true) ↔ ((q : Position) → option_eq eq (get m q) (get n q) ≡ true)
+positions_agree eq m n = agree position_eq position_cmp position_equiv position_ties eq m n
 
 -- equality of the finite maps with these entries
 pub numbers_eq-from_entries : {X : Type 0} (eq : X → X → Bool) (es fs : List (ℕ × X))
@@ -65,9 +65,9 @@ numbers_eq-from_entries eq es fs =
     same_answers eqb nat_cmp nat_eq_equiv unsigned_ties eq _ _ es fs
     (λ q. sym (at_entries eqb nat_cmp nat_eq_equiv unsigned_ties eq es (get_at_number es) q)) (λ q. sym (at_entries eqb nat_cmp nat_eq_equiv unsigned_ties eq fs (get_at_number fs) q))
 
-pub places_eq-from_entries : {X : Type 0} (eq : X → X → Bool) (es fs : List (Position × X))
-    → places_eq eq (from_entries es) (from_entries fs) ≡ entries_eq position_eq (λ p q. eq p.1 q.1) es fs
-places_eq-from_entries eq es fs =
+pub positions_eq-from_entries : {X : Type 0} (eq : X → X → Bool) (es fs : List (Position × X))
+    → positions_eq eq (from_entries es) (from_entries fs) ≡ entries_eq position_eq (λ p q. eq p.1 q.1) es fs
+positions_eq-from_entries eq es fs =
     same_answers position_eq position_cmp position_equiv position_ties eq _ _ es fs
     (λ q. sym (at_entries position_eq position_cmp position_equiv position_ties eq es (get_at_position es) q)) (λ q. sym (at_entries position_eq position_cmp position_equiv position_ties eq fs (get_at_position fs) q))
 
@@ -80,5 +80,5 @@ module _ {X : Type 0} (eq : X → X → Bool) (same : (x : X) → eq x x ≡ tru
   pub numbers_same : (m : FinMap nat_cmp X) → numbers_eq eq m m ≡ true
   numbers_same m = (numbers_agree eq m m).1 (λ n. option_same (get m n))
 
-  pub places_same : (m : FinMap position_cmp X) → places_eq eq m m ≡ true
-  places_same m = (places_agree eq m m).1 (λ p. option_same (get m p))
+  pub positions_same : (m : FinMap position_cmp X) → positions_eq eq m m ≡ true
+  positions_same m = (positions_agree eq m m).1 (λ p. option_same (get m p))

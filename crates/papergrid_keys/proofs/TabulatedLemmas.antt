@@ -7,7 +7,7 @@ use Rattle.std.specs.Ordering.{eq_by_cmp}
 use Rattle.std.specs.declared.cmp.Ordering.{Ordering}
 use Rattle.std.specs.FinMap.{FinMap, get, get-empty, get-insert}
 use Rattle.std.proofs.lemmas.Bool.{false≢true}
-use Rattle.papergrid_keys.specs.Tabulated.{tabulated, with_value}
+use Rattle.papergrid_keys.specs.Tabulated.{tabulation, with_value}
 
 module _ {K X : Type 0} {R : K → K → Ordering} (total : IsTotalOrder R) (exact : (x y : K) → eq_by_cmp R x y ≡ true → x ≡ y) (value : K → Option X) where
   get-with_value : (m : FinMap R X) (k : K) (o : Option X) (q : K) → value k ≡ o → get (with_value m k o) q ≡ cond (eq_by_cmp R q k && is_some o) (value q) (get m q)
@@ -29,18 +29,18 @@ module _ {K X : Type 0} {R : K → K → Ordering} (total : IsTotalOrder R) (exa
   none_set None h = refl
   none_set (Some v) h = absurd (false≢true (sym h))
 
-  pub get-tabulated : (keys : List K) (q : K) → get (tabulated {R = R} value keys) q ≡ cond (list_any (eq_by_cmp R q) keys) (value q) None
+  pub get-tabulated : (keys : List K) (q : K) → get (tabulation {R = R} value keys) q ≡ cond (list_any (eq_by_cmp R q) keys) (value q) None
   get-tabulated [] q = get-empty R q
   get-tabulated (k ∷ keys) q =
-      get-with_value (tabulated value keys) k (value k) q refl
+      get-with_value (tabulation value keys) k (value k) q refl
       ∙ named_or (eq_by_cmp R q k) (is_some (value k)) (list_any (eq_by_cmp R q) keys) (value q) _
       (λ unset ties. ap value (exact q k ties) ∙ none_set (value k) unset) (get-tabulated keys q)
 
-  held_or_none : (b : Bool) (x : Option X) → (is_some x ≡ true → b ≡ true) → cond b x None ≡ x
-  held_or_none true x named = refl
-  held_or_none false None named = refl
-  held_or_none false (Some v) named = absurd (false≢true (named refl))
+  stored_or_none : (b : Bool) (x : Option X) → (is_some x ≡ true → b ≡ true) → cond b x None ≡ x
+  stored_or_none true x named = refl
+  stored_or_none false None named = refl
+  stored_or_none false (Some v) named = absurd (false≢true (named refl))
 
   -- where each key that has a value is among them
-  pub tabulates : (keys : List K) → ((q : K) → is_some (value q) ≡ true → list_any (eq_by_cmp R q) keys ≡ true) → (q : K) → get (tabulated {R = R} value keys) q ≡ value q
-  tabulates keys named q = get-tabulated keys q ∙ held_or_none _ (value q) (named q)
+  pub tabulates : (keys : List K) → ((q : K) → is_some (value q) ≡ true → list_any (eq_by_cmp R q) keys ≡ true) → (q : K) → get (tabulation {R = R} value keys) q ≡ value q
+  tabulates keys named q = get-tabulated keys q ∙ stored_or_none _ (value q) (named q)

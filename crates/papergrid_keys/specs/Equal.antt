@@ -11,5 +11,5 @@ module _ {X : Type 0} (eq : X → X → Bool) where
   numbers_eq m n = entries_eq nat_eq (λ p q. eq p.1 q.1) (entries m) (entries n)
 
   -- of maps by position
-  abbrev pub places_eq : FinMap position_cmp X → FinMap position_cmp X → Bool
-  places_eq m n = entries_eq position_eq (λ p q. eq p.1 q.1) (entries m) (entries n)
+  abbrev pub positions_eq : FinMap position_cmp X → FinMap position_cmp X → Bool
+  positions_eq m n = entries_eq position_eq (λ p q. eq p.1 q.1) (entries m) (entries n)

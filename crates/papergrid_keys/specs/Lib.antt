@@ -1,5 +1,5 @@
 pub mod Equal
 pub mod Keys
 pub mod Tabulated
-pub mod Told
+pub mod History
 pub mod ForProofs

@@ -9,6 +9,6 @@ with_value m key None = m
 with_value m key (Some v) = insert m key v
 
 -- the value of each of these keys that has one
-abbrev pub tabulated : {K X : Type 0} {R : K → K → Ordering} → (K → Option X) → List K → FinMap R X
-tabulated value [] = empty
-tabulated value (key ∷ keys) = with_value (tabulated value keys) key (value key)
+abbrev pub tabulation : {K X : Type 0} {R : K → K → Ordering} → (K → Option X) → List K → FinMap R X
+tabulation value [] = empty
+tabulation value (key ∷ keys) = with_value (tabulation value keys) key (value key)

@@ -16,7 +16,7 @@ pub fn look_up<K: Eq + Hash + Copy, T>(map: &HashMap<K, T>, key: K) -> Option<&T
 }
 
 /// Whether a key has something. Where the map is empty, no hash is made.
-pub fn is_held<K: Eq + Hash + Copy, T>(map: &HashMap<K, T>, key: K) -> bool
+pub fn is_stored<K: Eq + Hash + Copy, T>(map: &HashMap<K, T>, key: K) -> bool
     ensures { result ≡ is_some (map_get K.eq map.now key) }
 {
     look_up(map, key).is_some()

@@ -13,9 +13,9 @@ use Rattle.papergrid_axis.specs.Problem.{Problem}
 use Rattle.papergrid_axis.specs.Ranges.{demand_of, place_of}
 use Rattle.papergrid_axis.proofs.AcceptLemmas.{few_places}
 use Rattle.papergrid_axis.proofs.CandidateLemmas.{count_by-none, is_same}
-use Rattle.papergrid_walk.specs.Cells.{demand_by, demands_by, demands_of, placed, problem_of, side, visible_of}
+use Rattle.papergrid_walk.specs.Cells.{demand_by, demands_by, demands_of, positioned_cells, problem_of, side, visible_of}
 use Rattle.papergrid_maps.specs.Grids.{Grid}
-use Rattle.papergrid_layout.specs.Witnesses.{IsChecked}
+use Rattle.papergrid_layout.specs.Certificates.{IsChecked}
 use Rattle.papergrid_layout.specs.ForProofs.Checking.{AreShown, ChecksMore, check_none}
 
 module _ (grid : Grid) (candidate : Candidate) where
@@ -26,21 +26,21 @@ module _ (grid : Grid) (candidate : Candidate) where
     check_hidden checked pos cell f = rw f (check_none grid candidate checked)
 
     -- a visible one is not
-    pub check_shown : (old new : Checked) (pos : Position) (cell : C) (size need : ℕ) → grid.shows pos ≡ true →
-        size ≡ side candidate.direction (measure cell) → need ≡ size + grid.before candidate.direction pos + grid.after candidate.direction pos →
-        ChecksMore grid candidate old new (demand_of candidate.direction pos (grid.span candidate.direction pos) need ∷ []) →
+    pub check_shown : (old new : Checked) (pos : Position) (cell : C) (size minimum : ℕ) → grid.shows pos ≡ true →
+        size ≡ side candidate.direction (measure cell) → minimum ≡ size + grid.before candidate.direction pos + grid.after candidate.direction pos →
+        ChecksMore grid candidate old new (demand_of candidate.direction pos (grid.span candidate.direction pos) minimum ∷ []) →
         ChecksMore grid candidate old new (demands_by candidate.direction grid measure ((pos, cell) ∷ []))
-    check_shown old new pos cell size need t measured same more =
+    check_shown old new pos cell size minimum t measured same more =
         let whole = same ∙ ap (λ n. n + grid.before candidate.direction pos + grid.after candidate.direction pos) measured in
         rw t (subst (λ n. ChecksMore grid candidate old new (demand_of candidate.direction pos (grid.span candidate.direction pos) n ∷ [])) whole more)
 
     -- one that changes nothing may be either
-    pub check_same : (old new : Checked) (pos : Position) (cell : C) (size need : ℕ) → new ≡ old →
-        size ≡ side candidate.direction (measure cell) → need ≡ size + grid.before candidate.direction pos + grid.after candidate.direction pos →
-        ChecksMore grid candidate old new (demand_of candidate.direction pos (grid.span candidate.direction pos) need ∷ []) →
+    pub check_same : (old new : Checked) (pos : Position) (cell : C) (size minimum : ℕ) → new ≡ old →
+        size ≡ side candidate.direction (measure cell) → minimum ≡ size + grid.before candidate.direction pos + grid.after candidate.direction pos →
+        ChecksMore grid candidate old new (demand_of candidate.direction pos (grid.span candidate.direction pos) minimum ∷ []) →
         ChecksMore grid candidate old old (demands_by candidate.direction grid measure ((pos, cell) ∷ []))
-    check_same old new pos cell size need unchanged measured same more = elim (cases_Bool (grid.shows pos)) [
-      | inl t ↦ check_shown old old pos cell size need t measured same (subst (λ kept. ChecksMore grid candidate old kept (demand_of candidate.direction pos (grid.span candidate.direction pos) need ∷ [])) unchanged more)
+    check_same old new pos cell size minimum unchanged measured same more = elim (cases_Bool (grid.shows pos)) [
+      | inl t ↦ check_shown old old pos cell size minimum t measured same (subst (λ kept. ChecksMore grid candidate old kept (demand_of candidate.direction pos (grid.span candidate.direction pos) minimum ∷ [])) unchanged more)
       | inr f ↦ check_hidden old pos cell f
     ]
 
@@ -63,7 +63,7 @@ shown_places : {C : Type 0} (grid : Grid) (measure : C → ℕ × ℕ) (columns 
 shown_places grid measure columns cells direction sizes places accepted =
     let demands = demands_of direction grid measure cells in
     let visible : All (λ d. IsTrue (grid.shows (place_of d))) demands =
-    All-map (λ d. IsTrue (grid.shows (place_of d))) (demand_by direction grid measure) (visible_of grid (placed cells)) (filter_passes (λ cell. grid.shows cell.0) (placed cells)) in
+    All-map (λ d. IsTrue (grid.shows (place_of d))) (demand_by direction grid measure) (visible_of grid (positioned_cells cells)) (filter_passes (λ cell. grid.shows cell.0) (positioned_cells cells)) in
     subst (AreShown grid) accepted.at_places
     (All-map (λ p. IsTrue (grid.shows p)) place_of accepted.cells
     (All-weaker (Contains demands) (λ d. IsTrue (grid.shows (place_of d))) (λ d m. All-contains (λ d. IsTrue (grid.shows (place_of d))) demands d visible m) accepted.cells accepted.certificate.visible))

@@ -10,11 +10,11 @@ use Rattle.papergrid_values.specs.contracts.position.PositionPartialEq.TheImpl a
 use Rattle.papergrid_axis.specs.declared.error.LayoutError.{LayoutError}
 use Rattle.papergrid_axis.specs.declared.error.LayoutError.TheVariants as layout_error
 use Rattle.papergrid_axis.specs.contracts.error.LayoutErrorPartialEq.TheImpl as layout_error_eq
-use Rattle.papergrid_layout.specs.declared.placement.Place.{Place}
-use Rattle.papergrid_layout.specs.declared.placement.PlaceError.{PlaceError}
-use Rattle.papergrid_layout.specs.declared.placement.PlaceError.TheVariants.{Hidden, OutOfTable, TooLarge}
-use Rattle.papergrid_layout.specs.contracts.placement.PlacePartialEq.TheImpl as place
-use Rattle.papergrid_layout.specs.contracts.placement.PlaceErrorPartialEq.TheImpl as place_error
+use Rattle.papergrid_layout.specs.declared.rect.Place.{Place}
+use Rattle.papergrid_layout.specs.declared.rect.PlaceError.{PlaceError}
+use Rattle.papergrid_layout.specs.declared.rect.PlaceError.TheVariants.{Hidden, OutOfTable, TooLarge}
+use Rattle.papergrid_layout.specs.contracts.rect.PlacePartialEq.TheImpl as place
+use Rattle.papergrid_layout.specs.contracts.rect.PlaceErrorPartialEq.TheImpl as place_error
 
 -- ---- sizes
 

@@ -8,7 +8,7 @@ use Rattle.std.proofs.lemmas.List.Concat.{flat_map-cons}
 use Rattle.std.proofs.lemmas.List.Elements.{All-head, All-tail, filter-append}
 use Rattle.papergrid_values.specs.declared.direction.Direction.TheVariants.{Columns, Rows}
 use Rattle.papergrid_values.specs.declared.position.Position.{Position}
-use Rattle.papergrid_text.specs.Kept.{answered_lines}
+use Rattle.papergrid_text.specs.LineCache.{answered_lines}
 use Rattle.papergrid_text.specs.Measured.{Measured}
 use Rattle.papergrid_text.specs.Text.{split_lines, with_width}
 use Rattle.papergrid_text.proofs.Widths.{all_answered}
@@ -16,16 +16,16 @@ use Rattle.papergrid_values.specs.declared.direction.Direction.{Direction}
 use Rattle.papergrid_axis.specs.Ranges.{demand_of}
 use Rattle.papergrid_keys.specs.Keys.{position_eq}
 use Rattle.papergrid_tables.specs.Made.{borders_made}
-use Rattle.papergrid_maps.specs.MapCalls.{decided_value}
-use Rattle.papergrid_maps.specs.MapHeld.{held_value}
+use Rattle.papergrid_maps.specs.MapCalls.{effective_value}
+use Rattle.papergrid_maps.specs.StoredMap.{stored_value}
 use Rattle.papergrid_maps.specs.Spans as spans
 use Rattle.papergrid_maps.specs.Spans.{SetSpan, RemoveSpans, SpanCall, from_two, is_same_direction, is_visible, span_from}
 use Rattle.papergrid_keys.proofs.KeyLemmas.{exact_position_eq}
-use Rattle.papergrid_tables.proofs.MadeTables.{told_borders}
-use Rattle.papergrid_maps.proofs.MadeTables.{told_spans}
-use Rattle.papergrid_maps.proofs.MapHeldLemmas.{held_decided}
+use Rattle.papergrid_tables.proofs.MadeTables.{border_history}
+use Rattle.papergrid_maps.proofs.MadeTables.{span_history}
+use Rattle.papergrid_maps.proofs.StoredMapLemmas.{stored_effective}
 use Rattle.papergrid_config.specs.Parts.{character_calls, padding_calls, span_calls}
-use Rattle.papergrid_config.specs.Told.{IsTold}
+use Rattle.papergrid_config.specs.History.{HasSettingHistory}
 use Rattle.papergrid_maps.specs.Compact.{all_sides, spaces}
 use Rattle.papergrid_config.specs.declared.setting.Setting.{Setting}
 use Rattle.papergrid_config.specs.declared.spanned.SpannedConfig.{SpannedConfig}
@@ -35,7 +35,7 @@ use Rattle.papergrid_config.specs.Grids.{spanned_grid}
 use Rattle.papergrid_walk.specs.Measures.{cell_measure, line_measure}
 use Rattle.papergrid_walk.specs.ForProofs.Visits.{demands_by-append}
 use Rattle.papergrid_config.proofs.GridLemmas.{same_grid_by}
-use Rattle.papergrid_layout.specs.Laws.{AreReordered, AreSwapped, IsNewText, TellTheSame, concerns, set_span}
+use Rattle.papergrid_layout.specs.Laws.{AreReordered, AreSwapped, IsNewText, TellTheSame, concerns_span, set_span}
 
 -- ---- measures
 
@@ -74,15 +74,15 @@ new_text_measures text t is =
 -- ---- spans
 
 -- what is read of two configurations that are told the same
-pub same_grid : (settings other : List Setting) → TellTheSame settings other → (x y : SpannedConfig) → IsTold settings x → IsTold other y → spanned_grid x ≡ spanned_grid y
+pub same_grid : (settings other : List Setting) → TellTheSame settings other → (x y : SpannedConfig) → HasSettingHistory settings x → HasSettingHistory other y → spanned_grid x ≡ spanned_grid y
 same_grid settings other same x y told also =
     let calls = flat_map span_calls settings in
-    let spans_same = told_spans calls x.spans told.spans ∙ sym (told_spans calls y.spans (λ d p. also.spans d p ∙ ap from_two (sym (same.spans d p)))) in
+    let spans_same = span_history calls x.spans told.spans ∙ sym (span_history calls y.spans (λ d p. also.spans d p ∙ ap from_two (sym (same.spans d p)))) in
     let lines_same =
-    told_borders (flat_map character_calls settings) x.characters told.characters ∙ same.characters
-    ∙ sym (told_borders (flat_map character_calls other) y.characters also.characters) in
-    let padding_same : (p : Position) → held_value x.padding p ≡ held_value y.padding p
-    = λ p. held_decided _ _ _ told.padding p ∙ same.padding p ∙ sym (held_decided _ _ _ also.padding p) in
+    border_history (flat_map character_calls settings) x.characters told.characters ∙ same.characters
+    ∙ sym (border_history (flat_map character_calls other) y.characters also.characters) in
+    let padding_same : (p : Position) → stored_value x.padding p ≡ stored_value y.padding p
+    = λ p. stored_effective _ _ _ told.padding p ∙ same.padding p ∙ sym (stored_effective _ _ _ also.padding p) in
     same_grid_by spans_same padding_same lines_same
 
 around : {A : Type 0} (f : Setting → List A) (before after : List Setting) (a b : Setting) →
@@ -147,9 +147,9 @@ module _ (before after : List Setting) (e f : Direction) (p q : Position) (m n :
       around span_calls before after (set_span e p m) (set_span f q n)
       ∙ (λ k. flat_map span_calls before ++ (span_calls-set e p m k ++ (span_calls-set f q n k ++ flat_map span_calls after)))
 
-  pub decided_around : (d : Direction) (r : Position) → spans.decided_span d r (flat_map span_calls (before ++ set_span e p m ∷ set_span f q n ∷ after))
+  pub effective_around : (d : Direction) (r : Position) → spans.effective_span d r (flat_map span_calls (before ++ set_span e p m ∷ set_span f q n ∷ after))
       ≡ span_from d r (reverse (flat_map span_calls after) ++ SetSpan f q n ∷ SetSpan e p m ∷ reverse (flat_map span_calls before))
-  decided_around d r = ap (λ calls. span_from d r (reverse calls)) calls_around ∙ ap (span_from d r) (reversed (flat_map span_calls before) (flat_map span_calls after) (SetSpan e p m) (SetSpan f q n))
+  effective_around d r = ap (λ calls. span_from d r (reverse calls)) calls_around ∙ ap (span_from d r) (reversed (flat_map span_calls before) (flat_map span_calls after) (SetSpan e p m) (SetSpan f q n))
 
 pub swapped_tell : (settings other : List Setting) → AreSwapped settings other → TellTheSame settings other
 swapped_tell settings other s =
@@ -157,14 +157,14 @@ swapped_tell settings other s =
     let b = set_span s.second_way s.second_cell s.second_span in
     record {
       spans = λ d r.
-          ap (λ xs. spans.decided_span d r (flat_map span_calls xs)) s.one_order
-          ∙ decided_around s.before s.after s.first_way s.second_way s.first_cell s.second_cell s.first_span s.second_span d r
+          ap (λ xs. spans.effective_span d r (flat_map span_calls xs)) s.one_order
+          ∙ effective_around s.before s.after s.first_way s.second_way s.first_cell s.second_cell s.first_span s.second_span d r
           ∙ span_from-tail d r (reverse (flat_map span_calls s.after)) _ _
           (sym (turned_calls d r s.first_way s.second_way s.first_cell s.second_cell s.first_span s.second_span (reverse (flat_map span_calls s.before)) s.differ))
-          ∙ sym (decided_around s.before s.after s.second_way s.first_way s.second_cell s.first_cell s.second_span s.first_span d r)
-          ∙ sym (ap (λ xs. spans.decided_span d r (flat_map span_calls xs)) s.other_order);
+          ∙ sym (effective_around s.before s.after s.second_way s.first_way s.second_cell s.first_cell s.second_span s.first_span d r)
+          ∙ sym (ap (λ xs. spans.effective_span d r (flat_map span_calls xs)) s.other_order);
       padding = λ p.
-          ap (λ calls. decided_value (all_sides (spaces 0)) calls p)
+          ap (λ calls. effective_value (all_sides (spaces 0)) calls p)
           (ap (flat_map padding_calls) s.one_order
           ∙ apart padding_calls s.before s.after a b (padding_calls-set s.first_way s.first_cell s.first_span) (padding_calls-set s.second_way s.second_cell s.second_span)
           ∙ sym (ap (flat_map padding_calls) s.other_order));
@@ -189,7 +189,7 @@ filter-reverse test (call ∷ calls) =
     ]
 
 -- calls that have nothing to do with a cell do not decide its span
-span_from-concerned : (d : Direction) (p : Position) (calls : List SpanCall) → span_from d p (filter (concerns d p) calls) ≡ span_from d p calls
+span_from-concerned : (d : Direction) (p : Position) (calls : List SpanCall) → span_from d p (filter (concerns_span d p) calls) ≡ span_from d p calls
 span_from-concerned d p [] = refl
 span_from-concerned d p (RemoveSpans e ∷ older) = elim (cases_Bool (is_same_direction e d)) [
   | inl t ↦ rw t (rw t refl)
@@ -211,9 +211,9 @@ span_from-concerned d p (SetSpan e q n ∷ older) =
 pub reordered_tell : (settings other : List Setting) → AreReordered settings other → TellTheSame settings other
 reordered_tell settings other same = record {
   spans = λ d p. by_concerned d p (flat_map span_calls settings) ∙ ap (λ calls. span_from d p (reverse calls)) (same.spans d p) ∙ sym (by_concerned d p (flat_map span_calls other));
-  padding = λ p. ap (λ calls. decided_value (all_sides (spaces 0)) calls p) same.padding;
+  padding = λ p. ap (λ calls. effective_value (all_sides (spaces 0)) calls p) same.padding;
   characters = ap borders_made same.characters;
 }
   where
-    by_concerned : (d : Direction) (p : Position) (calls : List SpanCall) → spans.decided_span d p calls ≡ span_from d p (reverse (filter (concerns d p) calls))
-    by_concerned d p calls = sym (span_from-concerned d p (reverse calls)) ∙ ap (span_from d p) (filter-reverse (concerns d p) calls)
+    by_concerned : (d : Direction) (p : Position) (calls : List SpanCall) → spans.effective_span d p calls ≡ span_from d p (reverse (filter (concerns_span d p) calls))
+    by_concerned d p calls = sym (span_from-concerned d p (reverse calls)) ∙ ap (span_from d p) (filter-reverse (concerns_span d p) calls)

@@ -8,21 +8,21 @@ use Rattle.papergrid_axis.specs.declared.demand.Demand.{Demand}
 use Rattle.papergrid_axis.specs.Answers.{AreSizes, IsAccepted}
 use Rattle.papergrid_axis.specs.Fits.{IsLeast}
 use Rattle.papergrid_axis.specs.Problem.{Problem}
-use Rattle.papergrid_axis.specs.Ranges.{IsInTable, IsKeptApart}
+use Rattle.papergrid_axis.specs.Ranges.{IsInTable, IsLaminar}
 use Rattle.papergrid_axis.proofs.OutLemmas.{none_out}
-use Rattle.papergrid_least.specs.Answers.{AreLeastSizes, AreLongest}
+use Rattle.papergrid_least.specs.Answers.{AreLeastSizes, AreCriticalPath}
 use Rattle.papergrid_least.proofs.LeastLemmas.{exact-least, least_of-shares, same-least_of}
 use Rattle.papergrid_walk.specs.Cells.{demand_by, problem_of, visible_cells}
 use Rattle.papergrid_maps.specs.Grids.{Grid}
 
 -- the certificate of least sizes is one that a checker accepts
-pub accepted : (problem : Problem) (sizes : List ℕ) (places : List Position) → AreLeastSizes problem sizes → AreLongest problem places → IsAccepted problem sizes places
-accepted problem sizes places are longest_are = record {
+pub accepted : (problem : Problem) (sizes : List ℕ) (places : List Position) → AreLeastSizes problem sizes → AreCriticalPath problem places → IsAccepted problem sizes places
+accepted problem sizes places are critical_path_is = record {
   none_out = are.none_out;
   fits = are.least.fits;
-  cells = longest_are.cells;
-  at_places = sym longest_are.exact;
-  certificate = longest_are.certificate sizes are.least;
+  cells = critical_path_is.cells;
+  at_places = sym critical_path_is.exact;
+  certificate = critical_path_is.certificate sizes are.least;
 }
 
 module _ {C : Type 0} (grid : Grid) (measure : C → ℕ × ℕ) (columns : ℕ) (rows : List (List C)) (direction : Direction) (from_one : (p : Position) → 1 ≤ grid.span direction p)
@@ -38,5 +38,5 @@ module _ {C : Type 0} (grid : Grid) (measure : C → ℕ × ℕ) (columns : ℕ)
   pub same-least : IsLeast problem sizes → least ≡ sizes
   same-least is_least = exact-least problem least are_least ∙ least_of-shares problem in_table (subst (IsLeast problem) are.exact is_least) ∙ sym are.exact
 
-  pub same-apart : IsKeptApart problem.demands → least ≡ sizes
+  pub same-apart : IsLaminar problem.demands → least ≡ sizes
   same-apart apart = exact-least problem least are_least ∙ same-least_of problem in_table apart ∙ sym are.exact

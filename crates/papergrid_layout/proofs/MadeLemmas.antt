@@ -10,18 +10,18 @@ use Rattle.papergrid_config.specs.Grids.{spanned_grid}
 use Rattle.papergrid_layout.specs.Answers.{HoldAlong, UnlessMemory}
 use Rattle.papergrid_layout.specs.Laws.{HaveRoom}
 use Rattle.papergrid_layout.specs.Places.{sized_table, total_along}
-use Rattle.papergrid_layout.specs.Tables.{AreChosen, IsTable, IsTableOf, IsTooLarge, TableParts, view_of}
+use Rattle.papergrid_layout.specs.Tables.{AreSizesBySizing, IsTable, IsTableOf, IsTotalTooLarge, TableParts, view_of}
 use Rattle.papergrid_layout.specs.declared.sizing.Sizing.{Sizing}
 use Rattle.papergrid_layout.specs.declared.sizing.Sizing.TheVariants.{ByShares, Least}
 use Rattle.papergrid_layout.proofs.PlaceLaws.{both-fit, least-have-room, shares-have-room}
 
 module _ {C : Type 0} (sizing : Sizing) (config : SpannedConfig) (measure : C → ℕ × ℕ) (columns : ℕ) (cells : List (List C)) (widths heights : List ℕ) where
-  have-room : (sizing : Sizing) → AreChosen config measure columns cells sizing widths heights → HoldAlong (spanned_grid config) measure columns cells HaveRoom widths heights
+  have-room : (sizing : Sizing) → AreSizesBySizing config measure columns cells sizing widths heights → HoldAlong (spanned_grid config) measure columns cells HaveRoom widths heights
   have-room ByShares are = shares-have-room (spanned_grid config) measure columns cells widths heights are
   have-room Least are = least-have-room (spanned_grid config) measure columns cells widths heights are
 
   -- the totals of sizes that are chosen fit
-  chosen-fit : AreChosen config measure columns cells sizing widths heights → (direction : Direction) →
+  chosen-fit : AreSizesBySizing config measure columns cells sizing widths heights → (direction : Direction) →
       total_along (view_of (record { config = config; widths = widths; heights = heights })) direction < 2 ^ 64
   chosen-fit are direction =
       let have = have-room sizing are in
@@ -30,14 +30,14 @@ module _ {C : Type 0} (sizing : Sizing) (config : SpannedConfig) (measure : C �
       (both-fit (spanned_grid config) measure columns cells widths heights have direction)
 
   -- so the table of them is not too large
-  pub made : (IsTold : List (List C) → Type 0) → IsTold cells → AreChosen config measure columns cells sizing widths heights →
+  pub made : (IsTold : List (List C) → Type 0) → IsTold cells → AreSizesBySizing config measure columns cells sizing widths heights →
       (answer : Result TableParts LayoutError) → IsTable (record { config = config; widths = widths; heights = heights }) answer →
       UnlessMemory answer ((x : List (List C)) × IsTold x × IsTableOf config measure columns x sizing answer)
   made IsTold told are (Ok table) is = (cells, told, rw is.0 (refl, are))
   made IsTold told are (Err (layout_error.OutOfTable p)) is = let e = is.0 in absurd cc
   made IsTold told are (Err layout_error.TooLarge) is = absurd (large is.1)
     where
-      large : IsTooLarge (view_of (record { config = config; widths = widths; heights = heights })) → ⊥
+      large : IsTotalTooLarge (view_of (record { config = config; widths = widths; heights = heights })) → ⊥
       large (inl across) = let fits = chosen-fit are Columns in omega (arith, across, fits)
       large (inr down) = let fits = chosen-fit are Rows in omega (arith, down, fits)
   made IsTold told are (Err (layout_error.Memory e)) is = tt

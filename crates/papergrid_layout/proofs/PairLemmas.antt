@@ -8,14 +8,14 @@ use Rattle.papergrid_values.specs.Positions.{IsBefore}
 use Rattle.papergrid_values.specs.declared.direction.Direction.{Direction}
 use Rattle.papergrid_values.specs.declared.direction.Direction.TheVariants.{Columns, Rows}
 use Rattle.papergrid_axis.specs.Ranges.{end_of, first_out}
-use Rattle.papergrid_axis.specs.ForProofs.Kept.{IsKept}
+use Rattle.papergrid_axis.specs.ForProofs.Demands.{AreGathered}
 use Rattle.papergrid_axis.proofs.OutLemmas.{out_kept}
-use Rattle.papergrid_walk.specs.declared.needs.KeptBoth.{KeptBoth}
+use Rattle.papergrid_walk.specs.declared.demand_visitors.BothDemands.{BothDemands}
 use Rattle.papergrid_walk.specs.Cells.{demand_by, demands_of, visible_cells}
 use Rattle.papergrid_maps.specs.Grids.{Grid}
-use Rattle.papergrid_walk.specs.ForProofs.Pairs.{AreBothKept}
+use Rattle.papergrid_walk.specs.ForProofs.Pairs.{AreBothGathered}
 use Rattle.papergrid_walk.proofs.Distinct.{AllPairs-visible, Precedes}
-use Rattle.papergrid_layout.specs.Answers.{first_out_of_table, reaches_out}
+use Rattle.papergrid_layout.specs.Answers.{first_out_of_table, overflows}
 use Rattle.papergrid_layout.specs.ForProofs.Earlier.{earlier, earlier_of}
 
 before-first : (p q : Position) → IsBefore p q → earlier_of p q ≡ p
@@ -68,7 +68,7 @@ module _ {C : Type 0} (grid : Grid) (measure : C → ℕ × ℕ) (columns : ℕ)
   -- of cells in their order, the first that reaches out along a direction is the earlier of the first along columns and the
   -- first along rows
   earlier-out : (xs : List (Position × C)) → AllPairs Precedes xs →
-      earlier (first_out columns (map (demand_by Columns grid measure) xs)) (first_out (length cells) (map (demand_by Rows grid measure) xs)) ≡ find (reaches_out grid measure columns cells) (map (λ cell. cell.0) xs)
+      earlier (first_out columns (map (demand_by Columns grid measure) xs)) (first_out (length cells) (map (demand_by Rows grid measure) xs)) ≡ find (overflows grid measure columns cells) (map (λ cell. cell.0) xs)
   earlier-out [] precede = refl
   earlier-out (x ∷ xs) precede =
       let rest = earlier-out xs (λ i j d l l'. precede (suc i) (suc j) d (omega arith) (omega arith)) in
@@ -85,15 +85,15 @@ module _ {C : Type 0} (grid : Grid) (measure : C → ℕ × ℕ) (columns : ℕ)
       ]
 
   -- no cell reaches out exactly where none does along columns, and none along rows
-  pub none_reaches_out : (first_out_of_table grid measure columns cells ≡ None)
+  pub none_overflows : (first_out_of_table grid measure columns cells ≡ None)
       ↔ ((first_out columns (demands_of Columns grid measure cells) ≡ None) × (first_out (length cells) (demands_of Rows grid measure cells) ≡ None))
-  none_reaches_out =
+  none_overflows =
       let either = earlier-out (visible_cells grid cells) (AllPairs-visible grid cells) in (
         (λ none. neither (first_out columns (demands_of Columns grid measure cells)) (first_out (length cells) (demands_of Rows grid measure cells)) (either ∙ none)),
         λ none. sym either ∙ ap₂ earlier none.0 none.1,
       )
 
-  module _ (both : KeptBoth) (kept : AreBothKept grid measure columns cells both) (rows : ℕ) (many : rows ≡ length cells) where
+  module _ (both : BothDemands) (kept : AreBothGathered grid measure columns cells both) (rows : ℕ) (many : rows ≡ length cells) where
     -- the same of what is kept
     pub out_of_both : earlier (first_out columns both.columns.rest.items) (first_out rows both.rows.rest.items) ≡ first_out_of_table grid measure columns cells
     out_of_both =
@@ -111,5 +111,5 @@ module _ {C : Type 0} (grid : Grid) (measure : C → ℕ × ℕ) (columns : ℕ)
           out_kept (length cells) both.rows (demands_of Rows grid measure cells) kept.high ∙ ap (λ n. first_out n both.rows.rest.items) (sym many) ∙ each.1,
         )
 
-    pub seen_high : IsKept rows both.rows (demands_of Rows grid measure cells)
-    seen_high = subst (λ n. IsKept n both.rows (demands_of Rows grid measure cells)) (sym many) kept.high
+    pub seen_high : AreGathered rows both.rows (demands_of Rows grid measure cells)
+    seen_high = subst (λ n. AreGathered n both.rows (demands_of Rows grid measure cells)) (sym many) kept.high

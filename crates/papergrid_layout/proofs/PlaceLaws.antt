@@ -19,12 +19,12 @@ use Rattle.papergrid_axis.proofs.OutLemmas.{if_none}
 use Rattle.papergrid_least.specs.Answers.{AreLeastSizes, IsLeastTotal}
 use Rattle.papergrid_maps.proofs.HiddenLemmas.{position-same}
 use Rattle.papergrid_least.proofs.LeastLemmas.{exact-least}
-use Rattle.papergrid_walk.specs.Cells.{demand_by, placed, problem_of, side, visible_cells}
+use Rattle.papergrid_walk.specs.Cells.{demand_by, positioned_cells, problem_of, side, visible_cells}
 use Rattle.papergrid_maps.specs.Grids.{Grid}
 use Rattle.papergrid_layout.specs.Answers.{AreBothLeast, AreBothSizes, HoldAlong}
 use Rattle.papergrid_layout.specs.Laws.{HaveRoom}
-use Rattle.papergrid_layout.specs.Places.{DoNotMeet, HasRoomAtPlace, HaveNoneInCommon, IsInside, IsPlaced, StandsOver, TableView, extent, offset, place_at, sized_table, sum_from, total, total_along}
-use Rattle.papergrid_layout.specs.declared.placement.PlaceError.TheVariants.{TooLarge}
+use Rattle.papergrid_layout.specs.Places.{DoNotMeet, HasRoomAtPlace, HaveNoneInCommon, IsInsideTable, IsPlaced, StandsOver, TableView, extent, offset, place_at, sized_table, sum_from, total, total_along}
+use Rattle.papergrid_layout.specs.declared.rect.PlaceError.TheVariants.{TooLarge}
 use Rattle.papergrid_layout.proofs.PlaceSums.{extent-before}
 
 -- ---- apart
@@ -96,7 +96,7 @@ same-or-other p q = elim (cases_lt p.row q.row) [
 ]
 
 pub one-over : (table : TableView) (x y : ℕ) (p : Position) → StandsOver table x y p →
-    ((q : Position) → IsInside table q → q ≢ p → HaveNoneInCommon table.grid p q) →
+    ((q : Position) → IsInsideTable table q → q ≢ p → HaveNoneInCommon table.grid p q) →
     (q : Position) → StandsOver table x y q → q ≡ p
 one-over table x y p over alone q other = elim (same-or-other q p) [
   | inl same ↦ same
@@ -150,10 +150,10 @@ total-least problem sizes are = total-by problem (AreLeastSizes problem) sizes a
 
 -- a range that lies in the table is as long as what it has room for
 extent-room : (line : ℕ → Bool) (sizes : List ℕ) (d : Demand) → end_of d ≤ length sizes → HasRoom line sizes d →
-    d.need ≤ extent (slice_index sizes) line d.start d.span
+    d.minimum ≤ extent (slice_index sizes) line d.start d.span
 extent-room line sizes d le room =
     let told : range_sum sizes d ≡ sum_from (slice_index sizes) d.start d.span = sum_from-list sizes d.start d.span le in
-    let need : d.need ≤ range_sum sizes d + inner_lines line d = room in
+    let minimum : d.minimum ≤ range_sum sizes d + inner_lines line d = room in
     omega arith
 
 module _ {C : Type 0} (grid : Grid) (measure : C → ℕ × ℕ) (columns : ℕ) (cells : List (List C)) (widths heights : List ℕ) where
@@ -251,7 +251,7 @@ module _ {C : Type 0} (grid : Grid) (measure : C → ℕ × ℕ) (columns : ℕ)
 
   pub all-have-room : All HasRoomIn (visible_cells grid cells)
   all-have-room =
-      each (visible_cells grid cells) (shown (placed cells))
+      each (visible_cells grid cells) (shown (positioned_cells cells))
       (good Columns (visible_cells grid cells) have.widths.none_out have.widths.fits.room)
       (good Rows (visible_cells grid cells) have.heights.none_out have.heights.fits.room)
 

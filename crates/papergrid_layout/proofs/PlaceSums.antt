@@ -11,7 +11,7 @@ use Rattle.papergrid_axis.proofs.LoopLemmas.{range_with_len-append}
 use Rattle.papergrid_values.specs.declared.direction.Direction.{Direction}
 use Rattle.papergrid_values.specs.declared.direction.Direction.TheVariants.{Columns, Rows}
 use Rattle.papergrid_values.specs.declared.position.Position.{Position}
-use Rattle.papergrid_layout.specs.Places.{HasPlace, IsInside, IsTotalOf, TableView, extent, line_offset, offset, sum_from, total, total_along}
+use Rattle.papergrid_layout.specs.Places.{HasPlace, IsInsideTable, IsTotalOf, TableView, extent, line_offset, offset, sum_from, total, total_along}
 
 -- numbers in a row, cut in two
 sum-cut : (f : ℕ → ℕ) (a m k : ℕ) → sum_by f (range_with_len a (m + k)) ≡ sum_by f (range_with_len a m) + sum_by f (range_with_len (a + m) k)
@@ -129,7 +129,7 @@ total-or (Some n) whole h = h.1
 
 -- a visible cell that does not reach out lies in the table
 pub is-inside : (table : TableView) (p : Position) → table.grid.shows p ≡ true →
-    false ≡ nat_lt table.shape.1 (p.col + table.grid.span Columns p) → false ≡ nat_lt table.shape.0 (p.row + table.grid.span Rows p) → IsInside table p
+    false ≡ nat_lt table.shape.1 (p.col + table.grid.span Columns p) → false ≡ nat_lt table.shape.0 (p.row + table.grid.span Rows p) → IsInsideTable table p
 is-inside table p visible across down = record {
   visible = visible;
   across = ltb-false table.shape.1 (p.col + table.grid.span Columns p) (sym across);

@@ -18,10 +18,10 @@ use Rattle.papergrid_maps.specs.Grids.{Grid}
 use Rattle.papergrid_config.specs.Grids.{spanned_grid}
 use Rattle.papergrid_maps.proofs.HiddenLemmas.{position-same}
 use Rattle.papergrid_layout.specs.Places.{EndsWithin, HasPlace, HaveAllPlaces, IsFirstRefused, IsPlaced, IsVisibleCell, TableView, extent, offset, place_at, total_along}
-use Rattle.papergrid_layout.specs.declared.placement.Place.{Place}
-use Rattle.papergrid_layout.specs.declared.placement.PlaceError.{PlaceError}
-use Rattle.papergrid_layout.specs.declared.placement.PlaceError.TheVariants.{OutOfTable}
-use Rattle.papergrid_layout.specs.declared.placing.Placing.{Placing}
+use Rattle.papergrid_layout.specs.declared.rect.Place.{Place}
+use Rattle.papergrid_layout.specs.declared.rect.PlaceError.{PlaceError}
+use Rattle.papergrid_layout.specs.declared.rect.PlaceError.TheVariants.{OutOfTable}
+use Rattle.papergrid_layout.specs.declared.cell_rects.Placing.{Placing}
 use Rattle.papergrid_layout.specs.ForProofs.Placing.{ArePlacedBefore, HasPlaced}
 use Rattle.papergrid_layout.proofs.PlaceSums.{extent-before}
 

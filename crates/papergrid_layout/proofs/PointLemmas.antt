@@ -11,9 +11,9 @@ use Rattle.papergrid_values.specs.declared.position.Position.{Position}
 use Rattle.papergrid_values.specs.Positions.{IsBefore}
 use Rattle.papergrid_config.specs.Grids.{spanned_grid}
 use Rattle.papergrid_layout.specs.Places.{HasPlace, IsFirstOver, IsPlaced, StandsOver, TableView, extent, offset}
-use Rattle.papergrid_layout.specs.declared.placement.Place.{Place}
-use Rattle.papergrid_layout.specs.declared.placement.PlaceError.{PlaceError}
-use Rattle.papergrid_layout.specs.declared.placement.PlaceError.TheVariants.{Hidden, OutOfTable, TooLarge}
+use Rattle.papergrid_layout.specs.declared.rect.Place.{Place}
+use Rattle.papergrid_layout.specs.declared.rect.PlaceError.{PlaceError}
+use Rattle.papergrid_layout.specs.declared.rect.PlaceError.TheVariants.{Hidden, OutOfTable, TooLarge}
 use Rattle.papergrid_layout.proofs.PlaceSums.{extent-before, offset-rises}
 
 not-before : (p q : Position) → IsBefore q p → q ≢ p

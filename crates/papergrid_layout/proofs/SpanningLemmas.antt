@@ -20,8 +20,8 @@ use Rattle.papergrid_maps.specs.declared.anchors.Anchor.{Anchor}
 use Rattle.papergrid_maps.proofs.HiddenLemmas.{position-same}
 use Rattle.papergrid_walk.specs.ForProofs.Shown.{Shows}
 use Rattle.papergrid_walk.specs.ForProofs.Swept.{Walk}
-use Rattle.papergrid_layout.specs.Places.{Covers, HasPlace, IsFirstOver, IsInside, StandsOver, TableView, place_at, total_along}
-use Rattle.papergrid_layout.specs.declared.placement.Place.{Place}
+use Rattle.papergrid_layout.specs.Places.{Covers, HasPlace, IsFirstOver, IsInsideTable, StandsOver, TableView, place_at, total_along}
+use Rattle.papergrid_layout.specs.declared.rect.Place.{Place}
 use Rattle.papergrid_layout.specs.declared.spanning.SpanningCell.{SpanningCell}
 use Rattle.papergrid_layout.specs.declared.spanning.Spanning.{Spanning}
 use Rattle.papergrid_layout.specs.ForProofs.Spanning.{AreSpanning, CoverInRow, HasSpanned, HaveAllSpanning, IsFirstCovering, IsListed, IsSpannedStep, end_row}
@@ -115,11 +115,11 @@ module _ (table : TableView) where
         within = rw (out.1, out.2) has.within;
         complete = λ k a l at' inside. elim (cases_lt k i) [
           | inl below ↦ rw out.1 (has.complete k a below at' inside)
-          | inr from ↦ absurd (out.0 (subst (λ (b : Anchor). IsInside table b.position) (own k a l from at') inside))
+          | inr from ↦ absurd (out.0 (subst (λ (b : Anchor). IsInsideTable table b.position) (own k a l from at') inside))
         ];
       }
       | inr grew ↦
-          let inside : IsInside table p = grew.0 in
+          let inside : IsInsideTable table p = grew.0 in
           let grown : old.reach ≤ new.reach = grew.1 in
           let reaches : end_row table p ≤ new.reach = grew.2 in
           let same : new.cells.items ≡ old.cells.items ++ cell ∷ [] = grew.3 in
@@ -167,11 +167,11 @@ module _ (table : TableView) where
         anchored : (direction : Direction) (p : Position) → 2 ≤ table.grid.span direction p → HasAnchor anchors p
         anchored direction p long = of.spans.has_each direction p long
 
-        kept : (p : Position) → IsInside table p → HasAnchor anchors p → IsListed found.cells.items p
+        kept : (p : Position) → IsInsideTable table p → HasAnchor anchors p → IsListed found.cells.items p
         kept p inside here =
             subst (IsListed found.cells.items) here.is_there
             (has.complete here.index here.anchor (slice_get_within anchors here.index here.anchor here.is_anchor) here.is_anchor
-            (subst (IsInside table) (sym here.is_there) inside))
+            (subst (IsInsideTable table) (sym here.is_there) inside))
 
   -- ---- at a point
 

@@ -16,9 +16,9 @@ use Rattle.papergrid_layout.specs.Places.{ArePlacesRefused, EndsWithin, IsFirstO
 use Rattle.papergrid_layout.specs.Tables.{AreNotPlacedIn, IsPlacedIn}
 use Rattle.papergrid_layout.specs.ForProofs.Placing.{AreMarks}
 use Rattle.papergrid_layout.specs.declared.marks.Marks.{Marks}
-use Rattle.papergrid_layout.specs.declared.placement.Place.{Place}
-use Rattle.papergrid_layout.specs.declared.placement.PlaceError.{PlaceError}
-use Rattle.papergrid_layout.specs.declared.placement.PlaceError.TheVariants.{OutOfTable}
+use Rattle.papergrid_layout.specs.declared.rect.Place.{Place}
+use Rattle.papergrid_layout.specs.declared.rect.PlaceError.{PlaceError}
+use Rattle.papergrid_layout.specs.declared.rect.PlaceError.TheVariants.{OutOfTable}
 use Rattle.papergrid_layout.proofs.PlaceSums.{line-before, too-large}
 use Rattle.papergrid_layout.proofs.PlacingLemmas.{ends-within, has-found, is-out}
 use Rattle.papergrid_layout.proofs.PointLemmas.{none-beside, none-beyond}

@@ -7,26 +7,26 @@ use Rattle.std.proofs.lemmas.List.{length-map}
 use Rattle.papergrid_values.specs.declared.position.Position.{Position}
 use Rattle.papergrid_values.specs.declared.direction.Direction.{Direction}
 use Rattle.papergrid_values.specs.declared.direction.Direction.TheVariants.{Columns, Rows}
-use Rattle.papergrid_axis.specs.Answers.{IsWitness}
-use Rattle.papergrid_axis.specs.KeptApart.{is_kept_apart}
-use Rattle.papergrid_axis.specs.Problem.{Problem, given}
-use Rattle.papergrid_axis.proofs.KeptApartLemmas.{Decides-is_kept_apart, not_kept_apart}
+use Rattle.papergrid_axis.specs.Answers.{IsCertificateOrNone}
+use Rattle.papergrid_axis.specs.Laminar.{is_laminar}
+use Rattle.papergrid_axis.specs.Problem.{Problem, problem_of_demands}
+use Rattle.papergrid_axis.proofs.LaminarLemmas.{Decides-is_laminar, not_laminar}
 use Rattle.papergrid_axis.specs.Ranges.{place_of}
 use Rattle.papergrid_walk.specs.Cells.{demand_by, demands_by, count_along, demands_of, placed_from, placed_row, problem_of, visible_cells}
 use Rattle.papergrid_maps.specs.Grids.{Grid}
 use Rattle.papergrid_walk.specs.ForProofs.Visits.{demands_by-append}
-use Rattle.papergrid_layout.specs.Answers.{first_out_of_table, reaches_out}
-use Rattle.papergrid_layout.specs.Witnesses.{witness_of}
+use Rattle.papergrid_layout.specs.Answers.{first_out_of_table, overflows}
+use Rattle.papergrid_layout.specs.Certificates.{certificate_by_shares}
 
 -- the places that a witness gives, by the test of ranges that are kept apart
-pub witness_is : {Z : Type 0} (problem : Problem) (found : Option (Vec Position Z)) → IsWitness problem found →
-    option_map (λ places. places.items) found ≡ witness_of problem
-witness_is problem None none = elim (cases_Bool (is_kept_apart problem.demands)) [
-  | inl t ↦ absurd (not_kept_apart problem.demands none.not_kept_apart ((Decides-is_kept_apart problem.demands).0 t))
+pub certificate_is : {Z : Type 0} (problem : Problem) (found : Option (Vec Position Z)) → IsCertificateOrNone problem found →
+    option_map (λ places. places.items) found ≡ certificate_by_shares problem
+certificate_is problem None none = elim (cases_Bool (is_laminar problem.demands)) [
+  | inl t ↦ absurd (not_laminar problem.demands none.not_laminar ((Decides-is_laminar problem.demands).0 t))
   | inr f ↦ rw f refl
 ]
-witness_is problem (Some places) chosen =
-    let t : is_kept_apart problem.demands ≡ true = (Decides-is_kept_apart problem.demands).1 chosen.kept_apart in
+certificate_is problem (Some places) chosen =
+    let t : is_laminar problem.demands ≡ true = (Decides-is_laminar problem.demands).1 chosen.laminar in
     rw t (ap Some chosen.exact)
 
 module _ {C : Type 0} (grid : Grid) (measure : C → ℕ × ℕ) (columns : ℕ) (cells : List (List C)) where
@@ -35,8 +35,8 @@ module _ {C : Type 0} (grid : Grid) (measure : C → ℕ × ℕ) (columns : ℕ)
   places_among (x ∷ xs) = ap (λ ps. x.0 ∷ ps) (places_among xs)
 
   -- the first cell out of the table, by what the cells ask for alone
-  first_by_demands : first_out_of_table grid measure columns cells ≡ find (reaches_out grid measure columns cells) (map place_of (demands_of Columns grid measure cells))
-  first_by_demands = ap (find (reaches_out grid measure columns cells)) (places_among (visible_cells grid cells))
+  first_by_demands : first_out_of_table grid measure columns cells ≡ find (overflows grid measure columns cells) (map place_of (demands_of Columns grid measure cells))
+  first_by_demands = ap (find (overflows grid measure columns cells)) (places_among (visible_cells grid cells))
 
 module _ {A B : Type 0} (grid : Grid) (v : A → B) (f : B → ℕ × ℕ) where
   told_row : (direction : Direction) (r c : ℕ) (cells : List A) → demands_by direction grid (λ x. f (v x)) (placed_row r c cells) ≡ demands_by direction grid f (placed_row r c (map v cells))
@@ -66,7 +66,7 @@ module _ {A B : Type 0} (grid : Grid) (v : A → B) (f : B → ℕ × ℕ) where
 
     pub problem_told : (direction : Direction) (columns : ℕ) → problem_of grid (λ x. f (v x)) columns cells direction ≡ problem_of grid f columns rows direction
     problem_told direction columns =
-        λ i. given (grid.draws direction (count_along direction columns (as_many i))) (count_along direction columns (as_many i)) (demands_told direction i)
+        λ i. problem_of_demands (grid.draws direction (count_along direction columns (as_many i))) (count_along direction columns (as_many i)) (demands_told direction i)
 
     -- the same cell is the first out of the table
     pub first_told : (columns : ℕ) → first_out_of_table grid (λ x. f (v x)) columns cells ≡ first_out_of_table grid f columns rows

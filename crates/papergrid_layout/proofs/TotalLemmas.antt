@@ -10,7 +10,7 @@ use Rattle.papergrid_axis.specs.Fits.{Fits, HasRoom}
 use Rattle.papergrid_axis.specs.Problem.{Problem, total_of}
 use Rattle.papergrid_values.specs.Lines.{all_lines}
 use Rattle.papergrid_axis.specs.Ranges.{end_of, first_out, place_of}
-use Rattle.papergrid_axis.proofs.LoopLemmas.{need_within_total}
+use Rattle.papergrid_axis.proofs.LoopLemmas.{minimum_within_total}
 use Rattle.papergrid_axis.proofs.OutLemmas.{if_none}
 use Rattle.papergrid_least.specs.Answers.{IsLeastTotal}
 use Rattle.papergrid_walk.specs.Cells.{demand_by, problem_of, side, visible_cells}
@@ -21,27 +21,27 @@ module _ {C : Type 0} (grid : Grid) (measure : C → ℕ × ℕ) (columns : ℕ)
   abbrev problem : Problem
   problem = problem_of grid measure columns cells direction
 
-  abbrev NeedsAtMost : ℕ → Position × C → Type 0
-  NeedsAtMost total cell = side direction (measure cell.1) + grid.before direction cell.0 + grid.after direction cell.0 ≤ total
+  abbrev MinimumsAtMost : ℕ → Position × C → Type 0
+  MinimumsAtMost total cell = side direction (measure cell.1) + grid.before direction cell.0 + grid.after direction cell.0 ≤ total
 
   each_within : (sizes : List ℕ) (total : ℕ) → total_of problem sizes ≤ total → (xs : List (Position × C)) →
-      first_out problem.count (map (demand_by direction grid measure) xs) ≡ None → All (HasRoom problem.line sizes) (map (demand_by direction grid measure) xs) → All (NeedsAtMost total) xs
-  each_within sizes total le [] none room = All-nil (NeedsAtMost total)
+      first_out problem.count (map (demand_by direction grid measure) xs) ≡ None → All (HasRoom problem.line sizes) (map (demand_by direction grid measure) xs) → All (MinimumsAtMost total) xs
+  each_within sizes total le [] none room = All-nil (MinimumsAtMost total)
   each_within sizes total le (x ∷ xs) none room =
       let d = demand_by direction grid measure x in
       let ds = map (demand_by direction grid measure) xs in
       let inside = if_none (nat_lt problem.count (end_of d)) (place_of d) (first_out problem.count ds) none in
       let ends : end_of d ≤ problem.count = ltb-false problem.count (end_of d) inside.0 in
-      let need : d.need ≤ sum sizes + all_lines problem.line problem.count = need_within_total problem.line problem.count sizes d ends (All-head (HasRoom problem.line sizes) d ds room) in
-      All-cons (NeedsAtMost total) x xs (omega arith) (each_within sizes total le xs inside.1 (All-tail (HasRoom problem.line sizes) d ds room))
+      let minimum : d.minimum ≤ sum sizes + all_lines problem.line problem.count = minimum_within_total problem.line problem.count sizes d ends (All-head (HasRoom problem.line sizes) d ds room) in
+      All-cons (MinimumsAtMost total) x xs (omega arith) (each_within sizes total le xs inside.1 (All-tail (HasRoom problem.line sizes) d ds room))
 
-  pub fitting_covers : (sizes : List ℕ) → first_out problem.count problem.demands ≡ None → Fits problem sizes → All (NeedsAtMost (total_of problem sizes)) (visible_cells grid cells)
+  pub fitting_covers : (sizes : List ℕ) → first_out problem.count problem.demands ≡ None → Fits problem sizes → All (MinimumsAtMost (total_of problem sizes)) (visible_cells grid cells)
   fitting_covers sizes none fits = each_within sizes (total_of problem sizes) (omega arith) (visible_cells grid cells) none fits.room
 
-  pub total_covers : (total : ℕ) → IsTotal problem total → All (NeedsAtMost total) (visible_cells grid cells)
+  pub total_covers : (total : ℕ) → IsTotal problem total → All (MinimumsAtMost total) (visible_cells grid cells)
   total_covers total is =
-      subst (λ n. All (NeedsAtMost n) (visible_cells grid cells)) (sym is.adds_up) (fitting_covers is.sizes is.are_sizes.none_out is.are_sizes.fits)
+      subst (λ n. All (MinimumsAtMost n) (visible_cells grid cells)) (sym is.adds_up) (fitting_covers is.sizes is.are_sizes.none_out is.are_sizes.fits)
 
-  pub least_total_covers : (total : ℕ) → IsLeastTotal problem total → All (NeedsAtMost total) (visible_cells grid cells)
+  pub least_total_covers : (total : ℕ) → IsLeastTotal problem total → All (MinimumsAtMost total) (visible_cells grid cells)
   least_total_covers total is =
-      subst (λ n. All (NeedsAtMost n) (visible_cells grid cells)) (sym is.adds_up) (fitting_covers is.sizes is.are_sizes.none_out is.are_sizes.least.fits)
+      subst (λ n. All (MinimumsAtMost n) (visible_cells grid cells)) (sym is.adds_up) (fitting_covers is.sizes is.are_sizes.none_out is.are_sizes.least.fits)

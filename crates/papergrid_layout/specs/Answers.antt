@@ -23,12 +23,12 @@ UnlessMemory (Err e) P = UnlessMemoryError e P
 
 module _ {C : Type 0} (grid : Grid) (measure : C → ℕ × ℕ) (columns : ℕ) (cells : List (List C)) where
   -- the cell at a position reaches out of the table, along columns or along rows
-  abbrev pub reaches_out : Position → Bool
-  reaches_out p = nat_lt columns (p.col + grid.span Columns p) || nat_lt (length cells) (p.row + grid.span Rows p)
+  abbrev pub overflows : Position → Bool
+  overflows p = nat_lt columns (p.col + grid.span Columns p) || nat_lt (length cells) (p.row + grid.span Rows p)
 
   -- the first visible cell that does, by row and then by column
   abbrev pub first_out_of_table : Option Position
-  first_out_of_table = find reaches_out (map (λ cell. cell.0) (visible_cells grid cells))
+  first_out_of_table = find overflows (map (λ cell. cell.0) (visible_cells grid cells))
 
   -- this holds of what is found along columns, and of what is found along rows
   pub record HoldAlong {A : Type 0} (holds : Problem → A → Type 0) (across down : A) : Type 0 where

@@ -2,7 +2,7 @@
 use Rattle.std.specs.Prelude.{◌≡◌, ◌≢◌, ◌<◌, ◌^◌, ◌&&◌, ℕ, Bool, List, [], ◌∷◌, ◌++◌, None, filter, length, slice_index_or}
 use Rattle.std.specs.List.{flat_map}
 use Rattle.papergrid_values.specs.declared.position.Position.{Position}
-use Rattle.papergrid_text.specs.Measured.{Measured, measured}
+use Rattle.papergrid_text.specs.Measured.{Measured, measured_text}
 use Rattle.papergrid_values.specs.declared.direction.Direction.{Direction}
 use Rattle.papergrid_axis.specs.Fits.{Fits}
 use Rattle.papergrid_axis.specs.Problem.{Problem, total_of}
@@ -12,7 +12,7 @@ use Rattle.papergrid_keys.specs.Keys.{position_eq}
 use Rattle.papergrid_maps.specs.Spans as spans
 use Rattle.papergrid_values.specs.declared.direction.Direction.TheVariants.{Columns, Rows}
 use Rattle.papergrid_maps.specs.Spans.{RemoveSpans, SetSpan, SpanCall, is_same_direction}
-use Rattle.papergrid_config.specs.Decided as decided
+use Rattle.papergrid_config.specs.Effective as effective
 use Rattle.papergrid_config.specs.Made.{characters_of}
 use Rattle.papergrid_config.specs.Parts.{character_calls, padding_calls, span_calls}
 use Rattle.papergrid_config.specs.declared.setting.Setting.{Setting}
@@ -22,15 +22,15 @@ use Rattle.papergrid_maps.specs.Grids.{Grid}
 
 -- a text as `Text::new` keeps it
 abbrev pub IsNewText : {S : Type 0} → (S → List ℕ) → Measured S → Type 0
-IsNewText text t = t ≡ measured text t.text
+IsNewText text t = t ≡ measured_text text t.text
 
 -- the cells of a row have this one at a column
-abbrev pub HasCell : {C : Type 0} → List C → ℕ → C → Type 0
-HasCell cells col cell = (col < length cells) × (slice_index_or cells col cell ≡ cell)
+abbrev pub RowHasCell : {C : Type 0} → List C → ℕ → C → Type 0
+RowHasCell cells col cell = (col < length cells) × (slice_index_or cells col cell ≡ cell)
 
 -- the rows have the cell at a position
 abbrev pub IsCellAt : {C : Type 0} → List (List C) → Position → C → Type 0
-IsCellAt rows p cell = (p.row < length rows) × HasCell (slice_index_or rows p.row []) p.col cell
+IsCellAt rows p cell = (p.row < length rows) × RowHasCell (slice_index_or rows p.row []) p.col cell
 
 -- the sizes along a direction, of so many columns (rows), that told rows have
 abbrev pub sizes_told : {C : Type 0} → Direction → Grid → (C → ℕ × ℕ) → ℕ → List (List C) → List ℕ
@@ -45,19 +45,19 @@ pub record HaveRoom (problem : Problem) (sizes : List ℕ) : Type 0 where
 -- the same spans, paddings and lines
 pub record TellTheSame (settings other : List Setting) : Type 0 where
   pub spans : (direction : Direction) (p : Position) →
-      spans.decided_span direction p (flat_map span_calls settings) ≡ spans.decided_span direction p (flat_map span_calls other)
-  pub padding : (p : Position) → decided.padding settings p ≡ decided.padding other p
+      spans.effective_span direction p (flat_map span_calls settings) ≡ spans.effective_span direction p (flat_map span_calls other)
+  pub padding : (p : Position) → effective.padding settings p ≡ effective.padding other p
   pub characters : characters_of settings ≡ characters_of other
 
 -- whether a call has to do with the span of a cell: it sets it, or removes all spans of the direction
-abbrev pub concerns : Direction → Position → SpanCall → Bool
-concerns direction p (SetSpan way q n) = is_same_direction way direction && position_eq q p
-concerns direction p (RemoveSpans way) = is_same_direction way direction
+abbrev pub concerns_span : Direction → Position → SpanCall → Bool
+concerns_span direction p (SetSpan way q n) = is_same_direction way direction && position_eq q p
+concerns_span direction p (RemoveSpans way) = is_same_direction way direction
 
 -- each cell's span is set by the same calls in the same order, wherever those of other cells stand; otherwise the same
 pub record AreReordered (settings other : List Setting) : Type 0 where
   pub spans : (direction : Direction) (p : Position) →
-      filter (concerns direction p) (flat_map span_calls settings) ≡ filter (concerns direction p) (flat_map span_calls other)
+      filter (concerns_span direction p) (flat_map span_calls settings) ≡ filter (concerns_span direction p) (flat_map span_calls other)
   pub padding : flat_map padding_calls settings ≡ flat_map padding_calls other
   pub characters : flat_map character_calls settings ≡ flat_map character_calls other
 

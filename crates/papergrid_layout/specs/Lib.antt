@@ -3,5 +3,5 @@ pub mod Answers
 pub mod Laws
 pub mod Places
 pub mod Tables
-pub mod Witnesses
+pub mod Certificates
 pub mod ForProofs

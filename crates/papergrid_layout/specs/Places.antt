@@ -13,9 +13,9 @@ use Rattle.papergrid_walk.specs.Cells.{count_along, side}
 use Rattle.papergrid_maps.specs.Grids.{Grid}
 use Rattle.papergrid_config.specs.Grids.{spanned_grid}
 use Rattle.papergrid_config.specs.declared.spanned.SpannedConfig.{SpannedConfig}
-use Rattle.papergrid_layout.specs.declared.placement.Place.{Place}
-use Rattle.papergrid_layout.specs.declared.placement.PlaceError.{PlaceError}
-use Rattle.papergrid_layout.specs.declared.placement.PlaceError.TheVariants.{Hidden, OutOfTable, TooLarge}
+use Rattle.papergrid_layout.specs.declared.rect.Place.{Place}
+use Rattle.papergrid_layout.specs.declared.rect.PlaceError.{PlaceError}
+use Rattle.papergrid_layout.specs.declared.rect.PlaceError.TheVariants.{Hidden, OutOfTable, TooLarge}
 
 -- the sizes of so many columns (rows) from number s on, added up
 abbrev pub sum_from : (ℕ → ℕ) → ℕ → ℕ → ℕ
@@ -72,16 +72,16 @@ pub record TableView : Type 0 where
   pub shape : ℕ × ℕ
 
 -- the table of these
-abbrev pub table_of : Grid → (ℕ → ℕ) → (ℕ → ℕ) → ℕ × ℕ → TableView
-table_of grid widths heights shape = record { grid = grid; widths = widths; heights = heights; shape = shape }
+abbrev pub table_view_of : Grid → (ℕ → ℕ) → (ℕ → ℕ) → ℕ × ℕ → TableView
+table_view_of grid widths heights shape = record { grid = grid; widths = widths; heights = heights; shape = shape }
 
 -- by a configuration
 abbrev pub table_by : SpannedConfig → (ℕ → ℕ) → (ℕ → ℕ) → ℕ × ℕ → TableView
-table_by config = table_of (spanned_grid config)
+table_by config = table_view_of (spanned_grid config)
 
 -- with sizes as lists
 abbrev pub sized_table : Grid → List ℕ → List ℕ → ℕ × ℕ → TableView
-sized_table grid widths heights = table_of grid (slice_index widths) (slice_index heights)
+sized_table grid widths heights = table_view_of grid (slice_index widths) (slice_index heights)
 
 module _ (table : TableView) where
   -- how many tracks of a direction it has: columns, or rows
@@ -122,18 +122,18 @@ module _ (table : TableView) where
   EndsWithin place = (place.left + place.width ≤ total_along Columns) × (place.top + place.height ≤ total_along Rows)
 
   -- its range ends past the last column (row)
-  abbrev pub ReachesOut : Position → Direction → Type 0
-  ReachesOut p direction = track_count direction < along direction p + table.grid.span direction p
+  abbrev pub Overflows : Position → Direction → Type 0
+  Overflows p direction = track_count direction < along direction p + table.grid.span direction p
 
   -- it is visible, and reaches out in neither direction
-  pub record IsInside (p : Position) : Type 0 where
+  pub record IsInsideTable (p : Position) : Type 0 where
     pub visible : table.grid.shows p ≡ true
     pub across : p.col + table.grid.span Columns p ≤ table.shape.1
     pub down : p.row + table.grid.span Rows p ≤ table.shape.0
 
   -- it has this place, in a table whose totals fit
   pub record HasPlace (p : Position) (place : Place) : Type 0 where
-    pub inside : IsInside p
+    pub inside : IsInsideTable p
     pub fit : (direction : Direction) → total_along direction < 2 ^ 64
     pub exact : place ≡ place_at p
 
@@ -141,8 +141,8 @@ module _ (table : TableView) where
   abbrev pub IsPlaced : Position → Result Place PlaceError → Type 0
   IsPlaced p (Ok place) = HasPlace p place
   IsPlaced p (Err Hidden) = table.grid.shows p ≡ false
-  IsPlaced p (Err OutOfTable) = (table.grid.shows p ≡ true) × (ReachesOut p Columns ⊎ ReachesOut p Rows)
-  IsPlaced p (Err TooLarge) = IsInside p × ((2 ^ 64 ≤ total_along Columns) ⊎ (2 ^ 64 ≤ total_along Rows))
+  IsPlaced p (Err OutOfTable) = (table.grid.shows p ≡ true) × (Overflows p Columns ⊎ Overflows p Rows)
+  IsPlaced p (Err TooLarge) = IsInsideTable p × ((2 ^ 64 ≤ total_along Columns) ⊎ (2 ^ 64 ≤ total_along Rows))
 
   -- a visible position of the table
   pub record IsVisibleCell (p : Position) : Type 0 where

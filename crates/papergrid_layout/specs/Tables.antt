@@ -10,9 +10,9 @@ use Rattle.papergrid_config.specs.Grids.{spanned_grid}
 use Rattle.papergrid_maps.specs.Grids.{Grid}
 use Rattle.papergrid_layout.specs.Answers.{AreBothLeast, AreBothSizes, HaveNoLeast, IsBothRefused, UnlessMemoryError}
 use Rattle.papergrid_layout.specs.Places.{ArePlacesRefused, IsPlaced, TableView, line_offset, sized_table, total_along, track_count, track_line, track_size}
-use Rattle.papergrid_layout.specs.declared.placement.Place.{Place}
-use Rattle.papergrid_layout.specs.declared.placement.PlaceError.{PlaceError}
-use Rattle.papergrid_layout.specs.declared.placement.PlaceError.TheVariants.{TooLarge}
+use Rattle.papergrid_layout.specs.declared.rect.Place.{Place}
+use Rattle.papergrid_layout.specs.declared.rect.PlaceError.{PlaceError}
+use Rattle.papergrid_layout.specs.declared.rect.PlaceError.TheVariants.{TooLarge}
 use Rattle.papergrid_layout.specs.declared.sizing.Sizing.{Sizing}
 use Rattle.papergrid_layout.specs.declared.sizing.Sizing.TheVariants.{ByShares, Least}
 
@@ -27,29 +27,29 @@ abbrev pub view_of : TableParts → TableView
 view_of t = sized_table (spanned_grid t.config) t.widths t.heights (length t.heights, length t.widths)
 
 -- a total is past the greatest `usize`
-abbrev pub IsTooLarge : TableView → Type 0
-IsTooLarge table = (2 ^ 64 ≤ total_along table Columns) ⊎ (2 ^ 64 ≤ total_along table Rows)
+abbrev pub IsTotalTooLarge : TableView → Type 0
+IsTotalTooLarge table = (2 ^ 64 ≤ total_along table Columns) ⊎ (2 ^ 64 ≤ total_along table Rows)
 
 -- the table of these parts, or their totals are too large
 abbrev pub IsTable : TableParts → Result TableParts LayoutError → Type 0
 IsTable parts (Ok table) = (table ≡ parts) × ((direction : Direction) → total_along (view_of parts) direction < 2 ^ 64)
-IsTable parts (Err e) = UnlessMemoryError e ((e ≡ layout_error.TooLarge) × IsTooLarge (view_of parts))
+IsTable parts (Err e) = UnlessMemoryError e ((e ≡ layout_error.TooLarge) × IsTotalTooLarge (view_of parts))
 
 module _ {C : Type 0} (config : SpannedConfig) (measure : C → ℕ × ℕ) (columns : ℕ) (cells : List (List C)) where
   -- these widths and heights are chosen so
-  abbrev pub AreChosen : Sizing → List ℕ → List ℕ → Type 0
-  AreChosen ByShares widths heights = AreBothSizes (spanned_grid config) measure columns cells widths heights
-  AreChosen Least widths heights = AreBothLeast (spanned_grid config) measure columns cells widths heights
+  abbrev pub AreSizesBySizing : Sizing → List ℕ → List ℕ → Type 0
+  AreSizesBySizing ByShares widths heights = AreBothSizes (spanned_grid config) measure columns cells widths heights
+  AreSizesBySizing Least widths heights = AreBothLeast (spanned_grid config) measure columns cells widths heights
 
   -- why there are none
-  abbrev pub AreNotChosen : Sizing → LayoutError → Type 0
-  AreNotChosen ByShares e = IsBothRefused (spanned_grid config) measure columns cells e
-  AreNotChosen Least e = HaveNoLeast (spanned_grid config) measure columns cells e
+  abbrev pub AreNoSizesBySizing : Sizing → LayoutError → Type 0
+  AreNoSizesBySizing ByShares e = IsBothRefused (spanned_grid config) measure columns cells e
+  AreNoSizesBySizing Least e = HaveNoLeast (spanned_grid config) measure columns cells e
 
   -- the table of these cells by the configuration, or why there is none
   abbrev pub IsTableOf : Sizing → Result TableParts LayoutError → Type 0
-  IsTableOf sizing (Ok table) = (table.config ≡ config) × AreChosen sizing table.widths table.heights
-  IsTableOf sizing (Err e) = AreNotChosen sizing e
+  IsTableOf sizing (Ok table) = (table.config ≡ config) × AreSizesBySizing sizing table.widths table.heights
+  IsTableOf sizing (Err e) = AreNoSizesBySizing sizing e
 
 -- the cell at a position has this place; else it is hidden, else it reaches out of the table
 abbrev pub IsPlacedIn : TableView → Position → Result Place PlaceError → Type 0

@@ -2,17 +2,17 @@
 
 ghost use Rattle.std.specs.Prelude.{◌≡◌, List, length};
 ghost use Rattle.papergrid_axis.specs.Ranges.{first_out};
-ghost use Rattle.papergrid_walk.specs.ForProofs.Pairs.{AreBothKept};
+ghost use Rattle.papergrid_walk.specs.ForProofs.Pairs.{AreBothGathered};
 ghost use Rattle.papergrid_layout.specs.Answers.{AnswersBothWhere, UnlessMemory};
 ghost use Rattle.papergrid_layout.specs.ForProofs.Earlier.{earlier, earlier_of};
 
 use crate::along::Along;
 use papergrid_axis::settled::find_out;
-use papergrid_axis::{Found, LayoutError, Solved, Solver};
+use papergrid_axis::{LayoutResult, LayoutError, Solved, Solver};
 use papergrid_maps::ConfigView;
 use papergrid_text::{IntoRecords, Records};
 use papergrid_values::{Direction, Position};
-use papergrid_walk::{KeptBoth, Measure, gather_both};
+use papergrid_walk::{BothDemands, Measure, gather_both};
 use std::alloc::Global;
 
 /// Of two positions the one that is earlier by row and then by column.
@@ -35,7 +35,7 @@ fn earlier(p: Option<Position>, q: Option<Position>) -> Option<Position>
 
 /// The position of the first cell that reaches out of the table, by its range along columns or by
 /// that along rows.
-fn find_out_of_both(columns: usize, rows: usize, both: &KeptBoth) -> Option<Position>
+fn find_out_of_both(columns: usize, rows: usize, both: &BothDemands) -> Option<Position>
     ensures { result ≡ earlier (first_out columns both.now.columns.rest.items)
         (first_out rows both.now.rows.rest.items) }
 {
@@ -50,14 +50,14 @@ fn conclude<T: Solver, M: Measure<C>, C, S: ConfigView>(
     alloc: Global,
     columns: usize,
     rows: usize,
-    both: &KeptBoth,
+    both: &BothDemands,
     settings: &S,
     certify: bool,
-) -> Found<(Solved, Solved)>
+) -> LayoutResult<(Solved, Solved)>
     requires { (cells : List (List C)) × (rows ≡ length cells)
-        × AreBothKept (S.grid settings.now) M.measured columns cells both.now }
+        × AreBothGathered (S.grid settings.now) M.measured columns cells both.now }
     ensures { (cells : List (List C)) → rows ≡ length cells →
-        AreBothKept (S.grid settings.now) M.measured columns cells both.now →
+        AreBothGathered (S.grid settings.now) M.measured columns cells both.now →
         AnswersBothWhere (S.grid settings.now) M.measured columns cells T.too_large
         (T.solves certify) result }
 {
@@ -91,7 +91,7 @@ pub fn solve_both<T, M, R, S>(
     records: R,
     settings: &S,
     certify: bool,
-) -> Found<(Solved, Solved)>
+) -> LayoutResult<(Solved, Solved)>
 where
     T: Solver,
     R: Records + Drop,

@@ -3,13 +3,13 @@
 
 ghost use Rattle.std.specs.Prelude.{List};
 ghost use Rattle.papergrid_values.specs.declared.direction.Direction.TheVariants.{Columns, Rows};
-ghost use Rattle.papergrid_axis.specs.Answers.{Answers, IsWitness};
+ghost use Rattle.papergrid_axis.specs.Answers.{Answers, IsCertificateOrNone};
 ghost use Rattle.papergrid_least.specs.Answers.{IsLeastCertified};
 ghost use Rattle.papergrid_walk.specs.Cells.{problem_of};
 ghost use Rattle.papergrid_config.specs.Grids.{spanned_grid};
 ghost use Rattle.papergrid_walk.specs.Measures.{line_measure};
 ghost use Rattle.papergrid_layout.specs.Answers.{UnlessMemory};
-ghost use Rattle.papergrid_layout.specs.Witnesses.{IsCertified, IsCertifiedLeast, IsChecked};
+ghost use Rattle.papergrid_layout.specs.Certificates.{IsCertified, IsCertifiedLeast, IsChecked};
 
 use crate::along::solve_along;
 use crate::both::solve_both;
@@ -42,7 +42,7 @@ where
     <<R as Records>::Iter as IntoRecords>::Cell: AsStr + Drop,
     requires { R.is_lawful records }
     ensures { UnlessMemory result ((cells : List (List R.Iter.Cell)) × R.tells records cells
-        × Answers IsWitness (problem_of (spanned_grid config.now) (line_measure R.Iter.Cell.text)
+        × Answers IsCertificateOrNone (problem_of (spanned_grid config.now) (line_measure R.Iter.Cell.text)
         (R.columns records) cells Columns) result) }
 {
     solve_along::<ByShares, ByLines, _, _>(alloc, records, config, Direction::Columns, true).map(
@@ -68,7 +68,7 @@ where
     <<R as Records>::Iter as IntoRecords>::Cell: AsStr + Drop,
     requires { R.is_lawful records }
     ensures { UnlessMemory result ((cells : List (List R.Iter.Cell)) × R.tells records cells
-        × Answers IsWitness (problem_of (spanned_grid config.now) (line_measure R.Iter.Cell.text)
+        × Answers IsCertificateOrNone (problem_of (spanned_grid config.now) (line_measure R.Iter.Cell.text)
         (R.columns records) cells Rows) result) }
 {
     solve_along::<ByShares, ByLines, _, _>(alloc, records, config, Direction::Rows, true).map(

@@ -3,13 +3,13 @@
 ghost use Rattle.std.specs.Prelude.{◌≡◌, ◌+◌, ◌^◌, ◌<◌, ◌≤◌, ◌⊎◌, ◌∷◌, [], ⊤, List, length};
 ghost use Rattle.papergrid_axis.specs.ForProofs.Checks.{AreBounded, IsCandidate};
 ghost use Rattle.papergrid_walk.specs.Cells.{demands_by, demands_of, problem_of};
-ghost use Rattle.papergrid_layout.specs.Witnesses.{IsChecked};
+ghost use Rattle.papergrid_layout.specs.Certificates.{IsChecked};
 ghost use Rattle.papergrid_layout.specs.ForProofs.Checking.{AreShown, ChecksBy, ChecksMore, IsShownCandidate, check_more, check_none};
 ghost use Rattle.std.proofs.Common.{◌∙◌, ap, refl};
 
 use crate::along::{Along, count_of};
 use papergrid_axis::candidate::{are_in_order, count_listed};
-use papergrid_axis::checked::{accepts, is_unchanged, visit, wide_need};
+use papergrid_axis::checked::{accepts, is_unchanged, visit, wide_minimum};
 use papergrid_axis::{Candidate, Checked};
 use papergrid_maps::ConfigView;
 use papergrid_text::{IntoRecords, Records};
@@ -19,14 +19,14 @@ use std::alloc::AllocError;
 use std::marker::PhantomData;
 
 /// What the cell at a position needs along a direction, by its width (height).
-fn need_along<S: ConfigView>(settings: &S, direction: Direction, pos: Position, size: usize) -> u128
+fn minimum_along<S: ConfigView>(settings: &S, direction: Direction, pos: Position, size: usize) -> u128
     ensures sum { let grid = S.grid settings.now in
         result ≡ size + grid.before direction pos + grid.after direction pos }
     ensures small { result ≤ 2 ^ 66 }
 {
     let before = settings.padding_before(direction, pos);
     let after = settings.padding_after(direction, pos);
-    wide_need(size, before, after)
+    wide_minimum(size, before, after)
 }
 
 /// Whether the cell at a position is visible. Where the list is in order this is known of the listed
@@ -67,8 +67,8 @@ fn check_cell<M: Measure<C>, C, S: ConfigView>(
         count: candidate.sizes.len(),
     };
     let size = M::measure_along(candidate.direction, cell);
-    let need = need_along(settings, candidate.direction, pos, size);
-    let visited = visit(checked, candidate, &axis, pos, need);
+    let minimum = minimum_along(settings, candidate.direction, pos, size);
+    let visited = visit(checked, candidate, &axis, pos, minimum);
     if is_unchanged(checked, visited) {
         return checked;
     }
@@ -89,11 +89,11 @@ struct Checker<'a, M, S> {
 }
 
 impl<'a, M: Measure<C>, C, S: ConfigView> Visitor<C> for Checker<'a, M, S> {
-    ghost stands = { λ v row column. AreBounded v.candidate.now.places.now v.checked
+    ghost ready = { λ v row column. AreBounded v.candidate.now.places.now v.checked
         × IsCandidate ((S.grid v.settings.now).span v.candidate.now.direction) v.candidate.now
         × IsShownCandidate (S.grid v.settings.now) v.candidate.now };
 
-    ghost visits = { λ v w cells. (w.settings ≡ v.settings) × (w.candidate ≡ v.candidate)
+    ghost consumed = { λ v w cells. (w.settings ≡ v.settings) × (w.candidate ≡ v.candidate)
         × ChecksMore (S.grid v.settings.now) v.candidate.now v.checked w.checked (demands_by v.candidate.now.direction (S.grid v.settings.now) M.measured cells) };
 
     // It takes no memory.
@@ -110,16 +110,16 @@ impl<'a, M: Measure<C>, C, S: ConfigView> Visitor<C> for Checker<'a, M, S> {
         Ok(())
     }
 
-    ghost none = { λ v. (refl, refl, check_none (S.grid v.settings.now) v.candidate.now v.checked) };
+    ghost empty = { λ v. (refl, refl, check_none (S.grid v.settings.now) v.candidate.now v.checked) };
 
-    ghost more = { λ u v w cells further first second. (
+    ghost append = { λ u v w cells further first second. (
       second.0 ∙ first.0,
       second.1 ∙ first.1,
       check_more M.measured (S.grid u.settings.now) (S.grid v.settings.now) u.candidate.now v.candidate.now
           (ap (λ s. S.grid s.now) first.0) (ap (λ c. c.now) first.1) u.checked v.checked w.checked cells further first.2 second.2,
     ) };
 
-    ghost turns = { λ v row column so_far. so_far };
+    ghost next_row = { λ v row column so_far. so_far };
 }
 
 /// What is kept of the visible cells of the records, and the number of rows.

@@ -10,22 +10,22 @@ ghost use Rattle.papergrid_values.specs.declared.direction.Direction.TheVariants
 ghost use Rattle.papergrid_axis.specs.Answers.{AreSizes, IsAccepted, IsTotal};
 ghost use Rattle.papergrid_axis.specs.Fits.{Fits, IsLeast};
 ghost use Rattle.papergrid_axis.specs.Problem.{Problem, total_of};
-ghost use Rattle.papergrid_axis.specs.Ranges.{IsKeptApart, first_out};
-ghost use Rattle.papergrid_least.specs.Answers.{AreLeastSizes, AreLongest, IsLeastTotal};
-ghost use Rattle.papergrid_config.specs.Told.{IsTold};
+ghost use Rattle.papergrid_axis.specs.Ranges.{IsLaminar, first_out};
+ghost use Rattle.papergrid_least.specs.Answers.{AreLeastSizes, AreCriticalPath, IsLeastTotal};
+ghost use Rattle.papergrid_config.specs.History.{HasSettingHistory};
 ghost use Rattle.papergrid_config.specs.declared.setting.Setting.{Setting};
 ghost use Rattle.papergrid_config.specs.declared.spanned.SpannedConfig.{SpannedConfig};
-ghost use Rattle.papergrid_walk.specs.Cells.{demand_by, demands_of, placed, problem_of, visible_cells};
+ghost use Rattle.papergrid_walk.specs.Cells.{demand_by, demands_of, positioned_cells, problem_of, visible_cells};
 ghost use Rattle.papergrid_maps.specs.Grids.{Grid};
 ghost use Rattle.papergrid_config.specs.Grids.{spanned_grid};
 ghost use Rattle.papergrid_walk.specs.Measures.{cell_measure, line_measure};
 ghost use Rattle.papergrid_layout.specs.Answers.{AreBothLeast, AreBothSizes, HoldAlong, first_out_of_table};
 ghost use Rattle.papergrid_layout.specs.Laws.{AreReordered, AreSwapped, HaveRoom, IsCellAt, IsNewText, TellTheSame, sizes_told};
-ghost use Rattle.papergrid_layout.specs.Places.{DoNotMeet, HasRoomAtPlace, HaveNoneInCommon, IsInside, IsPlaced, StandsOver, TableView, place_at, sized_table, total_along};
+ghost use Rattle.papergrid_layout.specs.Places.{DoNotMeet, HasRoomAtPlace, HaveNoneInCommon, IsInsideTable, IsPlaced, StandsOver, TableView, place_at, sized_table, total_along};
 ghost use Rattle.papergrid_axis.specs.declared.error.LayoutError.{LayoutError};
-ghost use Rattle.papergrid_layout.specs.declared.placement.Place.{Place};
-ghost use Rattle.papergrid_layout.specs.declared.placement.PlaceError.{PlaceError};
-ghost use Rattle.papergrid_layout.specs.declared.placement.PlaceError.TheVariants.{TooLarge};
+ghost use Rattle.papergrid_layout.specs.declared.rect.Place.{Place};
+ghost use Rattle.papergrid_layout.specs.declared.rect.PlaceError.{PlaceError};
+ghost use Rattle.papergrid_layout.specs.declared.rect.PlaceError.TheVariants.{TooLarge};
 ghost use Rattle.papergrid_layout.specs.declared.compact.CompactGridDimension.{CompactGridDimension};
 ghost use Rattle.papergrid_layout.specs.declared.iterable.IterGridDimension.{IterGridDimension};
 ghost use Rattle.papergrid_layout.specs.declared.least.LeastGridDimension.{LeastGridDimension};
@@ -35,7 +35,7 @@ use crate::compact::CompactGridDimension;
 use crate::iterable::IterGridDimension;
 use crate::least::LeastGridDimension;
 use crate::peekable::PeekableGridDimension;
-use crate::placement::{Place, PlaceError};
+use crate::rect::{Place, PlaceError};
 use papergrid_axis::LayoutError;
 use papergrid_text::{Cell, Text};
 use std::convert::AsStr;
@@ -53,15 +53,15 @@ pub fn equal_text_measures<S: AsStr>()
 /// The cells with their positions are those that the rows have there, by row and then by column.
 pub fn cells_by_place<C>()
     ensures cells { (rows : List (List C)) (p : Position) (cell : C) →
-        Contains (placed rows) (p, cell) ↔ IsCellAt rows p cell }
-    ensures order { (rows : List (List C)) → AllPairs (λ x y. IsBefore x.0 y.0) (placed rows) }
+        Contains (positioned_cells rows) (p, cell) ↔ IsCellAt rows p cell }
+    ensures order { (rows : List (List C)) → AllPairs (λ x y. IsBefore x.0 y.0) (positioned_cells rows) }
 {}
 
 /// Sizes do not depend on the order in which spans of different cells were set, side by side or
 /// anywhere in a list, since what is read of a configuration depends only on what the settings tell.
 pub fn order_of_spans<C>()
     ensures sizes { (settings other : List Setting) → AreSwapped settings other →
-        (x y : SpannedConfig) → IsTold settings x → IsTold other y →
+        (x y : SpannedConfig) → HasSettingHistory settings x → HasSettingHistory other y →
         (direction : Direction) (measure : C → ℕ × ℕ) (n : ℕ) (rows : List (List C)) →
         sizes_told direction (spanned_grid x) measure n rows
         ≡ sizes_told direction (spanned_grid y) measure n rows }
@@ -70,7 +70,7 @@ pub fn order_of_spans<C>()
     ensures reordered { (settings other : List Setting) → AreReordered settings other →
         TellTheSame settings other }
     ensures read { (settings other : List Setting) → TellTheSame settings other →
-        (x y : SpannedConfig) → IsTold settings x → IsTold other y →
+        (x y : SpannedConfig) → HasSettingHistory settings x → HasSettingHistory other y →
         spanned_grid x ≡ spanned_grid y }
 {}
 
@@ -90,7 +90,7 @@ pub fn lent_cells<C, D, S: AsStr>()
 
 /// No visible cell reaches out along columns, and none along rows, exactly where there is no first
 /// one that does.
-pub fn none_reaches_out<C>()
+pub fn none_overflows<C>()
     ensures { (grid : Grid) (measure : C → ℕ × ℕ) (columns : ℕ) (rows : List (List C)) →
         (first_out_of_table grid measure columns rows ≡ None)
         ↔ ((first_out columns (demands_of Columns grid measure rows) ≡ None)
@@ -104,17 +104,17 @@ pub fn total_covers_cells<C>()
         (columns : ℕ) (rows : List (List C)) (direction : Direction) (sizes : List ℕ) →
         let problem = problem_of grid measure columns rows direction in
         first_out problem.count problem.demands ≡ None → Fits problem sizes →
-        All (λ cell. (demand_by direction grid measure cell).need
+        All (λ cell. (demand_by direction grid measure cell).minimum
         ≤ total_of problem sizes) (visible_cells grid rows) }
     ensures shares { (grid : Grid) (measure : C → ℕ × ℕ)
         (columns : ℕ) (rows : List (List C)) (direction : Direction) (total : ℕ) →
         IsTotal (problem_of grid measure columns rows direction) total →
-        All (λ cell. (demand_by direction grid measure cell).need
+        All (λ cell. (demand_by direction grid measure cell).minimum
         ≤ total) (visible_cells grid rows) }
     ensures least { (grid : Grid) (measure : C → ℕ × ℕ)
         (columns : ℕ) (rows : List (List C)) (direction : Direction) (total : ℕ) →
         IsLeastTotal (problem_of grid measure columns rows direction) total →
-        All (λ cell. (demand_by direction grid measure cell).need
+        All (λ cell. (demand_by direction grid measure cell).minimum
         ≤ total) (visible_cells grid rows) }
 {}
 
@@ -128,14 +128,14 @@ pub fn least_as_by_shares<C>()
         AreSizes (problem_of grid measure columns rows direction) sizes →
         AreLeastSizes (problem_of grid measure columns rows direction) least →
         IsLeast (problem_of grid measure columns rows direction) sizes → least ≡ sizes }
-    ensures kept_apart { (grid : Grid) (measure : C → ℕ × ℕ)
+    ensures laminar { (grid : Grid) (measure : C → ℕ × ℕ)
         (columns : ℕ) (rows : List (List C)) (direction : Direction) →
         ((p : Position) → 1 ≤ grid.span direction p) → (sizes least : List ℕ) →
         AreSizes (problem_of grid measure columns rows direction) sizes →
         AreLeastSizes (problem_of grid measure columns rows direction) least →
-        IsKeptApart (demands_of direction grid measure rows) → least ≡ sizes }
+        IsLaminar (demands_of direction grid measure rows) → least ≡ sizes }
     ensures accepted { (problem : Problem) (sizes : List ℕ) (places : List Position) →
-        AreLeastSizes problem sizes → AreLongest problem places → IsAccepted problem sizes places }
+        AreLeastSizes problem sizes → AreCriticalPath problem places → IsAccepted problem sizes places }
 {}
 
 /// A clone of a dimension, of a place or of an error equals it.
@@ -182,7 +182,7 @@ pub fn places_apart()
 /// the table.
 pub fn points_in_one_cell()
     ensures { (table : TableView) (x y : ℕ) (p : Position) → StandsOver table x y p →
-        ((q : Position) → IsInside table q → q ≢ p → HaveNoneInCommon table.grid p q) →
+        ((q : Position) → IsInsideTable table q → q ≢ p → HaveNoneInCommon table.grid p q) →
         (q : Position) → StandsOver table x y q → q ≡ p }
 {}
 

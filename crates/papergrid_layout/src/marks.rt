@@ -7,7 +7,7 @@ ghost use Rattle.papergrid_layout.specs.Places.{IsTrackAt, TableView, extent, of
 ghost use Rattle.papergrid_layout.specs.ForProofs.Placing.{AreMarked, AreMarks};
 
 use crate::per_direction::PerDirection;
-use crate::placement::Place;
+use crate::rect::Place;
 use papergrid_maps::Anchor;
 
 /// Where each column (row) begins and where it ends.

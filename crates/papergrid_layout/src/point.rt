@@ -6,7 +6,7 @@ ghost use Rattle.papergrid_layout.specs.Places.{IsFirstOver, StandsOver, table_b
 ghost use Rattle.papergrid_layout.specs.ForProofs.Points.{LiesInEach};
 
 use crate::dimension::Dimension;
-use crate::placed::place;
+use crate::cell_rect::place;
 use crate::ruler::Ruler;
 use papergrid_config::SpannedConfig;
 use papergrid_maps::ConfigView;

@@ -92,7 +92,7 @@ impl<'a, D: Dimension, S: ConfigView> Ruler<'a, D, S> {
     }
 
     /// Whether the range of the cell at a position ends past the last column (row).
-    pub fn reaches_out(&self, pos: Position) -> bool
+    pub fn overflows(&self, pos: Position) -> bool
         ensures { let span = (S.grid self.now.settings.now).span self.now.direction pos in
             result ≡ nat_lt self.now.count (along self.now.direction pos + span) }
     {

@@ -10,7 +10,7 @@ ghost use Rattle.papergrid_layout.specs.ForProofs.Spanning.{AreSpanning, CoverIn
 
 use crate::marks::{Marks, place_of};
 use crate::per_direction::PerDirection;
-use crate::placement::Place;
+use crate::rect::Place;
 use papergrid_config::SpannedConfig;
 use papergrid_maps::ConfigView;
 use papergrid_values::Position;

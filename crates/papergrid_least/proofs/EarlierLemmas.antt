@@ -6,7 +6,7 @@ use Rattle.std.proofs.lemmas.List.Elements.{All-head, All-tail, recursion_from_A
 use Rattle.papergrid_values.specs.declared.position.Position.{Position}
 use Rattle.papergrid_values.specs.Positions.{IsBefore}
 use Rattle.papergrid_axis.specs.declared.demand.Demand.{Demand}
-use Rattle.papergrid_axis.specs.ForProofs.Kept.{StandInOrder}
+use Rattle.papergrid_axis.specs.ForProofs.Demands.{StandInOrder}
 use Rattle.papergrid_axis.specs.Ranges.{place_of}
 use Rattle.papergrid_axis.proofs.Counting.{find-all}
 use Rattle.papergrid_least.specs.ForProofs.Followed.{earlier_cell, is_before}

@@ -5,85 +5,85 @@ use Rattle.std.proofs.lemmas.Grind.{same_number_lists}
 use Rattle.std.proofs.lemmas.List.FromFn.{fill_by_all}
 use Rattle.papergrid_values.specs.declared.position.Position.{Position}
 use Rattle.papergrid_axis.specs.declared.demand.Demand.{Demand}
-use Rattle.papergrid_axis.specs.Ranges.{IsInTable, IsKeptApart, first_out, place_of}
+use Rattle.papergrid_axis.specs.Ranges.{IsInTable, IsLaminar, first_out, place_of}
 use Rattle.papergrid_values.specs.Lines.{all_lines}
-use Rattle.papergrid_axis.specs.Problem.{Problem, given, total_of}
-use Rattle.papergrid_axis.specs.Fits.{Fits, IsLeast, IsCertificate, IsTooLarge, top_need}
+use Rattle.papergrid_axis.specs.Problem.{Problem, problem_of_demands, total_of}
+use Rattle.papergrid_axis.specs.Fits.{Fits, IsLeast, IsCertificate, IsTooLarge, top_minimum}
 use Rattle.papergrid_axis.specs.Sizes.{sizes_of}
 use Rattle.papergrid_axis.proofs.Theorems.{Fits-sizes_of, bound-sizes_of, IsLeast-sizes_of}
 use Rattle.papergrid_least.proofs.BoundLemmas.{bound-least_sizes}
 use Rattle.papergrid_axis.proofs.Upto.{upto, sum-take}
-use Rattle.papergrid_least.specs.Answers.{AreLeastSizes, AreLongest, NoneFits}
-use Rattle.papergrid_least.specs.Edges.{asked, edges_of, AreEdges, sizes_between}
-use Rattle.papergrid_least.specs.Earliest.{earliest, least_total}
-use Rattle.papergrid_least.specs.Least.{AreFurthestRight, AreLeastBefore, latest, least_sizes, least_of}
-use Rattle.papergrid_least.proofs.EdgeLemmas.{AreEdges-edges_of, AreEdges-min, Fits-sizes_between, edges-sizes_between, sum-sizes_between, take_whole}
-use Rattle.papergrid_least.proofs.EarliestLemmas.{AreEdges-earliest, earliest-total, IsLeast-earliest}
-use Rattle.papergrid_least.specs.Longest.{longest}
-use Rattle.papergrid_least.proofs.LongestLemmas.{IsCertificate-longest}
-use Rattle.papergrid_least.proofs.LatestLemmas.{AreEdges-latest, latest-above, latest-last}
-use Rattle.papergrid_least.proofs.WayBackLemmas.{way_back-is}
+use Rattle.papergrid_least.specs.Answers.{AreLeastSizes, AreCriticalPath, NoneFits}
+use Rattle.papergrid_least.specs.TrackBoundaries.{net_minimum, boundaries_of, AreBoundaries, sizes_between}
+use Rattle.papergrid_least.specs.LowestPositions.{lowest_position, least_total}
+use Rattle.papergrid_least.specs.Least.{AreFurthestRight, AreLeastBefore, highest_position, least_sizes, least_of}
+use Rattle.papergrid_least.proofs.BoundaryLemmas.{AreBoundaries-boundaries_of, AreBoundaries-min, Fits-sizes_between, boundaries-sizes_between, sum-sizes_between, take_whole}
+use Rattle.papergrid_least.proofs.LowestLemmas.{AreBoundaries-lowest_position, lowest_position-total, IsLeast-lowest_position}
+use Rattle.papergrid_least.specs.CriticalPath.{critical_path}
+use Rattle.papergrid_least.proofs.CriticalPathLemmas.{IsCertificate-critical_path}
+use Rattle.papergrid_least.proofs.HighestLemmas.{AreBoundaries-highest_position, highest_position-above, highest_position-last}
+use Rattle.papergrid_least.proofs.PathBackLemmas.{path_back-is}
 
 module _ (line : ℕ → Bool) (n : ℕ) (demands : List Demand) (sizes : List ℕ) (table : All (IsInTable n) demands) where
   -- the edges of the sizes, moved to the latest where they are past it
   abbrev lower : ℕ → ℕ
-  lower i = min (edges_of sizes i) (latest (asked line) n demands i)
+  lower i = min (boundaries_of sizes i) (highest_position (net_minimum line) n demands i)
 
-  AreEdges-lower : Fits (given line n demands) sizes → AreEdges (asked line) n demands lower
-  AreEdges-lower fits =
-      AreEdges-min (asked line) n demands (edges_of sizes) (latest (asked line) n demands) (AreEdges-edges_of line n demands sizes fits) (AreEdges-latest (asked line) n demands table)
+  AreBoundaries-lower : Fits (problem_of_demands line n demands) sizes → AreBoundaries (net_minimum line) n demands lower
+  AreBoundaries-lower fits =
+      AreBoundaries-min (net_minimum line) n demands (boundaries_of sizes) (highest_position (net_minimum line) n demands) (AreBoundaries-boundaries_of line n demands sizes fits) (AreBoundaries-highest_position (net_minimum line) n demands table)
 
-  pub IsLeast-least_sizes : Fits (given line n demands) sizes → IsLeast (given line n demands) (least_sizes (given line n demands) sizes)
+  pub IsLeast-least_sizes : Fits (problem_of_demands line n demands) sizes → IsLeast (problem_of_demands line n demands) (least_sizes (problem_of_demands line n demands) sizes)
   IsLeast-least_sizes fits =
-      let are : AreEdges (asked line) n demands lower = AreEdges-lower fits in
+      let are : AreBoundaries (net_minimum line) n demands lower = AreBoundaries-lower fits in
       record {
         fits = Fits-sizes_between line n demands lower table are;
         least = λ other fits'.
-            let a : earliest (asked line) demands n ≤ sum other = earliest-total line n demands other table fits' in
+            let a : lowest_position (net_minimum line) demands n ≤ sum other = lowest_position-total line n demands other table fits' in
             let b : sum (sizes_between n lower) + lower 0 ≡ lower n = sum-sizes_between n lower are.rise in
-            let c : latest (asked line) n demands n ≡ earliest (asked line) demands n = latest-last (asked line) n demands in
-            let d : lower n ≤ latest (asked line) n demands n = omega arith in
+            let c : highest_position (net_minimum line) n demands n ≡ lowest_position (net_minimum line) demands n = highest_position-last (net_minimum line) n demands in
+            let d : lower n ≤ highest_position (net_minimum line) n demands n = omega arith in
             omega arith;
       }
 
   -- their total is the least, so the longest way certifies them
-  pub IsCertificate-least_sizes : Fits (given line n demands) sizes → IsCertificate (given line n demands) (least_sizes (given line n demands) sizes) (longest (given line n demands))
+  pub IsCertificate-least_sizes : Fits (problem_of_demands line n demands) sizes → IsCertificate (problem_of_demands line n demands) (least_sizes (problem_of_demands line n demands) sizes) (critical_path (problem_of_demands line n demands))
   IsCertificate-least_sizes fits =
-      let are : AreEdges (asked line) n demands lower = AreEdges-lower fits in
+      let are : AreBoundaries (net_minimum line) n demands lower = AreBoundaries-lower fits in
       let a : sum (sizes_between n lower) + lower 0 ≡ lower n = sum-sizes_between n lower are.rise in
-      let b : latest (asked line) n demands n ≡ earliest (asked line) demands n = latest-last (asked line) n demands in
-      let c : earliest (asked line) demands n ≤ sum (sizes_between n lower) = earliest-total line n demands (sizes_between n lower) table (Fits-sizes_between line n demands lower table are) in
-      let d : lower n ≤ latest (asked line) n demands n = omega arith in
-      IsCertificate-longest line n demands (sizes_between n lower) table (omega arith)
+      let b : highest_position (net_minimum line) n demands n ≡ lowest_position (net_minimum line) demands n = highest_position-last (net_minimum line) n demands in
+      let c : lowest_position (net_minimum line) demands n ≤ sum (sizes_between n lower) = lowest_position-total line n demands (sizes_between n lower) table (Fits-sizes_between line n demands lower table are) in
+      let d : lower n ≤ highest_position (net_minimum line) n demands n = omega arith in
+      IsCertificate-critical_path line n demands (sizes_between n lower) table (omega arith)
 
-  pub same-least_sizes : IsLeast (given line n demands) sizes → least_sizes (given line n demands) sizes ≡ sizes
+  pub same-least_sizes : IsLeast (problem_of_demands line n demands) sizes → least_sizes (problem_of_demands line n demands) sizes ≡ sizes
   same-least_sizes is_least = sym (fill_by_all (λ i. lower (i + 1) - lower i) sizes n 0 is_least.fits.one_each size_at)
     where
-      total : edges_of sizes n ≤ earliest (asked line) demands n
+      total : boundaries_of sizes n ≤ lowest_position (net_minimum line) demands n
       total =
-          let are : AreEdges (asked line) n demands (earliest (asked line) demands) = AreEdges-earliest (asked line) demands n table in
-          let a : sum sizes ≤ sum (sizes_between n (earliest (asked line) demands)) = is_least.least (sizes_between n (earliest (asked line) demands)) (IsLeast-earliest line n demands table).fits in
-          let b : sum (sizes_between n (earliest (asked line) demands)) + earliest (asked line) demands 0 ≡ earliest (asked line) demands n = sum-sizes_between n (earliest (asked line) demands) are.rise in
+          let are : AreBoundaries (net_minimum line) n demands (lowest_position (net_minimum line) demands) = AreBoundaries-lowest_position (net_minimum line) demands n table in
+          let a : sum sizes ≤ sum (sizes_between n (lowest_position (net_minimum line) demands)) = is_least.least (sizes_between n (lowest_position (net_minimum line) demands)) (IsLeast-lowest_position line n demands table).fits in
+          let b : sum (sizes_between n (lowest_position (net_minimum line) demands)) + lowest_position (net_minimum line) demands 0 ≡ lowest_position (net_minimum line) demands n = sum-sizes_between n (lowest_position (net_minimum line) demands) are.rise in
           let c : sum (take n sizes) ≡ sum sizes = ap sum (take_whole n sizes is_least.fits.one_each) in
           omega arith
 
-      lower-is : (i : ℕ) → i ≤ n → lower i ≡ edges_of sizes i
+      lower-is : (i : ℕ) → i ≤ n → lower i ≡ boundaries_of sizes i
       lower-is i l =
-          let a : edges_of sizes i ≤ latest (asked line) n demands i = latest-above (asked line) n demands table (edges_of sizes) (AreEdges-edges_of line n demands sizes is_least.fits) total i l in
+          let a : boundaries_of sizes i ≤ highest_position (net_minimum line) n demands i = highest_position-above (net_minimum line) n demands table (boundaries_of sizes) (AreBoundaries-boundaries_of line n demands sizes is_least.fits) total i l in
           omega arith
 
       size_at : (k : ℕ) → k < n → get_or sizes k 0 ≡ lower (k + 1) - lower k
       size_at k l =
           let a : sum (take (suc k) sizes) ≡ upto (λ i. get_or sizes i 0) k + get_or sizes k 0 = sum-take (suc k) sizes in
           let b : sum (take k sizes) ≡ upto (λ i. get_or sizes i 0) k = sum-take k sizes in
-          let c : lower (k + 1) ≡ edges_of sizes (k + 1) = lower-is (k + 1) (omega arith) in
-          let c' : edges_of sizes (k + 1) ≡ edges_of sizes (suc k) = ap (edges_of sizes) (let s : k + 1 ≡ suc k = omega arith in s) in
-          let d : lower k ≡ edges_of sizes k = lower-is k (omega arith) in
+          let c : lower (k + 1) ≡ boundaries_of sizes (k + 1) = lower-is (k + 1) (omega arith) in
+          let c' : boundaries_of sizes (k + 1) ≡ boundaries_of sizes (suc k) = ap (boundaries_of sizes) (let s : k + 1 ≡ suc k = omega arith in s) in
+          let d : lower k ≡ boundaries_of sizes k = lower-is k (omega arith) in
           omega arith
 
 -- sizes with the same edges are the same
-same_edges : (n : ℕ) (xs ys : List ℕ) → length xs ≡ n → length ys ≡ n → ((i : ℕ) → i ≤ n → edges_of xs i ≡ edges_of ys i) → xs ≡ ys
-same_edges n xs ys many as_many same = same_number_lists xs ys (many ∙ sym as_many) at
+same_boundaries : (n : ℕ) (xs ys : List ℕ) → length xs ≡ n → length ys ≡ n → ((i : ℕ) → i ≤ n → boundaries_of xs i ≡ boundaries_of ys i) → xs ≡ ys
+same_boundaries n xs ys many as_many same = same_number_lists xs ys (many ∙ sym as_many) at
   where
     at : (k : ℕ) → k < length xs → get_or xs k 0 ≡ get_or ys k 0
     at k l =
@@ -99,26 +99,26 @@ module _ (problem : Problem) (table : All (IsInTable problem.count) problem.dema
   pub IsLeast-least_of : IsLeast problem (least_of problem)
   IsLeast-least_of = IsLeast-least_sizes problem.line problem.count problem.demands (sizes_of problem) table (Fits-sizes_of problem table)
 
-  pub bound-least_of : (i : ℕ) → i < problem.count → get_or (least_of problem) i 0 ≤ top_need problem.demands i
+  pub bound-least_of : (i : ℕ) → i < problem.count → get_or (least_of problem) i 0 ≤ top_minimum problem.demands i
   bound-least_of i l = bound-least_sizes problem.line problem.count problem.demands (sizes_of problem) table i l (bound-sizes_of problem table i l)
 
-  pub IsCertificate-least_of : IsCertificate problem (least_of problem) (longest problem)
+  pub IsCertificate-least_of : IsCertificate problem (least_of problem) (critical_path problem)
   IsCertificate-least_of = IsCertificate-least_sizes problem.line problem.count problem.demands (sizes_of problem) table (Fits-sizes_of problem table)
 
   pub least_of-shares : IsLeast problem (sizes_of problem) → least_of problem ≡ sizes_of problem
   least_of-shares is_least = same-least_sizes problem.line problem.count problem.demands (sizes_of problem) table is_least
 
-  pub same-least_of : IsKeptApart problem.demands → least_of problem ≡ sizes_of problem
+  pub same-least_of : IsLaminar problem.demands → least_of problem ≡ sizes_of problem
   same-least_of apart = least_of-shares (IsLeast-sizes_of problem table apart)
 
   pub total-least_of : sum (least_of problem) ≡ least_total problem
   total-least_of =
-      let are : AreEdges (asked problem.line) problem.count problem.demands (earliest (asked problem.line) problem.demands) = AreEdges-earliest (asked problem.line) problem.demands problem.count table in
-      let least : IsLeast problem (sizes_between problem.count (earliest (asked problem.line) problem.demands)) = IsLeast-earliest problem.line problem.count problem.demands table in
-      let a : sum (least_of problem) ≤ sum (sizes_between problem.count (earliest (asked problem.line) problem.demands)) = IsLeast-least_of.least (sizes_between problem.count (earliest (asked problem.line) problem.demands)) least.fits in
-      let b : sum (sizes_between problem.count (earliest (asked problem.line) problem.demands)) + earliest (asked problem.line) problem.demands 0 ≡ earliest (asked problem.line) problem.demands problem.count =
-      sum-sizes_between problem.count (earliest (asked problem.line) problem.demands) are.rise in
-      let c : earliest (asked problem.line) problem.demands problem.count ≤ sum (least_of problem) = earliest-total problem.line problem.count problem.demands (least_of problem) table IsLeast-least_of.fits in
+      let are : AreBoundaries (net_minimum problem.line) problem.count problem.demands (lowest_position (net_minimum problem.line) problem.demands) = AreBoundaries-lowest_position (net_minimum problem.line) problem.demands problem.count table in
+      let least : IsLeast problem (sizes_between problem.count (lowest_position (net_minimum problem.line) problem.demands)) = IsLeast-lowest_position problem.line problem.count problem.demands table in
+      let a : sum (least_of problem) ≤ sum (sizes_between problem.count (lowest_position (net_minimum problem.line) problem.demands)) = IsLeast-least_of.least (sizes_between problem.count (lowest_position (net_minimum problem.line) problem.demands)) least.fits in
+      let b : sum (sizes_between problem.count (lowest_position (net_minimum problem.line) problem.demands)) + lowest_position (net_minimum problem.line) problem.demands 0 ≡ lowest_position (net_minimum problem.line) problem.demands problem.count =
+      sum-sizes_between problem.count (lowest_position (net_minimum problem.line) problem.demands) are.rise in
+      let c : lowest_position (net_minimum problem.line) problem.demands problem.count ≤ sum (least_of problem) = lowest_position-total problem.line problem.count problem.demands (least_of problem) table IsLeast-least_of.fits in
       omega arith
 
   pub refused-least_of : IsTooLarge problem (least_of problem) ↔ ((other : List ℕ) → Fits problem other → IsTooLarge problem other)
@@ -131,7 +131,7 @@ module _ (problem : Problem) (table : All (IsInTable problem.count) problem.dema
           all
 
   pub decides-least_total : ((sizes : List ℕ) × Fits problem sizes × (total_of problem sizes < 18446744073709551616)) ↔ (least_total problem + all_lines problem.line problem.count < 18446744073709551616)
-  decides-least_total = ((λ some. small some.0 some.2 (earliest-total problem.line problem.count problem.demands some.0 table some.1)), (λ l. (least_of problem, IsLeast-least_of.fits, least_small l)))
+  decides-least_total = ((λ some. small some.0 some.2 (lowest_position-total problem.line problem.count problem.demands some.0 table some.1)), (λ l. (least_of problem, IsLeast-least_of.fits, least_small l)))
     where
       small : (sizes : List ℕ) → total_of problem sizes < 18446744073709551616 → least_total problem ≤ sum sizes → least_total problem + all_lines problem.line problem.count < 18446744073709551616
       small sizes l le = let l' : sum sizes + all_lines problem.line problem.count < 18446744073709551616 = l in omega arith
@@ -145,36 +145,36 @@ module _ (problem : Problem) (table : All (IsInTable problem.count) problem.dema
   -- ---- the furthest right
 
   abbrev shares : ℕ → ℕ
-  shares i = edges_of (sizes_of problem) i
+  shares i = boundaries_of (sizes_of problem) i
 
   abbrev last : ℕ → ℕ
-  last i = latest (asked problem.line) problem.count problem.demands i
+  last i = highest_position (net_minimum problem.line) problem.count problem.demands i
 
-  edges-least_of : (i : ℕ) → i ≤ problem.count → edges_of (least_of problem) i ≡ min (shares i) (last i)
-  edges-least_of i l =
-      let are : AreEdges (asked problem.line) problem.count problem.demands (λ i. min (shares i) (last i)) =
-      AreEdges-lower problem.line problem.count problem.demands (sizes_of problem) table (Fits-sizes_of problem table) in
-      let a : edges_of (least_of problem) i + min (shares 0) (last 0) ≡ min (shares i) (last i) =
-      edges-sizes_between problem.count (λ i. min (shares i) (last i)) are.rise i l in
+  boundaries-least_of : (i : ℕ) → i ≤ problem.count → boundaries_of (least_of problem) i ≡ min (shares i) (last i)
+  boundaries-least_of i l =
+      let are : AreBoundaries (net_minimum problem.line) problem.count problem.demands (λ i. min (shares i) (last i)) =
+      AreBoundaries-lower problem.line problem.count problem.demands (sizes_of problem) table (Fits-sizes_of problem table) in
+      let a : boundaries_of (least_of problem) i + min (shares 0) (last 0) ≡ min (shares i) (last i) =
+      boundaries-sizes_between problem.count (λ i. min (shares i) (last i)) are.rise i l in
       let b : shares 0 ≡ 0 = refl in
       omega arith
 
   before-least_of : AreLeastBefore problem (least_of problem)
   before-least_of = record {
     least = IsLeast-least_of;
-    nowhere_past = λ i l. let a : edges_of (least_of problem) i ≡ min (shares i) (last i) = edges-least_of i l in omega arith;
+    nowhere_past = λ i l. let a : boundaries_of (least_of problem) i ≡ min (shares i) (last i) = boundaries-least_of i l in omega arith;
   }
 
-  furthest-least_of : (other : List ℕ) → AreLeastBefore problem other → (i : ℕ) → i ≤ problem.count → edges_of other i ≤ edges_of (least_of problem) i
+  furthest-least_of : (other : List ℕ) → AreLeastBefore problem other → (i : ℕ) → i ≤ problem.count → boundaries_of other i ≤ boundaries_of (least_of problem) i
   furthest-least_of other are i l =
-      let a : edges_of (least_of problem) i ≡ min (shares i) (last i) = edges-least_of i l in
-      let b : edges_of other i ≤ shares i = are.nowhere_past i l in
-      let c : edges_of other i ≤ last i =
-      latest-above (asked problem.line) problem.count problem.demands table (edges_of other)
-      (AreEdges-edges_of problem.line problem.count problem.demands other are.least.fits) total i l in
+      let a : boundaries_of (least_of problem) i ≡ min (shares i) (last i) = boundaries-least_of i l in
+      let b : boundaries_of other i ≤ shares i = are.nowhere_past i l in
+      let c : boundaries_of other i ≤ last i =
+      highest_position-above (net_minimum problem.line) problem.count problem.demands table (boundaries_of other)
+      (AreBoundaries-boundaries_of problem.line problem.count problem.demands other are.least.fits) total i l in
       omega arith
     where
-      total : edges_of other problem.count ≤ earliest (asked problem.line) problem.demands problem.count
+      total : boundaries_of other problem.count ≤ lowest_position (net_minimum problem.line) problem.demands problem.count
       total =
           let d : sum other ≤ sum (least_of problem) = are.least.least (least_of problem) IsLeast-least_of.fits in
           let e : sum (least_of problem) ≡ least_total problem = total-least_of in
@@ -185,10 +185,10 @@ module _ (problem : Problem) (table : All (IsInTable problem.count) problem.dema
   furthest_right-is sizes = (unique, λ e. subst (AreFurthestRight problem) (sym e) record { among = before-least_of; furthest = furthest-least_of })
     where
       unique : AreFurthestRight problem sizes → sizes ≡ least_of problem
-      unique are = same_edges problem.count sizes (least_of problem) are.among.least.fits.one_each IsLeast-least_of.fits.one_each
+      unique are = same_boundaries problem.count sizes (least_of problem) are.among.least.fits.one_each IsLeast-least_of.fits.one_each
           (λ i l.
-          let a : edges_of (least_of problem) i ≤ edges_of sizes i = are.furthest (least_of problem) before-least_of i l in
-          let b : edges_of sizes i ≤ edges_of (least_of problem) i = furthest-least_of sizes are.among i l in
+          let a : boundaries_of (least_of problem) i ≤ boundaries_of sizes i = are.furthest (least_of problem) before-least_of i l in
+          let b : boundaries_of sizes i ≤ boundaries_of (least_of problem) i = furthest-least_of sizes are.among i l in
           omega arith)
 
   -- the sum of any least sizes is the least total
@@ -212,15 +212,15 @@ module _ (problem : Problem) (table : All (IsInTable problem.count) problem.dema
       bound = λ i l. bound-least_of i (let one_each : length (least_of problem) ≡ problem.count = IsLeast-least_of.fits.one_each in omega arith);
     }
 
-    pub AreLongest-longest : total_of problem (least_of problem) < 18446744073709551616 → AreLongest problem (map place_of (longest problem))
-    AreLongest-longest small = record {
+    pub AreCriticalPath-critical_path : total_of problem (least_of problem) < 18446744073709551616 → AreCriticalPath problem (map place_of (critical_path problem))
+    AreCriticalPath-critical_path small = record {
       table = table;
       none_out = inside;
-      cells = longest problem;
+      cells = critical_path problem;
       exact = refl;
-      way = (way_back-is problem table (longest problem)).1 refl;
+      path = (path_back-is problem table (critical_path problem)).1 refl;
       total = λ sizes least. fits sizes (least-total sizes least);
-      certificate = λ sizes least. IsCertificate-longest problem.line problem.count problem.demands sizes table (least-total sizes least);
+      certificate = λ sizes least. IsCertificate-critical_path problem.line problem.count problem.demands sizes table (least-total sizes least);
     }
       where
         fits : (sizes : List ℕ) → sum sizes ≡ least_total problem → total_of problem sizes < 18446744073709551616
@@ -240,5 +240,5 @@ module _ (problem : Problem) (table : All (IsInTable problem.count) problem.dema
 pub exact-least : (problem : Problem) (sizes : List ℕ) → AreLeastSizes problem sizes → sizes ≡ least_of problem
 exact-least problem sizes are = (furthest_right-is problem are.table sizes).0 are.exact
 
-pub exact-longest : (problem : Problem) (places : List Position) → AreLongest problem places → places ≡ map place_of (longest problem)
-exact-longest problem places are = are.exact ∙ ap (map place_of) ((way_back-is problem are.table are.cells).0 are.way)
+pub exact-critical_path : (problem : Problem) (places : List Position) → AreCriticalPath problem places → places ≡ map place_of (critical_path problem)
+exact-critical_path problem places are = are.exact ∙ ap (map place_of) ((path_back-is problem are.table are.cells).0 are.path)

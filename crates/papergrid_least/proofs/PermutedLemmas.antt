@@ -8,35 +8,35 @@ use Rattle.papergrid_axis.specs.declared.demand.Demand.{Demand}
 use Rattle.papergrid_axis.specs.declared.error.LayoutError.{LayoutError}
 use Rattle.papergrid_axis.specs.declared.error.LayoutError.TheVariants.{OutOfTable, TooLarge, Memory}
 use Rattle.papergrid_axis.specs.Ranges.{IsInTable, end_of}
-use Rattle.papergrid_least.specs.ForProofs.Laid.{AreLaid, carrying}
-use Rattle.papergrid_least.specs.ForProofs.Limits.{IsEarliest, IsLatest, Refuses}
+use Rattle.papergrid_least.specs.ForProofs.Laid.{AreLaid, with_net_minimum}
+use Rattle.papergrid_least.specs.ForProofs.Limits.{AreLowestBoundaries, AreHighestBoundaries, Refuses}
 
 module _ (base : List ℕ) (xs ys : List Demand) (moved : IsPermutation xs ys) where
-  pub AreLaid-permuted : (edge : ℕ → ℕ) → AreLaid base xs edge → AreLaid base ys edge
-  AreLaid-permuted edge are = record { steps = are.steps; apart = All-permutation (λ d. edge d.start + d.need ≤ edge (end_of d)) xs ys moved are.apart }
+  pub AreLaid-permuted : (boundary : ℕ → ℕ) → AreLaid base xs boundary → AreLaid base ys boundary
+  AreLaid-permuted boundary are = record { steps = are.steps; apart = All-permutation (λ d. boundary d.start + d.minimum ≤ boundary (end_of d)) xs ys moved are.apart }
 
-  pub AreLaid-unpermuted : (edge : ℕ → ℕ) → AreLaid base ys edge → AreLaid base xs edge
-  AreLaid-unpermuted edge are = record { steps = are.steps; apart = All-permutation (λ d. edge d.start + d.need ≤ edge (end_of d)) ys xs (IsPermutation-sym xs ys moved) are.apart }
+  pub AreLaid-unpermuted : (boundary : ℕ → ℕ) → AreLaid base ys boundary → AreLaid base xs boundary
+  AreLaid-unpermuted boundary are = record { steps = are.steps; apart = All-permutation (λ d. boundary d.start + d.minimum ≤ boundary (end_of d)) ys xs (IsPermutation-sym xs ys moved) are.apart }
 
-  pub IsEarliest-unpermuted : (edges : List ℕ) → IsEarliest base ys edges → IsEarliest base xs edges
-  IsEarliest-unpermuted edges is = record {
+  pub AreLowestBoundaries-unpermuted : (boundaries : List ℕ) → AreLowestBoundaries base ys boundaries → AreLowestBoundaries base xs boundaries
+  AreLowestBoundaries-unpermuted boundaries is = record {
     one_more = is.one_more;
     laid = AreLaid-unpermuted _ is.laid;
-    below = λ edge are. is.below edge (AreLaid-permuted edge are);
+    below = λ boundary are. is.below boundary (AreLaid-permuted boundary are);
   }
 
-  pub IsLatest-unpermuted : (total : ℕ) (edges : List ℕ) → IsLatest base ys total edges → IsLatest base xs total edges
-  IsLatest-unpermuted total edges is = record {
+  pub AreHighestBoundaries-unpermuted : (total : ℕ) (boundaries : List ℕ) → AreHighestBoundaries base ys total boundaries → AreHighestBoundaries base xs total boundaries
+  AreHighestBoundaries-unpermuted total boundaries is = record {
     one_more = is.one_more;
     last = is.last;
     laid = AreLaid-unpermuted _ is.laid;
-    above = λ edge are. is.above edge (AreLaid-permuted edge are);
+    above = λ boundary are. is.above boundary (AreLaid-permuted boundary are);
   }
 
 -- cells of the table stay in it, whatever they ask
-pub table-carrying : (asks : Demand → ℕ) (n : ℕ) (cells : List Demand) → All (IsInTable n) cells → All (IsInTable n) (map (carrying asks) cells)
+pub table-carrying : (asks : Demand → ℕ) (n : ℕ) (cells : List Demand) → All (IsInTable n) cells → All (IsInTable n) (map (with_net_minimum asks) cells)
 table-carrying asks n cells table =
-    All-map (IsInTable n) (carrying asks) cells (λ k d l. let cell : IsInTable n (get_or cells k d) = table k d l in record { covers_one = cell.covers_one; ends_within = cell.ends_within })
+    All-map (IsInTable n) (with_net_minimum asks) cells (λ k d l. let cell : IsInTable n (get_or cells k d) = table k d l in record { covers_one = cell.covers_one; ends_within = cell.ends_within })
 
 -- and end where a number can be
 pub ends-fit : (n : ℕ) (cells : List Demand) → n < 18446744073709551616 → All (IsInTable n) cells → All (λ d. end_of d < 18446744073709551616) cells

@@ -6,9 +6,9 @@ use Rattle.papergrid_axis.specs.declared.error.LayoutError.{LayoutError}
 use Rattle.papergrid_axis.specs.Answers.{AnswersWhere, IsTotalBy}
 use Rattle.papergrid_axis.specs.Problem.{Problem, total_of}
 use Rattle.papergrid_axis.specs.Ranges.{IsInTable, first_out, place_of}
-use Rattle.papergrid_axis.specs.Fits.{Fits, IsCertificate, IsLeast, IsTooLarge, top_need}
+use Rattle.papergrid_axis.specs.Fits.{Fits, IsCertificate, IsLeast, IsTooLarge, top_minimum}
 use Rattle.papergrid_least.specs.Least.{AreFurthestRight, least_of}
-use Rattle.papergrid_least.specs.Longest.{IsWayBack}
+use Rattle.papergrid_least.specs.CriticalPath.{IsPathBack}
 
 module _ (problem : Problem) where
   -- these are the least sizes, and what holds of them
@@ -18,15 +18,15 @@ module _ (problem : Problem) where
     pub exact : AreFurthestRight problem sizes
     pub total : total_of problem sizes < 2 ^ 64
     pub least : IsLeast problem sizes
-    pub bound : EachIndex sizes (λ i. slice_index sizes i ≤ top_need problem.demands i)
+    pub bound : EachIndex sizes (λ i. slice_index sizes i ≤ top_minimum problem.demands i)
 
   -- the places of the cells of the one way back from the end, which certify any least sizes; and these fit
-  pub record AreLongest (places : List Position) : Type 0 where
+  pub record AreCriticalPath (places : List Position) : Type 0 where
     pub table : All (IsInTable problem.count) problem.demands
     pub none_out : first_out problem.count problem.demands ≡ None
     pub cells : List Demand
     pub exact : places ≡ map place_of cells
-    pub way : IsWayBack problem problem.count (reverse cells)
+    pub path : IsPathBack problem problem.count (reverse cells)
     pub total : (sizes : List ℕ) → IsLeast problem sizes → total_of problem sizes < 2 ^ 64
     pub certificate : (sizes : List ℕ) → IsLeast problem sizes → IsCertificate problem sizes cells
 
@@ -41,9 +41,9 @@ module _ (problem : Problem) where
   IsLeastTotal total = IsTotalBy problem AreLeastSizes total
 
 -- the places of these cells; there always are some
-abbrev pub IsLongest : {Z : Type 0} → Problem → Option (Vec Position Z) → Type 0
-IsLongest problem None = ⊥
-IsLongest problem (Some places) = AreLongest problem places.items
+abbrev pub IsCriticalPath : {Z : Type 0} → Problem → Option (Vec Position Z) → Type 0
+IsCriticalPath problem None = ⊥
+IsCriticalPath problem (Some places) = AreCriticalPath problem places.items
 
 -- what is asked for of a problem, or why there is none: where it is refused as too large, every list that fits is
 abbrev pub LeastAnswers : {A : Type 0} → (Problem → A → Type 0) → Problem → Result A LayoutError → Type 0
@@ -55,4 +55,4 @@ IsLeastSized {Z} problem result = LeastAnswers (λ p (sizes : Vec ℕ Z). AreLea
 
 -- the places of the cells that certify them, or why there are no least sizes
 abbrev pub IsLeastCertified : {Z : Type 0} → Problem → Result (Vec Position Z) LayoutError → Type 0
-IsLeastCertified {Z} problem result = LeastAnswers (λ p (places : Vec Position Z). AreLongest p places.items) problem result
+IsLeastCertified {Z} problem result = LeastAnswers (λ p (places : Vec Position Z). AreCriticalPath p places.items) problem result

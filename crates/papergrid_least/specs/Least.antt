@@ -5,36 +5,36 @@ use Rattle.papergrid_axis.specs.Problem.{Problem}
 use Rattle.papergrid_axis.specs.Fits.{IsLeast}
 use Rattle.papergrid_axis.specs.Sizes.{sizes_of}
 use Rattle.papergrid_axis.specs.Ranges.{end_of}
-use Rattle.papergrid_least.specs.Edges.{asked, edges_of, sizes_between}
-use Rattle.papergrid_least.specs.Earliest.{earliest}
+use Rattle.papergrid_least.specs.TrackBoundaries.{net_minimum, boundaries_of, sizes_between}
+use Rattle.papergrid_least.specs.LowestPositions.{lowest_position}
 
 -- least sizes whose boundaries are nowhere past those of the sizes by shares
 pub record AreLeastBefore (problem : Problem) (sizes : List ℕ) : Type 0 where
   pub least : IsLeast problem sizes
-  pub nowhere_past : (i : ℕ) → i ≤ problem.count → edges_of sizes i ≤ edges_of (sizes_of problem) i
+  pub nowhere_past : (i : ℕ) → i ≤ problem.count → boundaries_of sizes i ≤ boundaries_of (sizes_of problem) i
 
 -- of all such sizes those whose boundaries are furthest to the right
 pub record AreFurthestRight (problem : Problem) (sizes : List ℕ) : Type 0 where
   pub among : AreLeastBefore problem sizes
   pub furthest : (other : List ℕ) → AreLeastBefore problem other →
-      (i : ℕ) → i ≤ problem.count → edges_of other i ≤ edges_of sizes i
+      (i : ℕ) → i ≤ problem.count → boundaries_of other i ≤ boundaries_of sizes i
 
 -- the cell with its range counted from the far end
-abbrev pub mirrored : ℕ → Demand → Demand
-mirrored n d = record d { start = n - end_of d }
+abbrev pub mirror : ℕ → Demand → Demand
+mirror n d = record d { start = n - end_of d }
 
 -- the earliest edges, counted from the far end
-abbrev pub earliest_back : (Demand → ℕ) → ℕ → List Demand → ℕ → ℕ
-earliest_back asks n demands i = earliest (λ d. asks (mirrored n d)) (map (mirrored n) demands) i
+abbrev pub lowest_position_back : (Demand → ℕ) → ℕ → List Demand → ℕ → ℕ
+lowest_position_back asks n demands i = lowest_position (λ d. asks (mirror n d)) (map (mirror n) demands) i
 
 -- the latest edge at i, where the last is at the least total
-abbrev pub latest : (Demand → ℕ) → ℕ → List Demand → ℕ → ℕ
-latest asks n demands i = earliest asks demands n - earliest_back asks n demands (n - i)
+abbrev pub highest_position : (Demand → ℕ) → ℕ → List Demand → ℕ → ℕ
+highest_position asks n demands i = lowest_position asks demands n - lowest_position_back asks n demands (n - i)
 
 -- these sizes with each edge that is past the latest moved there
 abbrev pub least_sizes : Problem → List ℕ → List ℕ
 least_sizes problem sizes =
-    sizes_between problem.count (λ i. min (edges_of sizes i) (latest (asked problem.line) problem.count problem.demands i))
+    sizes_between problem.count (λ i. min (boundaries_of sizes i) (highest_position (net_minimum problem.line) problem.count problem.demands i))
 
 -- the sizes by shares, made least: those that are furthest right, as a law says
 abbrev pub least_of : Problem → List ℕ

@@ -4,8 +4,8 @@ ghost use Rattle.std.specs.Prelude.{All, IfOk, OnOk, length, map, ◌<◌, ◌^�
 ghost use Rattle.std.specs.List.Sorted.{IsNonDecreasingBy, IsPermutation};
 ghost use Rattle.papergrid_axis.specs.ForProofs.Settled.{line_at};
 ghost use Rattle.papergrid_axis.specs.Ranges.{IsInTable, end_of};
-ghost use Rattle.papergrid_least.specs.Edges.{asked};
-ghost use Rattle.papergrid_least.specs.ForProofs.Laid.{AreLaterFirst, carrying};
+ghost use Rattle.papergrid_least.specs.TrackBoundaries.{net_minimum};
+ghost use Rattle.papergrid_least.specs.ForProofs.Laid.{AreLaterFirst, with_net_minimum};
 
 use crate::lines::Lines;
 use papergrid_axis::Demand;
@@ -14,10 +14,10 @@ use std::alloc::{AllocError, Global};
 /// The cell with what it asks in place of its need.
 pub fn asking(lines: &Lines, demand: Demand) -> Demand
     requires { IsInTable (length lines.now) demand }
-    ensures { result ≡ carrying (asked (line_at lines.now)) demand }
+    ensures { result ≡ with_net_minimum (net_minimum (line_at lines.now)) demand }
 {
-    let need = demand.need.saturating_sub(lines.within(demand));
-    Demand { need, ..demand }
+    let minimum = demand.minimum.saturating_sub(lines.within(demand));
+    Demand { minimum, ..demand }
 }
 
 /// The cells with what they ask in place of their needs.
@@ -28,7 +28,7 @@ pub fn all_asking(
 ) -> Result<Vec<Demand>, AllocError>
     requires { All (IsInTable (length lines.now)) demands.now }
     ensures { IfOk result (λ cells.
-        cells.items ≡ map (carrying (asked (line_at lines.now))) demands.now) }
+        cells.items ≡ map (with_net_minimum (net_minimum (line_at lines.now))) demands.now) }
 {
     let mut cells = Vec::new(alloc);
     for demand in demands {

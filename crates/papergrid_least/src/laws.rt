@@ -2,64 +2,64 @@
 
 ghost use Rattle.std.specs.Prelude.{All, List, length, min, reverse, slice_index, sum, ℕ, ◌+◌, ◌<◌, ◌^◌, ◌↔◌, ◌≡◌, ◌≤◌};
 ghost use Rattle.papergrid_axis.specs.declared.demand.Demand.{Demand};
-ghost use Rattle.papergrid_axis.specs.Fits.{Fits, IsCertificate, IsLeast, IsTooLarge, top_need};
+ghost use Rattle.papergrid_axis.specs.Fits.{Fits, IsCertificate, IsLeast, IsTooLarge, top_minimum};
 ghost use Rattle.papergrid_axis.specs.Problem.{Problem, total_of};
-ghost use Rattle.papergrid_axis.specs.Ranges.{IsInTable, IsKeptApart};
+ghost use Rattle.papergrid_axis.specs.Ranges.{IsInTable, IsLaminar};
 ghost use Rattle.papergrid_axis.specs.Sizes.{sizes_of};
 ghost use Rattle.papergrid_values.specs.Lines.{all_lines};
-ghost use Rattle.papergrid_least.specs.Earliest.{earliest, least_total};
-ghost use Rattle.papergrid_least.specs.Edges.{AreEdges, asked, edges_of, sizes_between};
-ghost use Rattle.papergrid_least.specs.Least.{AreFurthestRight, latest, least_of, least_sizes};
-ghost use Rattle.papergrid_least.specs.Longest.{IsWayBack, longest};
+ghost use Rattle.papergrid_least.specs.LowestPositions.{lowest_position, least_total};
+ghost use Rattle.papergrid_least.specs.TrackBoundaries.{AreBoundaries, net_minimum, boundaries_of, sizes_between};
+ghost use Rattle.papergrid_least.specs.Least.{AreFurthestRight, highest_position, least_of, least_sizes};
+ghost use Rattle.papergrid_least.specs.CriticalPath.{IsPathBack, critical_path};
 
 pub use crate::worked::crossing_worked;
 
 /// Sizes fit exactly where their sums are edges.
-pub fn fits_by_edges()
+pub fn fits_by_boundaries()
     ensures fits { (problem : Problem) (sizes : List ℕ) →
         All (IsInTable problem.count) problem.demands → length sizes ≡ problem.count →
         Fits problem sizes ↔
-        AreEdges (asked problem.line) problem.count problem.demands (edges_of sizes) }
-    ensures between { (problem : Problem) (edge : ℕ → ℕ) →
+        AreBoundaries (net_minimum problem.line) problem.count problem.demands (boundaries_of sizes) }
+    ensures between { (problem : Problem) (boundary : ℕ → ℕ) →
         All (IsInTable problem.count) problem.demands →
-        AreEdges (asked problem.line) problem.count problem.demands edge →
-        Fits problem (sizes_between problem.count edge) }
+        AreBoundaries (net_minimum problem.line) problem.count problem.demands boundary →
+        Fits problem (sizes_between problem.count boundary) }
 {}
 
 /// Of two choices of edges, the lower at each place is one too.
-pub fn lower_edges()
+pub fn lower_boundaries()
     ensures { (asks : Demand → ℕ) (n : ℕ) (demands : List Demand) (a b : ℕ → ℕ) →
-        AreEdges asks n demands a → AreEdges asks n demands b →
-        AreEdges asks n demands (λ i. min (a i) (b i)) }
+        AreBoundaries asks n demands a → AreBoundaries asks n demands b →
+        AreBoundaries asks n demands (λ i. min (a i) (b i)) }
 {}
 
 /// The earliest edges are edges, and no edges are below them; so they end at the least total.
-pub fn earliest_edges()
-    ensures edges { (asks : Demand → ℕ) (n : ℕ) (demands : List Demand) →
-        All (IsInTable n) demands → AreEdges asks n demands (earliest asks demands) }
-    ensures below { (asks : Demand → ℕ) (n : ℕ) (demands : List Demand) (edge : ℕ → ℕ) →
-        All (IsInTable n) demands → AreEdges asks n demands edge →
-        (i : ℕ) → i ≤ n → earliest asks demands i ≤ edge i }
+pub fn lowest_boundaries()
+    ensures boundaries { (asks : Demand → ℕ) (n : ℕ) (demands : List Demand) →
+        All (IsInTable n) demands → AreBoundaries asks n demands (lowest_position asks demands) }
+    ensures below { (asks : Demand → ℕ) (n : ℕ) (demands : List Demand) (boundary : ℕ → ℕ) →
+        All (IsInTable n) demands → AreBoundaries asks n demands boundary →
+        (i : ℕ) → i ≤ n → lowest_position asks demands i ≤ boundary i }
     ensures total { (problem : Problem) (sizes : List ℕ) →
         All (IsInTable problem.count) problem.demands → Fits problem sizes →
         least_total problem ≤ sum sizes }
     ensures least { (problem : Problem) → All (IsInTable problem.count) problem.demands →
-        let edge = earliest (asked problem.line) problem.demands in
-        IsLeast problem (sizes_between problem.count edge) }
+        let boundary = lowest_position (net_minimum problem.line) problem.demands in
+        IsLeast problem (sizes_between problem.count boundary) }
 {}
 
 /// The latest edges are edges from 0 to the least total, and no edges that end there are past them.
-pub fn latest_edges()
-    ensures edges { (asks : Demand → ℕ) (n : ℕ) (demands : List Demand) →
-        All (IsInTable n) demands → AreEdges asks n demands (latest asks n demands) }
+pub fn highest_boundaries()
+    ensures boundaries { (asks : Demand → ℕ) (n : ℕ) (demands : List Demand) →
+        All (IsInTable n) demands → AreBoundaries asks n demands (highest_position asks n demands) }
     ensures first { (asks : Demand → ℕ) (n : ℕ) (demands : List Demand) →
-        All (IsInTable n) demands → latest asks n demands 0 ≡ 0 }
+        All (IsInTable n) demands → highest_position asks n demands 0 ≡ 0 }
     ensures last { (asks : Demand → ℕ) (n : ℕ) (demands : List Demand) →
-        latest asks n demands n ≡ earliest asks demands n }
-    ensures above { (asks : Demand → ℕ) (n : ℕ) (demands : List Demand) (edge : ℕ → ℕ) →
-        All (IsInTable n) demands → AreEdges asks n demands edge →
-        edge n ≤ earliest asks demands n →
-        (i : ℕ) → i ≤ n → edge i ≤ latest asks n demands i }
+        highest_position asks n demands n ≡ lowest_position asks demands n }
+    ensures above { (asks : Demand → ℕ) (n : ℕ) (demands : List Demand) (boundary : ℕ → ℕ) →
+        All (IsInTable n) demands → AreBoundaries asks n demands boundary →
+        boundary n ≤ lowest_position asks demands n →
+        (i : ℕ) → i ≤ n → boundary i ≤ highest_position asks n demands i }
 {}
 
 /// From any sizes that fit, least ones, which are the same where those are least.
@@ -69,11 +69,11 @@ pub fn least_from_any()
         IsLeast problem (least_sizes problem sizes) }
     ensures certified { (problem : Problem) (sizes : List ℕ) →
         All (IsInTable problem.count) problem.demands → Fits problem sizes →
-        IsCertificate problem (least_sizes problem sizes) (longest problem) }
+        IsCertificate problem (least_sizes problem sizes) (critical_path problem) }
     ensures bound { (problem : Problem) (sizes : List ℕ) →
         All (IsInTable problem.count) problem.demands → (i : ℕ) → i < problem.count →
-        slice_index sizes i ≤ top_need problem.demands i →
-        slice_index (least_sizes problem sizes) i ≤ top_need problem.demands i }
+        slice_index sizes i ≤ top_minimum problem.demands i →
+        slice_index (least_sizes problem sizes) i ≤ top_minimum problem.demands i }
     ensures same { (problem : Problem) (sizes : List ℕ) →
         All (IsInTable problem.count) problem.demands → IsLeast problem sizes →
         least_sizes problem sizes ≡ sizes }
@@ -88,16 +88,16 @@ pub fn least_by_shares()
         sum (least_of problem) ≡ least_total problem }
     ensures bound { (problem : Problem) → All (IsInTable problem.count) problem.demands →
         (i : ℕ) → i < problem.count →
-        slice_index (least_of problem) i ≤ top_need problem.demands i }
+        slice_index (least_of problem) i ≤ top_minimum problem.demands i }
     ensures certified { (problem : Problem) → All (IsInTable problem.count) problem.demands →
-        IsCertificate problem (least_of problem) (longest problem) }
+        IsCertificate problem (least_of problem) (critical_path problem) }
     ensures furthest_right { (problem : Problem) (sizes : List ℕ) →
         All (IsInTable problem.count) problem.demands →
         AreFurthestRight problem sizes ↔ (sizes ≡ least_of problem) }
     ensures same { (problem : Problem) → All (IsInTable problem.count) problem.demands →
         IsLeast problem (sizes_of problem) → least_of problem ≡ sizes_of problem }
-    ensures kept_apart { (problem : Problem) → All (IsInTable problem.count) problem.demands →
-        IsKeptApart problem.demands → least_of problem ≡ sizes_of problem }
+    ensures laminar { (problem : Problem) → All (IsInTable problem.count) problem.demands →
+        IsLaminar problem.demands → least_of problem ≡ sizes_of problem }
 {}
 
 /// Some sizes fit that have a total in `usize` exactly where the least total and all lines are in it.
@@ -111,8 +111,8 @@ pub fn least_total_decides()
 {}
 
 /// The cells that certify the least total are those of the one way back from the end.
-pub fn one_way_back()
+pub fn one_critical_path()
     ensures { (problem : Problem) (cells : List Demand) →
         All (IsInTable problem.count) problem.demands →
-        IsWayBack problem problem.count (reverse cells) ↔ (cells ≡ longest problem) }
+        IsPathBack problem problem.count (reverse cells) ↔ (cells ≡ critical_path problem) }
 {}

@@ -1,39 +1,39 @@
 //! The least sizes of the columns (rows) of a table, and the cells that certify them.
 
 ghost use Rattle.std.specs.Prelude.{IfOk, None, false, map, true, ◌≡◌};
-ghost use Rattle.papergrid_axis.specs.ForProofs.Kept.{IsKept};
+ghost use Rattle.papergrid_axis.specs.ForProofs.Demands.{AreGathered};
 ghost use Rattle.papergrid_axis.specs.Problem.{Problem};
 ghost use Rattle.papergrid_axis.specs.Ranges.{place_of};
-ghost use Rattle.papergrid_least.specs.Answers.{IsLongest};
-ghost use Rattle.papergrid_least.specs.ForProofs.Settled.{AreEarliest};
-ghost use Rattle.papergrid_least.specs.Longest.{longest};
+ghost use Rattle.papergrid_least.specs.Answers.{IsCriticalPath};
+ghost use Rattle.papergrid_least.specs.ForProofs.Settled.{AreLowestPositions};
+ghost use Rattle.papergrid_least.specs.CriticalPath.{critical_path};
 
 use crate::lines::Lines;
-use crate::longest::{follow, mark_pushers};
+use crate::critical_path::{follow, mark_tight_cells};
 use crate::settled::make_least;
 use papergrid_axis::axis::Axis;
 use papergrid_axis::settled::{refusal, write_base};
-use papergrid_axis::{Found, Kept, Solved, Solver};
+use papergrid_axis::{LayoutResult, Demands, Solved, Solver};
 use papergrid_values::Position;
 use std::alloc::{AllocError, Global};
 
 /// The places of the cells of the longest way, by the starts of their ranges.
-fn longest_places(
+fn critical_path_places(
     alloc: Global,
-    kept: &Kept,
+    kept: &Demands,
     lines: &Lines,
-    earliest: &[usize],
+    lowest_position: &[usize],
 ) -> Result<Vec<Position>, AllocError>
     requires small { kept.now.is_large ≡ false }
-    requires earliest { (problem : Problem) × IsKept problem.count kept.now problem.demands
-        × AreEarliest problem lines.now earliest.now }
-    ensures { (problem : Problem) → IsKept problem.count kept.now problem.demands →
-        AreEarliest problem lines.now earliest.now →
-        IfOk result (λ places. places.items ≡ map place_of (longest problem)) }
+    requires lowest_position { (problem : Problem) × AreGathered problem.count kept.now problem.demands
+        × AreLowestPositions problem lines.now lowest_position.now }
+    ensures { (problem : Problem) → AreGathered problem.count kept.now problem.demands →
+        AreLowestPositions problem lines.now lowest_position.now →
+        IfOk result (λ places. places.items ≡ map place_of (critical_path problem)) }
 {
-    let mut pushers = vec![in alloc; None; earliest.len()]?;
-    mark_pushers(&mut pushers, earliest, lines, &kept.rest);
-    let mut places = follow(alloc, earliest, &kept.single_span, &pushers)?;
+    let mut tight_cells = vec![in alloc; None; lowest_position.len()]?;
+    mark_tight_cells(&mut tight_cells, lowest_position, lines, &kept.rest);
+    let mut places = follow(alloc, lowest_position, &kept.single_span, &tight_cells)?;
     places.reverse();
     Ok(places)
 }
@@ -42,22 +42,22 @@ fn longest_places(
 fn certificate_of(
     alloc: Global,
     certify: bool,
-    kept: &Kept,
+    kept: &Demands,
     lines: &Lines,
-    earliest: &[usize],
+    lowest_position: &[usize],
 ) -> Result<Option<Vec<Position>>, AllocError>
     requires small { kept.now.is_large ≡ false }
-    requires earliest { (problem : Problem) × IsKept problem.count kept.now problem.demands
-        × AreEarliest problem lines.now earliest.now }
-    ensures asked { (problem : Problem) → IsKept problem.count kept.now problem.demands →
-        AreEarliest problem lines.now earliest.now →
-        certify ≡ true → IfOk result (IsLongest problem) }
+    requires lowest_position { (problem : Problem) × AreGathered problem.count kept.now problem.demands
+        × AreLowestPositions problem lines.now lowest_position.now }
+    ensures asked { (problem : Problem) → AreGathered problem.count kept.now problem.demands →
+        AreLowestPositions problem lines.now lowest_position.now →
+        certify ≡ true → IfOk result (IsCriticalPath problem) }
     ensures unasked { certify ≡ false → IfOk result (λ certificate. certificate ≡ None) }
 {
     if !certify {
         return Ok(None);
     }
-    let places = longest_places(alloc, kept, lines, earliest)?;
+    let places = critical_path_places(alloc, kept, lines, lowest_position)?;
     Ok(Some(places))
 }
 
@@ -69,17 +69,17 @@ impl Solver for ByLeastTotal {
     ghost use Rattle.papergrid_axis.specs.Answers.{IsSolvedBy};
     ghost use Rattle.papergrid_least.specs.Answers.{AreLeastSizes, NoneFits};
 
-    ghost solves = { λ certify problem solved. IsSolvedBy AreLeastSizes IsLongest certify problem solved };
+    ghost solves = { λ certify problem solved. IsSolvedBy AreLeastSizes IsCriticalPath certify problem solved };
 
     ghost too_large = { NoneFits };
 
     fn solve<A: Axis>(
         alloc: Global,
         count: usize,
-        kept: &Kept,
+        kept: &Demands,
         axis: &A,
         certify: bool,
-    ) -> Found<Solved> {
+    ) -> LayoutResult<Solved> {
         // A count that no memory holds is refused before it is counted up to.
         let mut sizes = vec![in alloc; 0; count]?;
         let lines = Lines::of(alloc, axis, count)?;
@@ -88,7 +88,7 @@ impl Solver for ByLeastTotal {
         }
         write_base(&mut sizes, &kept.single_span);
         let limits = make_least(alloc, &lines, &mut sizes, &kept.rest)?;
-        let certificate = certificate_of(alloc, certify, kept, &lines, &limits.earliest)?;
+        let certificate = certificate_of(alloc, certify, kept, &lines, &limits.lowest_position)?;
         Ok(Solved {
             sizes,
             total: limits.total,

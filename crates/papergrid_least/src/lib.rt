@@ -3,12 +3,12 @@
 #![tactic(auto)]
 
 mod cells;
-mod edges;
+mod boundaries;
 pub mod laws;
 pub mod least;
 mod limits;
 mod lines;
-mod longest;
+mod critical_path;
 mod lower;
 mod settled;
 pub mod worked;

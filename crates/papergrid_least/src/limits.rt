@@ -5,52 +5,52 @@ ghost use Rattle.std.specs.List.Sorted.{IsNonDecreasingBy};
 ghost use Rattle.papergrid_axis.specs.ForProofs.Settled.{line_at};
 ghost use Rattle.papergrid_axis.specs.Ranges.{IsInTable, end_of};
 ghost use Rattle.papergrid_values.specs.Lines.{all_lines};
-ghost use Rattle.papergrid_least.specs.Edges.{asked};
-ghost use Rattle.papergrid_least.specs.ForProofs.Laid.{AreLaid, AreLaterFirst, carrying};
-ghost use Rattle.papergrid_least.specs.ForProofs.Limits.{AreLimits, IsEarliest, IsLatest, Refuses};
+ghost use Rattle.papergrid_least.specs.TrackBoundaries.{net_minimum};
+ghost use Rattle.papergrid_least.specs.ForProofs.Laid.{AreLaid, AreLaterFirst, with_net_minimum};
+ghost use Rattle.papergrid_least.specs.ForProofs.Limits.{AreLimits, AreLowestBoundaries, AreHighestBoundaries, Refuses};
 
 use crate::cells::{all_asking, sort_by_end, sort_later_first};
-use crate::edges::{lay_earliest, lay_latest};
+use crate::boundaries::{lay_lowest, lay_highest};
 use crate::lines::Lines;
-use papergrid_axis::{Demand, Found, LayoutError};
+use papergrid_axis::{Demand, LayoutResult, LayoutError};
 use std::alloc::{AllocError, Global};
 
 /// The earliest and the latest edges, and their total with all lines.
 #[derive(Drop)]
 pub struct Limits {
-    pub earliest: Vec<usize>,
-    pub latest: Vec<usize>,
+    pub lowest_position: Vec<usize>,
+    pub highest_position: Vec<usize>,
     pub total: usize,
 }
 
 /// As many zeros, and then one more number.
 fn zeros_and(alloc: Global, count: usize, last: usize) -> Result<Vec<usize>, AllocError>
-    ensures length { IfOk result (λ edges. length edges.items ≡ count + 1) }
-    ensures zeros { IfOk result (λ edges. (i : ℕ) → i < count → slice_index edges.items i ≡ 0) }
-    ensures last { IfOk result (λ edges. slice_index edges.items count ≡ last) }
+    ensures length { IfOk result (λ boundaries. length boundaries.items ≡ count + 1) }
+    ensures zeros { IfOk result (λ boundaries. (i : ℕ) → i < count → slice_index boundaries.items i ≡ 0) }
+    ensures last { IfOk result (λ boundaries. slice_index boundaries.items count ≡ last) }
 {
-    let mut edges = vec![in alloc; 0; count]?;
-    edges.push(last)?;
-    Ok(edges)
+    let mut boundaries = vec![in alloc; 0; count]?;
+    boundaries.push(last)?;
+    Ok(boundaries)
 }
 
 /// The earliest edges, by what each number needs alone and by the cells of longer ranges.
-fn earliest_of(alloc: Global, base: &[usize], cells: &[Demand]) -> Found<Vec<usize>>
+fn lowest_of(alloc: Global, base: &[usize], cells: &[Demand]) -> LayoutResult<Vec<usize>>
     requires table { All (IsInTable (length base.now)) cells.now }
     requires sorted { IsNonDecreasingBy end_of cells.now }
-    ensures earliest { IfOk result (λ edges. IsEarliest base.now cells.now edges.items) }
-    ensures refused { IfErr result (Refuses ((edge : ℕ → ℕ) → AreLaid base.now cells.now edge →
-        2 ^ 64 ≤ edge (length base.now))) }
+    ensures lowest_position { IfOk result (λ boundaries. AreLowestBoundaries base.now cells.now boundaries.items) }
+    ensures refused { IfErr result (Refuses ((boundary : ℕ → ℕ) → AreLaid base.now cells.now boundary →
+        2 ^ 64 ≤ boundary (length base.now))) }
 {
-    let mut edges = zeros_and(alloc, base.len(), 0)?;
-    match lay_earliest(&mut edges, base, cells) {
-        Some(()) => Ok(edges),
+    let mut boundaries = zeros_and(alloc, base.len(), 0)?;
+    match lay_lowest(&mut boundaries, base, cells) {
+        Some(()) => Ok(boundaries),
         None => Err(LayoutError::TooLarge),
     }
 }
 
 /// The latest edges, where the last is at the total.
-fn latest_of(
+fn highest_of(
     alloc: Global,
     base: &[usize],
     cells: &[Demand],
@@ -58,38 +58,38 @@ fn latest_of(
 ) -> Result<Vec<usize>, AllocError>
     requires table { All (IsInTable (length base.now)) cells.now }
     requires sorted { AreLaterFirst cells.now }
-    requires room { (edge : ℕ → ℕ) × AreLaid base.now cells.now edge
-        × (edge (length base.now) ≤ total) }
-    ensures { IfOk result (λ edges. IsLatest base.now cells.now total edges.items) }
+    requires room { (boundary : ℕ → ℕ) × AreLaid base.now cells.now boundary
+        × (boundary (length base.now) ≤ total) }
+    ensures { IfOk result (λ boundaries. AreHighestBoundaries base.now cells.now total boundaries.items) }
 {
-    let mut edges = zeros_and(alloc, base.len(), total)?;
-    lay_latest(&mut edges, base, cells);
-    Ok(edges)
+    let mut boundaries = zeros_and(alloc, base.len(), total)?;
+    lay_highest(&mut boundaries, base, cells);
+    Ok(boundaries)
 }
 
 /// The earliest and the latest edges, where the last, with all lines, fits.
-pub fn limits_of(alloc: Global, lines: &Lines, base: &[usize], cells: &[Demand]) -> Found<Limits>
+pub fn limits_of(alloc: Global, lines: &Lines, base: &[usize], cells: &[Demand]) -> LayoutResult<Limits>
     requires lines { length lines.now ≡ length base.now + 1 }
     requires table { All (IsInTable (length base.now)) cells.now }
     ensures limits { let line = line_at lines.now in
-        IfOk result (AreLimits line base.now (map (carrying (asked line)) cells.now)) }
+        IfOk result (AreLimits line base.now (map (with_net_minimum (net_minimum line)) cells.now)) }
     ensures refused { let line = line_at lines.now in
-        IfErr result (Refuses ((edge : ℕ → ℕ) →
-        AreLaid base.now (map (carrying (asked line)) cells.now) edge →
-        2 ^ 64 ≤ edge (length base.now) + all_lines line (length base.now))) }
+        IfErr result (Refuses ((boundary : ℕ → ℕ) →
+        AreLaid base.now (map (with_net_minimum (net_minimum line)) cells.now) boundary →
+        2 ^ 64 ≤ boundary (length base.now) + all_lines line (length base.now))) }
 {
     let mut ordered = all_asking(alloc, lines, cells)?;
     sort_by_end(&mut ordered)?;
-    let earliest = earliest_of(alloc, base, &ordered)?;
-    let last = earliest[base.len()];
+    let lowest_position = lowest_of(alloc, base, &ordered)?;
+    let last = lowest_position[base.len()];
     let Some(total) = last.checked_add(lines.count()) else {
         return Err(LayoutError::TooLarge);
     };
     sort_later_first(&mut ordered)?;
-    let latest = latest_of(alloc, base, &ordered, last)?;
+    let highest_position = highest_of(alloc, base, &ordered, last)?;
     Ok(Limits {
-        earliest,
-        latest,
+        lowest_position,
+        highest_position,
         total,
     })
 }

@@ -3,7 +3,7 @@
 ghost use Rattle.std.specs.Prelude.{IfOk, count_by, length, ℕ, ◌+◌, ◌≡◌, ◌≤◌};
 ghost use Rattle.papergrid_axis.specs.ForProofs.Settled.{line_at};
 ghost use Rattle.papergrid_axis.specs.Ranges.{IsInTable, inner_lines};
-ghost use Rattle.papergrid_least.specs.ForProofs.Counts.{AreCounts};
+ghost use Rattle.papergrid_least.specs.ForProofs.Counts.{AreCountsBefore};
 
 use papergrid_axis::Demand;
 use papergrid_axis::axis::Axis;
@@ -22,18 +22,18 @@ pub struct Lines {
 
 impl Model for Lines {
     ghost use Rattle.std.specs.Prelude.{Bool, List};
-    ghost use Rattle.papergrid_least.specs.ForProofs.Counts.{AreCounts};
+    ghost use Rattle.papergrid_least.specs.ForProofs.Counts.{AreCountsBefore};
 
     ghost Value = { List Bool };
 
     ghost view = { λ lines. lines.drawn.items };
 
-    ghost invariant = { λ lines. AreCounts lines.drawn.items lines.counts.items };
+    ghost invariant = { λ lines. AreCountsBefore lines.drawn.items lines.counts.items };
 }
 
 /// How many lines there are before each number, and in all.
 fn counts_of(alloc: Global, drawn: &[bool]) -> Result<Vec<usize>, AllocError>
-    ensures { IfOk result (λ counts. AreCounts drawn.now counts.items) }
+    ensures { IfOk result (λ counts. AreCountsBefore drawn.now counts.items) }
 {
     let mut counts = Vec::new(alloc);
     let mut count = 0;

@@ -26,9 +26,9 @@ use Rattle.papergrid_keys.specs.Keys.{position_cmp, position_eq}
 use Rattle.papergrid_keys.proofs.KeyLemmas.{exact_position_eq, exact_positions, position_equiv, position_ties, position_total}
 use Rattle.papergrid_maps.specs.Anchors.{AreAnchors, HasAnchor, IsSorted}
 use Rattle.papergrid_maps.specs.Spans.{HasSpan, span_along, span_at}
-use Rattle.papergrid_maps.specs.ForProofs.SpanIndex.{AreAt, DirectedSpans, IsRising, anchor_along, anchor_at, entry_anchor, held_along, key_of}
+use Rattle.papergrid_maps.specs.ForProofs.SpanIndex.{AreAt, DirectedSpans, IsRising, anchor_along, anchor_at, entry_anchor, stored_along, key_of}
 use Rattle.papergrid_maps.specs.declared.anchors.Anchor.{Anchor}
-use Rattle.papergrid_maps.proofs.IndexKeys.{held_at, key_key}
+use Rattle.papergrid_maps.proofs.IndexKeys.{stored_at, key_key}
 
 -- ---- order
 
@@ -83,7 +83,7 @@ module _ (at : Position → Anchor) where
         | inl first ↦ inl ((one.has p).0 first)
         | inr second ↦ inr ((two.has p).0 second)
       ]),
-      (λ held. elim held [
+      (λ stored. elim stored [
         | inl first ↦ Contains-append_left xs ys (at p) ((one.has p).1 first)
         | inr second ↦ Contains-append_right xs ys (at p) ((two.has p).1 second)
       ]),
@@ -95,7 +95,7 @@ module _ (at : Position → Anchor) where
     made = All-permutation (λ a. a ≡ at a.position) xs ys moved are.made;
     has = λ p. (
       (λ found. (are.has p).0 (Contains-permutation ys xs (at p) (IsPermutation-sym xs ys moved) found)),
-      (λ held. Contains-permutation xs ys (at p) moved ((are.has p).1 held)),
+      (λ stored. Contains-permutation xs ys (at p) moved ((are.has p).1 stored)),
     );
   }
 
@@ -106,8 +106,8 @@ module _ (at : Position → Anchor) where
         made = made;
         has = λ p. (
           (λ found. (are.has p).0 (Contains-from_dedup same_place xs (at p) found)),
-          (λ held.
-              let kept = Any-dedup (on_equiv (λ (a : Anchor). a.position) position_equiv) xs (at p) ((are.has p).1 held) in
+          (λ stored.
+              let kept = Any-dedup (on_equiv (λ (a : Anchor). a.position) position_equiv) xs (at p) ((are.has p).1 stored) in
               let at_p : p ≡ kept.1.position = sym (there p) ∙ exact_position_eq (at p).position kept.1.position kept.4 in
               let found : Contains (dedup same_place xs) kept.1 = (kept.0, kept.2, kept.3) in
               let is : kept.1 ≡ at p = All-contains (λ a. a ≡ at a.position) (dedup same_place xs) kept.1 made found ∙ ap at (sym at_p) in
@@ -118,12 +118,12 @@ module _ (at : Position → Anchor) where
   pub at-wider : (H K : Position → Type 0) (xs : List Anchor) → ((p : Position) → H p ↔ K p) → AreAt at H xs → AreAt at K xs
   at-wider H K xs same are = record {
     made = are.made;
-    has = λ p. ((λ found. (same p).0 ((are.has p).0 found)), (λ held. (are.has p).1 ((same p).1 held)));
+    has = λ p. ((λ found. (same p).0 ((are.has p).0 found)), (λ stored. (are.has p).1 ((same p).1 stored)));
   }
 
-held-above-one : (o : Option ℕ) → 2 ≤ unwrap_or o 1 → IsSome o
-held-above-one None h = absurd (omega (arith, h))
-held-above-one (Some n) h = refl
+stored-above-one : (o : Option ℕ) → 2 ≤ unwrap_or o 1 → IsSome o
+stored-above-one None h = absurd (omega (arith, h))
+stored-above-one (Some n) h = refl
 
 contains-got : {X : Type 0} (xs : List X) (k : ℕ) (x : X) → slice_get xs k ≡ Some x → Contains xs x
 contains-got xs k x is =
@@ -137,8 +137,8 @@ module _ (columns rows : FinMap position_cmp ℕ) (anchors : List Anchor)
   made-at k a h = All-contains (λ b. b ≡ anchor_at (get columns) (get rows) b.position) anchors a are.made (contains-got anchors k a h)
 
   has-anchor : (p : Position) → IsSome (get columns p) ⊎ IsSome (get rows p) → HasAnchor anchors p
-  has-anchor p held =
-      let found = (are.has p).1 held in
+  has-anchor p stored =
+      let found = (are.has p).1 stored in
       record {
         index = found.0;
         anchor = anchor_at (get columns) (get rows) p;
@@ -151,13 +151,13 @@ module _ (columns rows : FinMap position_cmp ℕ) (anchors : List Anchor)
     has_rows = λ k a h. ap (λ (b : Anchor). b.rows) (made-at k a h);
     has_cols = λ k a h. ap (λ (b : Anchor). b.cols) (made-at k a h);
     has_each = λ d p. elim d as (λ d. 2 ≤ span_along (record { columns = columns; rows = rows }) d p → HasAnchor anchors p) [
-      | Columns ↦ λ h. has-anchor p (inl (held-above-one (get columns p) h))
-      | Rows ↦ λ h. has-anchor p (inr (held-above-one (get rows p) h))
+      | Columns ↦ λ h. has-anchor p (inl (stored-above-one (get columns p) h))
+      | Rows ↦ λ h. has-anchor p (inr (stored-above-one (get rows p) h))
     ];
   }
 
-  pub anchors-held : (p : Position) → HasAnchor anchors p → IsSome (get columns p) ⊎ IsSome (get rows p)
-  anchors-held p has =
+  pub anchors-stored : (p : Position) → HasAnchor anchors p → IsSome (get columns p) ⊎ IsSome (get rows p)
+  anchors-stored p has =
       let is : has.anchor ≡ anchor_at (get columns) (get rows) p =
       made-at has.index has.anchor has.is_anchor ∙ ap (anchor_at (get columns) (get rows)) has.is_there in
       (are.has p).0 (subst (Contains anchors) is (contains-got anchors has.index has.anchor has.is_anchor))
@@ -177,51 +177,51 @@ along-position Rows own others p = refl
 
 module _ (d : Direction) (m : BTreeMap Position ℕ) (ordered : tree.IsOrdered position_cmp m) (others : FinMap position_cmp ℕ) where
   abbrev own : FinMap position_cmp ℕ
-  own = held_along d m.entries
+  own = stored_along d m.entries
 
   abbrev at : Position → Anchor
   at = anchor_along d (get own) (get others)
 
   -- what is held at the position of an entry
-  held_there : (e : Position × ℕ) → tree.get position_cmp m e.0 ≡ Some e.1 → get own (key_of d e.0) ≡ Some e.1
-  held_there e is = held_at d m.entries (key_of d e.0) ∙ ap (tree.get position_cmp m) (key_key d e.0) ∙ is
+  stored_there : (e : Position × ℕ) → tree.get position_cmp m e.0 ≡ Some e.1 → get own (key_of d e.0) ≡ Some e.1
+  stored_there e is = stored_at d m.entries (key_of d e.0) ∙ ap (tree.get position_cmp m) (key_key d e.0) ∙ is
 
   entry-is : (e : Position × ℕ) → tree.get position_cmp m e.0 ≡ Some e.1 → entry_anchor d others e ≡ at (key_of d e.0)
-  entry-is e is = by_held d (get own) (held_there e is)
+  entry-is e is = by_stored d (get own) (stored_there e is)
     where
-      by_held : (c : Direction) (f : Position → Option ℕ) → f (key_of c e.0) ≡ Some e.1 → entry_anchor c others e ≡ anchor_along c f (get others) (key_of c e.0)
-      by_held Columns f h = λ i. record { position = e.0; rows = span_at others e.0; cols = unwrap_or (sym h i) 1 }
-      by_held Rows f h = λ i. record { position = key_of Rows e.0; rows = unwrap_or (sym h i) 1; cols = span_at others (key_of Rows e.0) }
+      by_stored : (c : Direction) (f : Position → Option ℕ) → f (key_of c e.0) ≡ Some e.1 → entry_anchor c others e ≡ anchor_along c f (get others) (key_of c e.0)
+      by_stored Columns f h = λ i. record { position = e.0; rows = span_at others e.0; cols = unwrap_or (sym h i) 1 }
+      by_stored Rows f h = λ i. record { position = key_of Rows e.0; rows = unwrap_or (sym h i) 1; cols = span_at others (key_of Rows e.0) }
 
   pub entries-at : AreAt at (λ p. IsSome (get own p)) (map (entry_anchor d others) m.entries)
   entries-at = record {
     made = All-map (λ a. a ≡ at a.position) (entry_anchor d others) m.entries
         (All-weaker (λ e. tree.get position_cmp m e.0 ≡ Some e.1) (λ e. entry_anchor d others e ≡ at (key_of d e.0)) entry-is m.entries (All-found position_total m ordered));
-    has = λ p. ((λ found. subst (λ q. IsSome (get own q)) (along-position d (get own) (get others) p) (All-contains (λ a. IsSome (get own a.position)) _ (at p) all_held found)), holds p);
+    has = λ p. ((λ found. subst (λ q. IsSome (get own q)) (along-position d (get own) (get others) p) (All-contains (λ a. IsSome (get own a.position)) _ (at p) all_stored found)), holds p);
   }
     where
-      all_held : All (λ a. IsSome (get own a.position)) (map (entry_anchor d others) m.entries)
-      all_held = All-map (λ a. IsSome (get own a.position)) (entry_anchor d others) m.entries
+      all_stored : All (λ a. IsSome (get own a.position)) (map (entry_anchor d others) m.entries)
+      all_stored = All-map (λ a. IsSome (get own a.position)) (entry_anchor d others) m.entries
           (All-weaker (λ e. tree.get position_cmp m e.0 ≡ Some e.1) (λ e. IsSome (get own (key_of d e.0)))
-          (λ e is. subst (λ o. IsSome o) (sym (held_there e is)) refl) m.entries (All-found position_total m ordered))
+          (λ e is. subst (λ o. IsSome o) (sym (stored_there e is)) refl) m.entries (All-found position_total m ordered))
 
       found_at : (o : Option ℕ) → IsSome o → (n : ℕ) × (o ≡ Some n)
-      found_at None held = absurd (false≢true held)
-      found_at (Some n) held = (n, refl)
+      found_at None stored = absurd (false≢true stored)
+      found_at (Some n) stored = (n, refl)
 
       holds : (p : Position) → IsSome (get own p) → Contains (map (entry_anchor d others) m.entries) (at p)
-      holds p held =
+      holds p stored =
           let key = key_of d p in
-          let one = found_at (get own p) held in
-          let is : tree.get position_cmp m key ≡ Some one.0 = sym (held_at d m.entries p) ∙ one.1 in
+          let one = found_at (get own p) stored in
+          let is : tree.get position_cmp m key ≡ Some one.0 = sym (stored_at d m.entries p) ∙ one.1 in
           let entry : Contains m.entries (key, one.0) = (btree_map_get_iff position_total exact_positions m ordered key one.0).0 is in
           subst (Contains (map (entry_anchor d others) m.entries)) (entry-is (key, one.0) is ∙ ap at (key_key d p)) (image (entry_anchor d others) m.entries (key, one.0) entry)
 
 -- ---- the anchors of both directions
 
 module _ (columns rows : DirectedSpans) (by_columns : columns.direction ≡ Columns) where
-  abbrev IsHeld : Position → Type 0
-  IsHeld p = IsSome (get columns.spans p) ⊎ IsSome (get rows.spans p)
+  abbrev IsStored : Position → Type 0
+  IsStored p = IsSome (get columns.spans p) ⊎ IsSome (get rows.spans p)
 
   column_anchors : (xs : List Anchor) → AreAt (anchor_along columns.direction (get columns.spans) (get rows.spans)) (λ p. IsSome (get columns.spans p)) xs →
       AreAt (anchor_at (get columns.spans) (get rows.spans)) (λ p. IsSome (get columns.spans p)) xs
@@ -229,17 +229,17 @@ module _ (columns rows : DirectedSpans) (by_columns : columns.direction ≡ Colu
 
   -- where no row span is held
   pub alone-at : (xs : List Anchor) → AreAt (anchor_along columns.direction (get columns.spans) (get rows.spans)) (λ p. IsSome (get columns.spans p)) xs →
-      (HasSpan rows.spans → ⊥) → AreAt (anchor_at (get columns.spans) (get rows.spans)) IsHeld xs
+      (HasSpan rows.spans → ⊥) → AreAt (anchor_at (get columns.spans) (get rows.spans)) IsStored xs
   alone-at xs are none =
-      at-wider (anchor_at (get columns.spans) (get rows.spans)) (λ p. IsSome (get columns.spans p)) IsHeld xs
-      (λ p. (inl, λ held. elim held [ inl wide ↦ wide | inr tall ↦ absurd (none (p, tall)) ])) (column_anchors xs are)
+      at-wider (anchor_at (get columns.spans) (get rows.spans)) (λ p. IsSome (get columns.spans p)) IsStored xs
+      (λ p. (inl, λ stored. elim stored [ inl wide ↦ wide | inr tall ↦ absurd (none (p, tall)) ])) (column_anchors xs are)
 
   pub joined-at : (xs ys sorted : List Anchor) → rows.direction ≡ Rows →
       AreAt (anchor_along columns.direction (get columns.spans) (get rows.spans)) (λ p. IsSome (get columns.spans p)) xs →
       AreAt (anchor_along rows.direction (get rows.spans) (get columns.spans)) (λ p. IsSome (get rows.spans p)) ys →
-      IsPermutation (xs ++ ys) sorted → AreAt (anchor_at (get columns.spans) (get rows.spans)) IsHeld (dedup same_place sorted)
+      IsPermutation (xs ++ ys) sorted → AreAt (anchor_at (get columns.spans) (get rows.spans)) IsStored (dedup same_place sorted)
   joined-at xs ys sorted by_rows first second moved =
       let at = anchor_at (get columns.spans) (get rows.spans) in
       let row_anchors : AreAt at (λ p. IsSome (get rows.spans p)) ys =
       subst (λ d. AreAt (anchor_along d (get rows.spans) (get columns.spans)) (λ p. IsSome (get rows.spans p)) ys) by_rows second in
-      at-dedup at IsHeld sorted (λ p. refl) (at-permutation at IsHeld (xs ++ ys) sorted moved (at-append at _ _ xs ys (column_anchors xs first) row_anchors))
+      at-dedup at IsStored sorted (λ p. refl) (at-permutation at IsStored (xs ++ ys) sorted moved (at-append at _ _ xs ys (column_anchors xs first) row_anchors))

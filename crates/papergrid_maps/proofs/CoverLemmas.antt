@@ -18,8 +18,8 @@ use Rattle.papergrid_keys.specs.Keys.{position_cmp, position_eq}
 use Rattle.papergrid_keys.proofs.AnyLemmas.{any_found, any_from_found}
 use Rattle.papergrid_keys.proofs.KeyLemmas.{exact_position_eq, position_ties, position_total}
 use Rattle.papergrid_maps.specs.Spans.{Spans, span_along, is_visible, IsInRectangle}
-use Rattle.papergrid_maps.specs.ForProofs.SpanIndex.{CoversOne, DirectedSpans, covers, covers_held, extent_of, held_along, key_of}
-use Rattle.papergrid_maps.proofs.IndexKeys.{held_at, key_key}
+use Rattle.papergrid_maps.specs.ForProofs.SpanIndex.{CoversOne, DirectedSpans, covers, covers_stored, extent_of, stored_along, key_of}
+use Rattle.papergrid_maps.proofs.IndexKeys.{stored_at, key_key}
 use Rattle.papergrid_maps.proofs.SpanVisible.{apart_by_test, apart_from_test, visible_test}
 
 module _ (span : Direction → Position → ℕ) (a p : Position) where
@@ -78,31 +78,31 @@ never_falls direction places rises i j d le l = elim (cases_eq i j) [
 
 module _ (d : Direction) (m : BTreeMap Position ℕ) (others : FinMap position_cmp ℕ) (places : List Position) where
   -- the span of an entry at its position
-  span_of : (k : Position) (n : ℕ) → tree_get position_cmp m k ≡ Some n → get (held_along d m.entries) (key_of d k) ≡ Some n
-  span_of k n is = held_at d m.entries (key_of d k) ∙ ap (tree_get position_cmp m) (key_key d k) ∙ is
+  span_of : (k : Position) (n : ℕ) → tree_get position_cmp m k ≡ Some n → get (stored_along d m.entries) (key_of d k) ≡ Some n
+  span_of k n is = stored_at d m.entries (key_of d k) ∙ ap (tree_get position_cmp m) (key_key d k) ∙ is
 
-  pub entries_cover : IsOrdered position_cmp m → (list_any (covers_held d others places) m.entries ≡ true) ↔ CoversOne (record { direction = d; spans = held_along d m.entries }) others places
+  pub entries_cover : IsOrdered position_cmp m → (list_any (covers_stored d others places) m.entries ≡ true) ↔ CoversOne (record { direction = d; spans = stored_along d m.entries }) others places
   entries_cover ordered =
-      let own = held_along d m.entries in
+      let own = stored_along d m.entries in
       let laws = eq_by_cmp_equiv position_total in
       let other : Position → ℕ = λ a. unwrap_or (get others a) 1 in
       let in_one : Position → ℕ → Bool = λ a n. list_any (covers a ((extent_of d n (other a)).columns) ((extent_of d n (other a)).rows)) places in (
         λ h.
-            let found = any_found laws (covers_held d others places) m.entries (IsDistinct-from_sorted position_cmp _ ordered) h in
+            let found = any_found laws (covers_stored d others places) m.entries (IsDistinct-from_sorted position_cmp _ ordered) h in
             let a = key_of d found.0 in
             let span = span_of found.0 found.1 found.2 in
             (a, subst (λ o. is_some o ≡ true) (sym span) refl, subst (λ o. in_one a (unwrap_or o 1) ≡ true) (sym span) found.3),
         λ h.
-            let held = held_or_none (get own h.0) h.1 in
+            let stored = stored_or_none (get own h.0) h.1 in
             let k = key_of d h.0 in
-            let at_key : tree_get position_cmp m k ≡ Some held.0 = sym (held_at d m.entries h.0) ∙ held.1 in
-            let there : in_one h.0 held.0 ≡ true = subst (λ o. in_one h.0 (unwrap_or o 1) ≡ true) held.1 h.2 in
-            any_from_found laws (covers_held d others places) m.entries (λ x y e. exact_position_eq x y (position_ties x y ∙ e)) k held.0 at_key (subst (λ a. in_one a held.0 ≡ true) (sym (key_key d h.0)) there),
+            let at_key : tree_get position_cmp m k ≡ Some stored.0 = sym (stored_at d m.entries h.0) ∙ stored.1 in
+            let there : in_one h.0 stored.0 ≡ true = subst (λ o. in_one h.0 (unwrap_or o 1) ≡ true) stored.1 h.2 in
+            any_from_found laws (covers_stored d others places) m.entries (λ x y e. exact_position_eq x y (position_ties x y ∙ e)) k stored.0 at_key (subst (λ a. in_one a stored.0 ≡ true) (sym (key_key d h.0)) there),
       )
     where
-      held_or_none : (o : Option ℕ) → is_some o ≡ true → (n : ℕ) × (o ≡ Some n)
-      held_or_none None h = absurd (false≢true h)
-      held_or_none (Some n) h = (n, refl)
+      stored_or_none : (o : Option ℕ) → is_some o ≡ true → (n : ℕ) × (o ≡ Some n)
+      stored_or_none None h = absurd (false≢true h)
+      stored_or_none (Some n) h = (n, refl)
 
 -- ---- the rectangles of both directions
 
@@ -126,9 +126,9 @@ module _ (spans : Spans) (places : List Position) where
       let p = get_or places k d in
       let covered : covers_some a ≡ true = list_any-from_Any (covers a (span_along spans Columns a) (span_along spans Rows a)) places
       (k, p, l, get_or_default places k p d l, inside_covered (span_along spans) a p apart within) in
-      elim (held (get spans.columns a)) [
+      elim (stored (get spans.columns a)) [
         | inl wide ↦ narrow a wide covered
-        | inr one ↦ elim (held (get spans.rows a)) [
+        | inr one ↦ elim (stored (get spans.rows a)) [
           | inl tall ↦ short a tall covered
           | inr one' ↦
               let columns_one : span_along spans Columns a ≡ 1 = ap (λ o. unwrap_or o 1) one in
@@ -139,9 +139,9 @@ module _ (spans : Spans) (places : List Position) where
         ]
       ])
     where
-      held : (o : Option ℕ) → (is_some o ≡ true) ⊎ (o ≡ None)
-      held None = inr refl
-      held (Some n) = inl refl
+      stored : (o : Option ℕ) → (is_some o ≡ true) ⊎ (o ≡ None)
+      stored None = inr refl
+      stored (Some n) = inl refl
 
 module _ (columns rows : DirectedSpans) (by_columns : columns.direction ≡ Columns) (by_rows : rows.direction ≡ Rows) (places : List Position) where
   abbrev both_spans : Spans
@@ -162,4 +162,4 @@ module _ (columns rows : DirectedSpans) (by_columns : columns.direction ≡ Colu
   hidden_tall h = hidden both_spans places h.0 (sym (tall_one h.0) ∙ h.2)
 
   pub all_visible : (CoversOne columns rows.spans places → ⊥) → (CoversOne rows columns.spans places → ⊥) → All (λ p. IsTrue (is_visible both_spans p)) places
-  all_visible narrow short = all_seen both_spans places (λ a held covered. narrow (a, held, wide_one a ∙ covered)) (λ a held covered. short (a, held, tall_one a ∙ covered))
+  all_visible narrow short = all_seen both_spans places (λ a stored covered. narrow (a, stored, wide_one a ∙ covered)) (λ a stored covered. short (a, stored, tall_one a ∙ covered))

@@ -19,13 +19,13 @@ use Rattle.std.proofs.lemmas.Map.Lookups.{btree_map_eq-Decides, btree_map_from_g
 use Rattle.std.proofs.lemmas.Map.Made.{update_all_none}
 use Rattle.papergrid_values.specs.declared.direction.Direction.{Direction}
 use Rattle.papergrid_values.specs.declared.position.Position.{Position}
-use Rattle.papergrid_keys.specs.Equal.{places_eq}
+use Rattle.papergrid_keys.specs.Equal.{positions_eq}
 use Rattle.papergrid_keys.specs.Keys.{position_cmp, position_eq}
-use Rattle.papergrid_keys.proofs.EqualLemmas.{places_agree, places_same}
+use Rattle.papergrid_keys.proofs.EqualLemmas.{positions_agree, positions_same}
 use Rattle.papergrid_keys.proofs.KeyLemmas.{exact_position_eq, exact_positions, get_at_position, position_equiv, position_ties, position_total}
 use Rattle.papergrid_keys.proofs.ResultLemmas.{same_answer}
-use Rattle.papergrid_maps.specs.ForProofs.SpanIndex.{held_along, key_of}
-use Rattle.papergrid_maps.proofs.IndexKeys.{held_at, key_key, same_key}
+use Rattle.papergrid_maps.specs.ForProofs.SpanIndex.{stored_along, key_of}
+use Rattle.papergrid_maps.proofs.IndexKeys.{stored_at, key_key, same_key}
 
 -- ---- by position
 
@@ -43,7 +43,7 @@ module _ (d : Direction) where
   distinct (e ∷ es) h = (apart e.0 es h.0, distinct es h.1)
 
   pub by_position : {S : Type 0} (m : BTreeMap Position ℕ) → tree.IsOrdered position_cmp m → (n : HashMap Position ℕ S) → hash.IsFromIterResult position_eq (map at_position m.entries) n
-      → (p : Position) → hash.get position_eq n p ≡ get (held_along d m.entries) p
+      → (p : Position) → hash.get position_eq n p ≡ get (stored_along d m.entries) p
   by_position m ordered n made p =
       made.0 p ∙ update_all_none position_equiv position_eq (λ x y. refl) (map at_position m.entries) p (distinct m.entries (IsDistinct-from_sorted position_cmp _ ordered))
       ∙ sym (get_at_position (map at_position m.entries) p)
@@ -58,16 +58,16 @@ same_option (Some m) (Some n) h = ap (λ k. Some k) (eqb-true m n h)
 
 pub holds_same : (d : Direction) (m n : BTreeMap Position ℕ) → tree.IsOrdered position_cmp m → tree.IsOrdered position_cmp n → (r : Bool)
     → r ≡ pointwise (λ (p q : Position × ℕ). position_eq p.0 q.0 && nat_eq p.1 q.1) m.entries n.entries
-    → r ≡ places_eq nat_eq (held_along d m.entries) (held_along d n.entries)
+    → r ≡ positions_eq nat_eq (stored_along d m.entries) (stored_along d n.entries)
 holds_same d m n s t r is =
     let decides = btree_map_eq-Decides (λ a b. (exact_position_eq a b, λ e. subst (λ q. position_eq a q ≡ true) e (position_equiv.refl a))) unsigned_Decides m n r is in
     same_answer r _ decides (
-      (λ h. btree_map_from_get position_total m n s t (λ q. at_key q m n (same_option _ _ ((places_agree nat_eq (held_along d m.entries) (held_along d n.entries)).0 h (key_of d q)))) exact_positions),
-      (λ same. subst (λ es. places_eq nat_eq (held_along d m.entries) (held_along d es) ≡ true) same (places_same nat_eq nat_eq_equiv.refl (held_along d m.entries))),
+      (λ h. btree_map_from_get position_total m n s t (λ q. at_key q m n (same_option _ _ ((positions_agree nat_eq (stored_along d m.entries) (stored_along d n.entries)).0 h (key_of d q)))) exact_positions),
+      (λ same. subst (λ es. positions_eq nat_eq (stored_along d m.entries) (stored_along d es) ≡ true) same (positions_same nat_eq nat_eq_equiv.refl (stored_along d m.entries))),
     )
   where
-    found : (q : Position) (m : BTreeMap Position ℕ) → get (held_along d m.entries) (key_of d q) ≡ tree.get position_cmp m q
-    found q m = held_at d m.entries (key_of d q) ∙ ap (tree.get position_cmp m) (key_key d q)
+    found : (q : Position) (m : BTreeMap Position ℕ) → get (stored_along d m.entries) (key_of d q) ≡ tree.get position_cmp m q
+    found q m = stored_at d m.entries (key_of d q) ∙ ap (tree.get position_cmp m) (key_key d q)
 
-    at_key : (q : Position) (m n : BTreeMap Position ℕ) → get (held_along d m.entries) (key_of d q) ≡ get (held_along d n.entries) (key_of d q) → tree.get position_cmp m q ≡ tree.get position_cmp n q
+    at_key : (q : Position) (m n : BTreeMap Position ℕ) → get (stored_along d m.entries) (key_of d q) ≡ get (stored_along d n.entries) (key_of d q) → tree.get position_cmp m q ≡ tree.get position_cmp n q
     at_key q m n e = sym (found q m) ∙ e ∙ found q n

@@ -12,7 +12,7 @@ use Rattle.papergrid_values.specs.declared.direction.Direction.TheVariants.{Colu
 use Rattle.papergrid_values.specs.declared.position.Position.{Position}
 use Rattle.papergrid_keys.specs.Keys.{position_cmp}
 use Rattle.papergrid_keys.proofs.KeyLemmas.{exact_positions, position_ties, position_total}
-use Rattle.papergrid_maps.specs.ForProofs.SpanIndex.{held_along, key_of}
+use Rattle.papergrid_maps.specs.ForProofs.SpanIndex.{stored_along, key_of}
 
 -- the key of a key is the position
 pub key_key : (d : Direction) (p : Position) → key_of d (key_of d p) ≡ p
@@ -25,8 +25,8 @@ same_key Columns p q = refl
 same_key Rows p q = sym (position_ties (key_of Rows p) (key_of Rows q)) ∙ and_comm (p.col == q.col) (p.row == q.row) ∙ position_ties p q
 
 -- the entries at a position are those at its key
-pub held_at : (d : Direction) (es : List (Position × ℕ)) (p : Position) → get (held_along d es) p ≡ lookup (is_at (position_cmp (key_of d p))) es
-held_at d es p = get-from_entries position_total (map (λ e. (key_of d e.0, e.1)) es) p ∙ at_key es
+pub stored_at : (d : Direction) (es : List (Position × ℕ)) (p : Position) → get (stored_along d es) p ≡ lookup (is_at (position_cmp (key_of d p))) es
+stored_at d es p = get-from_entries position_total (map (λ e. (key_of d e.0, e.1)) es) p ∙ at_key es
   where
     passes : (k : Position) → eq_by_cmp position_cmp p (key_of d k) ≡ eq_by_cmp position_cmp (key_of d p) k
     passes k = sym (same_key d p (key_of d k)) ∙ ap (eq_by_cmp position_cmp (key_of d p)) (key_key d k)
@@ -38,15 +38,15 @@ held_at d es p = get-from_entries position_total (map (λ e. (key_of d e.0, e.1)
 module _ (d : Direction) (es fs : List (Position × ℕ)) (p : Position) (w : Option ℕ)
     (changed : (q : Position) → lookup (is_at (position_cmp q)) fs ≡ cond (is_at (position_cmp (key_of d p)) q) w (lookup (is_at (position_cmp q)) es)) where
   -- a change at a key is one at its position
-  changed_at : (q : Position) → get (held_along d fs) q ≡ cond (eq_by_cmp position_cmp q p) w (get (held_along d es) q)
+  changed_at : (q : Position) → get (stored_along d fs) q ≡ cond (eq_by_cmp position_cmp q p) w (get (stored_along d es) q)
   changed_at q =
-      held_at d fs q ∙ changed (key_of d q)
-      ∙ (λ i. cond ((same_key d p q ∙ (eq_by_cmp_equiv position_total).symm p q) i) w (sym (held_at d es q) i))
+      stored_at d fs q ∙ changed (key_of d q)
+      ∙ (λ i. cond ((same_key d p q ∙ (eq_by_cmp_equiv position_total).symm p q) i) w (sym (stored_at d es q) i))
 
-  pub held_insert : (n : ℕ) → w ≡ Some n → held_along d fs ≡ insert (held_along d es) p n
-  held_insert n is = same_map position_total exact_positions _ _ (λ q.
-      changed_at q ∙ ap (λ v. cond (eq_by_cmp position_cmp q p) v (get (held_along d es) q)) is ∙ sym (get-insert position_total (held_along d es) p n q))
+  pub stored_insert : (n : ℕ) → w ≡ Some n → stored_along d fs ≡ insert (stored_along d es) p n
+  stored_insert n is = same_map position_total exact_positions _ _ (λ q.
+      changed_at q ∙ ap (λ v. cond (eq_by_cmp position_cmp q p) v (get (stored_along d es) q)) is ∙ sym (get-insert position_total (stored_along d es) p n q))
 
-  pub held_remove : w ≡ None → held_along d fs ≡ remove (held_along d es) p
-  held_remove is = same_map position_total exact_positions _ _ (λ q.
-      changed_at q ∙ ap (λ v. cond (eq_by_cmp position_cmp q p) v (get (held_along d es) q)) is ∙ sym (get-remove position_total (held_along d es) p q))
+  pub stored_remove : w ≡ None → stored_along d fs ≡ remove (stored_along d es) p
+  stored_remove is = same_map position_total exact_positions _ _ (λ q.
+      changed_at q ∙ ap (λ v. cond (eq_by_cmp position_cmp q p) v (get (stored_along d es) q)) is ∙ sym (get-remove position_total (stored_along d es) p q))

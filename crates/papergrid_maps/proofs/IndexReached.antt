@@ -11,14 +11,14 @@ use Rattle.papergrid_values.specs.Positions.{along}
 use Rattle.papergrid_values.specs.declared.direction.Direction.{Direction}
 use Rattle.papergrid_values.specs.declared.position.Position.{Position}
 use Rattle.papergrid_keys.specs.Keys.{position_cmp}
-use Rattle.papergrid_maps.specs.ForProofs.SpanIndex.{IsKeyReached, IsReached, held_along, key_of, line_of}
-use Rattle.papergrid_maps.proofs.IndexKeys.{held_at, key_key}
+use Rattle.papergrid_maps.specs.ForProofs.SpanIndex.{IsKeyReached, IsReached, stored_along, key_of, line_of}
+use Rattle.papergrid_maps.proofs.IndexKeys.{stored_at, key_key}
 use Rattle.papergrid_maps.proofs.IndexRanges.{any_between, in_line, of_line}
 
 -- a span that reaches further than its anchor is held
-pub held_above_one : (o : Option ℕ) (a b : ℕ) → a < b → b < a + unwrap_or o 1 → (n : ℕ) × (o ≡ Some n)
-held_above_one None a b h k = absurd (omega arith)
-held_above_one (Some n) a b h k = (n, refl)
+pub stored_above_one : (o : Option ℕ) (a b : ℕ) → a < b → b < a + unwrap_or o 1 → (n : ℕ) × (o ≡ Some n)
+stored_above_one None a b h k = absurd (omega arith)
+stored_above_one (Some n) a b h k = (n, refl)
 
 module _ (m : BTreeMap Position ℕ) where
   pub key_reached : (key : Position) → IsOrdered position_cmp m
@@ -36,21 +36,21 @@ module _ (m : BTreeMap Position ℕ) where
         λ h.
             let k = h.0 in
             let left : k.col < key.col = h.2 in
-            let held = held_above_one (tree_get position_cmp m k) k.col key.col h.2 h.3 in
-            let reach : key.col < k.col + held.0 = subst (λ o. key.col < k.col + unwrap_or o 1) held.1 h.3 in
-            scan.1 (k, held.0, held.1, of_line key k h.1 h.2, lt-ltb _ _ (omega (arith, left, reach))),
+            let stored = stored_above_one (tree_get position_cmp m k) k.col key.col h.2 h.3 in
+            let reach : key.col < k.col + stored.0 = subst (λ o. key.col < k.col + unwrap_or o 1) stored.1 h.3 in
+            scan.1 (k, stored.0, stored.1, of_line key k h.1 h.2, lt-ltb _ _ (omega (arith, left, reach))),
       )
 
   -- by positions
-  pub index_reached : (d : Direction) (p : Position) → IsKeyReached m (key_of d p) ↔ IsReached (record { direction = d; spans = held_along d m.entries }) p
+  pub index_reached : (d : Direction) (p : Position) → IsKeyReached m (key_of d p) ↔ IsReached (record { direction = d; spans = stored_along d m.entries }) p
   index_reached d p = (
     λ h.
         let k = h.0 in
         let line : line_of d (key_of d k) ≡ k.row = ap (λ q. q.row) (key_key d k) in
         let place : along d (key_of d k) ≡ k.col = ap (λ q. q.col) (key_key d k) in
-        let span : get (held_along d m.entries) (key_of d k) ≡ tree_get position_cmp m k = held_at d m.entries (key_of d k) ∙ ap (tree_get position_cmp m) (key_key d k) in
+        let span : get (stored_along d m.entries) (key_of d k) ≡ tree_get position_cmp m k = stored_at d m.entries (key_of d k) ∙ ap (tree_get position_cmp m) (key_key d k) in
         (key_of d k, line ∙ h.1, omega (arith, place, h.2), rw (span, place) h.3),
     λ h.
-        let span : get (held_along d m.entries) h.0 ≡ tree_get position_cmp m (key_of d h.0) = held_at d m.entries h.0 in
+        let span : get (stored_along d m.entries) h.0 ≡ tree_get position_cmp m (key_of d h.0) = stored_at d m.entries h.0 in
         (key_of d h.0, h.1, h.2, rw (← span) h.3),
   )

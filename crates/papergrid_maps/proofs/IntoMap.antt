@@ -11,9 +11,9 @@ use Rattle.papergrid_values.specs.declared.entity.Entity.TheVariants.{Global, Co
 use Rattle.papergrid_values.specs.declared.position.Position.{Position}
 use Rattle.papergrid_keys.specs.Keys.{position_eq}
 use Rattle.papergrid_maps.specs.Keys.{entity_eq}
-use Rattle.papergrid_maps.specs.MapHeld.{held_for}
+use Rattle.papergrid_maps.specs.StoredMap.{held_for}
 use Rattle.papergrid_keys.proofs.KeyLemmas.{get_at_number, get_at_position, position_equiv}
-use Rattle.papergrid_maps.proofs.MapHeldLemmas.{view_of}
+use Rattle.papergrid_maps.proofs.StoredMapLemmas.{view_of}
 
 -- the derived comparison of entities
 same_entity : (x y : Entity) → eq-value.it x y ≡ entity_eq x y

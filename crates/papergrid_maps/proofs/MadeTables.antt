@@ -13,7 +13,7 @@ use Rattle.papergrid_maps.specs.Made.{named_anchors, spans_made}
 use Rattle.papergrid_maps.specs.Spans as spans
 use Rattle.papergrid_values.specs.declared.direction.Direction.{Direction}
 use Rattle.papergrid_values.specs.declared.direction.Direction.TheVariants.{Columns, Rows}
-use Rattle.papergrid_maps.specs.Spans.{RemoveSpans, SetSpan, SpanCall, Spans, decided_span, from_two, is_same_direction, span_from}
+use Rattle.papergrid_maps.specs.Spans.{RemoveSpans, SetSpan, SpanCall, Spans, effective_span, from_two, is_same_direction, span_from}
 
 -- an anchor whose span is not 1 is named
 anchor_named : (d : Direction) (q : Position) (older : List SpanCall) → is_some (from_two (span_from d q older)) ≡ true → list_any (eq_by_cmp position_cmp q) (flat_map named_anchors older) ≡ true
@@ -35,12 +35,12 @@ anchor_named d q (SetSpan e p n ∷ older) h =
     never_both true false = refl
     never_both false b = refl
 
-pub spans_made_told : (calls : List SpanCall) → spans.IsTold calls (spans_made calls)
-spans_made_told calls Columns p = tabulates position_total exact_position (λ p. from_two (decided_span Columns p calls)) (flat_map named_anchors (reverse calls)) (λ q. anchor_named Columns q (reverse calls)) p
-spans_made_told calls Rows p = tabulates position_total exact_position (λ p. from_two (decided_span Rows p calls)) (flat_map named_anchors (reverse calls)) (λ q. anchor_named Rows q (reverse calls)) p
+pub spans_made_history : (calls : List SpanCall) → spans.HasSpanHistory calls (spans_made calls)
+spans_made_history calls Columns p = tabulates position_total exact_position (λ p. from_two (effective_span Columns p calls)) (flat_map named_anchors (reverse calls)) (λ q. anchor_named Columns q (reverse calls)) p
+spans_made_history calls Rows p = tabulates position_total exact_position (λ p. from_two (effective_span Rows p calls)) (flat_map named_anchors (reverse calls)) (λ q. anchor_named Rows q (reverse calls)) p
 
-pub told_spans : (calls : List SpanCall) (held : Spans) → spans.IsTold calls held → held ≡ spans_made calls
-told_spans calls held told = λ i. record {
-  columns = same_map position_total exact_positions held.columns (spans_made calls).columns (λ p. told Columns p ∙ sym (spans_made_told calls Columns p)) i;
-  rows = same_map position_total exact_positions held.rows (spans_made calls).rows (λ p. told Rows p ∙ sym (spans_made_told calls Rows p)) i;
+pub span_history : (calls : List SpanCall) (stored : Spans) → spans.HasSpanHistory calls stored → stored ≡ spans_made calls
+span_history calls stored told = λ i. record {
+  columns = same_map position_total exact_positions stored.columns (spans_made calls).columns (λ p. told Columns p ∙ sym (spans_made_history calls Columns p)) i;
+  rows = same_map position_total exact_positions stored.rows (spans_made calls).rows (λ p. told Rows p ∙ sym (spans_made_history calls Rows p)) i;
 }

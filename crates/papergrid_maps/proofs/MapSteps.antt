@@ -13,10 +13,10 @@ use Rattle.papergrid_values.specs.declared.position.Position.{Position}
 use Rattle.papergrid_values.specs.declared.entity.Entity.TheVariants.{Global, Column, Row, Cell}
 use Rattle.papergrid_maps.specs.declared.entity_map.MapCall.{MapCall}
 use Rattle.papergrid_maps.specs.declared.entity_map.MapCall.TheVariants.{Insert, Remove}
-use Rattle.papergrid_keys.proofs.EntryLemmas.{same_numbers, same_places}
+use Rattle.papergrid_keys.proofs.EntryLemmas.{same_numbers, same_positions}
 use Rattle.papergrid_keys.proofs.KeyLemmas.{get_at_number, get_at_position}
-use Rattle.papergrid_maps.proofs.MapHeldLemmas.{view_of}
-use Rattle.papergrid_maps.proofs.MapTold.{IsStep, cell_after, global_after, value_after}
+use Rattle.papergrid_maps.proofs.StoredMapLemmas.{view_of}
+use Rattle.papergrid_maps.proofs.MapHistory.{IsStep, cell_after, global_after, value_after}
 
 abbrev at : ℕ → ℕ → Position
 at r c = record { row = r; col = c }
@@ -69,7 +69,7 @@ module _ {T : Type 0} where
       → ((p : Position) → lookup (position_eq p) ks' ≡ lookup (position_eq p) ks)
       → view_of g cs' rs' ks' ≡ view_of g cs rs ks
   same_view g cs rs cs' rs' ks ks' columns rows cells =
-      λ i. record { global = g; columns = same_numbers cs cs' columns i; rows = same_numbers rs rs' rows i; cells = same_places ks ks' cells i }
+      λ i. record { global = g; columns = same_numbers cs cs' columns i; rows = same_numbers rs rs' rows i; cells = same_positions ks ks' cells i }
 
   pub step_insert_column : (g v : T) (c : ℕ) (cs rs cs' : List (ℕ × T)) (ks ks' : List (Position × T))
       → ((q : ℕ) → lookup (eqb q) cs' ≡ cond (eqb c q) (Some v) (lookup (eqb q) cs))
@@ -98,21 +98,21 @@ module _ {T : Type 0} where
   pub step_remove_global : (g : T) (cs rs : List (ℕ × T)) (ks : List (Position × T)) → IsStep (view_of g cs rs ks) (view_of g [] [] []) (Remove Global)
   step_remove_global g cs rs ks = step_of_entries (Remove Global) g g cs rs [] [] ks [] refl (λ c. refl) (λ r. refl) (λ p. refl)
 
-  kept_apart : (f : Position → ℕ) (n : ℕ) (p : Position) (ks : List (Position × T)) → ((k : Position) → position_eq p k ≡ true → f p ≡ f k)
+  laminar : (f : Position → ℕ) (n : ℕ) (p : Position) (ks : List (Position × T)) → ((k : Position) → position_eq p k ≡ true → f p ≡ f k)
       → lookup (position_eq p) (filter (λ e. not (eqb (f e.0) n)) ks) ≡ cond (eqb n (f p)) None (lookup (position_eq p) ks)
-  kept_apart f n p ks alike =
+  laminar f n p ks alike =
       lookup-filter-keys (position_eq p) (λ k. not (eqb (f k) n)) (not (eqb n (f p))) (λ k h. ap (λ m. not (eqb m n)) (sym (alike k h)) ∙ ap not (nat_eq_equiv.symm (f p) n)) ks
       ∙ turned (eqb n (f p)) (lookup (position_eq p) ks) None
 
   pub step_remove_column : (g : T) (c : ℕ) (cs rs : List (ℕ × T)) (ks : List (Position × T))
       → IsStep (view_of g cs rs ks) (view_of g cs rs (filter (λ e. not (eqb e.0.col c)) ks)) (Remove (Column c))
   step_remove_column g c cs rs ks = step_of_entries (Remove (Column c)) g g cs rs cs rs ks _ refl (λ c. refl) (λ r. refl)
-      (λ p. kept_apart (λ q. q.col) c p ks (λ k h. eqb-true p.col k.col (and_parts _ _ h).1))
+      (λ p. laminar (λ q. q.col) c p ks (λ k h. eqb-true p.col k.col (and_parts _ _ h).1))
 
   pub step_remove_row : (g : T) (r : ℕ) (cs rs : List (ℕ × T)) (ks : List (Position × T))
       → IsStep (view_of g cs rs ks) (view_of g cs rs (filter (λ e. not (eqb e.0.row r)) ks)) (Remove (Row r))
   step_remove_row g r cs rs ks = step_of_entries (Remove (Row r)) g g cs rs cs rs ks _ refl (λ c. refl) (λ r. refl)
-      (λ p. kept_apart (λ q. q.row) r p ks (λ k h. eqb-true p.row k.row (and_parts _ _ h).0))
+      (λ p. laminar (λ q. q.row) r p ks (λ k h. eqb-true p.row k.row (and_parts _ _ h).0))
 
   pub step_remove_cell : (g : T) (i j : ℕ) (cs rs : List (ℕ × T)) (ks ks' : List (Position × T))
       → ((p : Position) → lookup (position_eq p) ks' ≡ cond (position_eq (at i j) p) None (lookup (position_eq p) ks))

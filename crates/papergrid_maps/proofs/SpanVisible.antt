@@ -56,8 +56,8 @@ any_prepend test (x ∷ xs) ys h = or_right (test x) _ (any_prepend test xs ys h
 
 -- a position whose span is held is among the keys
 among : (spans : FinMap position_cmp ℕ) (anchor : Position) (test : Position → Bool) → is_some (get spans anchor) ≡ true → test anchor ≡ true → list_any test (keys spans) ≡ true
-among spans anchor test held passes =
-    let place = any_place _ (keys spans) (sym (contains_key-keys spans anchor) ∙ held) in
+among spans anchor test stored passes =
+    let place = any_place _ (keys spans) (sym (contains_key-keys spans anchor) ∙ stored) in
     let same = exact_position_eq anchor place.1 (position_ties anchor place.1 ∙ place.3) in
     any_passes_from_place test (keys spans) place.0 place.1 place.2 (subst (λ q. test q ≡ true) same passes)
 
@@ -65,9 +65,9 @@ one_where_none : (o : Option ℕ) → (is_some o ≡ true → ⊥) → unwrap_or
 one_where_none None h = refl
 one_where_none (Some n) h = absurd (h refl)
 
-held_or_not : (o : Option ℕ) → (is_some o ≡ true) ⊎ (is_some o ≡ true → ⊥)
-held_or_not None = inr false≢true
-held_or_not (Some n) = inl refl
+stored_or_not : (o : Option ℕ) → (is_some o ≡ true) ⊎ (is_some o ≡ true → ⊥)
+stored_or_not None = inr false≢true
+stored_or_not (Some n) = inl refl
 
 -- a position with no span hides no other one
 hides_none : (spans : Spans) (anchor p : Position) → (is_some (get spans.columns anchor) ≡ true → ⊥) → (is_some (get spans.rows anchor) ≡ true → ⊥)
@@ -80,7 +80,7 @@ hides_none spans anchor p narrow short apart within =
     apart (λ i. record { row = row i; col = col i })
 
 pub visible_without_spans : (spans : Spans) (p : Position) → (HasSpan spans.columns → ⊥) → (HasSpan spans.rows → ⊥) → IsVisible (span_along spans) p
-visible_without_spans spans p narrow short anchor = hides_none spans anchor p (λ held. narrow (anchor, held)) (λ held. short (anchor, held))
+visible_without_spans spans p narrow short anchor = hides_none spans anchor p (λ stored. narrow (anchor, stored)) (λ stored. short (anchor, stored))
 
 hides : (spans : Spans) (p anchor : Position) → anchor ≢ p → IsInRectangle (span_along spans) anchor p
     → is_hidden_by (span_along spans) (keys spans.columns ++ keys spans.rows) p ≡ true
@@ -90,8 +90,8 @@ hides spans p anchor apart within =
     ⊎_elim (λ wide. any_append test (keys spans.columns) (keys spans.rows) (among spans.columns anchor test wide passes))
     (λ narrow. ⊎_elim (λ tall. any_prepend test (keys spans.columns) (keys spans.rows) (among spans.rows anchor test tall passes))
     (λ short. absurd (hides_none spans anchor p narrow short apart within))
-    (held_or_not (get spans.rows anchor)))
-    (held_or_not (get spans.columns anchor))
+    (stored_or_not (get spans.rows anchor)))
+    (stored_or_not (get spans.columns anchor))
 
 pub visible_test : (spans : Spans) (p : Position) → IsTrue (is_visible spans p) ↔ IsVisible (span_along spans) p
 visible_test spans p = (

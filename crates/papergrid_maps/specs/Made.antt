@@ -1,9 +1,9 @@
 -- The spans that calls make: what the calls decide, at each anchor that one of them names.
 use Rattle.std.specs.Prelude.{List, [], ◌∷◌, flat_map, reverse}
 use Rattle.papergrid_values.specs.declared.position.Position.{Position}
-use Rattle.papergrid_keys.specs.Tabulated.{tabulated}
+use Rattle.papergrid_keys.specs.Tabulated.{tabulation}
 use Rattle.papergrid_values.specs.declared.direction.Direction.TheVariants.{Columns, Rows}
-use Rattle.papergrid_maps.specs.Spans.{SetSpan, SpanCall, Spans, decided_span, from_two}
+use Rattle.papergrid_maps.specs.Spans.{SetSpan, SpanCall, Spans, effective_span, from_two}
 
 -- the position whose span a call sets
 abbrev pub named_anchors : SpanCall → List Position
@@ -15,6 +15,6 @@ abbrev pub spans_made : List SpanCall → Spans
 spans_made calls =
     let anchors = flat_map named_anchors (reverse calls) in
     record {
-      columns = tabulated (λ p. from_two (decided_span Columns p calls)) anchors;
-      rows = tabulated (λ p. from_two (decided_span Rows p calls)) anchors;
+      columns = tabulation (λ p. from_two (effective_span Columns p calls)) anchors;
+      rows = tabulation (λ p. from_two (effective_span Rows p calls)) anchors;
     }

@@ -32,21 +32,21 @@ module _ {T : Type 0} where
 
   -- the last pin that counts: an insert of the cell, or one of its row (column) while its column (row) has a value,
   -- since the last call of Global and the last remove of the cell, its row or its column
-  abbrev pub pinned_value : ℕ → ℕ → List (MapCall T) → Option T
-  pinned_value r c [] = None
-  pinned_value r c (Insert Global v ∷ older) = None
-  pinned_value r c (Remove Global ∷ older) = None
-  pinned_value r c (Insert (Cell i j) v ∷ older) = if i == r && j == c then Some v else pinned_value r c older
-  pinned_value r c (Insert (Row i) v ∷ older) = if i == r && is_some (standing_value (Column c) older) then Some v else pinned_value r c older
-  pinned_value r c (Insert (Column j) v ∷ older) = if j == c && is_some (standing_value (Row r) older) then Some v else pinned_value r c older
-  pinned_value r c (Remove (Cell i j) ∷ older) = if i == r && j == c then None else pinned_value r c older
-  pinned_value r c (Remove (Row i) ∷ older) = if i == r then None else pinned_value r c older
-  pinned_value r c (Remove (Column j) ∷ older) = if j == c then None else pinned_value r c older
+  abbrev pub cell_override_value : ℕ → ℕ → List (MapCall T) → Option T
+  cell_override_value r c [] = None
+  cell_override_value r c (Insert Global v ∷ older) = None
+  cell_override_value r c (Remove Global ∷ older) = None
+  cell_override_value r c (Insert (Cell i j) v ∷ older) = if i == r && j == c then Some v else cell_override_value r c older
+  cell_override_value r c (Insert (Row i) v ∷ older) = if i == r && is_some (standing_value (Column c) older) then Some v else cell_override_value r c older
+  cell_override_value r c (Insert (Column j) v ∷ older) = if j == c && is_some (standing_value (Row r) older) then Some v else cell_override_value r c older
+  cell_override_value r c (Remove (Cell i j) ∷ older) = if i == r && j == c then None else cell_override_value r c older
+  cell_override_value r c (Remove (Row i) ∷ older) = if i == r then None else cell_override_value r c older
+  cell_override_value r c (Remove (Column j) ∷ older) = if j == c then None else cell_override_value r c older
 
   -- the value that the calls decide at a position, where the map was made with the value given
-  abbrev pub decided_value : T → List (MapCall T) → Position → T
-  decided_value given calls p =
+  abbrev pub effective_value : T → List (MapCall T) → Position → T
+  effective_value given calls p =
       let newest_first = reverse calls in
-      unwrap_or (pinned_value p.row p.col newest_first)
+      unwrap_or (cell_override_value p.row p.col newest_first)
       (unwrap_or (standing_value (Column p.col) newest_first)
       (unwrap_or (standing_value (Row p.row) newest_first) (global_value given newest_first)))

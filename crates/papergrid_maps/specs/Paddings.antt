@@ -37,7 +37,7 @@ abbrev pub set_in_row : (Entity → Option Paddings) → ℕ → Paddings
 set_in_row set r = unwrap_or (set (Row r)) (unwrap_or (set Global) no_paddings)
 
 -- the paddings of a cell are its own, else its column's, its row's or the table's
-abbrev pub AreDecided : Grid → (Entity → Option Paddings) → Type 0
-AreDecided grid set = (p : Position) →
+abbrev pub AreEffective : Grid → (Entity → Option Paddings) → Type 0
+AreEffective grid set = (p : Position) →
     paddings_at grid p
     ≡ unwrap_or (set (Cell p.row p.col)) (unwrap_or (set (Column p.col)) (set_in_row set p.row))

@@ -29,8 +29,8 @@ span_from d p (SetSpan e q n ∷ older) =
     if is_same_direction e d && (nat_le 1 n && position_eq q p) then n else span_from d p older
 
 -- the span that calls decide for a position, the oldest first
-abbrev pub decided_span : Direction → Position → List SpanCall → ℕ
-decided_span d p calls = span_from d p (reverse calls)
+abbrev pub effective_span : Direction → Position → List SpanCall → ℕ
+effective_span d p calls = span_from d p (reverse calls)
 
 -- the spans held, by column and by row
 pub record Spans : Type 0 where
@@ -47,8 +47,8 @@ abbrev pub from_two : ℕ → Option ℕ
 from_two n = if nat_le 2 n then Some n else None
 
 -- a new table that was given the calls holds this
-abbrev pub IsTold : List SpanCall → Spans → Type 0
-IsTold calls spans = (d : Direction) (p : Position) → get (spans_along d spans) p ≡ from_two (decided_span d p calls)
+abbrev pub HasSpanHistory : List SpanCall → Spans → Type 0
+HasSpanHistory calls spans = (d : Direction) (p : Position) → get (spans_along d spans) p ≡ from_two (effective_span d p calls)
 
 -- a span of the direction is held
 abbrev pub HasSpan : FinMap position_cmp ℕ → Type 0

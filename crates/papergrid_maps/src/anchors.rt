@@ -42,7 +42,7 @@ pub(crate) fn anchors_of(
     ensures sorted { IfOk result (λ anchors. IsSorted anchors.items) }
     ensures spans { IfOk result (λ anchors. AreAnchors (span_along
         (record { columns = columns.now.spans; rows = rows.now.spans })) anchors.items) }
-    ensures held { IfOk result (λ anchors. (p : Position) → HasAnchor anchors.items p →
+    ensures stored { IfOk result (λ anchors. (p : Position) → HasAnchor anchors.items p →
         IsSome (value_at columns.now.spans p) ⊎ IsSome (value_at rows.now.spans p)) }
 {
     let mut anchors = columns.anchors(alloc, rows)?;

@@ -6,7 +6,7 @@ ghost use Rattle.std.specs.BTreeMap.{get as tree_get};
 ghost use Rattle.std.specs.HashMap.{get as map_get};
 ghost use Rattle.papergrid_values.specs.declared.position.Position.{Position};
 ghost use Rattle.papergrid_keys.specs.Keys.{position_cmp, position_eq};
-ghost use Rattle.papergrid_maps.specs.MapHeld.{held_value};
+ghost use Rattle.papergrid_maps.specs.StoredMap.{stored_value};
 
 use crate::EntityMap;
 use papergrid_values::{ANSIFmt, Position};
@@ -90,12 +90,12 @@ impl<C: ANSIFmt> Colors for BTreeMap<Position, C> {
 
 // It is empty where the colour of the whole table is unset and nothing else is held.
 impl<C: ANSIFmt> Colors for EntityMap<Option<C>> {
-    ghost use Rattle.papergrid_maps.specs.ColorsHeld.{IsBlank};
+    ghost use Rattle.papergrid_maps.specs.StoredColors.{IsBlank};
     ghost use Rattle.papergrid_maps.specs.ForProofs.BlankColors.{blank_value};
 
     type Color = C;
 
-    ghost color_at = { held_value };
+    ghost color_at = { stored_value };
 
     ghost is_blank = { IsBlank };
 

@@ -10,8 +10,8 @@ ghost use Rattle.papergrid_values.specs.declared.position.Position.{Position};
 ghost use Rattle.papergrid_keys.specs.Keys.{position_eq};
 ghost use Rattle.papergrid_maps.specs.Keys.{entity_eq};
 ghost use Rattle.papergrid_maps.specs.Listed.{AreSetCells, HasAtEach};
-ghost use Rattle.papergrid_maps.specs.MapCalls.{decided_value, may_grow};
-ghost use Rattle.papergrid_maps.specs.MapHeld.{IsTold, Appends, HasNothing, Holds, held_for, held_value};
+ghost use Rattle.papergrid_maps.specs.MapCalls.{effective_value, may_grow};
+ghost use Rattle.papergrid_maps.specs.StoredMap.{HasMapHistory, AppendsCalls, HasNothing, HoldsValue, held_for, stored_value};
 ghost use Rattle.papergrid_maps.specs.declared.entity_map.MapCall.{MapCall};
 
 use papergrid_keys::hashed::{look_up, put, remove};
@@ -50,11 +50,11 @@ pub struct EntityMap<T> {
 
 impl<T> Model for EntityMap<T> {
     ghost use Rattle.std.specs.FinMap as map;
-    ghost use Rattle.papergrid_maps.specs.MapHeld.{Held, held_code};
+    ghost use Rattle.papergrid_maps.specs.StoredMap.{Stored, stored_code};
 
-    ghost Value = { Held T };
+    ghost Value = { Stored T };
 
-    ghost coded = { held_code T.code };
+    ghost coded = { stored_code T.code };
 
     ghost view = { λ m. record { global = m.global; columns = map.from_entries m.columns.entries; rows = map.from_entries m.rows.entries; cells = map.from_entries m.cells.entries } };
 }
@@ -75,7 +75,7 @@ impl<T: Drop> Drop for EntityMap<T> {
 impl<T> EntityMap<T> {
     /// The map that holds the value for the whole table alone. It takes no memory.
     pub fn new(alloc: Global, global: T) -> Self
-        ensures { IsTold global [] result }
+        ensures { HasMapHistory global [] result }
     {
         EntityMap {
             alloc,
@@ -99,9 +99,9 @@ impl<T> EntityMap<T> {
     /// The value held for the cell, else for its column, else for its row, else for the whole
     /// table: where calls tell the map, the one that they decide.
     pub fn get(&self, pos: Position) -> &T
-        ensures held { result.now ≡ held_value self.now pos }
-        ensures decided { (given : T) (calls : List (MapCall T)) →
-            IsTold given calls self.now → result.now ≡ decided_value given calls pos }
+        ensures stored { result.now ≡ stored_value self.now pos }
+        ensures effective { (given : T) (calls : List (MapCall T)) →
+            HasMapHistory given calls self.now → result.now ≡ effective_value given calls pos }
     {
         if let Some(value) = look_up(&self.cells, pos) {
             return value;
@@ -130,7 +130,7 @@ impl<T> EntityMap<T> {
 
     /// The cells that hold a value of their own, each once, in no order, or out of memory.
     pub fn held_cells(&self) -> Result<Vec<Position>, AllocError>
-        ensures held { IfOk result (λ cells. AreSetCells (held_for self.now) cells.items) }
+        ensures stored { IfOk result (λ cells. AreSetCells (held_for self.now) cells.items) }
         ensures once { IfOk result (λ cells. AllPairs (λ p q. p ≢ q) cells.items) }
     {
         keys_of_cells(self.alloc, &self.cells)
@@ -141,9 +141,9 @@ impl<T> EntityMap<T> {
     pub fn any_held<F: Fn(&T) -> bool>(&self, f: F) -> bool
     where
         F: Drop,
-        requires { (lent : _) → Holds self.now lent.now → F.pre f lent }
-        ensures yes { OnTrue result ((v : T) × Holds self.now v × FnReturnsAt F.Fn f v true) }
-        ensures no { OnFalse result ((v : T) → Holds self.now v → FnReturnsAt F.Fn f v false) }
+        requires { (lent : _) → HoldsValue self.now lent.now → F.pre f lent }
+        ensures yes { OnTrue result ((v : T) × HoldsValue self.now v × FnReturnsAt F.Fn f v true) }
+        ensures no { OnFalse result ((v : T) → HoldsValue self.now v → FnReturnsAt F.Fn f v false) }
     {
         if f(&self.global) {
             return true;
@@ -209,12 +209,12 @@ impl<T: Clone> Clone for EntityMap<T> {
 }
 
 impl<T: PartialEq> PartialEq for EntityMap<T> {
-    ghost use Rattle.papergrid_maps.specs.MapEq.{held_eq};
-    ghost use Rattle.papergrid_maps.specs.ForProofs.MapEqLaws.{held_eq_laws};
+    ghost use Rattle.papergrid_maps.specs.MapEq.{stored_eq};
+    ghost use Rattle.papergrid_maps.specs.ForProofs.MapEqLaws.{stored_eq_laws};
 
-    ghost eq = { held_eq T.eq };
+    ghost eq = { stored_eq T.eq };
 
-    ghost laws = { held_eq_laws T.eq T.laws };
+    ghost laws = { stored_eq_laws T.eq T.laws };
 
     fn eq(&self, other: &EntityMap<T>) -> bool {
         let global = self.global == other.global;
@@ -229,7 +229,7 @@ impl<T: Drop> EntityMap<T> {
     /// Takes back what was set: for the whole table all but its own value, for a column or a row
     /// the values of its cells alone, and for a cell its value. It takes no memory.
     pub fn remove(&mut self, entity: Entity)
-        ensures { Appends self.old self.new (MapCall.Remove entity ∷ []) }
+        ensures { AppendsCalls self.old self.new (MapCall.Remove entity ∷ []) }
     {
         match entity {
             Entity::Global => {
@@ -251,7 +251,7 @@ impl<T: Clone> EntityMap<T> {
     /// value equals it.
     pub fn insert(&mut self, entity: Entity, value: T) -> Result<(), AllocError>
         requires equal_clones { (x y : T) → T.is_clone x y → y ≡ x }
-        ensures ok { OnOk result (Appends self.old self.new (MapCall.Insert entity value ∷ [])) }
+        ensures ok { OnOk result (AppendsCalls self.old self.new (MapCall.Insert entity value ∷ [])) }
         ensures err { OnErr result (self.new ≡ self.old) }
         ensures global { entity ≡ Entity.Global → IsOk result }
     {
@@ -287,9 +287,9 @@ impl<T: Clone> EntityMap<T> {
     /// Condition: a clone of a value equals it.
     pub fn apply_all(&mut self, calls: Vec<MapCall<T>>) -> Result<(), Stopped>
         requires equal_clones { (x y : T) → T.is_clone x y → y ≡ x }
-        ensures ok { OnOk result (Appends self.old self.new calls.items) }
+        ensures ok { OnOk result (AppendsCalls self.old self.new calls.items) }
         ensures err { IfErr result (λ stopped.
-            Appends self.old self.new (take stopped.done calls.items)) }
+            AppendsCalls self.old self.new (take stopped.done calls.items)) }
         ensures refused { IfErr result (λ stopped. stopped.done < length calls.items) }
         ensures blamed { IfErr result (λ stopped.
             IsSomeAnd (slice_get calls.items stopped.done) (λ call. may_grow call ≡ true)) }
@@ -307,7 +307,7 @@ impl<T: Clone> EntityMap<T> {
 
     fn apply(&mut self, call: MapCall<T>) -> Result<(), AllocError>
         requires equal_clones { (x y : T) → T.is_clone x y → y ≡ x }
-        ensures ok { OnOk result (Appends self.old self.new (call ∷ [])) }
+        ensures ok { OnOk result (AppendsCalls self.old self.new (call ∷ [])) }
         ensures err { OnErr result (self.new ≡ self.old) }
         ensures free { may_grow call ≡ false → IsOk result }
     {

@@ -14,13 +14,13 @@ ghost use Rattle.papergrid_maps.specs.Compact.{IsNew, first_difference};
 ghost use Rattle.papergrid_maps.specs.declared.colors.NoColor.{NoColor};
 ghost use Rattle.papergrid_maps.specs.declared.colors.NoColors.{NoColors};
 ghost use Rattle.papergrid_maps.specs.declared.compact.CompactConfig.{CompactConfig};
-ghost use Rattle.papergrid_maps.specs.DecidingSpan.{IsDecidedSpan};
-ghost use Rattle.papergrid_maps.specs.HeldSame.{HoldTheSameSpans, HoldTheSameValues};
+ghost use Rattle.papergrid_maps.specs.EffectiveSpan.{IsEffectiveSpan};
+ghost use Rattle.papergrid_maps.specs.StoredSame.{HoldTheSameSpans, HoldTheSameValues};
 ghost use Rattle.papergrid_maps.specs.Made.{spans_made};
-ghost use Rattle.papergrid_maps.specs.MapCalls.{decided_value};
-ghost use Rattle.papergrid_maps.specs.MapHeld.{Held, IsTold, held_value};
+ghost use Rattle.papergrid_maps.specs.MapCalls.{effective_value};
+ghost use Rattle.papergrid_maps.specs.StoredMap.{Stored, HasMapHistory, stored_value};
 ghost use Rattle.papergrid_maps.specs.Spans as spans;
-ghost use Rattle.papergrid_maps.specs.Spans.{IsVisible, SpanCall, Spans, decided_span, is_visible, span_along};
+ghost use Rattle.papergrid_maps.specs.Spans.{IsVisible, SpanCall, Spans, effective_span, is_visible, span_along};
 
 use crate::{
     Anchor, Colors, CompactConfig, EntityMap, MapCall, NoColor, NoColors, Paddings, SpanTable,
@@ -32,33 +32,33 @@ use std::hash::Hash;
 
 /// A map that was made with a value and is told by the calls has at each position the value that
 /// they decide.
-pub fn told_decides<T>()
-    ensures { (given : T) (calls : List (MapCall T)) (held : Held T) → IsTold given calls held →
-        (pos : Position) → held_value held pos ≡ decided_value given calls pos }
+pub fn history_decides<T>()
+    ensures { (given : T) (calls : List (MapCall T)) (stored : Stored T) → HasMapHistory given calls stored →
+        (pos : Position) → stored_value stored pos ≡ effective_value given calls pos }
 {}
 
 /// The spans that calls make are told by them, and no others are.
-pub fn told_makes_spans()
-    ensures told { (calls : List SpanCall) → spans.IsTold calls (spans_made calls) }
-    ensures only { (calls : List SpanCall) (held : Spans) →
-        spans.IsTold calls held → held ≡ spans_made calls }
+pub fn history_makes_spans()
+    ensures told { (calls : List SpanCall) → spans.HasSpanHistory calls (spans_made calls) }
+    ensures only { (calls : List SpanCall) (stored : Spans) →
+        spans.HasSpanHistory calls stored → stored ≡ spans_made calls }
 {}
 
 /// The span that calls decide is the one that their deciding call sets, by its place in the list:
 /// the last of those that set it to 1 or more and of those that remove all spans of its direction;
 /// and no other is.
 pub fn spans_by_place()
-    ensures decided { (calls : List SpanCall) (d : Direction) (pos : Position) →
-        IsDecidedSpan d pos calls (decided_span d pos calls) }
+    ensures effective { (calls : List SpanCall) (d : Direction) (pos : Position) →
+        IsEffectiveSpan d pos calls (effective_span d pos calls) }
     ensures only { (calls : List SpanCall) (d : Direction) (pos : Position) (n : ℕ) →
-        IsDecidedSpan d pos calls n → n ≡ decided_span d pos calls }
+        IsEffectiveSpan d pos calls n → n ≡ effective_span d pos calls }
 {}
 
 /// A position passes the computed test of visibility exactly where it lies in no other anchor's
 /// rectangle, whatever spans are held.
 pub fn visible_by_rectangles()
-    ensures { (held : Spans) (pos : Position) →
-        IsTrue (is_visible held pos) ↔ IsVisible (span_along held) pos }
+    ensures { (stored : Spans) (pos : Position) →
+        IsTrue (is_visible stored pos) ↔ IsVisible (span_along stored) pos }
 {}
 
 /// A position is visible exactly where no anchor of the spans hides it.
@@ -72,18 +72,18 @@ pub fn visible_where_not_hidden()
 
 /// Two maps that were made with the same value and are told by the same calls are equal, and so
 /// are two tables of spans that are told by the same calls.
-pub fn equal_told_maps<T: Eq>()
-    ensures maps { (given : T) (calls : List (MapCall T)) (m n : Held T) →
-        IsTold given calls m → IsTold given calls n →
+pub fn equal_maps_by_history<T: Eq>()
+    ensures maps { (given : T) (calls : List (MapCall T)) (m n : Stored T) →
+        HasMapHistory given calls m → HasMapHistory given calls n →
         ⟦<EntityMap<T> as PartialEq>⟧.eq m n ≡ true }
     ensures spans { (calls : List SpanCall) (s t : Spans) →
-        spans.IsTold calls s → spans.IsTold calls t →
+        spans.HasSpanHistory calls s → spans.HasSpanHistory calls t →
         ⟦<SpanTable as PartialEq>⟧.eq s t ≡ true }
 {}
 
 /// Two maps are equal exactly where they hold equal values, or none, for each entity.
 pub fn equal_maps<T: PartialEq>()
-    ensures { (m n : Held T) →
+    ensures { (m n : Stored T) →
         (⟦<EntityMap<T> as PartialEq>⟧.eq m n ≡ true) ↔ HoldTheSameValues T.eq m n }
 {}
 

@@ -9,11 +9,11 @@ ghost use Rattle.std.specs.List.{list_all, list_any};
 ghost use Rattle.papergrid_values.specs.declared.direction.Direction.TheVariants.{Columns};
 ghost use Rattle.papergrid_values.specs.declared.position.Position.{Position};
 ghost use Rattle.papergrid_values.specs.Positions.{AreRising};
-ghost use Rattle.papergrid_keys.specs.Equal.{places_eq};
+ghost use Rattle.papergrid_keys.specs.Equal.{positions_eq};
 ghost use Rattle.papergrid_keys.specs.Keys.{position_cmp, position_eq};
 ghost use Rattle.papergrid_maps.specs.Listed.{HasAtEach};
 ghost use Rattle.papergrid_maps.specs.Spans.{EndWithin, HasSpan};
-ghost use Rattle.papergrid_maps.specs.ForProofs.SpanIndex.{AreAt, CoversOne, IsReached, IsRising, anchor_along, covers_held, entry_anchor, extent_of, key_of};
+ghost use Rattle.papergrid_maps.specs.ForProofs.SpanIndex.{AreAt, CoversOne, IsReached, IsRising, anchor_along, covers_stored, entry_anchor, extent_of, key_of};
 
 use crate::anchors::Anchor;
 use crate::covering::covers_one;
@@ -35,13 +35,13 @@ pub(crate) struct SpanIndex {
 impl Model for SpanIndex {
     ghost use Rattle.std.specs.BTreeMap.{IsOrdered};
     ghost use Rattle.papergrid_keys.specs.Keys.{position_cmp};
-    ghost use Rattle.papergrid_maps.specs.ForProofs.SpanIndex.{DirectedSpans, directed_code, held_along};
+    ghost use Rattle.papergrid_maps.specs.ForProofs.SpanIndex.{DirectedSpans, directed_code, stored_along};
 
     ghost Value = { DirectedSpans };
 
     ghost coded = { directed_code };
 
-    ghost view = { λ s. record { direction = s.direction; spans = held_along s.direction s.spans.entries } };
+    ghost view = { λ s. record { direction = s.direction; spans = stored_along s.direction s.spans.entries } };
 
     ghost invariant = { λ s. IsOrdered position_cmp s.spans };
 }
@@ -164,7 +164,7 @@ impl SpanIndex {
     /// Whether both hold the same spans.
     pub(crate) fn holds_same(&self, other: &SpanIndex) -> bool
         requires { self.now.direction ≡ other.now.direction }
-        ensures { result ≡ places_eq nat_eq self.now.spans other.now.spans }
+        ensures { result ≡ positions_eq nat_eq self.now.spans other.now.spans }
     {
         self.spans == other.spans
     }
@@ -272,7 +272,7 @@ fn entries_cover(
 ) -> bool
     requires { AllPairs (AreRising rising) places.now }
     ensures { result
-        ≡ list_any (covers_held direction others.now.spans places.now) spans.now.entries }
+        ≡ list_any (covers_stored direction others.now.spans places.now) spans.now.entries }
 {
     spans.iter().any(|(key, span)| {
         let anchor = key_of(direction, *key);

@@ -6,7 +6,7 @@ ghost use Rattle.std.specs.BTreeMap.Range.{entries_between};
 ghost use Rattle.std.specs.List.{list_any};
 ghost use Rattle.std.specs.FinMap as map;
 ghost use Rattle.std.specs.FinMap.{get as value_at};
-ghost use Rattle.papergrid_keys.specs.Told.{Appends};
+ghost use Rattle.papergrid_keys.specs.History.{AppendsHistory};
 ghost use Rattle.papergrid_values.specs.Positions.{AreRising};
 ghost use Rattle.papergrid_values.specs.declared.direction.Direction.TheVariants.{Columns, Rows};
 ghost use Rattle.papergrid_values.specs.declared.position.Position.{Position};
@@ -14,7 +14,7 @@ ghost use Rattle.papergrid_keys.specs.Keys.{position_cmp, position_eq};
 ghost use Rattle.papergrid_values.specs.declared.direction.Direction.{Direction};
 ghost use Rattle.papergrid_maps.specs.Anchors.{AreAnchors, HasAnchor, IsSorted};
 ghost use Rattle.papergrid_maps.specs.Listed.{HasAtEach};
-ghost use Rattle.papergrid_maps.specs.Spans.{IsTold, EndWithin, HasSpan, IsVisible, IsCoveredByColumn, IsCoveredByRow, IsCoveredByBoth, SetSpan, RemoveSpans, is_visible, span_along, spans_along};
+ghost use Rattle.papergrid_maps.specs.Spans.{HasSpanHistory, EndWithin, HasSpan, IsVisible, IsCoveredByColumn, IsCoveredByRow, IsCoveredByBoth, SetSpan, RemoveSpans, is_visible, span_along, spans_along};
 ghost use Rattle.papergrid_maps.specs.ForProofs.SpanIndex.{AreFromTwo, HoldsBoth, span_set};
 
 use crate::anchors::{Anchor, anchors_of};
@@ -71,7 +71,7 @@ impl Drop for SpanTable {
 impl SpanTable {
     /// The table with no span. It takes no memory.
     pub fn new(alloc: Global) -> Self
-        ensures { IsTold [] result }
+        ensures { HasSpanHistory [] result }
     {
         SpanTable {
             alloc,
@@ -85,7 +85,7 @@ impl SpanTable {
     /// that neither takes memory. Where memory is refused the table is as it was.
     pub fn set_column(&mut self, pos: Position, span: usize) -> Result<(), AllocError>
         ensures ok { OnOk result
-            (Appends IsTold self.old self.new (SetSpan Columns pos span ∷ [])) }
+            (AppendsHistory HasSpanHistory self.old self.new (SetSpan Columns pos span ∷ [])) }
         ensures err { OnErr result (self.new ≡ self.old) }
         ensures others { self.new.rows ≡ self.old.rows }
         ensures small { span < 2 → IsOk result }
@@ -96,7 +96,7 @@ impl SpanTable {
     /// Sets the row span of a position, as `set_column` does the column span.
     pub fn set_row(&mut self, pos: Position, span: usize) -> Result<(), AllocError>
         ensures ok { OnOk result
-            (Appends IsTold self.old self.new (SetSpan Rows pos span ∷ [])) }
+            (AppendsHistory HasSpanHistory self.old self.new (SetSpan Rows pos span ∷ [])) }
         ensures err { OnErr result (self.new ≡ self.old) }
         ensures others { self.new.columns ≡ self.old.columns }
         ensures small { span < 2 → IsOk result }
@@ -106,7 +106,7 @@ impl SpanTable {
 
     /// The column span held at a position, of 2 or more.
     pub fn get_column(&self, pos: Position) -> Option<usize>
-        ensures held { result ≡ value_at self.now.columns pos }
+        ensures stored { result ≡ value_at self.now.columns pos }
         ensures from_two { IfSome result (λ n. 2 ≤ n) }
     {
         self.columns.get(pos)
@@ -114,7 +114,7 @@ impl SpanTable {
 
     /// The row span held at a position, of 2 or more.
     pub fn get_row(&self, pos: Position) -> Option<usize>
-        ensures held { result ≡ value_at self.now.rows pos }
+        ensures stored { result ≡ value_at self.now.rows pos }
         ensures from_two { IfSome result (λ n. 2 ≤ n) }
     {
         self.rows.get(pos)
@@ -122,7 +122,7 @@ impl SpanTable {
 
     /// Removes all column spans.
     pub fn remove_columns(&mut self)
-        ensures told { Appends IsTold self.old self.new (RemoveSpans Columns ∷ []) }
+        ensures told { AppendsHistory HasSpanHistory self.old self.new (RemoveSpans Columns ∷ []) }
         ensures others { self.new.rows ≡ self.old.rows }
     {
         self.columns.clear();
@@ -131,7 +131,7 @@ impl SpanTable {
 
     /// Removes all row spans.
     pub fn remove_rows(&mut self)
-        ensures told { Appends IsTold self.old self.new (RemoveSpans Rows ∷ []) }
+        ensures told { AppendsHistory HasSpanHistory self.old self.new (RemoveSpans Rows ∷ []) }
         ensures others { self.new.columns ≡ self.old.columns }
     {
         self.rows.clear();
@@ -170,7 +170,7 @@ impl SpanTable {
     pub fn anchors(&self) -> Result<Vec<Anchor>, AllocError>
         ensures sorted { IfOk result (λ anchors. IsSorted anchors.items) }
         ensures spans { IfOk result (λ anchors. AreAnchors (span_along self.now) anchors.items) }
-        ensures held { IfOk result (λ anchors. (p : Position) → HasAnchor anchors.items p →
+        ensures stored { IfOk result (λ anchors. (p : Position) → HasAnchor anchors.items p →
             IsSome (value_at self.now.columns p) ⊎ IsSome (value_at self.now.rows p)) }
         ensures from_one { (d : Direction) (p : Position) → 1 ≤ span_along self.now d p }
     {

@@ -7,7 +7,7 @@ ghost use Rattle.papergrid_maps.specs.Anchors.{IsSorted};
 ghost use Rattle.papergrid_maps.specs.Grids.{Grid, compact_grid, size_after, size_before};
 ghost use Rattle.papergrid_maps.specs.Hidden.{AreAnchorsOf};
 ghost use Rattle.papergrid_maps.specs.Listed.{AreSetCells};
-ghost use Rattle.papergrid_maps.specs.Paddings.{AreCommon, AreDecided, for_all_cells, sizes};
+ghost use Rattle.papergrid_maps.specs.Paddings.{AreCommon, AreEffective, for_all_cells, sizes};
 ghost use Rattle.papergrid_maps.specs.declared.view.Paddings.{Paddings};
 
 use crate::{Anchor, CompactConfig};
@@ -65,7 +65,7 @@ pub trait ConfigView {
     ghost set_for: { Self → Entity → Option Paddings };
 
     // Those of a cell are its own, else its column's, else its row's, else the table's.
-    ghost decided: { (s : Self) → AreDecided (grid s) (set_for s) };
+    ghost effective: { (s : Self) → AreEffective (grid s) (set_for s) };
 
     /// The paddings that are set for an entity itself: of a cell without those of its column and of its row.
     fn paddings_for(&self, entity: Entity) -> Option<Paddings>
@@ -154,7 +154,7 @@ impl ConfigView for CompactConfig {
 
     ghost set_for = { λ s. for_all_cells (sizes s.padding) };
 
-    ghost decided = { λ s p. refl };
+    ghost effective = { λ s p. refl };
 
     fn paddings_for(&self, entity: Entity) -> Option<Paddings> {
         match entity {

@@ -13,11 +13,11 @@ use Rattle.std.proofs.lemmas.Str.{IsUtf8-append, IsUtf8-drop, IsUtf8-take, IsUtf
 use Rattle.std.proofs.lemmas.Str.Ascii.{IsAscii-nil, IsAscii-cons}
 use Rattle.papergrid_text.specs.Text.{HasNoNewline, split_lines}
 use Rattle.papergrid_text.proofs.Splits.{is_split}
-use Rattle.papergrid_script.specs.Grammar.{said, without_cr}
+use Rattle.papergrid_script.specs.Grammar.{line_says, without_cr}
 use Rattle.papergrid_script.specs.declared.script.Script.{Script}
 use Rattle.papergrid_script.specs.declared.script.ScriptError.{ScriptError}
 use Rattle.papergrid_script.specs.declared.script.ScriptError.TheVariants as script_errors
-use Rattle.papergrid_script.specs.Scripts.{Table, empty_table, with_line, or_bad, table_after, table_of}
+use Rattle.papergrid_script.specs.Scripts.{Table, empty_table, table_with_line, or_bad, table_after, table_of}
 use Rattle.papergrid_script.specs.ForProofs.Seen.{GivesTable}
 use Rattle.papergrid_script.proofs.LineLemmas.{table_of-pieces}
 
@@ -106,8 +106,8 @@ is_false : (b : Bool) → ¬ (b ≡ true) → b ≡ false
 is_false true never = absurd (never refl)
 is_false false never = refl
 
-says_nothing : (line : List ℕ) → ¬ (IsUtf8 line) → said (without_cr line) ≡ None
-unfolding said
+says_nothing : (line : List ℕ) → ¬ (IsUtf8 line) → line_says (without_cr line) ≡ None
+unfolding line_says
 says_nothing line never =
     let bad : is_utf8 (without_cr line) ≡ false = is_false (is_utf8 (without_cr line)) (λ e. never (with_cr line (get_or line (length line - 1) 0 == 13) refl (IsUtf8-from_is_utf8 (without_cr line) e))) in
     rw bad refl
@@ -147,13 +147,13 @@ cut_lines (line ∷ []) rest number last table some plain ends count =
     let same : number ≡ last = omega arith in
     let split = split_after line rest (All-head HasNoNewline line [] plain) in
     let bad = says_nothing (line ++ first_of (split_lines rest)) (no_text line rest ends) in
-    rw (split, bad, same) (cut_last last (option_and_then (with_line table) (said (without_cr line))))
+    rw (split, bad, same) (cut_last last (option_and_then (table_with_line table) (line_says (without_cr line))))
 cut_lines (line ∷ next ∷ more) rest number last table some plain ends count =
     let text : List ℕ = join_with_byte 10 (next ∷ more) in
     let split : split_lines (line ++ 10 ∷ (text ++ rest)) ≡ line ∷ split_lines (text ++ rest) = slice_split_at (λ b. b == 10) line 10 (text ++ rest) (λ k d below. ne_eqb _ 10 (All-head HasNoNewline line (next ∷ more) plain k d below)) refl in
     ap (λ bytes. table_after number table (map without_cr (split_lines bytes))) (append_assoc line (10 ∷ text) rest)
     ∙ ap (λ lines. table_after number table (map without_cr lines)) split
-    ∙ cut_step last number (option_and_then (with_line table) (said (without_cr line))) _ _
+    ∙ cut_step last number (option_and_then (table_with_line table) (line_says (without_cr line))) _ _
     (λ after. cut_lines (next ∷ more) rest (number + 1) last after (omega arith) (All-tail HasNoNewline line (next ∷ more) plain) (ends_after line text rest ends) (omega arith))
 
 cut_table : (input : List ℕ) (n : ℕ) → IsValidUpTo input n → table_of input ≡ cut_short (length (split_lines (take n input))) (table_of (take n input))

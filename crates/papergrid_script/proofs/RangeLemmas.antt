@@ -9,7 +9,7 @@ use Rattle.papergrid_script.specs.declared.script.ScriptError.{ScriptError}
 use Rattle.papergrid_script.specs.declared.script_setting.ScriptSetting.{ScriptSetting}
 use Rattle.papergrid_script.specs.declared.script_setting.ScriptSetting.TheVariants.{Padding, ColumnSpan, RowSpan, VerticalLine, HorizontalLine, NoVerticalLine, NoHorizontalLine}
 use Rattle.papergrid_script.specs.declared.script_setting.ScriptSetting.TheVariants as script_settings
-use Rattle.papergrid_script.specs.Grammar.{Said, Nothing, Columns, Set, Row, Cell, said, script_lines}
+use Rattle.papergrid_script.specs.Grammar.{Said, Nothing, Columns, Set, Row, Cell, line_says, script_lines}
 use Rattle.papergrid_script.specs.Scripts.{Table, table_of}
 use Rattle.papergrid_script.specs.ForProofs.Settings.{setting_told}
 use Rattle.papergrid_script.specs.Spelling.{IsSetting, Pad, Colspan, Rowspan, Border, Vline, Hline, Novline, Nohline}
@@ -30,13 +30,13 @@ spelled_in_range _ _ (Hline digits x row c is_number is_character) = refl
 spelled_in_range _ _ (Novline digits col is_number) = refl
 spelled_in_range _ _ (Nohline digits row is_number) = refl
 
-saids_in_range : (lines : List (List ℕ)) (saids : List Said) → map said lines ≡ map (λ s. Some s) saids → All InRange (filter_map setting_said saids)
+saids_in_range : (lines : List (List ℕ)) (saids : List Said) → map line_says lines ≡ map (λ s. Some s) saids → All InRange (filter_map setting_said saids)
 saids_in_range lines [] each = All-nil InRange
 saids_in_range [] (s ∷ saids) each = cc
 saids_in_range (line ∷ lines) (Nothing ∷ saids) each = saids_in_range lines saids (cc)
 saids_in_range (line ∷ lines) (Columns n ∷ saids) each = saids_in_range lines saids (cc)
 saids_in_range (line ∷ lines) (Set setting ∷ saids) each =
-    let says : said line ≡ Some (Set setting) = cc in
+    let says : line_says line ≡ Some (Set setting) = cc in
     All-cons InRange setting _ (spelled_in_range line setting (line_read line (Set setting) says).1) (saids_in_range lines saids (cc))
 saids_in_range (line ∷ lines) (Row ∷ saids) each = saids_in_range lines saids (cc)
 saids_in_range (line ∷ lines) (Cell text ∷ saids) each = saids_in_range lines saids (cc)

@@ -17,7 +17,7 @@ use Rattle.papergrid_values.specs.Borders.{frame_with}
 use Rattle.papergrid_values.specs.Positions as positions
 use Rattle.papergrid_config.specs.declared.setting.Setting.{Setting}
 use Rattle.papergrid_config.specs.declared.setting.Setting.TheVariants.{SetPadding, SetColumnSpan, SetRowSpan, SetBorders, InsertVerticalLine, InsertHorizontalLine, RemoveVerticalLine, RemoveHorizontalLine}
-use Rattle.papergrid_script.specs.Grammar.{◌>>=◌, Said, Nothing, Columns, Set, Row, Cell, spaces, pair_at, parted_at, number_of, position_of, placed_span, entity_of, sides_of, padding_of, character_of, placed_character, vertical_main, horizontal_main, setting_of, keyword_says, text_says, said}
+use Rattle.papergrid_script.specs.Grammar.{◌>>=◌, Said, Nothing, Columns, Set, Row, Cell, spaces, pair_at, parted_at, number_of, position_said, placed_span, entity_of, sides_of, padding_of, character_of, placed_character, vertical_main, horizontal_main, setting_of, keyword_says, text_says, line_says}
 use Rattle.papergrid_script.specs.Spelling.{IsNumber, IsPosition, IsEntity, AreSides, IsCharacter, IsSetting, Pad, Colspan, Rowspan, Border, Vline, Hline, Novline, Nohline, Means, Ended, Plain, Newline, Tab, Backslash, IsLine}
 use Rattle.papergrid_script.proofs.CharacterLemmas.{character_read, text_behind}
 use Rattle.papergrid_script.specs.Texts.{unescaped, escape_of, put_first}
@@ -98,8 +98,8 @@ starts_one c (b ∷ bs) h = ap (λ x. x ∷ bs) (sym (eqb-true c b (and_true _ _
 abbrev pub cell_at : Position → Entity
 cell_at place = entities.Cell place.row place.col
 
-position_read : (bytes : List ℕ) (place : Position) → position_of bytes ≡ Some place → IsPosition bytes place
-unfolding position_of
+position_read : (bytes : List ℕ) (place : Position) → position_said bytes ≡ Some place → IsPosition bytes place
+unfolding position_said
 position_read bytes place h =
     let at = map_some positions.position_of (pair_at 44 number_of number_of bytes) place h in
     let pair = pair_read 44 number_of number_of bytes at.0 at.1 in
@@ -111,9 +111,9 @@ entity_read bytes entity h = elim (chosen (bytes_eq bytes (codes "*")) (Some ent
   | inl star ↦ subst (IsEntity bytes) (same_Some _ _ star.1) (is_word bytes (codes "*") star.0)
   | inr other ↦ elim (chosen (starts_with nat_eq bytes (codes "c")) (option_map entities.Column (number_of (drop 1 bytes))) _ (Some entity) other.1) [
     | inl col ↦ let n = map_some entities.Column (number_of (drop 1 bytes)) entity col.1 in subst (IsEntity bytes) n.2 (drop 1 bytes, number_read _ _ n.1, starts_one 99 bytes col.0)
-    | inr more ↦ elim (chosen (starts_with nat_eq bytes (codes "r")) (option_map entities.Row (number_of (drop 1 bytes))) (option_map cell_at (position_of bytes)) (Some entity) more.1) [
+    | inr more ↦ elim (chosen (starts_with nat_eq bytes (codes "r")) (option_map entities.Row (number_of (drop 1 bytes))) (option_map cell_at (position_said bytes)) (Some entity) more.1) [
       | inl row ↦ let n = map_some entities.Row (number_of (drop 1 bytes)) entity row.1 in subst (IsEntity bytes) n.2 (drop 1 bytes, number_read _ _ n.1, starts_one 114 bytes row.0)
-      | inr cell ↦ let place = map_some cell_at (position_of bytes) entity cell.1 in subst (IsEntity bytes) place.2 (position_read bytes place.0 place.1)
+      | inr cell ↦ let place = map_some cell_at (position_said bytes) entity cell.1 in subst (IsEntity bytes) place.2 (position_read bytes place.0 place.1)
     ]
   ]
 ]
@@ -166,7 +166,7 @@ spanned_read : (word : List ℕ) (set : Position → ℕ → Setting)
 unfolding placed_span
 spanned_read word set spells rest setting h =
     let at = map_some (λ (at : Position × ℕ). set at.0 at.1) (placed_span rest) setting h in
-    let pair = pair_read 32 position_of number_of rest at.0 at.1 in
+    let pair = pair_read 32 position_said number_of rest at.0 at.1 in
     subst (IsSetting (word ++ rest)) at.2
     (subst (λ (r : List ℕ). IsSetting (word ++ r) (set at.0.0 at.0.1)) (sym pair.whole)
     (spells pair.front pair.back at.0.0 at.0.1 (position_read _ _ pair.is_front) (number_read _ _ pair.is_back)))
@@ -320,8 +320,8 @@ text_read line s text h = elim (chosen (bytes_eq line (codes "")) (Some Nothing)
   ]
 ]
 
-pub line_read : (line : List ℕ) (s : Said) → said line ≡ Some s → IsUtf8 line × IsLine line s
-unfolding said
+pub line_read : (line : List ℕ) (s : Said) → line_says line ≡ Some s → IsUtf8 line × IsLine line s
+unfolding line_says
 line_read line s h = elim (chosen (is_utf8 line) (text_says line) None (Some s) h) [
   | inl is ↦ let text = IsUtf8-from_is_utf8 line is.0 in (text, text_read line s text is.1)
   | inr none ↦ absurd (none-some s none.1)

@@ -18,7 +18,7 @@ use Rattle.papergrid_values.specs.declared.position.Position.{Position}
 use Rattle.papergrid_values.specs.declared.sides.Sides.{Sides}
 use Rattle.papergrid_config.specs.declared.setting.Setting.{Setting}
 use Rattle.papergrid_config.specs.declared.setting.Setting.TheVariants.{SetPadding}
-use Rattle.papergrid_script.specs.Grammar.{Said, Nothing, Columns, Set, Row, Cell, parted_at, number_of, position_of, placed_span, entity_of, sides_of, padding_of, placed_character, setting_of, keyword_says, text_says, said}
+use Rattle.papergrid_script.specs.Grammar.{Said, Nothing, Columns, Set, Row, Cell, parted_at, number_of, position_said, placed_span, entity_of, sides_of, padding_of, placed_character, setting_of, keyword_says, text_says, line_says}
 use Rattle.papergrid_script.specs.Spelling.{IsNumber, IsPosition, IsEntity, AreSides, IsCharacter, IsSetting, Pad, Colspan, Rowspan, Border, Vline, Hline, Novline, Nohline, Means, Ended, Plain, Newline, Tab, Backslash, IsLine}
 use Rattle.papergrid_script.proofs.CharacterLemmas.{character_spelled}
 use Rattle.papergrid_script.proofs.ReadLemmas.{cell_at}
@@ -68,8 +68,8 @@ digits_lack c (d ∷ digits) low h =
     let other : nat_eq d c ≡ false = grind (arith, nat_tests, p.0.0) in
     rw other (digits_lack c digits low p.1)
 
-position_spelled : (bytes : List ℕ) (place : Position) → IsPosition bytes place → position_of bytes ≡ Some place
-unfolding position_of
+position_spelled : (bytes : List ℕ) (place : Position) → IsPosition bytes place → position_said bytes ≡ Some place
+unfolding position_said
 position_spelled bytes place h =
     rw (h.4, parted_after 44 h.0 h.1 (digits_lack 44 h.0 (lit< tt) h.2.digits_alone), number_spelled h.0 place.row h.2, number_spelled h.1 place.col h.3) refl
 
@@ -78,7 +78,7 @@ position_lacks bytes place h = subst (lacks 32) (sym h.4)
     (list_all-append (λ b. not (nat_eq b 32)) h.0 (44 ∷ h.1) ∙ rw (digits_lack 32 h.0 (lit< tt) h.2.digits_alone) (digits_lack 32 h.1 (lit< tt) h.3.digits_alone))
 
 -- a number and a comma are no star, and no letter stands first
-number_first : (row col : List ℕ) → all_ascii_digits row ≡ true → 0 < length row → option_map cell_at (position_of (row ++ 44 ∷ col)) ≡ entity_of (row ++ 44 ∷ col)
+number_first : (row col : List ℕ) → all_ascii_digits row ≡ true → 0 < length row → option_map cell_at (position_said (row ++ 44 ∷ col)) ≡ entity_of (row ++ 44 ∷ col)
 unfolding entity_of
 number_first [] col h some = absurd (omega arith)
 number_first (d ∷ digits) col h some =
@@ -182,6 +182,6 @@ text_spelled line (Cell text) h = elim h [
       (rw (parted_after 32 (codes "cell") cell.0 refl) (ap (option_map Cell) (means_spelled cell.0 text cell.1)))
 ]
 
-pub line_spelled : (line : List ℕ) (s : Said) → IsUtf8 line → IsLine line s → said line ≡ Some s
-unfolding said
+pub line_spelled : (line : List ℕ) (s : Said) → IsUtf8 line → IsLine line s → line_says line ≡ Some s
+unfolding line_says
 line_spelled line s u h = rw (is_utf8-from_IsUtf8 line u) (text_spelled line s h)

@@ -6,8 +6,8 @@ use Rattle.std.proofs.lemmas.List.{map-append, length-set}
 use Rattle.std.proofs.lemmas.Option.{same_Some, none-some, slice_get-get_or}
 use Rattle.std.proofs.lemmas.Grind.{flat_map-append}
 use borrow.Author.Tests.{lt-ltb}
-use Rattle.papergrid_script.specs.Grammar.{Said, Nothing, Columns, Set, Row, Cell, said, script_lines}
-use Rattle.papergrid_script.specs.Scripts.{Table, empty_table, with_line, onto_last, or_bad, table_after, table_of}
+use Rattle.papergrid_script.specs.Grammar.{Said, Nothing, Columns, Set, Row, Cell, line_says, script_lines}
+use Rattle.papergrid_script.specs.Scripts.{Table, empty_table, table_with_line, onto_last, or_bad, table_after, table_of}
 use Rattle.papergrid_script.specs.Tells.{NoRowBefore, IsBad, IsFirstBad, columns_said, setting_said, is_of_rows, last_or, rows_said, Tells}
 
 -- ---- a cell more in the last row
@@ -55,7 +55,7 @@ none_onto_last (row ∷ rows) text h =
 -- one table, and another after these lines
 record After (old new : Table) (lines : List (List ℕ)) : Type 0 where
   saids : List Said
-  each : map said lines ≡ map (λ s. Some s) saids
+  each : map line_says lines ≡ map (λ s. Some s) saids
   columns : new.columns ≡ last_or old.columns (filter_map columns_said saids)
   settings : new.settings ≡ old.settings ++ filter_map setting_said saids
   rows : rows_said new.rows ≡ rows_said old.rows ++ filter is_of_rows saids
@@ -66,7 +66,7 @@ after_none table = record { saids = []; each = refl; columns = refl; settings = 
 both_cons : (x : Option Said) (s : Said) (xs ys : List (Option Said)) → x ≡ Some s → xs ≡ ys → x ∷ xs ≡ Some s ∷ ys
 both_cons x s xs ys p q = rw (p, q) refl
 
-after_one : (old next new : Table) (s : Said) (line : List ℕ) (lines : List (List ℕ)) → said line ≡ Some s → with_line old s ≡ Some next → After next new lines → After old new (line ∷ lines)
+after_one : (old next new : Table) (s : Said) (line : List ℕ) (lines : List (List ℕ)) → line_says line ≡ Some s → table_with_line old s ≡ Some next → After next new lines → After old new (line ∷ lines)
 after_one old next new Nothing line lines says w rest = subst (λ t. After t new lines → After old new (line ∷ lines)) (same_Some _ _ w)
     (λ h. record { saids = Nothing ∷ h.saids; each = both_cons _ _ _ _ says h.each; columns = h.columns; settings = h.settings; rows = h.rows }) rest
 after_one old next new (Columns n) line lines says w rest = subst (λ t. After t new lines → After old new (line ∷ lines)) (same_Some _ _ w)
@@ -100,21 +100,21 @@ after_one old next new (Cell text) line lines says w rest =
           ∙ append_assoc (rows_said old.rows) (Cell text ∷ []) (filter is_of_rows h.saids);
     }) rest
 
-after_next : (number : ℕ) (old new : Table) (line : List ℕ) (lines : List (List ℕ)) (s : Said) → said line ≡ Some s
+after_next : (number : ℕ) (old new : Table) (line : List ℕ) (lines : List (List ℕ)) (s : Said) → line_says line ≡ Some s
     → ((next : Table) → table_after (number + 1) next lines ≡ Ok new → After next new lines)
-    → (o : Option Table) → with_line old s ≡ o → or_bad number o (λ next. table_after (number + 1) next lines) ≡ Ok new → After old new (line ∷ lines)
+    → (o : Option Table) → table_with_line old s ≡ o → or_bad number o (λ next. table_after (number + 1) next lines) ≡ Ok new → After old new (line ∷ lines)
 after_next number old new line lines s says later None w h = cc
 after_next number old new line lines s says later (Some next) w h = after_one old next new s line lines says w (later next h)
 
 after_said : (number : ℕ) (old new : Table) (line : List ℕ) (lines : List (List ℕ))
     → ((next : Table) → table_after (number + 1) next lines ≡ Ok new → After next new lines)
-    → (o : Option Said) → said line ≡ o → or_bad number (option_and_then (with_line old) o) (λ next. table_after (number + 1) next lines) ≡ Ok new → After old new (line ∷ lines)
+    → (o : Option Said) → line_says line ≡ o → or_bad number (option_and_then (table_with_line old) o) (λ next. table_after (number + 1) next lines) ≡ Ok new → After old new (line ∷ lines)
 after_said number old new line lines later None says h = cc
-after_said number old new line lines later (Some s) says h = after_next number old new line lines s says later (with_line old s) refl h
+after_said number old new line lines later (Some s) says h = after_next number old new line lines s says later (table_with_line old s) refl h
 
 after_lines : (number : ℕ) (old new : Table) (lines : List (List ℕ)) → table_after number old lines ≡ Ok new → After old new lines
 after_lines number old new [] h = let same : old ≡ new = cc in subst (λ t. After old t []) same (after_none old)
-after_lines number old new (line ∷ lines) h = after_said number old new line lines (λ next. after_lines (number + 1) next new lines) (said line) refl h
+after_lines number old new (line ∷ lines) h = after_said number old new line lines (λ next. after_lines (number + 1) next new lines) (line_says line) refl h
 
 pub told : (input : List ℕ) (table : Table) → table_of input ≡ Ok table → Tells (script_lines input) table
 unfolding table_of
@@ -127,7 +127,7 @@ told input table h =
 -- the same as `IsBad`, where rows may have begun before these lines
 abbrev BadIn : Bool → List (List ℕ) → ℕ → Type 0
 BadIn begun lines i =
-    (line : List ℕ) × (slice_get lines i ≡ Some line) × ((said line ≡ None) ⊎ ((text : List ℕ) × (said line ≡ Some (Cell text)) × (begun ≡ false) × NoRowBefore lines i))
+    (line : List ℕ) × (slice_get lines i ≡ Some line) × ((line_says line ≡ None) ⊎ ((text : List ℕ) × (line_says line ≡ Some (Cell text)) × (begun ≡ false) × NoRowBefore lines i))
 
 abbrev begins_row : Said → Bool
 begins_row Row = true
@@ -155,7 +155,7 @@ no_row_said (Columns n) never = refl
 no_row_said (Set setting) never = refl
 no_row_said (Cell text) never = refl
 
-bad_below : (begun : Bool) (line : List ℕ) (lines : List (List ℕ)) (s : Said) (i : ℕ) → said line ≡ Some s → BadIn begun (line ∷ lines) (suc i) → BadIn (begun || begins_row s) lines i
+bad_below : (begun : Bool) (line : List ℕ) (lines : List (List ℕ)) (s : Said) (i : ℕ) → line_says line ≡ Some s → BadIn begun (line ∷ lines) (suc i) → BadIn (begun || begins_row s) lines i
 bad_below begun line lines s i says bad = (
   bad.0,
   bad.1,
@@ -167,7 +167,7 @@ bad_below begun line lines s i says bad = (
   ],
 )
 
-bad_above : (begun : Bool) (line : List ℕ) (lines : List (List ℕ)) (s : Said) (i : ℕ) → said line ≡ Some s → BadIn (begun || begins_row s) lines i → BadIn begun (line ∷ lines) (suc i)
+bad_above : (begun : Bool) (line : List ℕ) (lines : List (List ℕ)) (s : Said) (i : ℕ) → line_says line ≡ Some s → BadIn (begun || begins_row s) lines i → BadIn begun (line ∷ lines) (suc i)
 bad_above begun line lines s i says bad = (
   bad.0,
   bad.1,
@@ -179,14 +179,14 @@ bad_above begun line lines s i says bad = (
   ],
 )
   where
-    no_row_above : (line : List ℕ) (lines : List (List ℕ)) (s : Said) (i : ℕ) → said line ≡ Some s → begins_row s ≡ false → NoRowBefore lines i → NoRowBefore (line ∷ lines) (suc i)
+    no_row_above : (line : List ℕ) (lines : List (List ℕ)) (s : Said) (i : ℕ) → line_says line ≡ Some s → begins_row s ≡ false → NoRowBefore lines i → NoRowBefore (line ∷ lines) (suc i)
     no_row_above line lines s i says no_row rest zero other before at row =
         let this : line ≡ other = same_Some _ _ at in
-        let begins : s ≡ Row = same_Some _ _ (sym says ∙ ap said this ∙ row) in
+        let begins : s ≡ Row = same_Some _ _ (sym says ∙ ap line_says this ∙ row) in
         cc (no_row, ap begins_row begins)
     no_row_above line lines s i says no_row rest (suc j) other before at row = rest j other (omega arith) at row
 
-rows_after : (old next : Table) (s : Said) → with_line old s ≡ Some next → has_rows next ≡ has_rows old || begins_row s
+rows_after : (old next : Table) (s : Said) → table_with_line old s ≡ Some next → has_rows next ≡ has_rows old || begins_row s
 rows_after old next Nothing w = ap has_rows (sym (same_Some _ _ w)) ∙ or_false (has_rows old)
 rows_after old next (Columns n) w = ap has_rows (sym (same_Some _ _ w)) ∙ or_false (has_rows old)
 rows_after old next (Set setting) w = ap has_rows (sym (same_Some _ _ w)) ∙ or_false (has_rows old)
@@ -198,25 +198,25 @@ rows_after old next (Cell text) w =
     ap has_rows (sym onto.2) ∙ ap (λ n. nat_lt 0 n) (length-onto_last old.rows onto.0 text onto.1) ∙ or_false (has_rows old)
 
 -- a line after which there is a table is not bad
-good_first : (old next : Table) (s : Said) (line : List ℕ) (lines : List (List ℕ)) → said line ≡ Some s → with_line old s ≡ Some next → ¬ (BadIn (has_rows old) (line ∷ lines) 0)
+good_first : (old next : Table) (s : Said) (line : List ℕ) (lines : List (List ℕ)) → line_says line ≡ Some s → table_with_line old s ≡ Some next → ¬ (BadIn (has_rows old) (line ∷ lines) 0)
 good_first old next s line lines says w bad =
     let this : line ≡ bad.0 = same_Some _ _ bad.1 in
     elim bad.2 [
-      | inl none ↦ none-some s (sym none ∙ ap said (sym this) ∙ says)
+      | inl none ↦ none-some s (sym none ∙ ap line_says (sym this) ∙ says)
       | inr cell ↦
-          let same : s ≡ Cell cell.0 = same_Some _ _ (sym says ∙ ap said this ∙ cell.1) in
+          let same : s ≡ Cell cell.0 = same_Some _ _ (sym says ∙ ap line_says this ∙ cell.1) in
           let empty : old.rows ≡ [] = no_rows old.rows cell.2 in
-          let none : with_line old (Cell cell.0) ≡ None = ap (λ rows. option_map (λ more. record old { rows = more }) (onto_last rows cell.0)) empty in
-          none-some next (sym none ∙ ap (with_line old) (sym same) ∙ w)
+          let none : table_with_line old (Cell cell.0) ≡ None = ap (λ rows. option_map (λ more. record old { rows = more }) (onto_last rows cell.0)) empty in
+          none-some next (sym none ∙ ap (table_with_line old) (sym same) ∙ w)
     ]
   where
     no_rows : (rows : List (List (List ℕ))) → nat_lt 0 (length rows) ≡ false → rows ≡ []
     no_rows [] h = refl
     no_rows (row ∷ rows) h = let some : nat_lt 0 (length (row ∷ rows)) ≡ true = lt-ltb _ _ (omega arith) in cc
 
-no_bad_next : (number : ℕ) (old new : Table) (line : List ℕ) (lines : List (List ℕ)) (s : Said) → said line ≡ Some s
+no_bad_next : (number : ℕ) (old new : Table) (line : List ℕ) (lines : List (List ℕ)) (s : Said) → line_says line ≡ Some s
     → ((next : Table) → table_after (number + 1) next lines ≡ Ok new → (i : ℕ) → ¬ (BadIn (has_rows next) lines i))
-    → (o : Option Table) → with_line old s ≡ o → or_bad number o (λ next. table_after (number + 1) next lines) ≡ Ok new → (i : ℕ) → ¬ (BadIn (has_rows old) (line ∷ lines) i)
+    → (o : Option Table) → table_with_line old s ≡ o → or_bad number o (λ next. table_after (number + 1) next lines) ≡ Ok new → (i : ℕ) → ¬ (BadIn (has_rows old) (line ∷ lines) i)
 no_bad_next number old new line lines s says later None w h i bad = cc
 no_bad_next number old new line lines s says later (Some next) w h zero bad = good_first old next s line lines says w bad
 no_bad_next number old new line lines s says later (Some next) w h (suc i) bad =
@@ -224,13 +224,13 @@ no_bad_next number old new line lines s says later (Some next) w h (suc i) bad =
 
 no_bad_said : (number : ℕ) (old new : Table) (line : List ℕ) (lines : List (List ℕ))
     → ((next : Table) → table_after (number + 1) next lines ≡ Ok new → (i : ℕ) → ¬ (BadIn (has_rows next) lines i))
-    → (o : Option Said) → said line ≡ o → or_bad number (option_and_then (with_line old) o) (λ next. table_after (number + 1) next lines) ≡ Ok new → (i : ℕ) → ¬ (BadIn (has_rows old) (line ∷ lines) i)
+    → (o : Option Said) → line_says line ≡ o → or_bad number (option_and_then (table_with_line old) o) (λ next. table_after (number + 1) next lines) ≡ Ok new → (i : ℕ) → ¬ (BadIn (has_rows old) (line ∷ lines) i)
 no_bad_said number old new line lines later None says h = cc
-no_bad_said number old new line lines later (Some s) says h = no_bad_next number old new line lines s says later (with_line old s) refl h
+no_bad_said number old new line lines later (Some s) says h = no_bad_next number old new line lines s says later (table_with_line old s) refl h
 
 no_bad : (number : ℕ) (old new : Table) (lines : List (List ℕ)) → table_after number old lines ≡ Ok new → (i : ℕ) → ¬ (BadIn (has_rows old) lines i)
 no_bad number old new [] h = λ i bad. none-some bad.0 bad.1
-no_bad number old new (line ∷ lines) h = no_bad_said number old new line lines (λ next. no_bad (number + 1) next new lines) (said line) refl h
+no_bad number old new (line ∷ lines) h = no_bad_said number old new line lines (λ next. no_bad (number + 1) next new lines) (line_says line) refl h
 
 -- ---- the first bad line
 
@@ -238,13 +238,13 @@ record FirstBadIn (begun : Bool) (lines : List (List ℕ)) (i : ℕ) : Type 0 wh
   bad : BadIn begun lines i
   first : (j : ℕ) → j < i → ¬ (BadIn begun lines j)
 
-bad_here : (begun : Bool) (line : List ℕ) (lines : List (List ℕ)) → (said line ≡ None) ⊎ ((text : List ℕ) × (said line ≡ Some (Cell text)) × (begun ≡ false)) → FirstBadIn begun (line ∷ lines) 0
+bad_here : (begun : Bool) (line : List ℕ) (lines : List (List ℕ)) → (line_says line ≡ None) ⊎ ((text : List ℕ) × (line_says line ≡ Some (Cell text)) × (begun ≡ false)) → FirstBadIn begun (line ∷ lines) 0
 bad_here begun line lines why = record {
   bad = (line, refl, elim why [ inl none ↦ inl none | inr cell ↦ inr (cell.0, cell.1, cell.2, λ j other before at. absurd (omega arith)) ]);
   first = λ j before. absurd (omega arith);
 }
 
-bad_later : (old next : Table) (s : Said) (line : List ℕ) (lines : List (List ℕ)) (i : ℕ) → said line ≡ Some s → with_line old s ≡ Some next → FirstBadIn (has_rows next) lines i
+bad_later : (old next : Table) (s : Said) (line : List ℕ) (lines : List (List ℕ)) (i : ℕ) → line_says line ≡ Some s → table_with_line old s ≡ Some next → FirstBadIn (has_rows next) lines i
     → FirstBadIn (has_rows old) (line ∷ lines) (suc i)
 bad_later old next s line lines i says w later = record {
   bad = bad_above (has_rows old) line lines s i says (subst (λ b. BadIn b lines i) (rows_after old next s w) later.bad);
@@ -256,7 +256,7 @@ bad_later old next s line lines i says w later = record {
     before (suc j) less bad = later.first j (omega arith) (subst (λ b. BadIn b lines j) (sym (rows_after old next s w)) (bad_below (has_rows old) line lines s j says bad))
 
 -- only a cell before the first row is refused by the table
-refused_cell : (old : Table) (s : Said) → with_line old s ≡ None → (text : List ℕ) × (s ≡ Cell text) × (has_rows old ≡ false)
+refused_cell : (old : Table) (s : Said) → table_with_line old s ≡ None → (text : List ℕ) × (s ≡ Cell text) × (has_rows old ≡ false)
 refused_cell old Nothing w = cc
 refused_cell old (Columns n) w = cc
 refused_cell old (Set setting) w = cc
@@ -267,12 +267,12 @@ refused_cell old (Cell text) w = (text, refl, ap (λ rows. nat_lt 0 (length rows
     nothing None h = refl
     nothing (Some rows) h = cc
 
-abbrev Found : ℕ → ℕ → Table → List (List ℕ) → Type 0
-Found number m old lines = (i : ℕ) × (m ≡ number + i) × FirstBadIn (has_rows old) lines i
+abbrev LayoutResult : ℕ → ℕ → Table → List (List ℕ) → Type 0
+LayoutResult number m old lines = (i : ℕ) × (m ≡ number + i) × FirstBadIn (has_rows old) lines i
 
-found_next : (number m : ℕ) (old : Table) (line : List ℕ) (lines : List (List ℕ)) (s : Said) → said line ≡ Some s
-    → ((next : Table) → table_after (number + 1) next lines ≡ Err m → Found (number + 1) m next lines)
-    → (o : Option Table) → with_line old s ≡ o → or_bad number o (λ next. table_after (number + 1) next lines) ≡ Err m → Found number m old (line ∷ lines)
+found_next : (number m : ℕ) (old : Table) (line : List ℕ) (lines : List (List ℕ)) (s : Said) → line_says line ≡ Some s
+    → ((next : Table) → table_after (number + 1) next lines ≡ Err m → LayoutResult (number + 1) m next lines)
+    → (o : Option Table) → table_with_line old s ≡ o → or_bad number o (λ next. table_after (number + 1) next lines) ≡ Err m → LayoutResult number m old (line ∷ lines)
 found_next number m old line lines s says later None w h =
     let cell = refused_cell old s w in
     let same : number ≡ m = cc in
@@ -282,14 +282,14 @@ found_next number m old line lines s says later (Some next) w h =
     (suc rest.0, omega (arith, rest.1), bad_later old next s line lines rest.0 says w rest.2)
 
 found_said : (number m : ℕ) (old : Table) (line : List ℕ) (lines : List (List ℕ))
-    → ((next : Table) → table_after (number + 1) next lines ≡ Err m → Found (number + 1) m next lines)
-    → (o : Option Said) → said line ≡ o → or_bad number (option_and_then (with_line old) o) (λ next. table_after (number + 1) next lines) ≡ Err m → Found number m old (line ∷ lines)
+    → ((next : Table) → table_after (number + 1) next lines ≡ Err m → LayoutResult (number + 1) m next lines)
+    → (o : Option Said) → line_says line ≡ o → or_bad number (option_and_then (table_with_line old) o) (λ next. table_after (number + 1) next lines) ≡ Err m → LayoutResult number m old (line ∷ lines)
 found_said number m old line lines later None says h = let same : number ≡ m = cc in (0, omega arith, bad_here (has_rows old) line lines (inl says))
-found_said number m old line lines later (Some s) says h = found_next number m old line lines s says later (with_line old s) refl h
+found_said number m old line lines later (Some s) says h = found_next number m old line lines s says later (table_with_line old s) refl h
 
-found_bad : (number m : ℕ) (old : Table) (lines : List (List ℕ)) → table_after number old lines ≡ Err m → Found number m old lines
+found_bad : (number m : ℕ) (old : Table) (lines : List (List ℕ)) → table_after number old lines ≡ Err m → LayoutResult number m old lines
 found_bad number m old [] h = cc
-found_bad number m old (line ∷ lines) h = found_said number m old line lines (λ next. found_bad (number + 1) m next lines) (said line) refl h
+found_bad number m old (line ∷ lines) h = found_said number m old line lines (λ next. found_bad (number + 1) m next lines) (line_says line) refl h
 
 is_bad : (lines : List (List ℕ)) (i : ℕ) → BadIn false lines i → IsBad lines i
 is_bad lines i bad = (bad.0, bad.1, elim bad.2 [ inl none ↦ inl none | inr cell ↦ inr (cell.0, cell.1, cell.3) ])

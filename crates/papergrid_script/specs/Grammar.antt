@@ -58,8 +58,8 @@ number_of digits =
     then Some (digits_value 10 digits) else None
 
 -- a row and a column with a comma between them
-unfoldable pub position_of : List ℕ → Option Position
-position_of spelled = option_map positions.position_of (pair_at comma number_of number_of spelled)
+unfoldable pub position_said : List ℕ → Option Position
+position_said spelled = option_map positions.position_of (pair_at comma number_of number_of spelled)
 
 -- a star, a c or r with a number, or a cell
 unfoldable pub entity_of : List ℕ → Option Entity
@@ -67,7 +67,7 @@ entity_of spelled =
     if bytes_eq spelled (codes "*") then Some entities.Global
     else if starts_with nat_eq spelled (codes "c") then option_map entities.Column (number_of (drop 1 spelled))
     else if starts_with nat_eq spelled (codes "r") then option_map entities.Row (number_of (drop 1 spelled))
-    else option_map (λ (place : Position). entities.Cell place.row place.col) (position_of spelled)
+    else option_map (λ (place : Position). entities.Cell place.row place.col) (position_said spelled)
 
 -- ---- paddings
 
@@ -95,7 +95,7 @@ padding_of spelled = option_map (λ p. SetPadding p.0 p.1) (pair_at space entity
 
 -- a position, and a number of columns or rows after it and a space
 unfoldable pub placed_span : List ℕ → Option (Position × ℕ)
-placed_span spelled = pair_at space position_of number_of spelled
+placed_span spelled = pair_at space position_said number_of spelled
 
 -- ---- borders and lines
 
@@ -162,8 +162,8 @@ text_says line =
     else (parted_at space line >>= λ parts. keyword_says parts.0 parts.1)
 
 -- what a line says, if it is text and says anything
-unfoldable pub said : List ℕ → Option Said
-said line = if is_utf8 line then text_says line else None
+unfoldable pub line_says : List ℕ → Option Said
+line_says line = if is_utf8 line then text_says line else None
 
 -- ---- all lines of a script
 

@@ -1,7 +1,7 @@
 -- What a whole script tells, or its first bad line.
 use Rattle.std.specs.Prelude.{ℕ, ◌+◌, ◌-◌, length, slice_get, slice_set, List, [], ◌∷◌, ◌++◌, Option, Some, None, option_map, option_and_then, Result, Ok, Err}
 use Rattle.papergrid_config.specs.declared.setting.Setting.{Setting}
-use Rattle.papergrid_script.specs.Grammar.{Said, Nothing, Columns, Set, Row, Cell, said, script_lines}
+use Rattle.papergrid_script.specs.Grammar.{Said, Nothing, Columns, Set, Row, Cell, line_says, script_lines}
 
 -- a column count, the settings in their order, and the texts of the cells of each row
 pub record Table : Type 0 where
@@ -19,12 +19,12 @@ onto_last rows text =
     option_map (λ row. slice_set rows (length rows - 1) (row ++ text ∷ [])) (slice_get rows (length rows - 1))
 
 -- the table after one more line; none where a cell comes before the first row
-abbrev pub with_line : Table → Said → Option Table
-with_line table Nothing = Some table
-with_line table (Columns n) = Some (record table { columns = n })
-with_line table (Set setting) = Some (record table { settings = table.settings ++ setting ∷ [] })
-with_line table Row = Some (record table { rows = table.rows ++ [] ∷ [] })
-with_line table (Cell text) = option_map (λ rows. record table { rows = rows }) (onto_last table.rows text)
+abbrev pub table_with_line : Table → Said → Option Table
+table_with_line table Nothing = Some table
+table_with_line table (Columns n) = Some (record table { columns = n })
+table_with_line table (Set setting) = Some (record table { settings = table.settings ++ setting ∷ [] })
+table_with_line table Row = Some (record table { rows = table.rows ++ [] ∷ [] })
+table_with_line table (Cell text) = option_map (λ rows. record table { rows = rows }) (onto_last table.rows text)
 
 -- on with the table after a line, or the number of the line where there is none
 abbrev pub or_bad : ℕ → Option Table → (Table → Result Table ℕ) → Result Table ℕ
@@ -35,7 +35,7 @@ or_bad number (Some table) go_on = go_on table
 abbrev pub table_after : ℕ → Table → List (List ℕ) → Result Table ℕ
 table_after number table [] = Ok table
 table_after number table (line ∷ lines) =
-    or_bad number (option_and_then (with_line table) (said line)) (λ next. table_after (number + 1) next lines)
+    or_bad number (option_and_then (table_with_line table) (line_says line)) (λ next. table_after (number + 1) next lines)
 
 -- the table that a script tells, or the number of its first bad line
 unfoldable pub table_of : List ℕ → Result Table ℕ

@@ -2,19 +2,19 @@
 use Rattle.std.specs.Prelude.{◌≡◌, ◌≢◌, ◌⊎◌, ℕ, ◌<◌, Bool, true, false, List, [], ◌∷◌, map, filter, flat_map, Option, Some, None, slice_get}
 use Rattle.std.specs.List.{filter_map}
 use Rattle.papergrid_config.specs.declared.setting.Setting.{Setting}
-use Rattle.papergrid_script.specs.Grammar.{Said, Columns, Set, Row, Cell, said}
+use Rattle.papergrid_script.specs.Grammar.{Said, Columns, Set, Row, Cell, line_says}
 use Rattle.papergrid_script.specs.Scripts.{Table}
 
 -- ---- bad lines
 
 -- no line before the i-th begins a row
 abbrev pub NoRowBefore : List (List ℕ) → ℕ → Type 0
-NoRowBefore lines i = (j : ℕ) (line : List ℕ) → j < i → slice_get lines j ≡ Some line → said line ≢ Some Row
+NoRowBefore lines i = (j : ℕ) (line : List ℕ) → j < i → slice_get lines j ≡ Some line → line_says line ≢ Some Row
 
 -- the i-th line is bad, the first being the 0-th: it says nothing that a line may say, or adds a cell before the first row
 abbrev pub IsBad : List (List ℕ) → ℕ → Type 0
 IsBad lines i =
-    (line : List ℕ) × (slice_get lines i ≡ Some line) × ((said line ≡ None) ⊎ ((text : List ℕ) × (said line ≡ Some (Cell text)) × NoRowBefore lines i))
+    (line : List ℕ) × (slice_get lines i ≡ Some line) × ((line_says line ≡ None) ⊎ ((text : List ℕ) × (line_says line ≡ Some (Cell text)) × NoRowBefore lines i))
 
 -- the i-th line is bad, and none before it is
 pub record IsFirstBad (lines : List (List ℕ)) (i : ℕ) : Type 0 where
@@ -52,7 +52,7 @@ rows_said rows = flat_map (λ texts. Row ∷ map Cell texts) rows
 -- and the rows are those of which the script says the beginnings and the cells
 pub record Tells (lines : List (List ℕ)) (table : Table) : Type 0 where
   pub saids : List Said
-  pub each : map said lines ≡ map (λ s. Some s) saids
+  pub each : map line_says lines ≡ map (λ s. Some s) saids
   pub columns_last : table.columns ≡ last_or 0 (filter_map columns_said saids)
   pub settings_all : table.settings ≡ filter_map setting_said saids
   pub rows_all : rows_said table.rows ≡ filter is_of_rows saids

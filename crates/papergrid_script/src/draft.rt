@@ -2,8 +2,8 @@
 
 ghost use Rattle.std.specs.Prelude.{◌≡◌, IfOk, OnOk, Some};
 ghost use Rattle.papergrid_script.specs.Grammar.{Row, Cell};
-ghost use Rattle.papergrid_script.specs.Scripts.{empty_table, with_line};
-ghost use Rattle.papergrid_script.specs.ForProofs.Seen.{Takes, rows_seen, table_seen, table_so_far, texts_of, with_last};
+ghost use Rattle.papergrid_script.specs.Scripts.{empty_table, table_with_line};
+ghost use Rattle.papergrid_script.specs.ForProofs.Seen.{Takes, rows_seen, table_seen, table_so_far, row_texts_of, with_last};
 
 use crate::script::Script;
 use crate::script_setting::ScriptSetting;
@@ -43,7 +43,7 @@ impl<'a> Draft<'a> {
     /// Begins a row.
     pub fn add_row(&mut self) -> Result<(), AllocError>
         ensures { OnOk result
-            (with_line (table_so_far self.old) Row ≡ Some (table_so_far self.new)) }
+            (table_with_line (table_so_far self.old) Row ≡ Some (table_so_far self.new)) }
     {
         end_row(self.arena, &mut self.rows, self.last.as_slice())?;
         self.rows.push(&[])?;
@@ -89,7 +89,7 @@ fn end_row<'a>(
     cells: &[&'a str],
 ) -> Result<(), AllocError>
     ensures { OnOk result (rows_seen rows.new.items
-        ≡ with_last (rows_seen rows.old.items) (texts_of cells.now)) }
+        ≡ with_last (rows_seen rows.old.items) (row_texts_of cells.now)) }
 {
     match rows.last_mut() {
         None => Ok(()),

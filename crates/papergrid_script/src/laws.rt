@@ -3,7 +3,7 @@
 ghost use Rattle.std.specs.Prelude.{◌≡◌, ◌+◌, ℕ, All, IsUtf8, List, Some, Ok, Err, true};
 ghost use Rattle.papergrid_values.specs.declared.entity.Entity.{Entity};
 ghost use Rattle.papergrid_config.specs.Applied.{is_in_range};
-ghost use Rattle.papergrid_script.specs.Grammar.{Said, entity_of, number_of, said, script_lines};
+ghost use Rattle.papergrid_script.specs.Grammar.{Said, entity_of, number_of, line_says, script_lines};
 ghost use Rattle.papergrid_script.specs.ScriptLines.{AreScriptLines};
 ghost use Rattle.papergrid_script.specs.Scripts.{Table, table_of};
 ghost use Rattle.papergrid_script.specs.Spelling.{IsEntity, IsLine, IsNumber};
@@ -25,9 +25,9 @@ pub fn entity_form()
 
 /// A line is read exactly where it is text that is spelled so.
 pub fn line_form()
-    ensures read { (line : List ℕ) (s : Said) → said line ≡ Some s → IsUtf8 line × IsLine line s }
+    ensures read { (line : List ℕ) (s : Said) → line_says line ≡ Some s → IsUtf8 line × IsLine line s }
     ensures spelled { (line : List ℕ) (s : Said) →
-        IsUtf8 line → IsLine line s → said line ≡ Some s }
+        IsUtf8 line → IsLine line s → line_says line ≡ Some s }
 {}
 
 /// The lines of an input are the one list of newline-free pieces that joins to it, without an empty last piece,

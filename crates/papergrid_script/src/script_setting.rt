@@ -2,7 +2,7 @@
 
 ghost use Rattle.std.specs.Prelude.{◌≡◌, ◌∷◌, [], All, IfOk, IsOk, OnOk, map, true};
 ghost use Rattle.papergrid_config.specs.Applied.{is_free};
-ghost use Rattle.papergrid_config.specs.Told.{Appends, IsTold};
+ghost use Rattle.papergrid_config.specs.History.{AppendsSettings, HasSettingHistory};
 ghost use Rattle.papergrid_script.specs.ForProofs.Settings.{setting_told, spaced_sides};
 
 use papergrid_config::SpannedConfig;
@@ -33,7 +33,7 @@ pub enum ScriptSetting {
 impl ScriptSetting {
     /// Makes the call of a configuration that the setting is, or is out of memory.
     fn apply(self, config: &mut SpannedConfig) -> Result<(), AllocError>
-        ensures told { OnOk result (Appends config.old config.new (setting_told self ∷ [])) }
+        ensures told { OnOk result (AppendsSettings config.old config.new (setting_told self ∷ [])) }
         ensures free { is_free (setting_told self) ≡ true → IsOk result }
     {
         match self {
@@ -77,7 +77,7 @@ pub fn configuration_of(
     alloc: Global,
     settings: Vec<ScriptSetting>,
 ) -> Result<SpannedConfig, AllocError>
-    ensures told { IfOk result (λ config. IsTold (map setting_told settings.items) config) }
+    ensures told { IfOk result (λ config. HasSettingHistory (map setting_told settings.items) config) }
     ensures free { All (λ setting. is_free (setting_told setting) ≡ true) settings.items →
         IsOk result }
 {

@@ -2,7 +2,7 @@
 
 ghost use Rattle.std.specs.Prelude.{◌≡◌, option_map};
 ghost use Rattle.papergrid_script.specs.ForProofs.Settings.{setting_told, spaced_sides};
-ghost use Rattle.papergrid_script.specs.Grammar.{character_of, entity_of, padding_of, placed_character, placed_span, position_of, setting_of, sides_of};
+ghost use Rattle.papergrid_script.specs.Grammar.{character_of, entity_of, padding_of, placed_character, placed_span, position_said, setting_of, sides_of};
 
 use crate::cut::split_at_byte;
 use crate::number::number;
@@ -88,9 +88,9 @@ fn entity(spelled: &str) -> Option<Entity>
 }
 
 /// The position at a row and a column with a comma between them.
-#[tactic(auto, unfolding(crate::specs::Grammar::position_of))]
+#[tactic(auto, unfolding(crate::specs::Grammar::position_said))]
 fn position(spelled: &str) -> Option<Position>
-    ensures { result ≡ position_of spelled.now }
+    ensures { result ≡ position_said spelled.now }
 {
     let (row, col) = split_at_byte(spelled, b',')?;
     Some(Position::new(number(row)?, number(col)?))

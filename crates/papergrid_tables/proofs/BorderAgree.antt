@@ -6,8 +6,8 @@ use Rattle.std.specs.Option.{option_eq}
 use Rattle.std.proofs.lemmas.Bool.{and_from, and_parts}
 use Rattle.papergrid_values.specs.Borders.{frame_parts}
 use Rattle.papergrid_values.specs.Lines.{horizontal_parts, vertical_parts}
-use Rattle.papergrid_keys.proofs.EqualLemmas.{numbers_agree, places_agree}
-use Rattle.papergrid_tables.specs.BorderHeld.{HeldBorders, places_of}
+use Rattle.papergrid_keys.proofs.EqualLemmas.{numbers_agree, positions_agree}
+use Rattle.papergrid_tables.specs.StoredBorders.{StoredBorders, parts_of_borders}
 use Rattle.papergrid_tables.specs.BorderSame.{HoldTheSameBorders, same_parts}
 use Rattle.papergrid_tables.specs.ForProofs.BorderEq.{borders_eq, horizontal_line_eq, parts_eq, vertical_line_eq}
 
@@ -25,13 +25,13 @@ module _ {T : Type 0} (eq : T → T → Bool) where
   lines_pointwise parts (Some l) None = refl
   lines_pointwise parts (Some l) (Some m) = parts_pointwise (parts l) (parts m)
 
-  pub borders_agree : (s t : HeldBorders T) → (borders_eq eq s t ≡ true) ↔ HoldTheSameBorders eq (places_of s) (places_of t)
+  pub borders_agree : (s t : StoredBorders T) → (borders_eq eq s t ≡ true) ↔ HoldTheSameBorders eq (parts_of_borders s) (parts_of_borders t)
   borders_agree s t = (there, back)
     where
       frames : parts_eq eq (frame_parts s.frame) (frame_parts t.frame) ≡ same_parts eq (frame_parts s.frame) (frame_parts t.frame)
       frames = parts_pointwise (frame_parts s.frame) (frame_parts t.frame)
 
-      there : borders_eq eq s t ≡ true → HoldTheSameBorders eq (places_of s) (places_of t)
+      there : borders_eq eq s t ≡ true → HoldTheSameBorders eq (parts_of_borders s) (parts_of_borders t)
       there h =
           let a = and_parts _ _ h in
           let b = and_parts _ _ a.1 in
@@ -46,12 +46,12 @@ module _ {T : Type 0} (eq : T → T → Bool) where
                 ∙ (numbers_agree (horizontal_line_eq eq) s.horizontal_lines t.horizontal_lines).0 c.0 n;
             vertical_line = λ n. sym (lines_pointwise vertical_parts (get s.vertical_lines n) (get t.vertical_lines n))
                 ∙ (numbers_agree (vertical_line_eq eq) s.vertical_lines t.vertical_lines).0 d.0 n;
-            horizontal_edge = (places_agree eq s.horizontal_edges t.horizontal_edges).0 e.0;
-            vertical_edge = (places_agree eq s.vertical_edges t.vertical_edges).0 f.0;
-            corner = (places_agree eq s.corners t.corners).0 f.1;
+            horizontal_edge = (positions_agree eq s.horizontal_edges t.horizontal_edges).0 e.0;
+            vertical_edge = (positions_agree eq s.vertical_edges t.vertical_edges).0 f.0;
+            corner = (positions_agree eq s.corners t.corners).0 f.1;
           }
 
-      back : HoldTheSameBorders eq (places_of s) (places_of t) → borders_eq eq s t ≡ true
+      back : HoldTheSameBorders eq (parts_of_borders s) (parts_of_borders t) → borders_eq eq s t ≡ true
       back h =
           and_from _ _ h.global
           (and_from _ _ (frames ∙ h.frame)
@@ -59,6 +59,6 @@ module _ {T : Type 0} (eq : T → T → Bool) where
           (λ n. lines_pointwise horizontal_parts (get s.horizontal_lines n) (get t.horizontal_lines n) ∙ h.horizontal_line n))
           (and_from _ _ ((numbers_agree (vertical_line_eq eq) s.vertical_lines t.vertical_lines).1
           (λ n. lines_pointwise vertical_parts (get s.vertical_lines n) (get t.vertical_lines n) ∙ h.vertical_line n))
-          (and_from _ _ ((places_agree eq s.horizontal_edges t.horizontal_edges).1 h.horizontal_edge)
-          (and_from _ _ ((places_agree eq s.vertical_edges t.vertical_edges).1 h.vertical_edge)
-          ((places_agree eq s.corners t.corners).1 h.corner))))))
+          (and_from _ _ ((positions_agree eq s.horizontal_edges t.horizontal_edges).1 h.horizontal_edge)
+          (and_from _ _ ((positions_agree eq s.vertical_edges t.vertical_edges).1 h.vertical_edge)
+          ((positions_agree eq s.corners t.corners).1 h.corner))))))

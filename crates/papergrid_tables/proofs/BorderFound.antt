@@ -14,12 +14,12 @@ use Rattle.papergrid_values.specs.declared.position.Position.{Position}
 use Rattle.papergrid_values.specs.declared.borders.Borders.{Borders}
 use Rattle.papergrid_values.specs.declared.horizontal_line.HorizontalLine.{HorizontalLine}
 use Rattle.papergrid_values.specs.declared.vertical_line.VerticalLine.{VerticalLine}
-use Rattle.papergrid_tables.specs.BorderHeld.{IsTold}
+use Rattle.papergrid_tables.specs.StoredBorders.{HasBorderHistory}
 use Rattle.papergrid_tables.specs.BorderScan.{has_end}
 use Rattle.papergrid_keys.specs.Keys.{position_eq}
-use Rattle.papergrid_tables.specs.Places.{HasEnd, Places}
+use Rattle.papergrid_tables.specs.BorderParts.{HasEnd, BorderParts}
 use Rattle.papergrid_keys.proofs.AnyLemmas.{any_found, any_from_found}
-use Rattle.papergrid_tables.proofs.BorderTold.{table_of}
+use Rattle.papergrid_tables.proofs.BorderHistory.{table_of}
 use Rattle.papergrid_keys.proofs.KeyLemmas.{get_at_number, get_at_position, position_equiv}
 use Rattle.papergrid_keys.proofs.EntryLemmas.{no_entries, none_of_nothing}
 
@@ -139,7 +139,7 @@ unset (Some x) false h = refl
 pub bare : {T : Type 0} (g : Option T) (f : Borders T) (hl : List (ℕ × HorizontalLine T)) (vl : List (ℕ × VerticalLine T)) (he ve ks : List (Position × T)) (a b c d e h k : Bool)
     → a ≡ is_none g → b ≡ none_set (frame_parts f) → (IsTrue c ↔ (length hl ≡ 0)) → (IsTrue d ↔ (length vl ≡ 0))
     → (IsTrue e ↔ (length he ≡ 0)) → (IsTrue h ↔ (length ve ≡ 0)) → (IsTrue k ↔ (length ks ≡ 0))
-    → IsTrue (a && (b && ((c && d) && (e && (h && k))))) ↔ IsTold [] (table_of g f hl vl he ve ks)
+    → IsTrue (a && (b && ((c && d) && (e && (h && k))))) ↔ HasBorderHistory [] (table_of g f hl vl he ve ks)
 bare {T} g f hl vl he ve ks a b c d e h k global frame horizontal_lines vertical_lines horizontal_edges vertical_edges corners = (
   (λ all.
       let one = and_parts a _ all in
@@ -158,10 +158,10 @@ bare {T} g f hl vl he ve ks a b c d e h k global frame horizontal_lines vertical
         corner = λ p. (get_at_position ks p ∙ none_of_nothing position_eq ks (corners.0 last.1) p) i;
       }),
   (λ none.
-      and_from _ _ (global ∙ ap (λ (s : Places T). is_none s.global) none) (and_from _ _ (frame ∙ ap (λ (s : Places T). none_set (frame_parts s.frame)) none)
-      (and_from _ _ (and_from _ _ (horizontal_lines.1 (no_entries eqb nat_eq_equiv hl (λ n. sym (get_at_number hl n) ∙ ap (λ (s : Places T). s.horizontal_line n) none)))
-      (vertical_lines.1 (no_entries eqb nat_eq_equiv vl (λ n. sym (get_at_number vl n) ∙ ap (λ (s : Places T). s.vertical_line n) none))))
-      (and_from _ _ (horizontal_edges.1 (no_entries position_eq position_equiv he (λ p. sym (get_at_position he p) ∙ ap (λ (s : Places T). s.horizontal_edge p) none)))
-      (and_from _ _ (vertical_edges.1 (no_entries position_eq position_equiv ve (λ p. sym (get_at_position ve p) ∙ ap (λ (s : Places T). s.vertical_edge p) none)))
-      (corners.1 (no_entries position_eq position_equiv ks (λ p. sym (get_at_position ks p) ∙ ap (λ (s : Places T). s.corner p) none)))))))),
+      and_from _ _ (global ∙ ap (λ (s : BorderParts T). is_none s.global) none) (and_from _ _ (frame ∙ ap (λ (s : BorderParts T). none_set (frame_parts s.frame)) none)
+      (and_from _ _ (and_from _ _ (horizontal_lines.1 (no_entries eqb nat_eq_equiv hl (λ n. sym (get_at_number hl n) ∙ ap (λ (s : BorderParts T). s.horizontal_line n) none)))
+      (vertical_lines.1 (no_entries eqb nat_eq_equiv vl (λ n. sym (get_at_number vl n) ∙ ap (λ (s : BorderParts T). s.vertical_line n) none))))
+      (and_from _ _ (horizontal_edges.1 (no_entries position_eq position_equiv he (λ p. sym (get_at_position he p) ∙ ap (λ (s : BorderParts T). s.horizontal_edge p) none)))
+      (and_from _ _ (vertical_edges.1 (no_entries position_eq position_equiv ve (λ p. sym (get_at_position ve p) ∙ ap (λ (s : BorderParts T). s.vertical_edge p) none)))
+      (corners.1 (no_entries position_eq position_equiv ks (λ p. sym (get_at_position ks p) ∙ ap (λ (s : BorderParts T). s.corner p) none)))))))),
 )

@@ -70,30 +70,30 @@ module _ {L : Type 0} (is_set : L → Bool) where
 
   ends_put : {S : Type 0} (m n : HashMap ℕ L S) (k : ℕ) (line : L) (old : Option L) (had has : Bool) → old ≡ get eqb m k → PutsEntry eqb m n k line old → had ≡ is_end_set is_set old → has ≡ is_set line
       → count_by is_set (values n) + cond had 1 0 ≡ count_by is_set (values m) + cond has 1 0
-  ends_put m n k line old had has held puts was now =
-      let sums = sum_by_puts_entry (λ l. one_if (is_set l)) eqb m n k line old held puts in
+  ends_put m n k line old had has stored puts was now =
+      let sums = sum_by_puts_entry (λ l. one_if (is_set l)) eqb m n k line old stored puts in
       let old_weight = weight_of old ∙ ap one_if (sym was) in
       let new_weight = ap one_if now in
       omega (arith, sums, old_weight, new_weight)
 
   ends_taken : (is_key : ℕ → Bool) (es fs : List (ℕ × L)) (old : Option L) (had : Bool) → IsPermutation (remove_entry is_key es) fs → old ≡ lookup is_key es → had ≡ is_end_set is_set old
       → count_by is_set (values_of fs) + cond had 1 0 ≡ count_by is_set (values_of es)
-  ends_taken is_key es fs old had same held was =
+  ends_taken is_key es fs old had same stored was =
       let reordered = sum_by_values_permutation (λ l. one_if (is_set l)) (remove_entry is_key es) fs same in
       let sums = sum_by-remove_entry (λ l. one_if (is_set l)) is_key es in
-      let weight = ap (λ o. unwrap_or (option_map (λ l. one_if (is_set l)) o) 0) (sym held) ∙ weight_of old ∙ ap one_if (sym was) in
+      let weight = ap (λ o. unwrap_or (option_map (λ l. one_if (is_set l)) o) 0) (sym stored) ∙ weight_of old ∙ ap one_if (sym was) in
       omega (arith, reordered, sums, weight)
 
   -- the end of the line that was there is counted, and the count that changes by both ends is right again
   pub put_counted : {S : Type 0} (m n : HashMap ℕ L S) (k : ℕ) (line : L) (old : Option L) (had has : Bool) (count : ℕ) → old ≡ get eqb m k → PutsEntry eqb m n k line old → had ≡ is_end_set is_set old → has ≡ is_set line → count ≡ count_by is_set (values m)
       → (cond had 1 0 ≤ count + cond has 1 0) × ((new : ℕ) → new + cond had 1 0 ≡ count + cond has 1 0 → new ≡ count_by is_set (values n))
-  put_counted m n k line old had has count held puts was now counted =
-      let sums = ends_put m n k line old had has held puts was now in
+  put_counted m n k line old had has count stored puts was now counted =
+      let sums = ends_put m n k line old had has stored puts was now in
       (omega (arith, sums, counted), λ new changed. omega (arith, sums, counted, changed))
 
   -- the same where none comes in its place
   pub taken_counted : (is_key : ℕ → Bool) (es fs : List (ℕ × L)) (old : Option L) (had : Bool) (count : ℕ) → IsPermutation (remove_entry is_key es) fs → old ≡ lookup is_key es → had ≡ is_end_set is_set old → count ≡ count_by is_set (values_of es)
       → (cond had 1 0 ≤ count + 0) × ((new : ℕ) → new + cond had 1 0 ≡ count + 0 → new ≡ count_by is_set (values_of fs))
-  taken_counted is_key es fs old had count same held was counted =
-      let sums = ends_taken is_key es fs old had same held was in
+  taken_counted is_key es fs old had count same stored was counted =
+      let sums = ends_taken is_key es fs old had same stored was in
       (omega (arith, sums, counted), λ new changed. omega (arith, sums, counted, changed))

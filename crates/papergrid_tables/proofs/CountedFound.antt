@@ -13,10 +13,10 @@ use Rattle.papergrid_values.specs.Positions.{along}
 use Rattle.papergrid_values.specs.declared.direction.Direction.{Direction}
 use Rattle.papergrid_values.specs.declared.position.Position.{Position}
 use Rattle.papergrid_tables.specs.BorderScan.{has_end}
-use Rattle.papergrid_tables.specs.ForProofs.CountedLines.{AreEndsCounted, is_held, reaches}
+use Rattle.papergrid_tables.specs.ForProofs.CountedLines.{AreEndsCounted, is_stored, reaches}
 use Rattle.papergrid_tables.specs.ForProofs.Counts.{AreCounts, count_of}
 use Rattle.papergrid_keys.specs.Keys.{position_cmp}
-use Rattle.papergrid_tables.specs.Places.{EndsThere, HasEnd, StandsOn}
+use Rattle.papergrid_tables.specs.BorderParts.{EndsThere, HasEnd, StandsOn}
 use Rattle.papergrid_tables.specs.declared.counted_lines.Lines.{Lines}
 use Rattle.papergrid_tables.specs.declared.line_counts.LineCounts.{LineCounts}
 use Rattle.papergrid_keys.proofs.AnyLemmas.{any_from_found, some_key}
@@ -63,26 +63,26 @@ ends_counted first end place count lines b counted is =
     ends_scan first end place count es b (is ∙ (λ i. (eqb place 0 && firsts i) || (eqb place count && lasts i)) ∙ sym (any_end first end place count es)) counted.unique
 
 -- a place in a row or a column
-pub places_counted : {T R S : Type 0} (direction : Direction) (n : ℕ) (places : HashMap Position T R) (counts : HashMap ℕ ℕ S) (b : Bool)
+pub parts_counted : {T R S : Type 0} (direction : Direction) (n : ℕ) (places : HashMap Position T R) (counts : HashMap ℕ ℕ S) (b : Bool)
     → AreCounts direction counts (keys places) → b ≡ nat_lt 0 (count_of counts n)
     → IsTrue b ↔ ((p : Position) × (along direction p ≡ n) × IsSome (get (from_entries {R = position_cmp} places.entries) p))
-places_counted direction n places counts b counted is =
+parts_counted direction n places counts b counted is =
     let test = λ (p : Position). eqb (along direction p) n in
     let any = is ∙ ap (nat_lt 0) (counted n) ∙ any_counted test (keys places) in (
       (λ h. let found = some_key position_equiv test places.entries (sym any ∙ h) in (found.0, eqb-true _ _ found.1, ap is_some (get_at_position places.entries found.0) ∙ found.2)),
-      (λ h. let held = some_value (get (from_entries {R = position_cmp} places.entries) h.0) h.2 in
+      (λ h. let stored = some_value (get (from_entries {R = position_cmp} places.entries) h.0) h.2 in
           any ∙ by_key test places.entries
-          ∙ any_from_found position_equiv (λ e. test e.0) places.entries exact_position_eq h.0 held.0 (sym (get_at_position places.entries h.0) ∙ held.1) (eq-eqb _ _ h.1)),
+          ∙ any_from_found position_equiv (λ e. test e.0) places.entries exact_position_eq h.0 stored.0 (sym (get_at_position places.entries h.0) ∙ stored.1) (eq-eqb _ _ h.1)),
     )
 
 -- an end of a line across, a line, an edge or a corner
 pub set_counted : {A L T R U W : Type 0} (direction : Direction) (n count : ℕ) (first end : A → Option T) (across : Lines A) (lines : HashMap ℕ L W) (edges : HashMap Position T R) (edge_counts : LineCounts) (corners : HashMap Position T U) (corner_counts : LineCounts) (b : Bool)
     → AreEndsCounted (λ line. is_some (first line)) (λ line. is_some (end line)) across → AreCounts direction edge_counts.counts (keys edges) → AreCounts direction corner_counts.counts (keys corners)
-    → b ≡ (reaches n count across || is_held lines edge_counts corner_counts n)
+    → b ≡ (reaches n count across || is_stored lines edge_counts corner_counts n)
     → IsTrue b ↔ (EndsThere (λ k. get (from_entries {R = nat_cmp} across.values.entries) k) first end n count
     ⊎ (IsSome (get (from_entries {R = nat_cmp} lines.entries) n)
     ⊎ (StandsOn direction n (λ p. get (from_entries {R = position_cmp} edges.entries) p)
     ⊎ StandsOn direction n (λ p. get (from_entries {R = position_cmp} corners.entries) p))))
 set_counted direction n count first end across lines edges edge_counts corners corner_counts b ends edges_counted corners_counted is =
     rw is (either _ _ (ends_counted first end n count across _ ends refl) (either _ _ (key_scan lines.entries n _ refl)
-    (either _ _ (places_counted direction n edges edge_counts.counts _ edges_counted refl) (places_counted direction n corners corner_counts.counts _ corners_counted refl))))
+    (either _ _ (parts_counted direction n edges edge_counts.counts _ edges_counted refl) (parts_counted direction n corners corner_counts.counts _ corners_counted refl))))

@@ -1,12 +1,12 @@
 pub mod BorderAgree
 pub mod BorderEqual
 pub mod BorderFound
-pub mod BorderTold
+pub mod BorderHistory
 pub mod CountLemmas
 pub mod CountedFound
 pub mod LineTested
 pub mod MadeTables
 pub mod OffsetEqual
-pub mod OverrideTold
+pub mod OverrideHistory
 pub mod PartCopies
-pub mod ToldEqual
+pub mod HistoryEqual

@@ -11,10 +11,10 @@ use Rattle.std.proofs.lemmas.Map.Keys.{any_passes_from_place}
 use Rattle.papergrid_values.specs.declared.position.Position.{Position}
 use Rattle.papergrid_values.specs.declared.horizontal_line.HorizontalLine.{HorizontalLine}
 use Rattle.papergrid_values.specs.declared.vertical_line.VerticalLine.{VerticalLine}
-use Rattle.papergrid_tables.specs.BorderHeld.{HeldBorders, places_of}
+use Rattle.papergrid_tables.specs.StoredBorders.{StoredBorders, parts_of_borders}
 use Rattle.papergrid_keys.specs.Keys.{position_cmp}
 use Rattle.papergrid_tables.specs.LineTests.{ends_at_column, ends_at_row, horizontal_line_at, vertical_line_at}
-use Rattle.papergrid_tables.specs.Places.{HasHorizontal, HasVertical, HasEnd}
+use Rattle.papergrid_tables.specs.BorderParts.{HasHorizontal, HasVertical, HasEnd}
 use Rattle.papergrid_keys.proofs.AnyLemmas.{any_place}
 use Rattle.papergrid_tables.proofs.BorderFound.{either, has_end_is, some_value}
 use Rattle.papergrid_keys.proofs.KeyLemmas.{exact_position, position_ties, position_equiv}
@@ -28,8 +28,8 @@ module _ {K X : Type 0} {R : K → K → Ordering} (exact : (x y : K) → eq_by_
       (place.1, contains_key-keys m place.1 ∙ any_passes_from_place (eq_by_cmp R place.1) (keys m) place.0 place.1 place.2 (ties place.1), place.3)
 
   from_key : (k : K) → IsSome (get m k) → test k ≡ true → list_any test (keys m) ≡ true
-  from_key k held passes =
-      let place = any_place _ (keys m) (sym (contains_key-keys m k) ∙ held) in
+  from_key k stored passes =
+      let place = any_place _ (keys m) (sym (contains_key-keys m k) ∙ stored) in
       any_passes_from_place test (keys m) place.0 place.1 place.2 (subst (λ q. test q ≡ true) (exact k place.1 place.3) passes)
 
 pub exact_number : (x y : ℕ) → eq_by_cmp nat_cmp x y ≡ true → x ≡ y
@@ -55,30 +55,30 @@ end_test : {L : Type 0} (IsEnd : L → Type 0) (test : Option L → Bool) (m : F
 end_test IsEnd test m is none = (
   (λ h.
       let found = found_key exact_number number_ties m (λ n. test (get m n)) h in
-      let held = some_value (get m found.0) found.1 in
-      (found.0, held.0, held.1, (is held.0).0 (subst (λ o. test o ≡ true) held.1 found.2))),
+      let stored = some_value (get m found.0) found.1 in
+      (found.0, stored.0, stored.1, (is stored.0).0 (subst (λ o. test o ≡ true) stored.1 found.2))),
   (λ h. from_key exact_number number_ties m (λ n. test (get m n)) h.0 (ap is_some h.2) (subst (λ o. test o ≡ true) (sym h.2) ((is h.1).1 h.3))),
 )
 
 itself : (b : Bool) → (b ≡ true) ↔ (b ≡ true)
 itself b = ((λ h. h), (λ h. h))
 
-module _ {T : Type 0} (held : HeldBorders T) where
-  pub vertical_tested : (c count : ℕ) → IsTrue (vertical_line_at held c count) ↔ HasVertical (places_of held) c count
+module _ {T : Type 0} (stored : StoredBorders T) where
+  pub vertical_tested : (c count : ℕ) → IsTrue (vertical_line_at stored c count) ↔ HasVertical (parts_of_borders stored) c count
   vertical_tested c count =
       either _ _ (itself _) (either _ _ (itself _) (either _ _
-      (end_test (λ (line : HorizontalLine T). HasEnd c count line.left line.right) (ends_at_column c count) held.horizontal_lines (λ line. has_end_is c count line.left line.right) refl)
-      (either _ _ (itself _) (either _ _ (place_test (λ p. p.col) c held.vertical_edges) (place_test (λ p. p.col) c held.corners)))))
+      (end_test (λ (line : HorizontalLine T). HasEnd c count line.left line.right) (ends_at_column c count) stored.horizontal_lines (λ line. has_end_is c count line.left line.right) refl)
+      (either _ _ (itself _) (either _ _ (place_test (λ p. p.col) c stored.vertical_edges) (place_test (λ p. p.col) c stored.corners)))))
 
-  pub horizontal_tested : (r count : ℕ) → IsTrue (horizontal_line_at held r count) ↔ HasHorizontal (places_of held) r count
+  pub horizontal_tested : (r count : ℕ) → IsTrue (horizontal_line_at stored r count) ↔ HasHorizontal (parts_of_borders stored) r count
   horizontal_tested r count =
       either _ _ (itself _) (either _ _ (itself _) (either _ _
-      (end_test (λ (line : VerticalLine T). HasEnd r count line.top line.bottom) (ends_at_row r count) held.vertical_lines (λ line. has_end_is r count line.top line.bottom) refl)
-      (either _ _ (itself _) (either _ _ (place_test (λ p. p.row) r held.horizontal_edges) (place_test (λ p. p.row) r held.corners)))))
+      (end_test (λ (line : VerticalLine T). HasEnd r count line.top line.bottom) (ends_at_row r count) stored.vertical_lines (λ line. has_end_is r count line.top line.bottom) refl)
+      (either _ _ (itself _) (either _ _ (place_test (λ p. p.row) r stored.horizontal_edges) (place_test (λ p. p.row) r stored.corners)))))
 
   -- a test of a line is the test of it
-  pub vertical_test : (c count : ℕ) (b : Bool) → (IsTrue b ↔ HasVertical (places_of held) c count) → b ≡ vertical_line_at held c count
+  pub vertical_test : (c count : ℕ) (b : Bool) → (IsTrue b ↔ HasVertical (parts_of_borders stored) c count) → b ≡ vertical_line_at stored c count
   vertical_test c count b is = same_answer b _ is (vertical_tested c count)
 
-  pub horizontal_test : (r count : ℕ) (b : Bool) → (IsTrue b ↔ HasHorizontal (places_of held) r count) → b ≡ horizontal_line_at held r count
+  pub horizontal_test : (r count : ℕ) (b : Bool) → (IsTrue b ↔ HasHorizontal (parts_of_borders stored) r count) → b ≡ horizontal_line_at stored r count
   horizontal_test r count b is = same_answer b _ is (horizontal_tested r count)

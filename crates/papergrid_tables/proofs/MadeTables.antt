@@ -11,10 +11,10 @@ use Rattle.std.proofs.lemmas.Bool.{false≢true, or_left, or_right, eqb-true, eq
 use Rattle.papergrid_values.specs.declared.direction.Direction.TheVariants.{Columns, Rows}
 use Rattle.papergrid_values.specs.declared.position.Position.{Position}
 use Rattle.papergrid_tables.specs.BorderCalls.{at_place, below, right_of, BorderCall, InsertBorder, RemoveBorder, InsertHorizontalLine, RemoveHorizontalLine, InsertVerticalLine, RemoveVerticalLine, Clear, is_edge_of, is_corner_of, edge_part, corner_part}
-use Rattle.papergrid_tables.specs.BorderHeld.{HeldBorders, IsTold, places_of}
+use Rattle.papergrid_tables.specs.StoredBorders.{StoredBorders, HasBorderHistory, parts_of_borders}
 use Rattle.papergrid_keys.specs.Keys.{position_cmp, position_eq}
-use Rattle.papergrid_tables.specs.Made.{borders_made, named_columns, named_places, named_rows}
-use Rattle.papergrid_tables.specs.Places.{Places, after_call, no_places, places_from}
+use Rattle.papergrid_tables.specs.Made.{borders_made, named_columns, named_positions, named_rows}
+use Rattle.papergrid_tables.specs.BorderParts.{BorderParts, parts_after_call, no_parts, parts_from}
 use Rattle.papergrid_keys.proofs.TabulatedLemmas.{tabulates}
 use Rattle.papergrid_keys.proofs.KeyLemmas.{exact_position, exact_positions, position_equiv, position_ties, position_total}
 use Rattle.papergrid_tables.proofs.LineTested.{exact_number}
@@ -30,13 +30,13 @@ or_with_next true a n h next = refl
 or_with_next false a n h next = next h
 
 -- where nothing is at first, and a call leaves something only where it names the place or something was there
-module _ {T K A : Type 0} (R : K → K → Ordering) (held : Places T → K → Option A) (named : BorderCall T → List K) (none : (q : K) → is_some (held no_places q) ≡ true → ⊥)
-    (names : (call : BorderCall T) (old : Places T) (q : K) → is_some (held (after_call call old) q) ≡ true → (list_any (eq_by_cmp R q) (named call) || is_some (held old q)) ≡ true) where
-  all_named : (calls : List (BorderCall T)) (q : K) → is_some (held (places_from calls) q) ≡ true → list_any (eq_by_cmp R q) (flat_map named calls) ≡ true
+module _ {T K A : Type 0} (R : K → K → Ordering) (stored : BorderParts T → K → Option A) (named : BorderCall T → List K) (none : (q : K) → is_some (stored no_parts q) ≡ true → ⊥)
+    (names : (call : BorderCall T) (old : BorderParts T) (q : K) → is_some (stored (parts_after_call call old) q) ≡ true → (list_any (eq_by_cmp R q) (named call) || is_some (stored old q)) ≡ true) where
+  all_named : (calls : List (BorderCall T)) (q : K) → is_some (stored (parts_from calls) q) ≡ true → list_any (eq_by_cmp R q) (flat_map named calls) ≡ true
   all_named [] q h = absurd (none q h)
   all_named (call ∷ older) q h =
       any_append (eq_by_cmp R q) (named call) (flat_map named older)
-      ∙ or_with_next (list_any (eq_by_cmp R q) (named call)) (is_some (held (places_from older) q)) _ (names call (places_from older) q h) (all_named older q)
+      ∙ or_with_next (list_any (eq_by_cmp R q) (named call)) (is_some (stored (parts_from older) q)) _ (names call (parts_from older) q h) (all_named older q)
 
 -- what is there where a test would drop it
 kept_there : {A : Type 0} (b : Bool) (old : Option A) → is_some (cond b None old) ≡ true → is_some old ≡ true
@@ -58,14 +58,14 @@ line_named k q line old h =
       | false ↦ λ _ there. or_right (list_any (eq_by_cmp nat_cmp q) (k ∷ [])) (is_some old) there
     ] refl h
 
-row_named : {T : Type 0} (call : BorderCall T) (old : Places T) (q : ℕ) → is_some ((after_call call old).horizontal_line q) ≡ true
+row_named : {T : Type 0} (call : BorderCall T) (old : BorderParts T) (q : ℕ) → is_some ((parts_after_call call old).horizontal_line q) ≡ true
     → (list_any (eq_by_cmp nat_cmp q) (named_rows call) || is_some (old.horizontal_line q)) ≡ true
 row_named (InsertHorizontalLine k line) old q h = line_named k q line (old.horizontal_line q) h
 row_named (RemoveHorizontalLine k) old q h = kept_there (eqb k q) (old.horizontal_line q) h
 row_named Clear old q h = absurd (false≢true h)
 row_named call old q h = h
 
-column_named : {T : Type 0} (call : BorderCall T) (old : Places T) (q : ℕ) → is_some ((after_call call old).vertical_line q) ≡ true
+column_named : {T : Type 0} (call : BorderCall T) (old : BorderParts T) (q : ℕ) → is_some ((parts_after_call call old).vertical_line q) ≡ true
     → (list_any (eq_by_cmp nat_cmp q) (named_columns call) || is_some (old.vertical_line q)) ≡ true
 column_named (InsertVerticalLine k line) old q h = line_named k q line (old.vertical_line q) h
 column_named (RemoveVerticalLine k) old q h = kept_there (eqb k q) (old.vertical_line q) h
@@ -102,24 +102,24 @@ either_set : {T : Type 0} (a b : Option T) (m : Bool) → is_some (option_or a b
 either_set None b m h first next = next h
 either_set (Some v) b m h first next = first refl
 
-horizontal_edge_named : {T : Type 0} (call : BorderCall T) (old : Places T) (q : Position) → is_some ((after_call call old).horizontal_edge q) ≡ true
-    → (list_any (eq_by_cmp position_cmp q) (named_places call) || is_some (old.horizontal_edge q)) ≡ true
+horizontal_edge_named : {T : Type 0} (call : BorderCall T) (old : BorderParts T) (q : Position) → is_some ((parts_after_call call old).horizontal_edge q) ≡ true
+    → (list_any (eq_by_cmp position_cmp q) (named_positions call) || is_some (old.horizontal_edge q)) ≡ true
 horizontal_edge_named (InsertBorder p b) old q h = gained_named (edge_part Rows p b q) (old.horizontal_edge q) (at_one p q) h
     (λ set. either_set (at_place p q b.top) (at_place (below p) q b.bottom) (at_one p q) set (at_cell p q b.top) (at_below p q b.bottom))
 horizontal_edge_named (RemoveBorder p) old q h = kept_there (is_edge_of Rows p q) (old.horizontal_edge q) h
 horizontal_edge_named Clear old q h = absurd (false≢true h)
 horizontal_edge_named call old q h = h
 
-vertical_edge_named : {T : Type 0} (call : BorderCall T) (old : Places T) (q : Position) → is_some ((after_call call old).vertical_edge q) ≡ true
-    → (list_any (eq_by_cmp position_cmp q) (named_places call) || is_some (old.vertical_edge q)) ≡ true
+vertical_edge_named : {T : Type 0} (call : BorderCall T) (old : BorderParts T) (q : Position) → is_some ((parts_after_call call old).vertical_edge q) ≡ true
+    → (list_any (eq_by_cmp position_cmp q) (named_positions call) || is_some (old.vertical_edge q)) ≡ true
 vertical_edge_named (InsertBorder p b) old q h = gained_named (edge_part Columns p b q) (old.vertical_edge q) (at_one p q) h
     (λ set. either_set (at_place p q b.left) (at_place (right_of p) q b.right) (at_one p q) set (at_cell p q b.left) (at_right p q b.right))
 vertical_edge_named (RemoveBorder p) old q h = kept_there (is_edge_of Columns p q) (old.vertical_edge q) h
 vertical_edge_named Clear old q h = absurd (false≢true h)
 vertical_edge_named call old q h = h
 
-corner_named : {T : Type 0} (call : BorderCall T) (old : Places T) (q : Position) → is_some ((after_call call old).corner q) ≡ true
-    → (list_any (eq_by_cmp position_cmp q) (named_places call) || is_some (old.corner q)) ≡ true
+corner_named : {T : Type 0} (call : BorderCall T) (old : BorderParts T) (q : Position) → is_some ((parts_after_call call old).corner q) ≡ true
+    → (list_any (eq_by_cmp position_cmp q) (named_positions call) || is_some (old.corner q)) ≡ true
 corner_named (InsertBorder p b) old q h = gained_named (corner_part p b q) (old.corner q) (at_one p q) h
     (λ h. either_set (at_place p q b.left_top_corner) _ (at_one p q) h (at_cell p q b.left_top_corner)
     (λ h. either_set (at_place (right_of p) q b.right_top_corner) _ (at_one p q) h (at_right p q b.right_top_corner)
@@ -131,21 +131,21 @@ corner_named call old q h = h
 -- ---- the table
 
 module _ {T : Type 0} where
-  pub borders_made_told : (calls : List (BorderCall T)) → IsTold calls (borders_made calls)
-  borders_made_told calls =
+  pub borders_made_history : (calls : List (BorderCall T)) → HasBorderHistory calls (borders_made calls)
+  borders_made_history calls =
       let older = reverse calls in
       λ i. record {
-        global = (places_from older).global;
-        frame = (places_from older).frame;
-        horizontal_line = λ n. tabulates nat_cmp_total exact_number (places_from older).horizontal_line (flat_map named_rows older) (all_named nat_cmp (λ (places : Places T). places.horizontal_line) named_rows (λ q h. false≢true h) row_named older) n i;
-        vertical_line = λ n. tabulates nat_cmp_total exact_number (places_from older).vertical_line (flat_map named_columns older) (all_named nat_cmp (λ (places : Places T). places.vertical_line) named_columns (λ q h. false≢true h) column_named older) n i;
-        horizontal_edge = λ p. tabulates position_total exact_position (places_from older).horizontal_edge (flat_map named_places older) (all_named position_cmp (λ (places : Places T). places.horizontal_edge) named_places (λ q h. false≢true h) horizontal_edge_named older) p i;
-        vertical_edge = λ p. tabulates position_total exact_position (places_from older).vertical_edge (flat_map named_places older) (all_named position_cmp (λ (places : Places T). places.vertical_edge) named_places (λ q h. false≢true h) vertical_edge_named older) p i;
-        corner = λ p. tabulates position_total exact_position (places_from older).corner (flat_map named_places older) (all_named position_cmp (λ (places : Places T). places.corner) named_places (λ q h. false≢true h) corner_named older) p i;
+        global = (parts_from older).global;
+        frame = (parts_from older).frame;
+        horizontal_line = λ n. tabulates nat_cmp_total exact_number (parts_from older).horizontal_line (flat_map named_rows older) (all_named nat_cmp (λ (places : BorderParts T). places.horizontal_line) named_rows (λ q h. false≢true h) row_named older) n i;
+        vertical_line = λ n. tabulates nat_cmp_total exact_number (parts_from older).vertical_line (flat_map named_columns older) (all_named nat_cmp (λ (places : BorderParts T). places.vertical_line) named_columns (λ q h. false≢true h) column_named older) n i;
+        horizontal_edge = λ p. tabulates position_total exact_position (parts_from older).horizontal_edge (flat_map named_positions older) (all_named position_cmp (λ (places : BorderParts T). places.horizontal_edge) named_positions (λ q h. false≢true h) horizontal_edge_named older) p i;
+        vertical_edge = λ p. tabulates position_total exact_position (parts_from older).vertical_edge (flat_map named_positions older) (all_named position_cmp (λ (places : BorderParts T). places.vertical_edge) named_positions (λ q h. false≢true h) vertical_edge_named older) p i;
+        corner = λ p. tabulates position_total exact_position (parts_from older).corner (flat_map named_positions older) (all_named position_cmp (λ (places : BorderParts T). places.corner) named_positions (λ q h. false≢true h) corner_named older) p i;
       }
 
   -- tables that have the same at each place are the same
-  same_borders : (s t : HeldBorders T) → places_of s ≡ places_of t → s ≡ t
+  same_borders : (s t : StoredBorders T) → parts_of_borders s ≡ parts_of_borders t → s ≡ t
   same_borders s t same = λ i. record {
     global = (same i).global;
     frame = (same i).frame;
@@ -156,5 +156,5 @@ module _ {T : Type 0} where
     corners = same_map position_total exact_positions s.corners t.corners (λ p j. (same j).corner p) i;
   }
 
-  pub told_borders : (calls : List (BorderCall T)) (held : HeldBorders T) → IsTold calls held → held ≡ borders_made calls
-  told_borders calls held told = same_borders held (borders_made calls) (told ∙ sym (borders_made_told calls))
+  pub border_history : (calls : List (BorderCall T)) (stored : StoredBorders T) → HasBorderHistory calls stored → stored ≡ borders_made calls
+  border_history calls stored told = same_borders stored (borders_made calls) (told ∙ sym (borders_made_history calls))

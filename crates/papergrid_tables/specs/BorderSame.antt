@@ -5,7 +5,7 @@ use Rattle.std.specs.Option.{option_eq}
 use Rattle.papergrid_values.specs.Borders.{frame_parts}
 use Rattle.papergrid_values.specs.Lines.{horizontal_parts, vertical_parts}
 use Rattle.papergrid_values.specs.declared.position.Position.{Position}
-use Rattle.papergrid_tables.specs.Places.{Places}
+use Rattle.papergrid_tables.specs.BorderParts.{BorderParts}
 
 module _ {T : Type 0} (eq : T → T → Bool) where
   -- the same parts are set, to equal values
@@ -14,7 +14,7 @@ module _ {T : Type 0} (eq : T → T → Bool) where
 
   -- the same default and the same frame, the same line at each number, and the same edge and corner at each position: equal values, or
   -- none on either side
-  pub record HoldTheSameBorders (s t : Places T) : Type 0 where
+  pub record HoldTheSameBorders (s t : BorderParts T) : Type 0 where
     pub global : option_eq eq s.global t.global ≡ true
     pub frame : same_parts (frame_parts s.frame) (frame_parts t.frame) ≡ true
     pub horizontal_line : (n : ℕ) → option_eq (λ l m. same_parts (horizontal_parts l) (horizontal_parts m)) (s.horizontal_line n) (t.horizontal_line n) ≡ true

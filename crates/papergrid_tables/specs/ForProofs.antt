@@ -2,7 +2,7 @@
 pub mod BorderCodes
 pub mod BorderEq
 pub mod CountedLines
-pub mod CountedPlaces
+pub mod CountedParts
 pub mod CountedTable
 pub mod Counts
 pub mod Maps

@@ -1,9 +1,9 @@
 pub mod BorderCalls
-pub mod BorderHeld
+pub mod StoredBorders
 pub mod BorderSame
 pub mod BorderScan
 pub mod LineTests
 pub mod Made
 pub mod Overrides
-pub mod Places
+pub mod BorderParts
 pub mod ForProofs

@@ -7,10 +7,10 @@ use Rattle.papergrid_values.specs.declared.direction.Direction.{Direction}
 use Rattle.papergrid_values.specs.declared.direction.Direction.TheVariants.{Columns, Rows}
 use Rattle.papergrid_values.specs.declared.horizontal_line.HorizontalLine.{HorizontalLine}
 use Rattle.papergrid_values.specs.declared.vertical_line.VerticalLine.{VerticalLine}
-use Rattle.papergrid_tables.specs.BorderHeld.{HeldBorders}
+use Rattle.papergrid_tables.specs.StoredBorders.{StoredBorders}
 use Rattle.papergrid_tables.specs.BorderScan.{has_end}
 use Rattle.papergrid_keys.specs.Keys.{position_cmp}
-use Rattle.papergrid_tables.specs.Places.{in_frame}
+use Rattle.papergrid_tables.specs.BorderParts.{in_frame}
 
 module _ {T : Type 0} where
   -- a horizontal line has an end at column c of count, and a vertical line one at row r of count
@@ -25,18 +25,18 @@ module _ {T : Type 0} where
 
   -- something is held at a position on the line n of a direction
   abbrev pub stands_on : Direction → ℕ → FinMap position_cmp T → Bool
-  stands_on direction n held = list_any (λ p. along direction p == n) (keys held)
+  stands_on direction n stored = list_any (λ p. along direction p == n) (keys stored)
 
   -- the global value, the frame, an end of a line across, a line, an edge or a corner
-  abbrev pub vertical_line_at : HeldBorders T → ℕ → ℕ → Bool
-  vertical_line_at held c count =
-      is_some held.global || (in_frame Columns held.frame c count
-      || (list_any (λ r. ends_at_column c count (get held.horizontal_lines r)) (keys held.horizontal_lines)
-      || (contains_key held.vertical_lines c || (stands_on Columns c held.vertical_edges || stands_on Columns c held.corners))))
+  abbrev pub vertical_line_at : StoredBorders T → ℕ → ℕ → Bool
+  vertical_line_at stored c count =
+      is_some stored.global || (in_frame Columns stored.frame c count
+      || (list_any (λ r. ends_at_column c count (get stored.horizontal_lines r)) (keys stored.horizontal_lines)
+      || (contains_key stored.vertical_lines c || (stands_on Columns c stored.vertical_edges || stands_on Columns c stored.corners))))
 
   -- the same of a horizontal line
-  abbrev pub horizontal_line_at : HeldBorders T → ℕ → ℕ → Bool
-  horizontal_line_at held r count =
-      is_some held.global || (in_frame Rows held.frame r count
-      || (list_any (λ c. ends_at_row r count (get held.vertical_lines c)) (keys held.vertical_lines)
-      || (contains_key held.horizontal_lines r || (stands_on Rows r held.horizontal_edges || stands_on Rows r held.corners))))
+  abbrev pub horizontal_line_at : StoredBorders T → ℕ → ℕ → Bool
+  horizontal_line_at stored r count =
+      is_some stored.global || (in_frame Rows stored.frame r count
+      || (list_any (λ c. ends_at_row r count (get stored.vertical_lines c)) (keys stored.vertical_lines)
+      || (contains_key stored.horizontal_lines r || (stands_on Rows r stored.horizontal_edges || stands_on Rows r stored.corners))))

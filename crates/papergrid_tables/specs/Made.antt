@@ -1,10 +1,10 @@
 -- The border table that calls make: what the calls leave, at each place that one of them names.
 use Rattle.std.specs.Prelude.{ℕ, List, [], ◌∷◌, flat_map, reverse}
 use Rattle.papergrid_values.specs.declared.position.Position.{Position}
-use Rattle.papergrid_keys.specs.Tabulated.{tabulated}
+use Rattle.papergrid_keys.specs.Tabulated.{tabulation}
 use Rattle.papergrid_tables.specs.BorderCalls.{BorderCall, InsertBorder, InsertHorizontalLine, InsertVerticalLine, below, right_of}
-use Rattle.papergrid_tables.specs.BorderHeld.{HeldBorders}
-use Rattle.papergrid_tables.specs.Places.{places_from}
+use Rattle.papergrid_tables.specs.StoredBorders.{StoredBorders}
+use Rattle.papergrid_tables.specs.BorderParts.{parts_from}
 
 module _ {T : Type 0} where
   -- the horizontal line that a call sets
@@ -18,21 +18,21 @@ module _ {T : Type 0} where
   named_columns call = []
 
   -- the positions at which a call may set edges or corners
-  abbrev pub named_places : BorderCall T → List Position
-  named_places (InsertBorder cell border) = cell ∷ below cell ∷ right_of cell ∷ below (right_of cell) ∷ []
-  named_places call = []
+  abbrev pub named_positions : BorderCall T → List Position
+  named_positions (InsertBorder cell border) = cell ∷ below cell ∷ right_of cell ∷ below (right_of cell) ∷ []
+  named_positions call = []
 
   -- what a border table holds after the calls
-  abbrev pub borders_made : List (BorderCall T) → HeldBorders T
+  abbrev pub borders_made : List (BorderCall T) → StoredBorders T
   borders_made calls =
       let newest_first = reverse calls in
-      let places = places_from newest_first in
+      let places = parts_from newest_first in
       record {
         global = places.global;
         frame = places.frame;
-        horizontal_lines = tabulated places.horizontal_line (flat_map named_rows newest_first);
-        vertical_lines = tabulated places.vertical_line (flat_map named_columns newest_first);
-        horizontal_edges = tabulated places.horizontal_edge (flat_map named_places newest_first);
-        vertical_edges = tabulated places.vertical_edge (flat_map named_places newest_first);
-        corners = tabulated places.corner (flat_map named_places newest_first);
+        horizontal_lines = tabulation places.horizontal_line (flat_map named_rows newest_first);
+        vertical_lines = tabulation places.vertical_line (flat_map named_columns newest_first);
+        horizontal_edges = tabulation places.horizontal_edge (flat_map named_positions newest_first);
+        vertical_edges = tabulation places.vertical_edge (flat_map named_positions newest_first);
+        corners = tabulation places.corner (flat_map named_positions newest_first);
       }

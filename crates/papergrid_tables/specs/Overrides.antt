@@ -21,48 +21,48 @@ is_same_offset (End m) (End n) = m == n
 is_same_offset a b = false
 
 -- the overrides of one position
-pub record HeldOffsets (T : Type 0) : Type 0 where
+pub record StoredOffsets (T : Type 0) : Type 0 where
   pub from_start : FinMap nat_cmp T
   pub from_end : FinMap nat_cmp T
 
 module _ {T : Type 0} where
   -- the override of a position at an offset after a call, by those before it
-  abbrev pub after_call : OffsetCall T → (Position → Offset → Option T) → Position → Offset
+  abbrev pub override_after_call : OffsetCall T → (Position → Offset → Option T) → Position → Offset
       → Option T
-  after_call (SetAt q k v) old p o =
+  override_after_call (SetAt q k v) old p o =
       if position_eq q p && is_same_offset k o then Some v else old p o
-  after_call (RemoveAt q) old p o = if position_eq q p then None else old p o
-  after_call RemoveAll old p o = None
+  override_after_call (RemoveAt q) old p o = if position_eq q p then None else old p o
+  override_after_call RemoveAll old p o = None
 
   -- what the calls leave there; the newest call first
   abbrev pub overrides_from : List (OffsetCall T) → Position → Offset → Option T
   overrides_from [] = λ _ _. None
-  overrides_from (call ∷ older) = after_call call (overrides_from older)
+  overrides_from (call ∷ older) = override_after_call call (overrides_from older)
 
   -- the override at an offset
-  abbrev pub at_offset : HeldOffsets T → Offset → Option T
-  at_offset held (Start n) = get held.from_start n
-  at_offset held (End n) = get held.from_end n
+  abbrev pub at_offset : StoredOffsets T → Offset → Option T
+  at_offset stored (Start n) = get stored.from_start n
+  at_offset stored (End n) = get stored.from_end n
 
   -- what is held for a position at an offset
-  abbrev pub override_at : FinMap position_cmp (HeldOffsets T) → Position → Offset → Option T
-  override_at held p o = option_and_then (λ offsets. at_offset offsets o) (get held p)
+  abbrev pub override_at : FinMap position_cmp (StoredOffsets T) → Position → Offset → Option T
+  override_at stored p o = option_and_then (λ offsets. at_offset offsets o) (get stored p)
 
   -- a new table that was given the calls holds this
-  abbrev pub IsTold : List (OffsetCall T) → FinMap position_cmp (HeldOffsets T) → Type 0
-  IsTold calls held =
-      (p : Position) (o : Offset) → override_at held p o ≡ overrides_from (reverse calls) p o
+  abbrev pub HasOverrideHistory : List (OffsetCall T) → FinMap position_cmp (StoredOffsets T) → Type 0
+  HasOverrideHistory calls stored =
+      (p : Position) (o : Offset) → override_at stored p o ≡ overrides_from (reverse calls) p o
 
   -- what is found at an offset of an end: the one from the start, or else the one from the end
   abbrev pub found_override : (Offset → Option T) → ℕ → ℕ → Option T
-  found_override held offset limit =
-      option_or (held (Start offset)) (if nat_lt offset limit then held (End (limit - offset - 1)) else None)
+  found_override stored offset limit =
+      option_or (stored (Start offset)) (if nat_lt offset limit then stored (End (limit - offset - 1)) else None)
 
   -- the position has an override
-  abbrev pub IsOverridden : FinMap position_cmp (HeldOffsets T) → Position → Type 0
-  IsOverridden held p = (o : Offset) × IsSome (override_at held p o)
+  abbrev pub IsOverridden : FinMap position_cmp (StoredOffsets T) → Position → Type 0
+  IsOverridden stored p = (o : Offset) × IsSome (override_at stored p o)
 
   -- at each position and offset both tables hold equal values, or neither holds one
-  abbrev pub HoldTheSame : (T → T → Bool) → FinMap position_cmp (HeldOffsets T) → FinMap position_cmp (HeldOffsets T) → Type 0
+  abbrev pub HoldTheSame : (T → T → Bool) → FinMap position_cmp (StoredOffsets T) → FinMap position_cmp (StoredOffsets T) → Type 0
   HoldTheSame eq s t =
       (p : Position) (o : Offset) → option_eq eq (override_at s p o) (override_at t p o) ≡ true

@@ -4,13 +4,13 @@ ghost use Rattle.std.specs.Prelude.{◌≡◌, ◌+◌, ◌<◌, ◌^◌, ◌||�
 ghost use Rattle.std.specs.HashMap.{get as map_get};
 ghost use Rattle.papergrid_values.specs.declared.direction.Direction.TheVariants.{Columns, Rows};
 ghost use Rattle.papergrid_tables.specs.BorderCalls.{below, right_of, is_edge_of, is_corner_of, edge_part, corner_part};
-ghost use Rattle.papergrid_tables.specs.ForProofs.CountedPlaces.{AreCornersCounted, AreEdgesCounted, HasCornerRoom, HasEdgeRoom};
-ghost use Rattle.papergrid_tables.specs.ForProofs.CountedLines.{is_held, reaches};
+ghost use Rattle.papergrid_tables.specs.ForProofs.CountedParts.{AreCornersCounted, AreEdgesCounted, HasCornerRoom, HasEdgeRoom};
+ghost use Rattle.papergrid_tables.specs.ForProofs.CountedLines.{is_stored, reaches};
 ghost use Rattle.papergrid_tables.specs.ForProofs.Maps.{Gains, HoldsAsBefore, Loses};
-ghost use Rattle.papergrid_tables.specs.Places as places;
+ghost use Rattle.papergrid_tables.specs.BorderParts as places;
 
 use crate::counted_lines::Lines;
-use crate::counted_places::{Corners, Edges};
+use crate::counted_parts::{Corners, Edges};
 use crate::line_counts::LineCounts;
 use papergrid_keys::hashed;
 use papergrid_values::{Border, Borders, Direction, HorizontalLine, Position, VerticalLine};
@@ -62,7 +62,7 @@ fn crossed<'a, T>(
     end: &'a Option<T>,
     inner: &'a Option<T>,
 ) -> Option<&'a T>
-    ensures { option_copied result ≡ places.crossed place count first.now end.now inner.now }
+    ensures { option_copied result ≡ places.crossing_part place count first.now end.now inner.now }
 {
     only_if(place == 0, first)
         .or(only_if(place == count, end))
@@ -156,14 +156,14 @@ pub(crate) fn is_set_at<A, L>(
     counts: (&LineCounts, &LineCounts),
 ) -> bool
     ensures { result ≡ (reaches place.0 place.1 lines.entry.0.now
-        || is_held lines.entry.1.now.values counts.entry.0.now counts.entry.1.now place.0) }
+        || is_stored lines.entry.1.now.values counts.entry.0.now counts.entry.1.now place.0) }
 {
-    lines.0.reach(place.0, place.1) || is_held_at(place.0, &lines.1.values, counts)
+    lines.0.reach(place.0, place.1) || is_stored_at(place.0, &lines.1.values, counts)
 }
 
 // Most tables hold none at all.
-fn is_held_at<L>(line: usize, lines: &HashMap<usize, L>, counts: (&LineCounts, &LineCounts)) -> bool
-    ensures { result ≡ is_held lines.now counts.entry.0.now counts.entry.1.now line }
+fn is_stored_at<L>(line: usize, lines: &HashMap<usize, L>, counts: (&LineCounts, &LineCounts)) -> bool
+    ensures { result ≡ is_stored lines.now counts.entry.0.now counts.entry.1.now line }
 {
     if lines.is_empty() && counts.0.is_bare() && counts.1.is_bare() {
         return false;
@@ -179,9 +179,9 @@ fn is_found_at<L>(
     lines: &HashMap<usize, L>,
     counts: (&LineCounts, &LineCounts),
 ) -> bool
-    ensures { result ≡ is_held lines.now counts.entry.0.now counts.entry.1.now line }
+    ensures { result ≡ is_stored lines.now counts.entry.0.now counts.entry.1.now line }
 {
-    hashed::is_held(lines, line) || counts.0.holds(line) || counts.1.holds(line)
+    hashed::is_stored(lines, line) || counts.0.holds(line) || counts.1.holds(line)
 }
 
 /// The positions below a position, to the right of it, and below that one. Condition: the next row

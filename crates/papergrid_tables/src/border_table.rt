@@ -4,18 +4,18 @@ ghost use Rattle.std.specs.Prelude.{◌≡◌, ◌∷◌, [], ◌+◌, ◌<◌, 
 ghost use Rattle.std.specs.HashMap.{get as map_get};
 ghost use Rattle.std.specs.Option.{option_or};
 ghost use Rattle.std.specs.FinMap.{get as value_at};
-ghost use Rattle.papergrid_keys.specs.Told.{Appends};
+ghost use Rattle.papergrid_keys.specs.History.{AppendsHistory};
 ghost use Rattle.papergrid_values.specs.Borders.{border_map};
 ghost use Rattle.papergrid_values.specs.declared.direction.Direction.TheVariants.{Columns, Rows};
 ghost use Rattle.papergrid_tables.specs.BorderCalls.{BorderCall, Clear, InsertBorder, RemoveBorder, InsertHorizontalLine, RemoveHorizontalLine, InsertVerticalLine, RemoveVerticalLine, SetBorders, SetGlobal};
-ghost use Rattle.papergrid_tables.specs.BorderHeld.{IsTold, places_of};
+ghost use Rattle.papergrid_tables.specs.StoredBorders.{HasBorderHistory, parts_of_borders};
 ghost use Rattle.papergrid_keys.specs.Keys.{position_eq};
 ghost use Rattle.papergrid_tables.specs.LineTests.{horizontal_line_at, vertical_line_at};
-ghost use Rattle.papergrid_tables.specs.Places.{HasHorizontal, HasVertical, IsSet, found_border, found_horizontal, found_intersection, found_vertical};
+ghost use Rattle.papergrid_tables.specs.BorderParts.{HasHorizontal, HasVertical, IsSet, found_border, found_horizontal, found_intersection, found_vertical};
 
 use crate::border_parts as parts;
 use crate::counted_lines::Lines;
-use crate::counted_places::{Corners, Edges};
+use crate::counted_parts::{Corners, Edges};
 use papergrid_values::{Border, Borders, HorizontalLine, Position, VerticalLine};
 use std::alloc::{AllocError, Global};
 use std::collections::HashMap;
@@ -37,12 +37,12 @@ pub struct BorderTable<T> {
 
 impl<T> Model for BorderTable<T> {
     ghost use Rattle.std.specs.FinMap as map;
-    ghost use Rattle.papergrid_tables.specs.BorderHeld.{HeldBorders};
-    ghost use Rattle.papergrid_tables.specs.ForProofs.BorderCodes.{held_borders_code};
+    ghost use Rattle.papergrid_tables.specs.StoredBorders.{StoredBorders};
+    ghost use Rattle.papergrid_tables.specs.ForProofs.BorderCodes.{stored_borders_code};
 
-    ghost Value = { HeldBorders T };
+    ghost Value = { StoredBorders T };
 
-    ghost coded = { held_borders_code T.code };
+    ghost coded = { stored_borders_code T.code };
 
     ghost view = { λ t. record {
       global = t.global;
@@ -63,8 +63,8 @@ impl<T> Model for BorderTable<T> {
 impl<T> BorderTable<T> {
     /// The table that holds nothing. It takes no memory.
     pub fn new(alloc: Global) -> Self
-        ensures told { IsTold [] result }
-        ensures cleared { (calls : List (BorderCall T)) → IsTold (calls ++ Clear ∷ []) result }
+        ensures told { HasBorderHistory [] result }
+        ensures cleared { (calls : List (BorderCall T)) → HasBorderHistory (calls ++ Clear ∷ []) result }
     {
         BorderTable {
             global: None,
@@ -80,7 +80,7 @@ impl<T> BorderTable<T> {
     /// Whether there is no value for all lines, no part of the frame is set, and no edge, corner
     /// or line is held. A line with no part set is one that is held.
     pub fn is_empty(&self) -> bool
-        ensures { IsTrue result ↔ IsTold [] self.now }
+        ensures { IsTrue result ↔ HasBorderHistory [] self.now }
     {
         let global = self.global.is_none();
         let frame = self.frame.is_empty();
@@ -97,7 +97,7 @@ impl<T> BorderTable<T> {
     /// The vertical line at a row and a column, where there are so many columns: the edge, the
     /// line's main part, the frame's part or the value for all lines, whichever is the first set.
     pub fn get_vertical(&self, pos: Position, count: usize) -> Option<&T>
-        ensures { option_copied result ≡ found_vertical (places_of self.now) pos count }
+        ensures { option_copied result ≡ found_vertical (parts_of_borders self.now) pos count }
     {
         let line = parts::vertical_main(&self.vertical_lines.values, pos.col);
         let frame = parts::frame_vertical(&self.frame, pos.col, count);
@@ -106,7 +106,7 @@ impl<T> BorderTable<T> {
 
     /// The horizontal line at a row and a column, where there are so many rows, likewise.
     pub fn get_horizontal(&self, pos: Position, count: usize) -> Option<&T>
-        ensures { option_copied result ≡ found_horizontal (places_of self.now) pos count }
+        ensures { option_copied result ≡ found_horizontal (parts_of_borders self.now) pos count }
     {
         let line = parts::horizontal_main(&self.horizontal_lines.values, pos.row);
         let frame = parts::frame_horizontal(&self.frame, pos.row, count);
@@ -135,7 +135,7 @@ impl<T> BorderTable<T> {
     /// whichever is the first set.
     pub fn get_intersection(&self, pos: Position, shape: (usize, usize)) -> Option<&T>
         ensures { option_copied result
-            ≡ found_intersection (places_of self.now) pos shape.0 shape.1 }
+            ≡ found_intersection (parts_of_borders self.now) pos shape.0 shape.1 }
     {
         self.corners
             .values
@@ -152,7 +152,7 @@ impl<T> BorderTable<T> {
         requires row { pos.row + 1 < 2 ^ 64 }
         requires col { pos.col + 1 < 2 ^ 64 }
         ensures { border_map (λ part. part.now) result
-            ≡ found_border (places_of self.now) pos shape.0 shape.1 }
+            ≡ found_border (parts_of_borders self.now) pos shape.0 shape.1 }
     {
         let (rows, cols) = shape;
         let (below, right, opposite) = parts::neighbours(pos);
@@ -199,7 +199,7 @@ impl<T> BorderTable<T> {
     /// Whether there is a vertical line at a column, where there are so many columns: a value for
     /// all lines, a part of the frame, or `is_vertical_set`.
     pub fn has_vertical(&self, col: usize, count: usize) -> bool
-        ensures line { IsTrue result ↔ HasVertical (places_of self.now) col count }
+        ensures line { IsTrue result ↔ HasVertical (parts_of_borders self.now) col count }
         ensures test { result ≡ vertical_line_at self.now col count }
     {
         let is_drawn = self.global.is_some() || parts::in_frame_vertical(&self.frame, col, count);
@@ -209,7 +209,7 @@ impl<T> BorderTable<T> {
     /// Whether there is a horizontal line at a row, where there are so many rows: a value for all
     /// lines, a part of the frame, or `is_horizontal_set`.
     pub fn has_horizontal(&self, row: usize, count: usize) -> bool
-        ensures line { IsTrue result ↔ HasHorizontal (places_of self.now) row count }
+        ensures line { IsTrue result ↔ HasHorizontal (parts_of_borders self.now) row count }
         ensures test { result ≡ horizontal_line_at self.now row count }
     {
         let is_drawn = self.global.is_some() || parts::in_frame_horizontal(&self.frame, row, count);
@@ -219,7 +219,7 @@ impl<T> BorderTable<T> {
     /// Whether a vertical line, an edge or a corner is held at a column, where there are so many
     /// columns, or a horizontal line that ends there has that end set.
     pub fn is_vertical_set(&self, col: usize, count: usize) -> bool
-        ensures { IsTrue result ↔ IsSet Columns (places_of self.now) col count }
+        ensures { IsTrue result ↔ IsSet Columns (parts_of_borders self.now) col count }
     {
         let lines = (&self.horizontal_lines, &self.vertical_lines);
         let counts = (&self.vertical_edges.on_lines, &self.corners.in_columns);
@@ -229,7 +229,7 @@ impl<T> BorderTable<T> {
     /// Whether a horizontal line, an edge or a corner is held at a row, where there are so many
     /// rows, or a vertical line that ends there has that end set.
     pub fn is_horizontal_set(&self, row: usize, count: usize) -> bool
-        ensures { IsTrue result ↔ IsSet Rows (places_of self.now) row count }
+        ensures { IsTrue result ↔ IsSet Rows (parts_of_borders self.now) row count }
     {
         let lines = (&self.vertical_lines, &self.horizontal_lines);
         let counts = (&self.horizontal_edges.on_lines, &self.corners.in_rows);
@@ -243,7 +243,7 @@ impl<T: Drop> BorderTable<T> {
     pub fn insert_border(&mut self, pos: Position, border: Border<T>) -> Result<(), AllocError>
         requires row { pos.row + 1 < 2 ^ 64 }
         requires col { pos.col + 1 < 2 ^ 64 }
-        ensures ok { OnOk result (Appends IsTold self.old self.new (InsertBorder pos border ∷ [])) }
+        ensures ok { OnOk result (AppendsHistory HasBorderHistory self.old self.new (InsertBorder pos border ∷ [])) }
         ensures err { OnErr result (self.new ≡ self.old) }
     {
         parts::reserve(
@@ -266,7 +266,7 @@ impl<T: Drop> BorderTable<T> {
     pub fn remove_border(&mut self, pos: Position, _shape: (usize, usize))
         requires row { pos.row + 1 < 2 ^ 64 }
         requires col { pos.col + 1 < 2 ^ 64 }
-        ensures { Appends IsTold self.old self.new (RemoveBorder pos ∷ []) }
+        ensures { AppendsHistory HasBorderHistory self.old self.new (RemoveBorder pos ∷ []) }
     {
         parts::take_border(
             &mut self.horizontal_edges,
@@ -284,7 +284,7 @@ impl<T: Drop> BorderTable<T> {
         line: HorizontalLine<T>,
     ) -> Result<(), AllocError>
         ensures ok { OnOk result
-            (Appends IsTold self.old self.new (InsertHorizontalLine row line ∷ [])) }
+            (AppendsHistory HasBorderHistory self.old self.new (InsertHorizontalLine row line ∷ [])) }
         ensures err { OnErr result (self.new ≡ self.old) }
     {
         self.horizontal_lines.put(row, line)
@@ -298,7 +298,7 @@ impl<T: Drop> BorderTable<T> {
         line: VerticalLine<T>,
     ) -> Result<(), AllocError>
         ensures ok { OnOk result
-            (Appends IsTold self.old self.new (InsertVerticalLine col line ∷ [])) }
+            (AppendsHistory HasBorderHistory self.old self.new (InsertVerticalLine col line ∷ [])) }
         ensures err { OnErr result (self.new ≡ self.old) }
     {
         self.vertical_lines.put(col, line)
@@ -306,28 +306,28 @@ impl<T: Drop> BorderTable<T> {
 
     /// Removes the horizontal line at a row, whatever the number of rows.
     pub fn remove_horizontal_line(&mut self, row: usize, _count: usize)
-        ensures { Appends IsTold self.old self.new (RemoveHorizontalLine row ∷ []) }
+        ensures { AppendsHistory HasBorderHistory self.old self.new (RemoveHorizontalLine row ∷ []) }
     {
         self.horizontal_lines.take(row);
     }
 
     /// Removes the vertical line at a column, whatever the number of columns.
     pub fn remove_vertical_line(&mut self, col: usize, _count: usize)
-        ensures { Appends IsTold self.old self.new (RemoveVerticalLine col ∷ []) }
+        ensures { AppendsHistory HasBorderHistory self.old self.new (RemoveVerticalLine col ∷ []) }
     {
         self.vertical_lines.take(col);
     }
 
     /// Sets the frame.
     pub fn set_borders(&mut self, borders: Borders<T>)
-        ensures { Appends IsTold self.old self.new (SetBorders borders ∷ []) }
+        ensures { AppendsHistory HasBorderHistory self.old self.new (SetBorders borders ∷ []) }
     {
         self.frame = borders;
     }
 
     /// Sets the value for all lines.
     pub fn set_global(&mut self, value: T)
-        ensures { Appends IsTold self.old self.new (SetGlobal value ∷ []) }
+        ensures { AppendsHistory HasBorderHistory self.old self.new (SetGlobal value ∷ []) }
     {
         self.global = Some(value);
     }

@@ -98,8 +98,8 @@ impl<L> Lines<L> {
 
     // Counts the ends of a line in place of those of an old one.
     fn recount(&mut self, old: Ends, new: Ends)
-        requires held_first { one_if old.first ≤ self.old.first_ends + one_if new.first }
-        requires held_last { one_if old.last ≤ self.old.last_ends + one_if new.last }
+        requires stored_first { one_if old.first ≤ self.old.first_ends + one_if new.first }
+        requires stored_last { one_if old.last ≤ self.old.last_ends + one_if new.last }
         requires small { (self.old.first_ends + 1 < 2 ^ 64) × (self.old.last_ends + 1 < 2 ^ 64) }
         ensures values { self.new.values ≡ self.old.values }
         ensures first { self.new.first_ends + one_if old.first
@@ -164,7 +164,7 @@ fn ends_of<L: Ended>(line: Option<&L>) -> Ends
 }
 
 fn replaced(count: usize, old: bool, new: bool) -> usize
-    requires held { one_if old ≤ count + one_if new }
+    requires stored { one_if old ≤ count + one_if new }
     requires small { count + 1 < 2 ^ 64 }
     ensures { result + one_if old ≡ count + one_if new }
 {

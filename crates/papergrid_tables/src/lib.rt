@@ -5,7 +5,7 @@
 mod border_parts;
 pub mod border_table;
 mod counted_lines;
-mod counted_places;
+mod counted_parts;
 pub mod laws;
 mod line_counts;
 pub mod offset_table;

@@ -40,8 +40,8 @@ impl LineCounts {
             count_of self.new.counts n ≡ count_of self.old.counts n + one_if (line == n) }
         ensures spare { spare self.old.counts ≤ spare self.new.counts + 1 }
     {
-        let held = self.counts.get(&line).copied().unwrap_or(0);
-        put(&mut self.counts, line, held + 1);
+        let stored = self.counts.get(&line).copied().unwrap_or(0);
+        put(&mut self.counts, line, stored + 1);
     }
 
     /// One less on a line. Condition: there is one.
@@ -50,8 +50,8 @@ impl LineCounts {
         ensures { (n : ℕ) →
             count_of self.new.counts n + one_if (line == n) ≡ count_of self.old.counts n }
     {
-        if let Some(held) = self.counts.get_mut(&line) {
-            *held -= 1;
+        if let Some(stored) = self.counts.get_mut(&line) {
+            *stored -= 1;
         }
     }
 
@@ -67,6 +67,6 @@ impl LineCounts {
     pub(crate) fn holds(&self, line: usize) -> bool
         ensures { result ≡ nat_lt 0 (count_of self.now.counts line) }
     {
-        look_up(&self.counts, line).is_some_and(|held| *held > 0)
+        look_up(&self.counts, line).is_some_and(|stored| *stored > 0)
     }
 }

@@ -2,12 +2,12 @@
 
 ghost use Rattle.std.specs.Prelude.{◌≡◌, ◌∷◌, [], ◌↔◌, Some, None, ◌-◌, nat_eq, nat_lt, IsTrue, OnOk, OnErr, if◌then◌else◌, option_copied};
 ghost use Rattle.std.specs.HashMap.{get as map_get};
-ghost use Rattle.papergrid_keys.specs.Told.{Appends};
+ghost use Rattle.papergrid_keys.specs.History.{AppendsHistory};
 ghost use Rattle.papergrid_values.specs.declared.offset.Offset.{Offset};
 ghost use Rattle.papergrid_keys.specs.Keys.{position_eq};
 ghost use Rattle.papergrid_tables.specs.ForProofs.Maps.{HoldsAsBefore};
 ghost use Rattle.papergrid_tables.specs.ForProofs.OverrideScan.{AfterSet, AreSet};
-ghost use Rattle.papergrid_tables.specs.Overrides.{IsOverridden, IsTold, RemoveAll, RemoveAt, SetAt, at_offset, found_override, is_same_offset, override_at};
+ghost use Rattle.papergrid_tables.specs.Overrides.{IsOverridden, HasOverrideHistory, RemoveAll, RemoveAt, SetAt, at_offset, found_override, is_same_offset, override_at};
 
 use papergrid_keys::hashed::{remove, write};
 use papergrid_values::{Offset, Position};
@@ -31,10 +31,10 @@ struct Overrides<T> {
 
 impl<T> Model for Overrides<T> {
     ghost use Rattle.std.specs.FinMap as map;
-    ghost use Rattle.papergrid_tables.specs.Overrides.{HeldOffsets};
+    ghost use Rattle.papergrid_tables.specs.Overrides.{StoredOffsets};
     ghost use Rattle.papergrid_tables.specs.ForProofs.OverrideScan.{offsets_code};
 
-    ghost Value = { HeldOffsets T };
+    ghost Value = { StoredOffsets T };
 
     ghost coded = { offsets_code T.code };
 
@@ -47,10 +47,10 @@ impl<T> Model for Overrides<T> {
 impl<T> Model for OffsetTable<T> {
     ghost use Rattle.std.specs.FinMap as map;
     ghost use Rattle.papergrid_keys.specs.Keys.{position_cmp, coded_position};
-    ghost use Rattle.papergrid_tables.specs.Overrides.{HeldOffsets};
+    ghost use Rattle.papergrid_tables.specs.Overrides.{StoredOffsets};
     ghost use Rattle.papergrid_tables.specs.ForProofs.OverrideScan.{AreSet, offsets_code};
 
-    ghost Value = { map.FinMap position_cmp (HeldOffsets T) };
+    ghost Value = { map.FinMap position_cmp (StoredOffsets T) };
 
     ghost coded = { map.code coded_position (offsets_code T.code) };
 
@@ -94,7 +94,7 @@ impl<T> Overrides<T> {
 impl<T> OffsetTable<T> {
     /// The table that holds nothing. It takes no memory.
     pub fn new(alloc: Global) -> Self
-        ensures { IsTold [] result }
+        ensures { HasOverrideHistory [] result }
     {
         OffsetTable {
             alloc,
@@ -123,7 +123,7 @@ impl<T> OffsetTable<T> {
 
     /// Whether no value is held.
     pub fn is_empty(&self) -> bool
-        ensures { IsTrue result ↔ IsTold [] self.now }
+        ensures { IsTrue result ↔ HasOverrideHistory [] self.now }
     {
         self.overrides.is_empty()
     }
@@ -132,7 +132,7 @@ impl<T> OffsetTable<T> {
 impl<T: Drop> OffsetTable<T> {
     /// Sets the value of a position at an offset. Where memory is refused the table is as it was.
     pub fn set(&mut self, pos: Position, offset: Offset, value: T) -> Result<(), AllocError>
-        ensures ok { OnOk result (Appends IsTold self.old self.new (SetAt pos offset value ∷ [])) }
+        ensures ok { OnOk result (AppendsHistory HasOverrideHistory self.old self.new (SetAt pos offset value ∷ [])) }
         ensures err { OnErr result (self.new ≡ self.old) }
     {
         set_override(self.alloc, &mut self.overrides, pos, offset, value)
@@ -140,14 +140,14 @@ impl<T: Drop> OffsetTable<T> {
 
     /// Removes all values of a position.
     pub fn remove(&mut self, pos: Position)
-        ensures { Appends IsTold self.old self.new (RemoveAt pos ∷ []) }
+        ensures { AppendsHistory HasOverrideHistory self.old self.new (RemoveAt pos ∷ []) }
     {
         remove(&mut self.overrides, pos);
     }
 
     /// Removes all values.
     pub fn clear(&mut self)
-        ensures { Appends IsTold self.old self.new (RemoveAll ∷ []) }
+        ensures { AppendsHistory HasOverrideHistory self.old self.new (RemoveAll ∷ []) }
     {
         self.overrides.clear();
     }
@@ -217,12 +217,12 @@ fn set_override<T: Drop>(
         (map_get position_eq overrides.old) (map_get position_eq overrides.new)) }
     ensures err { OnErr result (HoldsAsBefore overrides.old overrides.new) }
 {
-    if let Some(held) = overrides.get_mut(&pos) {
-        return held.set(offset, value);
+    if let Some(stored) = overrides.get_mut(&pos) {
+        return stored.set(offset, value);
     }
-    let mut held = Overrides::new(alloc);
-    held.set(offset, value)?;
-    write(overrides, pos, held)
+    let mut stored = Overrides::new(alloc);
+    stored.set(offset, value)?;
+    write(overrides, pos, stored)
 }
 
 // The value at an offset from the start of an end, counted from that end.

@@ -1,7 +1,7 @@
 pub mod Compared
 pub mod Counts
 pub mod Cuts
-pub mod KeptClones
+pub mod LineCacheClones
 pub mod Nth
 pub mod Places
 pub mod Printable

@@ -7,8 +7,8 @@ use Rattle.std.proofs.Math.Seq.{take-append_seam, drop-append_seam, get_or-appen
 use Rattle.std.proofs.lemmas.List.{append-nil, map-append}
 use Rattle.std.proofs.lemmas.List.Splits.{join_with_byte-slice_split}
 use Rattle.std.proofs.lemmas.Str.{IsCharBoundary-end, IsCharBoundary-start, IsCharBoundary-before_ascii, IsCharBoundary-after_ascii}
-use Rattle.papergrid_text.specs.declared.kept.LineRange.{LineRange}
-use Rattle.papergrid_text.specs.Kept.{IsInside, line_of_range}
+use Rattle.papergrid_text.specs.declared.line_cache.LineRange.{LineRange}
+use Rattle.papergrid_text.specs.LineCache.{IsInsideText, line_of_range}
 use Rattle.papergrid_text.specs.Text.{with_width, width_of, split_lines}
 
 -- the rest of the text, from `start` on, is the lines left joined by newlines
@@ -24,7 +24,7 @@ slice_mid front line back text start e n =
     rw (k, d) (take-append_seam line back)
 
 pub record Stepped (text line : List ℕ) (start : ℕ) (more : List (List ℕ)) : Type 0 where
-  pub inside : (width : ℕ) → IsInside text (record { start = start; end = start + length line; width = width })
+  pub inside : (width : ℕ) → IsInsideText text (record { start = start; end = start + length line; width = width })
   pub same : slice_range text start (start + length line) ≡ line
   pub left : IsRest text (start + length line + 1) more
   pub fits : start + length line ≤ length text

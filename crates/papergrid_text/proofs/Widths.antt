@@ -9,8 +9,8 @@ use Rattle.std.proofs.lemmas.List.Splits.{join_with_byte-slice_split}
 use Rattle.std.proofs.lemmas.Str.{chars-nil}
 use Rattle.std.proofs.Math.Dec.{eqb-suc-zero}
 use Rattle.unicode_width.specs.Width.{str_width}
-use Rattle.papergrid_text.specs.Text.{HasNoCrLf, greatest_width, width_of, split_lines, text_dimension, text_width, kept_by_new, with_width}
-use Rattle.papergrid_text.specs.Kept.{answered_lines}
+use Rattle.papergrid_text.specs.Text.{HasNoCrLf, greatest_width, width_of, split_lines, text_dimension, text_width, cached_by_new, with_width}
+use Rattle.papergrid_text.specs.LineCache.{answered_lines}
 use Rattle.papergrid_text.proofs.Splits.{is_split}
 
 -- ---- one more line
@@ -31,13 +31,13 @@ width_of_one text (line ∷ []) e small =
 width_of_one text (line ∷ next ∷ more) e small = absurd (omega arith)
 
 -- and nothing is kept of it
-pub none_kept : (lines : List (List ℕ)) → length lines < 2 → kept_by_new lines ≡ []
+pub none_kept : (lines : List (List ℕ)) → length lines < 2 → cached_by_new lines ≡ []
 none_kept [] small = refl
 none_kept (line ∷ []) small = refl
 none_kept (line ∷ next ∷ more) small = absurd (omega arith)
 
 -- what is answered of the lines kept are all lines of the text
-pub all_answered : (text : List ℕ) (lines : List (List ℕ)) → lines ≡ split_lines text → answered_lines text (greatest_width lines) (kept_by_new lines) ≡ map with_width lines
+pub all_answered : (text : List ℕ) (lines : List (List ℕ)) → lines ≡ split_lines text → answered_lines text (greatest_width lines) (cached_by_new lines) ≡ map with_width lines
 all_answered text [] e = let s = (is_split text).some in let n = ap length e in absurd (omega arith)
 all_answered text (line ∷ []) e =
     let same : line ≡ text = ap (join_with_byte 10) e ∙ (is_split text).joined in

@@ -13,8 +13,8 @@ module _ {I : Type 0} where
   rows_from iter = record { iter = iter }
 
   -- records of what can be walked, with a number of columns and a hint of the number of rows
-  abbrev pub counted : I → ℕ → Option ℕ → IterRecords I
-  counted rows columns hint = record { iter = rows; count_columns = columns; count_rows = hint }
+  abbrev pub iter_records_of : I → ℕ → Option ℕ → IterRecords I
+  iter_records_of rows columns hint = record { iter = rows; count_columns = columns; count_rows = hint }
 
   -- what is walked for the rows
   abbrev pub counted_rows : IterRecords I → I

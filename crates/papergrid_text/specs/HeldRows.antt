@@ -5,8 +5,8 @@ use Rattle.papergrid_text.specs.declared.vec_records.VecRecords.{VecRecords}
 
 module _ {T : Type 0} where
   -- records that hold these rows, and tell these counts
-  abbrev pub held : Vec (Vec T Global) Global → ℕ → ℕ → VecRecords T
-  held rows row_count column_count = record { rows = rows; count_rows = row_count; count_cols = column_count }
+  abbrev pub vec_records_of : Vec (Vec T Global) Global → ℕ → ℕ → VecRecords T
+  vec_records_of rows row_count column_count = record { rows = rows; count_rows = row_count; count_cols = column_count }
 
   -- the rows
   abbrev pub rows_held : VecRecords T → Vec (Vec T Global) Global

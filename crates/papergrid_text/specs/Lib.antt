@@ -2,7 +2,7 @@ pub mod Counted
 pub mod Cut
 pub mod Held
 pub mod HeldRows
-pub mod Kept
+pub mod LineCache
 pub mod LinesLeft
 pub mod Measured
 pub mod Records

@@ -1,6 +1,6 @@
 -- A text with its width, and the lines that were kept of it, each with its width.
 use Rattle.std.specs.Prelude.{ℕ, List}
-use Rattle.papergrid_text.specs.Text.{greatest_width, kept_by_new, split_lines}
+use Rattle.papergrid_text.specs.Text.{greatest_width, cached_by_new, split_lines}
 
 -- what is told of a measured text
 pub record Measured (S : Type 0) : Type 0 where
@@ -9,7 +9,7 @@ pub record Measured (S : Type 0) : Type 0 where
   pub lines : List (List ℕ × ℕ)
 
 -- what `Text::new` keeps of a text: the greatest width of its lines, and the lines if several
-abbrev pub measured : {S : Type 0} → (S → List ℕ) → S → Measured S
-measured text s =
+abbrev pub measured_text : {S : Type 0} → (S → List ℕ) → S → Measured S
+measured_text text s =
     let lines = split_lines (text s) in
-    record { text = s; width = greatest_width lines; lines = kept_by_new lines }
+    record { text = s; width = greatest_width lines; lines = cached_by_new lines }

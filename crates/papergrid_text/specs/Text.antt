@@ -50,10 +50,10 @@ abbrev pub with_width : List ℕ → List ℕ × ℕ
 with_width line = (line, width_of line)
 
 -- the lines that `Text::new` keeps of the lines of a text: none where there is only one
-abbrev pub kept_by_new : List (List ℕ) → List (List ℕ × ℕ)
-kept_by_new [] = []
-kept_by_new (line ∷ []) = []
-kept_by_new (line ∷ next ∷ more) = map with_width (line ∷ next ∷ more)
+abbrev pub cached_by_new : List (List ℕ) → List (List ℕ × ℕ)
+cached_by_new [] = []
+cached_by_new (line ∷ []) = []
+cached_by_new (line ∷ next ∷ more) = map with_width (line ∷ next ∷ more)
 
 -- ---- tabs
 

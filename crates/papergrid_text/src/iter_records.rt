@@ -2,7 +2,7 @@
 
 ghost use Rattle.std.specs.Prelude.{◌≡◌, ⊤};
 ghost use Rattle.std.specs.Borrow.{Bor};
-ghost use Rattle.papergrid_text.specs.Counted.{rows_iterated, counted, counted_rows, counted_columns, row_hint};
+ghost use Rattle.papergrid_text.specs.Counted.{rows_iterated, iter_records_of, counted_rows, counted_columns, row_hint};
 ghost use Rattle.papergrid_text.specs.Records.{WalkIsShort, GivesRows};
 
 use crate::records::{IntoRecords, Records};
@@ -60,7 +60,7 @@ impl<I> IterRecords<I> {
     /// Records with this number of columns, and a number of rows where one is known. They are lawful where
     /// what is walked is. Neither number is checked.
     pub fn new(iter: I, count_columns: usize, count_rows: Option<usize>) -> IterRecords<I>
-        ensures { result ≡ counted iter count_columns count_rows }
+        ensures { result ≡ iter_records_of iter count_columns count_rows }
     {
         IterRecords {
             iter,

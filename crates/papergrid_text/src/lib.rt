@@ -8,7 +8,7 @@
 pub mod cell;
 mod count;
 pub mod iter_records;
-mod kept;
+mod line_cache;
 pub mod laws;
 pub mod peekable;
 pub mod records;
@@ -20,7 +20,7 @@ pub mod vec_records;
 pub use cell::Cell;
 pub use count::count_byte;
 pub use iter_records::{IterRecords, RowIter};
-pub use kept::StrWithWidth;
+pub use line_cache::StrWithWidth;
 pub use peekable::PeekableRecords;
 pub use records::{ExactRecords, IntoRecords, Records};
 pub use string::Lines;

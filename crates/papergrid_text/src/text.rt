@@ -2,12 +2,12 @@
 
 ghost use Rattle.std.specs.Prelude.{◌≡◌, ◌≢◌, ◌<◌, [], length, map, fold, IfOk, IsOk, slice_index_or};
 ghost use Rattle.std.proofs.Common.{refl};
-ghost use Rattle.papergrid_text.specs.Kept.{AreInside, kept_lines, given_line, answered_lines, line_of_range};
-ghost use Rattle.papergrid_text.specs.Measured.{measured};
+ghost use Rattle.papergrid_text.specs.LineCache.{AreInside, cached_lines, given_line, answered_lines, line_of_range};
+ghost use Rattle.papergrid_text.specs.Measured.{measured_text};
 ghost use Rattle.papergrid_text.specs.Text.{greatest_width, with_width, split_lines};
 ghost use Rattle.papergrid_text.specs.TextOrder.{line_eq, line_cmp, line_hash, key, key_eq, key_cmp, key_hash};
 ghost use Rattle.papergrid_text.specs.ForProofs.TextLaws.{key_equiv, key_total, key_ties, key_alike};
-ghost use Rattle.papergrid_text.specs.declared.kept.KeptLines.TheVariants.{Ranges};
+ghost use Rattle.papergrid_text.specs.declared.line_cache.LineCache.TheVariants.{Ranges};
 ghost use Rattle.std.specs.Cmp.{on_per, on_equiv, on_total, on_po, po, partial_equiv_from_equiv};
 ghost use Rattle.std.specs.Cmp.Lexicographic.{pointwise, slice_cmp};
 ghost use Rattle.std.specs.Hash as fed;
@@ -15,7 +15,7 @@ ghost use Rattle.std.specs.Hash.{on_Alike};
 ghost use Rattle.std.specs.Ordering.{on, as_partial_cmp};
 
 use crate::cell::Cell;
-use crate::kept::{KeptLines, LineRange, StrWithWidth};
+use crate::line_cache::{LineCache, LineRange, StrWithWidth};
 use crate::string::{count_lines, get_line_width, get_lines};
 use std::alloc::{AllocError, Global};
 use std::cmp::Ordering;
@@ -30,20 +30,20 @@ use std::marker::Model;
 pub struct Text<S: AsStr> {
     text: S,
     width: usize,
-    lines: KeptLines,
+    lines: LineCache,
 }
 
 // Its lines, however they are kept, are texts with widths.
 impl<S: AsStr> Model for Text<S> {
     ghost use Rattle.papergrid_text.specs.Measured.{Measured};
-    ghost use Rattle.papergrid_text.specs.Kept.{AreInside, kept_lines};
+    ghost use Rattle.papergrid_text.specs.LineCache.{AreInside, cached_lines};
 
     ghost Value = { Measured S };
 
     ghost view = { λ t. record {
       text = t.text;
       width = t.width;
-      lines = kept_lines (S.text t.text) t.lines;
+      lines = cached_lines (S.text t.text) t.lines;
     } };
 
     ghost invariant = { λ t. AreInside (S.text t.text) t.lines };
@@ -59,7 +59,7 @@ impl<S: AsStr> Text<S> {
         Text {
             text,
             width,
-            lines: KeptLines::Given(lines),
+            lines: LineCache::Given(lines),
         }
     }
 
@@ -68,7 +68,7 @@ impl<S: AsStr> Text<S> {
     pub fn new(alloc: Global, text: S) -> Result<Text<S>, AllocError>
     where
         S: Drop,
-        ensures value { IfOk result (λ t. t ≡ measured S.text text) }
+        ensures value { IfOk result (λ t. t ≡ measured_text S.text text) }
         // As a cell it has the lines of the text, each with its width.
         ensures lines { IfOk result (λ t. answered_lines (S.text text) t.width t.lines
             ≡ map with_width (split_lines (S.text text))) }
@@ -78,11 +78,11 @@ impl<S: AsStr> Text<S> {
         let count = count_lines(whole);
         if count < 2 {
             let width = get_line_width(whole);
-            let lines = KeptLines::Ranges(Vec::new(alloc));
+            let lines = LineCache::Ranges(Vec::new(alloc));
             return Ok(Text { text, width, lines });
         }
         let (ranges, width) = measure_lines(alloc, whole, count)?;
-        let lines = KeptLines::Ranges(ranges);
+        let lines = LineCache::Ranges(ranges);
         Ok(Text { text, width, lines })
     }
 
@@ -98,13 +98,13 @@ impl<S: AsStr> Text<S> {
         text
     }
 
-    fn kept_count(&self) -> usize
+    fn cached_count(&self) -> usize
         ensures { result ≡ length self.now.lines }
     {
         self.lines.len(self.text.as_str())
     }
 
-    fn kept_line(&self, line: usize) -> &str
+    fn cached_line(&self, line: usize) -> &str
         requires { line < length self.now.lines }
         ensures { result.now ≡ (slice_index_or self.now.lines line ([], 0)).0 }
     {
@@ -139,14 +139,14 @@ impl<S: AsStr> Cell for Text<S> {
     }
 
     fn line(&self, line: usize) -> &str {
-        if self.kept_count() == 0 {
+        if self.cached_count() == 0 {
             return self.text.as_str();
         }
-        self.kept_line(line)
+        self.cached_line(line)
     }
 
     fn count_lines(&self) -> usize {
-        self.kept_count().max(1)
+        self.cached_count().max(1)
     }
 
     fn width(&self) -> usize {
@@ -154,7 +154,7 @@ impl<S: AsStr> Cell for Text<S> {
     }
 
     fn line_width(&self, line: usize) -> usize {
-        if self.kept_count() == 0 {
+        if self.cached_count() == 0 {
             return self.width;
         }
         self.kept_width(line)
@@ -197,14 +197,14 @@ impl<S: AsStr> Text<S> {
             (slice_index_or self.now.lines line ([], 0))
             (slice_index_or other.now.lines line ([], 0)) }
     {
-        let texts = self.kept_line(line).cmp(other.kept_line(line));
+        let texts = self.cached_line(line).cmp(other.cached_line(line));
         texts.then(self.kept_width(line).cmp(&other.kept_width(line)))
     }
 
     fn compare_lines(&self, other: &Text<S>) -> Ordering
         ensures { result ≡ slice_cmp line_cmp self.now.lines other.now.lines }
     {
-        let (ours, theirs) = (self.kept_count(), other.kept_count());
+        let (ours, theirs) = (self.cached_count(), other.cached_count());
         for line in 0..ours.min(theirs) {
             let found = self.compare_line(other, line);
             if found.is_ne() {
@@ -223,10 +223,10 @@ impl<S: AsStr> Text<S> {
     fn hash_lines<H: Hasher>(&self, state: &mut H)
         ensures { state.new ≡ fold H.write state.old (fed.slice line_hash self.now.lines) }
     {
-        let count = self.kept_count();
+        let count = self.cached_count();
         count.hash(state);
         for line in 0..count {
-            self.kept_line(line).hash(state);
+            self.cached_line(line).hash(state);
             self.kept_width(line).hash(state);
         }
     }

@@ -2,7 +2,7 @@
 
 ghost use Rattle.std.specs.Prelude.{◌≡◌, map, length, ⊤, Some};
 ghost use Rattle.papergrid_text.specs.Held.{first_length};
-ghost use Rattle.papergrid_text.specs.HeldRows.{held, rows_held, row_count, column_count};
+ghost use Rattle.papergrid_text.specs.HeldRows.{vec_records_of, rows_held, row_count, column_count};
 
 use crate::cell::Cell;
 use crate::peekable::PeekableRecords;
@@ -23,7 +23,7 @@ pub struct VecRecords<T> {
 impl<T> VecRecords<T> {
     /// Records of these rows, with as many columns as the first row has cells, 0 where there is no row.
     pub fn new(rows: Vec<Vec<T>>) -> VecRecords<T>
-        ensures { result ≡ held rows (length rows.items) (first_length rows.items) }
+        ensures { result ≡ vec_records_of rows (length rows.items) (first_length rows.items) }
     {
         let count_cols = match rows.first() {
             Some(row) => row.len(),
@@ -35,7 +35,7 @@ impl<T> VecRecords<T> {
 
     /// Records of these rows, with these counts.
     pub fn with_size(rows: Vec<Vec<T>>, count_rows: usize, count_cols: usize) -> VecRecords<T>
-        ensures { result ≡ held rows count_rows count_cols }
+        ensures { result ≡ vec_records_of rows count_rows count_cols }
     {
         VecRecords {
             rows,
@@ -209,7 +209,7 @@ impl<T: Drop> From<VecRecords<T>> for Vec<Vec<T>> {
 }
 
 impl<T> From<Vec<Vec<T>>> for VecRecords<T> {
-    ghost from_gives = { λ rows r. r ≡ held rows (length rows.items) (first_length rows.items) };
+    ghost from_gives = { λ rows r. r ≡ vec_records_of rows (length rows.items) (first_length rows.items) };
 
     fn from(rows: Vec<Vec<T>>) -> VecRecords<T> {
         VecRecords::new(rows)

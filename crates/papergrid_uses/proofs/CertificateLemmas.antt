@@ -3,33 +3,33 @@ use Rattle.std.proofs.Common.{◌≡◌, ◌↔◌, ℕ, Bool, false, inl, inr, 
 use Rattle.std.proofs.lemmas.Bool.{false≢true}
 use Rattle.papergrid_values.specs.declared.position.Position.{Position}
 use Rattle.papergrid_values.specs.declared.direction.Direction.{Direction}
-use Rattle.papergrid_axis.specs.Answers.{AreChosen, AreSizes, NoneChosen}
-use Rattle.papergrid_axis.specs.Chosen.{chosen_of}
+use Rattle.papergrid_axis.specs.Answers.{AreCertifying, AreSizes, NoneCertify}
+use Rattle.papergrid_axis.specs.Certificates.{certificate_cells_of}
 use Rattle.papergrid_axis.specs.Fits.{IsCertificate}
 use Rattle.papergrid_axis.specs.Problem.{Problem}
-use Rattle.papergrid_axis.specs.Ranges.{IsKeptApart}
+use Rattle.papergrid_axis.specs.Ranges.{IsLaminar}
 use Rattle.papergrid_walk.specs.Cells.{problem_of}
 use Rattle.papergrid_maps.specs.Grids.{Grid}
-use Rattle.papergrid_layout.specs.Witnesses.{IsChecked}
+use Rattle.papergrid_layout.specs.Certificates.{IsChecked}
 use Rattle.papergrid_uses.proofs.RowLemmas.{one_told}
 
 -- chosen cells are accepted, and are chosen where ranges are kept apart
 accepted_where : (problem : Problem) (sizes : List ℕ) (places : List Position) (answer : Bool)
-    → AreSizes problem sizes → AreChosen problem places → IsChecked problem sizes places answer → IsTrue answer ↔ IsKeptApart problem.demands
+    → AreSizes problem sizes → AreCertifying problem places → IsChecked problem sizes places answer → IsTrue answer ↔ IsLaminar problem.demands
 accepted_where problem sizes places answer are chosen checked = (
-  λ _. chosen.kept_apart,
+  λ _. chosen.laminar,
   λ _. checked.exact.1 (record {
     none_out = chosen.none_out;
     fits = are.fits;
-    cells = chosen_of problem;
+    cells = certificate_cells_of problem;
     at_places = sym chosen.exact;
-    certificate = subst (λ xs. IsCertificate problem xs (chosen_of problem)) (sym are.exact) chosen.certificate;
+    certificate = subst (λ xs. IsCertificate problem xs (certificate_cells_of problem)) (sym are.exact) chosen.certificate;
   }),
 )
 
-none_where : (problem : Problem) → NoneChosen problem → IsTrue false ↔ IsKeptApart problem.demands
+none_where : (problem : Problem) → NoneCertify problem → IsTrue false ↔ IsLaminar problem.demands
 none_where problem none =
-    let cross = none.not_kept_apart in (
+    let cross = none.not_laminar in (
       λ t. absurd (false≢true t),
       λ apart. absurd (elim (apart cross.one cross.other cross.are_visible.0 cross.are_visible.1 cross.are_long.0 cross.are_long.1) [
         | inl nested ↦ cross.not_nested nested
@@ -46,11 +46,11 @@ module _ {A B : Type 0} (grid : Grid) (v : A → B) (f : B → ℕ × ℕ) (colu
 
   -- the same of what three walks over the records told
   pub certified_told : (sizes : List ℕ) (places : List Position) (answer : Bool)
-      → Told (λ problem. AreSizes problem sizes) → Told (λ problem. AreChosen problem places) → Told (λ problem. IsChecked problem sizes places answer)
-      → IsTrue answer ↔ IsKeptApart (problem_of grid f columns rows direction).demands
+      → Told (λ problem. AreSizes problem sizes) → Told (λ problem. AreCertifying problem places) → Told (λ problem. IsChecked problem sizes places answer)
+      → IsTrue answer ↔ IsLaminar (problem_of grid f columns rows direction).demands
   certified_told sizes places answer are chosen checked =
       accepted_where (problem_of grid f columns rows direction) sizes places answer (of_rows (λ problem. AreSizes problem sizes) are)
-      (of_rows (λ problem. AreChosen problem places) chosen) (of_rows (λ problem. IsChecked problem sizes places answer) checked)
+      (of_rows (λ problem. AreCertifying problem places) chosen) (of_rows (λ problem. IsChecked problem sizes places answer) checked)
 
-  pub none_told : Told NoneChosen → IsTrue false ↔ IsKeptApart (problem_of grid f columns rows direction).demands
-  none_told none = none_where (problem_of grid f columns rows direction) (of_rows NoneChosen none)
+  pub none_told : Told NoneCertify → IsTrue false ↔ IsLaminar (problem_of grid f columns rows direction).demands
+  none_told none = none_where (problem_of grid f columns rows direction) (of_rows NoneCertify none)

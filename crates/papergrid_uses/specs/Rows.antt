@@ -5,7 +5,7 @@ use Rattle.std.specs.declared.alloc.Global.{Global}
 use Rattle.papergrid_values.specs.declared.direction.Direction.{Direction}
 use Rattle.papergrid_axis.specs.Problem.{Problem}
 use Rattle.papergrid_config.specs.declared.spanned.SpannedConfig.{SpannedConfig}
-use Rattle.papergrid_text.specs.Kept.{answered_lines}
+use Rattle.papergrid_text.specs.LineCache.{answered_lines}
 use Rattle.papergrid_text.specs.Measured.{Measured}
 use Rattle.papergrid_walk.specs.Cells.{problem_of}
 use Rattle.papergrid_config.specs.Grids.{spanned_grid}

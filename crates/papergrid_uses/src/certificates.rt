@@ -3,7 +3,7 @@
 ghost use Rattle.std.specs.Prelude.{◌↔◌, IsTrue, List, MatchResult};
 ghost use Rattle.papergrid_axis.specs.Answers.{IsAccepted, IsRefused};
 ghost use Rattle.papergrid_axis.specs.Fits.{IsLeast};
-ghost use Rattle.papergrid_axis.specs.Ranges.{IsKeptApart};
+ghost use Rattle.papergrid_axis.specs.Ranges.{IsLaminar};
 ghost use Rattle.papergrid_values.specs.declared.direction.Direction.TheVariants.{Columns};
 ghost use Rattle.papergrid_walk.specs.Cells.{problem_of};
 ghost use Rattle.papergrid_config.specs.Grids.{spanned_grid};
@@ -26,7 +26,7 @@ pub fn is_certified(
     config: &SpannedConfig,
 ) -> Result<bool, LayoutError>
     ensures { let problem = texts_problem config.now 3 rows.now Columns in
-        MatchResult result (λ certified. IsTrue certified ↔ IsKeptApart problem.demands)
+        MatchResult result (λ certified. IsTrue certified ↔ IsLaminar problem.demands)
         (IsRefused problem) }
 {
     let records = IterRecords::new(rows, 3, None);

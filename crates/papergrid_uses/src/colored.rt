@@ -1,12 +1,12 @@
 //! Colours of cells, and texts with their colour.
 
 ghost use Rattle.std.specs.Prelude.{◌≡◌, ◌++◌, IfOk, OnOk, Some, codes, string_bytes, ℕ};
-ghost use Rattle.papergrid_maps.specs.MapHeld.{held_value};
+ghost use Rattle.papergrid_maps.specs.StoredMap.{stored_value};
 
 use papergrid::ansi::{ANSIBuf, ANSIFmt};
 use papergrid::config::Entity;
 use papergrid::config::spanned::EntityMap;
-use papergrid_maps::laws::told_decides;
+use papergrid_maps::laws::history_decides;
 use std::alloc::{AllocError, Global};
 use std::fmt;
 use std::fmt::Write;
@@ -14,13 +14,13 @@ use std::fmt::Write;
 /// Bold texts in the first row, and plain ones in all others.
 pub fn bold_head(alloc: Global) -> Result<EntityMap<Option<ANSIBuf>>, AllocError>
     ensures { IfOk result (λ colors. (col : ℕ) →
-        held_value colors (record { row = 0; col = col })
+        stored_value colors (record { row = 0; col = col })
         ≡ Some (codes "\u{1b}[1m", codes "\u{1b}[0m")) }
 {
     let bold = ANSIBuf::new(alloc, "\u{1b}[1m", "\u{1b}[0m")?;
     let mut colors = EntityMap::new(alloc, None);
     colors.insert(Entity::Row(0), Some(bold))?;
-    told_decides::<Option<ANSIBuf>>();
+    history_decides::<Option<ANSIBuf>>();
     Ok(colors)
 }
 

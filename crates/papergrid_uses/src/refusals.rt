@@ -2,7 +2,7 @@
 
 ghost use Rattle.std.specs.Prelude.{◌≡◌, ◌↔◌, IsTrue, Some};
 ghost use Rattle.papergrid_axis.specs.declared.error.LayoutError.TheVariants.{OutOfTable};
-ghost use Rattle.papergrid_layout.specs.declared.placement.PlaceError.TheVariants.{Hidden};
+ghost use Rattle.papergrid_layout.specs.declared.rect.PlaceError.TheVariants.{Hidden};
 ghost use Rattle.papergrid_values.specs.declared.position.Position.{Position};
 
 use papergrid::config::Position;

@@ -2,7 +2,7 @@
 
 ghost use Rattle.std.specs.Prelude.{◌≡◌, IfOk, OnErr, OnOk, false, take, ℕ};
 ghost use Rattle.std.specs.Io.KnownBytes.{Appends};
-ghost use Rattle.papergrid.specs.Outputs.{end_of, output_of};
+ghost use Rattle.papergrid.specs.Outputs.{run_end_of, output_of};
 ghost use Rattle.papergrid.specs.Reasons.{reason_of};
 ghost use Rattle.papergrid_uses.specs.Scripts.{bad_number};
 
@@ -12,7 +12,7 @@ use std::alloc::{AllocError, Global};
 /// Writes what the program answers to a script, and tells how that ended. Condition: the writer has not failed.
 pub fn answer_to<W: Sink>(alloc: Global, script: &[u8], writer: &mut W) -> Result<RunEnd, RunFault>
     requires { W.has_failed writer.old ≡ false }
-    ensures end { IfOk result (λ end. end ≡ end_of script.now) }
+    ensures end { IfOk result (λ end. end ≡ run_end_of script.now) }
     ensures written { OnOk result
         (Appends (W.contents writer.old) (W.contents writer.new) (output_of script.now)) }
     ensures beginning { OnErr result ((n : ℕ) ×

@@ -4,8 +4,8 @@ ghost use Rattle.std.specs.Prelude.{◌≡◌, All, IfOk, true};
 ghost use Rattle.papergrid.specs.Layouts.{IsLaidOut};
 ghost use Rattle.papergrid.specs.Grids.{grid_of};
 ghost use Rattle.papergrid_config.specs.Applied.{is_in_range};
-ghost use Rattle.papergrid_config.specs.Told.{IsTold};
-ghost use Rattle.papergrid_maps.specs.MapHeld.{held_value};
+ghost use Rattle.papergrid_config.specs.History.{HasSettingHistory};
+ghost use Rattle.papergrid_maps.specs.StoredMap.{stored_value};
 ghost use Rattle.papergrid_values.specs.declared.position.Position.{Position};
 ghost use Rattle.papergrid_uses.specs.Lines.{line_settings};
 ghost use Rattle.papergrid_uses.specs.Rows.{cells_of, text_measure};
@@ -18,7 +18,7 @@ use papergrid::dimension::LayoutError;
 use papergrid::dimension::iterable::IterGridDimension;
 use papergrid::layout;
 use papergrid::records::IterRecords;
-use papergrid_config::laws::told_decides;
+use papergrid_config::laws::history_decides;
 use std::alloc::{AllocError, Global};
 
 /// A blank left and right of each text.
@@ -32,13 +32,13 @@ pub fn blanks() -> Sides<Indent>
 /// A border of `+`, a first cell over two columns, and a blank left and right of each text.
 pub fn one_by_one(alloc: Global) -> Result<SpannedConfig, AllocError>
     ensures { IfOk result (λ config.
-        (pos : Position) → (held_value config.padding pos).left.size ≡ 1) }
+        (pos : Position) → (stored_value config.padding pos).left.size ≡ 1) }
 {
     let mut config = SpannedConfig::new(alloc);
     config.set_borders(Borders::filled('+'));
     config.set_column_span(Position::new(0, 0), 2)?;
     config.set_padding(Entity::Global, blanks())?;
-    told_decides();
+    history_decides();
     Ok(config)
 }
 
@@ -68,7 +68,7 @@ pub fn laid_out(
 /// A configuration that a list tells. Condition: each setting is in range.
 pub fn told(alloc: Global, settings: Vec<Setting>) -> Result<SpannedConfig, Stopped>
     requires { All (λ setting. is_in_range setting ≡ true) settings.items }
-    ensures { IfOk result (IsTold settings.items) }
+    ensures { IfOk result (HasSettingHistory settings.items) }
 {
     let mut config = SpannedConfig::new(alloc);
     config.apply_all(settings)?;
@@ -78,7 +78,7 @@ pub fn told(alloc: Global, settings: Vec<Setting>) -> Result<SpannedConfig, Stop
 /// A line before the second column, one before the second row with another character where it begins,
 /// a border round one cell, and one character of that row's line in place of the line's.
 pub fn lines(alloc: Global) -> Result<SpannedConfig, AllocError>
-    ensures { IfOk result (IsTold line_settings) }
+    ensures { IfOk result (HasSettingHistory line_settings) }
 {
     let mut config = SpannedConfig::new(alloc);
     config.insert_vertical_line(1, VerticalLine::filled('|'))?;

@@ -2,18 +2,18 @@
 use Rattle.std.proofs.Common.{◌≡◌, ℕ, ◌+◌, ◌<◌, ◌≤◌, ◌≢◌, inl, inr, List, [], ◌∷◌, ◌++◌, get_or, length, map, refl, sym, ap, arith, suc}
 use Rattle.std.specs.Prelude.{All, AllPairs, true}
 use Rattle.std.proofs.lemmas.List.Elements.{All-append, All-cons, All-filter, All-map, All-nil, All-weaker}
-use Rattle.std.proofs.lemmas.List.Kept.{AllPairs-cons, AllPairs-filter}
+use Rattle.std.proofs.lemmas.List.Demands.{AllPairs-cons, AllPairs-filter}
 use Rattle.papergrid_values.specs.declared.position.Position.{Position}
 use Rattle.papergrid_values.specs.declared.direction.Direction.{Direction}
 use Rattle.papergrid_values.specs.declared.direction.Direction.TheVariants.{Columns, Rows}
 use Rattle.papergrid_axis.specs.declared.demand.Demand.{Demand}
-use Rattle.papergrid_axis.specs.declared.kept.Kept.{Kept}
+use Rattle.papergrid_axis.specs.declared.demands.Demands.{Demands}
 use Rattle.papergrid_axis.specs.ForProofs.Checks.{AreDistinct}
 use Rattle.papergrid_axis.specs.Ranges.{place_of}
-use Rattle.papergrid_axis.specs.ForProofs.Kept.{Holds, IsKept, StandInOrder, is_single}
-use Rattle.papergrid_axis.proofs.KeptLemmas.{below-own_limit}
+use Rattle.papergrid_axis.specs.ForProofs.Demands.{HoldsDemands, AreGathered, StandInOrder, is_single}
+use Rattle.papergrid_axis.proofs.DemandLemmas.{below-own_limit}
 use Rattle.papergrid_values.specs.Positions.{IsBefore}
-use Rattle.papergrid_walk.specs.Cells.{demand_by, count_along, demands_of, placed, placed_from, placed_row, visible_cells}
+use Rattle.papergrid_walk.specs.Cells.{demand_by, count_along, demands_of, positioned_cells, placed_from, placed_row, visible_cells}
 use Rattle.papergrid_walk.specs.ForProofs.Limits.{limit_along}
 use Rattle.papergrid_maps.specs.Grids.{Grid}
 
@@ -85,11 +85,11 @@ module _ {C : Type 0} where
   below-limit Rows grid measure columns rows =
       All-map (λ d. is_single (limit_along Rows columns) d ≡ true → d.start < length rows) (demand_by Rows grid measure) (visible_cells grid rows)
       (All-weaker (λ x. x.0.row < length rows) (λ x. is_single (limit_along Rows columns) (demand_by Rows grid measure x) ≡ true → x.0.row < length rows) (λ x l t. l) (visible_cells grid rows)
-      (All-filter (λ cell. grid.shows cell.0) (λ x. x.0.row < length rows) (placed rows) (from-above (length rows) 0 rows (omega arith))))
+      (All-filter (λ cell. grid.shows cell.0) (λ x. x.0.row < length rows) (positioned_cells rows) (from-above (length rows) 0 rows (omega arith))))
 
   -- the visible cells stand in their order
   pub AllPairs-visible : (grid : Grid) (rows : List (List C)) → AllPairs Precedes (visible_cells grid rows)
-  AllPairs-visible grid rows = AllPairs-filter Precedes (λ cell. grid.shows cell.0) (placed rows) (from-precede 0 rows)
+  AllPairs-visible grid rows = AllPairs-filter Precedes (λ cell. grid.shows cell.0) (positioned_cells rows) (from-precede 0 rows)
 
   module _ (direction : Direction) (grid : Grid) (measure : C → ℕ × ℕ) where
     demand_by-in_order : (xs : List (Position × C)) → AllPairs Precedes xs → StandInOrder (map (demand_by direction grid measure) xs)
@@ -106,10 +106,10 @@ module _ {C : Type 0} where
     AreDistinct-demands rows i j d l l' = differ (get_or (demands_of direction grid measure rows) i d) (get_or (demands_of direction grid measure rows) j d) (in_order-demands rows i j d l l')
 
   -- what a walk kept of told rows is what the table asks for
-  pub IsKept-demands : (direction : Direction) (grid : Grid) (measure : C → ℕ × ℕ) (columns : ℕ) (rows : List (List C)) (kept : Kept) →
-      count_along direction columns (length rows) ≤ limit_along direction columns → Holds (limit_along direction columns) kept (demands_of direction grid measure rows) →
-      IsKept (count_along direction columns (length rows)) kept (demands_of direction grid measure rows)
-  IsKept-demands direction grid measure columns rows kept le held = record {
+  pub AreGathered-demands : (direction : Direction) (grid : Grid) (measure : C → ℕ × ℕ) (columns : ℕ) (rows : List (List C)) (kept : Demands) →
+      count_along direction columns (length rows) ≤ limit_along direction columns → HoldsDemands (limit_along direction columns) kept (demands_of direction grid measure rows) →
+      AreGathered (count_along direction columns (length rows)) kept (demands_of direction grid measure rows)
+  AreGathered-demands direction grid measure columns rows kept le held = record {
     limit = limit_along direction columns;
     held = held;
     from_limit = le;

@@ -4,11 +4,11 @@ use Rattle.std.proofs.lemmas.Bool.{cases_lt, ltb-true, lt-ltb}
 use Rattle.std.proofs.lemmas.Option.{slice_get_within, slice_get-get_or}
 use Rattle.papergrid_maps.specs.declared.anchors.Anchor.{Anchor}
 use Rattle.papergrid_values.specs.declared.position.Position.{Position}
-use Rattle.papergrid_walk.specs.declared.levels.Levels.{Levels}
-use Rattle.papergrid_walk.specs.ForProofs.Levels.{end_at, raised_end}
+use Rattle.papergrid_walk.specs.declared.max_tree.MaxTree.{MaxTree}
+use Rattle.papergrid_walk.specs.ForProofs.MaxTree.{end_at, raised_end}
 use Rattle.papergrid_values.specs.Positions.{IsBefore}
 use Rattle.papergrid_maps.specs.Hidden.{IsHidden}
-use Rattle.papergrid_walk.specs.ForProofs.Swept.{cut, end_with, end_of, AllBefore, Holds}
+use Rattle.papergrid_walk.specs.ForProofs.Swept.{cut_end, end_with, swept_end_of, AllBefore, HoldsEnds}
 use Rattle.papergrid_maps.specs.Anchors.{IsSorted, IsWithin}
 use Rattle.papergrid_maps.proofs.HiddenLemmas.{position-same}
 
@@ -27,10 +27,10 @@ raised-old first last end old column row h = grind (arith)
 raised-new : (first last end old column row : ℕ) → first ≤ column → column < last → row < end → row < raised_end first last end old column
 raised-new first last end old column row h k m = grind (arith)
 
-cut-below : (row end : ℕ) → row < cut end → row < end
+cut-below : (row end : ℕ) → row < cut_end end → row < end
 cut-below row end h = grind (arith)
 
-below-cut : (row end : ℕ) → row < end → row < 2 ^ 64 - 1 → row < cut end
+below-cut : (row end : ℕ) → row < end → row < 2 ^ 64 - 1 → row < cut_end end
 below-cut row end h k = grind (arith)
 
 -- the anchor, if there is one, has the column, and ends below the row
@@ -49,20 +49,20 @@ with-found (Some a) old column row h =
       | inr from ↦ inr (record {
         anchor = a;
         is_anchor = refl;
-        after_left = raised-first _ (a.position.col + a.cols) (cut (a.position.row + a.rows)) old column row h from;
-        before_right = raised-last a.position.col _ (cut (a.position.row + a.rows)) old column row h from;
+        after_left = raised-first _ (a.position.col + a.cols) (cut_end (a.position.row + a.rows)) old column row h from;
+        before_right = raised-last a.position.col _ (cut_end (a.position.row + a.rows)) old column row h from;
         above_bottom = cut-below row _ (raised-row a.position.col (a.position.col + a.cols) _ old column row h from);
       })
     ]
 
 with-old : (found : Option Anchor) (old column row : ℕ) → row < old → row < end_with found old column
 with-old None old column row h = h
-with-old (Some a) old column row h = raised-old a.position.col (a.position.col + a.cols) (cut (a.position.row + a.rows)) old column row h
+with-old (Some a) old column row h = raised-old a.position.col (a.position.col + a.cols) (cut_end (a.position.row + a.rows)) old column row h
 
 with-new : (found : Option Anchor) (old column row : ℕ) → row < 2 ^ 64 - 1 → IsOver found column row → row < end_with found old column
 with-new found old column row k over =
     rw over.is_anchor
-    (raised-new over.anchor.position.col (over.anchor.position.col + over.anchor.cols) (cut (over.anchor.position.row + over.anchor.rows)) old column row
+    (raised-new over.anchor.position.col (over.anchor.position.col + over.anchor.cols) (cut_end (over.anchor.position.row + over.anchor.rows)) old column row
     over.after_left over.before_right (below-cut row (over.anchor.position.row + over.anchor.rows) over.above_bottom k))
 
 pub record IsPassed (anchors : List Anchor) (passed column row : ℕ) : Type 0 where
@@ -70,22 +70,22 @@ pub record IsPassed (anchors : List Anchor) (passed column row : ℕ) : Type 0 w
   pub below : index < passed
   pub over : IsOver (slice_get anchors index) column row
 
-pub end-found : (anchors : List Anchor) (passed column row : ℕ) → row < end_of anchors passed column → IsPassed anchors passed column row
+pub end-found : (anchors : List Anchor) (passed column row : ℕ) → row < swept_end_of anchors passed column → IsPassed anchors passed column row
 end-found anchors zero column row h = absurd (omega (arith, h))
 end-found anchors (suc passed) column row h =
-    elim (with-found (slice_get anchors passed) (end_of anchors passed column) column row h) [
+    elim (with-found (slice_get anchors passed) (swept_end_of anchors passed column) column row h) [
       | inl older ↦ (let before = end-found anchors passed column row older in
           record { index = before.index; below = omega (arith, before.below); over = before.over })
       | inr over ↦ record { index = passed; below = omega arith; over = over }
     ]
 
-pub end-over : (anchors : List Anchor) (passed column row : ℕ) → row < 2 ^ 64 - 1 → IsPassed anchors passed column row → row < end_of anchors passed column
+pub end-over : (anchors : List Anchor) (passed column row : ℕ) → row < 2 ^ 64 - 1 → IsPassed anchors passed column row → row < swept_end_of anchors passed column
 end-over anchors zero column row k is = absurd (omega (arith, is.below))
 end-over anchors (suc passed) column row k is =
     elim (cases_lt is.index passed) [
       | inl below ↦ with-old (slice_get anchors passed) _ column row (end-over anchors passed column row k (record { index = is.index; below = below; over = is.over }))
       | inr from ↦ (let e : is.index ≡ passed = omega (arith, is.below) in
-          with-new (slice_get anchors passed) (end_of anchors passed column) column row k (subst (λ j. IsOver (slice_get anchors j) column row) e is.over))
+          with-new (slice_get anchors passed) (swept_end_of anchors passed column) column row k (subst (λ j. IsOver (slice_get anchors j) column row) e is.over))
     ]
 
 -- an anchor whose rectangle has another position stands before it
@@ -121,7 +121,7 @@ before-row p q (inl above) = omega arith
 before-row p q (inr level) = omega (arith, level.0)
 
 pub hidden-above : (anchors : List Anchor) (passed : ℕ) (p : Position) → AllBefore anchors passed p
-    → p.row < end_of anchors passed p.col → IsHidden anchors p
+    → p.row < swept_end_of anchors passed p.col → IsHidden anchors p
 hidden-above anchors passed p before h =
     let found = end-found anchors passed p.col p.row h in
     let ahead = before found.index found.over.anchor found.below found.over.is_anchor in
@@ -140,7 +140,7 @@ hidden-above anchors passed p before h =
 
 pub above-hidden : (anchors : List Anchor) (passed : ℕ) (p : Position) → IsSorted anchors
     → ((a : Anchor) → slice_get anchors passed ≡ Some a → IsBefore a.position p → ⊥)
-    → p.row < 2 ^ 64 - 1 → IsHidden anchors p → p.row < end_of anchors passed p.col
+    → p.row < 2 ^ 64 - 1 → IsHidden anchors p → p.row < swept_end_of anchors passed p.col
 above-hidden anchors passed p sorted rest row hidden =
     let before = before-within hidden.anchor p hidden.is_other hidden.is_in in
     elim (cases_lt hidden.index passed) [
@@ -164,13 +164,13 @@ above-hidden anchors passed p sorted rest row hidden =
     ]
 
 -- what a step of the sweep answers
-pub hidden-at : (levels : Levels) (columns : ℕ) (slice anchors : List Anchor) (passed : ℕ) (p : Position) (end : ℕ)
-    → slice ≡ anchors → IsSorted anchors → Holds levels columns slice passed → AllBefore slice passed p
+pub hidden-at : (max_tree : MaxTree) (columns : ℕ) (slice anchors : List Anchor) (passed : ℕ) (p : Position) (end : ℕ)
+    → slice ≡ anchors → IsSorted anchors → HoldsEnds max_tree columns slice passed → AllBefore slice passed p
     → ((a : Anchor) → slice_get slice passed ≡ Some a → IsBefore a.position p → ⊥)
-    → p.row < 2 ^ 64 - 1 → p.col < columns → end ≡ end_at levels p.col
+    → p.row < 2 ^ 64 - 1 → p.col < columns → end ≡ end_at max_tree p.col
     → IsTrue (nat_lt p.row end) ↔ IsHidden anchors p
-hidden-at levels columns slice anchors passed p end same sorted holds before rest row col e =
-    let at : end ≡ end_of anchors passed p.col = e ∙ subst (λ s. Holds levels columns s passed) same holds p.col col in (
+hidden-at max_tree columns slice anchors passed p end same sorted holds before rest row col e =
+    let at : end ≡ swept_end_of anchors passed p.col = e ∙ subst (λ s. HoldsEnds max_tree columns s passed) same holds p.col col in (
       (λ t. let below : p.row < end = ltb-true p.row end t in
           hidden-above anchors passed p (subst (λ s. AllBefore s passed p) same before) (subst (λ n. p.row < n) at below)),
       (λ hidden. lt-ltb p.row end (subst (λ n. p.row < n) (sym at)

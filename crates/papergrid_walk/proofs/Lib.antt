@@ -1,4 +1,4 @@
-pub mod LevelLemmas
+pub mod MaxTreeLemmas
 pub mod PassLemmas
 pub mod HiddenLemmas
 pub mod Distinct

@@ -25,8 +25,8 @@ module _ {C : Type 0} where
   placed_from r (row ∷ rows) = placed_row r 0 row ++ placed_from (r + 1) rows
 
   -- the cells with their positions, by row and then by column
-  abbrev pub placed : List (List C) → List (Position × C)
-  placed rows = placed_from 0 rows
+  abbrev pub positioned_cells : List (List C) → List (Position × C)
+  positioned_cells rows = placed_from 0 rows
 
   -- those of some cells that are visible
   abbrev pub visible_of : Grid → List (Position × C) → List (Position × C)
@@ -34,7 +34,7 @@ module _ {C : Type 0} where
 
   -- the visible cells of rows, by row and then by column
   abbrev pub visible_cells : Grid → List (List C) → List (Position × C)
-  visible_cells grid rows = visible_of grid (placed rows)
+  visible_cells grid rows = visible_of grid (positioned_cells rows)
 
   -- what a cell asks for: its measure and the paddings before and after it, over its span
   abbrev pub demand_by : Direction → Grid → (C → ℕ × ℕ) → Position × C → Demand
@@ -48,7 +48,7 @@ module _ {C : Type 0} where
 
   -- what the visible cells of the rows ask for, by row and then by column
   abbrev pub demands_of : Direction → Grid → (C → ℕ × ℕ) → List (List C) → List Demand
-  demands_of direction grid measure rows = demands_by direction grid measure (placed rows)
+  demands_of direction grid measure rows = demands_by direction grid measure (positioned_cells rows)
 
 -- the number of columns, or of rows
 abbrev pub count_along : Direction → ℕ → ℕ → ℕ

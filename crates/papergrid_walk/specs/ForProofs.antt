@@ -1,6 +1,6 @@
 -- What no contract of the facade's calls reaches, and no law: only contracts of functions below them and proofs speak of it.
 pub mod Filters
-pub mod Levels
+pub mod MaxTree
 pub mod Limits
 pub mod Paddings
 pub mod Pairs

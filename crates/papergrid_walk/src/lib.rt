@@ -10,15 +10,15 @@
 #![tactic(auto)]
 
 pub mod known;
-mod levels;
+mod max_tree;
 pub mod measure;
-pub mod needs;
+pub mod demand_visitors;
 pub mod position_filter;
 pub mod shown;
 pub mod sweep;
 pub mod visitor;
 
 pub use measure::Measure;
-pub use needs::{KeptBoth, gather, gather_both};
+pub use demand_visitors::{BothDemands, gather, gather_both};
 pub use sweep::Sweep;
 pub use visitor::{Visitor, walk};

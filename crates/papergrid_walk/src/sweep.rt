@@ -4,12 +4,12 @@ ghost use Rattle.std.specs.Prelude.{◌≡◌, ℕ, ◌+◌, ◌-◌, ◌^◌, �
 ghost use Rattle.papergrid_values.specs.declared.position.Position.{Position};
 ghost use Rattle.papergrid_maps.specs.Anchors.{IsSorted};
 ghost use Rattle.papergrid_maps.specs.declared.anchors.Anchor.{Anchor};
-ghost use Rattle.papergrid_walk.specs.ForProofs.Levels.{Fits, end_at};
+ghost use Rattle.papergrid_walk.specs.ForProofs.MaxTree.{HasLevels, end_at};
 ghost use Rattle.papergrid_values.specs.Positions.{IsBefore};
 ghost use Rattle.papergrid_maps.specs.Hidden.{IsHidden};
-ghost use Rattle.papergrid_walk.specs.ForProofs.Swept.{AllBefore, HasReached, Holds, IsAhead, IsAnchorAt, IsSwept, end_with, least};
+ghost use Rattle.papergrid_walk.specs.ForProofs.Swept.{AllBefore, HasReached, HoldsEnds, IsAhead, IsAnchorAt, IsSwept, end_with, lesser};
 
-use crate::levels::Levels;
+use crate::max_tree::MaxTree;
 use papergrid_maps::Anchor;
 use papergrid_values::Position;
 use std::alloc::{AllocError, Global};
@@ -21,7 +21,7 @@ pub struct Sweep {
     anchors: Vec<Anchor>,
     next: usize,
     columns: usize,
-    levels: Levels,
+    max_tree: MaxTree,
 }
 
 impl Model for Sweep {
@@ -31,7 +31,7 @@ impl Model for Sweep {
 
     ghost view = { λ s. record { anchors = s.anchors.items; columns = s.columns; passed = s.next } };
 
-    ghost invariant = { λ s. IsSwept s.levels (record { anchors = s.anchors.items; columns = s.columns; passed = s.next }) };
+    ghost invariant = { λ s. IsSwept s.max_tree (record { anchors = s.anchors.items; columns = s.columns; passed = s.next }) };
 }
 
 impl Sweep {
@@ -42,12 +42,12 @@ impl Sweep {
         ensures { IfOk result (λ walk. walk ≡
             record { anchors = anchors.items; columns = columns; passed = 0 }) }
     {
-        let levels = Levels::new(alloc, columns)?;
+        let max_tree = MaxTree::new(alloc, columns)?;
         Ok(Sweep {
             anchors,
             next: 0,
             columns,
-            levels,
+            max_tree,
         })
     }
 
@@ -71,7 +71,7 @@ impl Sweep {
             record { anchors = self.old.anchors; columns = columns; passed = 0 }) }
         ensures err { OnErr result (self.new ≡ self.old) }
     {
-        self.levels = Levels::new(alloc, columns)?;
+        self.max_tree = MaxTree::new(alloc, columns)?;
         self.columns = columns;
         self.next = 0;
         Ok(())
@@ -91,13 +91,13 @@ impl Sweep {
         ensures columns { self.new.columns ≡ self.old.columns }
     {
         self.next = advance(
-            &mut self.levels,
+            &mut self.max_tree,
             self.columns,
             self.anchors.as_slice(),
             self.next,
             position,
         );
-        position.row < self.levels.end_at(position.col)
+        position.row < self.max_tree.end_at(position.col)
     }
 
     /// The position that was asked for last, with its spans: those of its anchor, 1 where it has none.
@@ -121,25 +121,25 @@ impl Sweep {
 
 // Passes the anchors before the position.
 fn advance(
-    levels: &mut Levels,
+    max_tree: &mut MaxTree,
     columns: usize,
     anchors: &[Anchor],
     mut next: usize,
     position: Position,
 ) -> usize
-    requires fits { Fits levels.old columns }
+    requires fits { HasLevels max_tree.old columns }
     requires within { next ≤ length anchors.now }
-    requires holds { Holds levels.old columns anchors.now next }
+    requires holds { HoldsEnds max_tree.old columns anchors.now next }
     requires before { AllBefore anchors.now next position }
-    ensures fits { Fits levels.new columns }
+    ensures fits { HasLevels max_tree.new columns }
     ensures within { result ≤ length anchors.now }
-    ensures holds { Holds levels.new columns anchors.now result }
+    ensures holds { HoldsEnds max_tree.new columns anchors.now result }
     ensures before { AllBefore anchors.now result position }
     ensures rest { (a : Anchor) → slice_get anchors.now result ≡ Some a →
         IsBefore a.position position → ⊥ }
 {
     while next < anchors.len() && anchors[next].is_before(position) {
-        pass(levels, columns, anchors[next]);
+        pass(max_tree, columns, anchors[next]);
         next += 1;
     }
     next
@@ -147,24 +147,24 @@ fn advance(
 
 // Raises the columns of the anchor to its end. An end above the greatest `usize` counts as that
 // one, which no row reaches.
-fn pass(levels: &mut Levels, columns: usize, anchor: Anchor)
-    requires { Fits levels.old columns }
-    ensures fits { Fits levels.new columns }
+fn pass(max_tree: &mut MaxTree, columns: usize, anchor: Anchor)
+    requires { HasLevels max_tree.old columns }
+    ensures fits { HasLevels max_tree.new columns }
     ensures passed { (column : ℕ) → column < columns →
-        end_at levels.new column ≡ end_with (Some anchor) (end_at levels.old column) column }
+        end_at max_tree.new column ≡ end_with (Some anchor) (end_at max_tree.old column) column }
 {
     let first = anchor.position.col;
     if first < columns {
         let last = sum_to(first, anchor.cols, columns);
         let end = sum_to(anchor.position.row, anchor.rows, usize::MAX);
-        levels.raise(first, last, end);
+        max_tree.raise(first, last, end);
     }
 }
 
 // The sum, or `most` where the sum is more.
 fn sum_to(a: usize, b: usize, most: usize) -> usize
     requires { a ≤ most }
-    ensures { result ≡ least (a + b) most }
+    ensures { result ≡ lesser (a + b) most }
 {
     if b <= most - a { a + b } else { most }
 }

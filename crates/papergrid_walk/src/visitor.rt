@@ -3,7 +3,7 @@
 ghost use Rattle.std.specs.Prelude.{◌≡◌, ℕ, ◌+◌, ◌++◌, ◌-◌, ◌<◌, ◌^◌, ◌∷◌, [], ⊤, IfOk, List, OnErr, OnOk, length};
 ghost use Rattle.papergrid_text.specs.Records.{Gives, WalkIsShort};
 ghost use Rattle.papergrid_values.specs.declared.position.Position.{Position};
-ghost use Rattle.papergrid_walk.specs.Cells.{placed, placed_row};
+ghost use Rattle.papergrid_walk.specs.Cells.{positioned_cells, placed_row};
 
 use papergrid_text::{IntoRecords, Records};
 use papergrid_values::Position;
@@ -16,32 +16,32 @@ use std::iter::{IntoIterator, Iterator};
 /// it owes that this is kept from visit to visit.
 pub trait Visitor<C> {
     // Holds where it may take the cell at a row and a column, and those after it.
-    ghost stands: { Self → ℕ → ℕ → Type 0 };
+    ghost ready: { Self → ℕ → ℕ → Type 0 };
 
     // Holds of it before and after it took these cells, by row and then by column.
-    ghost visits: { Self → Self → List (Position × C) → Type 0 };
+    ghost consumed: { Self → Self → List (Position × C) → Type 0 };
 
     // Holds where a visit may be refused memory.
     ghost may_fail: { Type 0 };
 
     /// Takes a cell.
     fn visit(&mut self, position: Position, cell: &C) -> Result<(), AllocError>
-        requires stands { stands self.old position.row position.col }
+        requires ready { ready self.old position.row position.col }
         requires row_in { position.row < 2 ^ 64 - 1 }
         requires col_in { position.col < 2 ^ 64 - 1 }
-        ensures visits { OnOk result (visits self.old self.new ((position, cell.now) ∷ [])) }
-        ensures stands { OnOk result (stands self.new position.row (position.col + 1)) }
+        ensures consumed { OnOk result (consumed self.old self.new ((position, cell.now) ∷ [])) }
+        ensures ready { OnOk result (ready self.new position.row (position.col + 1)) }
         ensures fails { OnErr result may_fail };
 
     // It took no cell yet.
-    ghost none: { (v : Self) → visits v v [] };
+    ghost empty: { (v : Self) → consumed v v [] };
 
     // It took some cells, and then more of them.
-    ghost more: { (u v w : Self) (cells further : List (Position × C)) →
-        visits u v cells → visits v w further → visits u w (cells ++ further) };
+    ghost append: { (u v w : Self) (cells further : List (Position × C)) →
+        consumed u v cells → consumed v w further → consumed u w (cells ++ further) };
 
     // After a row comes the next one.
-    ghost turns: { (v : Self) (row column : ℕ) → stands v row column → stands v (row + 1) 0 };
+    ghost next_row: { (v : Self) (row column : ℕ) → ready v row column → ready v (row + 1) 0 };
 }
 
 /// Visits the cells of a row.
@@ -54,12 +54,12 @@ where
     <W as IntoIterator>::Item: Drop,
     requires short { WalkIsShort W.into_iter_gives W.IntoIter.can_next W.IntoIter.remaining
         W.IntoIter.next_gives (λ _. ⊤) row }
-    requires stands { V.stands visitor.old number 0 }
+    requires ready { V.ready visitor.old number 0 }
     requires row_in { number < 2 ^ 64 - 1 }
-    ensures visits { OnOk result ((cells : List W.Item)
+    ensures consumed { OnOk result ((cells : List W.Item)
         × Gives W.into_iter_gives W.IntoIter.next_gives row cells
-        × V.visits visitor.old visitor.new (placed_row number 0 cells)) }
-    ensures stands { OnOk result (V.stands visitor.new (number + 1) 0) }
+        × V.consumed visitor.old visitor.new (placed_row number 0 cells)) }
+    ensures ready { OnOk result (V.ready visitor.new (number + 1) 0) }
     ensures fails { OnErr result V.may_fail }
 {
     let mut column = 0usize;
@@ -82,9 +82,9 @@ pub fn walk<R: Records + Drop, V: Visitor<<<R as Records>::Iter as IntoRecords>:
 where
     <<R as Records>::Iter as IntoRecords>::Cell: Drop,
     requires lawful { R.is_lawful records }
-    requires stands { V.stands visitor.old 0 0 }
-    ensures visits { IfOk result (λ rows. (cells : List (List R.Iter.Cell)) × R.tells records cells
-        × V.visits visitor.old visitor.new (placed cells) × (rows ≡ length cells)) }
+    requires ready { V.ready visitor.old 0 0 }
+    ensures consumed { IfOk result (λ rows. (cells : List (List R.Iter.Cell)) × R.tells records cells
+        × V.consumed visitor.old visitor.new (positioned_cells cells) × (rows ≡ length cells)) }
     ensures fails { OnErr result V.may_fail }
 {
     let mut count = 0usize;

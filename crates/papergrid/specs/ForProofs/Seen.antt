@@ -9,24 +9,24 @@ use Rattle.papergrid_layout.specs.declared.sizing.Sizing.{Sizing}
 use Rattle.papergrid_layout.specs.declared.sizing.Sizing.TheVariants.{ByShares, Least}
 use Rattle.papergrid_axis.specs.declared.error.LayoutError.{LayoutError}
 use Rattle.papergrid_axis.specs.declared.error.LayoutError.TheVariants as layout_errors
-use Rattle.papergrid_axis.specs.Answers.{IsWitness}
+use Rattle.papergrid_axis.specs.Answers.{IsCertificateOrNone}
 use Rattle.papergrid_axis.specs.Problem.{Problem}
 use Rattle.papergrid_maps.specs.Grids.{Grid}
-use Rattle.papergrid_layout.specs.Witnesses.{IsCertifiedWhere}
-use Rattle.papergrid_least.specs.Answers.{IsLongest}
+use Rattle.papergrid_layout.specs.Certificates.{IsCertifiedWhere}
+use Rattle.papergrid_least.specs.Answers.{IsCriticalPath}
 use Rattle.papergrid_layout.specs.declared.certificates.Certified.{Certified}
 use Rattle.papergrid.specs.Estimates.{Estimate, OutOfTable, TooLarge, Sized}
 use Rattle.papergrid.specs.Totals.{AreSizesBy, HasNone}
 
 -- what is found to certify the sizes of a problem
-abbrev pub IsFoundWitness : Sizing → Problem → Option (Vec Position Global) → Type 0
-IsFoundWitness ByShares = IsWitness
-IsFoundWitness Least = IsLongest
+abbrev pub IsFoundCertificate : Sizing → Problem → Option (Vec Position Global) → Type 0
+IsFoundCertificate ByShares = IsCertificateOrNone
+IsFoundCertificate Least = IsCriticalPath
 
 -- exactly the sizes that are chosen so, with what certifies them, or why there are none
 abbrev pub IsCertifiedBy : Sizing → {C : Type 0} → Grid → (C → ℕ × ℕ) → ℕ → List (List C) → Result Certified LayoutError → Type 0
 IsCertifiedBy sizing grid measure columns cells result =
-    IsCertifiedWhere grid measure columns cells (HasNone sizing) (AreSizesBy sizing) (IsFoundWitness sizing) result
+    IsCertifiedWhere grid measure columns cells (HasNone sizing) (AreSizesBy sizing) (IsFoundCertificate sizing) result
 
 -- the places of a witness that the program holds
 abbrev pub places_seen : Option (Vec Position Global) → Option (List Position)

@@ -11,7 +11,7 @@ use Rattle.papergrid_axis.specs.Fits.{HasRoom}
 
 -- a range with a need, wherever its cell stands
 abbrev pub range_of : ℕ → ℕ → ℕ → Demand
-range_of start span need = record { row = 0; col = 0; start = start; span = span; need = need }
+range_of start span minimum = record { row = 0; col = 0; start = start; span = span; minimum = minimum }
 
 -- how often the cell is listed
 abbrev pub times_listed : List Position → Demand → ℕ
@@ -41,7 +41,7 @@ AreDistinct demands = AllPairs (λ a b. place_of a ≢ place_of b) demands
 -- no more cells were found than places are listed, so the sums are not too large
 pub record AreBounded (places : List Position) (checked : Checked) : Type 0 where
   pub few : checked.found ≤ length places
-  pub needs : checked.needs ≤ 2 ^ 66 * checked.found
+  pub minimums : checked.minimums ≤ 2 ^ 66 * checked.found
   pub inner : checked.inner ≤ 2 ^ 64 * checked.found
 
 module _ (line : ℕ → Bool) (sizes : List ℕ) (places : List Position) where
@@ -50,7 +50,7 @@ module _ (line : ℕ → Bool) (sizes : List ℕ) (places : List Position) where
     pub table : All (λ d. end_of d ≤ length sizes) demands
     pub room : All (HasRoom line sizes) demands
     pub found : checked.found ≡ all_listed (λ _. 1) places demands
-    pub needs : checked.needs ≡ all_listed (λ d. d.need) places demands
+    pub minimums : checked.minimums ≡ all_listed (λ d. d.minimum) places demands
     pub inner : checked.inner ≡ all_listed (inner_lines line) places demands
 
   -- all cells have room in the table, and no more of them are listed than there are places
@@ -61,7 +61,7 @@ module _ (line : ℕ → Bool) (sizes : List ℕ) (places : List Position) where
 
   -- what was kept of these cells, of which each has the span that its place has
   pub record Checks (direction : Direction) (span_of : Position → ℕ) (checked : Checked) (demands : List Demand) : Type 0 where
-    pub ranged : All (λ d. d ≡ demand_of direction (place_of d) (span_of (place_of d)) d.need) demands
+    pub ranged : All (λ d. d ≡ demand_of direction (place_of d) (span_of (place_of d)) d.minimum) demands
     pub spans : All (λ d. 1 ≤ d.span) demands
     pub holds : checked.holds ≡ true → AllHold checked demands
     pub fails : checked.holds ≡ false → CanHold demands → ⊥
@@ -76,4 +76,4 @@ ChecksFor line span_of candidate checked demands =
 pub record SumsAgree (checked : Checked) (sizes : List ℕ) (places : List Position) : Type 0 where
   pub holds : checked.holds ≡ true
   pub found : checked.found ≡ length places
-  pub adds_up : checked.needs ≡ sum sizes + checked.inner
+  pub adds_up : checked.minimums ≡ sum sizes + checked.inner

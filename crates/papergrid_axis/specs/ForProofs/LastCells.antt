@@ -5,17 +5,17 @@ use Rattle.std.specs.List.{AllByRecursion, list_any}
 use Rattle.std.specs.Option.{option_or}
 use Rattle.papergrid_axis.specs.declared.demand.Demand.{Demand}
 use Rattle.papergrid_axis.specs.Ranges.{holds, AreDisjoint, LiesIn}
-use Rattle.papergrid_axis.specs.Chosen.{exact_single}
-use Rattle.papergrid_axis.specs.ForProofs.Kept.{no_demand}
+use Rattle.papergrid_axis.specs.Certificates.{exact_single}
+use Rattle.papergrid_axis.specs.ForProofs.Demands.{no_demand}
 
 -- a cell that is taken before another is disjoint from it or lies in its range
 abbrev pub Precedes : Demand → Demand → Type 0
 Precedes earlier later = AreDisjoint earlier later ⊎ LiesIn earlier later
 
 -- each cell precedes all later ones: a laminar family, the inner ranges first
-abbrev pub IsLaminar : List Demand → Type 0
-IsLaminar [] = ⊤
-IsLaminar (d ∷ rest) = AllByRecursion (Precedes d) rest × IsLaminar rest
+abbrev pub IsLaminarInOrder : List Demand → Type 0
+IsLaminarInOrder [] = ⊤
+IsLaminarInOrder (d ∷ rest) = AllByRecursion (Precedes d) rest × IsLaminarInOrder rest
 
 -- the last of the cells whose range holds i
 abbrev pub last_holding : List Demand → ℕ → Option Demand
@@ -28,8 +28,8 @@ slot_of (Some d) first size i = if d.start == i then Some d else None
 slot_of None first size i = if size == 0 then None else first
 
 -- the chosen cell at i, by lists of the last growing cells and of the single ones
-abbrev pub chosen_slot : List (Option Demand) → List Demand → List ℕ → ℕ → Option Demand
-chosen_slot last single_span sizes i = slot_of (slice_index_or last i None) (Some (slice_index_or single_span i no_demand)) (slice_index sizes i) i
+abbrev pub certificate_slot : List (Option Demand) → List Demand → List ℕ → ℕ → Option Demand
+certificate_slot last single_span sizes i = slot_of (slice_index_or last i None) (Some (slice_index_or single_span i no_demand)) (slice_index sizes i) i
 
 -- where no growing cell's range holds i and its size is above 0, the first cell that covers i alone and needs its size is kept
 -- at i

@@ -2,17 +2,17 @@
 use Rattle.std.specs.Prelude.{◌≡◌, ℕ, ◌^◌, ◌<◌, Bool, false, true, None, List, slice_index_or, All}
 use Rattle.papergrid_axis.specs.declared.demand.Demand.{Demand}
 use Rattle.papergrid_axis.specs.Problem.{Problem, total_of}
-use Rattle.papergrid_axis.specs.Chosen.{growing_cells_of}
+use Rattle.papergrid_axis.specs.Certificates.{growing_cells_of}
 use Rattle.papergrid_axis.specs.Ranges.{IsInTable, first_out}
-use Rattle.papergrid_axis.specs.declared.kept.Kept.{Kept}
-use Rattle.papergrid_axis.specs.Sizes.{sizes_of, taken}
+use Rattle.papergrid_axis.specs.declared.demands.Demands.{Demands}
+use Rattle.papergrid_axis.specs.Sizes.{sizes_of, by_span}
 
 -- whether a line is drawn, by a list that says so of each number; none past its end
 abbrev pub line_at : List Bool → ℕ → Bool
 line_at lines i = slice_index_or lines i false
 
 -- no cell reaches out of so many numbers, and one has a large need
-pub record IsLargeInside (count : ℕ) (kept : Kept) : Type 0 where
+pub record IsLargeInside (count : ℕ) (kept : Demands) : Type 0 where
   pub inside : first_out count kept.rest.items ≡ None
   pub is_large : kept.is_large ≡ true
 
@@ -21,6 +21,6 @@ pub record AreGrown (problem : Problem) (sizes : List ℕ)
     (cells growing_cells : List Demand) : Type 0 where
   pub table : All (IsInTable problem.count) problem.demands
   pub shares : sizes ≡ sizes_of problem
-  pub in_order : cells ≡ taken problem.count problem.demands
+  pub in_order : cells ≡ by_span problem.count problem.demands
   pub grew : growing_cells ≡ growing_cells_of problem
   pub total : total_of problem (sizes_of problem) < 2 ^ 64

@@ -7,7 +7,7 @@ use Rattle.std.specs.FinMap.{entries}
 use Rattle.std.proofs.lemmas.Bool.{false≢true}
 use Rattle.std_collections.specs.Layout.HashMap.{hash_map}
 use Rattle.std_collections.specs.HashMap.Eq.{hash_map_eq_symm, hash_map_eq_trans}
-use Rattle.papergrid_keys.specs.Equal.{numbers_eq, places_eq}
+use Rattle.papergrid_keys.specs.Equal.{numbers_eq, positions_eq}
 use Rattle.papergrid_keys.specs.Keys.{position_eq}
 
 position_eq_equiv : IsEquivalence position_eq
@@ -23,8 +23,8 @@ entries_laws same same_equiv eq laws = record {
 pub numbers_laws : {X : Type 0} (eq : X → X → Bool) → IsPartialEquivalence eq → IsPartialEquivalence (numbers_eq eq)
 numbers_laws eq laws = on_per entries (entries_laws nat_eq nat_eq_equiv eq laws)
 
-pub places_laws : {X : Type 0} (eq : X → X → Bool) → IsPartialEquivalence eq → IsPartialEquivalence (places_eq eq)
-places_laws eq laws = on_per entries (entries_laws position_eq position_eq_equiv eq laws)
+pub positions_laws : {X : Type 0} (eq : X → X → Bool) → IsPartialEquivalence eq → IsPartialEquivalence (positions_eq eq)
+positions_laws eq laws = on_per entries (entries_laws position_eq position_eq_equiv eq laws)
 
 -- ---- parts that are set or not
 

@@ -7,8 +7,8 @@ use Rattle.papergrid_values.specs.Positions.{IsBefore, position_of}
 use Rattle.papergrid_walk.specs.ForProofs.Shown.{Shows}
 use Rattle.papergrid_layout.specs.Places.{HasPlace, IsVisibleCell, TableView, offset, total_along, track_line}
 use Rattle.papergrid_layout.specs.declared.marks.Marks.{Marks}
-use Rattle.papergrid_layout.specs.declared.placement.Place.{Place}
-use Rattle.papergrid_layout.specs.declared.placing.Placing.{Placing}
+use Rattle.papergrid_layout.specs.declared.rect.Place.{Place}
+use Rattle.papergrid_layout.specs.declared.cell_rects.Placing.{Placing}
 
 -- where each of so many columns (rows) begins, and where it ends
 pub record AreMarks (size : ℕ → ℕ) (line : ℕ → Bool) (count : ℕ) (marks : Marks) : Type 0 where

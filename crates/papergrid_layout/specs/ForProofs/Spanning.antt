@@ -7,7 +7,7 @@ use Rattle.papergrid_values.specs.declared.direction.Direction.TheVariants.{Rows
 use Rattle.papergrid_values.specs.Positions.{IsBefore}
 use Rattle.papergrid_maps.specs.declared.anchors.Anchor.{Anchor}
 use Rattle.papergrid_walk.specs.ForProofs.Shown.{Shows}
-use Rattle.papergrid_layout.specs.Places.{Covers, HasPlace, IsInside, TableView, place_at}
+use Rattle.papergrid_layout.specs.Places.{Covers, HasPlace, IsInsideTable, TableView, place_at}
 use Rattle.papergrid_layout.specs.declared.spanning.SpanningCell.{SpanningCell}
 use Rattle.papergrid_layout.specs.declared.spanning.Spanning.{Spanning}
 
@@ -29,13 +29,13 @@ IsListed cells p = (cell : SpanningCell) × Contains cells cell × (cell.positio
 -- all cells of the table that span more than one column or row
 pub record HaveAllSpanning (table : TableView) (cells : List SpanningCell) : Type 0 where
   pub are : AreSpanning table cells
-  pub complete : (direction : Direction) (p : Position) → IsInside table p → 2 ≤ table.grid.span direction p → IsListed cells p
+  pub complete : (direction : Direction) (p : Position) → IsInsideTable table p → 2 ≤ table.grid.span direction p → IsListed cells p
 
 -- past a position: its cell is listed if it has a place, and nothing else changed
 abbrev pub IsSpannedStep : TableView → Position → Spanning → Spanning → Type 0
 IsSpannedStep table p old new =
-    ((IsInside table p → ⊥) × (new.cells.items ≡ old.cells.items) × (new.reach ≡ old.reach))
-    ⊎ (IsInside table p × (old.reach ≤ new.reach) × (end_row table p ≤ new.reach)
+    ((IsInsideTable table p → ⊥) × (new.cells.items ≡ old.cells.items) × (new.reach ≡ old.reach))
+    ⊎ (IsInsideTable table p × (old.reach ≤ new.reach) × (end_row table p ≤ new.reach)
     × (new.cells.items ≡ old.cells.items ++ record { position = p; place = place_at table p; reach = new.reach } ∷ []))
 
 -- the walk over the anchors has come to number i
@@ -44,7 +44,7 @@ pub record HasSpanned (table : TableView) (anchors : List Anchor) (i : ℕ) (fou
   pub are : AreSpanning table found.cells.items
   pub before : (k : ℕ) (a : Anchor) → i ≤ k → slice_get anchors k ≡ Some a → All (λ c. IsBefore c.position a.position) found.cells.items
   pub within : All (λ (c : SpanningCell). c.reach ≤ found.reach) found.cells.items
-  pub complete : (k : ℕ) (a : Anchor) → k < i → slice_get anchors k ≡ Some a → IsInside table a.position → IsListed found.cells.items a.position
+  pub complete : (k : ℕ) (a : Anchor) → k < i → slice_get anchors k ≡ Some a → IsInsideTable table a.position → IsListed found.cells.items a.position
 
 -- the rows of each cell that covers a point have the row
 abbrev pub CoverInRow : TableView → ℕ → ℕ → ℕ → List SpanningCell → Type 0

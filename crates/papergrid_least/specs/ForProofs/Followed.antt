@@ -3,16 +3,16 @@ use Rattle.std.specs.Prelude.{ℕ, zero, suc, ◌+◌, ◌-◌, Bool, ◌&&◌, 
 use Rattle.papergrid_values.specs.declared.position.Position.{Position}
 use Rattle.papergrid_axis.specs.declared.demand.Demand.{Demand}
 use Rattle.papergrid_axis.specs.Ranges.{end_of, place_of}
-use Rattle.papergrid_axis.specs.ForProofs.Kept.{no_demand}
-use Rattle.papergrid_least.specs.Longest.{pushes, with_earlier}
+use Rattle.papergrid_axis.specs.ForProofs.Demands.{no_demand}
+use Rattle.papergrid_least.specs.CriticalPath.{is_tight, with_earlier}
 
 -- the first cell that covers one number alone and pushes the edge at i to where it is
-abbrev pub single_pusher : (Demand → ℕ) → List Demand → ℕ → Option Demand
-single_pusher asks demands i = find (λ d. d.span == 1 && pushes asks demands i d) demands
+abbrev pub single_tight_cell : (Demand → ℕ) → List Demand → ℕ → Option Demand
+single_tight_cell asks demands i = find (λ d. d.span == 1 && is_tight asks demands i d) demands
 
 -- the first cell of a longer range that does so
-abbrev pub longer_pusher : (Demand → ℕ) → List Demand → ℕ → Option Demand
-longer_pusher asks demands i = find (λ d. nat_lt 1 d.span && pushes asks demands i d) demands
+abbrev pub longer_tight_cell : (Demand → ℕ) → List Demand → ℕ → Option Demand
+longer_tight_cell asks demands i = find (λ d. nat_lt 1 d.span && is_tight asks demands i d) demands
 
 -- whether one position comes before another, by row and then by column
 abbrev pub is_before : Position → Position → Bool
@@ -25,21 +25,21 @@ earlier_cell (Some d) None = Some d
 earlier_cell (Some d) (Some e) = if is_before (place_of e) (place_of d) then Some e else Some d
 
 -- whether the cell pushes the edge at i to where it is, by these edges
-abbrev pub pushes_by : (Demand → ℕ) → (ℕ → ℕ) → ℕ → Demand → Bool
-pushes_by asks edge i d = end_of d == i && (edge d.start + asks d == edge i)
+abbrev pub is_tight_by : (Demand → ℕ) → (ℕ → ℕ) → ℕ → Demand → Bool
+is_tight_by asks boundary i d = end_of d == i && (boundary d.start + asks d == boundary i)
 
 -- the cell, where it needs so much
-abbrev pub needing : ℕ → Demand → Option Demand
-needing step d = if d.need == step then Some d else None
+abbrev pub with_minimum : ℕ → Demand → Option Demand
+with_minimum step d = if d.minimum == step then Some d else None
 
 -- the cells met going back from the edge at i: over what no cell pushed to the edge before it, else from the earlier of two cells
 -- to where its range starts: what is kept for the number before it, where that needs what lies between the two edges, and the cell
 -- of a longer range that is kept for the edge
-abbrev pub followed : (ℕ → ℕ) → (ℕ → Demand) → (ℕ → Option Demand) → ℕ → ℕ → List Demand
-followed edge single longer zero i = []
-followed edge single longer (suc steps) i =
-    if edge i - edge (i - 1) == 0 then followed edge single longer steps (i - 1)
-    else with_earlier (earlier_cell (needing (edge i - edge (i - 1)) (single (i - 1))) (longer i)) (followed edge single longer steps)
+abbrev pub followed_cells : (ℕ → ℕ) → (ℕ → Demand) → (ℕ → Option Demand) → ℕ → ℕ → List Demand
+followed_cells boundary single longer zero i = []
+followed_cells boundary single longer (suc steps) i =
+    if boundary i - boundary (i - 1) == 0 then followed_cells boundary single longer steps (i - 1)
+    else with_earlier (earlier_cell (with_minimum (boundary i - boundary (i - 1)) (single (i - 1))) (longer i)) (followed_cells boundary single longer steps)
 
 -- what is kept for a number alone
 abbrev pub kept_single : List Demand → ℕ → Demand
@@ -47,4 +47,4 @@ kept_single single_span i = slice_index_or single_span i no_demand
 
 -- the cell of a longer range that is kept for an edge
 abbrev pub kept_longer : List (Option Demand) → ℕ → Option Demand
-kept_longer pushers i = slice_index_or pushers i None
+kept_longer tight_cells i = slice_index_or tight_cells i None

@@ -5,16 +5,16 @@ use Rattle.papergrid_axis.specs.Ranges.{end_of}
 
 -- each edge is past the one to its left by what the number between needs alone, from number a on, up to b
 abbrev pub AreSteps : List ℕ → ℕ → ℕ → (ℕ → ℕ) → Type 0
-AreSteps base a b edge = (i : ℕ) → a ≤ i → i < b → edge i + slice_index base i ≤ edge (i + 1)
+AreSteps base a b boundary = (i : ℕ) → a ≤ i → i < b → boundary i + slice_index base i ≤ boundary (i + 1)
 
 -- the edges round each range are as far apart as its cell needs
-abbrev pub AreApart : List Demand → (ℕ → ℕ) → Type 0
-AreApart cells edge = All (λ d. edge d.start + d.need ≤ edge (end_of d)) cells
+abbrev pub AreSpaced : List Demand → (ℕ → ℕ) → Type 0
+AreSpaced cells boundary = All (λ d. boundary d.start + d.minimum ≤ boundary (end_of d)) cells
 
 -- edges by what each number needs alone and by the cells of longer ranges
-pub record AreLaid (base : List ℕ) (cells : List Demand) (edge : ℕ → ℕ) : Type 0 where
-  pub steps : AreSteps base 0 (length base) edge
-  pub apart : AreApart cells edge
+pub record AreLaid (base : List ℕ) (cells : List Demand) (boundary : ℕ → ℕ) : Type 0 where
+  pub steps : AreSteps base 0 (length base) boundary
+  pub apart : AreSpaced cells boundary
 
 -- no cell starts after one before it in the list
 abbrev pub AreLaterFirst : List Demand → Type 0
@@ -22,5 +22,5 @@ AreLaterFirst cells =
     (i j : ℕ) (d : Demand) → i ≤ j → j < length cells → (slice_index_or cells j d).start ≤ (slice_index_or cells i d).start
 
 -- the cell with what it asks in place of its need
-abbrev pub carrying : (Demand → ℕ) → Demand → Demand
-carrying asks d = record d { need = asks d }
+abbrev pub with_net_minimum : (Demand → ℕ) → Demand → Demand
+with_net_minimum asks d = record d { minimum = asks d }

@@ -15,22 +15,22 @@ Refuses too_large (Memory e) = ⊤
 
 module _ (base : List ℕ) (cells : List Demand) where
   -- edges, and none are below them
-  pub record IsEarliest (edges : List ℕ) : Type 0 where
-    pub one_more : length edges ≡ length base + 1
-    pub laid : AreLaid base cells (slice_index edges)
-    pub below : (edge : ℕ → ℕ) → AreLaid base cells edge → (i : ℕ) → i ≤ length base → slice_index edges i ≤ edge i
+  pub record AreLowestBoundaries (boundaries : List ℕ) : Type 0 where
+    pub one_more : length boundaries ≡ length base + 1
+    pub laid : AreLaid base cells (slice_index boundaries)
+    pub below : (boundary : ℕ → ℕ) → AreLaid base cells boundary → (i : ℕ) → i ≤ length base → slice_index boundaries i ≤ boundary i
 
   -- edges that end at the total, and none that end there or before are above them
-  pub record IsLatest (total : ℕ) (edges : List ℕ) : Type 0 where
-    pub one_more : length edges ≡ length base + 1
-    pub last : slice_index edges (length base) ≡ total
-    pub laid : AreLaid base cells (slice_index edges)
-    pub above : (edge : ℕ → ℕ) → AreLaid base cells edge → edge (length base) ≤ total → (i : ℕ) → i ≤ length base → edge i ≤ slice_index edges i
+  pub record AreHighestBoundaries (total : ℕ) (boundaries : List ℕ) : Type 0 where
+    pub one_more : length boundaries ≡ length base + 1
+    pub last : slice_index boundaries (length base) ≡ total
+    pub laid : AreLaid base cells (slice_index boundaries)
+    pub above : (boundary : ℕ → ℕ) → AreLaid base cells boundary → boundary (length base) ≤ total → (i : ℕ) → i ≤ length base → boundary i ≤ slice_index boundaries i
 
 -- both, and a total that fits with all lines
 pub record AreLimits (line : ℕ → Bool) (base : List ℕ) (cells : List Demand) (limits : Limits) : Type 0 where
-  pub earliest : IsEarliest base cells limits.earliest.items
-  pub latest : IsLatest base cells (slice_index limits.earliest.items (length base)) limits.latest.items
+  pub lowest_position : AreLowestBoundaries base cells limits.lowest_position.items
+  pub highest_position : AreHighestBoundaries base cells (slice_index limits.lowest_position.items (length base)) limits.highest_position.items
   pub total : limits.total ≡
-      slice_index limits.earliest.items (length base) + all_lines line (length base)
+      slice_index limits.lowest_position.items (length base) + all_lines line (length base)
   pub fits : limits.total < 2 ^ 64

@@ -3,17 +3,17 @@ use Rattle.std.specs.Prelude.{◌≡◌, ℕ, ◌+◌, ◌^◌, ◌<◌, ◌≤�
 use Rattle.papergrid_axis.specs.ForProofs.Settled.{line_at}
 use Rattle.papergrid_axis.specs.Problem.{Problem, total_of}
 use Rattle.papergrid_axis.specs.Ranges.{IsInTable, first_out}
-use Rattle.papergrid_least.specs.Earliest.{earliest}
-use Rattle.papergrid_least.specs.Edges.{asked}
+use Rattle.papergrid_least.specs.LowestPositions.{lowest_position}
+use Rattle.papergrid_least.specs.TrackBoundaries.{net_minimum}
 use Rattle.papergrid_least.specs.Least.{least_of}
 
 -- the lines and the earliest edges of a problem whose least total fits
-pub record AreEarliest (problem : Problem) (lines : List Bool) (edges : List ℕ) : Type 0 where
+pub record AreLowestPositions (problem : Problem) (lines : List Bool) (boundaries : List ℕ) : Type 0 where
   pub none_out : first_out problem.count problem.demands ≡ None
   pub table : All (IsInTable problem.count) problem.demands
   pub total : total_of problem (least_of problem) < 2 ^ 64
   pub lined : length lines ≡ problem.count + 1
   pub drawn : (i : ℕ) → i ≤ problem.count → line_at lines i ≡ problem.line i
-  pub many : length edges ≡ problem.count + 1
-  pub edge_at : (i : ℕ) → i ≤ problem.count →
-      slice_index edges i ≡ earliest (asked problem.line) problem.demands i
+  pub many : length boundaries ≡ problem.count + 1
+  pub boundary_at : (i : ℕ) → i ≤ problem.count →
+      slice_index boundaries i ≡ lowest_position (net_minimum problem.line) problem.demands i

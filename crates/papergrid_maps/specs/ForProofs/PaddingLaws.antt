@@ -2,7 +2,7 @@
 use Rattle.std.proofs.Common.{◌∙◌, ap}
 use Rattle.std.specs.Prelude.{◌≡◌, Option, None, Some, option_map, refl, unwrap_or}
 use Rattle.std.specs.FinMap.{get}
-use Rattle.papergrid_maps.specs.MapHeld.{Held, held_for, held_value}
+use Rattle.papergrid_maps.specs.StoredMap.{Stored, held_for, stored_value}
 use Rattle.papergrid_values.specs.declared.indent.Indent.{Indent}
 use Rattle.papergrid_values.specs.declared.position.Position.{Position}
 use Rattle.papergrid_values.specs.declared.sides.Sides.{Sides}
@@ -13,11 +13,11 @@ taken_out : {A B : Type 0} (f : A → B) (o : Option A) (d : A) → f (unwrap_or
 taken_out f None d = refl
 taken_out f (Some v) d = refl
 
-pub held_decides : (held : Held (Sides Indent)) (p : Position) → sizes (held_value held p)
-    ≡ unwrap_or (option_map sizes (get held.cells p)) (unwrap_or (option_map sizes (get held.columns p.col)) (set_in_row (λ entity. option_map sizes (held_for held entity)) p.row))
-held_decides held p =
-    let in_row = unwrap_or (get held.rows p.row) held.global in
-    taken_out sizes (get held.cells p) (unwrap_or (get held.columns p.col) in_row)
-    ∙ ap (unwrap_or (option_map sizes (get held.cells p)))
-    (taken_out sizes (get held.columns p.col) in_row
-    ∙ ap (unwrap_or (option_map sizes (get held.columns p.col))) (taken_out sizes (get held.rows p.row) held.global))
+pub stored_decides : (stored : Stored (Sides Indent)) (p : Position) → sizes (stored_value stored p)
+    ≡ unwrap_or (option_map sizes (get stored.cells p)) (unwrap_or (option_map sizes (get stored.columns p.col)) (set_in_row (λ entity. option_map sizes (held_for stored entity)) p.row))
+stored_decides stored p =
+    let in_row = unwrap_or (get stored.rows p.row) stored.global in
+    taken_out sizes (get stored.cells p) (unwrap_or (get stored.columns p.col) in_row)
+    ∙ ap (unwrap_or (option_map sizes (get stored.cells p)))
+    (taken_out sizes (get stored.columns p.col) in_row
+    ∙ ap (unwrap_or (option_map sizes (get stored.columns p.col))) (taken_out sizes (get stored.rows p.row) stored.global))

@@ -56,8 +56,8 @@ spans_code =
     (λ s. (s.columns, s.rows)) (λ p. record { columns = p.0; rows = p.1 }) (λ _. refl)
 
 -- the spans of entries by key, each at its position
-abbrev pub held_along : Direction → List (Position × ℕ) → FinMap position_cmp ℕ
-held_along direction es = from_entries (map (λ e. (key_of direction e.0, e.1)) es)
+abbrev pub stored_along : Direction → List (Position × ℕ) → FinMap position_cmp ℕ
+stored_along direction es = from_entries (map (λ e. (key_of direction e.0, e.1)) es)
 
 -- a span of the position's line begins before it and reaches it
 abbrev pub IsReached : DirectedSpans → Position → Type 0
@@ -92,9 +92,9 @@ anchor_along Columns own others = anchor_at own others
 anchor_along Rows own others = anchor_at others own
 
 -- each of these anchors is the one at its position, and they are at the positions that are held
-pub record AreAt (at : Position → Anchor) (IsHeld : Position → Type 0) (anchors : List Anchor) : Type 0 where
+pub record AreAt (at : Position → Anchor) (IsStored : Position → Type 0) (anchors : List Anchor) : Type 0 where
   pub made : All (λ a. a ≡ at a.position) anchors
-  pub has : (p : Position) → Contains anchors (at p) ↔ IsHeld p
+  pub has : (p : Position) → Contains anchors (at p) ↔ IsStored p
 
 -- by row and then by column, no two at one position
 abbrev pub IsRising : List Anchor → Type 0
@@ -113,14 +113,14 @@ entry_anchor direction others e =
     record { position = p; rows = extent.rows; cols = extent.columns }
 
 -- the rectangle, where both spans are held
-abbrev pub extent_held : Direction → Option ℕ → Option ℕ → Option Extent
-extent_held direction (Some span) (Some other) = Some (extent_of direction span other)
-extent_held direction span other = None
+abbrev pub extent_stored : Direction → Option ℕ → Option ℕ → Option Extent
+extent_stored direction (Some span) (Some other) = Some (extent_of direction span other)
+extent_stored direction span other = None
 
 -- the anchors that both directions hold, with both spans, and no others
 abbrev pub HoldsBoth : DirectedSpans → FinMap position_cmp ℕ → BTreeMap Position Extent → Type 0
 HoldsBoth index others both =
-    (p : Position) → tree_get position_cmp both p ≡ extent_held index.direction (get index.spans p) (get others p)
+    (p : Position) → tree_get position_cmp both p ≡ extent_stored index.direction (get index.spans p) (get others p)
 
 -- a rectangle of these begins above and left of the position and reaches it
 abbrev pub IsReachedByBoth : BTreeMap Position Extent → Position → Type 0
@@ -137,8 +137,8 @@ covers anchor columns rows p =
     && (nat_le anchor.col p.col && nat_lt (p.col - anchor.col) columns)))
 
 -- one of the positions lies in the rectangle of an entry by key, by its span and the span of the other direction
-abbrev pub covers_held : Direction → FinMap position_cmp ℕ → List Position → Position × ℕ → Bool
-covers_held direction others places e =
+abbrev pub covers_stored : Direction → FinMap position_cmp ℕ → List Position → Position × ℕ → Bool
+covers_stored direction others places e =
     let anchor = key_of direction e.0 in
     let extent = extent_of direction e.1 (span_at others anchor) in
     list_any (covers anchor extent.columns extent.rows) places

@@ -4,7 +4,7 @@ use Rattle.std.specs.Ordering.{nat_cmp}
 use Rattle.std.specs.FinMap.{FinMap, code}
 use Rattle.std.specs.Coded.{Coded, code_by, coded×, coded_ℕ, coded_option}
 use Rattle.papergrid_keys.specs.Keys.{position_cmp, coded_position}
-use Rattle.papergrid_tables.specs.BorderHeld.{HeldBorders}
+use Rattle.papergrid_tables.specs.StoredBorders.{StoredBorders}
 use Rattle.papergrid_values.specs.declared.borders.Borders.{Borders}
 use Rattle.papergrid_values.specs.declared.horizontal_line.HorizontalLine.{HorizontalLine}
 use Rattle.papergrid_values.specs.declared.vertical_line.VerticalLine.{VerticalLine}
@@ -36,8 +36,8 @@ vertical_line_code {T} c = code_by (LineParts T) (line_parts_code c) (λ r. (r.m
     (λ p. record { main = p.0; intersection = p.1.0; top = p.1.1.0; bottom = p.1.1.1 }) (λ _. refl)
 
 -- a code of what a border table holds
-abbrev pub held_borders_code : {T : Type 0} → Coded T → Coded (HeldBorders T)
-held_borders_code {T} c =
+abbrev pub stored_borders_code : {T : Type 0} → Coded T → Coded (StoredBorders T)
+stored_borders_code {T} c =
     code_by (Option T × (Borders T × (FinMap nat_cmp (HorizontalLine T) × (FinMap nat_cmp (VerticalLine T) × (FinMap position_cmp T × (FinMap position_cmp T × FinMap position_cmp T))))))
     (coded× (coded_option c) (coded× (borders_code c) (coded× (code coded_ℕ (horizontal_line_code c)) (coded× (code coded_ℕ (vertical_line_code c)) (coded× (code coded_position c) (coded× (code coded_position c) (code coded_position c)))))))
     (λ r. (r.global, (r.frame, (r.horizontal_lines, (r.vertical_lines, (r.horizontal_edges, (r.vertical_edges, r.corners)))))))

@@ -8,9 +8,9 @@ use Rattle.papergrid_values.specs.Lines.{horizontal_parts, vertical_parts}
 use Rattle.papergrid_values.specs.declared.borders.Borders.{Borders}
 use Rattle.papergrid_values.specs.declared.horizontal_line.HorizontalLine.{HorizontalLine}
 use Rattle.papergrid_values.specs.declared.vertical_line.VerticalLine.{VerticalLine}
-use Rattle.papergrid_tables.specs.BorderHeld.{HeldBorders}
-use Rattle.papergrid_keys.specs.Equal.{numbers_eq, places_eq}
-use Rattle.papergrid_keys.specs.ForProofs.EqualLaws.{option_laws, numbers_laws, places_laws}
+use Rattle.papergrid_tables.specs.StoredBorders.{StoredBorders}
+use Rattle.papergrid_keys.specs.Equal.{numbers_eq, positions_eq}
+use Rattle.papergrid_keys.specs.ForProofs.EqualLaws.{option_laws, numbers_laws, positions_laws}
 
 -- the same parts are set, to equal values
 abbrev pub parts_eq : {X : Type 0} → (X → X → Bool) → List (Option X) → List (Option X) → Bool
@@ -51,20 +51,20 @@ module _ {T : Type 0} (eq : T → T → Bool) where
   vertical_line_eq l m = parts_eq eq (vertical_parts l) (vertical_parts m)
 
   -- the global values, the frames, the lines, the edges and the corners are equal
-  abbrev pub borders_eq : HeldBorders T → HeldBorders T → Bool
+  abbrev pub borders_eq : StoredBorders T → StoredBorders T → Bool
   borders_eq s t =
       option_eq eq s.global t.global
       && (frame_eq s.frame t.frame
       && (numbers_eq horizontal_line_eq s.horizontal_lines t.horizontal_lines
       && (numbers_eq vertical_line_eq s.vertical_lines t.vertical_lines
-      && (places_eq eq s.horizontal_edges t.horizontal_edges
-      && (places_eq eq s.vertical_edges t.vertical_edges && places_eq eq s.corners t.corners)))))
+      && (positions_eq eq s.horizontal_edges t.horizontal_edges
+      && (positions_eq eq s.vertical_edges t.vertical_edges && positions_eq eq s.corners t.corners)))))
 
 pub borders_eq_laws : {T : Type 0} (eq : T → T → Bool) → IsPartialEquivalence eq → IsPartialEquivalence (borders_eq eq)
 borders_eq_laws {T} eq laws =
-    and_per (on_per (λ (s : HeldBorders T). s.global) (option_laws eq laws))
-    (and_per (on_per (λ (s : HeldBorders T). frame_parts s.frame) (parts_laws eq laws))
-    (and_per (on_per (λ (s : HeldBorders T). s.horizontal_lines) (numbers_laws (horizontal_line_eq eq) (on_per horizontal_parts (parts_laws eq laws))))
-    (and_per (on_per (λ (s : HeldBorders T). s.vertical_lines) (numbers_laws (vertical_line_eq eq) (on_per vertical_parts (parts_laws eq laws))))
-    (and_per (on_per (λ (s : HeldBorders T). s.horizontal_edges) (places_laws eq laws))
-    (and_per (on_per (λ (s : HeldBorders T). s.vertical_edges) (places_laws eq laws)) (on_per (λ (s : HeldBorders T). s.corners) (places_laws eq laws)))))))
+    and_per (on_per (λ (s : StoredBorders T). s.global) (option_laws eq laws))
+    (and_per (on_per (λ (s : StoredBorders T). frame_parts s.frame) (parts_laws eq laws))
+    (and_per (on_per (λ (s : StoredBorders T). s.horizontal_lines) (numbers_laws (horizontal_line_eq eq) (on_per horizontal_parts (parts_laws eq laws))))
+    (and_per (on_per (λ (s : StoredBorders T). s.vertical_lines) (numbers_laws (vertical_line_eq eq) (on_per vertical_parts (parts_laws eq laws))))
+    (and_per (on_per (λ (s : StoredBorders T). s.horizontal_edges) (positions_laws eq laws))
+    (and_per (on_per (λ (s : StoredBorders T). s.vertical_edges) (positions_laws eq laws)) (on_per (λ (s : StoredBorders T). s.corners) (positions_laws eq laws)))))))

@@ -4,10 +4,10 @@ use Rattle.papergrid_values.specs.declared.direction.Direction.TheVariants.{Colu
 use Rattle.papergrid_values.specs.declared.horizontal_line.HorizontalLine.{HorizontalLine}
 use Rattle.papergrid_values.specs.declared.vertical_line.VerticalLine.{VerticalLine}
 use Rattle.papergrid_tables.specs.ForProofs.CountedLines.{AreEndsCounted}
-use Rattle.papergrid_tables.specs.ForProofs.CountedPlaces.{AreCornersCounted, AreEdgesCounted}
+use Rattle.papergrid_tables.specs.ForProofs.CountedParts.{AreCornersCounted, AreEdgesCounted}
 use Rattle.papergrid_tables.specs.declared.counted_lines.Lines.{Lines}
-use Rattle.papergrid_tables.specs.declared.counted_places.Corners.{Corners}
-use Rattle.papergrid_tables.specs.declared.counted_places.Edges.{Edges}
+use Rattle.papergrid_tables.specs.declared.counted_parts.Corners.{Corners}
+use Rattle.papergrid_tables.specs.declared.counted_parts.Edges.{Edges}
 
 -- all counts of a border table are those of what it holds
 pub record IsCounted {T : Type 0} (horizontal_lines : Lines (HorizontalLine T)) (vertical_lines : Lines (VerticalLine T)) (horizontal_edges vertical_edges : Edges T) (corners : Corners T) : Type 0 where

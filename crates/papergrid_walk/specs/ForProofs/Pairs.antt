@@ -3,9 +3,9 @@ use Rattle.std.specs.Prelude.{ℕ, List, Option, length}
 use Rattle.papergrid_values.specs.declared.direction.Direction.TheVariants.{Columns, Rows}
 use Rattle.papergrid_values.specs.declared.entity.Entity.{Entity}
 use Rattle.papergrid_values.specs.declared.position.Position.{Position}
-use Rattle.papergrid_axis.specs.ForProofs.Kept.{Adds, IsKept}
+use Rattle.papergrid_axis.specs.ForProofs.Demands.{AddsDemands, AreGathered}
 use Rattle.papergrid_walk.specs.declared.known.KnownPaddings.{KnownPaddings}
-use Rattle.papergrid_walk.specs.declared.needs.KeptBoth.{KeptBoth}
+use Rattle.papergrid_walk.specs.declared.demand_visitors.BothDemands.{BothDemands}
 use Rattle.papergrid_maps.specs.declared.view.Paddings.{Paddings}
 use Rattle.papergrid_walk.specs.declared.sweep.Sweep.{Sweep}
 use Rattle.papergrid_walk.specs.Cells.{demands_by, demands_of}
@@ -14,15 +14,15 @@ use Rattle.papergrid_walk.specs.ForProofs.Shown.{Shows}
 use Rattle.papergrid_maps.specs.Grids.{Grid}
 
 -- what the visible cells ask for was kept, along columns and along rows
-pub record AreBothKept {C : Type 0} (grid : Grid) (measure : C → ℕ × ℕ) (columns : ℕ) (cells : List (List C)) (both : KeptBoth) : Type 0 where
-  pub wide : IsKept columns both.columns (demands_of Columns grid measure cells)
-  pub high : IsKept (length cells) both.rows (demands_of Rows grid measure cells)
+pub record AreBothGathered {C : Type 0} (grid : Grid) (measure : C → ℕ × ℕ) (columns : ℕ) (cells : List (List C)) (both : BothDemands) : Type 0 where
+  pub wide : AreGathered columns both.columns (demands_of Columns grid measure cells)
+  pub high : AreGathered (length cells) both.rows (demands_of Rows grid measure cells)
 
 -- what a walk knows before the cell at a row and a column: which cells are visible from there on, and the paddings of all
 abbrev pub StandsAt : Grid → (Entity → Option Paddings) → Sweep → KnownPaddings → ℕ → ℕ → Type 0
 StandsAt grid set sweep known row column = Shows grid sweep row column × Knows grid set known
 
 -- what these cells ask for along columns and along rows is kept besides
-abbrev pub AddsBoth : {C : Type 0} → Grid → (C → ℕ × ℕ) → KeptBoth → KeptBoth → List (Position × C) → Type 0
+abbrev pub AddsBoth : {C : Type 0} → Grid → (C → ℕ × ℕ) → BothDemands → BothDemands → List (Position × C) → Type 0
 AddsBoth grid measure old new cells =
-    Adds old.columns new.columns (demands_by Columns grid measure cells) × Adds old.rows new.rows (demands_by Rows grid measure cells)
+    AddsDemands old.columns new.columns (demands_by Columns grid measure cells) × AddsDemands old.rows new.rows (demands_by Rows grid measure cells)

@@ -1,33 +1,33 @@
 -- What a sweep over the rows holds of the anchors that it has passed.
 use Rattle.std.specs.Prelude.{◌≡◌, ℕ, ◌+◌, ◌-◌, ◌^◌, ◌<◌, ◌≤◌, ◌⊎◌, zero, suc, List, Option, Some, None, length, slice_get, nat_lt, if◌then◌else◌}
-use Rattle.papergrid_walk.specs.ForProofs.Levels.{end_at, Fits, raised_end}
-use Rattle.papergrid_walk.specs.declared.levels.Levels.{Levels}
+use Rattle.papergrid_walk.specs.ForProofs.MaxTree.{end_at, HasLevels, raised_end}
+use Rattle.papergrid_walk.specs.declared.max_tree.MaxTree.{MaxTree}
 use Rattle.papergrid_values.specs.declared.position.Position.{Position}
 use Rattle.papergrid_values.specs.Positions.{IsBefore}
 use Rattle.papergrid_maps.specs.Anchors.{HasAnchor, IsSorted}
 use Rattle.papergrid_maps.specs.declared.anchors.Anchor.{Anchor}
 
 -- the lesser of two
-abbrev pub least : ℕ → ℕ → ℕ
-least a b = if nat_lt a b then a else b
+abbrev pub lesser : ℕ → ℕ → ℕ
+lesser a b = if nat_lt a b then a else b
 
 -- no row or column of a table is the last number, so an end past it is cut there
-abbrev pub cut : ℕ → ℕ
-cut end = least end (2 ^ 64 - 1)
+abbrev pub cut_end : ℕ → ℕ
+cut_end end = lesser end (2 ^ 64 - 1)
 
 -- the end over a column once one more anchor is passed
 abbrev pub end_with : Option Anchor → ℕ → ℕ → ℕ
 end_with None old column = old
-end_with (Some a) old column = raised_end a.position.col (a.position.col + a.cols) (cut (a.position.row + a.rows)) old column
+end_with (Some a) old column = raised_end a.position.col (a.position.col + a.cols) (cut_end (a.position.row + a.rows)) old column
 
 -- the greatest end over a column of the first anchors
-abbrev pub end_of : List Anchor → ℕ → ℕ → ℕ
-end_of anchors zero column = 0
-end_of anchors (suc passed) column = end_with (slice_get anchors passed) (end_of anchors passed column) column
+abbrev pub swept_end_of : List Anchor → ℕ → ℕ → ℕ
+swept_end_of anchors zero column = 0
+swept_end_of anchors (suc passed) column = end_with (slice_get anchors passed) (swept_end_of anchors passed column) column
 
 -- the levels hold the ends of the anchors that are passed
-abbrev pub Holds : Levels → ℕ → List Anchor → ℕ → Type 0
-Holds levels columns anchors passed = (column : ℕ) → column < columns → end_at levels column ≡ end_of anchors passed column
+abbrev pub HoldsEnds : MaxTree → ℕ → List Anchor → ℕ → Type 0
+HoldsEnds max_tree columns anchors passed = (column : ℕ) → column < columns → end_at max_tree column ≡ swept_end_of anchors passed column
 
 -- each anchor that is passed stands before the position
 abbrev pub AllBefore : List Anchor → ℕ → Position → Type 0
@@ -40,11 +40,11 @@ pub record Walk : Type 0 where
   pub passed : ℕ
 
 -- what a sweep keeps true
-pub record IsSwept (levels : Levels) (walk : Walk) : Type 0 where
-  pub fits : Fits levels walk.columns
+pub record IsSwept (max_tree : MaxTree) (walk : Walk) : Type 0 where
+  pub fits : HasLevels max_tree walk.columns
   pub sorted : IsSorted walk.anchors
   pub within : walk.passed ≤ length walk.anchors
-  pub holds : Holds levels walk.columns walk.anchors walk.passed
+  pub holds : HoldsEnds max_tree walk.columns walk.anchors walk.passed
 
 -- the walk may ask for the position
 abbrev pub IsAhead : Walk → Position → Type 0

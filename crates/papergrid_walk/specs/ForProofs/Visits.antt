@@ -4,8 +4,8 @@ use Rattle.std.proofs.lemmas.List.{append-nil, append_assoc, map-append}
 use Rattle.std.proofs.lemmas.List.Elements.{filter-append}
 use Rattle.papergrid_values.specs.declared.direction.Direction.{Direction}
 use Rattle.papergrid_values.specs.declared.position.Position.{Position}
-use Rattle.papergrid_axis.specs.declared.kept.Kept.{Kept}
-use Rattle.papergrid_axis.specs.ForProofs.Kept.{Adds, Holds}
+use Rattle.papergrid_axis.specs.declared.demands.Demands.{Demands}
+use Rattle.papergrid_axis.specs.ForProofs.Demands.{AddsDemands, HoldsDemands}
 use Rattle.papergrid_walk.specs.Cells.{demand_by, demands_by, visible_of}
 use Rattle.papergrid_walk.specs.ForProofs.Shown.{Shows}
 use Rattle.papergrid_walk.specs.ForProofs.Swept.{Walk}
@@ -19,8 +19,8 @@ shows_turn grid walk r c so_far = record {
 }
 
 -- nothing added
-pub adds_none : (kept : Kept) → Adds kept kept []
-adds_none kept = λ limit demands held. subst (Holds limit kept) (sym (append-nil demands)) held
+pub adds_none : (kept : Demands) → AddsDemands kept kept []
+adds_none kept = λ limit demands held. subst (HoldsDemands limit kept) (sym (append-nil demands)) held
 
 module _ {C : Type 0} (measure : C → ℕ × ℕ) where
   pub demands_by-append : (direction : Direction) (grid : Grid) (xs ys : List (Position × C)) →
@@ -31,9 +31,9 @@ module _ {C : Type 0} (measure : C → ℕ × ℕ) where
 
   -- what some cells ask for, and then what more of them do, by the same view
   pub adds_more : (direction later : Direction) (grid after : Grid) → later ≡ direction → after ≡ grid →
-      (u v w : Kept) (xs ys : List (Position × C)) →
-      Adds u v (demands_by direction grid measure xs) → Adds v w (demands_by later after measure ys) →
-      Adds u w (demands_by direction grid measure (xs ++ ys))
+      (u v w : Demands) (xs ys : List (Position × C)) →
+      AddsDemands u v (demands_by direction grid measure xs) → AddsDemands v w (demands_by later after measure ys) →
+      AddsDemands u w (demands_by direction grid measure (xs ++ ys))
   adds_more direction later grid after same_way same_grid u v w xs ys first second = λ limit demands held.
       let ask : demands_by later after measure ys ≡ demands_by direction grid measure ys =
       ap (λ d. demands_by d after measure ys) same_way ∙ ap (λ l. demands_by direction l measure ys) same_grid in
@@ -42,4 +42,4 @@ module _ {C : Type 0} (measure : C → ℕ × ℕ) where
       append_assoc demands (demands_by direction grid measure xs) (demands_by later after measure ys)
       ∙ ap (λ zs. demands ++ (demands_by direction grid measure xs ++ zs)) ask
       ∙ ap (λ zs. demands ++ zs) (sym (demands_by-append direction grid xs ys)) in
-      subst (Holds limit w) both (second limit _ (first limit demands held))
+      subst (HoldsDemands limit w) both (second limit _ (first limit demands held))

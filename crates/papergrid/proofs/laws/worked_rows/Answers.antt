@@ -4,19 +4,19 @@ use Rattle.std.specs.Fmt.{digits}
 use Rattle.std.specs.Str.{chars, is_utf8}
 use Rattle.unicode_width.specs.Width.{str_width, step, past_emoji}
 use Rattle.papergrid_script.specs.Texts.{unescaped}
-use Rattle.papergrid_script.specs.Grammar.{number_of, position_of, placed_span, entity_of, sides_of, padding_of, character_of, placed_character, setting_of, keyword_says, text_says, said, script_lines}
+use Rattle.papergrid_script.specs.Grammar.{number_of, position_said, placed_span, entity_of, sides_of, padding_of, character_of, placed_character, setting_of, keyword_says, text_says, line_says, script_lines}
 use Rattle.papergrid_script.specs.Scripts.{table_of}
 use Rattle.papergrid.specs.Estimates.{estimate_by}
 use Rattle.papergrid.proofs.ListedLemmas.{worked}
 use Rattle.papergrid.proofs.laws.worked_rows.Goals as goal
 
 pub returns : goal.returns
-unfolding table_of script_lines said text_says keyword_says setting_of placed_character character_of padding_of sides_of entity_of placed_span position_of number_of unescaped chars is_utf8 encode estimate_by str_width step past_emoji digits
+unfolding table_of script_lines line_says text_says keyword_says setting_of placed_character character_of padding_of sides_of entity_of placed_span position_said number_of unescaped chars is_utf8 encode estimate_by str_width step past_emoji digits
 returns c = record {
   first_run = worked _ _ _ _ refl refl;
   short_row = worked _ _ _ _ refl refl;
   out_before_too_large = worked _ _ _ _ refl refl;
-  row_pin_over_column = worked _ _ _ _ refl refl;
+  row_override_over_column = worked _ _ _ _ refl refl;
   greatest_size = worked _ _ _ _ refl refl;
   greatest_size_and_one = worked _ _ _ _ refl refl;
   greatest_size_and_borders = worked _ _ _ _ refl refl;

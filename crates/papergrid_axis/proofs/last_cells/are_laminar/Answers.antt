@@ -4,12 +4,12 @@ use Rattle.std.proofs.lemmas.Bool.{false≢true}
 use Rattle.std.proofs.lemmas.List.Elements.{recursion_from_All, All-take}
 use Rattle.papergrid_axis.specs.declared.demand.Demand.{Demand}
 use Rattle.papergrid_axis.specs.Ranges.{IsInTable}
-use Rattle.papergrid_axis.specs.ForProofs.LastCells.{IsLaminar}
+use Rattle.papergrid_axis.specs.ForProofs.LastCells.{IsLaminarInOrder}
 use Rattle.papergrid_axis.proofs.LastLoops.{IsTableOf, table-cells, IsTableOf-more, under-from_laminar}
 use Rattle.papergrid_axis.proofs.last_cells.are_laminar.Goals as goal
 
 abbrev no_demand : Demand
-no_demand = record { row = 0; col = 0; start = 0; span = 0; need = 0 }
+no_demand = record { row = 0; col = 0; start = 0; span = 0; minimum = 0 }
 
 pub covers_all-requires-clause-others : goal.covers_all-requires-clause-others
 covers_all-requires-clause-others c =
@@ -28,7 +28,7 @@ returns-then-not-covers_all c =
           (recursion_from_All (IsInTable (length c.args.last.now)) (take c.loop-demand.demand-index c.args.cells.now) (All-take (IsInTable (length c.args.last.now)) c.loop-demand.demand-index c.args.cells.now c.requires.table))
           c.loop-demand.invariant (get_or c.args.cells.now c.loop-demand.demand-index no_demand) (drop (c.loop-demand.demand-index + 1) c.args.cells.now)
           (c.requires.table c.loop-demand.demand-index no_demand c.loop-demand-test.true)
-          (subst (IsLaminar) split laminar)),
+          (subst (IsLaminarInOrder) split laminar)),
     )
 
 pub loop-demand-preserved : goal.loop-demand-preserved

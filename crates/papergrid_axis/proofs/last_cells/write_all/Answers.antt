@@ -7,7 +7,7 @@ use Rattle.papergrid_axis.proofs.LastLemmas.{last_holding_push}
 use Rattle.papergrid_axis.proofs.last_cells.write_all.Goals as goal
 
 abbrev no_demand : Demand
-no_demand = record { row = 0; col = 0; start = 0; span = 0; need = 0 }
+no_demand = record { row = 0; col = 0; start = 0; span = 0; minimum = 0 }
 
 pub loop-demand-preserved : goal.loop-demand-preserved
 loop-demand-preserved c = λ k l.

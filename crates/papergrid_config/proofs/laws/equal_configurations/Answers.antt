@@ -8,7 +8,7 @@ use Rattle.papergrid_values.specs.contracts.alignment.AlignmentVerticalPartialEq
 use Rattle.papergrid_values.specs.contracts.ansi_buf.ANSIBufPartialEq.TheImpl as color
 use Rattle.papergrid_values.specs.contracts.indent.IndentPartialEq.TheImpl as indent
 use Rattle.papergrid_values.specs.contracts.offset.OffsetPartialEq.TheImpl as offset
-use Rattle.papergrid_maps.proofs.HeldAgree.{spans_agree}
+use Rattle.papergrid_maps.proofs.StoredAgree.{spans_agree}
 use Rattle.papergrid_config.proofs.EqualLemmas.{optional_eq, same_color, same_horizontal, same_indent, same_offset, same_optional, same_sides, same_vertical, sides_eq}
 use Rattle.papergrid_config.proofs.SameLemmas.{equal_at, equal_borders, equal_maps, equal_overrides, equal_spans, exact_bool, exact_borders, exact_color, exact_horizontal, exact_indent, exact_map, exact_offset, exact_optional, exact_overrides, exact_sides, exact_vertical, spans_are}
 use Rattle.papergrid_config.proofs.laws.equal_configurations.Goals as goal

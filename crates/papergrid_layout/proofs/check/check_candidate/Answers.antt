@@ -1,8 +1,8 @@
 use Rattle.std.proofs.Common.{◌∙◌, refl, subst}
-use Rattle.papergrid_axis.specs.Problem.{given}
+use Rattle.papergrid_axis.specs.Problem.{problem_of_demands}
 use Rattle.papergrid_walk.specs.Cells.{count_along, demands_of, problem_with}
 use Rattle.papergrid_walk.proofs.Distinct.{AreDistinct-demands}
-use Rattle.papergrid_layout.specs.Witnesses.{IsChecked}
+use Rattle.papergrid_layout.specs.Certificates.{IsChecked}
 use Rattle.papergrid_layout.proofs.CheckSteps.{checked-of}
 use Rattle.papergrid_layout.proofs.check.check_candidate.Goals as goal
 
@@ -18,6 +18,6 @@ returns g c =
       found.0,
       found.1,
       subst (λ n. IsChecked (problem_with grid measured candidate.direction n found.0) candidate.sizes.now candidate.places.now c.accepts.result) same
-          (checked-of (λ n. given (grid.draws candidate.direction n) c.count_of-count.result demands) candidate.sizes.now candidate.places.now c.accepts.result c.count_of-count.result (λ n. refl)
+          (checked-of (λ n. problem_of_demands (grid.draws candidate.direction n) c.count_of-count.result demands) candidate.sizes.now candidate.places.now c.accepts.result c.count_of-count.result (λ n. refl)
           (c.accepts.ensures.exact demands distinct found.2) (c.accepts.ensures.least demands distinct found.2)),
     )

@@ -5,7 +5,7 @@ pub returns-clause-checks : goal.returns-clause-checks
 returns-clause-checks g c =
     let grid = g.S.ConfigView.grid c.args.settings.now in
     let candidate = c.args.candidate.now in
-    let found = c.in-Ok.ensures.visits in
+    let found = c.in-Ok.ensures.consumed in
     (found.0, found.1, found.2.2 [] (c.new.ensures.checks (grid.draws candidate.direction _) candidate.sizes.now candidate.places.now candidate.direction (grid.span candidate.direction)), found.3)
 
 pub returns-clause-bounded : goal.returns-clause-bounded

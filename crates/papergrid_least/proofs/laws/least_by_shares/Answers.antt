@@ -19,5 +19,5 @@ returns-clause-furthest_right c = λ problem sizes table. furthest_right-is prob
 pub returns-clause-same : goal.returns-clause-same
 returns-clause-same c = λ problem table least. least_of-shares problem table least
 
-pub returns-clause-kept_apart : goal.returns-clause-kept_apart
-returns-clause-kept_apart c = λ problem table apart. same-least_of problem table apart
+pub returns-clause-laminar : goal.returns-clause-laminar
+returns-clause-laminar c = λ problem table apart. same-least_of problem table apart

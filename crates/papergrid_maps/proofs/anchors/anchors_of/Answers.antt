@@ -2,16 +2,16 @@ use Rattle.std.proofs.Common.{◌∙◌, rules, sym}
 use Rattle.std.proofs.lemmas.Bool.{true≢false}
 use Rattle.std.proofs.lemmas.Fn.{dedup_same}
 use Rattle.std.proofs.lemmas.List.Sorted.{answers_always}
-use Rattle.papergrid_maps.proofs.AnchorLemmas.{alone-at, anchors-held, anchors-of, joined-at, rising-dedup, same_place, sorted-from_rising}
+use Rattle.papergrid_maps.proofs.AnchorLemmas.{alone-at, anchors-stored, anchors-of, joined-at, rising-dedup, same_place, sorted-from_rising}
 use Rattle.papergrid_maps.proofs.anchors.anchors_of.Goals as goal
 
 pub returns-then-not-holds_any : goal.returns-then-not-holds_any
 returns-then-not-holds_any c =
-    let at = alone-at c.args.columns.now c.args.rows.now c.requires.columns _ c.in_ok-anchors.ensures.spans (λ held. true≢false (sym (c.holds_any.ensures.1 held) ∙ c.if-not-holds_any.true)) in
+    let at = alone-at c.args.columns.now c.args.rows.now c.requires.columns _ c.in_ok-anchors.ensures.spans (λ stored. true≢false (sym (c.holds_any.ensures.1 stored) ∙ c.if-not-holds_any.true)) in
     record {
       sorted = sorted-from_rising _ (c.in_ok-anchors.ensures.sorted c.requires.columns);
       spans = anchors-of c.args.columns.now.spans c.args.rows.now.spans _ at;
-      held = anchors-held c.args.columns.now.spans c.args.rows.now.spans _ at;
+      stored = anchors-stored c.args.columns.now.spans c.args.rows.now.spans _ at;
     }
 
 pub returns : goal.returns
@@ -22,5 +22,5 @@ returns c =
     record {
       sorted = rw kept (sorted-from_rising _ (rising-dedup _ (c.in_ok-sort_by_key.ensures.sorted (λ a. a.position) (answers_always _ _ _ (λ f a r g h. search rules)))));
       spans = rw kept (anchors-of c.args.columns.now.spans c.args.rows.now.spans _ at);
-      held = rw kept (anchors-held c.args.columns.now.spans c.args.rows.now.spans _ at);
+      stored = rw kept (anchors-stored c.args.columns.now.spans c.args.rows.now.spans _ at);
     }

@@ -1,7 +1,7 @@
 use Rattle.std.proofs.Common.{true, false, refl}
 use Rattle.std.specs.Fn.{FnReturnsAt}
 use Rattle.std.specs.Map.Iter.{deref}
-use Rattle.papergrid_maps.proofs.AnyHeld.{passed_more, passed_all, found_at}
+use Rattle.papergrid_maps.proofs.AnyStored.{passed_more, passed_all, found_at}
 use Rattle.papergrid_maps.proofs.entity_map.any_value.Goals as goal
 
 pub loop-value-preserved : goal.loop-value-preserved

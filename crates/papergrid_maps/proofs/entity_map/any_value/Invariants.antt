@@ -2,7 +2,7 @@ use Rattle.std.proofs.Common.{false, map}
 use Rattle.std.specs.Fn.{FnReturnsAt}
 use Rattle.std.specs.Map.Iter.{deref}
 use Rattle.std.specs.HashMap.{values}
-use Rattle.papergrid_maps.proofs.AnyHeld.{Passed}
+use Rattle.papergrid_maps.proofs.AnyStored.{Passed}
 use Rattle.papergrid_maps.proofs.entity_map.any_value.Given as goal
 
 abbrev pub invariant-loop-value : goal.invariant-loop-value

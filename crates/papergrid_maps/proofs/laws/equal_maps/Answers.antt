@@ -1,4 +1,4 @@
-use Rattle.papergrid_maps.proofs.HeldAgree.{maps_agree}
+use Rattle.papergrid_maps.proofs.StoredAgree.{maps_agree}
 use Rattle.papergrid_maps.proofs.laws.equal_maps.Goals as goal
 
 pub returns : goal.returns

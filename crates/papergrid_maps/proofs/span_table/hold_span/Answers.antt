@@ -4,8 +4,8 @@ use Rattle.std.specs.FinMap.{get, get-insert}
 use Rattle.std.specs.Map.{lookup}
 use Rattle.papergrid_keys.specs.Keys.{position_cmp}
 use Rattle.papergrid_keys.proofs.KeyLemmas.{position_total}
-use Rattle.papergrid_maps.specs.ForProofs.SpanIndex.{extent_held, extent_of}
-use Rattle.papergrid_maps.proofs.BothHeld.{alone_held, both_held, held_and_dropped, not_held}
+use Rattle.papergrid_maps.specs.ForProofs.SpanIndex.{extent_stored, extent_of}
+use Rattle.papergrid_maps.proofs.BothStored.{alone_stored, both_stored, stored_and_dropped, not_stored}
 use Rattle.papergrid_maps.proofs.span_table.hold_span.Goals as goal
 
 pub returns-in_default-clause-both : goal.returns-in_default-clause-both
@@ -13,14 +13,14 @@ returns-in_default-clause-both c =
     let old = c.args.index.now.spans in
     let alone : get c.args.others.now.spans c.args.pos ≡ None = sym c.get.ensures ∙ c.in_default.is in
     rw c.in_ok-insert.ensures.ok
-    (alone_held c.args.index.now.direction (get old) _ (get c.args.others.now.spans) (tree_get position_cmp c.args.both.now) (tree_get position_cmp c.args.both.now)
+    (alone_stored c.args.index.now.direction (get old) _ (get c.args.others.now.spans) (tree_get position_cmp c.args.both.now) (tree_get position_cmp c.args.both.now)
     c.args.pos c.requires c.args.span (get-insert position_total old c.args.pos c.args.span) (λ p. refl) alone)
 
 pub returns-in-Ok-clause-both : goal.returns-in-Ok-clause-both
 returns-in-Ok-clause-both c =
     let old = c.args.index.now.spans in
     rw c.in_ok-insert.ensures.ok
-    (both_held c.args.index.now.direction (get old) _ (get c.args.others.now.spans) (tree_get position_cmp c.args.both.now) (tree_get position_cmp c.insert-2.new.self)
+    (both_stored c.args.index.now.direction (get old) _ (get c.args.others.now.spans) (tree_get position_cmp c.args.both.now) (tree_get position_cmp c.insert-2.new.self)
     c.args.pos c.requires c.args.span c.in-Some.other (get-insert position_total old c.args.pos c.args.span)
     (λ p. c.in-Ok.ensures.updates.0 p ∙ ap (λ e. cond (is_at (position_cmp c.args.pos) p) (Some e) (tree_get position_cmp c.args.both.now p))
     (c.extent_of.ensures ∙ ap (λ d. extent_of d c.args.span c.in-Some.other) (c.direction.ensures ∙ ap (λ s. s.direction) c.in_ok-insert.ensures.ok)))
@@ -30,11 +30,11 @@ pub returns-in-Err-clause-err : goal.returns-in-Err-clause-err
 returns-in-Err-clause-err c =
     let old = c.args.index.now.spans in
     let none : get old c.args.pos ≡ None
-    = not_held c.args.index.now.direction (get old c.args.pos) c.in-Some.other
-    (sym c.in-Err.ensures.absent ∙ c.requires c.args.pos ∙ ap (extent_held c.args.index.now.direction (get old c.args.pos)) (sym c.get.ensures ∙ c.in-Some.is)) in
-    rw (c.remove.ensures, c.in_ok-insert.ensures.ok) (λ i. record { direction = c.args.index.now.direction; spans = held_and_dropped old c.args.pos c.args.span none i })
+    = not_stored c.args.index.now.direction (get old c.args.pos) c.in-Some.other
+    (sym c.in-Err.ensures.absent ∙ c.requires c.args.pos ∙ ap (extent_stored c.args.index.now.direction (get old c.args.pos)) (sym c.get.ensures ∙ c.in-Some.is)) in
+    rw (c.remove.ensures, c.in_ok-insert.ensures.ok) (λ i. record { direction = c.args.index.now.direction; spans = stored_and_dropped old c.args.pos c.args.span none i })
 
 pub returns-in-Err-clause-both : goal.returns-in-Err-clause-both
 returns-in-Err-clause-both c =
     λ p. ap (lookup (is_at (position_cmp p))) c.in-Err.ensures.err ∙ c.requires p
-    ∙ ap (λ s. extent_held s.direction (get s.spans p) (get c.args.others.now.spans p)) (sym (returns-in-Err-clause-err c))
+    ∙ ap (λ s. extent_stored s.direction (get s.spans p) (get c.args.others.now.spans p)) (sym (returns-in-Err-clause-err c))

@@ -4,8 +4,8 @@ use Rattle.std.specs.FinMap.{get, get-remove}
 use Rattle.papergrid_keys.specs.Keys.{position_cmp}
 use Rattle.papergrid_keys.proofs.KeyLemmas.{position_total}
 use Rattle.papergrid_keys.proofs.ResultLemmas.{on_err_map, on_ok_map}
-use Rattle.papergrid_maps.proofs.BothHeld.{both_dropped}
-use Rattle.papergrid_maps.proofs.SpanTold.{held_set, kept_either_way, kept_from_two, removed_set}
+use Rattle.papergrid_maps.proofs.BothStored.{both_dropped}
+use Rattle.papergrid_maps.proofs.SpanHistory.{stored_set, kept_either_way, kept_from_two, removed_set}
 use Rattle.papergrid_maps.proofs.span_table.set_span.Goals as goal
 
 pub returns-in-1-clause-ok : goal.returns-in-1-clause-ok
@@ -24,7 +24,7 @@ returns-in-1-clause-both c =
 pub returns-in_default-clause-ok : goal.returns-in_default-clause-ok
 returns-in_default-clause-ok c =
     let big : 2 ≤ c.args.span = omega (arith, c.in_default) in
-    on_ok_map c.hold_span.result (λ held. rw held (held_set c.args.index.now.spans c.args.pos c.args.span big)) c.hold_span.ensures.ok
+    on_ok_map c.hold_span.result (λ stored. rw stored (stored_set c.args.index.now.spans c.args.pos c.args.span big)) c.hold_span.ensures.ok
 
 pub returns-in_default-clause-from_two : goal.returns-in_default-clause-from_two
 returns-in_default-clause-from_two c =

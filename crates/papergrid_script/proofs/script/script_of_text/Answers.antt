@@ -3,7 +3,7 @@ use Rattle.std.specs.Prelude.{◌==◌}
 use Rattle.std.proofs.lemmas.List.Splits.{length-slice_split}
 use Rattle.std.proofs.lemmas.List.Sums.{count_by-le-length}
 use Rattle.papergrid_text.specs.LinesLeft.{lines_of_rest}
-use Rattle.papergrid_script.specs.Grammar.{said}
+use Rattle.papergrid_script.specs.Grammar.{line_says}
 use Rattle.papergrid_script.proofs.EscapeLemmas.{escape_without_cr}
 use Rattle.papergrid_script.proofs.LineLemmas.{table_of-pieces, bad_line, good_line, no_more_lines, text_said}
 use Rattle.papergrid_script.proofs.script.script_of_text.Goals as goal
@@ -23,7 +23,7 @@ take_line-requires c = escape_without_cr c.cut_marked_line-escape.result.0.now _
 
 pub returns-then-not-branch : goal.returns-then-not-branch
 returns-then-not-branch c =
-    table_of-pieces c.args.input.now ∙ bad_line _ _ _ _ _ _ _ (ap lines_of_rest c.in-Some.is ∙ c.cut_marked_line-escape.ensures.lines) (text_said c.without_cr.result.now c.without_cr.utf8 ∙ ap said c.without_cr.ensures) (rw c.if-not-branch.true at c.in_ok-take_line.ensures) c.loop-rest.invariant.told
+    table_of-pieces c.args.input.now ∙ bad_line _ _ _ _ _ _ _ (ap lines_of_rest c.in-Some.is ∙ c.cut_marked_line-escape.ensures.lines) (text_said c.without_cr.result.now c.without_cr.utf8 ∙ ap line_says c.without_cr.ensures) (rw c.if-not-branch.true at c.in_ok-take_line.ensures) c.loop-rest.invariant.told
 
 pub returns : goal.returns
 returns c =
@@ -38,6 +38,6 @@ loop-rest-preserved c =
     record {
       text = search rules;
       counted = omega arith;
-      told = good_line _ _ _ _ _ _ _ _ (ap lines_of_rest c.in-Some.is ∙ c.cut_marked_line-escape.ensures.lines) (text_said c.without_cr.result.now c.without_cr.utf8 ∙ ap said c.without_cr.ensures)
+      told = good_line _ _ _ _ _ _ _ _ (ap lines_of_rest c.in-Some.is ∙ c.cut_marked_line-escape.ensures.lines) (text_said c.without_cr.result.now c.without_cr.utf8 ∙ ap line_says c.without_cr.ensures)
           (rw c.if-not-branch.false at c.in_ok-take_line.ensures) c.loop-rest.invariant.told;
     }

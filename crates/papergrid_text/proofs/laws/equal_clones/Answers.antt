@@ -1,6 +1,6 @@
 -- A clone of rows has, place by place, clones of their cells.
 use Rattle.papergrid_text.specs.HeldRows.{rows_held}
-use Rattle.papergrid_text.proofs.KeptClones.{map_from_zip, same_from_zip}
+use Rattle.papergrid_text.proofs.LineCacheClones.{map_from_zip, same_from_zip}
 use Rattle.papergrid_text.proofs.laws.equal_clones.Goals as goal
 
 pub returns-clause-held : goal.returns-clause-held

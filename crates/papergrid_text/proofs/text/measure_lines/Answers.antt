@@ -1,7 +1,7 @@
 use Rattle.std.proofs.Common.{arith, ap, ◌∙◌, sym, subst, map, rules}
 use Rattle.std.specs.List.{All}
 use Rattle.std.proofs.lemmas.List.Elements.{All-push}
-use Rattle.papergrid_text.specs.Kept.{IsInside, line_of_range}
+use Rattle.papergrid_text.specs.LineCache.{IsInsideText, line_of_range}
 use Rattle.papergrid_text.specs.LinesLeft.{lines_left}
 use Rattle.papergrid_text.proofs.Ranges.{step_by, rest_at_start, lines_more}
 use Rattle.papergrid_text.proofs.Widths.{greatest_of-more}
@@ -29,6 +29,6 @@ lines-preserved c =
       tt,
       greatest_of-more c.lines.yielded c.in-Some.line _ _ _ c.lines.invariant.2 c.get_line_width-width.ensures c.max-greatest.ensures,
       ap (map (line_of_range c.args.text.now)) c.in_ok-push.ensures.items ∙ lines_more c.args.text.now c.lines.ranges.items _ c.lines.yielded c.in-Some.line c.lines.invariant.3 step.same c.get_line_width-width.ensures,
-      subst (All (IsInside c.args.text.now)) (sym c.in_ok-push.ensures.items) (All-push (IsInside c.args.text.now) c.lines.ranges.items _ c.lines.invariant.4 (step.inside c.get_line_width-width.result)),
+      subst (All (IsInsideText c.args.text.now)) (sym c.in_ok-push.ensures.items) (All-push (IsInsideText c.args.text.now) c.lines.ranges.items _ c.lines.invariant.4 (step.inside c.get_line_width-width.result)),
       step.left,
     )

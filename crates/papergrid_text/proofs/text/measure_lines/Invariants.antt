@@ -1,6 +1,6 @@
 use Rattle.std.proofs.Common.{◌≡◌, map}
-use Rattle.papergrid_text.specs.declared.kept.KeptLines.TheVariants.{Ranges}
-use Rattle.papergrid_text.specs.Kept.{AreInside, line_of_range}
+use Rattle.papergrid_text.specs.declared.line_cache.LineCache.TheVariants.{Ranges}
+use Rattle.papergrid_text.specs.LineCache.{AreInside, line_of_range}
 use Rattle.papergrid_text.specs.LinesLeft.{lines_left}
 use Rattle.papergrid_text.specs.Text.{greatest_width, with_width}
 use Rattle.papergrid_text.proofs.Ranges.{IsRest}

@@ -5,4 +5,4 @@ use Rattle.papergrid_uses.proofs.colored.bold_head.Goals as goal
 pub returns : goal.returns
 returns c = λ col.
     let one = c.in_ok-insert.ensures.ok None [] c.new-colors.ensures in
-    c.told_decides.ensures _ _ _ one (record { row = 0; col = col }) ∙ ap Some c.in_ok-bold.ensures
+    c.history_decides.ensures _ _ _ one (record { row = 0; col = col }) ∙ ap Some c.in_ok-bold.ensures

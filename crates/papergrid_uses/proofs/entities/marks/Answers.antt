@@ -4,9 +4,9 @@ use Rattle.papergrid_uses.proofs.entities.marks.Goals as goal
 pub returns-clause-marked : goal.returns-clause-marked
 returns-clause-marked c = λ row.
     let one = c.in_ok-insert.ensures.ok 32 [] c.new-marks.ensures in
-    c.told_decides.ensures _ _ _ one (record { row = row; col = 1 })
+    c.history_decides.ensures _ _ _ one (record { row = row; col = 1 })
 
 pub returns-clause-blank : goal.returns-clause-blank
 returns-clause-blank c = λ row.
     let one = c.in_ok-insert.ensures.ok 32 [] c.new-marks.ensures in
-    c.told_decides.ensures _ _ _ one (record { row = row; col = 0 })
+    c.history_decides.ensures _ _ _ one (record { row = row; col = 0 })

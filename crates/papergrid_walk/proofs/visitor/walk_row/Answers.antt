@@ -6,7 +6,7 @@ use Rattle.papergrid_walk.proofs.visitor.walk_row.Goals as goal
 pub loop-cell-init : goal.loop-cell-init
 loop-cell-init g c =
     let short = c.requires.short c.into_iter-cell-iterator.result c.into_iter-cell-iterator.ensures.into_iter_gives in
-    (short.may_start, short.ends, refl, c.requires.stands, g.met.V.Visitor.none c.args.visitor.now)
+    (short.may_start, short.ends, refl, c.requires.ready, g.met.V.Visitor.empty c.args.visitor.now)
 
 pub visit-requires-clause-col_in : goal.visit-requires-clause-col_in
 visit-requires-clause-col_in g c =
@@ -29,14 +29,14 @@ loop-cell-preserved g c =
       goes.0,
       goes.1,
       counted_more c.loop-cell.yielded c.in-Some.cell c.loop-cell.column c.loop-cell.invariant.2,
-      c.in_ok-visit.ensures.stands,
-      subst (g.V.Visitor.visits c.args.visitor.now c.visit.new.self) (sym cells)
-          (g.met.V.Visitor.more c.args.visitor.now c.loop-cell.visitor c.visit.new.self _ _ c.loop-cell.invariant.4 c.in_ok-visit.ensures.visits),
+      c.in_ok-visit.ensures.ready,
+      subst (g.V.Visitor.consumed c.args.visitor.now c.visit.new.self) (sym cells)
+          (g.met.V.Visitor.append c.args.visitor.now c.loop-cell.visitor c.visit.new.self _ _ c.loop-cell.invariant.4 c.in_ok-visit.ensures.consumed),
     )
 
-pub returns-clause-visits : goal.returns-clause-visits
-returns-clause-visits g c =
+pub returns-clause-consumed : goal.returns-clause-consumed
+returns-clause-consumed g c =
     (c.loop-cell.yielded, record { iterator = c.into_iter-cell-iterator.result; made = c.into_iter-cell-iterator.ensures.into_iter_gives; walked = (c.next.new.self, (c.loop-cell.cell-iterator, c.loop-cell.yielded_by, c.in-None.ensures.steps)) }, c.loop-cell.invariant.4)
 
-pub returns-clause-stands : goal.returns-clause-stands
-returns-clause-stands g c = g.met.V.Visitor.turns c.loop-cell.visitor c.args.number c.loop-cell.column c.loop-cell.invariant.3
+pub returns-clause-ready : goal.returns-clause-ready
+returns-clause-ready g c = g.met.V.Visitor.next_row c.loop-cell.visitor c.args.number c.loop-cell.column c.loop-cell.invariant.3

@@ -7,5 +7,5 @@ invariant-loop-cell g l =
     (goal.iterator-loop-cell g).can_next l.cell-iterator ×
     (goal.iterator-loop-cell g).is_finite l.cell-iterator ×
     (l.column ≡ length l.yielded) ×
-    g.V.Visitor.stands l.visitor l.number l.column ×
-    g.V.Visitor.visits l.initial.visitor l.visitor (placed_row l.number 0 l.yielded)
+    g.V.Visitor.ready l.visitor l.number l.column ×
+    g.V.Visitor.consumed l.initial.visitor l.visitor (placed_row l.number 0 l.yielded)

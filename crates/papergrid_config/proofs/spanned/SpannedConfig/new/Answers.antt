@@ -1,12 +1,12 @@
 use Rattle.std.proofs.Common.{[], ◌∙◌, ap, subst, refl}
-use Rattle.papergrid_maps.specs.MapHeld as map
+use Rattle.papergrid_maps.specs.StoredMap as map
 use Rattle.papergrid_maps.specs.Compact.{all_sides}
 use Rattle.papergrid_config.proofs.spanned.SpannedConfig.new.Goals as goal
 
 pub returns : goal.returns
 returns c = record {
-  padding = subst (λ given. map.IsTold given [] c.new.result) (c.filled.ensures ∙ ap all_sides c.zero.ensures) c.new.ensures;
-  padding_color = subst (λ given. map.IsTold given [] c.new-3.result) c.new-2.ensures c.new-3.ensures;
+  padding = subst (λ given. map.HasMapHistory given [] c.new.result) (c.filled.ensures ∙ ap all_sides c.zero.ensures) c.new.ensures;
+  padding_color = subst (λ given. map.HasMapHistory given [] c.new-3.result) c.new-2.ensures c.new-3.ensures;
   trim_horizontal = c.new-4.ensures;
   trim_vertical = c.new-5.ensures;
   line_alignment = c.new-6.ensures;

@@ -6,7 +6,7 @@ use Rattle.papergrid_axis.specs.declared.demand.Demand.{Demand}
 use Rattle.papergrid_axis.specs.ForProofs.Settled.{line_at}
 use Rattle.papergrid_axis.specs.Ranges.{IsInTable, end_of, inner_lines}
 use Rattle.papergrid_axis.proofs.LoopLemmas.{drawn_from}
-use Rattle.papergrid_least.specs.ForProofs.Counts.{AreCounts}
+use Rattle.papergrid_least.specs.ForProofs.Counts.{AreCountsBefore}
 use Rattle.papergrid_least.proofs.lines.Lines.within.Goals as goal
 
 -- what is counted up to the end of a part of the list, and what up to its beginning and in it
@@ -19,7 +19,7 @@ counted-part xs a m =
     omega arith
 
 -- the lines inside of a range, by the counts at its ends
-counted-within : (drawn : List Bool) (counts : List ℕ) (d : Demand) → AreCounts drawn counts → IsInTable (length drawn) d →
+counted-within : (drawn : List Bool) (counts : List ℕ) (d : Demand) → AreCountsBefore drawn counts → IsInTable (length drawn) d →
     get_or counts (end_of d) 0 ≡ get_or counts (d.start + 1) 0 + inner_lines (line_at drawn) d
 counted-within drawn counts d are inside =
     let one : 1 ≤ d.span = inside.covers_one in
@@ -34,7 +34,7 @@ counted-within drawn counts d are inside =
     omega arith
 
 -- the same of the lines as they are seen, by what is read at the ends
-read-within : (drawn lines : List Bool) (counts : List ℕ) (d : Demand) (last first : ℕ) → drawn ≡ lines → AreCounts drawn counts → IsInTable (length lines) d →
+read-within : (drawn lines : List Bool) (counts : List ℕ) (d : Demand) (last first : ℕ) → drawn ≡ lines → AreCountsBefore drawn counts → IsInTable (length lines) d →
     last ≡ get_or counts (end_of d) last → first ≡ get_or counts (d.start + 1) first → last ≡ first + inner_lines (line_at lines) d
 read-within drawn lines counts d last first kept are inside read_last read_first =
     let inside' : IsInTable (length drawn) d = subst (λ xs. IsInTable (length xs) d) (sym kept) inside in

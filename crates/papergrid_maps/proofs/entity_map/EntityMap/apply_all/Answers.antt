@@ -1,5 +1,5 @@
 use Rattle.papergrid_maps.proofs.Applied.{applied_more, told_so_far}
-use Rattle.papergrid_maps.proofs.MapTold.{appends_more}
+use Rattle.papergrid_maps.proofs.MapHistory.{appends_more}
 use Rattle.papergrid_maps.proofs.entity_map.EntityMap.apply_all.Goals as goal
 
 pub loop-call-preserved : goal.loop-call-preserved

@@ -8,8 +8,8 @@ use Rattle.papergrid_keys.specs.Keys.{position_eq}
 use Rattle.papergrid_keys.proofs.KeyLemmas.{exact_position_eq, get_at_position, position_equiv}
 use Rattle.papergrid_maps.proofs.entity_map.EntityMap.held_cells.Goals as goal
 
-pub returns-clause-held : goal.returns-clause-held
-returns-clause-held g c = rw (← c.self.view_is)
+pub returns-clause-stored : goal.returns-clause-stored
+returns-clause-stored g c = rw (← c.self.view_is)
     (IfOk-weaker c.keys_of_cells.result _ _
     (λ cells are p.
     ap (λ ks. is_member position_eq ks p) are ∙ sym (is_some-lookup (position_eq p) c.self.inside.cells.entries)

@@ -1,7 +1,7 @@
 use Rattle.std.proofs.Common.{◌∙◌, ℕ}
 use Rattle.std.proofs.lemmas.Map.Entries.{entries_from_clone}
 use Rattle.papergrid_values.specs.declared.position.Position.{Position}
-use Rattle.papergrid_maps.proofs.MapHeldLemmas.{view_of}
+use Rattle.papergrid_maps.proofs.StoredMapLemmas.{view_of}
 use Rattle.papergrid_maps.proofs.entity_map.EntityMapClone.clone.Goals as goal
 
 pub returns : goal.returns

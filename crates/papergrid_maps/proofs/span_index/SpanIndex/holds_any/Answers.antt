@@ -1,4 +1,4 @@
-use Rattle.papergrid_maps.proofs.SpanTold.{has_span}
+use Rattle.papergrid_maps.proofs.SpanHistory.{has_span}
 use Rattle.papergrid_maps.proofs.span_index.SpanIndex.holds_any.Goals as goal
 
 pub returns : goal.returns

@@ -1,4 +1,4 @@
-use Rattle.papergrid_maps.proofs.BothHeld.{both_reached, inside_reached}
+use Rattle.papergrid_maps.proofs.BothStored.{both_reached, inside_reached}
 use Rattle.papergrid_maps.proofs.span_table.SpanTable.covered_by_both.Goals as goal
 
 pub returns : goal.returns

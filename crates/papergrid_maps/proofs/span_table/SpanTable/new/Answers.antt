@@ -1,6 +1,6 @@
 use Rattle.std.proofs.Common.{ap}
-use Rattle.papergrid_maps.proofs.BothHeld.{none_both}
-use Rattle.papergrid_maps.proofs.SpanTold.{new_told, none_from_two}
+use Rattle.papergrid_maps.proofs.BothStored.{none_both}
+use Rattle.papergrid_maps.proofs.SpanHistory.{new_history, none_from_two}
 use Rattle.papergrid_maps.proofs.span_table.SpanTable.new.Goals as goal
 
 pub invariant_of-result : goal.invariant_of-result
@@ -13,4 +13,4 @@ invariant_of-result c = (
 )
 
 pub returns : goal.returns
-returns c = rw (c.new.ensures, c.new-2.ensures) new_told
+returns c = rw (c.new.ensures, c.new-2.ensures) new_history

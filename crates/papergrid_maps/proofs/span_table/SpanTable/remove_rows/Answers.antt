@@ -1,6 +1,6 @@
 use Rattle.std.proofs.Common.{◌∙◌, ap}
-use Rattle.papergrid_maps.proofs.BothHeld.{none_beside}
-use Rattle.papergrid_maps.proofs.SpanTold.{none_from_two, told_remove_rows}
+use Rattle.papergrid_maps.proofs.BothStored.{none_beside}
+use Rattle.papergrid_maps.proofs.SpanHistory.{none_from_two, history_remove_rows}
 use Rattle.papergrid_maps.proofs.span_table.SpanTable.remove_rows.Goals as goal
 
 pub invariant_of-self : goal.invariant_of-self
@@ -13,4 +13,4 @@ invariant_of-self c = (
 )
 
 pub returns-clause-told : goal.returns-clause-told
-returns-clause-told c = rw (c.clear.ensures, ← c.self.view_is) (told_remove_rows c.self.inside.columns.spans c.self.inside.rows.spans)
+returns-clause-told c = rw (c.clear.ensures, ← c.self.view_is) (history_remove_rows c.self.inside.columns.spans c.self.inside.rows.spans)

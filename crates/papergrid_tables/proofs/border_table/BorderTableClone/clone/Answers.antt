@@ -4,7 +4,7 @@ use Rattle.std.proofs.lemmas.Map.Entries.{entries_from_clone}
 use Rattle.papergrid_values.specs.declared.horizontal_line.HorizontalLine.{HorizontalLine}
 use Rattle.papergrid_values.specs.declared.vertical_line.VerticalLine.{VerticalLine}
 use Rattle.papergrid_values.specs.declared.position.Position.{Position}
-use Rattle.papergrid_tables.proofs.BorderTold.{table_of}
+use Rattle.papergrid_tables.proofs.BorderHistory.{table_of}
 use Rattle.papergrid_values.specs.declared.direction.Direction.TheVariants.{Columns, Rows}
 use Rattle.papergrid_tables.proofs.PartCopies.{counts_copied, ends_copied, horizontal_line_copy, keys_copied, part_copy, part_set, vertical_line_copy}
 use Rattle.papergrid_tables.proofs.border_table.BorderTableClone.clone.Goals as goal

@@ -3,12 +3,12 @@ use Rattle.papergrid_tables.specs.ForProofs.CountedLines.{is_end_set}
 use Rattle.papergrid_tables.proofs.CountLemmas.{taken_counted}
 use Rattle.papergrid_tables.proofs.counted_lines.Lines.take.Goals as goal
 
-pub recount-requires-clause-held_first : goal.recount-requires-clause-held_first
-recount-requires-clause-held_first g c = (taken_counted g.L.Ended.has_first (eqb c.args.number) c.args.self.now.values.entries c.remove-old.new.self.entries c.remove-old.result _ _ c.remove-old.ensures.entries c.remove-old.ensures.value
+pub recount-requires-clause-stored_first : goal.recount-requires-clause-stored_first
+recount-requires-clause-stored_first g c = (taken_counted g.L.Ended.has_first (eqb c.args.number) c.args.self.now.values.entries c.remove-old.new.self.entries c.remove-old.result _ _ c.remove-old.ensures.entries c.remove-old.ensures.value
     (c.ends_of.ensures.first ∙ ap (is_end_set g.L.Ended.has_first) c.as_ref.ensures.value) c.requires.first).0
 
-pub recount-requires-clause-held_last : goal.recount-requires-clause-held_last
-recount-requires-clause-held_last g c = (taken_counted g.L.Ended.has_last (eqb c.args.number) c.args.self.now.values.entries c.remove-old.new.self.entries c.remove-old.result _ _ c.remove-old.ensures.entries c.remove-old.ensures.value
+pub recount-requires-clause-stored_last : goal.recount-requires-clause-stored_last
+recount-requires-clause-stored_last g c = (taken_counted g.L.Ended.has_last (eqb c.args.number) c.args.self.now.values.entries c.remove-old.new.self.entries c.remove-old.result _ _ c.remove-old.ensures.entries c.remove-old.ensures.value
     (c.ends_of.ensures.last ∙ ap (is_end_set g.L.Ended.has_last) c.as_ref.ensures.value) c.requires.last).0
 
 pub returns-clause-counted : goal.returns-clause-counted

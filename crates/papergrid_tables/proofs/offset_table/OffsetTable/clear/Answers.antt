@@ -1,5 +1,5 @@
-use Rattle.papergrid_tables.proofs.OverrideTold.{told_clear}
+use Rattle.papergrid_tables.proofs.OverrideHistory.{history_clear}
 use Rattle.papergrid_tables.proofs.offset_table.OffsetTable.clear.Goals as goal
 
 pub returns : goal.returns
-returns g c = rw (c.clear.ensures.empty, ← c.self.view_is) (told_clear _)
+returns g c = rw (c.clear.ensures.empty, ← c.self.view_is) (history_clear _)

@@ -1,4 +1,4 @@
-use Rattle.papergrid_tables.proofs.OverrideTold.{is_clear}
+use Rattle.papergrid_tables.proofs.OverrideHistory.{is_clear}
 use Rattle.papergrid_tables.proofs.offset_table.OffsetTable.is_empty.Goals as goal
 
 pub returns : goal.returns

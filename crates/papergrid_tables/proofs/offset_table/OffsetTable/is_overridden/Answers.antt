@@ -1,4 +1,4 @@
-use Rattle.papergrid_tables.proofs.OverrideTold.{overridden}
+use Rattle.papergrid_tables.proofs.OverrideHistory.{overridden}
 use Rattle.papergrid_tables.proofs.offset_table.OffsetTable.is_overridden.Goals as goal
 
 pub returns : goal.returns

@@ -1,7 +1,7 @@
 use Rattle.std.proofs.Common.{◌∙◌}
 use Rattle.papergrid_keys.proofs.ResultLemmas.{on_ok_map, on_err_map}
-use Rattle.papergrid_keys.proofs.EntryLemmas.{same_places}
-use Rattle.papergrid_tables.proofs.OverrideTold.{either_way, kept_set, kept_unchanged, told_set}
+use Rattle.papergrid_keys.proofs.EntryLemmas.{same_positions}
+use Rattle.papergrid_tables.proofs.OverrideHistory.{either_way, kept_set, kept_unchanged, history_set}
 use Rattle.papergrid_tables.proofs.offset_table.OffsetTable.set.Goals as goal
 
 pub invariant_of-self : goal.invariant_of-self
@@ -12,8 +12,8 @@ invariant_of-self g c = either_way c.set_override.result
 
 pub returns-clause-ok : goal.returns-clause-ok
 returns-clause-ok g c = rw (← c.self.view_is)
-    (on_ok_map c.set_override.result (told_set c.self.inside.overrides.entries _ c.args.pos c.args.offset c.args.value) c.set_override.ensures.ok)
+    (on_ok_map c.set_override.result (history_set c.self.inside.overrides.entries _ c.args.pos c.args.offset c.args.value) c.set_override.ensures.ok)
 
 pub returns-clause-err : goal.returns-clause-err
 returns-clause-err g c =
-    on_err_map c.set_override.result (λ same. same_places c.self.inside.overrides.entries _ same ∙ c.self.view_is) c.set_override.ensures.err
+    on_err_map c.set_override.result (λ same. same_positions c.self.inside.overrides.entries _ same ∙ c.self.view_is) c.set_override.ensures.err

@@ -1,4 +1,4 @@
-use Rattle.papergrid_tables.proofs.OverrideTold.{no_offsets}
+use Rattle.papergrid_tables.proofs.OverrideHistory.{no_offsets}
 use Rattle.papergrid_tables.proofs.offset_table.Overrides.new.Goals as goal
 
 pub returns : goal.returns

@@ -1,5 +1,5 @@
 use Rattle.papergrid_keys.proofs.ResultLemmas.{on_ok_map}
-use Rattle.papergrid_tables.proofs.OverrideTold.{set_end, set_start}
+use Rattle.papergrid_tables.proofs.OverrideHistory.{set_end, set_start}
 use Rattle.papergrid_tables.proofs.offset_table.Overrides.set.Goals as goal
 
 pub returns-in-Start-clause-ok : goal.returns-in-Start-clause-ok

@@ -1,5 +1,5 @@
 use Rattle.std.proofs.Common.{◌<◌, arith, rules, ap, ◌∙◌, sym, refl, length, map, List, ℕ}
-use Rattle.papergrid_text.specs.Kept.{line_of_range, answered_lines}
+use Rattle.papergrid_text.specs.LineCache.{line_of_range, answered_lines}
 use Rattle.papergrid_text.specs.Text.{split_lines, width_of}
 use Rattle.papergrid_text.proofs.Widths.{width_of_one, none_kept, all_answered}
 use Rattle.papergrid_text.proofs.text.Text.new.Goals as goal

@@ -1,0 +1,80 @@
+-- What a list of calls decides for a cell, by places in the list: apart from any search.
+use Rattle.std.specs.Prelude.{◌≡◌, ◌⊎◌, ℕ, ◌<◌, ◌==◌, ◌&&◌, Bool, true, false, List, Some, slice_get}
+use Rattle.papergrid_values.specs.declared.entity.Entity.{Entity}
+use Rattle.papergrid_values.specs.declared.entity.Entity.TheVariants.{Global, Column, Row, Cell}
+use Rattle.papergrid_maps.specs.Keys.{entity_eq}
+use Rattle.papergrid_maps.specs.declared.entity_map.MapCall.{MapCall}
+use Rattle.papergrid_maps.specs.declared.entity_map.MapCall.TheVariants.{Insert, Remove}
+
+module _ {T : Type 0} where
+  -- a call for the whole table
+  abbrev pub is_for_all : MapCall T → Bool
+  is_for_all (Insert Global v) = true
+  is_for_all (Remove Global) = true
+  is_for_all call = false
+
+  -- a call that sets this column (row), or is for the whole table
+  abbrev pub concerns : Entity → MapCall T → Bool
+  concerns entity (Insert Global v) = true
+  concerns entity (Insert other v) = entity_eq other entity
+  concerns entity call = is_for_all call
+
+  -- a call that sets the whole table
+  abbrev pub sets_all : MapCall T → Bool
+  sets_all (Insert Global v) = true
+  sets_all call = false
+
+  -- a call after which no earlier pin of the cell counts: for the whole table, or a remove of the cell,
+  -- its row or its column
+  abbrev pub ends_overrides : ℕ → ℕ → MapCall T → Bool
+  ends_overrides r c (Remove (Cell i j)) = (i == r) && (j == c)
+  ends_overrides r c (Remove (Row i)) = i == r
+  ends_overrides r c (Remove (Column j)) = j == c
+  ends_overrides r c call = is_for_all call
+
+  -- what has P, or where nothing has P what has Q
+  abbrev pub OrElse : (T → Type 0) → (T → Type 0) → T → Type 0
+  OrElse P Q v = P v ⊎ (((w : T) → ¬ (P w)) × Q v)
+
+module _ {T : Type 0} (calls : List (MapCall T)) where
+  -- of the first n calls, the oldest being the 0-th, the i-th is this one, and none after it passes
+  -- the test
+  pub record IsLast (test : MapCall T → Bool) (n i : ℕ) (call : MapCall T) : Type 0 where
+    pub before : i < n
+    pub at : slice_get calls i ≡ Some call
+    pub last : (j : ℕ) (other : MapCall T) → i < j → j < n → slice_get calls j ≡ Some other →
+        test other ≡ false
+
+  -- after the first n calls a column (row) has a value that stands: the last of them that sets it, or
+  -- is for the whole table, sets it so
+  abbrev pub EntityStands : Entity → ℕ → T → Type 0
+  EntityStands entity n v = (i : ℕ) × IsLast (concerns entity) n i (Insert entity v)
+
+  -- the i-th call pins the cell to a value: it sets the cell, or its row while a value of its column
+  -- stands, or the other way round
+  abbrev pub IsCellOverride : ℕ → ℕ → ℕ → T → Type 0
+  IsCellOverride r c i v =
+      (slice_get calls i ≡ Some (Insert (Cell r c) v))
+      ⊎ (((slice_get calls i ≡ Some (Insert (Row r) v)) × ((w : T) × EntityStands (Column c) i w))
+      ⊎ ((slice_get calls i ≡ Some (Insert (Column c) v)) × ((w : T) × EntityStands (Row r) i w)))
+
+  -- after the first n calls the cell has a pin that counts: the last one, and no later call ends the
+  -- pins
+  pub record OverrideStands (r c n : ℕ) (v : T) : Type 0 where
+    pub place : ℕ
+    pub before : place < n
+    pub overrides_cell : IsCellOverride r c place v
+    pub last : (j : ℕ) (w : T) → place < j → j < n → ¬ (IsCellOverride r c j w)
+    pub counts : (j : ℕ) (call : MapCall T) → place < j → j < n → slice_get calls j ≡ Some call →
+        ends_overrides r c call ≡ false
+
+  -- after the first n calls the whole table has a value: the last of them that sets it sets it so
+  abbrev pub TableStands : ℕ → T → Type 0
+  TableStands n v = (i : ℕ) × IsLast sets_all n i (Insert Global v)
+
+  -- the value that the first n calls decide for the cell: that of the last pin that counts, else the
+  -- column's that stands, else the row's, else the whole table's, else the one given at first
+  abbrev pub IsEffective : T → ℕ → ℕ → ℕ → T → Type 0
+  IsEffective given r c n =
+      OrElse (OverrideStands r c n) (OrElse (EntityStands (Column c) n) (OrElse (EntityStands (Row r) n)
+      (OrElse (TableStands n) (λ v. v ≡ given))))

@@ -1,0 +1,107 @@
+//! What stands on the lines, and which lines there are. Source: `config/spanned/mod.rs`.
+
+ghost use Rattle.std.specs.Prelude.{◌≡◌, ◌↔◌, ◌-◌, ◌<◌, ◌^◌, IsTrue, option_copied};
+ghost use Rattle.papergrid_tables.specs.StoredBorders.{parts_of_borders};
+ghost use Rattle.papergrid_tables.specs.LineTests.{horizontal_line_at, vertical_line_at};
+ghost use Rattle.papergrid_tables.specs.BorderParts.{HasHorizontal, HasVertical, found_horizontal, found_intersection, found_vertical};
+ghost use Rattle.papergrid_config.specs.Grids.{line_along};
+ghost use Rattle.papergrid_config.specs.Lines.{shown_horizontal, shown_intersection, shown_vertical};
+ghost use Rattle.papergrid_values.specs.Lines.{all_lines};
+ghost use Rattle.papergrid_values.specs.declared.direction.Direction.TheVariants.{Columns, Rows};
+
+use crate::spanned::SpannedConfig;
+use papergrid_values::{ANSIBuf, Position};
+
+// A table of n columns has its vertical lines at 0 to n, and one of n rows its horizontal lines.
+impl SpannedConfig {
+    /// The character of the vertical line at a row and a column, where there are so many columns:
+    /// the one found in the table of characters, or else the missing one where the line is there.
+    pub fn get_vertical(&self, pos: Position, count: usize) -> Option<char>
+        ensures { result ≡ shown_vertical self.now.characters self.now.missing pos count }
+    {
+        let found = self.characters.get_vertical(pos, count).copied();
+        found.or_else(|| self.has_vertical(pos.col, count).then_some(self.missing))
+    }
+
+    /// The character of the horizontal line at a row and a column, where there are so many rows,
+    /// likewise.
+    pub fn get_horizontal(&self, pos: Position, count: usize) -> Option<char>
+        ensures { result ≡ shown_horizontal self.now.characters self.now.missing pos count }
+    {
+        let found = self.characters.get_horizontal(pos, count).copied();
+        found.or_else(|| self.has_horizontal(pos.row, count).then_some(self.missing))
+    }
+
+    /// The character where two lines cross, in a table of so many rows and columns: the one found
+    /// in the table of characters, or else the missing one where both lines are there.
+    pub fn get_intersection(&self, pos: Position, shape: (usize, usize)) -> Option<char>
+        ensures { result ≡ shown_intersection self.now.characters self.now.missing pos shape }
+    {
+        match self.characters.get_intersection(pos, shape) {
+            Some(character) => Some(*character),
+            None if self.has_horizontal(pos.row, shape.0) && self.has_vertical(pos.col, shape.1) =>
+                { Some(self.missing) }
+            None => None,
+        }
+    }
+
+    /// The colour of the vertical line at a row and a column, where there are so many columns.
+    pub fn get_vertical_color(&self, pos: Position, count: usize) -> Option<&ANSIBuf>
+        ensures { option_copied result ≡ found_vertical (parts_of_borders self.now.colors) pos count }
+    {
+        self.colors.get_vertical(pos, count)
+    }
+
+    /// The colour of the horizontal line at a row and a column, where there are so many rows.
+    pub fn get_horizontal_color(&self, pos: Position, count: usize) -> Option<&ANSIBuf>
+        ensures { option_copied result ≡ found_horizontal (parts_of_borders self.now.colors) pos count }
+    {
+        self.colors.get_horizontal(pos, count)
+    }
+
+    /// The colour where two lines cross, in a table of so many rows and columns.
+    pub fn get_intersection_color(&self, pos: Position, shape: (usize, usize)) -> Option<&ANSIBuf>
+        ensures { option_copied result
+            ≡ found_intersection (parts_of_borders self.now.colors) pos shape.0 shape.1 }
+    {
+        self.colors.get_intersection(pos, shape)
+    }
+
+    /// Whether there is a vertical line at a column, where there are so many columns.
+    pub fn has_vertical(&self, col: usize, count: usize) -> bool
+        ensures line { IsTrue result ↔ HasVertical (parts_of_borders self.now.characters) col count }
+        ensures test { result ≡ vertical_line_at self.now.characters col count }
+    {
+        self.characters.has_vertical(col, count)
+    }
+
+    /// Whether there is a horizontal line at a row, where there are so many rows.
+    pub fn has_horizontal(&self, row: usize, count: usize) -> bool
+        ensures line { IsTrue result ↔ HasHorizontal (parts_of_borders self.now.characters) row count }
+        ensures test { result ≡ horizontal_line_at self.now.characters row count }
+    {
+        self.characters.has_horizontal(row, count)
+    }
+
+    /// How many vertical lines a table of so many columns has. Condition: their number is below
+    /// the greatest `usize`.
+    pub fn count_vertical(&self, count: usize) -> usize
+        requires { count < 2 ^ 64 - 1 }
+        ensures { result ≡ all_lines (line_along self.now.characters Columns count) count }
+    {
+        (0..count + 1)
+            .filter(|col| self.has_vertical(*col, count))
+            .count()
+    }
+
+    /// How many horizontal lines a table of so many rows has. Condition: their number is below the
+    /// greatest `usize`.
+    pub fn count_horizontal(&self, count: usize) -> usize
+        requires { count < 2 ^ 64 - 1 }
+        ensures { result ≡ all_lines (line_along self.now.characters Rows count) count }
+    {
+        (0..count + 1)
+            .filter(|row| self.has_horizontal(*row, count))
+            .count()
+    }
+}

@@ -1,0 +1,47 @@
+-- What witnesses and checkers say of the rows told.
+use Rattle.std.specs.Prelude.{◌↔◌, ℕ, Bool, IsTrue, if◌then◌else◌, List, map, Option, Some, None, Result, Ok, Err, Vec}
+use Rattle.std.specs.declared.alloc.Global.{Global}
+use Rattle.papergrid_values.specs.declared.position.Position.{Position}
+use Rattle.papergrid_values.specs.declared.direction.Direction.TheVariants.{Columns, Rows}
+use Rattle.papergrid_axis.specs.declared.error.LayoutError.{LayoutError}
+use Rattle.papergrid_axis.specs.Answers.{AreSizes, IsAccepted, IsCertificateOrNone, NoneHolds}
+use Rattle.papergrid_axis.specs.Certificates.{certificate_cells_of}
+use Rattle.papergrid_axis.specs.Fits.{IsLeast}
+use Rattle.papergrid_axis.specs.Laminar.{is_laminar}
+use Rattle.papergrid_axis.specs.Problem.{Problem}
+use Rattle.papergrid_axis.specs.Ranges.{place_of}
+use Rattle.papergrid_least.specs.Answers.{AreLeastSizes, IsCriticalPath, NoneFits}
+use Rattle.papergrid_walk.specs.Cells.{problem_of}
+use Rattle.papergrid_maps.specs.Grids.{Grid}
+use Rattle.papergrid_layout.specs.Answers.{IsBothRefusedWhere}
+use Rattle.papergrid_layout.specs.declared.certificates.Certified.{Certified}
+
+-- whether these sizes, with these places of cells that certify them, are accepted; those that are, are least
+pub record IsChecked (problem : Problem) (sizes : List ℕ) (places : List Position) (answer : Bool) : Type 0 where
+  pub exact : IsTrue answer ↔ IsAccepted problem sizes places
+  pub least : IsTrue answer → IsLeast problem sizes
+
+-- the places of the cells that certify the sizes by shares, none where longer ranges are not kept apart
+abbrev pub certificate_by_shares : Problem → Option (List Position)
+certificate_by_shares problem = if is_laminar problem.demands then Some (map place_of (certificate_cells_of problem)) else None
+
+module _ {C : Type 0} (grid : Grid) (measure : C → ℕ × ℕ) (columns : ℕ) (cells : List (List C)) where
+  -- along columns and along rows this holds of the sizes, and this of what certifies them
+  pub record AreCertifiedWhere (are_sizes : Problem → List ℕ → Type 0) (is_certificate : Problem → Option (Vec Position Global) → Type 0) (certified : Certified) : Type 0 where
+    pub widths : are_sizes (problem_of grid measure columns cells Columns) certified.widths.items
+        × is_certificate (problem_of grid measure columns cells Columns) certified.width_witness
+    pub heights : are_sizes (problem_of grid measure columns cells Rows) certified.heights.items
+        × is_certificate (problem_of grid measure columns cells Rows) certified.height_witness
+
+  -- such sizes, or why there are none
+  abbrev pub IsCertifiedWhere : (Problem → Type 0) → (Problem → List ℕ → Type 0) → (Problem → Option (Vec Position Global) → Type 0) → Result Certified LayoutError → Type 0
+  IsCertifiedWhere too_large are_sizes is_certificate (Ok certified) = AreCertifiedWhere are_sizes is_certificate certified
+  IsCertifiedWhere too_large are_sizes is_certificate (Err e) = IsBothRefusedWhere grid measure columns cells too_large e
+
+  -- exactly the sizes by shares with their witnesses, or why there are none
+  abbrev pub IsCertified : Result Certified LayoutError → Type 0
+  IsCertified result = IsCertifiedWhere NoneHolds AreSizes IsCertificateOrNone result
+
+  -- exactly the least sizes with the cells that certify them, or why there are none
+  abbrev pub IsCertifiedLeast : Result Certified LayoutError → Type 0
+  IsCertifiedLeast result = IsCertifiedWhere NoneFits AreLeastSizes IsCriticalPath result

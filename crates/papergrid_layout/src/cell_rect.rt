@@ -1,0 +1,55 @@
+//! The place of one cell.
+
+ghost use Rattle.std.specs.Prelude.{◌<◌, ℕ, IfOk};
+ghost use Rattle.papergrid_layout.specs.Places.{EndsWithin, IsPlaced, table_by};
+
+use crate::dimension::Dimension;
+use crate::rect::{Place, PlaceError};
+use crate::ruler::Ruler;
+use papergrid_config::SpannedConfig;
+use papergrid_maps::ConfigView;
+use papergrid_values::{Direction, Position};
+
+/// The place of the cell at a position, in a table of the shape (rows, columns). It takes no memory,
+/// and time that grows with the rows and columns.
+///
+/// Condition: the dimension has a width for each of the columns and a height for each of the rows.
+///
+/// # Errors
+///
+/// `Hidden` where the position is hidden, else `OutOfTable` where its range ends past the last column
+/// or the last row, else `TooLarge` where along a direction the sizes with all lines come to more
+/// than the greatest `usize`.
+pub fn place<D: Dimension>(
+    dim: &D,
+    cfg: &SpannedConfig,
+    shape: (usize, usize),
+    pos: Position,
+) -> Result<Place, PlaceError>
+    requires columns { (column : ℕ) → column < shape.1 → D.has_column dim.now column }
+    requires rows { (row : ℕ) → row < shape.0 → D.has_row dim.now row }
+    ensures exact { let table = table_by cfg.now (D.width_of dim.now) (D.height_of dim.now) shape in
+        IsPlaced table pos result }
+    ensures within { let table = table_by cfg.now (D.width_of dim.now)
+        (D.height_of dim.now) shape in
+        IfOk result (EndsWithin table) }
+{
+    let (rows, columns) = shape;
+    let across = Ruler::new(dim, cfg, Direction::Columns, columns);
+    let down = Ruler::new(dim, cfg, Direction::Rows, rows);
+    if !cfg.is_visible(pos) {
+        return Err(PlaceError::Hidden);
+    }
+    if across.overflows(pos) || down.overflows(pos) {
+        return Err(PlaceError::OutOfTable);
+    }
+    match (across.part(pos), down.part(pos)) {
+        (Some((left, width)), Some((top, height))) => Ok(Place {
+            left,
+            top,
+            width,
+            height,
+        }),
+        _ => Err(PlaceError::TooLarge),
+    }
+}

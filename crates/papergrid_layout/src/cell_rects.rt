@@ -1,0 +1,161 @@
+//! The places of all visible cells.
+
+ghost use Rattle.std.specs.Prelude.{◌≡◌, ◌+◌, ◌-◌, ◌<◌, ◌≤◌, ◌^◌, ◌⊎◌, [], ℕ, All, IfErr, IfOk};
+ghost use Rattle.std.specs.Result.{IsOkAnd};
+ghost use Rattle.papergrid_values.specs.declared.direction.Direction.{Direction};
+ghost use Rattle.papergrid_layout.specs.Places.{ArePlacesRefused, EndsWithin, HaveAllPlaces, TableView, table_by, total_along};
+ghost use Rattle.papergrid_layout.specs.ForProofs.Placing.{HasPlaced};
+
+use crate::dimension::Dimension;
+use crate::marks::{Marks, place_of};
+use crate::per_direction::PerDirection;
+use crate::cell_rect::place;
+use crate::rect::{Place, PlaceError};
+use crate::ruler::Ruler;
+use papergrid_axis::LayoutError;
+use papergrid_config::SpannedConfig;
+use papergrid_values::{Direction, Position};
+use papergrid_walk::Sweep;
+use papergrid_walk::shown::{sweep_of, visible_anchor};
+use std::alloc::{AllocError, Global};
+
+/// A walk over the positions of a table, by row and then by column, and the visible ones that it met, with
+/// their places.
+#[derive(Drop)]
+struct Placing {
+    marks: PerDirection<Marks>,
+    sweep: Sweep,
+    places: Vec<(Position, Place)>,
+}
+
+impl Placing {
+    /// Before the first position of a table whose totals fit.
+    fn new<D: Dimension>(
+        alloc: Global,
+        dim: &D,
+        cfg: &SpannedConfig,
+        shape: (usize, usize),
+    ) -> Result<Placing, AllocError>
+        requires columns { (column : ℕ) → column < shape.1 → D.has_column dim.now column }
+        requires rows { (row : ℕ) → row < shape.0 → D.has_row dim.now row }
+        requires fit { let table = table_by cfg.now (D.width_of dim.now)
+            (D.height_of dim.now) shape in
+            (direction : Direction) → total_along table direction < 2 ^ 64 }
+        ensures { let table = table_by cfg.now (D.width_of dim.now) (D.height_of dim.now) shape in
+            IfOk result (HasPlaced table 0 0) }
+    {
+        let (rows, columns) = shape;
+        let across = Ruler::new(dim, cfg, Direction::Columns, columns);
+        let down = Ruler::new(dim, cfg, Direction::Rows, rows);
+        Ok(Placing {
+            marks: PerDirection {
+                columns: across.marks(alloc)?,
+                rows: down.marks(alloc)?,
+            },
+            sweep: sweep_of(alloc, cfg)?,
+            places: Vec::new(alloc),
+        })
+    }
+
+    /// Adds the position to those that it met, if that is visible.
+    fn visit(&mut self, alloc: Global, pos: Position) -> Result<(), LayoutError>
+        requires placed { (table : TableView) × HasPlaced table pos.row pos.col self.old }
+        requires row_in { pos.row < 2 ^ 64 - 1 }
+        requires col_in { pos.col < 2 ^ 64 - 1 }
+        ensures ok { IfOk result (λ _. (table : TableView) →
+            HasPlaced table pos.row pos.col self.old →
+            HasPlaced table pos.row (pos.col + 1) self.new) }
+        ensures err { IfErr result (λ error. (table : TableView) →
+            pos.row < table.shape.0 → pos.col < table.shape.1 →
+            HasPlaced table pos.row pos.col self.old → ArePlacesRefused table error) }
+    {
+        let Some(anchor) = visible_anchor(&mut self.sweep, alloc, pos)? else {
+            return Ok(());
+        };
+        let Some(place) = place_of(&self.marks, anchor) else {
+            return Err(LayoutError::OutOfTable(pos));
+        };
+        match self.places.push((pos, place)) {
+            Ok(()) => Ok(()),
+            Err(refused) => Err(AllocError::from(refused).into()),
+        }
+    }
+
+    /// Visits the positions of a row.
+    fn visit_row(&mut self, alloc: Global, row: usize, columns: usize) -> Result<(), LayoutError>
+        requires placed { (table : TableView) × HasPlaced table row 0 self.old }
+        requires row_in { row < 2 ^ 64 - 1 }
+        ensures ok { IfOk result (λ _. (table : TableView) → columns ≡ table.shape.1 →
+            HasPlaced table row 0 self.old → HasPlaced table (row + 1) 0 self.new) }
+        ensures err { IfErr result (λ error. (table : TableView) → row < table.shape.0 →
+            columns ≡ table.shape.1 → HasPlaced table row 0 self.old →
+            ArePlacesRefused table error) }
+    {
+        for col in 0..columns {
+            self.visit(alloc, Position { row, col })?;
+        }
+        Ok(())
+    }
+
+    /// Visits all rows of a table of the shape (rows, columns).
+    fn visit_rows(&mut self, alloc: Global, shape: (usize, usize)) -> Result<(), LayoutError>
+        requires placed { (table : TableView) × (shape ≡ table.shape)
+            × HasPlaced table 0 0 self.old }
+        ensures ok { IfOk result (λ _. (table : TableView) → shape ≡ table.shape →
+            HasPlaced table 0 0 self.old → HaveAllPlaces table self.new.places.items) }
+        ensures err { IfErr result (λ error. (table : TableView) → shape ≡ table.shape →
+            HasPlaced table 0 0 self.old → ArePlacesRefused table error) }
+    {
+        let (rows, columns) = shape;
+        for row in 0..rows {
+            self.visit_row(alloc, row, columns)?;
+        }
+        Ok(())
+    }
+}
+
+/// All visible cells of a table of the shape (rows, columns) with their places, by row and then by column. It
+/// takes time that grows with the rows, the columns, the cells and the spans, and memory for the places and
+/// for a few numbers for each row, column and span.
+///
+/// Condition: the dimension has a width for each of the columns and a height for each of the rows.
+///
+/// # Errors
+///
+/// That of the first visible cell, by row and then by column, which `place` refuses: `OutOfTable` with its
+/// position, or `TooLarge`. `Memory` in place of any answer, but for a table without rows or columns: that is
+/// never refused.
+pub fn places<D: Dimension>(
+    alloc: Global,
+    dim: &D,
+    cfg: &SpannedConfig,
+    shape: (usize, usize),
+) -> Result<Vec<(Position, Place)>, LayoutError>
+    requires columns { (column : ℕ) → column < shape.1 → D.has_column dim.now column }
+    requires rows { (row : ℕ) → row < shape.0 → D.has_row dim.now row }
+    ensures ok { let table = table_by cfg.now (D.width_of dim.now) (D.height_of dim.now) shape in
+        IfOk result (λ places. HaveAllPlaces table places.items) }
+    ensures err { let table = table_by cfg.now (D.width_of dim.now) (D.height_of dim.now) shape in
+        IfErr result (ArePlacesRefused table) }
+    ensures within { let table = table_by cfg.now (D.width_of dim.now)
+        (D.height_of dim.now) shape in
+        IfOk result (λ places. All (λ x. EndsWithin table x.1) places.items) }
+    ensures empty { (shape.0 ≡ 0) ⊎ (shape.1 ≡ 0) → IsOkAnd result (λ places. places.items ≡ []) }
+{
+    let (rows, columns) = shape;
+    if rows == 0 || columns == 0 {
+        return Ok(Vec::new(alloc));
+    }
+    // The totals are those of all places, so where they are too large the first cell decides.
+    let first = Position { row: 0, col: 0 };
+    match place(dim, cfg, shape, first) {
+        Ok(_) => {}
+        Err(PlaceError::OutOfTable) => return Err(LayoutError::OutOfTable(first)),
+        Err(PlaceError::TooLarge) => return Err(LayoutError::TooLarge),
+        // No position stands above or left of the first one.
+        Err(PlaceError::Hidden) => unreachable!(),
+    }
+    let mut placing = Placing::new(alloc, dim, cfg, shape)?;
+    placing.visit_rows(alloc, shape)?;
+    Ok(placing.places)
+}

@@ -1,0 +1,151 @@
+-- The anchors that both directions hold, after a change of one direction, and what their rectangles reach.
+use Rattle.std.proofs.Common.{◌≡◌, ℕ, ◌+◌, ◌-◌, ◌<◌, true, false, cond, ◌&&◌, ltb, [], Option, Some, None, refl, sym, ap, subst, ◌∙◌, arith}
+use Rattle.std.specs.Prelude.{◌↔◌, is_some, unwrap_or}
+use Rattle.std.specs.BTreeMap.{BTreeMap, IsOrdered, get as tree_get, is_at}
+use Rattle.std.specs.BTreeMap.Range.{entries_between}
+use Rattle.std.specs.Cmp.{eq_by_cmp_equiv}
+use Rattle.std.specs.FinMap.{FinMap, empty, get, get-empty, get-insert, get-remove, insert, remove, same_map}
+use Rattle.std.specs.Map.{lookup}
+use Rattle.std.specs.List.{list_any}
+use Rattle.std.specs.Ordering.{eq_by_cmp}
+use Rattle.std.specs.declared.ops.Bound.TheVariants.{Excluded, Unbounded}
+use Rattle.std.proofs.lemmas.Bool.{and_from, and_parts, false≢true, ltb-true, lt-ltb}
+use Rattle.papergrid_values.specs.declared.direction.Direction.{Direction}
+use Rattle.papergrid_values.specs.declared.direction.Direction.TheVariants.{Columns}
+use Rattle.papergrid_values.specs.declared.position.Position.{Position}
+use Rattle.papergrid_keys.specs.Keys.{position_cmp}
+use Rattle.papergrid_keys.proofs.KeyLemmas.{exact_position_eq, exact_positions, position_ties, position_total}
+use Rattle.papergrid_maps.specs.ForProofs.SpanIndex.{DirectedSpans, HoldsBoth, IsReachedByBoth, extent_stored, extent_of}
+use Rattle.papergrid_maps.specs.Spans.{IsCoveredByBoth, Spans, span_along}
+use Rattle.papergrid_maps.specs.declared.span_index.Extent.{Extent}
+use Rattle.papergrid_maps.proofs.IndexRanges.{any_between, is_above, of_above}
+use Rattle.papergrid_maps.proofs.IndexReached.{stored_above_one}
+
+none_is_not_some : {X : Type 0} {x : X} → ◌≡◌ {A = Option X} None (Some x) → ⊥
+none_is_not_some e = false≢true (ap is_some e)
+
+same_some : {X : Type 0} (x y : X) → ◌≡◌ {A = Option X} (Some x) (Some y) → x ≡ y
+same_some x y e = ap (λ o. unwrap_or o x) e
+
+pub no_other : (d : Direction) (own : Option ℕ) → extent_stored d own None ≡ None
+no_other d None = refl
+no_other d (Some n) = refl
+
+no_own : (d : Direction) (other : Option ℕ) → extent_stored d None other ≡ None
+no_own d None = refl
+no_own d (Some n) = refl
+
+-- where one direction holds no span, no anchor has both
+pub none_both : (index : DirectedSpans) (others : FinMap position_cmp ℕ) (both : BTreeMap Position Extent) → index.spans ≡ empty → both.entries ≡ [] → HoldsBoth index others both
+none_both index others both none nothing p =
+    ap (lookup (is_at (position_cmp p))) nothing ∙ sym (no_own index.direction (get others p))
+    ∙ ap (λ o. extent_stored index.direction o (get others p)) (sym (ap (λ m. get m p) none ∙ get-empty position_cmp p))
+
+pub none_beside : (index : DirectedSpans) (others : FinMap position_cmp ℕ) (both : BTreeMap Position Extent) → others ≡ empty → both.entries ≡ [] → HoldsBoth index others both
+none_beside index others both none nothing p =
+    ap (lookup (is_at (position_cmp p))) nothing ∙ sym (no_other index.direction (get index.spans p))
+    ∙ ap (extent_stored index.direction (get index.spans p)) (sym (ap (λ m. get m p) none ∙ get-empty position_cmp p))
+
+-- where the other span is held and both are not, the own one is not
+pub not_stored : (d : Direction) (own : Option ℕ) (other : ℕ) → ◌≡◌ {A = Option Extent} None (extent_stored d own (Some other)) → own ≡ None
+not_stored d None other h = refl
+not_stored d (Some n) other h = absurd (none_is_not_some h)
+
+-- ---- one position changes
+
+module _ (d : Direction) (own own' others : Position → Option ℕ) (both both' : Position → Option Extent) (pos : Position)
+    (stored : (p : Position) → both p ≡ extent_stored d (own p) (others p)) where
+  changes : (w : Option ℕ) (e : Option Extent) → ((p : Position) → own' p ≡ cond (eq_by_cmp position_cmp p pos) w (own p)) → ((p : Position) → both' p ≡ cond (eq_by_cmp position_cmp pos p) e (both p))
+      → e ≡ extent_stored d w (others pos) → (p : Position) → both' p ≡ extent_stored d (own' p) (others p)
+  changes w e own_is both_is here p =
+      both_is p ∙ ap (λ b. cond b e (both p)) ((eq_by_cmp_equiv position_total).symm pos p)
+      ∙ elim (eq_by_cmp position_cmp p pos) as (λ b. eq_by_cmp position_cmp p pos ≡ b → cond b e (both p) ≡ extent_stored d (cond b w (own p)) (others p)) [
+        | true ↦ λ same. here ∙ ap (λ q. extent_stored d w (others q)) (sym (exact_position_eq p pos (position_ties p pos ∙ same)))
+        | false ↦ λ apart. stored p
+      ] refl
+      ∙ ap (λ o. extent_stored d o (others p)) (sym (own_is p))
+
+  -- a span beside one of the other direction
+  pub both_stored : (span other : ℕ) → ((p : Position) → own' p ≡ cond (eq_by_cmp position_cmp p pos) (Some span) (own p))
+      → ((p : Position) → both' p ≡ cond (eq_by_cmp position_cmp pos p) (Some (extent_of d span other)) (both p)) → others pos ≡ Some other
+      → (p : Position) → both' p ≡ extent_stored d (own' p) (others p)
+  both_stored span other own_is both_is beside = changes (Some span) (Some (extent_of d span other)) own_is both_is (ap (extent_stored d (Some span)) (sym beside))
+
+  -- no span any more
+  pub both_dropped : ((p : Position) → own' p ≡ cond (eq_by_cmp position_cmp p pos) None (own p)) → ((p : Position) → both' p ≡ cond (eq_by_cmp position_cmp pos p) None (both p))
+      → (p : Position) → both' p ≡ extent_stored d (own' p) (others p)
+  both_dropped own_is both_is = changes None None own_is both_is refl
+
+  -- a span with none of the other direction
+  pub alone_stored : (span : ℕ) → ((p : Position) → own' p ≡ cond (eq_by_cmp position_cmp p pos) (Some span) (own p)) → ((p : Position) → both' p ≡ both p) → others pos ≡ None
+      → (p : Position) → both' p ≡ extent_stored d (own' p) (others p)
+  alone_stored span own_is both_is alone =
+      changes (Some span) (both pos) own_is
+      (λ p. both_is p ∙ elim (eq_by_cmp position_cmp pos p) as (λ b. eq_by_cmp position_cmp pos p ≡ b → both p ≡ cond b (both pos) (both p)) [
+        | true ↦ λ same. ap both (sym (exact_position_eq pos p (position_ties pos p ∙ same)))
+        | false ↦ λ apart. refl
+      ] refl)
+      (stored pos ∙ ap (extent_stored d (own pos)) alone ∙ no_other d (own pos) ∙ sym (no_other d (Some span)) ∙ ap (extent_stored d (Some span)) (sym alone))
+
+-- what is held anew and dropped again was not there
+pub stored_and_dropped : (spans : FinMap position_cmp ℕ) (pos : Position) (n : ℕ) → get spans pos ≡ None → remove (insert spans pos n) pos ≡ spans
+stored_and_dropped spans pos n none = same_map position_total exact_positions _ _ (λ q.
+    get-remove position_total (insert spans pos n) pos q ∙ ap (cond (eq_by_cmp position_cmp q pos) None) (get-insert position_total spans pos n q)
+    ∙ elim (eq_by_cmp position_cmp q pos) as (λ b. eq_by_cmp position_cmp q pos ≡ b → cond b None (cond b (Some n) (get spans q)) ≡ get spans q) [
+      | true ↦ λ same. sym none ∙ ap (get spans) (sym (exact_position_eq q pos (position_ties q pos ∙ same)))
+      | false ↦ λ apart. refl
+    ] refl)
+
+-- ---- what the rectangles reach
+
+-- both spans are held where the rectangle is
+parts : (own other : Option ℕ) (e : Extent) → extent_stored Columns own other ≡ Some e → (own ≡ Some e.columns) × (other ≡ Some e.rows)
+parts None other e h = absurd (none_is_not_some h)
+parts (Some n) None e h = absurd (none_is_not_some h)
+parts (Some n) (Some m) e h = ((λ i. Some ((same_some (extent_of Columns n m) e h i).columns)), (λ i. Some ((same_some (extent_of Columns n m) e h i).rows)))
+
+-- a scan of the rows above finds a rectangle that reaches the position
+pub both_reached : (both : BTreeMap Position Extent) (p : Position) → IsOrdered position_cmp both
+    → (list_any (λ e. ltb e.0.col p.col && (ltb (p.col - e.0.col) e.1.columns && ltb (p.row - e.0.row) e.1.rows))
+    (entries_between position_cmp Unbounded (Excluded (record { row = p.row; col = 0 })) both.entries) ≡ true) ↔ IsReachedByBoth both p
+both_reached both p ordered =
+    let scan = any_between both Unbounded (Excluded (record { row = p.row; col = 0 })) (λ e. ltb e.0.col p.col && (ltb (p.col - e.0.col) e.1.columns && ltb (p.row - e.0.row) e.1.rows)) ordered in (
+      λ h.
+          let found = scan.0 h in
+          let k = found.0 in
+          let e = found.1 in
+          let above : k.row < p.row = is_above p k found.3 in
+          let left = and_parts (ltb k.col p.col) _ found.4 in
+          let reach = and_parts (ltb (p.col - k.col) e.columns) _ left.1 in
+          let before : k.col < p.col = ltb-true _ _ left.0 in
+          let right : p.col - k.col < e.columns = ltb-true _ _ reach.0 in
+          let down : p.row - k.row < e.rows = ltb-true _ _ reach.1 in
+          (k, e, found.2, above, omega (arith, above, down), before, omega (arith, before, right)),
+      λ h.
+          let k = h.0 in
+          let e = h.1 in
+          let above : k.row < p.row = h.3 in
+          let down : p.row < k.row + e.rows = h.4 in
+          let before : k.col < p.col = h.5 in
+          let right : p.col < k.col + e.columns = h.6 in
+          let reach_right : p.col - k.col < e.columns = omega (arith, before, right) in
+          let reach_down : p.row - k.row < e.rows = omega (arith, above, down) in
+          scan.1 (k, e, h.2, of_above p k above, and_from _ _ (lt-ltb _ _ before) (and_from _ _ (lt-ltb _ _ reach_right) (lt-ltb _ _ reach_down))),
+    )
+
+-- in the words of rectangles
+pub inside_reached : (index : DirectedSpans) (others : FinMap position_cmp ℕ) (both : BTreeMap Position Extent) → index.direction ≡ Columns → HoldsBoth index others both → (p : Position)
+    → let spans : Spans = record { columns = index.spans; rows = others } in IsReachedByBoth both p ↔ IsCoveredByBoth (span_along spans) p
+inside_reached index others both is holds p =
+    let stored : (q : Position) → tree_get position_cmp both q ≡ extent_stored Columns (get index.spans q) (get others q) = λ q. holds q ∙ ap (λ d. extent_stored d (get index.spans q) (get others q)) is in (
+      λ h.
+          let k = h.0 in
+          let two = parts (get index.spans k) (get others k) h.1 (sym (stored k) ∙ h.2) in
+          (k, h.3, rw two.1 h.4, h.5, rw two.0 h.6),
+      λ h.
+          let k = h.0 in
+          let tall = stored_above_one (get others k) k.row p.row h.1 h.2 in
+          let wide = stored_above_one (get index.spans k) k.col p.col h.3 h.4 in
+          let e : Extent = record { columns = wide.0; rows = tall.0 } in
+          (k, e, stored k ∙ (λ i. extent_stored Columns (wide.1 i) (tall.1 i)), h.1, subst (λ o. p.row < k.row + unwrap_or o 1) tall.1 h.2, h.3, subst (λ o. p.col < k.col + unwrap_or o 1) wide.1 h.4),
+    )

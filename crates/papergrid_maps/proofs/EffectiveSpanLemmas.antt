@@ -1,0 +1,104 @@
+-- Which call decides the span of a position.
+use Rattle.std.proofs.Common.{◌≡◌, ◌∙◌, ℕ, suc, ◌≤◌, Bool, true, false, cond, List, [], ◌∷◌, ◌++◌, refl, sym, ap, subst, append_assoc, append-nil, arith}
+use Rattle.std.specs.Prelude.{reverse}
+use Rattle.std.proofs.lemmas.Bool.{and_from, and_parts, false≢true, le-leb, leb-true}
+use Rattle.std.proofs.lemmas.List.{reverse-append, reverse-reverse}
+use Rattle.std.proofs.lemmas.List.Elements.{All-append, All-cons}
+use Rattle.papergrid_values.specs.declared.direction.Direction.{Direction}
+use Rattle.papergrid_values.specs.declared.direction.Direction.TheVariants.{Columns, Rows}
+use Rattle.papergrid_values.specs.declared.position.Position.{Position}
+use Rattle.papergrid_keys.proofs.KeyLemmas.{exact_position_eq, position_equiv}
+use Rattle.papergrid_maps.specs.EffectiveSpan.{ByNone, ByRemoval, BySet, IsEffectiveSpan, NoneDecides, decides_span}
+use Rattle.papergrid_maps.specs.Spans.{RemoveSpans, SetSpan, SpanCall, effective_span, is_same_direction, span_from}
+
+same_itself : (d : Direction) → is_same_direction d d ≡ true
+same_itself Columns = refl
+same_itself Rows = refl
+
+same_direction : (e d : Direction) → is_same_direction e d ≡ true → e ≡ d
+same_direction Columns Columns h = refl
+same_direction Columns Rows h = absurd (false≢true h)
+same_direction Rows Columns h = absurd (false≢true h)
+same_direction Rows Rows h = refl
+
+module _ (d : Direction) (p : Position) where
+  newest_last : (call : SpanCall) (older : List SpanCall) → reverse (call ∷ older) ≡ reverse older ++ call ∷ []
+  newest_last call older = reverse-append (call ∷ []) older
+
+  no_call : NoneDecides d p []
+  no_call k e less = absurd (omega arith)
+
+  -- ---- what the calls decide, from what is said by place
+
+  step : (call : SpanCall) (older : List SpanCall) → decides_span d p call ≡ false → span_from d p (call ∷ older) ≡ span_from d p older
+  step (SetSpan e q n) older none = ap (λ b. cond b n (span_from d p older)) none
+  step (RemoveSpans e) older none = ap (λ b. cond b 1 (span_from d p older)) none
+
+  skip : (after older : List SpanCall) → NoneDecides d p after → span_from d p (reverse after ++ older) ≡ span_from d p older
+  skip [] older none = refl
+  skip (call ∷ after) older none =
+      ap (λ cs. span_from d p (cs ++ older)) (newest_last call after)
+      ∙ ap (span_from d p) (append_assoc (reverse after) (call ∷ []) older)
+      ∙ skip after (call ∷ older) (λ k e less. none (suc k) e (omega (arith, less)))
+      ∙ step call older (none 0 call (omega arith))
+
+  by_place : (calls before after : List SpanCall) (call : SpanCall) → calls ≡ before ++ call ∷ after → NoneDecides d p after
+      → effective_span d p calls ≡ span_from d p (call ∷ reverse before)
+  by_place calls before after call is none =
+      ap (λ cs. span_from d p (reverse cs)) is
+      ∙ ap (span_from d p) (reverse-append before (call ∷ after))
+      ∙ ap (λ cs. span_from d p (cs ++ reverse before)) (newest_last call after)
+      ∙ ap (span_from d p) (append_assoc (reverse after) (call ∷ []) (reverse before))
+      ∙ skip after (call ∷ reverse before) none
+
+  itself : (n : ℕ) → 1 ≤ n → decides_span d p (SetSpan d p n) ≡ true
+  itself n big = and_from _ _ (same_itself d) (and_from _ _ (le-leb 1 n big) (position_equiv.refl p))
+
+  pub IsEffectiveSpan-only : (calls : List SpanCall) (n : ℕ) → IsEffectiveSpan d p calls n → n ≡ effective_span d p calls
+  IsEffectiveSpan-only calls _ (BySet n before after big is none) =
+      sym (by_place calls before after (SetSpan d p n) is none ∙ ap (λ b. cond b n (span_from d p (reverse before))) (itself n big))
+  IsEffectiveSpan-only calls _ (ByRemoval before after is none) =
+      sym (by_place calls before after (RemoveSpans d) is none ∙ ap (λ b. cond b 1 (span_from d p (reverse before))) (same_itself d))
+  IsEffectiveSpan-only calls _ (ByNone none) =
+      sym (ap (span_from d p) (sym (append-nil (reverse calls))) ∙ skip calls [] none)
+
+  -- ---- what is said by place, from what the calls decide
+
+  one_more : (after : List SpanCall) (call : SpanCall) → decides_span d p call ≡ false → NoneDecides d p after → NoneDecides d p (after ++ call ∷ [])
+  one_more after call keeps none = All-append (λ other. decides_span d p other ≡ false) after (call ∷ []) none (All-cons (λ other. decides_span d p other ≡ false) call [] keeps no_call)
+
+  more : (calls : List SpanCall) (call : SpanCall) (n : ℕ) → decides_span d p call ≡ false → IsEffectiveSpan d p calls n → IsEffectiveSpan d p (calls ++ call ∷ []) n
+  more calls call _ keeps (BySet n before after big is none) =
+      BySet n before (after ++ call ∷ []) big (ap (λ cs. cs ++ call ∷ []) is ∙ append_assoc before (SetSpan d p n ∷ after) (call ∷ [])) (one_more after call keeps none)
+  more calls call _ keeps (ByRemoval before after is none) =
+      ByRemoval before (after ++ call ∷ []) (ap (λ cs. cs ++ call ∷ []) is ∙ append_assoc before (RemoveSpans d ∷ after) (call ∷ [])) (one_more after call keeps none)
+  more calls call _ keeps (ByNone none) = ByNone (one_more calls call keeps none)
+
+  set_last : (e : Direction) (q : Position) (n : ℕ) (older : List SpanCall) → IsEffectiveSpan d p (reverse older) (span_from d p older)
+      → (b : Bool) → decides_span d p (SetSpan e q n) ≡ b → IsEffectiveSpan d p (reverse older ++ SetSpan e q n ∷ []) (cond b n (span_from d p older))
+  set_last e q n older rest true is =
+      let first = and_parts _ _ is in
+      let second = and_parts _ _ first.1 in
+      let direction = same_direction e d first.0 in
+      let place = exact_position_eq q p second.1 in
+      BySet n (reverse older) [] (leb-true 1 n second.0) (λ i. reverse older ++ SetSpan (direction i) (place i) n ∷ []) no_call
+  set_last e q n older rest false is = more (reverse older) (SetSpan e q n) _ is rest
+
+  remove_last : (e : Direction) (older : List SpanCall) → IsEffectiveSpan d p (reverse older) (span_from d p older)
+      → (b : Bool) → decides_span d p (RemoveSpans e) ≡ b → IsEffectiveSpan d p (reverse older ++ RemoveSpans e ∷ []) (cond b 1 (span_from d p older))
+  remove_last e older rest true is =
+      let direction = same_direction e d is in
+      ByRemoval (reverse older) [] (λ i. reverse older ++ RemoveSpans (direction i) ∷ []) no_call
+  remove_last e older rest false is = more (reverse older) (RemoveSpans e) _ is rest
+
+  of_newest : (newest_first : List SpanCall) → IsEffectiveSpan d p (reverse newest_first) (span_from d p newest_first)
+  of_newest [] = ByNone no_call
+  of_newest (SetSpan e q n ∷ older) =
+      subst (λ cs. IsEffectiveSpan d p cs (span_from d p (SetSpan e q n ∷ older))) (sym (newest_last (SetSpan e q n) older))
+      (set_last e q n older (of_newest older) (decides_span d p (SetSpan e q n)) refl)
+  of_newest (RemoveSpans e ∷ older) =
+      subst (λ cs. IsEffectiveSpan d p cs (span_from d p (RemoveSpans e ∷ older))) (sym (newest_last (RemoveSpans e) older))
+      (remove_last e older (of_newest older) (decides_span d p (RemoveSpans e)) refl)
+
+  pub effective_span-IsEffectiveSpan : (calls : List SpanCall) → IsEffectiveSpan d p calls (effective_span d p calls)
+  effective_span-IsEffectiveSpan calls = subst (λ cs. IsEffectiveSpan d p cs (span_from d p (reverse calls))) (reverse-reverse calls) (of_newest (reverse calls))

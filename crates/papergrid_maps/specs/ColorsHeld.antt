@@ -1,8 +1,0 @@
--- A map of colours by entity that is empty.
-use Rattle.std.specs.Prelude.{◌≡◌, Option, None}
-use Rattle.papergrid_maps.specs.MapHeld.{Held, HasNothing}
-
--- nothing is held for a column, a row or a cell, and the whole table has no colour
-pub record IsBlank {C : Type 0} (held : Held (Option C)) : Type 0 where
-  pub nothing : HasNothing held
-  pub global : held.global ≡ None
