@@ -31,7 +31,12 @@ pub struct Sizes {
 ///
 /// `OutOfTable` with the first visible cell that reaches out, else `TooLarge` where a total is more than the
 /// greatest `usize`; `Memory` in place of any answer.
-pub fn estimate<R>(alloc: Global, sizing: Sizing, records: R, cfg: &SpannedConfig) -> LayoutResult<Sizes>
+pub fn estimate<R>(
+    alloc: Global,
+    sizing: Sizing,
+    records: R,
+    cfg: &SpannedConfig,
+) -> LayoutResult<Sizes>
 where
     R: Records + Drop,
     <<R as Records>::Iter as IntoRecords>::Cell: AsStr + Drop,
@@ -46,7 +51,12 @@ where
 }
 
 /// The sizes that are chosen so, with the cells that certify them.
-fn certify<R>(alloc: Global, sizing: Sizing, records: R, cfg: &SpannedConfig) -> LayoutResult<Certified>
+fn certify<R>(
+    alloc: Global,
+    sizing: Sizing,
+    records: R,
+    cfg: &SpannedConfig,
+) -> LayoutResult<Certified>
 where
     R: Records + Drop,
     <<R as Records>::Iter as IntoRecords>::Cell: AsStr + Drop,

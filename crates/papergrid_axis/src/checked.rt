@@ -78,7 +78,13 @@ fn count_inner<A: Axis>(axis: &A, start: usize, span: usize) -> usize
 
 /// The lines inside of a range, where it lies in the table and the sizes in it and these lines come
 /// to the need.
-fn room<A: Axis>(axis: &A, sizes: &[usize], start: usize, span: usize, minimum: u128) -> Option<usize>
+fn room<A: Axis>(
+    axis: &A,
+    sizes: &[usize],
+    start: usize,
+    span: usize,
+    minimum: u128,
+) -> Option<usize>
     requires { 1 ≤ span }
     ensures inside { IfSome result (λ inner. start + span ≤ length sizes.now) }
     ensures inner { IfSome result (λ inner.
@@ -143,7 +149,9 @@ fn has_room_alone(candidate: &Candidate<'_>, start: usize, minimum: u128) -> boo
         × (start < length candidate.now.sizes.now)
         × (minimum ≤ slice_index candidate.now.sizes.now start) }
 {
-    candidate.ends_within && start < candidate.sizes.len() && minimum <= candidate.sizes[start] as u128
+    candidate.ends_within
+        && start < candidate.sizes.len()
+        && minimum <= candidate.sizes[start] as u128
 }
 
 /// What is kept of the cells met and of one more, the visible cell at a position with its need.

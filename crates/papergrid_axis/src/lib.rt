@@ -4,24 +4,24 @@
 
 pub mod axis;
 pub mod candidate;
-pub mod checked;
+mod certificate;
 mod certificate_cells;
+pub mod checked;
 pub mod demand;
+pub mod demands;
 mod disjoint;
 pub mod error;
 pub mod growing_cells;
-pub mod demands;
 mod last_cells;
 pub mod laws;
 pub mod settled;
 pub mod solution;
-mod certificate;
 pub mod worked;
 
 pub use axis::Axis;
 pub use candidate::Candidate;
 pub use checked::Checked;
 pub use demand::Demand;
-pub use error::{LayoutResult, LayoutError};
 pub use demands::Demands;
+pub use error::{LayoutError, LayoutResult};
 pub use solution::{ByShares, Solved, Solver};

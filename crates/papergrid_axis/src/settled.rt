@@ -13,8 +13,8 @@ ghost use Rattle.papergrid_axis.specs.ForProofs.Settled.{IsLargeInside, line_at}
 
 use crate::axis::Axis;
 use crate::demand::Demand;
-use crate::error::LayoutError;
 use crate::demands::{Demands, single_at};
+use crate::error::LayoutError;
 use papergrid_values::Position;
 use std::alloc::{AllocError, Global};
 

@@ -8,11 +8,11 @@ ghost use Rattle.papergrid_axis.specs.declared.solution.Solved.{Solved};
 ghost use Rattle.papergrid_axis.specs.ForProofs.Demands.{AreGathered};
 
 use crate::axis::Axis;
-use crate::error::{LayoutResult, LayoutError};
-use crate::growing_cells::{checked_total, grow_all};
-use crate::demands::Demands;
-use crate::settled::{lines_of, refusal, by_span, write_base};
 use crate::certificate::certificate_of;
+use crate::demands::Demands;
+use crate::error::{LayoutError, LayoutResult};
+use crate::growing_cells::{checked_total, grow_all};
+use crate::settled::{by_span, lines_of, refusal, write_base};
 use papergrid_values::Position;
 use std::alloc::Global;
 

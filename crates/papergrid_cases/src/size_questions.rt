@@ -5,8 +5,8 @@ use crate::reading::Words;
 use crate::table::Told;
 use papergrid_config::{CompactConfig, SpannedConfig};
 use papergrid_layout::{
-    CompactGridDimension, Estimate, LayoutResult, IterGridDimension, LayoutError, LeastGridDimension,
-    PeekableGridDimension,
+    CompactGridDimension, Estimate, IterGridDimension, LayoutError, LayoutResult,
+    LeastGridDimension, PeekableGridDimension,
 };
 use papergrid_text::VecRecords;
 use papergrid_values::Position;
@@ -87,7 +87,11 @@ pub fn show<T: Shown>(found: LayoutResult<T>, answer: &mut Answer) {
 }
 
 /// Shows what both ways to ask find.
-fn show_both<T: Shown + PartialEq>(one: LayoutResult<T>, other: LayoutResult<T>, answer: &mut Answer) {
+fn show_both<T: Shown + PartialEq>(
+    one: LayoutResult<T>,
+    other: LayoutResult<T>,
+    answer: &mut Answer,
+) {
     let is_same = one == other;
     show(one, answer);
     if !is_same {

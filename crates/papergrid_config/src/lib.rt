@@ -4,8 +4,8 @@
 mod apply;
 mod borders;
 mod compact;
-mod line_queries;
 pub mod laws;
+mod line_queries;
 mod margins;
 mod overrides;
 mod per_cell;

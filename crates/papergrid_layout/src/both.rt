@@ -8,7 +8,7 @@ ghost use Rattle.papergrid_layout.specs.ForProofs.Earlier.{earlier, earlier_of};
 
 use crate::along::Along;
 use papergrid_axis::settled::find_out;
-use papergrid_axis::{LayoutResult, LayoutError, Solved, Solver};
+use papergrid_axis::{LayoutError, LayoutResult, Solved, Solver};
 use papergrid_maps::ConfigView;
 use papergrid_text::{IntoRecords, Records};
 use papergrid_values::{Direction, Position};

@@ -6,10 +6,10 @@ ghost use Rattle.papergrid_values.specs.declared.direction.Direction.{Direction}
 ghost use Rattle.papergrid_layout.specs.Places.{ArePlacesRefused, EndsWithin, HaveAllPlaces, TableView, table_by, total_along};
 ghost use Rattle.papergrid_layout.specs.ForProofs.Placing.{HasPlaced};
 
+use crate::cell_rect::place;
 use crate::dimension::Dimension;
 use crate::marks::{Marks, place_of};
 use crate::per_direction::PerDirection;
-use crate::cell_rect::place;
 use crate::rect::{Place, PlaceError};
 use crate::ruler::Ruler;
 use papergrid_axis::LayoutError;

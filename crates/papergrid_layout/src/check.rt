@@ -19,7 +19,12 @@ use std::alloc::AllocError;
 use std::marker::PhantomData;
 
 /// What the cell at a position needs along a direction, by its width (height).
-fn minimum_along<S: ConfigView>(settings: &S, direction: Direction, pos: Position, size: usize) -> u128
+fn minimum_along<S: ConfigView>(
+    settings: &S,
+    direction: Direction,
+    pos: Position,
+    size: usize,
+) -> u128
     ensures sum { let grid = S.grid settings.now in
         result ≡ size + grid.before direction pos + grid.after direction pos }
     ensures small { result ≤ 2 ^ 66 }

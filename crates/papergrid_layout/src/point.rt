@@ -5,8 +5,8 @@ ghost use Rattle.papergrid_values.specs.declared.position.Position.{Position};
 ghost use Rattle.papergrid_layout.specs.Places.{IsFirstOver, StandsOver, table_by};
 ghost use Rattle.papergrid_layout.specs.ForProofs.Points.{LiesInEach};
 
-use crate::dimension::Dimension;
 use crate::cell_rect::place;
+use crate::dimension::Dimension;
 use crate::ruler::Ruler;
 use papergrid_config::SpannedConfig;
 use papergrid_maps::ConfigView;

@@ -9,13 +9,13 @@ ghost use Rattle.papergrid_layout.specs.Answers.{UnlessMemory};
 ghost use Rattle.papergrid_layout.specs.Places.{EndsWithin, HaveAllPlaces, IsFirstOver, IsTrackAt, StandsOver, total_along, track_count, track_line, track_size};
 ghost use Rattle.papergrid_layout.specs.Tables.{AreNotPlacedIn, IsPlacedIn, IsTable, IsTableOf, line_position, view_of};
 
+use crate::cell_rects::places;
 use crate::dimension::{Dimension, Estimate};
 use crate::iterable::IterGridDimension;
 use crate::least::LeastGridDimension;
 use crate::marks::{Marks, place_of};
 use crate::per_direction::PerDirection;
 use crate::rect::{Place, PlaceError};
-use crate::cell_rects::places;
 use crate::ruler::Ruler;
 use crate::sizing::Sizing;
 use crate::spanning::{SpanningCell, first_covering, spanning_cells};

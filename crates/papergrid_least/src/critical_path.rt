@@ -23,7 +23,8 @@ fn is_tight(lowest_position: &[usize], lines: &Lines, cell: Demand) -> bool
     ensures { result ≡ (slice_index lowest_position.now cell.start + net_minimum (line_at lines.now) cell
         == slice_index lowest_position.now (end_of cell)) }
 {
-    lowest_position[cell.start] + asking(lines, cell).minimum == lowest_position[cell.start + cell.span]
+    lowest_position[cell.start] + asking(lines, cell).minimum
+        == lowest_position[cell.start + cell.span]
 }
 
 /// Writes for each edge the first cell that pushes it to where it is.

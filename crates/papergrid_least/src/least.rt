@@ -8,12 +8,12 @@ ghost use Rattle.papergrid_least.specs.Answers.{IsCriticalPath};
 ghost use Rattle.papergrid_least.specs.ForProofs.Settled.{AreLowestPositions};
 ghost use Rattle.papergrid_least.specs.CriticalPath.{critical_path};
 
-use crate::lines::Lines;
 use crate::critical_path::{follow, mark_tight_cells};
+use crate::lines::Lines;
 use crate::settled::make_least;
 use papergrid_axis::axis::Axis;
 use papergrid_axis::settled::{refusal, write_base};
-use papergrid_axis::{LayoutResult, Demands, Solved, Solver};
+use papergrid_axis::{Demands, LayoutResult, Solved, Solver};
 use papergrid_values::Position;
 use std::alloc::{AllocError, Global};
 

@@ -2,13 +2,13 @@
 //! ask for; and the cells that certify them.
 #![tactic(auto)]
 
-mod cells;
 mod boundaries;
+mod cells;
+mod critical_path;
 pub mod laws;
 pub mod least;
 mod limits;
 mod lines;
-mod critical_path;
 mod lower;
 mod settled;
 pub mod worked;

@@ -9,10 +9,10 @@ ghost use Rattle.papergrid_least.specs.TrackBoundaries.{net_minimum};
 ghost use Rattle.papergrid_least.specs.ForProofs.Laid.{AreLaid, AreLaterFirst, with_net_minimum};
 ghost use Rattle.papergrid_least.specs.ForProofs.Limits.{AreLimits, AreLowestBoundaries, AreHighestBoundaries, Refuses};
 
+use crate::boundaries::{lay_highest, lay_lowest};
 use crate::cells::{all_asking, sort_by_end, sort_later_first};
-use crate::boundaries::{lay_lowest, lay_highest};
 use crate::lines::Lines;
-use papergrid_axis::{Demand, LayoutResult, LayoutError};
+use papergrid_axis::{Demand, LayoutError, LayoutResult};
 use std::alloc::{AllocError, Global};
 
 /// The earliest and the latest edges, and their total with all lines.
@@ -68,7 +68,12 @@ fn highest_of(
 }
 
 /// The earliest and the latest edges, where the last, with all lines, fits.
-pub fn limits_of(alloc: Global, lines: &Lines, base: &[usize], cells: &[Demand]) -> LayoutResult<Limits>
+pub fn limits_of(
+    alloc: Global,
+    lines: &Lines,
+    base: &[usize],
+    cells: &[Demand],
+) -> LayoutResult<Limits>
     requires lines { length lines.now ≡ length base.now + 1 }
     requires table { All (IsInTable (length base.now)) cells.now }
     ensures limits { let line = line_at lines.now in

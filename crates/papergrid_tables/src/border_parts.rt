@@ -162,7 +162,11 @@ pub(crate) fn is_set_at<A, L>(
 }
 
 // Most tables hold none at all.
-fn is_stored_at<L>(line: usize, lines: &HashMap<usize, L>, counts: (&LineCounts, &LineCounts)) -> bool
+fn is_stored_at<L>(
+    line: usize,
+    lines: &HashMap<usize, L>,
+    counts: (&LineCounts, &LineCounts),
+) -> bool
     ensures { result ≡ is_stored lines.now counts.entry.0.now counts.entry.1.now line }
 {
     if lines.is_empty() && counts.0.is_bare() && counts.1.is_bare() {

@@ -8,8 +8,8 @@
 pub mod cell;
 mod count;
 pub mod iter_records;
-mod line_cache;
 pub mod laws;
+mod line_cache;
 pub mod peekable;
 pub mod records;
 pub mod search;

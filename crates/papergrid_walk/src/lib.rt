@@ -9,16 +9,16 @@
 //! time of the logarithm of the columns for each cell and for each anchor, whatever the spans are.
 #![tactic(auto)]
 
+pub mod demand_visitors;
 pub mod known;
 mod max_tree;
 pub mod measure;
-pub mod demand_visitors;
 pub mod position_filter;
 pub mod shown;
 pub mod sweep;
 pub mod visitor;
 
-pub use measure::Measure;
 pub use demand_visitors::{BothDemands, gather, gather_both};
+pub use measure::Measure;
 pub use sweep::Sweep;
 pub use visitor::{Visitor, walk};
