@@ -1,4 +1,4 @@
--- What a walk reads of a configuration that is told by settings is what the settings decide.
+-- What a walk reads of a configuration with settings as its history is what the settings decide.
 use Rattle.std.proofs.Common.{◌≡◌, ◌≤◌, ℕ, Bool, true, false, List, arith, nat_le, refl, subst}
 use Rattle.std.specs.Prelude.{IfErr, IfOk, Result, Ok, Err, flat_map, unwrap_or}
 use Rattle.std.proofs.lemmas.Bool.Decides.{nat_tests}

@@ -1,4 +1,4 @@
--- What a configuration that is told by a script's settings is estimated to, over the script's rows.
+-- What a configuration with a script's settings as its history is estimated to, over the script's rows.
 use Rattle.std.proofs.Common.{◌≡◌, ℕ, List, map, ap, ◌∙◌}
 use Rattle.std.specs.Prelude.{Result}
 use Rattle.std.specs.Borrow.{Bor}

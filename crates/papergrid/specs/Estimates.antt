@@ -20,14 +20,14 @@ use Rattle.papergrid_layout.specs.declared.sizing.Sizing.TheVariants.{ByShares, 
 use Rattle.papergrid.specs.Grids.{grid_of}
 use Rattle.papergrid_script.specs.Scripts.{Table}
 
--- the sizes are the widths, the heights, the totals of both with the lines, and the witnesses of both: the places of cells
--- that certify them, where there are such
+-- the sizes are the widths, the heights, the totals of both with the lines, and the certificates of both: the places of
+-- cells that certify them, where there are such
 pub data Estimate : Type 0 where
   OutOfTable : Position → Estimate
   TooLarge : Estimate
   Sized : List ℕ → List ℕ → ℕ → ℕ → Option (List Position) → Option (List Position) → Estimate
 
--- the sizes with their totals and witnesses, or too large where a total is past the greatest `usize`
+-- the sizes with their totals and certificates, or too large where a total is past the greatest `usize`
 abbrev pub unless_large : List ℕ → List ℕ → ℕ → ℕ → Option (List Position) → Option (List Position) → Estimate
 unless_large widths heights total_width total_height width_witness height_witness =
     if nat_le (2 ^ 64) total_width || nat_le (2 ^ 64) total_height then TooLarge
@@ -48,7 +48,7 @@ abbrev pub certificate_by : Sizing → Problem → Option (List Position)
 certificate_by ByShares problem = certificate_by_shares problem
 certificate_by Least problem = Some (map place_of (critical_path problem))
 
--- the sizes along both directions, with totals and witnesses
+-- the sizes along both directions, with totals and certificates
 abbrev pub totalled_sizes : Sizing → Problem → Problem → Estimate
 totalled_sizes sizing across down =
     unless_large (sizes_by sizing across) (sizes_by sizing down)

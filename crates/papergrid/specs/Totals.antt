@@ -18,7 +18,7 @@ use Rattle.papergrid.specs.Estimates.{text_measure}
 use Rattle.papergrid.specs.Grids.{grid_of}
 use Rattle.papergrid_script.specs.Scripts.{Table}
 
--- how many lines the settings make along a direction of so many columns (rows)
+-- how many lines the settings make along a direction of so many tracks
 abbrev pub lines_along : Direction → List Setting → ℕ → ℕ
 lines_along direction settings count = all_lines (line_along (characters_of settings) direction count) count
 
@@ -31,7 +31,7 @@ abbrev pub HasNone : Sizing → Problem → Type 0
 HasNone ByShares = NoneHolds
 HasNone Least = NoneFits
 
--- no visible cell reaches out, and the sizes along one direction with its lines do not fit 64 bits
+-- no visible cell overflows the table, and the sizes along one direction with its lines do not fit 64 bits
 pub record IsTableTooLarge (sizing : Sizing) (table : Table) : Type 0 where
   pub inside : first_out_of_table (grid_of table.settings) text_measure table.columns table.rows ≡ None
   pub too_large : HasNone sizing (problem_of_table table Columns) ⊎ HasNone sizing (problem_of_table table Rows)

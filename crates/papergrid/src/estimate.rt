@@ -25,12 +25,12 @@ pub struct Sizes {
     pub total_height: usize,
 }
 
-/// The sizes, the totals and the witnesses of the table of these records, by this configuration.
+/// The sizes, the totals and the certificates of the table of these records, by this configuration.
 ///
 /// # Errors
 ///
-/// `OutOfTable` with the first visible cell that reaches out, else `TooLarge` where a total is more than the
-/// greatest `usize`; `Memory` in place of any answer.
+/// `OutOfTable` with the first visible cell that overflows the table, else `TooLarge` where a total
+/// is more than the greatest `usize`; `Memory` in place of any answer.
 pub fn estimate<R>(
     alloc: Global,
     sizing: Sizing,

@@ -21,8 +21,8 @@ use std::alloc::{AllocError, Global};
 pub enum Reason {
     /// The number of its first bad line, counted from 1.
     BadLine(usize),
-    /// The first visible cell that reaches out of the table, by row and then by column, how many rows and
-    /// columns it spans, and how many rows and columns the table has.
+    /// The first visible cell that overflows the table, by row and then by column, how many rows
+    /// and columns it spans, and how many rows and columns the table has.
     OutOfTable(Position, (usize, usize), (usize, usize)),
     /// A total with the lines of the table is more than the greatest `usize`.
     TooLarge,

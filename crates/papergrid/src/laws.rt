@@ -42,13 +42,14 @@ pub fn grid_by_settings()
         spanned_grid config ≡ grid_of settings }
 {}
 
-/// A table is refused exactly for its first visible cell that reaches out of it, and else only where the sizes
-/// along a direction, with its lines, come to more than fits 64 bits, and so do all sizes with room where ranges
-/// are kept apart; else its sizes are those of its visible cells, with room for each of them and no size above
-/// the greatest need over it, least where ranges are kept apart, and its totals count the lines. The witness
-/// along a direction is none exactly where two ranges are neither nested nor disjoint, else the places of cells that certify
-/// that the sizes are least. Of least sizes all this holds whatever ranges cross, and there always is a witness; so they
-/// are too large only where those by shares are.
+/// A table is refused exactly for its first visible cell that overflows it, and else only where the
+/// sizes along a direction, with its lines, come to more than fits 64 bits, and so do all sizes
+/// with room where ranges are nested or disjoint; else its sizes are those of its visible cells,
+/// with room for each of them and no size above the greatest minimum size over it, least where
+/// ranges are nested or disjoint, and its totals count the lines. The certificate along a direction
+/// is none exactly where two ranges are neither nested nor disjoint, else the places of cells that
+/// certify that the sizes are least. Of least sizes all this holds whatever ranges cross, and there
+/// always is a certificate; so they are too large only where those by shares are.
 pub fn estimate_by_grid()
     ensures out { (sizing : Sizing) (table : Table) (place : Position) →
         (estimate_of sizing table ≡ OutOfTable place)

@@ -24,8 +24,8 @@ use thiserror::Error;
 pub enum RunEnd {
     /// The sizes were written.
     Done,
-    /// The table has no sizes, and why was written: the first visible cell that reaches out of it, or that a total
-    /// with the lines of the table is too large.
+    /// The table has no sizes, and why was written: the first visible cell that overflows it, or
+    /// that a total with the lines of the table is too large.
     Refused,
     /// The script has a bad line, and its number was written.
     BadScript,

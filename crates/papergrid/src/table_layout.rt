@@ -24,10 +24,10 @@ use std::convert::AsStr;
 ///
 /// # Errors
 ///
-/// `OutOfTable` with the first visible cell that reaches out, else `TooLarge` where the widths and the
-/// vertical lines, or the heights and the horizontal lines, come to more than the greatest `usize`;
-/// `Memory` in place of any answer, where a setting asks for memory too. Nothing is left of a layout that
-/// was refused.
+/// `OutOfTable` with the first visible cell that overflows the table, else `TooLarge` where the
+/// widths and the vertical lines, or the heights and the horizontal lines, come to more than the
+/// greatest `usize`; `Memory` in place of any answer, where a setting allocates too. Nothing is
+/// left of a layout that was refused.
 pub fn layout<R: Records + Drop>(
     alloc: Global,
     settings: Vec<Setting>,
@@ -58,9 +58,10 @@ where
 ///
 /// # Errors
 ///
-/// `OutOfTable` with the first visible cell that reaches out, else `TooLarge` where no widths with room for each visible
-/// cell come, with the vertical lines, to at most the greatest `usize`, or no heights with the horizontal lines;
-/// `Memory` in place of any answer, where a setting asks for memory too.
+/// `OutOfTable` with the first visible cell that overflows the table, else `TooLarge` where no
+/// widths with room for each visible cell come, with the vertical lines, to at most the greatest
+/// `usize`, or no heights with the horizontal lines; `Memory` in place of any answer, where a
+/// setting allocates too.
 pub fn layout_least<R: Records + Drop>(
     alloc: Global,
     settings: Vec<Setting>,

@@ -279,7 +279,7 @@ ones_below (c ∷ cells) spans =
     let ih : length cells ≤ sum_by (within (λ _. 1)) cells = ones_below cells spans.1 in
     omega arith
 
--- ranges of a table that have no number in common are no more than its numbers
+-- ranges of a table that have no track in common are no more than its numbers
 pub few_places : (line : ℕ → Bool) (n : ℕ) (ds : List Demand) (sizes : List ℕ) (places : List Position) → All (λ d. 1 ≤ d.span) ds → IsAccepted (problem_of_demands line n ds) sizes places → length places ≤ n
 few_places line n ds sizes places spans a =
     let table : All (IsInTable n) ds = none_out n ds a.none_out spans in

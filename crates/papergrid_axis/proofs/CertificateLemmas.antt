@@ -1,4 +1,4 @@
--- What a witness goes by.
+-- What a certificate goes by.
 use Rattle.std.proofs.Common.{◌≡◌, ◌<◌, ◌≤◌, false, List, length, arith, refl, sym, subst, ap, ◌∙◌, inl, inr}
 use Rattle.std.specs.Prelude.{All, Some, map}
 use Rattle.std.proofs.lemmas.Bool.{cases_Bool}
@@ -49,7 +49,7 @@ IsLaminar-growing_cells problem laminar =
 
 module _ (problem : Problem) (kept : Demands) (is : AreGathered problem.count kept problem.demands) (table : All (IsInTable problem.count) problem.demands)
     (total : total_of problem (sizes_of problem) < 18446744073709551616) where
-  -- where there are sizes, no need was large
+  -- where there are sizes, no minimum size was large
   small-settled : kept.is_large ≡ false
   small-settled = elim (cases_Bool kept.is_large) [
     | inl large ↦

@@ -1,4 +1,4 @@
--- The chosen cells are a certificate, so the sizes are least.
+-- The cells of the certificate certify the sizes, so the sizes are least.
 use Rattle.std.proofs.Common.{◌≡◌, ℕ, ◌+◌, ◌-◌, ◌<◌, ◌≤◌, ◌≢◌, Bool, true, false, ◌&&◌, ◌==◌, ◌⊎◌, inl, inr, List, [], ◌∷◌, length, get_or, sum, sum_by, refl, sym, ap, ◌∙◌, subst, arith, eqb, ne_eqb, eqb-true, Option, Some, None}
 use Rattle.std.specs.Prelude.{find, All, Contains, count_by}
 use Rattle.std.specs.List.{AllByRecursion, range_with_len}
@@ -273,7 +273,7 @@ growing_cells_are line n demands by_span table takes laminar =
       base = base-not_covered line n demands by_span table takes;
     }
 
--- the chosen cells are a certificate
+-- the cells of the certificate certify the sizes
 pub certificate_of : (line : ℕ → Bool) (n : ℕ) (demands by_span : List Demand) → All (IsInTable n) demands → TakesAll demands by_span → IsLaminarInOrder by_span →
     IsCertificate (problem_of_demands line n demands) (sizes_after line n demands by_span) (certificate_cells n demands (growing_demands line (base_sizes n demands) by_span) (sizes_after line n demands by_span))
 certificate_of line n demands by_span table takes laminar =

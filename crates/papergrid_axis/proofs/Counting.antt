@@ -129,7 +129,7 @@ sum-by_start w n (d ∷ ds) ones inside disjoint =
       | inr ne ↦ rw (ne_eqb d.start i ne) (omega arith)
     ]
 
--- a greatest need above 0 is the need of some cell
+-- a greatest minimum size above 0 is the minimum size of some cell
 pub find-greatest : (test : Demand → Bool) (ds : List Demand) (v : ℕ) → 0 < v → greatest_minimum test ds ≡ v →
     (d : Demand) × (find (λ e. test e && e.minimum == v) ds ≡ Some d)
 find-greatest test [] v positive e = absurd (omega arith)

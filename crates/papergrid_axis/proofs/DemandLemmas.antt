@@ -16,7 +16,7 @@ use Rattle.papergrid_axis.specs.ForProofs.Demands.{HoldsDemands, AreGathered, fi
 use Rattle.papergrid_axis.specs.Sizes.{base_size, base_sizes, by_span}
 use Rattle.papergrid_axis.proofs.Greatest.{get_or-base_sizes, length-base_sizes}
 
--- ---- the first of greatest need
+-- ---- the first of greatest minimum size
 
 -- what is kept stays where no cell needs more
 kept-stays : (i : ℕ) (kept : Demand) (ds : List Demand) → base_size ds i ≤ kept.minimum → fold (gathered_for i) kept ds ≡ kept
@@ -38,7 +38,7 @@ first_skip i kept next d ds m step rest =
     let same : fold (gathered_for i) kept (d ∷ ds) ≡ fold (gathered_for i) next ds = ap (λ k. fold (gathered_for i) k ds) step in
     (rest.0 ∙ ap Some (sym same), ap (λ (k : Demand). k.minimum) same ∙ rest.1)
 
--- else the first cell of greatest need is kept
+-- else the first cell of greatest minimum size is kept
 kept-first : (i : ℕ) (kept : Demand) (ds : List Demand) (m : ℕ) → base_size ds i ≡ m → kept.minimum < m →
     (find (λ d. d.span == 1 && d.start == i && d.minimum == m) ds ≡ Some (fold (gathered_for i) kept ds)) × ((fold (gathered_for i) kept ds).minimum ≡ m)
 kept-first i kept [] m e lt = absurd (omega arith)
@@ -75,7 +75,7 @@ kept-first i kept (d ∷ ds) m e lt = elim (cases_Bool (eqb d.span 1 && eqb d.st
       (skip ∙ rest.0, rest.1)
 ]
 
--- what is kept cell by cell is the first of greatest need
+-- what is kept cell by cell is the first of greatest minimum size
 kept-is_first : (i : ℕ) (ds : List Demand) → fold (gathered_for i) no_demand ds ≡ first_greatest i ds
 unfolding first_greatest
 kept-is_first i ds = elim (cases_lt 0 (base_size ds i)) [
@@ -100,13 +100,13 @@ minimum-first_greatest i ds = ap (λ (k : Demand). k.minimum) (sym (kept-is_firs
   | inr none ↦ ap (λ (k : Demand). k.minimum) (kept-stays i no_demand ds none) ∙ (omega arith)
 ]
 
--- where number i has its base size and that is not 0, the cell is the first that needs it
+-- where track i has its base size and that is not 0, the cell is the first that needs it
 pub exact_single-first : (i : ℕ) (ds : List Demand) (sizes : List ℕ) → get_or sizes i 0 ≡ base_size ds i → get_or sizes i 0 ≢ 0 → exact_single ds sizes i ≡ Some (first_greatest i ds)
 exact_single-first i ds sizes base some =
     let lt : 0 < get_or sizes i 0 = omega arith in
     (kept-first i no_demand ds (get_or sizes i 0) (sym base) lt).0 ∙ ap Some (kept-is_first i ds)
 
--- the base sizes are the needs of what is kept
+-- the base sizes are the minimum sizes of what is kept
 pub base-from_single_span : (n limit : ℕ) (demands single_span : List Demand) (sizes : List ℕ) → n ≤ limit → length sizes ≡ n →
     ((i : ℕ) → i < limit → get_or single_span i no_demand ≡ first_greatest i demands) →
     ((k : ℕ) → k < length sizes → get_or sizes k 0 ≡ (get_or single_span k no_demand).minimum) → sizes ≡ base_sizes n demands
@@ -116,7 +116,7 @@ base-from_single_span n limit demands single_span sizes le many kept minimums =
 
 -- ---- the cells that are kept as they come
 
--- a cell that covers one number alone, below the limit, does not reach out
+-- a cell that covers one track alone, below the limit, does not overflow the table
 pub first_out-rest_of : (n limit : ℕ) (ds : List Demand) → All (λ d. is_single limit d ≡ true → d.start < n) ds → first_out n (rest_of limit ds) ≡ first_out n ds
 first_out-rest_of n limit [] below = refl
 first_out-rest_of n limit (d ∷ ds) below =
@@ -232,7 +232,7 @@ module _ (limit : ℕ) (old new : Demands) (demands : List Demand) (d : Demand) 
         | inr f ↦ rw f refl
       ]
 
--- ---- what is kept of a table where no need is large
+-- ---- what is kept of a table where no minimum size is large
 
 module _ (n : ℕ) (kept : Demands) (demands : List Demand) (is : AreGathered n kept demands) (small : kept.is_large ≡ false) where
   pub base-kept : (sizes : List ℕ) → length sizes ≡ n → ((k : ℕ) → k < length sizes → get_or sizes k 0 ≡ (get_or kept.single_span.items k no_demand).minimum) →
@@ -245,6 +245,6 @@ module _ (n : ℕ) (kept : Demands) (demands : List Demand) (is : AreGathered n 
   pub table-kept : All (IsInTable n) demands → All (IsInTable n) kept.rest.items
   table-kept table = subst (All (IsInTable n)) (sym (is.held.exact small)) (table-rest_of n is.limit demands table)
 
--- a limit that is the number of columns (rows) tells which of the single cells are in the table
+-- a limit that is the number of tracks tells which of the single cells are in the table
 pub below-own_limit : (n : ℕ) (ds : List Demand) → All (λ d. is_single n d ≡ true → d.start < n) ds
 below-own_limit n ds = λ k d l t. ltb-true (get_or ds k d).start n (and_parts (eqb (get_or ds k d).span 1) (ltb (get_or ds k d).start n) t).1

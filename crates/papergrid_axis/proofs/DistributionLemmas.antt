@@ -1,4 +1,4 @@
--- What a cell lacks fits in each size of its range.
+-- The deficit of a cell fits in each size of its range.
 use Rattle.std.proofs.Common.{◌≡◌, ℕ, ◌+◌, ◌-◌, ◌<◌, ◌≤◌, Bool, List, get_or, sym, ap, arith}
 use Rattle.papergrid_axis.specs.declared.demand.Demand.{Demand}
 use Rattle.papergrid_axis.specs.Fits.{range_sum}
@@ -20,7 +20,7 @@ deficit-fits line sizes d i limit from before grows minimum =
     let a : get_or sizes i 0 ≤ range_sum sizes d = size-below_sum sizes d i from before in
     omega arith
 
--- a cell that lacks nothing leaves the sizes as they were
+-- a cell without a deficit leaves the sizes as they were
 pub grown-none : (line : ℕ → Bool) (sizes : List ℕ) (d : Demand) → 1 ≤ d.span → deficit line sizes d ≡ 0 → sizes ≡ grown_sizes line sizes d
 grown-none line sizes d one none =
     same_number_lists sizes (grown_sizes line sizes d) (sym (length-grown line sizes d)) (λ k l. sym (grown_same line sizes d k one l none))

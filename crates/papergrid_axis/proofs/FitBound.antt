@@ -1,4 +1,4 @@
--- The sizes have room for each cell, and none is above its top need.
+-- The sizes have room for each cell, and none is above its top minimum size.
 use Rattle.std.proofs.Common.{◌≡◌, ℕ, ◌+◌, ◌-◌, ◌<◌, ◌≤◌, Bool, true, ◌&&◌, ◌==◌, inl, inr, List, [], ◌∷◌, length, get_or, fold, refl, ap, ◌∙◌, arith}
 use Rattle.std.specs.Prelude.{All, Contains}
 use Rattle.std.specs.List.{AllByRecursion}
@@ -86,7 +86,7 @@ pub ByRecursion-weaker : {X : Type 0} (P Q : X → Type 0) → ((x : X) → P x 
 ByRecursion-weaker P Q h [] all = tt
 ByRecursion-weaker P Q h (x ∷ xs) all = (h x all.0, ByRecursion-weaker P Q h xs all.1)
 
--- a base size is at most the top need
+-- a base size is at most the top minimum size
 base-below_top : (demands : List Demand) (i : ℕ) → base_size demands i ≤ top_minimum demands i
 base-below_top demands i =
     greatest_minimum-below (λ d. d.span == 1 && d.start == i) demands (top_minimum demands i)
@@ -154,7 +154,7 @@ bound-by_span line sizes demands (d ∷ rest) table cells i l bound =
     bound-by_span line (grown_sizes line sizes d) demands rest table' cells.1 i (omega arith)
     (bound-grown line sizes demands d i table.0.covers_one table.0.ends_within cells.0 l bound)
 
--- no size is above its top need
+-- no size is above its top minimum size
 pub bound-sizes_after : (line : ℕ → Bool) (n : ℕ) (demands by_span : List Demand) → All (IsInTable n) demands → TakesAll demands by_span →
     (i : ℕ) → i < n → get_or (sizes_after line n demands by_span) i 0 ≤ top_minimum demands i
 bound-sizes_after line n demands by_span table takes i l =

@@ -1,4 +1,4 @@
--- The greatest need of some cells, and the base sizes.
+-- The greatest minimum size of some cells, and the base sizes.
 use Rattle.std.proofs.Common.{◌≡◌, ℕ, ◌+◌, ◌<◌, ◌≤◌, max, Bool, true, ◌&&◌, ◌==◌, inl, inr, List, [], ◌∷◌, length, get_or, refl, sym, ap, ◌∙◌, arith, eqb, eqb-true, eq-eqb}
 use Rattle.std.specs.Prelude.{Contains}
 use Rattle.std.specs.List.{AllByRecursion}
@@ -11,7 +11,7 @@ use Rattle.papergrid_axis.specs.Fits.{greatest_minimum, range_sum, HasRoom}
 use Rattle.papergrid_axis.specs.Sizes.{base_size, base_sizes}
 use Rattle.papergrid_axis.proofs.Upto.{upto, range_sum-within}
 
--- each cell that passes needs at most the greatest need
+-- each cell that passes needs at most the greatest minimum size
 pub greatest_minimum-above : (test : Demand → Bool) (ds : List Demand) (m : ℕ) → greatest_minimum test ds ≤ m → AllByRecursion (λ d. test d ≡ true → d.minimum ≤ m) ds
 greatest_minimum-above test [] m le = tt
 greatest_minimum-above test (d ∷ ds) m le = elim (cases_Bool (test d)) [
@@ -33,13 +33,13 @@ greatest_minimum-below test (d ∷ ds) m each = elim (cases_Bool (test d)) [
   | inr f ↦ rw f (greatest_minimum-below test ds m each.1)
 ]
 
--- a cell that passes needs at most the greatest need
+-- a cell that passes needs at most the greatest minimum size
 pub minimum-below_greatest : (test : Demand → Bool) (ds : List Demand) (d : Demand) → Contains ds d → test d ≡ true → d.minimum ≤ greatest_minimum test ds
 minimum-below_greatest test ds d m t =
     All-contains (λ d. test d ≡ true → d.minimum ≤ greatest_minimum test ds) ds d
     (All-from_recursion (λ d. test d ≡ true → d.minimum ≤ greatest_minimum test ds) ds (greatest_minimum-above test ds (greatest_minimum test ds) (omega arith))) m t
 
--- each base size is at most the top need, as the cells that cover i alone hold i
+-- each base size is at most the top minimum size, as the cells that cover i alone hold i
 pub holds_alone : (d : Demand) (i : ℕ) → (d.span == 1 && d.start == i) ≡ true → (d.span ≡ 1) × (d.start ≡ i)
 holds_alone d i h =
     let p : (eqb d.span 1 ≡ true) × (eqb d.start i ≡ true) = and_parts (eqb d.span 1) (eqb d.start i) h in
@@ -59,7 +59,7 @@ range_sum-one sizes d e =
     let c : get_or sizes (d.start + 0) 0 ≡ get_or sizes d.start 0 = ap (λ k. get_or sizes k 0) (let e' : d.start + 0 ≡ d.start = omega arith in e') in
     omega arith
 
--- the base sizes have room for each cell that covers one number alone
+-- the base sizes have room for each cell that covers one track alone
 pub HasRoom-base : (line : ℕ → Bool) (n : ℕ) (demands : List Demand) (d : Demand) → IsInTable n d → Contains demands d → d.span ≡ 1 →
     HasRoom line (base_sizes n demands) d
 HasRoom-base line n demands d table m one =

@@ -1,4 +1,4 @@
--- The cells that grow: after all steps the outermost of them are disjoint, and each has exactly its need.
+-- The cells that grow: after all steps the outermost of them are disjoint, and each has exactly its minimum size.
 use Rattle.std.proofs.Common.{◌≡◌, ℕ, ◌+◌, ◌<◌, ◌≤◌, Bool, true, false, ◌||◌, inl, inr, List, [], ◌∷◌, length, get_or, fold, refl, sym, ap, ◌∙◌, arith, leb, ltb}
 use Rattle.std.specs.List.{AllByRecursion, list_any}
 use Rattle.std.proofs.lemmas.Bool.{cases_Bool, and_from, and_parts, or_parts, or_left, or_right, or_cases, ltb-true, ltb-false, leb-true, le-leb, true≢false}
@@ -95,11 +95,11 @@ ArePairwiseDisjoint-outermost_laminar (d ∷ later) laminar = elim (cases_Bool (
 pub ArePairwiseDisjoint-outermost : (line : ℕ → Bool) (sizes : List ℕ) (by_span : List Demand) → IsLaminarInOrder by_span → ArePairwiseDisjoint (outermost (growing_demands line sizes by_span))
 ArePairwiseDisjoint-outermost line sizes by_span laminar = ArePairwiseDisjoint-outermost_laminar (growing_demands line sizes by_span) (IsLaminar-growing line sizes by_span laminar)
 
--- a cell has exactly its need
+-- a cell has exactly its minimum size
 abbrev pub IsTight : (ℕ → Bool) → List ℕ → Demand → Type 0
 IsTight line sizes d = d.minimum ≡ range_sum sizes d + inner_lines line d
 
--- each outermost growing cell has exactly its need
+-- each outermost growing cell has exactly its minimum size
 pub tight-outermost : (line : ℕ → Bool) (sizes : List ℕ) (by_span : List Demand) → AllByRecursion (IsInTable (length sizes)) by_span → IsLaminarInOrder by_span →
     AllByRecursion (IsTight line (fold (grown_sizes line) sizes by_span)) (outermost (growing_demands line sizes by_span))
 tight-outermost line sizes [] table laminar = tt

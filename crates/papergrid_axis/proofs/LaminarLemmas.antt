@@ -1,4 +1,4 @@
--- The test of ranges that are kept apart tells whether they are, and where they are not two of them cross.
+-- The test of ranges that are nested or disjoint tells whether they are, and where they are not two of them cross.
 use Rattle.std.proofs.Common.{◌≡◌, ℕ, ◌<◌, ◌≤◌, ◌⊎◌, ◌||◌, inl, inr, true, false, Bool, List, [], ◌∷◌, get_or, nat_le, arith, refl, sym, ◌∙◌, ltb-true}
 use Rattle.std.specs.Prelude.{All, Contains, IsTrue, nat_lt, ◌↔◌}
 use Rattle.std.specs.List.{list_all}
@@ -88,7 +88,7 @@ module _ (demands : List Demand) where
         not_disjoint = λ x. none (inr x);
       }
 
-  -- ranges that cross are not kept apart
+  -- ranges that cross are neither nested nor disjoint
   pub not_laminar : SomeCross demands → IsLaminar demands → ⊥
   not_laminar cross laminar =
       elim (laminar cross.one cross.other cross.are_visible.0 cross.are_visible.1 cross.are_long.0 cross.are_long.1) [
@@ -105,7 +105,7 @@ module _ (demands : List Demand) where
     ],
   )
 
-  -- and if they are kept apart only where something does not hold, two of them cross
+  -- and if they are nested or disjoint only where something does not hold, two of them cross
   pub SomeCross-unless : (IsLaminar demands → ⊥) → SomeCross demands
   SomeCross-unless none = elim (cases_Bool (is_laminar demands)) [
     | inl is ↦ absurd (none (Decides-is_laminar.0 is))

@@ -1,5 +1,5 @@
--- A table that holds, for each number, the last cell taken whose range holds it: it decides whether the ranges are kept apart,
--- and gives the chosen cells at one look for each number.
+-- A table that holds, for each track, the last cell taken whose range holds it: it decides whether the ranges are nested or
+-- disjoint, and gives the cells of the certificate at one look for each track.
 use Rattle.std.proofs.Common.{◌≡◌, ℕ, zero, suc, ◌<◌, ◌≤◌, true, false, cond, ◌==◌, ◌⊎◌, inl, inr, List, [], ◌∷◌, ◌++◌, length, get_or, refl, sym, ap, ◌∙◌, subst, arith, eqb, eq-eqb, ne_eqb, Option, Some, None}
 use Rattle.std.specs.Prelude.{find, All, Contains}
 use Rattle.std.specs.List.{AllByRecursion, list_any}
@@ -84,7 +84,7 @@ find-outermost (d ∷ rest) i laminar ones =
           ])
     ]
 
--- the chosen cell at i, by one look at the table
+-- the cell of the certificate at i, by one look at the table
 pub certificate_cells-at : (demands growing_cells : List Demand) (sizes : List ℕ) (i : ℕ) → IsLaminarInOrder growing_cells → AllByRecursion (λ d. 1 ≤ d.span) growing_cells →
     option_or (find (λ d. d.start == i) (outermost growing_cells)) (single_at demands growing_cells sizes i) ≡ option_or (starting_at i (last_holding growing_cells i)) (single_at demands growing_cells sizes i)
 certificate_cells-at demands growing_cells sizes i laminar ones = ap (λ o. option_or o (single_at demands growing_cells sizes i)) (find-outermost growing_cells i laminar ones)
@@ -188,7 +188,7 @@ compatible-pairs ds a b laminar m m' = go ds laminar m.0 m'.0 m.1 m'.1 m.2 m'.2
         (compatible-from_precedes d a (All-contains (Precedes d) ds a (All-from_recursion (Precedes d) ds laminar.0) (i, omega arith, e))))
     go (d ∷ ds) laminar (suc i) (suc j) l l' e e' = go ds laminar.1 i j (omega arith) (omega arith) e e'
 
--- so whether ranges are kept apart is decided on the cells that are taken
+-- so whether ranges are nested or disjoint is decided on the cells that are taken
 pub IsLaminar-from_laminar : (n : ℕ) (demands : List Demand) → All (IsInTable n) demands → IsLaminarInOrder (by_span n demands) → IsLaminar demands
 IsLaminar-from_laminar n demands table laminar a b m m' two two' =
     let takes = TakesAll-by_span n demands table in

@@ -72,7 +72,7 @@ module _ (n : ℕ) (ds : List Demand) (last : List (Option Demand)) (table : All
   under-from_laminar d es t laminar i o h e =
       last-from_precedes ds d (IsLaminar-before ds d es laminar) i o h (sym (is.holds_last i (in_table d i t h)) ∙ e)
 
--- one more number for the chosen cells
+-- one more number for the cells of the certificate
 pub filter_map_slot_more : (h : ℕ → Option Demand) (i : ℕ) → filter_map h (range_with_len 0 (i + 1)) ≡ filter_map h (range_with_len 0 i) ++ cons_option (h i) []
 filter_map_slot_more h i =
     ap (filter_map h) (range_with_len-append 0 i 1) ∙ filter_map-append h (range_with_len 0 i) (range_with_len (0 + i) 1)
@@ -87,7 +87,7 @@ option_or-none : (o : Option Demand) → option_or o None ≡ o
 option_or-none None = refl
 option_or-none (Some d) = refl
 
--- the cell in the slot is the chosen one
+-- the cell in the slot is that of the certificate
 slot-certificate_cells : (demands growing_cells : List Demand) (sizes : List ℕ) (i : ℕ) → IsLaminarInOrder growing_cells → AllByRecursion (λ d. 1 ≤ d.span) growing_cells →
     slot_of (last_holding growing_cells i) (exact_single demands sizes i) (get_or sizes i 0) i
     ≡ option_or (find (λ d. d.start == i) (outermost growing_cells)) (single_at demands growing_cells sizes i)
@@ -111,7 +111,7 @@ slot-kept demands growing_cells sizes single_span i l exact = elim (cases_Bool (
   ]
 ]
 
--- the cells by one look at each number are the chosen ones
+-- the cells by one look at each number are those of the certificate
 pub certificate_cells-by_slots : (demands growing_cells : List Demand) (sizes : List ℕ) (last : List (Option Demand)) (single_span : List Demand) → IsLaminarInOrder growing_cells → AllByRecursion (λ d. 1 ≤ d.span) growing_cells →
     ((i : ℕ) → i < length sizes → get_or last i None ≡ last_holding growing_cells i) → AreExact demands growing_cells sizes single_span →
     filter_map (certificate_slot last single_span sizes) (range_with_len 0 (length sizes)) ≡ certificate_cells (length sizes) demands growing_cells sizes

@@ -129,7 +129,7 @@ minimum_within_total line n sizes d le room =
           omega arith
     ]
 
--- a need past the greatest `usize`: every list that fits is too large
+-- a minimum size past the greatest `usize`: every list that fits is too large
 pub large_minimum : (line : ℕ → Bool) (n : ℕ) (sizes : List ℕ) (d : Demand) → IsInTable n d → 18446744073709551615 < d.minimum → HasRoom line sizes d → 18446744073709551616 ≤ sum sizes + all_lines line n
 large_minimum line n sizes d table large room =
     let a : d.minimum ≤ sum sizes + all_lines line n = minimum_within_total line n sizes d table.ends_within room in

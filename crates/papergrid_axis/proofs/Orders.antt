@@ -115,6 +115,6 @@ laminar_from demands laminar a (suc m) two =
     (flat_map (of_span demands) (range_with_len (a + 1) m)) (spans_from-all demands (a + 1) m))
     (of_span demands a) (of_span-all demands a))
 
--- where the ranges are kept apart, no cell is taken after one that its range meets and that does not lie in it
+-- where the ranges are nested or disjoint, no cell is taken after one that its range meets and that does not lie in it
 pub IsLaminar-by_span : (n : ℕ) (demands : List Demand) → IsLaminar demands → IsLaminarInOrder (by_span n demands)
 IsLaminar-by_span n demands laminar = laminar_from demands laminar 2 (n - 1) (omega arith)

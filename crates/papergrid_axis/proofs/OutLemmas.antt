@@ -1,4 +1,4 @@
--- The first cell out of the table, and needs past the greatest `usize`.
+-- The first cell out of the table, and minimum sizes past the greatest `usize`.
 use Rattle.std.proofs.Common.{Bool, List, [], ap, arith, false, inl, inr, map, nat_lt, refl, sum, sym, true, ℕ, ◌+◌, ◌<◌, ◌||◌, ◌∙◌, ◌∷◌, ◌≡◌, ◌≤◌}
 use Rattle.std.specs.Prelude.{Option, Some, None, is_some, All, if◌then◌else◌}
 use Rattle.std.specs.List.{list_any}
@@ -24,7 +24,7 @@ first_out-ranges : (n : ℕ) (ds : List Demand) → first_out n (map without_min
 first_out-ranges n [] = refl
 first_out-ranges n (d ∷ ds) = ap (λ rest. if nat_lt n (end_of d) then Some (place_of d) else rest) (first_out-ranges n ds)
 
--- the needs do not matter
+-- the minimum sizes do not matter
 same_out : (n : ℕ) (xs ys : List Demand) → map without_minimum xs ≡ map without_minimum ys → first_out n xs ≡ first_out n ys
 same_out n xs ys e = sym (first_out-ranges n xs) ∙ ap (first_out n) e ∙ first_out-ranges n ys
 
@@ -32,7 +32,7 @@ pub if_none : {A : Type 0} (b : Bool) (x : A) (r : Option A) → (if b then Some
 if_none true x r e = absurd (false≢true (sym (ap is_some e)))
 if_none false x r e = (refl, e)
 
--- where no cell reaches out, all are in the table
+-- where no cell overflows the table, all are in the table
 pub none_out : (n : ℕ) (ds : List Demand) → first_out n ds ≡ None → All (λ d. 1 ≤ d.span) ds → All (IsInTable n) ds
 none_out n [] e spans = All-nil (IsInTable n)
 none_out n (d ∷ ds) e spans =
@@ -41,7 +41,7 @@ none_out n (d ∷ ds) e spans =
     All-cons (IsInTable n) d ds record { covers_one = All-head (λ d. 1 ≤ d.span) d ds spans; ends_within = within }
     (none_out n ds r.1 (All-tail (λ d. 1 ≤ d.span) d ds spans))
 
--- one large need makes every list with room for all too large
+-- one large minimum size makes every list with room for all too large
 pub large_any : (line : ℕ → Bool) (n : ℕ) (sizes : List ℕ) (ds : List Demand) → list_any is_large ds ≡ true → All (IsInTable n) ds → All (HasRoom line sizes) ds →
     18446744073709551616 ≤ sum sizes + all_lines line n
 large_any line n sizes [] e table room = absurd (false≢true e)

@@ -95,7 +95,7 @@ HasRoom-grown line sizes d one le =
     let a : range_sum (grown_sizes line sizes d) d ≡ range_sum sizes d + deficit line sizes d = range_sum-grown_self line sizes d one le in
     omega arith
 
--- a cell that grows has no more than its need afterwards
+-- a cell that grows has no more than its minimum size afterwards
 pub tight-grown : (line : ℕ → Bool) (sizes : List ℕ) (d : Demand) → 1 ≤ d.span → end_of d ≤ length sizes → 0 < deficit line sizes d →
     d.minimum ≡ range_sum (grown_sizes line sizes d) d + inner_lines line d
 tight-grown line sizes d one le grows =

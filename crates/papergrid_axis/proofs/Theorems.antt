@@ -17,7 +17,7 @@ use Rattle.papergrid_axis.proofs.Orders.{TakesAll-by_span, IsLaminar-by_span}
 use Rattle.papergrid_axis.proofs.Certified.{certificate_of, IsLeast-sizes_after}
 use Rattle.papergrid_axis.proofs.GrowLemmas.{growing-all}
 
--- no cell of the table reaches out of it
+-- no cell of the table overflows it
 pub first_out-none : (n : ℕ) (ds : List Demand) → AllByRecursion (IsInTable n) ds → first_out n ds ≡ None
 first_out-none n [] table = refl
 first_out-none n (d ∷ ds) table = rw (le-ltb n (end_of d) table.0.ends_within) (first_out-none n ds table.1)

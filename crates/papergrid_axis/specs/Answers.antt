@@ -22,14 +22,14 @@ module _ (problem : Problem) where
     pub bound : EachIndex sizes (λ i. slice_index sizes i ≤ top_minimum problem.demands i)
     pub least : IsLaminar problem.demands → IsLeast problem sizes
 
-  -- the sizes are too large, and where ranges are kept apart so is every list that fits
+  -- the sizes are too large, and where ranges are nested or disjoint so is every list that fits
   pub record NoneHolds : Type 0 where
     pub none_out : first_out problem.count problem.demands ≡ None
     pub too_large : IsTooLarge problem (sizes_of problem)
     pub none_holds : IsLaminar problem.demands → (other : List ℕ) → Fits problem other → IsTooLarge problem other
 
-  -- out of the table by the first cell that reaches out, else too large, of which this is known; memory may be refused in place
-  -- of any answer
+  -- out of the table by the first cell that overflows it, else too large, of which this is known; an allocation may fail in
+  -- place of any answer
   abbrev pub IsRefusedWhere : Type 0 → LayoutError → Type 0
   IsRefusedWhere too_large (OutOfTable place) = first_out problem.count problem.demands ≡ Some place
   IsRefusedWhere too_large TooLarge = too_large
@@ -39,7 +39,7 @@ module _ (problem : Problem) where
   abbrev pub IsRefused : LayoutError → Type 0
   IsRefused e = IsRefusedWhere NoneHolds e
 
-  -- the places of the chosen cells, which certify the sizes
+  -- the places of the cells of the certificate
   pub record AreCertifying (places : List Position) : Type 0 where
     pub none_out : first_out problem.count problem.demands ≡ None
     pub total : total_of problem (sizes_of problem) < 2 ^ 64
@@ -63,7 +63,7 @@ module _ (problem : Problem) where
   abbrev pub IsTotal : ℕ → Type 0
   IsTotal total = IsTotalBy AreSizes total
 
--- the places of the chosen cells, none where ranges are not kept apart
+-- the places of the cells of the certificate, none where two ranges are neither nested nor disjoint
 abbrev pub IsCertificateOrNone : {Z : Type 0} → Problem → Option (Vec Position Z) → Type 0
 IsCertificateOrNone problem None = NoneCertify problem
 IsCertificateOrNone problem (Some places) = AreCertifying problem places.items
@@ -91,7 +91,7 @@ Answers holds problem result = AnswersWhere NoneHolds holds problem result
 abbrev pub IsSized : {Z : Type 0} → Problem → Result (Vec ℕ Z) LayoutError → Type 0
 IsSized {Z} problem result = Answers (λ p (sizes : Vec ℕ Z). AreSizes p sizes.items) problem result
 
--- what a checker accepts: no cell reaches out, the sizes fit, and the places are those of cells that certify them
+-- what a checker accepts: no cell overflows the table, the sizes fit, and the places are those of cells that certify them
 pub record IsAccepted (problem : Problem) (sizes : List ℕ) (places : List Position) : Type 0 where
   pub none_out : first_out problem.count problem.demands ≡ None
   pub fits : Fits problem sizes

@@ -1,4 +1,4 @@
--- The cells that are chosen to certify that the sizes are least.
+-- The cells of the certificate that the sizes are least.
 use Rattle.std.specs.Prelude.{ℕ, Bool, ◌&&◌, ◌==◌, nat_lt, nat_le, if◌then◌else◌, List, [], ◌∷◌, filter_map, find, slice_index, Option, None}
 use Rattle.std.specs.List.{range_with_len, list_any}
 use Rattle.std.specs.Option.{option_or}
@@ -7,7 +7,7 @@ use Rattle.papergrid_axis.specs.Problem.{Problem}
 use Rattle.papergrid_axis.specs.Ranges.{end_of, holds}
 use Rattle.papergrid_axis.specs.Sizes.{deficit, grown_sizes, base_sizes, sizes_of, by_span}
 
--- the cells that grow, in the order in which they are taken: those that lack room when they are
+-- the cells that grow, in the order in which they are taken: those with a deficit when they are
 abbrev pub growing_demands : (ℕ → Bool) → List ℕ → List Demand → List Demand
 growing_demands line sizes [] = []
 growing_demands line sizes (d ∷ rest) =
@@ -23,7 +23,7 @@ abbrev pub outermost : List Demand → List Demand
 outermost [] = []
 outermost (d ∷ later) = if list_any (lies_in d) later then outermost later else d ∷ outermost later
 
--- the first cell that covers i alone and needs its size
+-- the first cell that covers i alone and has its size as its minimum size
 abbrev pub exact_single : List Demand → List ℕ → ℕ → Option Demand
 exact_single demands sizes i = find (λ d. d.span == 1 && d.start == i && d.minimum == slice_index sizes i) demands
 
@@ -44,6 +44,6 @@ abbrev pub growing_cells_of : Problem → List Demand
 growing_cells_of problem =
     growing_demands problem.line (base_sizes problem.count problem.demands) (by_span problem.count problem.demands)
 
--- the chosen cells
+-- the cells of the certificate
 abbrev pub certificate_cells_of : Problem → List Demand
 certificate_cells_of problem = certificate_cells problem.count problem.demands (growing_cells_of problem) (sizes_of problem)

@@ -8,11 +8,11 @@ use Rattle.papergrid_axis.specs.Ranges.{holds, inner_lines, AreDisjoint}
 abbrev pub range_sum : List ℕ → Demand → ℕ
 range_sum sizes d = sum (take d.span (drop d.start sizes))
 
--- the sizes in the cell's range, with the lines inside of it, come to its need
+-- the sizes in the cell's range, with the lines inside of it, come to its minimum size
 abbrev pub HasRoom : (ℕ → Bool) → List ℕ → Demand → Type 0
 HasRoom line sizes d = d.minimum ≤ range_sum sizes d + inner_lines line d
 
--- one size for each number, and room for each cell
+-- one size for each track, and room for each cell
 pub record Fits (problem : Problem) (sizes : List ℕ) : Type 0 where
   pub one_each : length sizes ≡ problem.count
   pub room : All (HasRoom problem.line sizes) problem.demands
@@ -31,15 +31,15 @@ abbrev pub greatest : List ℕ → ℕ
 greatest [] = 0
 greatest (x ∷ xs) = max x (greatest xs)
 
--- the greatest need of the cells that pass the test
+-- the greatest minimum size of the cells that pass the test
 abbrev pub greatest_minimum : (Demand → Bool) → List Demand → ℕ
 greatest_minimum test demands = greatest (map (λ d. d.minimum) (filter test demands))
 
--- the greatest need of a cell whose range holds i
+-- the greatest minimum size of a cell whose range holds i
 abbrev pub top_minimum : List Demand → ℕ → ℕ
 top_minimum demands i = greatest_minimum (λ d. holds d i) demands
 
--- visible cells of pairwise disjoint ranges, whose needs less their inner lines add up to the total
+-- visible cells of pairwise disjoint ranges, whose minimum sizes less their inner lines add up to the total
 pub record IsCertificate (problem : Problem) (sizes : List ℕ) (cells : List Demand) : Type 0 where
   pub visible : All (Contains problem.demands) cells
   pub disjoint : AllPairs AreDisjoint cells

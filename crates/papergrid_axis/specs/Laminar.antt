@@ -1,11 +1,11 @@
--- Whether the ranges of cells are kept apart, as a test that computes. A law says that it tells what it should.
+-- Whether the ranges of cells are nested or disjoint, as a test that computes. A law says that it tells what it should.
 use Rattle.std.specs.Prelude.{Bool, ◌||◌, nat_le, nat_lt, List, filter}
 use Rattle.std.specs.List.{list_all}
 use Rattle.papergrid_axis.specs.declared.demand.Demand.{Demand}
 use Rattle.papergrid_axis.specs.Ranges.{end_of}
 use Rattle.papergrid_axis.specs.Certificates.{lies_in}
 
--- whether two ranges have no number in common
+-- whether two ranges have no track in common
 abbrev pub are_disjoint : Demand → Demand → Bool
 are_disjoint a b = nat_le (end_of a) b.start || nat_le (end_of b) a.start
 

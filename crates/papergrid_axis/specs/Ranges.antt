@@ -1,6 +1,6 @@
--- Ranges along a direction, which has n columns (rows), numbered from 0. A visible cell's range has the numbers from
--- `start` on, `span` of them. `line i` tells whether a line is drawn at i, before number i, and at n after the last.
--- The demands of the visible cells stand by (row, column).
+-- Ranges along a direction, which has n tracks, numbered from 0. A visible cell's range has the numbers from `start`
+-- on, `span` of them. `line i` tells whether a line is drawn at i, before track i, and at n after the last. The
+-- demands of the visible cells stand by (row, column).
 use Rattle.std.specs.Prelude.{ℕ, ◌+◌, ◌-◌, ◌≤◌, Bool, ◌&&◌, nat_lt, nat_le, if◌then◌else◌, ◌⊎◌, List, [], ◌∷◌, count_by, Contains, Option, Some, None}
 use Rattle.std.specs.List.{range_with_len}
 use Rattle.papergrid_values.specs.declared.position.Position.{Position}
@@ -8,7 +8,7 @@ use Rattle.papergrid_axis.specs.declared.demand.Demand.{Demand}
 use Rattle.papergrid_values.specs.declared.direction.Direction.{Direction}
 use Rattle.papergrid_values.specs.Positions.{along}
 
--- what the cell at a place asks for along a direction, by its span and its need
+-- what the cell at a place asks for along a direction, by its span and its minimum size
 abbrev pub demand_of : Direction → Position → ℕ → ℕ → Demand
 demand_of direction place span minimum =
     record { row = place.row; col = place.col; start = along direction place; span = span; minimum = minimum }
@@ -30,12 +30,12 @@ pub record IsInTable (n : ℕ) (d : Demand) : Type 0 where
 abbrev pub place_of : Demand → Position
 place_of d = record { row = d.row; col = d.col }
 
--- the first cell that reaches out of the table: its range ends past n
+-- the first cell that overflows the table: its range ends past n
 abbrev pub first_out : ℕ → List Demand → Option Position
 first_out n [] = None
 first_out n (d ∷ ds) = if nat_lt n (end_of d) then Some (place_of d) else first_out n ds
 
--- ranges with no number in common
+-- ranges with no track in common
 abbrev pub AreDisjoint : Demand → Demand → Type 0
 AreDisjoint a b = (end_of a ≤ b.start) ⊎ (end_of b ≤ a.start)
 

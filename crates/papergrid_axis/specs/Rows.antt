@@ -57,7 +57,7 @@ crossing_rows = high 0 0 2 10 ∷ high 0 1 1 1 ∷ high 1 1 2 10 ∷ high 2 0 1 
 abbrev crossing_columns : List Demand
 crossing_columns = wide 0 0 2 10 ∷ wide 0 2 1 0 ∷ wide 1 0 1 0 ∷ wide 1 1 2 10 ∷ []
 
--- the sizes, and the chosen cells
+-- the sizes, and the cells of the certificate
 pub record GivesSizes (problem : Problem) (sizes : List ℕ) (cells : List Demand) : Type 0 where
   pub sizes_are : sizes_of problem ≡ sizes
   pub cells_are : certificate_cells_of problem ≡ cells

@@ -1,4 +1,4 @@
--- The sizes along a direction: what the cells need that cover one number alone, and then what those of longer ranges lack.
+-- The sizes along a direction: the minimum sizes of cells of one track, and then the deficits of those of longer ranges.
 use Rattle.std.specs.Prelude.{ℕ, ◌+◌, ◌-◌, ◌/◌, ◌%◌, Bool, ◌&&◌, ◌==◌, if◌then◌else◌, List, length, map, filter, flat_map, fold, slice_index}
 use Rattle.std.specs.List.{range_with_len}
 use Rattle.papergrid_axis.specs.declared.demand.Demand.{Demand}
@@ -6,19 +6,19 @@ use Rattle.papergrid_axis.specs.Problem.{Problem}
 use Rattle.papergrid_axis.specs.Ranges.{holds, inner_lines}
 use Rattle.papergrid_axis.specs.Fits.{greatest_minimum, range_sum}
 
--- the greatest need of the cells that cover i alone
+-- the greatest minimum size of the cells that cover i alone
 abbrev pub base_size : List Demand → ℕ → ℕ
 base_size demands i = greatest_minimum (λ d. d.span == 1 && d.start == i) demands
 
--- these needs for each of n numbers
+-- these minimum sizes for each of n numbers
 abbrev pub base_sizes : ℕ → List Demand → List ℕ
 base_sizes n demands = map (base_size demands) (range_with_len 0 n)
 
--- how much the sizes in the range, with the lines inside of it, fall short of the need
+-- how much the sizes in the range, with the lines inside of it, fall short of the minimum size
 abbrev pub deficit : (ℕ → Bool) → List ℕ → Demand → ℕ
 deficit line sizes d = d.minimum - (range_sum sizes d + inner_lines line d)
 
--- what number i gets of an amount: each of the range the same, and its first what is left over
+-- what track i gets of an amount: each of the range the same, and its first what is left over
 abbrev pub share : ℕ → Demand → ℕ → ℕ
 share amount d i =
     if i == d.start then amount / d.span + amount % d.span else (if holds d i then amount / d.span else 0)
@@ -28,7 +28,7 @@ abbrev pub distributed : ℕ → Demand → List ℕ → List ℕ
 distributed amount d sizes =
     map (λ i. slice_index sizes i + share amount d i) (range_with_len 0 (length sizes))
 
--- the sizes after the cell was taken: its range shares what it lacks
+-- the sizes after the cell was taken: its deficit is distributed evenly over its range
 abbrev pub grown_sizes : (ℕ → Bool) → List ℕ → Demand → List ℕ
 grown_sizes line sizes d = distributed (deficit line sizes d) d sizes
 

@@ -11,12 +11,12 @@ pub trait Axis {
 
     ghost line: { Self → ℕ → Bool };
 
-    /// How many columns (rows) the cell at a position spans.
+    /// How many tracks the cell at a position spans.
     fn span(&self, position: Position) -> usize
         ensures value { result ≡ span_of self.now position }
         ensures positive { 1 ≤ result };
 
-    /// Whether there is a line before column (row) `i`, or, at their count, after the last.
+    /// Whether there is a line before track `i`, or, at their count, after the last.
     fn has_line(&self, i: usize) -> bool
         ensures { result ≡ line self.now i };
 }

@@ -16,10 +16,10 @@ pub struct Candidate<'a> {
     pub sizes: &'a [usize],
     pub places: &'a [Position],
     /// Whether each of the ranges at the places is known to end before a later one begins: then a
-    /// place is looked for by halves, and no two ranges have a number in common.
+    /// place is looked for by binary search, and no two ranges have a number in common.
     pub is_ordered: bool,
     /// Whether each range that begins within the sizes is known to end within them: then a cell for
-    /// whose need the first size of its range is enough has room, whatever its span.
+    /// whose minimum size the first size of its range is enough has room, whatever its span.
     pub ends_within: bool,
 }
 

@@ -1,4 +1,4 @@
-//! The witness that sizes are least.
+//! The certificate that sizes are least.
 
 ghost use Rattle.std.specs.Prelude.{◌≡◌, ◌↔◌, All, IfOk, IsTrue, false, true};
 ghost use Rattle.papergrid_axis.specs.Problem.{Problem};
@@ -15,8 +15,8 @@ use crate::last_cells::are_laminar;
 use papergrid_values::Position;
 use std::alloc::{AllocError, Global};
 
-/// Whether the range of each of the cells of a table of `count` columns (rows) is part of those of
-/// all later cells that it meets.
+/// Whether the range of each of the cells of a table of `count` tracks is part of those of all
+/// later cells that it meets.
 fn is_laminar_in_order(alloc: Global, count: usize, cells: &[Demand]) -> Result<bool, AllocError>
     requires { All (IsInTable count) cells.now }
     ensures { IfOk result (λ yes. IsTrue yes ↔ IsLaminarInOrder cells.now) }

@@ -1,4 +1,4 @@
-//! The cells that are chosen to certify the sizes.
+//! The cells of the certificate of the sizes.
 
 ghost use Rattle.std.specs.Prelude.{◌≡◌, ◌<◌, ℕ, All, IfOk, List, None, Some, filter_map, length, map, slice_index_or};
 ghost use Rattle.std.specs.List.{range_with_len};
@@ -13,8 +13,8 @@ use crate::last_cells::write_all;
 use papergrid_values::Position;
 use std::alloc::{AllocError, Global};
 
-/// The chosen cell at a number: the last growing cell there, where its range starts there, or, where
-/// there is none, the single one.
+/// The cell of the certificate at a number: the last growing cell there, where its range starts
+/// there, or, where there is none, the single one.
 fn slot(last: Option<Demand>, single: Demand, size: usize, i: usize) -> Option<Demand>
     ensures { result ≡ slot_of last (Some single) size i }
 {
@@ -40,7 +40,7 @@ fn cell_at(last: &[Option<Demand>], i: usize) -> Option<Demand>
     }
 }
 
-/// The chosen cells, by one look at each number.
+/// The cells of the certificate, by one look at each number.
 fn certifying_cells(
     alloc: Global,
     last: &[Option<Demand>],
@@ -60,7 +60,8 @@ fn certifying_cells(
     Ok(cells)
 }
 
-/// For each number the last cell whose range holds it. Where there is no cell this takes no memory.
+/// For each track the last cell whose range holds it. Where there is no cell this does not
+/// allocate.
 fn last_of(alloc: Global, count: usize, cells: &[Demand]) -> Result<Vec<Option<Demand>>, AllocError>
     requires { All (IsInTable count) cells.now }
     ensures { IfOk result (λ last. (i : ℕ) → i < count →
@@ -81,8 +82,8 @@ fn places(alloc: Global, cells: &[Demand]) -> Result<Vec<Position>, AllocError>
     cells.iter().map(|cell| cell.place()).collect(alloc)
 }
 
-/// The places of the chosen cells of those that grew, by the sizes after they did and by the cells
-/// that were kept for each number.
+/// The places of the cells of the certificate of those that grew, by the sizes after they did and
+/// by the cells that were kept for each track.
 pub fn certifying_places(
     alloc: Global,
     single_span: &[Demand],

@@ -1,4 +1,4 @@
-//! Checking sizes and a list of places cell by cell, in no memory.
+//! Checking sizes and a list of places cell by cell, without allocating.
 
 ghost use Rattle.std.specs.Prelude.{ℕ, Bool, ◌==◌, ◌&&◌, ◌*◌, ◌-◌, true, false, ◌≡◌, ◌+◌, ◌<◌, ◌≤◌, ◌^◌, ◌↔◌, ◌∷◌, ◌++◌, [], IfNone, IfSome, IsTrue, List, length, slice_index, sum};
 ghost use Rattle.papergrid_values.specs.declared.position.Position.{Position};
@@ -15,7 +15,8 @@ use crate::candidate::{Candidate, are_disjoint, count_listed};
 use papergrid_values::Position;
 
 /// What is kept of the visible cells met so far: whether all of them have room in the table, and of
-/// those that are listed how many they are, the sum of their needs and that of their inner lines.
+/// those that are listed how many they are, the sum of their minimum sizes and that of their inner
+/// lines.
 #[derive(Clone, Copy, Debug)]
 pub struct Checked {
     pub holds: bool,
@@ -77,7 +78,7 @@ fn count_inner<A: Axis>(axis: &A, start: usize, span: usize) -> usize
 }
 
 /// The lines inside of a range, where it lies in the table and the sizes in it and these lines come
-/// to the need.
+/// to the minimum size.
 fn room<A: Axis>(
     axis: &A,
     sizes: &[usize],
@@ -117,7 +118,7 @@ fn failed(checked: Checked) -> Checked
     }
 }
 
-/// What was kept, and a cell that is listed so often, with its need and its inner lines.
+/// What was kept, and a cell that is listed so often, with its minimum size and its inner lines.
 fn with_cell(checked: Checked, times: usize, minimum: u128, inner: usize) -> Checked
     requires holds { checked.holds ≡ true }
     requires found { checked.found + times < 2 ^ 59 }
@@ -142,8 +143,8 @@ fn with_cell(checked: Checked, times: usize, minimum: u128, inner: usize) -> Che
     }
 }
 
-/// Whether a range that begins at a number has room for the need whatever its span is, since the size
-/// of that number has.
+/// Whether a range that begins at a number has room for the minimum size whatever its span is,
+/// since the size of that number has.
 fn has_room_alone(candidate: &Candidate<'_>, start: usize, minimum: u128) -> bool
     ensures { IsTrue result → (candidate.now.ends_within ≡ true)
         × (start < length candidate.now.sizes.now)
@@ -154,9 +155,9 @@ fn has_room_alone(candidate: &Candidate<'_>, start: usize, minimum: u128) -> boo
         && minimum <= candidate.sizes[start] as u128
 }
 
-/// What is kept of the cells met and of one more, the visible cell at a position with its need.
-/// Nothing changes by a cell that has room and is not listed, nor after one that fails. Where the first
-/// size of its range is room enough, its span is not looked up.
+/// What is kept of the cells met and of one more, the visible cell at a position with its minimum
+/// size. Nothing changes by a cell that has room and is not listed, nor after one that fails. Where
+/// the first size of its range is room enough, its span is not looked up.
 pub fn visit<A: Axis>(
     checked: Checked,
     candidate: &Candidate<'_>,
@@ -203,8 +204,8 @@ pub fn is_unchanged(before: Checked, after: Checked) -> bool
     before.found == after.found && before.minimums == after.minimums && before.inner == after.inner
 }
 
-/// Whether all cells have room, each position is a cell's, and the needs of the listed cells less
-/// their inner lines add up to the sizes.
+/// Whether all cells have room, each position is a cell's, and the minimum sizes of the listed
+/// cells less their inner lines add up to the sizes.
 fn sums_agree(checked: Checked, sizes: &[usize], places: &[Position]) -> bool
     requires { AreBounded places.now checked }
     ensures { IsTrue result ↔ SumsAgree checked sizes.now places.now }
@@ -218,9 +219,9 @@ fn sums_agree(checked: Checked, sizes: &[usize], places: &[Position]) -> bool
     checked.minimums == wide_sum(sizes) + checked.inner
 }
 
-/// Whether the sizes of `count` columns (rows) fit the visible cells met, of which none reaches out,
-/// and the positions are those of visible cells of disjoint ranges, whose needs less their inner
-/// lines add up to the sizes. Then no other choice of sizes has a smaller total.
+/// Whether the sizes of `count` tracks fit the visible cells met, of which none overflows the
+/// table, and the positions are those of visible cells of disjoint ranges, whose minimum sizes less
+/// their inner lines add up to the sizes. Then no other choice of sizes has a smaller total.
 pub fn accepts<A: Axis>(checked: Checked, candidate: &Candidate<'_>, axis: &A, count: usize) -> bool
     requires bounded { AreBounded candidate.now.places.now checked }
     requires ordered { IsCandidate (A.span_of axis.now) candidate.now }

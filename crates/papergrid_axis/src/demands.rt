@@ -10,20 +10,21 @@ use crate::demand::Demand;
 use papergrid_values::{Direction, Position};
 use std::alloc::{AllocError, Global};
 
-/// What the visible cells met so far ask for: of those that cover one column (row) alone, for each
-/// the first of greatest need, and the rest as they came. A need above the greatest `usize` is kept
-/// as that one, and is remembered: cells that reach out of the table are looked for before it counts.
+/// What the visible cells met so far ask for: of those that cover one track alone, for each the
+/// first of greatest minimum size, and the rest as they came. A minimum size above the greatest
+/// `usize` is kept as that one, and is remembered: cells that overflow the table are looked for
+/// before it counts.
 #[derive(Debug, Drop)]
 pub struct Demands {
-    /// By their numbers. Where no cell has a need, a cell stands that needs nothing.
+    /// By their numbers. Where no cell has a minimum size, a cell stands of minimum size 0.
     pub single_span: Vec<Demand>,
     pub rest: Vec<Demand>,
     pub is_large: bool,
-    /// A cell that covers one number alone is in the table where that is below this limit.
+    /// A cell that covers one track alone is in the table where that is below this limit.
     pub limit: usize,
 }
 
-/// A cell that needs nothing.
+/// A cell of minimum size 0.
 const NO_DEMAND: Demand = Demand {
     row: 0,
     col: 0,
@@ -33,7 +34,7 @@ const NO_DEMAND: Demand = Demand {
 };
 
 impl Demands {
-    /// Nothing kept. It takes no memory.
+    /// Nothing kept. It does not allocate.
     #[tactic(auto, using(crate::proofs::DemandLemmas::first_greatest_nil))]
     pub fn new(alloc: Global, limit: usize) -> Self
         ensures { HoldsDemands limit result [] }
@@ -65,7 +66,7 @@ fn minimum_of(measure: usize, before: usize, after: usize) -> Option<usize>
     measure.checked_add(before)?.checked_add(after)
 }
 
-/// Makes room for a number. Where none was, a cell stands that needs nothing.
+/// Makes room for a number. Where none was, a cell stands of minimum size 0.
 fn extend(single_span: &mut Vec<Demand>, i: usize) -> Result<(), AllocError>
     ensures room { OnOk result (i < length single_span.new.items) }
     ensures same { OnOk result ((k : ℕ) → slice_index_or single_span.new.items k no_demand ≡
@@ -97,8 +98,8 @@ fn is_met(single_span: &[Demand], i: usize, minimum: usize) -> bool
     i < single_span.len() && minimum <= single_span[i].minimum
 }
 
-/// Keeps the demand of the visible cell at a position, of a span of columns (rows): it needs its
-/// measure with the paddings before and after it.
+/// Keeps the demand of the visible cell at a position, of a span of tracks: it needs its measure
+/// with the paddings before and after it.
 #[inline(always)]
 pub fn keep(
     kept: &mut Demands,
@@ -115,7 +116,7 @@ pub fn keep(
 {
     let start = direction.number_of(position);
     if let Some(minimum) = minimum_of(measure, before, after) {
-        // Most cells need no more than another one of their column (row).
+        // Most cells need no more than another one of their track.
         if span == 1 && start < kept.limit && is_met(&kept.single_span, start, minimum) {
             return Ok(());
         }
@@ -123,7 +124,7 @@ pub fn keep(
     keep_new(kept, direction, position, span, measure, before, after)
 }
 
-/// The same, where it may be the first of greatest need.
+/// The same, where it may be the first of greatest minimum size.
 // Out of line, so that the code for cells that need no more than others stays small.
 #[inline(never)]
 fn keep_new(

@@ -13,7 +13,7 @@ pub fn ends_by(start: usize, span: usize, number: usize) -> bool
     start <= number && span <= number - start
 }
 
-/// Whether the ranges at two positions have no number in common.
+/// Whether the ranges at two positions have no track in common.
 fn are_disjoint<A: Axis>(direction: Direction, axis: &A, a: Position, b: Position) -> bool
     ensures { IsTrue result ↔ AreDisjointAt direction (A.span_of axis.now) a b }
 {
@@ -22,7 +22,7 @@ fn are_disjoint<A: Axis>(direction: Direction, axis: &A, a: Position, b: Positio
     ends_by(first, axis.span(a), second) || ends_by(second, axis.span(b), first)
 }
 
-/// Whether the range at a position has no number in common with any of the others.
+/// Whether the range at a position has no track in common with any of the others.
 fn is_disjoint<A: Axis>(
     direction: Direction,
     axis: &A,

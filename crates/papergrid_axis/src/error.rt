@@ -7,12 +7,12 @@ use thiserror::Error;
 /// Why a table has no sizes.
 #[derive(Clone, Copy, Debug, PartialEq, Eq, Error)]
 pub enum LayoutError {
-    /// A visible cell's range ends past the last column (row) in a direction that is looked at. The
+    /// A visible cell's range ends past the last track in a direction that is looked at. The
     /// position is the first such cell's, by row and then by column.
     #[error("the cell at row {row}, column {column} reaches out of the table", row = .0.row, column = .0.col)]
     OutOfTable(Position),
-    /// No cell reaches out, and in a direction that is looked at the sizes with all lines come to
-    /// more than the greatest `usize`.
+    /// No cell overflows the table, and in a direction that is looked at the sizes with all lines
+    /// come to more than the greatest `usize`.
     #[error("the table is too large for 64 bits")]
     TooLarge,
     /// A growth was refused. It may come in place of any other answer.

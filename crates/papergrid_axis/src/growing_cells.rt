@@ -1,4 +1,5 @@
-//! The cells of longer ranges: each is given what it lacks, and those that grow are kept.
+//! The cells of longer ranges: the deficit of each is distributed evenly, and those that
+//! grow are kept.
 
 ghost use Rattle.std.specs.Prelude.{All, IfOk, IsTrue, OnOk, count_by, fold, length, min, slice_index, sum, ℕ, ◌+◌, ◌-◌, ◌<◌, ◌^◌, ◌↔◌, ◌≡◌, ◌≤◌};
 ghost use Rattle.std.specs.Option.{SomeIff};
@@ -57,7 +58,8 @@ pub fn lines_within(lines: &[bool], demand: Demand) -> usize
     count_drawn(&lines[demand.start + 1..demand.start + demand.span])
 }
 
-/// How much the sizes in the range of a cell, with the lines inside of it, fall short of its need.
+/// How much the sizes in the range of a cell, with the lines inside of it, fall short of its
+/// minimum size.
 fn deficit_of(sizes: &[usize], lines: &[bool], demand: Demand) -> usize
     requires table { IsInTable (length sizes.now) demand }
     requires lines { length sizes.now ≤ length lines.now }
@@ -84,8 +86,8 @@ fn distribute(sizes: &mut [usize], demand: Demand, amount: usize)
     }
 }
 
-/// Takes a cell: its range grows by what the cell lacks. Whether it grew. No size overflows, since none is
-/// above a need.
+/// Takes a cell: its range grows by the deficit of the cell. Whether it grew. No size overflows,
+/// since none is above a minimum size.
 fn grow(sizes: &mut [usize], lines: &[bool], demand: Demand) -> bool
     requires table { IsInTable (length sizes.old) demand }
     requires lines { length sizes.old ≤ length lines.now }

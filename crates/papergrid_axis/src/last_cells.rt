@@ -1,4 +1,4 @@
-//! For each column (row) the last cell, of some, whose range holds it.
+//! For each track the last cell, of some, whose range holds it.
 
 ghost use Rattle.std.specs.Prelude.{◌≡◌, ◌+◌, ◌<◌, ◌^◌, ◌↔◌, ℕ, All, EachIndex, IsTrue, None, Some, if◌then◌else◌, length, slice_index_or, true};
 ghost use Rattle.papergrid_axis.specs.declared.demand.Demand.{Demand};

@@ -38,8 +38,8 @@ pub fn certified_are_least()
         IsCertificate problem sizes cells → IsLeast problem sizes }
 {}
 
-/// The sizes along a direction fit, and none is above the greatest need over its column (row); where
-/// ranges are kept apart, the chosen cells certify them.
+/// The sizes along a direction fit, and none is above the greatest minimum size over its track;
+/// where ranges are nested or disjoint, the cells of the certificate certify them.
 pub fn sizes_by_minimums()
     ensures fit { (problem : Problem) → All (IsInTable problem.count) problem.demands →
         Fits problem (sizes_of problem) }

@@ -1,5 +1,5 @@
-//! What the sizes along a direction begin with: the lines, what single numbers need, the cells in their
-//! order; and why there are none.
+//! What the sizes along a direction begin with: the lines, the minimum sizes of single tracks, the
+//! cells in their order; and why there are none.
 
 ghost use Rattle.std.specs.Prelude.{All, Bool, EachIndex, IfNone, IfOk, IfSome, List, None, false, length, nat_lt, slice_index, slice_index_or, ℕ, ◌+◌, ◌≤◌, ◌≡◌};
 ghost use Rattle.papergrid_axis.specs.Problem.{problem_of_demands};
@@ -18,7 +18,7 @@ use crate::error::LayoutError;
 use papergrid_values::Position;
 use std::alloc::{AllocError, Global};
 
-/// Writes for each number whether there is a line before it.
+/// Writes for each track whether there is a line before it.
 fn fill_lines<A: Axis>(lines: &mut [bool], axis: &A)
     ensures length { length lines.new ≡ length lines.old }
     ensures drawn { EachIndex lines.new (λ k.
@@ -29,7 +29,7 @@ fn fill_lines<A: Axis>(lines: &mut [bool], axis: &A)
     }
 }
 
-/// Whether there is a line before each of `count` columns (rows), and after the last.
+/// Whether there is a line before each of `count` tracks, and after the last.
 pub fn lines_of<A: Axis>(alloc: Global, axis: &A, count: usize) -> Result<Vec<bool>, AllocError>
     ensures length { IfOk result (λ lines. length lines.items ≡ count + 1) }
     ensures drawn { IfOk result (λ lines. (i : ℕ) → i ≤ count →
@@ -41,7 +41,7 @@ pub fn lines_of<A: Axis>(alloc: Global, axis: &A, count: usize) -> Result<Vec<bo
     Ok(lines)
 }
 
-/// Writes for each number what the cell needs that is kept there.
+/// Writes for each track what the cell needs that is kept there.
 pub fn write_base(sizes: &mut [usize], single_span: &[Demand])
     ensures length { length sizes.new ≡ length sizes.old }
     ensures base { EachIndex sizes.new (λ k.
@@ -73,7 +73,7 @@ pub fn by_span(alloc: Global, count: usize, demands: &[Demand]) -> Result<Vec<De
     Ok(cells)
 }
 
-/// Whether the range of a cell ends past the last of `count` columns (rows).
+/// Whether the range of a cell ends past the last of `count` tracks.
 fn overflows(count: usize, demand: Demand) -> bool
     ensures { result ≡ nat_lt count (end_of demand) }
 {
@@ -83,7 +83,7 @@ fn overflows(count: usize, demand: Demand) -> bool
     }
 }
 
-/// The position of the first cell that reaches out of `count` columns (rows).
+/// The position of the first cell that overflows `count` tracks.
 pub fn find_out(count: usize, demands: &[Demand]) -> Option<Position>
     ensures { result ≡ first_out count demands.now }
 {
@@ -95,7 +95,8 @@ pub fn find_out(count: usize, demands: &[Demand]) -> Option<Position>
     None
 }
 
-/// Why the kept cells have no sizes, where one of them reaches out or has a large need.
+/// Why the kept cells have no sizes, where one of them overflows the table or has a large
+/// minimum size.
 pub fn refusal(count: usize, kept: &Demands) -> Option<LayoutError>
     requires { (demands : List Demand) × AreGathered count kept.now demands }
     ensures refused { IfSome result (λ error.

@@ -16,8 +16,8 @@ use crate::settled::{by_span, lines_of, refusal, write_base};
 use papergrid_values::Position;
 use std::alloc::Global;
 
-/// What a solver finds of a table along a direction: the sizes of the columns (rows), their total with
-/// all lines, and, where it is asked for, the certificate: the places of the cells that show that no
+/// What a solver finds of a table along a direction: the sizes of the tracks, their total with all
+/// lines, and, where it is asked for, the certificate: the places of the cells that show that no
 /// sizes with room for each cell have a smaller total, by the starts of their ranges.
 #[derive(Debug, Drop)]
 pub struct Solved {
@@ -34,12 +34,12 @@ pub trait Solver {
     // What holds of a problem for which it is refused as too large.
     ghost too_large: { Problem → Type 0 };
 
-    /// What the kept cells of a table of `count` columns (rows) come to, with the lines of the axis.
+    /// What the kept cells of a table of `count` tracks come to, with the lines of the axis.
     ///
     /// # Errors
     ///
-    /// `OutOfTable` with the position of the first cell that reaches out, else `TooLarge` where the
-    /// sizes that are looked for come, with all lines, to more than the greatest `usize`.
+    /// `OutOfTable` with the position of the first cell that overflows the table, else `TooLarge`
+    /// where the sizes that are looked for come, with all lines, to more than the greatest `usize`.
     fn solve<A: Axis>(
         alloc: Global,
         count: usize,
@@ -53,8 +53,8 @@ pub trait Solver {
             AnswersWhere too_large (solves certify) problem result };
 }
 
-/// By shares: what a cell of a longer range lacks is spread evenly over its range. There is no
-/// certificate where two longer ranges are neither nested nor disjoint.
+/// By shares: the deficit of a cell of a longer range is distributed evenly over it. There is
+/// no certificate where two longer ranges are neither nested nor disjoint.
 pub struct ByShares {}
 
 impl Solver for ByShares {

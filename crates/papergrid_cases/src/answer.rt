@@ -5,7 +5,8 @@ use papergrid_values::Position;
 use std::alloc::Global;
 use std::cmp::Ordering;
 
-/// The words of an answer, with a space between two. Where memory is refused, the answer is lost, and no call fails.
+/// The words of an answer, with a space between two. Where an allocation fails, the answer is lost,
+/// and no call fails.
 #[derive(Drop)]
 pub struct Answer {
     text: String,

@@ -14,7 +14,8 @@ use papergrid_layout::least::{height_certificate, width_certificate};
 use papergrid_values::Position;
 use std::alloc::AllocError;
 
-/// Answers a question on witnesses or on certificates, what a checker says of sizes and cells, or another question.
+/// Answers a question on certificates of either kind, what a checker says of sizes and cells, or
+/// another question.
 pub fn ask_certificates(
     told: Told<'_>,
     word: &str,

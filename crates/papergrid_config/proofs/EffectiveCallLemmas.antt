@@ -81,7 +81,7 @@ module _ {T : Type 0} where
   table_found given (Remove (Row k) ∷ older) = table_found given older
   table_found given (Remove (Cell i j) ∷ older) = table_found given older
 
-  -- the value to which a call pins a cell, after these older calls
+  -- the value to which a call overrides a cell, after these older calls
   abbrev cell_override_of : ℕ → ℕ → List (MapCall T) → MapCall T → Option T
   cell_override_of r c older (Insert (Cell i j) v) = cond (nat_eq i r && nat_eq j c) (Some v) None
   cell_override_of r c older (Insert (Row i) v) = cond (nat_eq i r && is_some (standing_value (Column c) older)) (Some v) None
@@ -107,7 +107,7 @@ module _ {T : Type 0} where
   cell_override_step r c (Remove (Row i)) older = refl
   cell_override_step r c (Remove (Column j)) older = refl
 
-  -- what pins ends no pins
+  -- what overrides a cell ends no overrides
   cell_override_ends_none : (r c : ℕ) (older : List (MapCall T)) (call : MapCall T) (v : T) → cell_override_of r c older call ≡ Some v → ends_overrides r c call ≡ false
   cell_override_ends_none r c older (Insert Global w) v h = cc
   cell_override_ends_none r c older (Remove Global) v h = cc
@@ -229,13 +229,13 @@ module _ {T : Type 0} (calls : List (MapCall T)) where
       of_found (Some (Remove (Row k))) e = let last = find_last sets_all n (Remove (Row k)) within e in cc
       of_found (Some (Remove (Cell k j))) e = let last = find_last sets_all n (Remove (Cell k j)) within e in cc
 
-  -- ---- pins
+  -- ---- overrides
 
   some_value : {A : Type 0} (o : Option A) → is_some o ≡ true → (v : A) × (o ≡ Some v)
   some_value None h = cc
   some_value (Some v) h = (v, refl)
 
-  -- a pin by a test of two parts
+  -- an override by a test of two parts
   both_hold : (a b : Bool) (w v : T) → cond (a && b) (Some w) None ≡ Some v → (a ≡ true) × (b ≡ true) × (w ≡ v)
   both_hold true true w v h = (refl, refl, same_Some w v h)
   both_hold true false w v h = cc

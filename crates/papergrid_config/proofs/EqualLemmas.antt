@@ -1,4 +1,4 @@
--- Values that are told by the same settings are equal, where each value equals itself.
+-- Values with the same history of settings are equal, where each value equals itself.
 use Rattle.std.proofs.Common.{◌≡◌, Bool, true, ◌&&◌, Option, Some, None, refl, sym, subst, ◌∙◌}
 use Rattle.std.specs.Cmp.{and_equiv, nat_eq_equiv}
 use Rattle.std.specs.Cmp.Lexicographic.{on_texts_equal}

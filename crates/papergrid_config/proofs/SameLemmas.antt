@@ -85,7 +85,7 @@ exact_offset (End m) (End n) h = ap End (eqb-true m n h)
 pub exact_color : IsExact color.ghosts.eq
 exact_color x y h = let a = and_parts _ _ h in λ i. ((bytes_decides x.0 y.0).0 a.0 i, (bytes_decides x.1 y.1).0 a.1 i)
 
--- ---- what is held of values
+-- ---- what is stored of values
 
 module _ {T : Type 0} (eq : T → T → Bool) (exact : IsExact eq) where
   pub exact_option : IsExact (option_eq eq)

@@ -17,7 +17,7 @@ pub is_some-map : {A B : Type 0} (f : A → B) (o : Option A) → is_some o ≡ 
 is_some-map f None = refl
 is_some-map f (Some a) = refl
 
--- where each span that is held ends within a number, each range that begins below it does
+-- where each span that is stored ends within a number, each range that begins below it does
 pub spans_stay : (spans : Spans) (direction : Direction) (count : ℕ) → ((p : Position) → 1 ≤ span_along spans direction p) →
     EndWithin direction (spans_along direction spans) count → StayWithin direction (span_along spans direction) count
 spans_stay spans direction count one ends p below = (one p, last (get (spans_along direction spans) p) (λ n is. ends p n is))

@@ -1,4 +1,4 @@
--- Which settings may be applied, and which need no memory.
+-- Which settings may be applied, and which do not allocate.
 use Rattle.std.specs.Prelude.{◌+◌, ◌^◌, ◌&&◌, nat_lt, Bool, true, false}
 use Rattle.papergrid_values.specs.declared.entity.Entity.{Entity}
 use Rattle.papergrid_values.specs.declared.entity.Entity.TheVariants.{Global}
@@ -23,7 +23,7 @@ abbrev pub is_global : Entity → Bool
 is_global Global = true
 is_global other = false
 
--- no memory is asked for by a value for the whole table, by a span below 2, and by each setting that
+-- nothing is allocated by a value for the whole table, by a span below 2, and by each setting that
 -- is none of these
 abbrev pub is_free : Setting → Bool
 is_free (SetPadding entity v) = is_global entity

@@ -24,8 +24,8 @@ module _ {T : Type 0} where
   sets_all (Insert Global v) = true
   sets_all call = false
 
-  -- a call after which no earlier pin of the cell counts: for the whole table, or a remove of the cell,
-  -- its row or its column
+  -- a call after which no earlier override of the cell counts: for the whole table, or a remove of the
+  -- cell, its row or its column
   abbrev pub ends_overrides : ℕ → ℕ → MapCall T → Bool
   ends_overrides r c (Remove (Cell i j)) = (i == r) && (j == c)
   ends_overrides r c (Remove (Row i)) = i == r
@@ -50,16 +50,16 @@ module _ {T : Type 0} (calls : List (MapCall T)) where
   abbrev pub EntityStands : Entity → ℕ → T → Type 0
   EntityStands entity n v = (i : ℕ) × IsLast (concerns entity) n i (Insert entity v)
 
-  -- the i-th call pins the cell to a value: it sets the cell, or its row while a value of its column
-  -- stands, or the other way round
+  -- the i-th call overrides the cell with a value: it sets the cell, or its row while a value of its
+  -- column stands, or the other way round
   abbrev pub IsCellOverride : ℕ → ℕ → ℕ → T → Type 0
   IsCellOverride r c i v =
       (slice_get calls i ≡ Some (Insert (Cell r c) v))
       ⊎ (((slice_get calls i ≡ Some (Insert (Row r) v)) × ((w : T) × EntityStands (Column c) i w))
       ⊎ ((slice_get calls i ≡ Some (Insert (Column c) v)) × ((w : T) × EntityStands (Row r) i w)))
 
-  -- after the first n calls the cell has a pin that counts: the last one, and no later call ends the
-  -- pins
+  -- after the first n calls the cell has an override that counts: the last one, and no later call
+  -- ends the overrides
   pub record OverrideStands (r c n : ℕ) (v : T) : Type 0 where
     pub place : ℕ
     pub before : place < n
@@ -72,8 +72,9 @@ module _ {T : Type 0} (calls : List (MapCall T)) where
   abbrev pub TableStands : ℕ → T → Type 0
   TableStands n v = (i : ℕ) × IsLast sets_all n i (Insert Global v)
 
-  -- the value that the first n calls decide for the cell: that of the last pin that counts, else the
-  -- column's that stands, else the row's, else the whole table's, else the one given at first
+  -- the value that the first n calls decide for the cell: that of the last override that counts,
+  -- else the column's that stands, else the row's, else the whole table's, else the one given at
+  -- first
   abbrev pub IsEffective : T → ℕ → ℕ → ℕ → T → Type 0
   IsEffective given r c n =
       OrElse (OverrideStands r c n) (OrElse (EntityStands (Column c) n) (OrElse (EntityStands (Row r) n)

@@ -23,8 +23,8 @@ newest_or default (newest ∷ older) = newest
 abbrev pub last_set : {T : Type 0} → T → (Setting → List T) → List Setting → T
 last_set default values settings = newest_or default (reverse (flat_map values settings))
 
--- a new configuration that was given the settings holds this: each part is told by the settings that
--- belong to it
+-- a new configuration that was given the settings holds this: the history of each part is the
+-- settings that belong to it
 pub record HasSettingHistory (settings : List Setting) (config : SpannedConfig) : Type 0 where
   pub padding : map.HasMapHistory (all_sides (spaces 0)) (flat_map padding_calls settings) config.padding
   pub padding_color : map.HasMapHistory (all_sides None) (flat_map padding_color_calls settings) config.padding_color
@@ -47,7 +47,7 @@ pub record HasSettingHistory (settings : List Setting) (config : SpannedConfig) 
   pub margin_offset : config.margin_offset ≡ last_set (all_sides (Start 0)) margin_offsets settings
   pub missing : config.missing ≡ last_set 32 missing_characters settings
 
--- told by any settings, the configuration is told by these and then the further ones
+-- whatever the history of the configuration, it becomes this and then the further settings
 abbrev pub AppendsSettings : SpannedConfig → SpannedConfig → List Setting → Type 0
 AppendsSettings old new further = told.AppendsHistory HasSettingHistory old new further
 

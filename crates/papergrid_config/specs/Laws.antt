@@ -1,4 +1,4 @@
--- What is held, and what settings decide and make.
+-- What is stored, and what settings decide and make.
 use Rattle.std.specs.Prelude.{◌≡◌, List}
 use Rattle.papergrid_values.specs.declared.position.Position.{Position}
 use Rattle.papergrid_maps.specs.StoredMap.{stored_value}

@@ -10,13 +10,13 @@ use Rattle.papergrid_maps.specs.StoredColors.{IsBlank}
 use Rattle.papergrid_maps.specs.StoredMap.{Stored, HasNothing, HoldsValue}
 use Rattle.papergrid_config.specs.declared.spanned.SpannedConfig.{SpannedConfig}
 
--- a value with a side that is set is held, for the whole table or an entity of it
+-- a value with a side that is set is stored, for the whole table or an entity of it
 abbrev pub HasSetSide : Stored (Sides (Option ANSIBuf)) → Type 0
 HasSetSide stored =
     (colors : Sides (Option ANSIBuf)) × HoldsValue stored colors × (none_set (sides_parts colors) ≡ false)
 
 module _ (config : SpannedConfig) where
-  -- a colour is held for all lines, in the frame, or for a line, an edge or a corner
+  -- a colour is stored for all lines, in the frame, or for a line, an edge or a corner
   abbrev pub HasBorderColors : Type 0
   HasBorderColors = lines.HasBorderHistory [] config.colors → ⊥
 
@@ -24,11 +24,11 @@ module _ (config : SpannedConfig) where
   abbrev pub HasOffsetChars : Type 0
   HasOffsetChars = overrides.HasOverrideHistory [] config.horizontal_chars × overrides.HasOverrideHistory [] config.vertical_chars → ⊥
 
-  -- a character that justifies is held for a column, a row or a cell, or a colour of one for any entity
+  -- a character that justifies is stored for a column, a row or a cell, or a colour of one for any entity
   abbrev pub HasJustification : Type 0
   HasJustification = HasNothing config.justification × IsBlank config.justification_color → ⊥
 
-  -- a flag is held for a column, a row or a cell
+  -- a flag is stored for a column, a row or a cell
   abbrev pub HasFormatting : Type 0
   HasFormatting =
       HasNothing config.trim_horizontal

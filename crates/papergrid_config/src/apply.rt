@@ -12,10 +12,10 @@ use papergrid_maps::Stopped;
 use std::alloc::AllocError;
 
 impl SpannedConfig {
-    /// Makes the call that the setting is. Where memory is refused the configuration is as it was;
-    /// margins, removals, the frame, the defaults, values for the whole table and spans below 2
-    /// take none. The parts to which the setting does not belong are as they were. Condition: the
-    /// setting is in range.
+    /// Makes the call that the setting is. Where an allocation fails the configuration is as it
+    /// was; margins, removals, the frame, the defaults, values for the whole table and spans below
+    /// 2 do not allocate. The parts to which the setting does not belong are as they were.
+    /// Condition: the setting is in range.
     pub fn apply(&mut self, setting: Setting) -> Result<(), AllocError>
         requires { is_in_range setting ≡ true }
         ensures ok { OnOk result (AddsSetting self.old self.new setting) }
@@ -58,10 +58,10 @@ impl SpannedConfig {
         }
     }
 
-    /// Makes the calls in order, up to one that is refused for memory: then the configuration is
-    /// that of the settings done before it, and that call is one that may take memory: not one of
-    /// those of which `apply` says that they take none. The parts to which none of the settings
-    /// belongs are as they were. Condition: each setting is in range.
+    /// Makes the calls in order, up to one whose allocation fails: then the configuration is that
+    /// of the settings done before it, and that call is one that may allocate: not one of those
+    /// of which `apply` says that they do not. The parts to which none of the settings belongs
+    /// are as they were. Condition: each setting is in range.
     pub fn apply_all(&mut self, settings: Vec<Setting>) -> Result<(), Stopped>
         requires { All (λ setting. is_in_range setting ≡ true) settings.items }
         ensures ok { OnOk result (AppendsSettings self.old self.new settings.items) }
@@ -83,7 +83,7 @@ impl SpannedConfig {
         Ok(())
     }
 
-    // Makes one of the calls that never ask for memory.
+    // Makes one of the calls that never allocate.
     fn apply_free(&mut self, setting: Setting)
         requires free { may_grow_by setting ≡ false }
         requires range { is_in_range setting ≡ true }

@@ -94,8 +94,9 @@ impl SpannedConfig {
         self.colors = BorderTable::new(self.alloc);
     }
 
-    /// Sets the characters round a cell that are set here, and leaves the others. Where memory is
-    /// refused the configuration is as it was. Condition: the next row and column exist in `usize`.
+    /// Sets the characters round a cell that are set here, and leaves the others. Where an
+    /// allocation fails the configuration is as it was. Condition: the next row and column exist in
+    /// `usize`.
     pub fn set_border(&mut self, pos: Position, border: Border<char>) -> Result<(), AllocError>
         requires row { pos.row + 1 < 2 ^ 64 }
         requires col { pos.col + 1 < 2 ^ 64 }
@@ -106,8 +107,8 @@ impl SpannedConfig {
         self.characters.insert_border(pos, border)
     }
 
-    /// Sets the colours round a cell that are set here, and leaves the others. Where memory is
-    /// refused the configuration is as it was. Condition: the next row and column exist in `usize`.
+    /// Sets the colours round a cell that are set here, and leaves the others. Where an allocation
+    /// fails the configuration is as it was. Condition: the next row and column exist in `usize`.
     pub fn set_border_color(
         &mut self,
         pos: Position,
@@ -167,8 +168,8 @@ impl SpannedConfig {
         self.colors.remove_border(pos, shape);
     }
 
-    /// Sets the horizontal line above a row, in place of the one held. Where memory is refused the
-    /// configuration is as it was.
+    /// Sets the horizontal line above a row, in place of the one stored. Where an allocation fails
+    /// the configuration is as it was.
     pub fn insert_horizontal_line(
         &mut self,
         row: usize,
@@ -181,8 +182,8 @@ impl SpannedConfig {
         self.characters.insert_horizontal_line(row, line)
     }
 
-    /// Sets the vertical line left of a column, in place of the one held. Where memory is refused the
-    /// configuration is as it was.
+    /// Sets the vertical line left of a column, in place of the one stored. Where an allocation
+    /// fails the configuration is as it was.
     pub fn insert_vertical_line(
         &mut self,
         col: usize,
@@ -211,21 +212,21 @@ impl SpannedConfig {
         self.characters.remove_vertical_line(col, count);
     }
 
-    /// The horizontal line held above a row.
+    /// The horizontal line stored above a row.
     pub fn get_horizontal_line(&self, row: usize) -> Option<&HorizontalLine<char>>
         ensures { option_copied result ≡ value_at self.now.characters.horizontal_lines row }
     {
         self.characters.get_horizontal_line(row)
     }
 
-    /// The vertical line held left of a column.
+    /// The vertical line stored left of a column.
     pub fn get_vertical_line(&self, col: usize) -> Option<&VerticalLine<char>>
         ensures { option_copied result ≡ value_at self.now.characters.vertical_lines col }
     {
         self.characters.get_vertical_line(col)
     }
 
-    /// All horizontal lines that are held, by row, or out of memory.
+    /// All horizontal lines that are stored, by row, or out of memory.
     pub fn get_horizontal_lines(&self) -> Result<HashMap<usize, HorizontalLine<char>>, AllocError>
         ensures { IfOk result (λ all.
             HasAtEach nat_eq all (value_at self.now.characters.horizontal_lines)) }
@@ -233,7 +234,7 @@ impl SpannedConfig {
         self.characters.get_horizontal_lines()
     }
 
-    /// All vertical lines that are held, by column, or out of memory.
+    /// All vertical lines that are stored, by column, or out of memory.
     pub fn get_vertical_lines(&self) -> Result<HashMap<usize, VerticalLine<char>>, AllocError>
         ensures { IfOk result (λ all.
             HasAtEach nat_eq all (value_at self.now.characters.vertical_lines)) }

@@ -23,16 +23,16 @@ use papergrid_maps::{EntityMap, SpanTable};
 use papergrid_tables::{BorderTable, OffsetTable};
 use papergrid_values::{ANSIBuf, AlignmentHorizontal, AlignmentVertical, Indent, Offset, Sides};
 
-/// A configuration that is told by the settings has at each position what they decide, and the
-/// lines and spans that they make.
+/// A configuration with the settings as its history has at each position what they decide, and
+/// the lines and spans that they make.
 pub fn history_decides()
     ensures { (settings : List Setting) (config : SpannedConfig) → HasSettingHistory settings config →
         HoldsEffectiveValues settings config }
 {}
 
 /// What is decided for a cell is what its deciding call says, by its place in the list: the last
-/// pin that counts, else the column's value that stands, else the row's, else the whole table's,
-/// else the one given at first; and nothing else is.
+/// override that counts, else the column's value that stands, else the row's, else the whole
+/// table's, else the one given at first; and nothing else is.
 pub fn effective_by_place<T>()
     ensures effective { (given : T) (calls : List (MapCall T)) (r c : ℕ) →
         IsEffective calls given r c (length calls)

@@ -14,7 +14,7 @@ use std::alloc::AllocError;
 // count from the start of the line or back from its end.
 impl SpannedConfig {
     /// Sets the character at an offset of the line above a cell, in columns of a terminal. Where
-    /// memory is refused the configuration is as it was.
+    /// an allocation fails the configuration is as it was.
     pub fn set_horizontal_char(
         &mut self,
         pos: Position,
@@ -62,8 +62,8 @@ impl SpannedConfig {
         self.horizontal_chars.clear();
     }
 
-    /// Sets the colour at an offset of the line above a cell, in columns of a terminal. Where memory
-    /// is refused the configuration is as it was.
+    /// Sets the colour at an offset of the line above a cell, in columns of a terminal. Where an
+    /// allocation fails the configuration is as it was.
     pub fn set_horizontal_char_color(
         &mut self,
         pos: Position,
@@ -102,8 +102,8 @@ impl SpannedConfig {
         self.horizontal_colors.clear();
     }
 
-    /// Sets the character at an offset of the line left of a cell, in lines. Where memory is refused
-    /// the configuration is as it was.
+    /// Sets the character at an offset of the line left of a cell, in lines. Where an allocation
+    /// fails the configuration is as it was.
     pub fn set_vertical_char(
         &mut self,
         pos: Position,
@@ -148,8 +148,8 @@ impl SpannedConfig {
         self.vertical_chars.clear();
     }
 
-    /// Sets the colour at an offset of the line left of a cell, in lines. Where memory is refused the
-    /// configuration is as it was.
+    /// Sets the colour at an offset of the line left of a cell, in lines. Where an allocation fails
+    /// the configuration is as it was.
     pub fn set_vertical_char_color(
         &mut self,
         pos: Position,

@@ -19,8 +19,8 @@ use std::alloc::AllocError;
 // value is the one that the settings decide, as `EntityMap` has it.
 impl SpannedConfig {
     /// Sets the room round an entity's cells, in columns of a terminal (left, right) and lines
-    /// (top, bottom). Where memory is refused the configuration is as it was; a value for the whole
-    /// table is never refused.
+    /// (top, bottom). Where an allocation fails the configuration is as it was; a value for the
+    /// whole table is never refused.
     pub fn set_padding(&mut self, entity: Entity, padding: Sides<Indent>) -> Result<(), AllocError>
         ensures ok { OnOk result (AddsSetting self.old self.new (SetPadding entity padding)) }
         ensures err { OnErr result (self.new ≡ self.old) }
@@ -54,8 +54,8 @@ impl SpannedConfig {
         self.padding.held_cells()
     }
 
-    /// Sets the colours of the room round an entity's cells. Where memory is refused the
-    /// configuration is as it was; a value for the whole table is never refused.
+    /// Sets the colours of the room round an entity's cells. Where an allocation fails
+    /// the configuration is as it was; a value for the whole table is never refused.
     pub fn set_padding_color(
         &mut self,
         entity: Entity,
@@ -77,8 +77,8 @@ impl SpannedConfig {
         self.padding_color.get(pos)
     }
 
-    /// Sets whether spaces of an entity's texts are trimmed left and right. Where memory is refused
-    /// the configuration is as it was; a value for the whole table is never refused.
+    /// Sets whether spaces of an entity's texts are trimmed left and right. Where an allocation
+    /// fails the configuration is as it was; a value for the whole table is never refused.
     pub fn set_trim_horizontal(&mut self, entity: Entity, on: bool) -> Result<(), AllocError>
         ensures ok { OnOk result (AddsSetting self.old self.new (SetTrimHorizontal entity on)) }
         ensures err { OnErr result (self.new ≡ self.old) }
@@ -97,7 +97,7 @@ impl SpannedConfig {
     }
 
     /// Sets whether blank lines of an entity's texts are trimmed at the top and the bottom. Where
-    /// memory is refused the configuration is as it was; a value for the whole table is never
+    /// an allocation fails the configuration is as it was; a value for the whole table is never
     /// refused.
     pub fn set_trim_vertical(&mut self, entity: Entity, on: bool) -> Result<(), AllocError>
         ensures ok { OnOk result (AddsSetting self.old self.new (SetTrimVertical entity on)) }
@@ -116,8 +116,8 @@ impl SpannedConfig {
         *self.trim_vertical.get(pos)
     }
 
-    /// Sets whether each line of an entity's texts is aligned by itself. Where memory is refused
-    /// the configuration is as it was; a value for the whole table is never refused.
+    /// Sets whether each line of an entity's texts is aligned by itself. Where an allocation
+    /// fails the configuration is as it was; a value for the whole table is never refused.
     pub fn set_line_alignment(&mut self, entity: Entity, on: bool) -> Result<(), AllocError>
         ensures ok { OnOk result (AddsSetting self.old self.new (SetLineAlignment entity on)) }
         ensures err { OnErr result (self.new ≡ self.old) }
@@ -151,8 +151,8 @@ impl SpannedConfig {
         )
     }
 
-    /// Sets where an entity's texts stand between left and right. Where memory is refused the
-    /// configuration is as it was; a value for the whole table is never refused.
+    /// Sets where an entity's texts stand between left and right. Where an allocation fails
+    /// the configuration is as it was; a value for the whole table is never refused.
     pub fn set_alignment_horizontal(
         &mut self,
         entity: Entity,
@@ -176,8 +176,8 @@ impl SpannedConfig {
         self.alignment_horizontal.get(pos)
     }
 
-    /// Sets where an entity's texts stand between top and bottom. Where memory is refused the
-    /// configuration is as it was; a value for the whole table is never refused.
+    /// Sets where an entity's texts stand between top and bottom. Where an allocation fails
+    /// the configuration is as it was; a value for the whole table is never refused.
     pub fn set_alignment_vertical(
         &mut self,
         entity: Entity,
@@ -200,8 +200,8 @@ impl SpannedConfig {
         self.alignment_vertical.get(pos)
     }
 
-    /// Sets the character that fills up the lines of an entity's texts. Where memory is refused the
-    /// configuration is as it was; a value for the whole table is never refused.
+    /// Sets the character that fills up the lines of an entity's texts. Where an allocation fails
+    /// the configuration is as it was; a value for the whole table is never refused.
     pub fn set_justification(&mut self, entity: Entity, character: char) -> Result<(), AllocError>
         ensures ok { OnOk result (AddsSetting self.old self.new (SetJustification entity character)) }
         ensures err { OnErr result (self.new ≡ self.old) }
@@ -219,8 +219,8 @@ impl SpannedConfig {
         *self.justification.get(pos)
     }
 
-    /// Sets the colour of that character. Where memory is refused the configuration is as it was; a
-    /// value for the whole table is never refused.
+    /// Sets the colour of that character. Where an allocation fails the configuration is as it was;
+    /// a value for the whole table is never refused.
     pub fn set_justification_color(
         &mut self,
         entity: Entity,

@@ -56,7 +56,7 @@ pub enum Setting {
     RemoveRowSpans,
 }
 
-// Only the settings with colours take memory.
+// Only the settings with colours allocate.
 impl Clone for Setting {
     ghost is_clone = { λ setting copy. copy ≡ setting };
 

@@ -38,7 +38,7 @@ pub struct SpannedConfig {
 impl SpannedConfig {
     /// The configuration without settings: no padding, no margin, no colours, no spans, no lines,
     /// texts at the left and the top, justified by spaces, and a space where a line has no
-    /// character. It takes no memory.
+    /// character. It does not allocate.
     pub fn new(alloc: Global) -> SpannedConfig
         ensures { HasSettingHistory [] result }
     {

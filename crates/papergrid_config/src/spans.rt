@@ -19,10 +19,10 @@ use std::alloc::AllocError;
 use std::collections::HashMap;
 
 // The rectangle of an anchor at (r, c) has the rows from r up to r + row span, and the columns from
-// c up to c + column span, however large these sums are. A span that is not held is 1.
+// c up to c + column span, however large these sums are. A span that is not stored is 1.
 impl SpannedConfig {
     /// Sets the number of columns that a cell spans: 0 does nothing and 1 removes the span that is
-    /// held, so that neither takes memory or is refused. Where memory is refused the configuration is
+    /// stored, so that neither allocates or fails. Where an allocation fails the configuration is
     /// as it was.
     pub fn set_column_span(&mut self, pos: Position, span: usize) -> Result<(), AllocError>
         ensures ok { OnOk result (AddsSetting self.old self.new (SetColumnSpan pos span)) }
@@ -35,9 +35,9 @@ impl SpannedConfig {
         self.spans.set_column(pos, span)
     }
 
-    /// Sets the number of rows that a cell spans: 0 does nothing and 1 removes the span that is held,
-    /// so that neither takes memory or is refused. Where memory is refused the configuration is as it
-    /// was.
+    /// Sets the number of rows that a cell spans: 0 does nothing and 1 removes the span that is
+    /// stored, so that neither allocates or fails. Where an allocation fails the configuration is
+    /// as it was.
     pub fn set_row_span(&mut self, pos: Position, span: usize) -> Result<(), AllocError>
         ensures ok { OnOk result (AddsSetting self.old self.new (SetRowSpan pos span)) }
         ensures err { OnErr result (self.new ≡ self.old) }
@@ -49,7 +49,7 @@ impl SpannedConfig {
         self.spans.set_row(pos, span)
     }
 
-    /// The column span held at a position, of 2 or more: a number of columns.
+    /// The column span stored at a position, of 2 or more: a number of columns.
     pub fn get_column_span(&self, pos: Position) -> Option<usize>
         ensures stored { result ≡ value_at self.now.spans.columns pos }
         ensures from_two { IfSome result (λ n. 2 ≤ n) }
@@ -57,7 +57,7 @@ impl SpannedConfig {
         self.spans.get_column(pos)
     }
 
-    /// The row span held at a position, of 2 or more: a number of rows.
+    /// The row span stored at a position, of 2 or more: a number of rows.
     pub fn get_row_span(&self, pos: Position) -> Option<usize>
         ensures stored { result ≡ value_at self.now.spans.rows pos }
         ensures from_two { IfSome result (λ n. 2 ≤ n) }
@@ -65,14 +65,14 @@ impl SpannedConfig {
         self.spans.get_row(pos)
     }
 
-    /// All column spans that are held, or out of memory.
+    /// All column spans that are stored, or out of memory.
     pub fn get_column_spans(&self) -> Result<HashMap<Position, usize>, AllocError>
         ensures { IfOk result (λ all. HasAtEach position_eq all (value_at self.now.spans.columns)) }
     {
         self.spans.columns()
     }
 
-    /// All row spans that are held, or out of memory.
+    /// All row spans that are stored, or out of memory.
     pub fn get_row_spans(&self) -> Result<HashMap<Position, usize>, AllocError>
         ensures { IfOk result (λ all. HasAtEach position_eq all (value_at self.now.spans.rows)) }
     {
@@ -91,8 +91,8 @@ impl SpannedConfig {
         self.spans.anchors()
     }
 
-    /// Whether each span of the direction that is held ends within so many columns (rows), wherever its
-    /// position stands in the other direction. It takes no memory.
+    /// Whether each span of the direction that is stored ends within so many tracks, wherever its
+    /// position stands in the other direction. It does not allocate.
     pub fn spans_end_within(&self, direction: Direction, count: usize) -> bool
         ensures ends { IsTrue result
             ↔ EndWithin direction (spans_along direction self.now.spans) count }
@@ -101,14 +101,14 @@ impl SpannedConfig {
         self.spans.end_within(direction, count)
     }
 
-    /// Whether a column span is held.
+    /// Whether a column span is stored.
     pub fn has_column_spans(&self) -> bool
         ensures { IsTrue result ↔ HasSpan self.now.spans.columns }
     {
         self.spans.has_columns()
     }
 
-    /// Whether a row span is held.
+    /// Whether a row span is stored.
     pub fn has_row_spans(&self) -> bool
         ensures { IsTrue result ↔ HasSpan self.now.spans.rows }
     {

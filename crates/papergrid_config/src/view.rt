@@ -40,7 +40,7 @@ impl ConfigView for SpannedConfig {
         }
     }
 
-    // Each span that is held is looked at once.
+    // Each span that is stored is looked at once.
     fn spans_end_within(&self, direction: Direction, count: usize) -> bool {
         self.spans_end_within(direction, count)
     }

@@ -22,7 +22,7 @@ pub fn is_stored<K: Eq + Hash + Copy, T>(map: &HashMap<K, T>, key: K) -> bool
     look_up(map, key).is_some()
 }
 
-/// Writes a value where there is room, so that memory cannot be refused.
+/// Writes a value where there is room, so that no allocation can fail.
 pub fn put<K: Eq + Hash + Drop, T: Drop>(map: &mut HashMap<K, T>, key: K, value: T)
     requires room { 0 < spare map.old }
     ensures updates { Updates K.eq map.old map.new key (Some value) }
@@ -34,7 +34,7 @@ pub fn put<K: Eq + Hash + Drop, T: Drop>(map: &mut HashMap<K, T>, key: K, value:
     }
 }
 
-/// Writes a value, or leaves all as it was where memory is refused.
+/// Writes a value, or leaves all as it was where an allocation fails.
 pub fn write<K: Eq + Hash + Drop, T: Drop>(
     map: &mut HashMap<K, T>,
     key: K,

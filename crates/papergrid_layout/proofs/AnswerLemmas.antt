@@ -13,7 +13,7 @@ use Rattle.papergrid_walk.specs.Cells.{problem_of}
 use Rattle.papergrid_maps.specs.Grids.{Grid}
 use Rattle.papergrid_layout.specs.Answers.{IsBothRefusedWhere, UnlessMemory, UnlessMemoryError, first_out_of_table}
 
--- what holds anyway holds unless memory was refused
+-- what holds anyway holds unless an allocation failed
 pub unless_memory_error : (e : LayoutError) (P : Type 0) → P → UnlessMemoryError e P
 unless_memory_error (OutOfTable q) P p = p
 unless_memory_error TooLarge P p = p
@@ -27,7 +27,7 @@ some_is_not_none : {A : Type 0} (x : A) (r : Option A) → r ≡ Some x → r �
 some_is_not_none x r e n = false≢true (ap is_some (sym n ∙ e))
 
 module _ {C : Type 0} (grid : Grid) (measure : C → ℕ × ℕ) (columns : ℕ) (cells : List (List C)) (too_large : Problem → Type 0) where
-  -- where no cell reaches out along either direction, one direction's refusal is that of both
+  -- where no cell overflows the table along either direction, one direction's refusal is that of both
   pub refused_along : (direction : Direction) → first_out_of_table grid measure columns cells ≡ None →
       first_out (problem_of grid measure columns cells direction).count (problem_of grid measure columns cells direction).demands ≡ None →
       (e : LayoutError) → IsRefusedWhere (problem_of grid measure columns cells direction) (too_large (problem_of grid measure columns cells direction)) e →

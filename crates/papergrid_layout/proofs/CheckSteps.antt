@@ -44,7 +44,7 @@ module _ (grid : Grid) (candidate : Candidate) where
       | inr f ↦ check_hidden old pos cell f
     ]
 
--- what is found of a table with as many columns (rows) as sizes holds of the table itself, since the sizes are as many
+-- what is found of a table with as many tracks as sizes holds of the table itself, since the sizes are as many
 pub checked-of : (problem : ℕ → Problem) (sizes : List ℕ) (places : List Position) (answer : Bool) (count : ℕ) → ((n : ℕ) → (problem n).count ≡ count) →
     IsTrue answer ↔ IsAccepted (problem (length sizes)) sizes places → (IsTrue answer → IsLeast (problem (length sizes)) sizes) → IsChecked (problem count) sizes places answer
 checked-of problem sizes places answer count counts exact least =

@@ -1,4 +1,4 @@
--- Where columns (rows) begin and end, as it is kept for all of them.
+-- Where tracks begin and end, as it is kept for all of them.
 use Rattle.std.proofs.Common.{◌≡◌, ℕ, ◌+◌, ◌-◌, ◌<◌, ◌≤◌, Bool, cond, ap, ◌∙◌, arith, inl, inr, List, [], ◌∷◌, ◌++◌, length, get_or, below_more, nat_lt, sym, true, false}
 use Rattle.std.specs.Prelude.{MatchOption, Option, None, Some}
 use Rattle.std.specs.List.Sorted.{IsNonDecreasingBy}

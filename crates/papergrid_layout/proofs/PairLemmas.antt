@@ -52,7 +52,7 @@ second-stays p None later = refl
 second-stays p (Some q) later = ap Some (before-second p q (later q refl))
 
 module _ {C : Type 0} (grid : Grid) (measure : C → ℕ × ℕ) (columns : ℕ) (cells : List (List C)) where
-  -- the first cell that reaches out is one of the cells
+  -- the first cell that overflows the table is one of the cells
   first_out-from : (P : Position → Type 0) (direction : Direction) (n : ℕ) (xs : List (Position × C)) → All (λ x. P x.0) xs →
       (y : Position) → first_out n (map (demand_by direction grid measure) xs) ≡ Some y → P y
   first_out-from P direction n [] all y e = absurd (false≢true (ap is_some e))
@@ -65,8 +65,8 @@ module _ {C : Type 0} (grid : Grid) (measure : C → ℕ × ℕ) (columns : ℕ)
         first_out-from P direction n xs (All-tail (λ x. P x.0) x xs all) y e'
   ]
 
-  -- of cells in their order, the first that reaches out along a direction is the earlier of the first along columns and the
-  -- first along rows
+  -- of cells in their order, the first that overflows the table along a direction is the earlier of the first along columns
+  -- and the first along rows
   earlier-out : (xs : List (Position × C)) → AllPairs Precedes xs →
       earlier (first_out columns (map (demand_by Columns grid measure) xs)) (first_out (length cells) (map (demand_by Rows grid measure) xs)) ≡ find (overflows grid measure columns cells) (map (λ cell. cell.0) xs)
   earlier-out [] precede = refl
@@ -84,7 +84,7 @@ module _ {C : Type 0} (grid : Grid) (measure : C → ℕ × ℕ) (columns : ℕ)
         ]
       ]
 
-  -- no cell reaches out exactly where none does along columns, and none along rows
+  -- no cell overflows the table exactly where none does along columns, and none along rows
   pub none_overflows : (first_out_of_table grid measure columns cells ≡ None)
       ↔ ((first_out columns (demands_of Columns grid measure cells) ≡ None) × (first_out (length cells) (demands_of Rows grid measure cells) ≡ None))
   none_overflows =
@@ -101,7 +101,7 @@ module _ {C : Type 0} (grid : Grid) (measure : C → ℕ × ℕ) (columns : ℕ)
         ∙ ap₂ earlier (sym (out_kept columns both.columns (demands_of Columns grid measure cells) kept.wide)) (sym (out_kept (length cells) both.rows (demands_of Rows grid measure cells) kept.high))
         ∙ earlier-out (visible_cells grid cells) (AllPairs-visible grid cells)
 
-    -- where no cell reaches out, none does along columns, and none along rows
+    -- where no cell overflows the table, none does along columns, and none along rows
     pub none_out : earlier (first_out columns both.columns.rest.items) (first_out rows both.rows.rest.items) ≡ None →
         (first_out_of_table grid measure columns cells ≡ None) × (first_out columns (demands_of Columns grid measure cells) ≡ None) × (first_out (length cells) (demands_of Rows grid measure cells) ≡ None)
     none_out none =

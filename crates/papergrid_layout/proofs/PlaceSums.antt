@@ -1,4 +1,4 @@
--- Where columns (rows) begin, and how long ranges of them are.
+-- Where tracks begin, and how long ranges of them are.
 use Rattle.std.proofs.Common.{◌≡◌, ℕ, zero, suc, ◌+◌, ◌-◌, ◌<◌, ◌≤◌, Bool, true, false, cond, inl, inr, [], refl, sym, ap, subst, ◌∙◌, arith, count_by, nat_lt}
 use Rattle.std.specs.Prelude.{Option, None, Some, ◌^◌}
 use Rattle.std.specs.Option.{SomeIff, ok_or}
@@ -127,7 +127,7 @@ pub total-or : (found : Option ℕ) (whole : ℕ) → SomeIff found (whole < 2 ^
 total-or None whole h = (refl, too-large None whole whole refl h)
 total-or (Some n) whole h = h.1
 
--- a visible cell that does not reach out lies in the table
+-- a visible cell that does not overflow the table lies in the table
 pub is-inside : (table : TableView) (p : Position) → table.grid.shows p ≡ true →
     false ≡ nat_lt table.shape.1 (p.col + table.grid.span Columns p) → false ≡ nat_lt table.shape.0 (p.row + table.grid.span Rows p) → IsInsideTable table p
 is-inside table p visible across down = record {

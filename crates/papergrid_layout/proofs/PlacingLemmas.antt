@@ -72,7 +72,7 @@ has-found table p anchor place fit visible e found =
     × (place ≡ place_at table a.position)) e found in
     record { inside = record { visible = visible; across = told.0.0; down = told.0.1 }; fit = fit; exact = told.1 }
 
--- where no place was found for it, it reaches out
+-- where no place was found for it, it overflows the table
 pub is-out : (table : TableView) (p : Position) (anchor : Anchor) → table.grid.shows p ≡ true → anchor ≡ anchor_in table.grid p →
     ((anchor.position.col + anchor.cols ≤ table.shape.1) × (anchor.position.row + anchor.rows ≤ table.shape.0) → ⊥) →
     IsPlaced table p (Err OutOfTable)

@@ -25,7 +25,7 @@ use Rattle.papergrid_layout.proofs.PointLemmas.{none-beside, none-beyond}
 
 -- ---- lines
 
--- where a column (row) begins, or, at their count, the total
+-- where a track begins, or, at their count, the total
 pub begin-at : (size : ℕ → ℕ) (line : ℕ → Bool) (count : ℕ) (marks : Marks) (index begin whole : ℕ) → AreMarks size line count marks → index ≤ count →
     begin ≡ get_or marks.begins.items index whole → whole ≡ total size line count → begin ≡ offset size line index
 begin-at size line count marks index begin whole are le at all = elim (cases_lt index count) [
@@ -68,7 +68,7 @@ both-fit table wide high Rows = high
 module _ (table : TableView) (fit : (direction : Direction) → total_along table direction < 2 ^ 64) where
   -- ---- places
 
-  -- a visible position has the place that was found for it, or reaches out
+  -- a visible position has the place that was found for it, or overflows the table
   pub placed-in : (p : Position) (anchor : Anchor) (found : Option Place) → table.grid.shows p ≡ true → anchor ≡ anchor_in table.grid p →
       SomeIff found ((anchor.position.col + anchor.cols ≤ table.shape.1) × (anchor.position.row + anchor.rows ≤ table.shape.0)) (place_at table anchor.position) →
       IsPlacedIn table p (ok_or found OutOfTable)

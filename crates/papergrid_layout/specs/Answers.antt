@@ -16,13 +16,13 @@ UnlessMemoryError (OutOfTable p) P = P
 UnlessMemoryError TooLarge P = P
 UnlessMemoryError (Memory e) P = ⊤
 
--- P, or memory was refused
+-- P, or an allocation failed
 abbrev pub UnlessMemory : {A : Type 0} → Result A LayoutError → Type 0 → Type 0
 UnlessMemory (Ok x) P = P
 UnlessMemory (Err e) P = UnlessMemoryError e P
 
 module _ {C : Type 0} (grid : Grid) (measure : C → ℕ × ℕ) (columns : ℕ) (cells : List (List C)) where
-  -- the cell at a position reaches out of the table, along columns or along rows
+  -- the cell at a position overflows the table, along columns or along rows
   abbrev pub overflows : Position → Bool
   overflows p = nat_lt columns (p.col + grid.span Columns p) || nat_lt (length cells) (p.row + grid.span Rows p)
 
@@ -43,8 +43,8 @@ module _ {C : Type 0} (grid : Grid) (measure : C → ℕ × ℕ) (columns : ℕ)
   abbrev pub AreBothLeast : List ℕ → List ℕ → Type 0
   AreBothLeast wide high = HoldAlong AreLeastSizes wide high
 
-  -- out of the table by the first cell that reaches out, else too large along one direction, of which this is known; memory may
-  -- be refused in place of any answer
+  -- out of the table by the first cell that overflows it, else too large along one direction, of which this is known; an
+  -- allocation may fail in place of any answer
   abbrev pub IsBothRefusedWhere : (Problem → Type 0) → LayoutError → Type 0
   IsBothRefusedWhere too_large (OutOfTable p) = first_out_of_table ≡ Some p
   IsBothRefusedWhere too_large TooLarge = (first_out_of_table ≡ None)

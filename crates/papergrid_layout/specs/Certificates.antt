@@ -1,4 +1,4 @@
--- What witnesses and checkers say of the rows told.
+-- What certificates and checkers say of the rows told.
 use Rattle.std.specs.Prelude.{◌↔◌, ℕ, Bool, IsTrue, if◌then◌else◌, List, map, Option, Some, None, Result, Ok, Err, Vec}
 use Rattle.std.specs.declared.alloc.Global.{Global}
 use Rattle.papergrid_values.specs.declared.position.Position.{Position}
@@ -21,7 +21,7 @@ pub record IsChecked (problem : Problem) (sizes : List ℕ) (places : List Posit
   pub exact : IsTrue answer ↔ IsAccepted problem sizes places
   pub least : IsTrue answer → IsLeast problem sizes
 
--- the places of the cells that certify the sizes by shares, none where longer ranges are not kept apart
+-- the places of the cells that certify the sizes by shares, none where two longer ranges are neither nested nor disjoint
 abbrev pub certificate_by_shares : Problem → Option (List Position)
 certificate_by_shares problem = if is_laminar problem.demands then Some (map place_of (certificate_cells_of problem)) else None
 
@@ -38,7 +38,7 @@ module _ {C : Type 0} (grid : Grid) (measure : C → ℕ × ℕ) (columns : ℕ)
   IsCertifiedWhere too_large are_sizes is_certificate (Ok certified) = AreCertifiedWhere are_sizes is_certificate certified
   IsCertifiedWhere too_large are_sizes is_certificate (Err e) = IsBothRefusedWhere grid measure columns cells too_large e
 
-  -- exactly the sizes by shares with their witnesses, or why there are none
+  -- exactly the sizes by shares with their certificates, or why there are none
   abbrev pub IsCertified : Result Certified LayoutError → Type 0
   IsCertified result = IsCertifiedWhere NoneHolds AreSizes IsCertificateOrNone result
 

@@ -32,11 +32,11 @@ RowHasCell cells col cell = (col < length cells) × (slice_index_or cells col ce
 abbrev pub IsCellAt : {C : Type 0} → List (List C) → Position → C → Type 0
 IsCellAt rows p cell = (p.row < length rows) × RowHasCell (slice_index_or rows p.row []) p.col cell
 
--- the sizes along a direction, of so many columns (rows), that told rows have
+-- the sizes along a direction, of so many tracks, that told rows have
 abbrev pub sizes_told : {C : Type 0} → Direction → Grid → (C → ℕ × ℕ) → ℕ → List (List C) → List ℕ
 sizes_told direction grid measure n rows = sizes_of (problem_with grid measure direction n rows)
 
--- no visible cell reaches out along a direction, each has room in the sizes, and with all lines they fit 64 bits
+-- no visible cell overflows the table along a direction, each has room in the sizes, and with all lines they fit 64 bits
 pub record HaveRoom (problem : Problem) (sizes : List ℕ) : Type 0 where
   pub none_out : first_out problem.count problem.demands ≡ None
   pub fits : Fits problem sizes

@@ -17,7 +17,7 @@ use Rattle.papergrid_layout.specs.declared.rect.Place.{Place}
 use Rattle.papergrid_layout.specs.declared.rect.PlaceError.{PlaceError}
 use Rattle.papergrid_layout.specs.declared.rect.PlaceError.TheVariants.{Hidden, OutOfTable, TooLarge}
 
--- the sizes of so many columns (rows) from number s on, added up
+-- the sizes of so many tracks from number s on, added up
 abbrev pub sum_from : (ℕ → ℕ) → ℕ → ℕ → ℕ
 sum_from size s many = sum_by size (range_with_len s many)
 
@@ -38,7 +38,7 @@ module _ (size : ℕ → ℕ) (line : ℕ → Bool) where
   abbrev pub line_offset : ℕ → ℕ
   line_offset i = sum_from size 0 i + count_by line (range_with_len 0 i)
 
-  -- of so many, number i covers a point
+  -- of so many, track i covers a point
   abbrev pub IsInTrack : ℕ → ℕ → ℕ → Type 0
   IsInTrack count x i = (i < count) × (offset i ≤ x) × (x < offset i + size i)
 
@@ -121,11 +121,11 @@ module _ (table : TableView) where
   abbrev pub EndsWithin : Place → Type 0
   EndsWithin place = (place.left + place.width ≤ total_along Columns) × (place.top + place.height ≤ total_along Rows)
 
-  -- its range ends past the last column (row)
+  -- its range ends past the last track
   abbrev pub Overflows : Position → Direction → Type 0
   Overflows p direction = track_count direction < along direction p + table.grid.span direction p
 
-  -- it is visible, and reaches out in neither direction
+  -- it is visible, and overflows the table in neither direction
   pub record IsInsideTable (p : Position) : Type 0 where
     pub visible : table.grid.shows p ≡ true
     pub across : p.col + table.grid.span Columns p ≤ table.shape.1
@@ -137,7 +137,7 @@ module _ (table : TableView) where
     pub fit : (direction : Direction) → total_along direction < 2 ^ 64
     pub exact : place ≡ place_at p
 
-  -- its place, or why it has none: it is hidden, else it reaches out, else a total is past the greatest `usize`
+  -- its place, or why it has none: it is hidden, else it overflows the table, else a total is past the greatest `usize`
   abbrev pub IsPlaced : Position → Result Place PlaceError → Type 0
   IsPlaced p (Ok place) = HasPlace p place
   IsPlaced p (Err Hidden) = table.grid.shows p ≡ false
@@ -162,7 +162,7 @@ module _ (table : TableView) where
     pub refused : IsPlaced p (Err error)
     pub earlier : (q : Position) → IsVisibleCell q → IsBefore q p → (place : Place) × HasPlace q place
 
-  -- why the visible positions have no places: the first that has none decides; memory may be refused in place of any answer
+  -- why the visible positions have no places: the first that has none decides; an allocation may fail in place of any answer
   abbrev pub ArePlacesRefused : LayoutError → Type 0
   ArePlacesRefused (layout_error.OutOfTable p) = IsFirstRefused p OutOfTable
   ArePlacesRefused layout_error.TooLarge = (p : Position) × IsFirstRefused p TooLarge

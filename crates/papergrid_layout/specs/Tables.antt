@@ -51,15 +51,15 @@ module _ {C : Type 0} (config : SpannedConfig) (measure : C → ℕ × ℕ) (col
   IsTableOf sizing (Ok table) = (table.config ≡ config) × AreSizesBySizing sizing table.widths table.heights
   IsTableOf sizing (Err e) = AreNoSizesBySizing sizing e
 
--- the cell at a position has this place; else it is hidden, else it reaches out of the table
+-- the cell at a position has this place; else it is hidden, else it overflows the table
 abbrev pub IsPlacedIn : TableView → Position → Result Place PlaceError → Type 0
 IsPlacedIn table p answer = IsPlaced table p answer × (answer ≢ Err TooLarge)
 
--- the first visible cell without a place reaches out of the table
+-- the first visible cell without a place overflows the table
 abbrev pub AreNotPlacedIn : TableView → LayoutError → Type 0
 AreNotPlacedIn table e = ArePlacesRefused table e × (e ≢ layout_error.TooLarge)
 
--- where a line stands: that before a column (row), or at their count after the last, if it is drawn
+-- where a line stands: that before a track, or at their count after the last, if it is drawn
 abbrev pub line_position : TableView → Direction → ℕ → Option ℕ
 line_position table direction i =
     if nat_le i (track_count table direction) && track_line table direction i

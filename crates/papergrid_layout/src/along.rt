@@ -12,7 +12,7 @@ use papergrid_values::{Direction, Position};
 use papergrid_walk::{Measure, gather};
 use std::alloc::Global;
 
-/// Settings along one direction of a table with so many columns (rows).
+/// Settings along one direction of a table with so many tracks.
 #[derive(Clone, Copy)]
 pub struct Along<'a, S> {
     pub settings: &'a S,
@@ -48,8 +48,9 @@ pub fn count_of(direction: Direction, columns: usize, rows: usize) -> usize
 ///
 /// # Errors
 ///
-/// `OutOfTable` with the first visible cell that reaches out, else `TooLarge` where the sizes that are
-/// looked for come, with all lines, to more than the greatest `usize`; `Memory` in place of any answer.
+/// `OutOfTable` with the first visible cell that overflows the table, else `TooLarge` where the
+/// sizes that are looked for come, with all lines, to more than the greatest `usize`; `Memory` in
+/// place of any answer.
 pub fn solve_along<T: Solver, M, R: Records + Drop, S: ConfigView>(
     alloc: Global,
     records: R,

@@ -33,8 +33,8 @@ fn earlier(p: Option<Position>, q: Option<Position>) -> Option<Position>
     }
 }
 
-/// The position of the first cell that reaches out of the table, by its range along columns or by
-/// that along rows.
+/// The position of the first cell that overflows the table, by its range along columns or by that
+/// along rows.
 fn find_out_of_both(columns: usize, rows: usize, both: &BothDemands) -> Option<Position>
     ensures { result ≡ earlier (first_out columns both.now.columns.rest.items)
         (first_out rows both.now.rows.rest.items) }
@@ -83,9 +83,9 @@ fn conclude<T: Solver, M: Measure<C>, C, S: ConfigView>(
 ///
 /// # Errors
 ///
-/// `OutOfTable` with the first visible cell that reaches out along columns or rows, else `TooLarge`
-/// where the sizes that are looked for along one of them come, with all lines, to more than the greatest
-/// `usize`; `Memory` in place of any answer.
+/// `OutOfTable` with the first visible cell that overflows the table along columns or rows, else
+/// `TooLarge` where the sizes that are looked for along one of them come, with all lines, to more
+/// than the greatest `usize`; `Memory` in place of any answer.
 pub fn solve_both<T, M, R, S>(
     alloc: Global,
     records: R,

@@ -23,9 +23,10 @@ use papergrid_walk::measure::ByLines;
 use std::alloc::Global;
 use std::convert::AsStr;
 
-/// The positions of the cells that certify that the widths of the records' columns are least, by the
-/// starts of their ranges: visible cells of disjoint ranges, whose needs less the lines inside of
-/// them add up to the widths. None where two longer column ranges are neither nested nor disjoint.
+/// The positions of the cells that certify that the widths of the records' columns are least, by
+/// the starts of their ranges: visible cells of disjoint ranges, whose minimum sizes less the lines
+/// inside of them add up to the widths. None where two longer column ranges are neither nested nor
+/// disjoint.
 ///
 /// Condition: the records are lawful: they tell one finite list of rows, as each vector of
 /// rows does.
@@ -76,10 +77,10 @@ where
     )
 }
 
-/// Whether no visible cell of the records reaches out along columns, there are as many widths as
-/// columns, every visible cell fits, and the positions listed are those of visible cells of disjoint
-/// ranges, whose needs less the lines inside of them add up to the widths. Then no widths that fit
-/// have a smaller total, whoever made the list. It takes no memory.
+/// Whether no visible cell of the records overflows the table along columns, there are as many
+/// widths as columns, every visible cell fits, and the positions listed are those of visible cells
+/// of disjoint ranges, whose minimum sizes less the lines inside of them add up to the widths. Then
+/// no widths that fit have a smaller total, whoever made the list. It does not allocate.
 ///
 /// Condition: the records are lawful: they tell one finite list of rows, as each vector of
 /// rows does.
@@ -99,10 +100,10 @@ where
     check::<ByLines, R, SpannedConfig>(records, config, Direction::Columns, widths, list)
 }
 
-/// Whether no visible cell of the records reaches out along rows, there are as many heights as rows,
-/// every visible cell fits, and the positions listed are those of visible cells of disjoint ranges,
-/// whose needs less the lines inside of them add up to the heights. Then no heights that fit have a
-/// smaller total, whoever made the list. It takes no memory.
+/// Whether no visible cell of the records overflows the table along rows, there are as many heights
+/// as rows, every visible cell fits, and the positions listed are those of visible cells of
+/// disjoint ranges, whose minimum sizes less the lines inside of them add up to the heights. Then
+/// no heights that fit have a smaller total, whoever made the list. It does not allocate.
 ///
 /// Condition: the records are lawful: they tell one finite list of rows, as each vector of
 /// rows does.
@@ -122,9 +123,9 @@ where
     check::<ByLines, R, SpannedConfig>(records, config, Direction::Rows, heights, list)
 }
 
-/// The positions of the cells that certify that the widths of the records' columns are least, by the
-/// starts of their ranges: visible cells of disjoint ranges, whose needs less the lines inside of
-/// them add up to the widths. There always are such cells.
+/// The positions of the cells that certify that the widths of the records' columns are least, by
+/// the starts of their ranges: visible cells of disjoint ranges, whose minimum sizes less the lines
+/// inside of them add up to the widths. There always are such cells.
 ///
 /// Condition: the records are lawful: they tell one finite list of rows, as each vector of
 /// rows does.
@@ -205,7 +206,7 @@ pub struct Certified {
     pub height_witness: Option<Vec<Position>>,
 }
 
-/// The sizes that `IterGridDimension` estimates, and the witnesses that `width_witness` and
+/// The sizes that `IterGridDimension` estimates, and the certificates that `width_witness` and
 /// `height_witness` give, by one walk over the records: none along a direction where two longer
 /// ranges are neither nested nor disjoint.
 ///

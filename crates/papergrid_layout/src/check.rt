@@ -101,7 +101,7 @@ impl<'a, M: Measure<C>, C, S: ConfigView> Visitor<C> for Checker<'a, M, S> {
     ghost consumed = { λ v w cells. (w.settings ≡ v.settings) × (w.candidate ≡ v.candidate)
         × ChecksMore (S.grid v.settings.now) v.candidate.now v.checked w.checked (demands_by v.candidate.now.direction (S.grid v.settings.now) M.measured cells) };
 
-    // It takes no memory.
+    // It does not allocate.
     ghost may_fail = { ⊥ };
 
     fn visit(&mut self, position: Position, cell: &C) -> Result<(), AllocError> {
@@ -218,10 +218,10 @@ where
     false
 }
 
-/// Whether no visible cell of the records reaches out, the sizes are as many as the columns (rows)
+/// Whether no visible cell of the records overflows the table, the sizes are as many as the tracks
 /// and give each visible cell room, and the places are those of visible cells of disjoint ranges,
-/// whose needs less the lines inside of them add up to the sizes. Then no other choice of sizes has
-/// a smaller total. It takes no memory.
+/// whose minimum sizes less the lines inside of them add up to the sizes. Then no other choice of
+/// sizes has a smaller total. It does not allocate.
 pub fn check<M, R: Records + Drop, S: ConfigView>(
     records: R,
     settings: &S,

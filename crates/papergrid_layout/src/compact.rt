@@ -30,7 +30,7 @@ pub struct CompactGridDimension {
 }
 
 impl CompactGridDimension {
-    /// No sizes. It takes no memory.
+    /// No sizes. It does not allocate.
     pub fn new(alloc: Global) -> CompactGridDimension
         ensures { result.widths ≡ [] }
     {

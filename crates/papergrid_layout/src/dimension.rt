@@ -65,10 +65,10 @@ pub trait Estimate<R, C> {
     ///
     /// # Errors
     ///
-    /// `OutOfTable` with the first visible cell that reaches out, else `TooLarge` where the sizes with
-    /// the lines of the table (of `CompactGridDimension` the sizes alone, of `LeastGridDimension` any
-    /// sizes with room for each visible cell) come to more than the greatest `usize`; `Memory` in place
-    /// of any answer. The sizes are then as they were.
+    /// `OutOfTable` with the first visible cell that overflows the table, else `TooLarge` where the
+    /// sizes with the lines of the table (of `CompactGridDimension` the sizes alone, of
+    /// `LeastGridDimension` any sizes with room for each visible cell) come to more than the
+    /// greatest `usize`; `Memory` in place of any answer. The sizes are then as they were.
     fn estimate(&mut self, records: R, config: &C) -> Result<(), LayoutError>
         requires { accepts records }
         ensures ok { IfOk result (λ _. is_estimate self.new records config.now) }

@@ -33,7 +33,7 @@ pub struct IterGridDimension {
 }
 
 impl IterGridDimension {
-    /// No sizes. It takes no memory.
+    /// No sizes. It does not allocate.
     pub fn new(alloc: Global) -> IterGridDimension
         ensures widths { result.widths ≡ [] }
         ensures heights { result.heights ≡ [] }
@@ -52,9 +52,9 @@ impl IterGridDimension {
     ///
     /// # Errors
     ///
-    /// `OutOfTable` with the first visible cell that reaches out along columns, else `TooLarge` where
-    /// the widths and the vertical lines come to more than the greatest `usize`; `Memory` in place of
-    /// any answer.
+    /// `OutOfTable` with the first visible cell that overflows the table along columns, else
+    /// `TooLarge` where the widths and the vertical lines come to more than the greatest `usize`;
+    /// `Memory` in place of any answer.
     pub fn width<R: Records + Drop>(
         alloc: Global,
         records: R,

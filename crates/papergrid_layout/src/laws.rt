@@ -88,8 +88,8 @@ pub fn lent_cells<C, D, S: AsStr>()
         ≡ demands_of direction grid (line_measure ⟦<&'static Text<S> as AsStr>⟧.text) rows }
 {}
 
-/// No visible cell reaches out along columns, and none along rows, exactly where there is no first
-/// one that does.
+/// No visible cell overflows the table along columns, and none along rows, exactly where there is
+/// no first one that does.
 pub fn none_overflows<C>()
     ensures { (grid : Grid) (measure : C → ℕ × ℕ) (columns : ℕ) (rows : List (List C)) →
         (first_out_of_table grid measure columns rows ≡ None)
@@ -118,9 +118,9 @@ pub fn total_covers_cells<C>()
         ≤ total) (visible_cells grid rows) }
 {}
 
-/// Where each span is at least 1, as those of a configuration are, the least sizes along a direction are
-/// those by shares wherever these are least, and so where ranges are kept apart. What certifies least sizes is
-/// a certificate that the checkers accept.
+/// Where each span is at least 1, as those of a configuration are, the least sizes along a
+/// direction are those by shares wherever these are least, and so where ranges are nested or
+/// disjoint. What certifies least sizes is a certificate that the checkers accept.
 pub fn least_as_by_shares<C>()
     ensures same { (grid : Grid) (measure : C → ℕ × ℕ)
         (columns : ℕ) (rows : List (List C)) (direction : Direction) →

@@ -33,7 +33,7 @@ pub struct LeastGridDimension {
 }
 
 impl LeastGridDimension {
-    /// No sizes. It takes no memory.
+    /// No sizes. It does not allocate.
     pub fn new(alloc: Global) -> LeastGridDimension
         ensures widths { result.widths ≡ [] }
         ensures heights { result.heights ≡ [] }
@@ -53,9 +53,9 @@ impl LeastGridDimension {
     ///
     /// # Errors
     ///
-    /// `OutOfTable` with the first visible cell that reaches out along columns, else `TooLarge` where
-    /// no widths with room for each visible cell come, with the vertical lines, to at most the greatest
-    /// `usize`; `Memory` in place of any answer.
+    /// `OutOfTable` with the first visible cell that overflows the table along columns, else
+    /// `TooLarge` where no widths with room for each visible cell come, with the vertical lines, to
+    /// at most the greatest `usize`; `Memory` in place of any answer.
     pub fn width<R: Records + Drop>(
         alloc: Global,
         records: R,

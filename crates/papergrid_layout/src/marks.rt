@@ -1,4 +1,4 @@
-//! Where the columns (rows) of a table begin and end.
+//! Where the tracks of a table begin and end.
 
 ghost use Rattle.std.specs.Prelude.{◌≡◌, ◌+◌, ◌≤◌, ◌<◌, ℕ, Bool, MatchOption, length, nat_le, slice_index_or};
 ghost use Rattle.std.specs.Option.{SomeIff};
@@ -10,7 +10,7 @@ use crate::per_direction::PerDirection;
 use crate::rect::Place;
 use papergrid_maps::Anchor;
 
-/// Where each column (row) begins and where it ends.
+/// Where each track begins and where it ends.
 #[derive(Debug, Drop)]
 pub struct Marks {
     pub begins: Vec<usize>,
@@ -18,7 +18,7 @@ pub struct Marks {
 }
 
 impl Marks {
-    /// Where a range of so many columns (rows) from one on begins and how long it is, if it does not end
+    /// Where a range of so many tracks from one on begins and how long it is, if it does not end
     /// past the last.
     pub fn part(&self, start: usize, span: usize) -> Option<(usize, usize)>
         requires positive { 1 ≤ span }
@@ -36,7 +36,7 @@ impl Marks {
         Some((begin, self.ends[last] - begin))
     }
 
-    /// The last column (row) that begins at a point of the table or before it. None on the line before the
+    /// The last track that begins at a point of the table or before it. None on the line before the
     /// first one. It is looked for by binary search.
     pub fn track_before(&self, point: usize) -> Option<usize>
         requires marks { (size : ℕ → ℕ) × (line : ℕ → Bool) × (count : ℕ)
@@ -53,7 +53,7 @@ impl Marks {
         next.checked_sub(1)
     }
 
-    /// Where a column (row) begins, or, at their count, the total.
+    /// Where a track begins, or, at their count, the total.
     pub fn begin(&self, index: usize, total: usize) -> usize
         requires { index ≤ length self.now.begins.items }
         ensures { result ≡ slice_index_or self.now.begins.items index total }
@@ -65,7 +65,7 @@ impl Marks {
         }
     }
 
-    /// The column (row) that covers a point of the table. None on a line, and past the last one.
+    /// The track that covers a point of the table. None on a line, and past the last one.
     pub fn track_at(&self, point: usize) -> Option<usize>
         requires marks { (size : ℕ → ℕ) × (line : ℕ → Bool) × (count : ℕ)
             × AreMarks size line count self.now × (point < total size line count) }

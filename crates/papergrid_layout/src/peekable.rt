@@ -28,7 +28,7 @@ pub struct PeekableGridDimension {
 }
 
 impl PeekableGridDimension {
-    /// No sizes. It takes no memory.
+    /// No sizes. It does not allocate.
     pub fn new(alloc: Global) -> PeekableGridDimension
         ensures widths { result.widths ≡ [] }
         ensures heights { result.heights ≡ [] }
@@ -47,9 +47,9 @@ impl PeekableGridDimension {
     ///
     /// # Errors
     ///
-    /// `OutOfTable` with the first visible cell that reaches out along columns, else `TooLarge` where
-    /// the widths and the vertical lines come to more than the greatest `usize`; `Memory` in place of
-    /// any answer.
+    /// `OutOfTable` with the first visible cell that overflows the table along columns, else
+    /// `TooLarge` where the widths and the vertical lines come to more than the greatest `usize`;
+    /// `Memory` in place of any answer.
     pub fn width<R: Records + Drop>(
         alloc: Global,
         records: R,
@@ -112,9 +112,9 @@ impl PeekableGridDimension {
     ///
     /// # Errors
     ///
-    /// `OutOfTable` with the first visible cell that reaches out along columns or rows, else `TooLarge`
-    /// where the sizes along one of them come, with all lines, to more than the greatest `usize`;
-    /// `Memory` in place of any answer.
+    /// `OutOfTable` with the first visible cell that overflows the table along columns or rows,
+    /// else `TooLarge` where the sizes along one of them come, with all lines, to more than the
+    /// greatest `usize`; `Memory` in place of any answer.
     pub fn dimension<R: Records + Drop>(
         alloc: Global,
         records: R,

@@ -1,4 +1,4 @@
-//! The sizes and the lines of a table along one direction, and where its columns (rows) begin.
+//! The sizes and the lines of a table along one direction, and where its tracks begin.
 
 ghost use Rattle.std.specs.Prelude.{◌≡◌, ◌+◌, ◌<◌, ◌≤◌, ◌^◌, ◌⊎◌, ℕ, IfOk, MatchOption, cond, nat_lt};
 ghost use Rattle.std.specs.Option.{SomeIff};
@@ -13,8 +13,8 @@ use papergrid_maps::ConfigView;
 use papergrid_values::{Direction, Position};
 use std::alloc::{AllocError, Global};
 
-/// The sizes of a dimension, and the spans and the lines of settings, along a direction in which the
-/// table has so many columns (rows).
+/// The sizes of a dimension, and the spans and the lines of settings, along a direction in which
+/// the table has so many tracks.
 #[derive(Clone, Copy)]
 pub struct Ruler<'a, D, S> {
     pub dim: &'a D,
@@ -24,7 +24,7 @@ pub struct Ruler<'a, D, S> {
 }
 
 impl<'a, D: Dimension, S: ConfigView> Ruler<'a, D, S> {
-    /// Of so many columns (rows), by these sizes and settings.
+    /// Of so many tracks, by these sizes and settings.
     pub fn new(dim: &'a D, settings: &'a S, direction: Direction, count: usize) -> Ruler<'a, D, S>
         ensures { result ≡ record {
           dim = dim.entry;
@@ -67,7 +67,7 @@ impl<'a, D: Dimension, S: ConfigView> Ruler<'a, D, S> {
         }
     }
 
-    /// Where column (row) `end` begins, if that fits, from where an earlier one begins.
+    /// Where track `end` begins, if that fits, from where an earlier one begins.
     fn offset_from(&self, start: usize, from: usize, end: usize) -> Option<usize>
         requires order { start ≤ end }
         requires sizes { (i : ℕ) → i < end →
@@ -91,7 +91,7 @@ impl<'a, D: Dimension, S: ConfigView> Ruler<'a, D, S> {
         Some(offset)
     }
 
-    /// Whether the range of the cell at a position ends past the last column (row).
+    /// Whether the range of the cell at a position ends past the last track.
     pub fn overflows(&self, pos: Position) -> bool
         ensures { let span = (S.grid self.now.settings.now).span self.now.direction pos in
             result ≡ nat_lt self.now.count (along self.now.direction pos + span) }
@@ -139,7 +139,7 @@ impl<'a, D: Dimension, S: ConfigView> Ruler<'a, D, S> {
         self.offset_from(0, self.line(0), self.count)
     }
 
-    /// Where each column (row) begins and ends, where the total fits.
+    /// Where each track begins and ends, where the total fits.
     pub fn marks(&self, alloc: Global) -> Result<Marks, AllocError>
         requires sizes { (i : ℕ) → i < self.now.count →
             has_along (D.has_column self.now.dim.now)
@@ -165,7 +165,7 @@ impl<'a, D: Dimension, S: ConfigView> Ruler<'a, D, S> {
         Ok(Marks { begins, ends })
     }
 
-    /// The column (row) from whose begin to that of the next one a point lies, where the total fits. None
+    /// The track from whose begin to that of the next one a point lies, where the total fits. None
     /// where it lies before the first begin or not before the end of the table.
     pub fn number_at(&self, point: usize) -> Option<usize>
         requires sizes { (i : ℕ) → i < self.now.count →

@@ -5,7 +5,7 @@ ghost use Rattle.std.specs.Prelude.{◌≡◌, ◌<◌, [], length, slice_index}
 use std::alloc::{AllocError, Global};
 use std::marker::Model;
 
-/// A size for each column (row).
+/// A size for each track.
 #[derive(Debug, Drop)]
 pub struct SizeList {
     sizes: Vec<usize>,
@@ -20,7 +20,7 @@ impl Model for SizeList {
 }
 
 impl SizeList {
-    /// No sizes. It takes no memory.
+    /// No sizes. It does not allocate.
     pub fn new(alloc: Global) -> SizeList
         ensures { result ≡ [] }
     {

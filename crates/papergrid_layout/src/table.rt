@@ -72,8 +72,9 @@ impl<'a> Table<'a> {
     ///
     /// # Errors
     ///
-    /// `OutOfTable` with the first visible cell that reaches out, else `TooLarge` where the sizes that are
-    /// chosen so come, with all lines, to more than the greatest `usize`; `Memory` in place of any answer.
+    /// `OutOfTable` with the first visible cell that overflows the table, else `TooLarge` where the
+    /// sizes that are chosen so come, with all lines, to more than the greatest `usize`; `Memory`
+    /// in place of any answer.
     pub fn new<R: Records + Drop>(
         alloc: Global,
         config: &'a SpannedConfig,
@@ -190,8 +191,8 @@ impl<'a> Table<'a> {
     ///
     /// # Errors
     ///
-    /// `OutOfTable` with the first visible cell that reaches out; `Memory` in place of any answer, but for
-    /// a table without rows or columns: that is never refused.
+    /// `OutOfTable` with the first visible cell that overflows the table; `Memory` in place of any
+    /// answer, but for a table without rows or columns: that is never refused.
     pub fn places(&self, alloc: Global) -> Result<Vec<(Position, Place)>, LayoutError>
         ensures ok { IfOk result (λ places. HaveAllPlaces (view_of self.now) places.items) }
         ensures err { IfErr result (AreNotPlacedIn (view_of self.now)) }
@@ -213,10 +214,11 @@ impl<'a> Table<'a> {
         }
     }
 
-    /// The position of the cell at a column of the terminal in a line, both counted from the left edge and
-    /// the top of the table: that of the first cell, by row and then by column, whose place covers the point.
-    /// None on a line of the table over which no such place goes, and outside of the table. It takes no
-    /// memory, and time that grows with the logarithms of the rows and columns, at a hidden position with the spans.
+    /// The position of the cell at a column of the terminal in a line, both counted from the left
+    /// edge and the top of the table: that of the first cell, by row and then by column, whose
+    /// place covers the point. None on a line of the table over which no such place goes, and
+    /// outside of the table. It does not allocate, and takes time that grows with the logarithms of
+    /// the rows and columns, at a hidden position with the spans.
     pub fn cell_at(&self, column: usize, line: usize) -> Option<Position>
         ensures { IsFirstOver (view_of self.now) column line result }
     {
@@ -280,7 +282,7 @@ impl<'a> Table<'a> {
         Some(self.marks.rows.begin(index, self.totals.rows) - 1)
     }
 
-    /// Whether there is a line before column (row) `index`, or, at their count, after the last.
+    /// Whether there is a line before track `index`, or, at their count, after the last.
     fn has_line(&self, direction: Direction, index: usize) -> bool
         ensures { let table = view_of self.now in
             result ≡ nat_le index (track_count table direction)

@@ -12,7 +12,7 @@ use papergrid_axis::LayoutError;
 use papergrid_config::SpannedConfig;
 use papergrid_values::Direction;
 
-/// The total along a direction, of so many columns (rows).
+/// The total along a direction, of so many tracks.
 fn total_along<D: Dimension>(
     dim: &D,
     cfg: &SpannedConfig,
@@ -29,7 +29,7 @@ fn total_along<D: Dimension>(
 }
 
 /// The width of a table of so many columns, in columns of a terminal: the sum of the widths and of
-/// the vertical lines. It takes no memory.
+/// the vertical lines. It does not allocate.
 ///
 /// Condition: the dimension has a width for each of the columns.
 ///
@@ -49,7 +49,7 @@ pub fn total_width<D: Dimension>(
 }
 
 /// The height of a table of so many rows, in lines: the sum of the heights and of the horizontal
-/// lines. It takes no memory.
+/// lines. It does not allocate.
 ///
 /// Condition: the dimension has a height for each of the rows.
 ///

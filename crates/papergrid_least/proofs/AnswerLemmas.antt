@@ -35,7 +35,7 @@ NoneFits-large n kept demands is line large =
     NoneFits-by_all (problem_of_demands line n demands) table (out_kept n kept demands is ∙ large.inside)
     (λ other fits. large_any line n other demands (sym is.held.large ∙ large.is_large) table fits.room)
 
--- where the edges agree, so do the sizes between them
+-- where the boundaries agree, so do the sizes between them
 between-same : (n : ℕ) (f g : ℕ → ℕ) → ((i : ℕ) → i ≤ n → f i ≡ g i) → sizes_between n f ≡ sizes_between n g
 between-same n f g same =
     fill_by_all (λ i. g (i + 1) - g i) (sizes_between n f) n 0 (length-map-range_with_len (λ i. f (i + 1) - f i) 0 n) at

@@ -1,4 +1,4 @@
--- Edges that are laid from the end back.
+-- Boundaries that are laid from the end back.
 use Rattle.std.proofs.Common.{◌≡◌, ◌≢◌, ℕ, zero, suc, ◌+◌, ◌-◌, ◌<◌, ◌≤◌, ◌∙◌, min, inl, inr, List, length, get_or, set, ap, arith}
 use Rattle.std.specs.Prelude.{All}
 use Rattle.std.proofs.lemmas.Bool.{cases_eq, cases_lt}
@@ -8,7 +8,7 @@ use Rattle.papergrid_axis.specs.Ranges.{IsInTable, end_of}
 use Rattle.papergrid_least.specs.ForProofs.Laid.{AreLaid, AreLaterFirst, AreSteps}
 use Rattle.papergrid_least.proofs.LaidLemmas.{no_cell}
 
--- edges that are laid back from number a stay above any others; k numbers back from a
+-- boundaries that are laid back from number a stay above any others; k numbers back from a
 above-by : (base : List ℕ) (boundary f : ℕ → ℕ) (a b : ℕ) → AreSteps base b a boundary → boundary a ≤ f a →
     ((i : ℕ) → b ≤ i → i < a → f (i + 1) ≡ f i + get_or base i 0) → (k : ℕ) → b + k ≤ a → boundary (a - k) ≤ f (a - k)
 above-by base boundary f a b steps start laid zero le = let e : a - 0 ≡ a = omega arith in rw e start
@@ -30,8 +30,8 @@ above-more base boundary f a b steps start laid i from le =
     let r : f (a - (a - i)) ≡ f i = ap f e in
     omega arith
 
--- edges laid back to number a from the last, which is at `total`, by the first k cells, all of which start there or after; the
--- later ones start there or before
+-- boundaries laid back to number a from the last, which is at `total`, by the first k cells, all of which start there or
+-- after; the later ones start there or before
 pub record LaidFrom (base : List ℕ) (cells : List Demand) (k a total : ℕ) (boundaries : List ℕ) : Type 0 where
   pub one_more : length boundaries ≡ length base + 1
   pub within : a ≤ length base
@@ -41,7 +41,7 @@ pub record LaidFrom (base : List ℕ) (cells : List Demand) (k a total : ℕ) (b
   pub earlier : (j : ℕ) (d : Demand) → k ≤ j → j < length cells → (get_or cells j d).start ≤ a
   pub above : (boundary : ℕ → ℕ) → AreLaid base cells boundary → boundary (length base) ≤ total → (i : ℕ) → a ≤ i → i ≤ length base → boundary i ≤ get_or boundaries i 0
 
--- one step of the loop: edges laid back to the start of the next cell, as `mid`
+-- one step of the loop: boundaries laid back to the start of the next cell, as `mid`
 module _ (base : List ℕ) (cells : List Demand) (table : All (IsInTable (length base)) cells) (sorted : AreLaterFirst cells) (k a total : ℕ) (boundaries mid : List ℕ) (listed : k < length cells)
     (laid_from : LaidFrom base cells k a total boundaries) (same : length mid ≡ length boundaries) (after : (i : ℕ) → a ≤ i → get_or mid i 0 ≡ get_or boundaries i 0)
     (laid : (i : ℕ) → (get_or cells k no_cell).start ≤ i → i < a → get_or mid (i + 1) 0 ≡ get_or mid i 0 + get_or base i 0) where
@@ -166,7 +166,7 @@ module _ (base : List ℕ) (cells : List Demand) (table : All (IsInTable (length
       above = above-moved;
     }
 
--- after the last cell: edges laid back to the first, as `whole`
+-- after the last cell: boundaries laid back to the first, as `whole`
 module _ (base : List ℕ) (cells : List Demand) (k a total : ℕ) (boundaries whole : List ℕ) (all : length cells ≤ k) (laid_from : LaidFrom base cells k a total boundaries)
     (after : (i : ℕ) → a ≤ i → get_or whole i 0 ≡ get_or boundaries i 0) (laid : (i : ℕ) → 0 ≤ i → i < a → get_or whole (i + 1) 0 ≡ get_or whole i 0 + get_or base i 0) where
   pub above-back : (boundary : ℕ → ℕ) → AreLaid base cells boundary → boundary (length base) ≤ total → (i : ℕ) → i ≤ length base → boundary i ≤ get_or whole i 0

@@ -1,4 +1,4 @@
--- No least size is above the top need, where none of the given sizes is.
+-- No least size is above the top minimum size, where none of the given sizes is.
 use Rattle.std.proofs.Common.{◌≡◌, ℕ, suc, ◌+◌, ◌-◌, ◌<◌, ◌≤◌, max, min, Bool, List, length, get_or, take, sum, ap, arith}
 use Rattle.std.specs.Prelude.{All, map}
 use Rattle.std.proofs.lemmas.List.Elements.{All-map, Contains-get_or}
@@ -15,7 +15,7 @@ use Rattle.papergrid_least.specs.Least.{mirror, lowest_position_back, highest_po
 use Rattle.papergrid_least.proofs.LowestLemmas.{pushed-below, lowest_position_to-at, lowest_position_to-is, lowest_position-monotone}
 use Rattle.papergrid_least.proofs.HighestLemmas.{mirrored-twice, table-mirrored}
 
--- an earliest edge is past the one before by at most what a cell asks whose range ends there
+-- the lowest position of a boundary is past the one before by at most what a cell asks whose range ends there
 lowest_position-step : (asks : Demand → ℕ) (ds : List Demand) (n : ℕ) → All (IsInTable n) ds → (i m : ℕ) → All (λ d. end_of d ≡ suc i → asks d ≤ m) ds → lowest_position asks ds (suc i) ≤ lowest_position asks ds i + m
 lowest_position-step asks ds n table i m each =
     let at : lowest_position asks ds (suc i) ≡ max (lowest_position asks ds i) (pushed_lower_bound asks ds (lowest_position_to asks ds i) (suc i)) = lowest_position_to-at asks ds i in

@@ -1,4 +1,4 @@
--- Sizes that fit, and edges.
+-- Sizes that fit, and boundaries.
 use Rattle.std.proofs.Common.{◌≡◌, ℕ, zero, suc, ◌+◌, ◌-◌, ◌<◌, ◌≤◌, min, Bool, List, length, get_or, take, sum, ap, arith, add-zero}
 use Rattle.std.specs.Prelude.{All}
 use Rattle.std.proofs.lemmas.List.Elements.{All-weaker}
@@ -23,7 +23,7 @@ rises asks n ds boundary are i (suc k) le =
     let e : (i + k) + 1 ≡ i + suc k = omega arith in
     rw (← e) (omega arith)
 
--- the sum over a range is the way between its edges
+-- the sum over a range is the distance between its boundaries
 pub boundaries-apart : (sizes : List ℕ) (d : Demand) → boundaries_of sizes (end_of d) ≡ boundaries_of sizes d.start + range_sum sizes d
 boundaries-apart sizes d =
     let f : ℕ → ℕ = λ i. get_or sizes i 0 in
@@ -58,7 +58,7 @@ Fits-from_boundaries line n demands sizes same are = record {
       demands are.apart;
 }
 
--- edges, the sizes between them, and the edges of these
+-- boundaries, the sizes between them, and the boundaries of these
 telescope : (boundary : ℕ → ℕ) (k : ℕ) → ((i : ℕ) → i < k → boundary i ≤ boundary (i + 1)) → upto (λ i. boundary (i + 1) - boundary i) k + boundary 0 ≡ boundary k
 telescope boundary zero rise = omega arith
 telescope boundary (suc k) rise =

@@ -1,4 +1,4 @@
--- The cells that push the earliest edges are a certificate of the least total.
+-- The cells that are tight at the lowest positions of the boundaries are a certificate of the least total.
 use Rattle.std.proofs.Common.{◌≡◌, ℕ, zero, suc, ◌+◌, ◌-◌, ◌<◌, ◌≤◌, ◌≢◌, max, Bool, true, false, ◌&&◌, ◌==◌, inl, inr, List, [], ◌∷◌, length, get_or, sum, sum_by, refl, sym, ◌∙◌, arith, Option, Some, None, eqb, eqb-true, eq-eqb, ne_eqb}
 use Rattle.std.specs.Prelude.{All, AllPairs, Contains, find, reverse}
 use Rattle.std.specs.List.{AllByRecursion}
@@ -28,7 +28,7 @@ find-nothing test (d ∷ ds) e = elim (cases_Bool (test d)) [
   | inr f ↦ (f, find-nothing test ds (rw f at e))
 ]
 
--- what going back from the edge at i gives
+-- what going back from the boundary at i gives
 record Reaches (asks : Demand → ℕ) (ds : List Demand) (i : ℕ) (cells : List Demand) : Type 0 where
   adds_up : sum_by asks cells ≡ lowest_position asks ds i
   before : AllByRecursion (λ d. end_of d ≤ i) cells
@@ -37,7 +37,7 @@ record Reaches (asks : Demand → ℕ) (ds : List Demand) (i : ℕ) (cells : Lis
   asking : AllByRecursion (λ d. 1 ≤ asks d) cells
 
 module _ (asks : Demand → ℕ) (ds : List Demand) (n : ℕ) (table : All (IsInTable n) ds) where
-  -- a cell that pushed the edge past the one before
+  -- a tight cell at a boundary past the one before
   pub record IsTight (i : ℕ) (d : Demand) : Type 0 where
     pub listed : Contains ds d
     pub ends : end_of d ≡ suc i
@@ -55,11 +55,11 @@ module _ (asks : Demand → ℕ) (ds : List Demand) (n : ℕ) (table : All (IsIn
       find-all (Contains ds) (is_tight asks ds (suc i)) ds d (recursion_from_All (Contains ds) ds (All-contains_itself ds)) e in
       IsTight-from i d found.1 found.0
 
-  -- where none is found, no cell pushes the edge
+  -- where none is found, no cell is tight at the boundary
   none-is_tight : (i : ℕ) → tight_cell asks ds (suc i) ≡ None → All (λ d. is_tight asks ds (suc i) d ≡ false) ds
   none-is_tight i e = All-from_recursion (λ d. is_tight asks ds (suc i) d ≡ false) ds (find-nothing (is_tight asks ds (suc i)) ds e)
 
-  -- an edge past the one before was pushed by some cell
+  -- a boundary past the one before has a tight cell
   pub tight_cell-none : (i : ℕ) → lowest_position asks ds i < lowest_position asks ds (suc i) → tight_cell asks ds (suc i) ≡ None → ⊥
   tight_cell-none i past e =
       let m : ℕ = lowest_position asks ds (suc i) - 1 in
@@ -139,7 +139,7 @@ module _ (asks : Demand → ℕ) (ds : List Demand) (n : ℕ) (table : All (IsIn
             (Reaches-tight_cell i (tight_cells asks ds steps) (omega arith) (λ j l. Reaches-tight_cells steps j (omega arith)) (tight_cell asks ds (suc i)) refl)
       ]
 
--- the needs of cells that ask for something
+-- the minimum sizes of cells that ask for something
 minimums-add_up : (line : ℕ → Bool) (ds : List Demand) → AllByRecursion (λ d. 1 ≤ net_minimum line d) ds → sum_by (λ d. d.minimum) ds ≡ sum_by (net_minimum line) ds + sum_by (inner_lines line) ds
 minimums-add_up line [] asking = refl
 minimums-add_up line (d ∷ ds) asking =

@@ -1,4 +1,4 @@
--- Edges by what is kept of the cells are edges by what they ask.
+-- Boundaries by what is kept of the cells are boundaries by what they ask.
 use Rattle.std.proofs.Common.{◌≡◌, ℕ, ◌+◌, ◌-◌, ◌<◌, ◌≤◌, ◌∙◌, Bool, true, ◌&&◌, ◌==◌, not, inl, inr, List, length, get_or, refl, ap, arith, eq-eqb, eqb, eqb-true}
 use Rattle.std.specs.Prelude.{All, Contains, map, nat_lt, count_by}
 use Rattle.std.specs.List.{range_with_len}
@@ -19,7 +19,7 @@ use Rattle.papergrid_least.specs.ForProofs.Limits.{AreLowestBoundaries, AreHighe
 use Rattle.papergrid_least.proofs.LowestLemmas.{AreBoundaries-lowest_position, lowest_position-below}
 use Rattle.papergrid_least.proofs.HighestLemmas.{All-unmapped, AreBoundaries-highest_position, highest_position-above, highest_position-last}
 
--- a cell that covers one number alone has no line inside of it
+-- a cell that covers one track alone has no line inside of it
 pub inner-alone : (line : ℕ → Bool) (d : Demand) → d.span ≡ 1 → inner_lines line d ≡ 0
 inner-alone line d one = ap (λ k. count_by line (range_with_len (d.start + 1) k)) (let e : d.span - 1 ≡ 0 = omega arith in e)
 

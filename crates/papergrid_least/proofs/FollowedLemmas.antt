@@ -1,4 +1,4 @@
--- Going back along the earliest edges.
+-- Going back along the lowest positions of the boundaries.
 use Rattle.std.proofs.Common.{◌≡◌, ◌≢◌, ℕ, zero, suc, ◌+◌, ◌-◌, ◌<◌, ◌≤◌, ◌++◌, ◌∙◌, map, [], true, false, ◌==◌, inl, inr, List, ◌∷◌, length, get_or, set, drop, refl, sym, ap, arith, eq-eqb, ne_eqb, Option, Some, None}
 use Rattle.std.specs.Prelude.{find}
 use Rattle.std.proofs.lemmas.Bool.{cases_eq}
@@ -11,7 +11,7 @@ use Rattle.papergrid_least.specs.CriticalPath.{with_earlier}
 use Rattle.papergrid_least.proofs.EarlierLemmas.{earlier-either, some_none}
 use Rattle.papergrid_least.proofs.LaidLemmas.{no_cell}
 
--- a cell that stands before others, and pushes its edge or not
+-- a cell that stands before others, and is tight at its boundary or not
 module _ (asks : Demand → ℕ) (boundary : ℕ → ℕ) (d : Demand) (later : List Demand) where
   find-is_tight : (i : ℕ) → end_of d ≡ i → (boundary d.start + asks d == boundary (end_of d)) ≡ true → find (is_tight_by asks boundary i) (d ∷ later) ≡ Some d
   find-is_tight i ends is_tight =
@@ -59,7 +59,7 @@ module _ (boundary : ℕ → ℕ) (single : ℕ → Demand) (longer : ℕ → Op
       followed_cells boundary single longer (suc steps) i ≡ with_earlier (earlier_cell (with_minimum (boundary i - boundary (i - 1)) (single (i - 1))) (longer i)) (followed_cells boundary single longer steps)
   followed-past past = rw (ne_eqb (boundary i - boundary (i - 1)) 0 past) refl
 
--- what was met, and what is still to be met from number i on, are all of it
+-- what was met, and what is still to be met from track i on, are all of it
 module _ (boundary : ℕ → ℕ) (single : ℕ → Demand) (longer : ℕ → Option Demand) (size counter i before : ℕ) (places whole : List Position) (left : counter < size) (before_is : before ≡ i - 1)
     (met : places ++ map place_of (followed_cells boundary single longer (size - counter) i) ≡ whole) where
   steps_are : size - counter ≡ suc (size - (counter + 1))
@@ -109,7 +109,7 @@ with_minimum-is step d e found = elim (cases_eq d.minimum step) [
   | inr ne ↦ let here : None ≡ Some e = rw (ne_eqb d.minimum step ne) at found in absurd (some_none e (sym here))
 ]
 
--- an edge past the one before is not the first
+-- a boundary past the one before is not the first
 one_before : (boundary : ℕ → ℕ) (i before : ℕ) → before ≡ i - 1 → boundary i - boundary before ≢ 0 → before + 1 ≡ i
 one_before boundary zero before e past =
     let here : before ≡ 0 = omega arith in

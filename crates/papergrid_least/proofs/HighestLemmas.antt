@@ -1,4 +1,4 @@
--- The latest edges are edges, and no edges that end at the least total are past them.
+-- The highest positions are boundaries, and no boundaries that end at the least total are past them.
 use Rattle.std.proofs.Common.{◌≡◌, ℕ, ◌+◌, ◌-◌, ◌≤◌, List, [], ◌∷◌, get_or, ap, arith}
 use Rattle.std.specs.Prelude.{All, map}
 use Rattle.std.specs.List.{AllByRecursion}
@@ -31,7 +31,7 @@ module _ (asks : Demand → ℕ) (n : ℕ) (ds : List Demand) (table : All (IsIn
   pub table-mirrored : All (IsInTable n) (map (mirror n) ds)
   table-mirrored = All-map (IsInTable n) (mirror n) ds (λ k d l. IsInTable-mirrored n (get_or ds k d) (table k d l))
 
-  -- edges, counted from the far end
+  -- boundaries, counted from the far end
   mirrored-boundaries : (boundary : ℕ → ℕ) (top : ℕ) → AreBoundaries asks n ds boundary → boundary n ≤ top → AreBoundaries (λ d. asks (mirror n d)) n (map (mirror n) ds) (λ i. top - boundary (n - i))
   mirrored-boundaries boundary top are le = record {
     rise = λ i l.

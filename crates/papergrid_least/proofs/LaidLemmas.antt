@@ -1,4 +1,4 @@
--- Edges that are laid in order.
+-- Boundaries that are laid in order.
 use Rattle.std.proofs.Common.{◌≡◌, ◌≢◌, ℕ, zero, suc, ◌+◌, ◌-◌, ◌<◌, ◌≤◌, ◌∙◌, max, inl, inr, List, length, get_or, set, ap, arith, add-zero}
 use Rattle.std.specs.Prelude.{All}
 use Rattle.std.specs.List.Sorted.{IsNonDecreasingBy}
@@ -16,7 +16,7 @@ rise_by base a b boundary steps i (suc k) from le =
     let e : (i + k) + 1 ≡ i + suc k = omega arith in
     rw (← e) (omega arith)
 
--- no edge is past a later one
+-- no boundary is past a later one
 pub steps-rise : (base : List ℕ) (a b : ℕ) (boundary : ℕ → ℕ) → AreSteps base a b boundary → (i j : ℕ) → a ≤ i → i ≤ j → j ≤ b → boundary i ≤ boundary j
 steps-rise base a b boundary steps i j from le within =
     let e : i + (j - i) ≡ j = omega arith in
@@ -24,7 +24,7 @@ steps-rise base a b boundary steps i j from le within =
     let up : boundary i ≤ boundary (i + (j - i)) = rise_by base a b boundary steps i (j - i) from (omega arith) in
     omega arith
 
--- edges that are laid on from number a stay below any others
+-- boundaries that are laid on from number a stay below any others
 pub below-more : (base : List ℕ) (n : ℕ) (boundary f : ℕ → ℕ) (a b : ℕ) → AreSteps base 0 n boundary → b ≤ n → ((i : ℕ) → i ≤ a → f i ≤ boundary i) →
     ((i : ℕ) → a ≤ i → i < b → f (i + 1) ≡ f i + get_or base i 0) → (i : ℕ) → i ≤ b → f i ≤ boundary i
 below-more base n boundary f a b steps within below laid zero le = below 0 (omega arith)
@@ -38,7 +38,7 @@ below-more base n boundary f a b steps within below laid (suc i) le = elim (case
       rw (← e) (omega arith)
 ]
 
--- one more cell, whose range ends at e: edges f up to a, laid on up to e as m, and there moved as far as the cell needs as g
+-- one more cell, whose range ends at e: boundaries f up to a, laid on up to e as m, and there moved as far as the cell needs as g
 module _ (base : List ℕ) (n : ℕ) (cells : List Demand) (table : All (IsInTable n) cells) (k : ℕ) (d : Demand) (listed : k < length cells) (f m g : ℕ → ℕ) (a : ℕ)
     (ordered : a ≤ end_of (get_or cells k d)) (before : (i : ℕ) → i ≤ a → m i ≡ f i) (laid : (i : ℕ) → a ≤ i → i < end_of (get_or cells k d) → m (i + 1) ≡ m i + get_or base i 0)
     (there : g (end_of (get_or cells k d)) ≡ max (m (end_of (get_or cells k d))) (m (get_or cells k d).start + (get_or cells k d).minimum))
@@ -112,7 +112,7 @@ module _ (base : List ℕ) (n : ℕ) (cells : List Demand) (table : All (IsInTab
 abbrev pub no_cell : Demand
 no_cell = record { row = 0; col = 0; start = 0; span = 0; minimum = 0 }
 
--- edges laid up to number a, by the first k cells, all of which end there or before; the later ones end there or after
+-- boundaries laid up to number a, by the first k cells, all of which end there or before; the later ones end there or after
 pub record LaidTo (base : List ℕ) (cells : List Demand) (k a : ℕ) (boundaries : List ℕ) : Type 0 where
   pub one_more : length boundaries ≡ length base + 1
   pub within : a ≤ length base
@@ -121,11 +121,11 @@ pub record LaidTo (base : List ℕ) (cells : List Demand) (k a : ℕ) (boundarie
   pub later : (j : ℕ) (d : Demand) → k ≤ j → j < length cells → a ≤ end_of (get_or cells j d)
   pub below : (boundary : ℕ → ℕ) → AreLaid base cells boundary → (i : ℕ) → i ≤ a → get_or boundaries i 0 ≤ boundary i
 
--- one step of the loop: edges laid on up to the end of the next cell, as `mid`
+-- one step of the loop: boundaries laid on up to the end of the next cell, as `mid`
 module _ (base : List ℕ) (cells : List Demand) (table : All (IsInTable (length base)) cells) (sorted : IsNonDecreasingBy end_of cells) (k a : ℕ) (boundaries mid : List ℕ) (listed : k < length cells)
     (laid_to : LaidTo base cells k a boundaries) (same : length mid ≡ length boundaries) (before : (i : ℕ) → i ≤ a → get_or mid i 0 ≡ get_or boundaries i 0)
     (laid : (i : ℕ) → a ≤ i → i < end_of (get_or cells k no_cell) → get_or mid (i + 1) 0 ≡ get_or mid i 0 + get_or base i 0) where
-  -- where the next cell needs more than fits, the last edge does not fit
+  -- where the next cell needs more than fits, the last boundary does not fit
   pub past-cell : 18446744073709551616 ≤ get_or mid (get_or cells k no_cell).start 0 + (get_or cells k no_cell).minimum → (boundary : ℕ → ℕ) → AreLaid base cells boundary → 18446744073709551616 ≤ boundary (length base)
   past-cell large boundary are =
       let within : end_of (get_or cells k no_cell) ≤ length base = (table k no_cell listed).ends_within in
@@ -168,7 +168,7 @@ module _ (base : List ℕ) (cells : List Demand) (table : All (IsInTable (length
       below = λ boundary are. below-cell base (length base) cells table k no_cell listed (λ i. get_or boundaries i 0) (λ i. get_or mid i 0) (λ i. get_or moved i 0) a ordered before laid there elsewhere boundary are.steps are.apart (laid_to.below boundary are);
     }
 
--- after the last cell: edges laid on up to the end, as `whole`
+-- after the last cell: boundaries laid on up to the end, as `whole`
 module _ (base : List ℕ) (cells : List Demand) (k a : ℕ) (boundaries whole : List ℕ) (all : length cells ≤ k) (laid_to : LaidTo base cells k a boundaries)
     (before : (i : ℕ) → i ≤ a → get_or whole i 0 ≡ get_or boundaries i 0) (laid : (i : ℕ) → a ≤ i → i < length base → get_or whole (i + 1) 0 ≡ get_or whole i 0 + get_or base i 0) where
   pub below-whole : (boundary : ℕ → ℕ) → AreLaid base cells boundary → (i : ℕ) → i ≤ length base → get_or whole i 0 ≤ boundary i

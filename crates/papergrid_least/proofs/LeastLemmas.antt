@@ -25,7 +25,7 @@ use Rattle.papergrid_least.proofs.HighestLemmas.{AreBoundaries-highest_position,
 use Rattle.papergrid_least.proofs.PathBackLemmas.{path_back-is}
 
 module _ (line : ℕ → Bool) (n : ℕ) (demands : List Demand) (sizes : List ℕ) (table : All (IsInTable n) demands) where
-  -- the edges of the sizes, moved to the latest where they are past it
+  -- the boundaries of the sizes, moved to the highest positions where they are past them
   abbrev lower : ℕ → ℕ
   lower i = min (boundaries_of sizes i) (highest_position (net_minimum line) n demands i)
 
@@ -46,7 +46,7 @@ module _ (line : ℕ → Bool) (n : ℕ) (demands : List Demand) (sizes : List �
             omega arith;
       }
 
-  -- their total is the least, so the longest way certifies them
+  -- their total is the least, so the critical path certifies them
   pub IsCertificate-least_sizes : Fits (problem_of_demands line n demands) sizes → IsCertificate (problem_of_demands line n demands) (least_sizes (problem_of_demands line n demands) sizes) (critical_path (problem_of_demands line n demands))
   IsCertificate-least_sizes fits =
       let are : AreBoundaries (net_minimum line) n demands lower = AreBoundaries-lower fits in
@@ -81,7 +81,7 @@ module _ (line : ℕ → Bool) (n : ℕ) (demands : List Demand) (sizes : List �
           let d : lower k ≡ boundaries_of sizes k = lower-is k (omega arith) in
           omega arith
 
--- sizes with the same edges are the same
+-- sizes with the same boundaries are the same
 same_boundaries : (n : ℕ) (xs ys : List ℕ) → length xs ≡ n → length ys ≡ n → ((i : ℕ) → i ≤ n → boundaries_of xs i ≡ boundaries_of ys i) → xs ≡ ys
 same_boundaries n xs ys many as_many same = same_number_lists xs ys (many ∙ sym as_many) at
   where
@@ -199,7 +199,7 @@ module _ (problem : Problem) (table : All (IsInTable problem.count) problem.dema
       let c : sum (least_of problem) ≡ least_total problem = total-least_of in
       omega arith
 
-  -- ---- the answers, where no cell reaches out
+  -- ---- the answers, where no cell overflows the table
 
   module _ (inside : first_out problem.count problem.demands ≡ None) where
     pub AreLeastSizes-least_of : total_of problem (least_of problem) < 18446744073709551616 → AreLeastSizes problem (least_of problem)

@@ -1,4 +1,4 @@
--- The earliest edges are edges, and no edges are below them.
+-- The lowest positions are boundaries, and no boundaries are below them.
 use Rattle.std.proofs.Common.{◌≡◌, ℕ, take, sum, zero, suc, ◌+◌, ◌≤◌, max, Bool, true, ◌==◌, inl, inr, List, [], ◌∷◌, get_or, map, ◌-◌, refl, sym, ap, ◌∙◌, arith, add-suc, add-zero, le-leb, eqb-true, eq-eqb}
 use Rattle.std.specs.Prelude.{All, filter}
 use Rattle.std.specs.List.{AllByRecursion}
@@ -37,7 +37,7 @@ greatest_by-below f test (d ∷ ds) m each = elim (cases_Bool (test d)) [
   | inr f' ↦ rw f' (greatest_by-below f test ds m each.1)
 ]
 
--- each cell whose range ends at i pushes its edge, and nothing else does
+-- each cell whose range ends at i bounds its boundary from below, and nothing else does
 pub pushed-above : (asks : Demand → ℕ) (ds : List Demand) (boundary : ℕ → ℕ) (i : ℕ) →
     All (λ d. end_of d ≡ i → boundary d.start + asks d ≤ pushed_lower_bound asks ds boundary i) ds
 pushed-above asks ds boundary i k d l e =

@@ -1,4 +1,4 @@
--- The cells of the longest way are those of the one way back from the end.
+-- The cells of the critical path are those of the one path back from the end.
 use Rattle.std.proofs.Common.{◌≡◌, ◌∙◌, ◌≢◌, ℕ, zero, suc, ◌+◌, ◌-◌, ◌<◌, ◌≤◌, inl, inr, List, [], ◌∷◌, refl, sym, ap, subst, arith, eq-eqb, ne_eqb, Option, Some, None}
 use Rattle.std.specs.Prelude.{◌↔◌, All, reverse}
 use Rattle.std.proofs.lemmas.Bool.{cases_eq}
@@ -19,7 +19,7 @@ module _ (problem : Problem) (table : All (IsInTable problem.count) problem.dema
   abbrev found_at : ℕ → Option Demand
   found_at i = tight_cell (net_minimum problem.line) problem.demands i
 
-  -- the cell that is found at an edge ends there, and starts before
+  -- the cell that is found at a boundary ends there, and starts before
   ends-there : (i : ℕ) (d : Demand) → found_at (suc i) ≡ Some d → end_of d ≡ suc i
   ends-there i d e = (tight_cell-is_tight (net_minimum problem.line) problem.demands problem.count table i d e).ends
 

@@ -1,4 +1,4 @@
--- The longest way, from the earliest edges.
+-- The critical path, from the lowest positions of the boundaries.
 use Rattle.std.proofs.Common.{◌≡◌, ℕ, Bool, ◌&&◌, ◌==◌, ◌+◌, ◌-◌, ◌<◌, ◌≤◌, ◌∙◌, true, false, inl, inr, List, [], ◌∷◌, ◌++◌, length, get_or, map, refl, sym, ap, subst, arith, eq-eqb, ne_eqb, Option, Some, None}
 use Rattle.std.specs.Prelude.{All, Contains, find, not, reverse, unwrap_or}
 use Rattle.std.proofs.lemmas.Bool.{and_parts, cases_eq, cases_lt}
@@ -24,7 +24,7 @@ use Rattle.papergrid_least.proofs.LowestLemmas.{AreBoundaries-lowest_position}
 use Rattle.papergrid_least.proofs.PermutedLemmas.{table-wider}
 use Rattle.papergrid_least.proofs.TightLemmas.{followed-is}
 
--- the first cell of greatest need that covers i alone starts there, and a cell that needs nothing not later
+-- the first cell of greatest minimum size that covers i alone starts there, and a cell of minimum size 0 not later
 starts-first_greatest : (i : ℕ) (ds : List Demand) → (first_greatest i ds).start ≤ i
 unfolding first_greatest
 starts-first_greatest i ds = elim (cases_eq (base_size ds i) 0) [
@@ -53,7 +53,7 @@ none_some : (d : Demand) → None ≡ Some d → ⊥
 none_some d e = cc
 
 module _ (problem : Problem) (kept : Demands) (is : AreGathered problem.count kept problem.demands) (small : kept.is_large ≡ false) (lines : List Bool) (boundaries : List ℕ) (are : AreLowestPositions problem lines boundaries) where
-  -- the lines as they were read, and the earliest edges
+  -- the lines as they were read, and the lowest positions of the boundaries
   abbrev drawn : ℕ → Bool
   drawn = line_at lines
 

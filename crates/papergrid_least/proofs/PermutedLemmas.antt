@@ -1,4 +1,4 @@
--- The order of the cells does not matter to edges.
+-- The order of the cells does not matter to boundaries.
 use Rattle.std.proofs.Common.{ℕ, ◌+◌, ◌<◌, ◌≤◌, List, get_or, arith}
 use Rattle.std.specs.Prelude.{All, map}
 use Rattle.std.proofs.lemmas.List.Elements.{All-map}

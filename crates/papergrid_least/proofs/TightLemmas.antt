@@ -1,4 +1,4 @@
--- What is met going back by what is kept are the cells of the longest way.
+-- What is met going back by what is kept are the cells of the critical path.
 use Rattle.std.proofs.Common.{◌≡◌, ◌≢◌, ℕ, zero, suc, ◌+◌, ◌-◌, ◌<◌, ◌≤◌, ◌∙◌, Bool, true, false, ◌&&◌, ◌==◌, not, inl, inr, List, [], ◌∷◌, length, get_or, refl, sym, ap, ap₂, arith, eqb, eq-eqb, eqb-true, lt-ltb, ltb-true, ne_eqb, Option, Some, None}
 use Rattle.std.specs.Prelude.{All, Contains, filter, find, nat_lt}
 use Rattle.std.proofs.lemmas.Bool.{and_from, and_parts, cases_Bool, cases_eq, true≢false}
@@ -57,7 +57,7 @@ module _ (line drawn : ℕ → Bool) (n limit : ℕ) (demands : List Demand) (ag
   abbrev top : ℕ → ℕ
   top = lowest_position (net_minimum line) demands
 
-  -- what the cells need that cover number j alone fits between its edges
+  -- what the cells need that cover number j alone fits between its boundaries
   base-fits : (j : ℕ) → j < n → top j + base_size demands j ≤ top (suc j)
   base-fits j l =
       let laid : AreLaid (base_sizes n demands) (longer_asking line drawn n limit demands agree table below (base_sizes n demands) refl (length-base_sizes n demands)) top =
@@ -68,7 +68,7 @@ module _ (line drawn : ℕ → Bool) (n limit : ℕ) (demands : List Demand) (ag
       let e' : top (j + 1) ≡ top (suc j) = ap top (let q : j + 1 ≡ suc j = omega arith in q) in
       omega arith
 
-  -- a cell that covers j alone and pushes the next edge needs what lies between the two
+  -- a cell that covers j alone and is tight at the next boundary needs what lies between the two
   alone : (j : ℕ) (d : Demand) → d.span ≡ 1 → is_tight (net_minimum line) demands (suc j) d ≡ true → (d.start ≡ j) × (top j + d.minimum ≡ top (suc j))
   alone j d one pushed =
       let parts : (eqb (end_of d) (suc j) ≡ true) × (eqb (top d.start + net_minimum line d) (top (suc j)) ≡ true) = and_parts (eqb (end_of d) (suc j)) (eqb (top d.start + net_minimum line d) (top (suc j))) pushed in
@@ -183,7 +183,7 @@ module _ (line drawn : ℕ → Bool) (n limit : ℕ) (demands : List Demand) (ag
           let e : suc j - 1 ≡ j = omega arith in
           rw (e, ne_eqb (top (suc j)) (top j) ne) refl
 
-      -- of each kind what is kept is the first that pushes the edge
+      -- of each kind what is kept is the first that is tight at the boundary
       single-kept : (j : ℕ) → j < n → top j < top (suc j) → with_minimum (boundary (suc j) - boundary (suc j - 1)) (single_span (suc j - 1)) ≡ single_tight_cell (net_minimum line) demands (suc j)
       single-kept j l past =
           let e : suc j - 1 ≡ j = omega arith in

@@ -20,7 +20,7 @@ module _ (problem : Problem) where
     pub least : IsLeast problem sizes
     pub bound : EachIndex sizes (λ i. slice_index sizes i ≤ top_minimum problem.demands i)
 
-  -- the places of the cells of the one way back from the end, which certify any least sizes; and these fit
+  -- the places of the cells of the critical path, which certify any least sizes; and these fit
   pub record AreCriticalPath (places : List Position) : Type 0 where
     pub table : All (IsInTable problem.count) problem.demands
     pub none_out : first_out problem.count problem.demands ≡ None
@@ -30,7 +30,7 @@ module _ (problem : Problem) where
     pub total : (sizes : List ℕ) → IsLeast problem sizes → total_of problem sizes < 2 ^ 64
     pub certificate : (sizes : List ℕ) → IsLeast problem sizes → IsCertificate problem sizes cells
 
-  -- no cell reaches out, and the least sizes are too large, as every list that fits is
+  -- no cell overflows the table, and the least sizes are too large, as every list that fits is
   pub record NoneFits : Type 0 where
     pub none_out : first_out problem.count problem.demands ≡ None
     pub too_large : IsTooLarge problem (least_of problem)

@@ -6,11 +6,11 @@ use Rattle.papergrid_axis.specs.Ranges.{end_of}
 use Rattle.papergrid_least.specs.TrackBoundaries.{net_minimum}
 use Rattle.papergrid_least.specs.LowestPositions.{lowest_position}
 
--- whether the cell pushes the earliest edge at i to where it is
+-- whether the cell is tight at the boundary at i
 abbrev pub is_tight : (Demand → ℕ) → List Demand → ℕ → Demand → Bool
 is_tight asks demands i d = end_of d == i && (lowest_position asks demands d.start + asks d == lowest_position asks demands i)
 
--- the cell that is taken to push the edge at i: the first that does
+-- the cell that is taken as the tight one at the boundary at i: the first that is
 abbrev pub tight_cell : (Demand → ℕ) → List Demand → ℕ → Option Demand
 tight_cell asks demands i = find (is_tight asks demands i) demands
 
@@ -19,7 +19,7 @@ module _ (problem : Problem) where
   abbrev pub lowest : ℕ → ℕ
   lowest i = lowest_position (net_minimum problem.line) problem.demands i
 
-  -- the cell is the first that pushes the boundary at its end to where it is, past the one before
+  -- the cell is the first that is tight at the boundary at its end, which is past the one before
   pub record IsFirstTight (d : Demand) : Type 0 where
     pub past : lowest (end_of d - 1) < lowest (end_of d)
     pub first : tight_cell (net_minimum problem.line) problem.demands (end_of d) ≡ Some d
@@ -36,14 +36,14 @@ abbrev pub with_earlier : Option Demand → (ℕ → List Demand) → List Deman
 with_earlier None earlier = []
 with_earlier (Some d) earlier = d ∷ earlier d.start
 
--- going back from the edge at i: over what no cell pushed to the one before, and from a cell that did to where its range
--- starts
+-- going back from the boundary at i: over a boundary without a tight cell to the one before, and from a tight cell to
+-- where its range starts
 abbrev pub tight_cells : (Demand → ℕ) → List Demand → ℕ → ℕ → List Demand
 tight_cells asks demands zero i = []
 tight_cells asks demands (suc steps) i =
     if lowest_position asks demands i == lowest_position asks demands (i - 1) then tight_cells asks demands steps (i - 1)
     else with_earlier (tight_cell asks demands i) (tight_cells asks demands steps)
 
--- the cells of the way back from the end, as a law says, by the starts of their ranges
+-- the cells of the critical path, as a law says, by the starts of their ranges
 abbrev pub critical_path : Problem → List Demand
 critical_path problem = reverse (tight_cells (net_minimum problem.line) problem.demands problem.count problem.count)

@@ -1,4 +1,4 @@
--- The latest edges, and the sizes of the least total.
+-- The highest positions of the boundaries, and the sizes of the least total.
 use Rattle.std.specs.Prelude.{ℕ, ◌-◌, ◌≤◌, min, List, map}
 use Rattle.papergrid_axis.specs.declared.demand.Demand.{Demand}
 use Rattle.papergrid_axis.specs.Problem.{Problem}
@@ -23,15 +23,15 @@ pub record AreFurthestRight (problem : Problem) (sizes : List ℕ) : Type 0 wher
 abbrev pub mirror : ℕ → Demand → Demand
 mirror n d = record d { start = n - end_of d }
 
--- the earliest edges, counted from the far end
+-- the lowest positions of the boundaries, counted from the far end
 abbrev pub lowest_position_back : (Demand → ℕ) → ℕ → List Demand → ℕ → ℕ
 lowest_position_back asks n demands i = lowest_position (λ d. asks (mirror n d)) (map (mirror n) demands) i
 
--- the latest edge at i, where the last is at the least total
+-- the highest position of the boundary at i, where the last is at the least total
 abbrev pub highest_position : (Demand → ℕ) → ℕ → List Demand → ℕ → ℕ
 highest_position asks n demands i = lowest_position asks demands n - lowest_position_back asks n demands (n - i)
 
--- these sizes with each edge that is past the latest moved there
+-- these sizes with each boundary that is past its highest position moved there
 abbrev pub least_sizes : Problem → List ℕ → List ℕ
 least_sizes problem sizes =
     sizes_between problem.count (λ i. min (boundaries_of sizes i) (highest_position (net_minimum problem.line) problem.count problem.demands i))

@@ -14,7 +14,7 @@ left_cell minimum = record { row = 0; col = 0; start = 0; span = 2; minimum = mi
 abbrev pub right_cell : ℕ → Demand
 right_cell minimum = record { row = 1; col = 1; start = 1; span = 2; minimum = minimum }
 
--- the two of the same need
+-- the two of the same minimum size
 abbrev pub crossing_cells : ℕ → Problem
 crossing_cells minimum = problem_of_demands (λ i. false) 3 (left_cell minimum ∷ right_cell minimum ∷ [])
 

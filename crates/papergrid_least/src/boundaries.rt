@@ -1,5 +1,5 @@
-//! The earliest and the latest edges, by what each column (row) needs alone, and by the cells of
-//! longer ranges in the order in which these end or start.
+//! The lowest and the highest positions of the boundaries, by the minimum size of each track
+//! alone, and by the cells of longer ranges in the order in which these end or start.
 
 ghost use Rattle.std.specs.Prelude.{All, IfNone, IfSome, length, slice_index, ℕ, ◌+◌, ◌<◌, ◌^◌, ◌≡◌, ◌≤◌};
 ghost use Rattle.std.specs.List.Sorted.{IsNonDecreasingBy};
@@ -8,8 +8,8 @@ ghost use Rattle.papergrid_least.specs.ForProofs.Laid.{AreLaid, AreLaterFirst, A
 
 use papergrid_axis::Demand;
 
-/// Lays the edges after number `from` up to `to`, each past the one before by what the number
-/// between needs alone; none where one does not fit.
+/// Lays the boundaries after number `from` up to `to`, each past the one before by the
+/// minimum size of the track between alone; none where one does not fit.
 fn lay(boundaries: &mut [usize], base: &[usize], from: usize, to: usize) -> Option<()>
     requires one_more { length boundaries.old ≡ length base.now + 1 }
     requires ordered { from ≤ to }
@@ -28,7 +28,7 @@ fn lay(boundaries: &mut [usize], base: &[usize], from: usize, to: usize) -> Opti
     Some(())
 }
 
-/// Lays the earliest edges; none where the last does not fit.
+/// Lays the lowest positions of the boundaries; none where the last does not fit.
 pub fn lay_lowest(boundaries: &mut [usize], base: &[usize], cells: &[Demand]) -> Option<()>
     requires one_more { length boundaries.old ≡ length base.now + 1 }
     requires first { slice_index boundaries.old 0 ≡ 0 }
@@ -52,8 +52,8 @@ pub fn lay_lowest(boundaries: &mut [usize], base: &[usize], cells: &[Demand]) ->
     Some(())
 }
 
-/// Lays the edges before number `to` down to `from`, each before the next by what the number between
-/// needs alone.
+/// Lays the boundaries before number `to` down to `from`, each before the next by the minimum size
+/// of the track between alone.
 fn lay_back(boundaries: &mut [usize], base: &[usize], from: usize, to: usize)
     requires one_more { length boundaries.old ≡ length base.now + 1 }
     requires ordered { from ≤ to }
@@ -71,7 +71,7 @@ fn lay_back(boundaries: &mut [usize], base: &[usize], from: usize, to: usize)
     }
 }
 
-/// Lays the latest edges before the last, which stands.
+/// Lays the highest positions of the boundaries before the last, which stands.
 pub fn lay_highest(boundaries: &mut [usize], base: &[usize], cells: &[Demand])
     requires one_more { length boundaries.old ≡ length base.now + 1 }
     requires table { All (IsInTable (length base.now)) cells.now }

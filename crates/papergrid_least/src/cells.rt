@@ -1,4 +1,4 @@
-//! The cells of longer ranges with what they ask, in the orders in which edges are laid.
+//! The cells of longer ranges with what they ask, in the orders in which boundaries are laid.
 
 ghost use Rattle.std.specs.Prelude.{All, IfOk, OnOk, length, map, ◌<◌, ◌^◌, ◌≡◌};
 ghost use Rattle.std.specs.List.Sorted.{IsNonDecreasingBy, IsPermutation};
@@ -11,7 +11,7 @@ use crate::lines::Lines;
 use papergrid_axis::Demand;
 use std::alloc::{AllocError, Global};
 
-/// The cell with what it asks in place of its need.
+/// The cell with what it asks in place of its minimum size.
 pub fn asking(lines: &Lines, demand: Demand) -> Demand
     requires { IsInTable (length lines.now) demand }
     ensures { result ≡ with_net_minimum (net_minimum (line_at lines.now)) demand }
@@ -20,7 +20,7 @@ pub fn asking(lines: &Lines, demand: Demand) -> Demand
     Demand { minimum, ..demand }
 }
 
-/// The cells with what they ask in place of their needs.
+/// The cells with what they ask in place of their minimum sizes.
 pub fn all_asking(
     alloc: Global,
     lines: &Lines,

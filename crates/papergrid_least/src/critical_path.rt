@@ -14,7 +14,7 @@ use papergrid_axis::demands::single_at;
 use papergrid_values::Position;
 use std::alloc::{AllocError, Global};
 
-/// Whether a cell pushes the edge where its range ends to where it is.
+/// Whether a cell is tight at the boundary where its range ends.
 fn is_tight(lowest_position: &[usize], lines: &Lines, cell: Demand) -> bool
     requires table { IsInTable (length lines.now) cell }
     requires ends { end_of cell < length lowest_position.now }
@@ -27,7 +27,7 @@ fn is_tight(lowest_position: &[usize], lines: &Lines, cell: Demand) -> bool
         == lowest_position[cell.start + cell.span]
 }
 
-/// Writes for each edge the first cell that pushes it to where it is.
+/// Writes for each boundary the first tight cell.
 pub fn mark_tight_cells(
     tight_cells: &mut [Option<Demand>],
     lowest_position: &[usize],
@@ -44,7 +44,7 @@ pub fn mark_tight_cells(
     ensures first { EachIndex tight_cells.new (λ i. slice_index_or tight_cells.new i None ≡
         find (is_tight_by (net_minimum (line_at lines.now)) (slice_index lowest_position.now) i) cells.now) }
 {
-    // The last cells first, so that the first that pushes an edge is the one that stays.
+    // The last cells first, so that the first tight one is the one that stays.
     for passed in 0..cells.len() {
         let cell = cells[cells.len() - 1 - passed];
         if is_tight(lowest_position, lines, cell) {
@@ -82,7 +82,7 @@ fn earlier_cell(cell: Option<Demand>, other: Option<Demand>) -> Option<Demand>
     }
 }
 
-/// The places of the cells that are met going back from the last edge.
+/// The places of the cells that are met going back from the last boundary.
 pub fn follow(
     alloc: Global,
     lowest_position: &[usize],

@@ -14,7 +14,7 @@ ghost use Rattle.papergrid_least.specs.CriticalPath.{IsPathBack, critical_path};
 
 pub use crate::worked::crossing_worked;
 
-/// Sizes fit exactly where their sums are edges.
+/// Sizes fit exactly where their sums are boundaries.
 pub fn fits_by_boundaries()
     ensures fits { (problem : Problem) (sizes : List ℕ) →
         All (IsInTable problem.count) problem.demands → length sizes ≡ problem.count →
@@ -26,14 +26,15 @@ pub fn fits_by_boundaries()
         Fits problem (sizes_between problem.count boundary) }
 {}
 
-/// Of two choices of edges, the lower at each place is one too.
+/// Of two choices of boundaries, the lower at each place is one too.
 pub fn lower_boundaries()
     ensures { (asks : Demand → ℕ) (n : ℕ) (demands : List Demand) (a b : ℕ → ℕ) →
         AreBoundaries asks n demands a → AreBoundaries asks n demands b →
         AreBoundaries asks n demands (λ i. min (a i) (b i)) }
 {}
 
-/// The earliest edges are edges, and no edges are below them; so they end at the least total.
+/// The lowest positions are boundaries, and no boundaries are below them; so they end at the
+/// least total.
 pub fn lowest_boundaries()
     ensures boundaries { (asks : Demand → ℕ) (n : ℕ) (demands : List Demand) →
         All (IsInTable n) demands → AreBoundaries asks n demands (lowest_position asks demands) }
@@ -48,7 +49,8 @@ pub fn lowest_boundaries()
         IsLeast problem (sizes_between problem.count boundary) }
 {}
 
-/// The latest edges are edges from 0 to the least total, and no edges that end there are past them.
+/// The highest positions are boundaries from 0 to the least total, and no boundaries that end there
+/// are past them.
 pub fn highest_boundaries()
     ensures boundaries { (asks : Demand → ℕ) (n : ℕ) (demands : List Demand) →
         All (IsInTable n) demands → AreBoundaries asks n demands (highest_position asks n demands) }
@@ -110,7 +112,7 @@ pub fn least_total_decides()
         ((other : List ℕ) → Fits problem other → IsTooLarge problem other) }
 {}
 
-/// The cells that certify the least total are those of the one way back from the end.
+/// The cells that certify the least total are those of the critical path.
 pub fn one_critical_path()
     ensures { (problem : Problem) (cells : List Demand) →
         All (IsInTable problem.count) problem.demands →

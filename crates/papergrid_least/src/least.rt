@@ -1,4 +1,4 @@
-//! The least sizes of the columns (rows) of a table, and the cells that certify them.
+//! The least sizes of the tracks of a table, and the cells that certify them.
 
 ghost use Rattle.std.specs.Prelude.{IfOk, None, false, map, true, ◌≡◌};
 ghost use Rattle.papergrid_axis.specs.ForProofs.Demands.{AreGathered};
@@ -17,7 +17,7 @@ use papergrid_axis::{Demands, LayoutResult, Solved, Solver};
 use papergrid_values::Position;
 use std::alloc::{AllocError, Global};
 
-/// The places of the cells of the longest way, by the starts of their ranges.
+/// The places of the cells of the critical path, by the starts of their ranges.
 fn critical_path_places(
     alloc: Global,
     kept: &Demands,

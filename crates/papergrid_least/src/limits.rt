@@ -1,4 +1,4 @@
-//! The edges between which those of least sizes lie.
+//! The boundaries between which those of least sizes lie.
 
 ghost use Rattle.std.specs.Prelude.{All, IfErr, IfOk, length, map, slice_index, ℕ, ◌+◌, ◌<◌, ◌^◌, ◌≡◌, ◌≤◌};
 ghost use Rattle.std.specs.List.Sorted.{IsNonDecreasingBy};
@@ -15,7 +15,7 @@ use crate::lines::Lines;
 use papergrid_axis::{Demand, LayoutError, LayoutResult};
 use std::alloc::{AllocError, Global};
 
-/// The earliest and the latest edges, and their total with all lines.
+/// The lowest and the highest positions of the boundaries, and their total with all lines.
 #[derive(Drop)]
 pub struct Limits {
     pub lowest_position: Vec<usize>,
@@ -34,7 +34,8 @@ fn zeros_and(alloc: Global, count: usize, last: usize) -> Result<Vec<usize>, All
     Ok(boundaries)
 }
 
-/// The earliest edges, by what each number needs alone and by the cells of longer ranges.
+/// The lowest positions of the boundaries, by the minimum size of each track alone and by
+/// the cells of longer ranges.
 fn lowest_of(alloc: Global, base: &[usize], cells: &[Demand]) -> LayoutResult<Vec<usize>>
     requires table { All (IsInTable (length base.now)) cells.now }
     requires sorted { IsNonDecreasingBy end_of cells.now }
@@ -49,7 +50,7 @@ fn lowest_of(alloc: Global, base: &[usize], cells: &[Demand]) -> LayoutResult<Ve
     }
 }
 
-/// The latest edges, where the last is at the total.
+/// The highest positions of the boundaries, where the last is at the total.
 fn highest_of(
     alloc: Global,
     base: &[usize],
@@ -67,7 +68,7 @@ fn highest_of(
     Ok(boundaries)
 }
 
-/// The earliest and the latest edges, where the last, with all lines, fits.
+/// The lowest and the highest positions of the boundaries, where the last, with all lines, fits.
 pub fn limits_of(
     alloc: Global,
     lines: &Lines,

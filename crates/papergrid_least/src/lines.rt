@@ -48,7 +48,7 @@ fn counts_of(alloc: Global, drawn: &[bool]) -> Result<Vec<usize>, AllocError>
 }
 
 impl Lines {
-    /// The lines of the axis, of `count` columns (rows).
+    /// The lines of the axis, of `count` tracks.
     pub fn of<A: Axis>(alloc: Global, axis: &A, count: usize) -> Result<Lines, AllocError>
         ensures length { IfOk result (λ lines. length lines ≡ count + 1) }
         ensures drawn { IfOk result (λ lines. (i : ℕ) → i ≤ count →

@@ -1,9 +1,9 @@
-//! Moves edges that are past the latest.
+//! Moves boundaries that are past their highest positions.
 
 ghost use Rattle.std.specs.Prelude.{◌≡◌, ℕ, ◌+◌, ◌<◌, ◌≤◌, min, length, slice_index};
 ghost use Rattle.papergrid_least.specs.TrackBoundaries.{boundaries_of, sizes_between};
 
-/// Moves each edge of the sizes that is past the latest there.
+/// Moves each boundary of the sizes that is past its highest position there.
 pub fn lower_boundaries(sizes: &mut [usize], highest_position: &[usize])
     requires one_more { length highest_position.now ≡ length sizes.old + 1 }
     requires rise { (i : ℕ) → i < length sizes.old →

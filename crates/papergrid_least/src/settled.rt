@@ -1,4 +1,4 @@
-//! The least sizes, from what each number needs alone and the cells of longer ranges.
+//! The least sizes, from the minimum size of each track alone and the cells of longer ranges.
 
 ghost use Rattle.std.specs.Prelude.{All, IfErr, IfOk, fold, length, map, min, slice_index, ℕ, ◌+◌, ◌^◌, ◌≡◌, ◌≤◌};
 ghost use Rattle.papergrid_axis.specs.ForProofs.Settled.{line_at};
@@ -17,8 +17,8 @@ use papergrid_axis::settled::by_span;
 use papergrid_axis::{Demand, LayoutResult};
 use std::alloc::Global;
 
-/// Makes of what each number needs alone the sizes by shares, and of these the least ones; gives the
-/// edges between which theirs lie.
+/// Makes of the minimum size of each track alone the sizes by shares, and of these the least ones;
+/// gives the boundaries between which theirs lie.
 pub fn make_least(
     alloc: Global,
     lines: &Lines,

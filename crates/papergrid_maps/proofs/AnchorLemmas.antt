@@ -72,7 +72,7 @@ rising-entries others (e ∷ es) sorted = (after es sorted.0, rising-entries oth
     after [] all = tt
     after (d ∷ ds) all = (all.0, after ds all.1)
 
--- ---- the anchors at the positions that are held
+-- ---- the anchors at the positions that are stored
 
 module _ (at : Position → Anchor) where
   pub at-append : (H K : Position → Type 0) (xs ys : List Anchor) → AreAt at H xs → AreAt at K ys → AreAt at (λ p. H p ⊎ K p) (xs ++ ys)
@@ -130,7 +130,7 @@ contains-got xs k x is =
     let within = slice_get_within xs k x is in
     (k, within, same_Some _ x (sym (slice_get-get_or xs k x within) ∙ is))
 
--- the anchors at all positions where a span is held
+-- the anchors at all positions where a span is stored
 module _ (columns rows : FinMap position_cmp ℕ) (anchors : List Anchor)
     (are : AreAt (anchor_at (get columns) (get rows)) (λ p. IsSome (get columns p) ⊎ IsSome (get rows p)) anchors) where
   made-at : (k : ℕ) (a : Anchor) → slice_get anchors k ≡ Some a → a ≡ anchor_at (get columns) (get rows) a.position
@@ -182,7 +182,7 @@ module _ (d : Direction) (m : BTreeMap Position ℕ) (ordered : tree.IsOrdered p
   abbrev at : Position → Anchor
   at = anchor_along d (get own) (get others)
 
-  -- what is held at the position of an entry
+  -- what is stored at the position of an entry
   stored_there : (e : Position × ℕ) → tree.get position_cmp m e.0 ≡ Some e.1 → get own (key_of d e.0) ≡ Some e.1
   stored_there e is = stored_at d m.entries (key_of d e.0) ∙ ap (tree.get position_cmp m) (key_key d e.0) ∙ is
 
@@ -227,7 +227,7 @@ module _ (columns rows : DirectedSpans) (by_columns : columns.direction ≡ Colu
       AreAt (anchor_at (get columns.spans) (get rows.spans)) (λ p. IsSome (get columns.spans p)) xs
   column_anchors xs are = subst (λ d. AreAt (anchor_along d (get columns.spans) (get rows.spans)) (λ p. IsSome (get columns.spans p)) xs) by_columns are
 
-  -- where no row span is held
+  -- where no row span is stored
   pub alone-at : (xs : List Anchor) → AreAt (anchor_along columns.direction (get columns.spans) (get rows.spans)) (λ p. IsSome (get columns.spans p)) xs →
       (HasSpan rows.spans → ⊥) → AreAt (anchor_at (get columns.spans) (get rows.spans)) IsStored xs
   alone-at xs are none =

@@ -46,7 +46,7 @@ none_beside index others both none nothing p =
     ap (lookup (is_at (position_cmp p))) nothing ∙ sym (no_other index.direction (get index.spans p))
     ∙ ap (extent_stored index.direction (get index.spans p)) (sym (ap (λ m. get m p) none ∙ get-empty position_cmp p))
 
--- where the other span is held and both are not, the own one is not
+-- where the other span is stored and both are not, the own one is not
 pub not_stored : (d : Direction) (own : Option ℕ) (other : ℕ) → ◌≡◌ {A = Option Extent} None (extent_stored d own (Some other)) → own ≡ None
 not_stored d None other h = refl
 not_stored d (Some n) other h = absurd (none_is_not_some h)
@@ -87,7 +87,7 @@ module _ (d : Direction) (own own' others : Position → Option ℕ) (both both'
       ] refl)
       (stored pos ∙ ap (extent_stored d (own pos)) alone ∙ no_other d (own pos) ∙ sym (no_other d (Some span)) ∙ ap (extent_stored d (Some span)) (sym alone))
 
--- what is held anew and dropped again was not there
+-- what is stored anew and dropped again was not there
 pub stored_and_dropped : (spans : FinMap position_cmp ℕ) (pos : Position) (n : ℕ) → get spans pos ≡ None → remove (insert spans pos n) pos ≡ spans
 stored_and_dropped spans pos n none = same_map position_total exact_positions _ _ (λ q.
     get-remove position_total (insert spans pos n) pos q ∙ ap (cond (eq_by_cmp position_cmp q pos) None) (get-insert position_total spans pos n q)
@@ -98,7 +98,7 @@ stored_and_dropped spans pos n none = same_map position_total exact_positions _ 
 
 -- ---- what the rectangles reach
 
--- both spans are held where the rectangle is
+-- both spans are stored where the rectangle is
 parts : (own other : Option ℕ) (e : Extent) → extent_stored Columns own other ≡ Some e → (own ≡ Some e.columns) × (other ≡ Some e.rows)
 parts None other e h = absurd (none_is_not_some h)
 parts (Some n) None e h = absurd (none_is_not_some h)

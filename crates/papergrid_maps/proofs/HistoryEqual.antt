@@ -1,4 +1,4 @@
--- Maps and spans that are told by the same calls are equal.
+-- Maps and spans with the same history of calls are equal.
 use Rattle.std.proofs.Common.{◌≡◌, ◌∙◌, sym, ap, Bool, true, List}
 use Rattle.std.specs.Prelude.{nat_eq}
 use Rattle.std.specs.Cmp.{nat_cmp_total, nat_eq_equiv}

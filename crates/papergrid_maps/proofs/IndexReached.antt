@@ -15,7 +15,7 @@ use Rattle.papergrid_maps.specs.ForProofs.SpanIndex.{IsKeyReached, IsReached, st
 use Rattle.papergrid_maps.proofs.IndexKeys.{stored_at, key_key}
 use Rattle.papergrid_maps.proofs.IndexRanges.{any_between, in_line, of_line}
 
--- a span that reaches further than its anchor is held
+-- a span that reaches further than its anchor is stored
 pub stored_above_one : (o : Option ℕ) (a b : ℕ) → a < b → b < a + unwrap_or o 1 → (n : ℕ) × (o ≡ Some n)
 stored_above_one None a b h k = absurd (omega arith)
 stored_above_one (Some n) a b h k = (n, refl)

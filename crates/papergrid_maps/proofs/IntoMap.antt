@@ -74,7 +74,7 @@ module _ {T : Type 0} where
         or_none None = refl
         or_none (Some v) = refl
 
-  -- what columns, rows and cells have, added in turn, and the global value over it, is what is held
+  -- what columns, rows and cells have, added in turn, and the global value over it, is what is stored
   pub gathered : (g : T) {cs rs : List (ℕ × T)} {ks : List (Position × T)} {none first second third : Entity → Option T}
       → IsDistinct eqb (keys_of cs) → IsDistinct eqb (keys_of rs) → IsDistinct position_eq (keys_of ks) → ((q : Entity) → none q ≡ None)
       → Adds (λ c. Column c) cs none first → Adds (λ r. Row r) rs first second → Adds cell_of ks second third

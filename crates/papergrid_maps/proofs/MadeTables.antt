@@ -1,4 +1,4 @@
--- The spans that calls make are told by them, and no others are.
+-- The spans that calls make have them as their history, and no others do.
 use Rattle.std.proofs.Common.{◌≡◌, Bool, true, false, cond, ◌&&◌, List, [], ◌∷◌, refl, sym, ap, ◌∙◌, leb}
 use Rattle.std.specs.Prelude.{◌||◌, flat_map, reverse, is_some}
 use Rattle.std.specs.List.{list_any}

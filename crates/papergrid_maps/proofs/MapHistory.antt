@@ -60,7 +60,7 @@ module _ {T : Type 0} where
   newest : (calls : List (MapCall T)) (call : MapCall T) → reverse (calls ++ call ∷ []) ≡ call ∷ reverse calls
   newest calls call = reverse-append calls (call ∷ [])
 
-  -- a map that a call changes part by part is told by the calls so far and then that one
+  -- a map that a call changes part by part has the calls so far and then that one as its history
   pub history_step : (old new : Stored T) (call : MapCall T) → IsStep old new call → AppendsCalls old new (call ∷ [])
   history_step old new call step given calls told =
       let after = next given (reverse calls) call in

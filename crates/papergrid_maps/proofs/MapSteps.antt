@@ -1,4 +1,4 @@
--- Each change of the three maps, as a step of what is held.
+-- Each change of the three maps, as a step of what is stored.
 use Rattle.std.proofs.Common.{◌≡◌, ℕ, Bool, true, false, cond, ◌&&◌, List, [], ◌∷◌, map, eqb, Some, None, refl, sym, ap, ◌∙◌}
 use Rattle.std.specs.Prelude.{◌||◌, not, filter}
 use Rattle.std.specs.List.{list_any}

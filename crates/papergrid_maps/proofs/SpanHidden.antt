@@ -10,7 +10,7 @@ use Rattle.papergrid_keys.specs.Keys.{position_cmp}
 use Rattle.papergrid_maps.specs.Spans.{Spans, span_along, IsCoveredByColumn, IsCoveredByRow, IsVisible}
 use Rattle.papergrid_maps.specs.ForProofs.SpanIndex.{AreFromTwo}
 
--- a span that is held is at least 1, and where none is held it is 1
+-- a span that is stored is at least 1, and where none is stored it is 1
 at_least_one : (spans : FinMap position_cmp ℕ) → AreFromTwo spans → (p : Position) (o : Option ℕ) → get spans p ≡ o → 1 ≤ unwrap_or o 1
 at_least_one spans big p None e = omega arith
 at_least_one spans big p (Some n) e = omega (arith, big p n e)

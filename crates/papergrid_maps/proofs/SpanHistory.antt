@@ -38,13 +38,13 @@ history_step : (old new : Spans) (call : SpanCall)
 history_step old new call step calls told d p =
     step d p (reverse calls) (told d p) ∙ ap (λ xs. from_two (span_from d p xs)) (sym (newest calls call))
 
--- the span of a position is held where it is 2 or more, whichever it is
+-- the span of a position is stored where it is 2 or more, whichever it is
 either : (b : Bool) (m n : ℕ) → cond b (from_two m) (from_two n) ≡ from_two (cond b m n)
 either true m n = refl
 either false m n = refl
 
 module _ (q : Position) (n : ℕ) (old new : FinMap position_cmp ℕ) (changed : (p : Position) → get new p ≡ span_set q n p (get old p)) where
-  -- no span below 2 comes to be held
+  -- no span below 2 comes to be stored
   pub kept_from_two : AreFromTwo old → AreFromTwo new
   kept_from_two big p m is = by_test (leb 1 n && position_eq q p) m (sym (changed p) ∙ is)
     where

@@ -54,7 +54,7 @@ any_prepend : {A : Type 0} (test : A → Bool) (xs ys : List A) → list_any tes
 any_prepend test [] ys h = h
 any_prepend test (x ∷ xs) ys h = or_right (test x) _ (any_prepend test xs ys h)
 
--- a position whose span is held is among the keys
+-- a position whose span is stored is among the keys
 among : (spans : FinMap position_cmp ℕ) (anchor : Position) (test : Position → Bool) → is_some (get spans anchor) ≡ true → test anchor ≡ true → list_any test (keys spans) ≡ true
 among spans anchor test stored passes =
     let place = any_place _ (keys spans) (sym (contains_key-keys spans anchor) ∙ stored) in

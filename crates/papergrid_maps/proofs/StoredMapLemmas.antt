@@ -31,7 +31,7 @@ module _ {T : Type 0} where
     cells = λ p. get_at_position [] p;
   }
 
--- nothing is held where the three maps are empty
+-- nothing is stored where the three maps are empty
 pub nothing_stored : {T : Type 0} (g : T) (cs rs : List (ℕ × T)) (ks : List (Position × T)) (a b c : Bool)
     → (IsTrue a ↔ (length cs ≡ 0)) → (IsTrue b ↔ (length rs ≡ 0)) → (IsTrue c ↔ (length ks ≡ 0)) → IsTrue (a && (b && c)) ↔ HasNothing (view_of g cs rs ks)
 nothing_stored g cs rs ks a b c columns rows cells = (
@@ -56,6 +56,6 @@ unwrap_or_set d e = ap (λ o. unwrap_or o d) e
 pub unwrap_or_unset : {T : Type 0} {v : T} {o : Option T} {d : T} → None ≡ o → v ≡ d → v ≡ unwrap_or o d
 unwrap_or_unset {d = d} e is = is ∙ ap (λ o. unwrap_or o d) e
 
--- what is held is what the calls decide
+-- what is stored is what the calls decide
 pub stored_effective : {T : Type 0} (given : T) (calls : List (MapCall T)) (stored : Stored T) → HasMapHistory given calls stored → (p : Position) → stored_value stored p ≡ effective_value given calls p
 stored_effective given calls stored told p = λ i. unwrap_or (told.cells p i) (unwrap_or (told.columns p.col i) (unwrap_or (told.rows p.row i) (told.global i)))

@@ -1,4 +1,4 @@
--- What is held, as a hashed map and as a list of cells.
+-- What is stored, as a hashed map and as a list of cells.
 use Rattle.std.specs.Prelude.{◌≡◌, Bool, List, Option, is_some}
 use Rattle.std.specs.HashMap.{HashMap, get}
 use Rattle.std.specs.Set.{is_member}

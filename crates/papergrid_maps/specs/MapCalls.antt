@@ -8,7 +8,7 @@ use Rattle.papergrid_maps.specs.declared.entity_map.MapCall.{MapCall}
 use Rattle.papergrid_maps.specs.declared.entity_map.MapCall.TheVariants.{Insert, Remove}
 
 module _ {T : Type 0} where
-  -- a call that may ask for memory: an insert for anything but the whole table
+  -- a call that may allocate: an insert for anything but the whole table
   abbrev pub may_grow : MapCall T → Bool
   may_grow (Insert Global v) = false
   may_grow (Insert entity v) = true
@@ -30,8 +30,8 @@ module _ {T : Type 0} where
   global_value given (Insert Global v ∷ older) = v
   global_value given (call ∷ older) = global_value given older
 
-  -- the last pin that counts: an insert of the cell, or one of its row (column) while its column (row) has a value,
-  -- since the last call of Global and the last remove of the cell, its row or its column
+  -- the last override that counts: an insert of the cell, or one of its row (column) while its column (row) has a
+  -- value, since the last call of Global and the last remove of the cell, its row or its column
   abbrev pub cell_override_value : ℕ → ℕ → List (MapCall T) → Option T
   cell_override_value r c [] = None
   cell_override_value r c (Insert Global v ∷ older) = None
@@ -43,7 +43,7 @@ module _ {T : Type 0} where
   cell_override_value r c (Remove (Row i) ∷ older) = if i == r then None else cell_override_value r c older
   cell_override_value r c (Remove (Column j) ∷ older) = if j == c then None else cell_override_value r c older
 
-  -- the value that the calls decide at a position, where the map was made with the value given
+  -- the effective value of the calls at a position, where the map was made with the value given
   abbrev pub effective_value : T → List (MapCall T) → Position → T
   effective_value given calls p =
       let newest_first = reverse calls in

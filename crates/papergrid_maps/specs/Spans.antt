@@ -1,4 +1,4 @@
--- Spans: what the calls decide, what is held, and what a rectangle hides.
+-- Spans: what the calls decide, what is stored, and what a rectangle hides.
 use Rattle.std.specs.Prelude.{◌≡◌, ℕ, ◌+◌, ◌<◌, ◌≤◌, ◌≢◌, ◌&&◌, not, nat_lt, nat_le, Bool, true, false, if◌then◌else◌, List, [], ◌∷◌, ◌++◌, reverse, Option, Some, None, IsSome, unwrap_or}
 use Rattle.std.specs.List.{list_any}
 use Rattle.std.specs.FinMap.{FinMap, get, keys}
@@ -28,21 +28,21 @@ span_from d p (RemoveSpans e ∷ older) = if is_same_direction e d then 1 else s
 span_from d p (SetSpan e q n ∷ older) =
     if is_same_direction e d && (nat_le 1 n && position_eq q p) then n else span_from d p older
 
--- the span that calls decide for a position, the oldest first
+-- the effective span of calls for a position, the oldest first
 abbrev pub effective_span : Direction → Position → List SpanCall → ℕ
 effective_span d p calls = span_from d p (reverse calls)
 
--- the spans held, by column and by row
+-- the spans stored, by column and by row
 pub record Spans : Type 0 where
   pub columns : FinMap position_cmp ℕ
   pub rows : FinMap position_cmp ℕ
 
--- the spans held along a direction
+-- the spans stored along a direction
 abbrev pub spans_along : Direction → Spans → FinMap position_cmp ℕ
 spans_along Columns spans = spans.columns
 spans_along Rows spans = spans.rows
 
--- a span is held where it is 2 or more
+-- a span is stored where it is 2 or more
 abbrev pub from_two : ℕ → Option ℕ
 from_two n = if nat_le 2 n then Some n else None
 
@@ -50,20 +50,20 @@ from_two n = if nat_le 2 n then Some n else None
 abbrev pub HasSpanHistory : List SpanCall → Spans → Type 0
 HasSpanHistory calls spans = (d : Direction) (p : Position) → get (spans_along d spans) p ≡ from_two (effective_span d p calls)
 
--- a span of the direction is held
+-- a span of the direction is stored
 abbrev pub HasSpan : FinMap position_cmp ℕ → Type 0
 HasSpan spans = (p : Position) × IsSome (get spans p)
 
--- each span of the direction that is held ends within so many columns (rows)
+-- each span of the direction that is stored ends within so many tracks
 abbrev pub EndWithin : Direction → FinMap position_cmp ℕ → ℕ → Type 0
 EndWithin direction spans count =
     (p : Position) (n : ℕ) → get spans p ≡ Some n → along direction p + n ≤ count
 
--- the span of a position, 1 where none is held
+-- the span of a position, 1 where none is stored
 abbrev pub span_at : FinMap position_cmp ℕ → Position → ℕ
 span_at spans p = unwrap_or (get spans p) 1
 
--- how many columns (rows) the cell at a position spans
+-- how many tracks the cell at a position spans
 abbrev pub span_along : Spans → Direction → Position → ℕ
 span_along spans d p = span_at (spans_along d spans) p
 
@@ -108,7 +108,7 @@ module _ (span : Direction → Position → ℕ) where
   is_hidden_by anchors p =
       list_any (λ anchor. not (position_eq anchor p) && is_in_rectangle anchor p) anchors
 
--- whether the position is visible: only where a span is held can another position hide it
+-- whether the position is visible: only where a span is stored can another position hide it
 abbrev pub is_visible : Spans → Position → Bool
 is_visible spans p =
     not (is_hidden_by (span_along spans) (keys spans.columns ++ keys spans.rows) p)

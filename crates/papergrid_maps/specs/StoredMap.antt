@@ -28,7 +28,7 @@ stored_code {T} c =
     (λ _. refl)
 
 module _ {T : Type 0} where
-  -- the value held for a position: the cell's, or else the column's, the row's or the global one
+  -- the value stored for a position: the cell's, or else the column's, the row's or the global one
   abbrev pub stored_value : Stored T → Position → T
   stored_value stored p =
       unwrap_or (get stored.cells p)
@@ -41,23 +41,23 @@ module _ {T : Type 0} where
     pub rows : (r : ℕ) → get stored.rows r ≡ standing_value (Row r) (reverse calls)
     pub cells : (p : Position) → get stored.cells p ≡ cell_override_value p.row p.col (reverse calls)
 
-  -- told by any calls, the map is told by these and then the further ones
+  -- whatever the history of the map, it becomes this and then the further calls
   abbrev pub AppendsCalls : Stored T → Stored T → List (MapCall T) → Type 0
   AppendsCalls old new further = (given : T) → told.AppendsHistory (HasMapHistory given) old new further
 
-  -- no value is held for a column, a row or a cell
+  -- no value is stored for a column, a row or a cell
   pub record HasNothing (stored : Stored T) : Type 0 where
     pub columns : (c : ℕ) → get stored.columns c ≡ None
     pub rows : (r : ℕ) → get stored.rows r ≡ None
     pub cells : (p : Position) → get stored.cells p ≡ None
 
-  -- the value held for an entity
+  -- the value stored for an entity
   abbrev pub held_for : Stored T → Entity → Option T
   held_for stored Global = Some stored.global
   held_for stored (Column c) = get stored.columns c
   held_for stored (Row r) = get stored.rows r
   held_for stored (Cell r c) = get stored.cells (record { row = r; col = c })
 
-  -- the value is held for some entity
+  -- the value is stored for some entity
   abbrev pub HoldsValue : Stored T → T → Type 0
   HoldsValue stored v = (entity : Entity) × (held_for stored entity ≡ Some v)

@@ -30,8 +30,8 @@ impl Anchor {
     }
 }
 
-/// An anchor for each position that has a span, by row and then by column; a span that is not held
-/// is 1. Those of column spans alone stand in order as they come.
+/// An anchor for each position that has a span, by row and then by column; a span that is not
+/// stored is 1. Those of column spans alone stand in order as they come.
 pub(crate) fn anchors_of(
     alloc: Global,
     columns: &SpanIndex,

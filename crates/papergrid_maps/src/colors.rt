@@ -88,7 +88,7 @@ impl<C: ANSIFmt> Colors for BTreeMap<Position, C> {
     }
 }
 
-// It is empty where the colour of the whole table is unset and nothing else is held.
+// It is empty where the colour of the whole table is unset and nothing else is stored.
 impl<C: ANSIFmt> Colors for EntityMap<Option<C>> {
     ghost use Rattle.papergrid_maps.specs.StoredColors.{IsBlank};
     ghost use Rattle.papergrid_maps.specs.ForProofs.BlankColors.{blank_value};

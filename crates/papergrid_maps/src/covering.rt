@@ -20,8 +20,8 @@ fn is_covered(anchor: Position, columns: usize, rows: usize, pos: Position) -> b
         && pos.col - anchor.col < columns
 }
 
-// Whether one of the positions lies in a rectangle. Those before it are passed over by halves, and
-// none after it is looked at.
+// Whether one of the positions lies in a rectangle. Those before it are passed over by binary
+// search, and none after it is looked at.
 pub(crate) fn covers_one(
     direction: Direction,
     anchor: Position,

@@ -31,7 +31,7 @@ pub enum MapCall<T> {
     Remove(Entity),
 }
 
-/// How many calls of a list were done before one was refused for memory.
+/// How many calls of a list were done before an allocation of one failed.
 #[derive(Clone, Copy, Debug, PartialEq, Eq, Error)]
 #[error("out of memory after {done} of the calls")]
 pub struct Stopped {
@@ -73,7 +73,7 @@ impl<T: Drop> Drop for EntityMap<T> {
 }
 
 impl<T> EntityMap<T> {
-    /// The map that holds the value for the whole table alone. It takes no memory.
+    /// The map that holds the value for the whole table alone. It does not allocate.
     pub fn new(alloc: Global, global: T) -> Self
         ensures { HasMapHistory global [] result }
     {
@@ -86,7 +86,7 @@ impl<T> EntityMap<T> {
         }
     }
 
-    /// Whether nothing is held for a column, a row or a cell.
+    /// Whether nothing is stored for a column, a row or a cell.
     pub fn is_empty(&self) -> bool
         ensures { IsTrue result ↔ HasNothing self.now }
     {
@@ -96,8 +96,8 @@ impl<T> EntityMap<T> {
         columns & (rows & cells)
     }
 
-    /// The value held for the cell, else for its column, else for its row, else for the whole
-    /// table: where calls tell the map, the one that they decide.
+    /// The value stored for the cell, else for its column, else for its row, else for the
+    /// whole table: where calls tell the map, the one that they decide.
     pub fn get(&self, pos: Position) -> &T
         ensures stored { result.now ≡ stored_value self.now pos }
         ensures effective { (given : T) (calls : List (MapCall T)) →
@@ -115,7 +115,7 @@ impl<T> EntityMap<T> {
         &self.global
     }
 
-    /// The value held for an entity itself: of a cell without those of its column and of its row.
+    /// The value stored for an entity itself: of a cell without those of its column and of its row.
     #[inline(always)]
     pub fn held_for(&self, entity: Entity) -> Option<&T>
         ensures { option_copied result ≡ held_for self.now entity }
@@ -136,8 +136,8 @@ impl<T> EntityMap<T> {
         keys_of_cells(self.alloc, &self.cells)
     }
 
-    /// Whether `f` is true of a value that is held, the one for the whole table among them.
-    /// Condition: `f` may be called on what is held.
+    /// Whether `f` is true of a value that is stored, the one for the whole table among
+    /// them. Condition: `f` may be called on what is stored.
     pub fn any_held<F: Fn(&T) -> bool>(&self, f: F) -> bool
     where
         F: Drop,
@@ -157,7 +157,7 @@ impl<T> EntityMap<T> {
         any_value(&self.cells, &f)
     }
 
-    /// What is held for each entity, or out of memory.
+    /// What is stored for each entity, or out of memory.
     pub fn into_map(self) -> Result<HashMap<Entity, T>, AllocError>
     where
         T: Drop,
@@ -185,7 +185,7 @@ impl<T> EntityMap<T> {
 }
 
 impl<T> AsRef<T> for EntityMap<T> {
-    /// The value held for the whole table.
+    /// The value stored for the whole table.
     fn as_ref(&self) -> &T
         ensures { result.now ≡ self.now.global }
     {
@@ -227,7 +227,7 @@ impl<T: PartialEq> PartialEq for EntityMap<T> {
 
 impl<T: Drop> EntityMap<T> {
     /// Takes back what was set: for the whole table all but its own value, for a column or a row
-    /// the values of its cells alone, and for a cell its value. It takes no memory.
+    /// the values of its cells alone, and for a cell its value. It does not allocate.
     pub fn remove(&mut self, entity: Entity)
         ensures { AppendsCalls self.old self.new (MapCall.Remove entity ∷ []) }
     {
@@ -247,8 +247,8 @@ impl<T: Drop> EntityMap<T> {
 impl<T: Clone> EntityMap<T> {
     /// Sets a value. One for the whole table drops all others, and is never refused. A column's is
     /// also written to its cells in the rows that have a value, and a row's to its cells in the
-    /// columns that have one. Where memory is refused the map is as it was. Condition: a clone of a
-    /// value equals it.
+    /// columns that have one. Where an allocation fails the map is as it was. Condition: a clone of
+    /// a value equals it.
     pub fn insert(&mut self, entity: Entity, value: T) -> Result<(), AllocError>
         requires equal_clones { (x y : T) → T.is_clone x y → y ≡ x }
         ensures ok { OnOk result (AppendsCalls self.old self.new (MapCall.Insert entity value ∷ [])) }
@@ -282,7 +282,7 @@ impl<T: Clone> EntityMap<T> {
         Ok(())
     }
 
-    /// Makes the calls in order, up to one that is refused for memory: then the map is that of the
+    /// Makes the calls in order, up to one whose allocation fails: then the map is that of the
     /// calls done before it. Inserts alone take memory, but for those for the whole table.
     /// Condition: a clone of a value equals it.
     pub fn apply_all(&mut self, calls: Vec<MapCall<T>>) -> Result<(), Stopped>

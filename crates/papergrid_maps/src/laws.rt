@@ -30,14 +30,14 @@ use papergrid_values::{ANSIStr, AlignmentHorizontal, Borders, Indent, Sides};
 use std::cmp::Ordering;
 use std::hash::Hash;
 
-/// A map that was made with a value and is told by the calls has at each position the value that
-/// they decide.
+/// A map that was made with a value and has the calls as its history has at each position the
+/// value that they decide.
 pub fn history_decides<T>()
     ensures { (given : T) (calls : List (MapCall T)) (stored : Stored T) → HasMapHistory given calls stored →
         (pos : Position) → stored_value stored pos ≡ effective_value given calls pos }
 {}
 
-/// The spans that calls make are told by them, and no others are.
+/// The spans that calls make have them as their history, and no others do.
 pub fn history_makes_spans()
     ensures told { (calls : List SpanCall) → spans.HasSpanHistory calls (spans_made calls) }
     ensures only { (calls : List SpanCall) (stored : Spans) →
@@ -55,7 +55,7 @@ pub fn spans_by_place()
 {}
 
 /// A position passes the computed test of visibility exactly where it lies in no other anchor's
-/// rectangle, whatever spans are held.
+/// rectangle, whatever spans are stored.
 pub fn visible_by_rectangles()
     ensures { (stored : Spans) (pos : Position) →
         IsTrue (is_visible stored pos) ↔ IsVisible (span_along stored) pos }
@@ -70,8 +70,8 @@ pub fn visible_where_not_hidden()
         (IsTrue (is_visible spans p) ↔ (IsHidden anchors p → ⊥)) }
 {}
 
-/// Two maps that were made with the same value and are told by the same calls are equal, and so
-/// are two tables of spans that are told by the same calls.
+/// Two maps that were made with the same value and have the same history of calls are equal,
+/// and so are two tables of spans with the same history of calls.
 pub fn equal_maps_by_history<T: Eq>()
     ensures maps { (given : T) (calls : List (MapCall T)) (m n : Stored T) →
         HasMapHistory given calls m → HasMapHistory given calls n →

@@ -47,7 +47,7 @@ impl Model for SpanIndex {
 }
 
 impl SpanIndex {
-    /// The index with no span. It takes no memory.
+    /// The index with no span. It does not allocate.
     pub(crate) fn new(alloc: Global, direction: Direction) -> SpanIndex
         ensures { result ≡ record { direction = direction; spans = map.empty } }
     {
@@ -64,14 +64,14 @@ impl SpanIndex {
         self.direction
     }
 
-    /// Whether a span is held.
+    /// Whether a span is stored.
     pub(crate) fn holds_any(&self) -> bool
         ensures { IsTrue result ↔ HasSpan self.now.spans }
     {
         !self.spans.is_empty()
     }
 
-    /// The span held at a position.
+    /// The span stored at a position.
     pub(crate) fn get(&self, pos: Position) -> Option<usize>
         ensures { result ≡ value_at self.now.spans pos }
     {
@@ -90,7 +90,7 @@ impl SpanIndex {
         Ok(())
     }
 
-    /// Drops the span held at a position.
+    /// Drops the span stored at a position.
     pub(crate) fn remove(&mut self, pos: Position)
         ensures { self.new ≡ record self.old { spans = map.remove self.old.spans pos } }
     {
@@ -127,7 +127,7 @@ impl SpanIndex {
         entries_cover(&self.spans, self.direction, others, rising, places)
     }
 
-    /// Whether each span ends within so many columns (rows).
+    /// Whether each span ends within so many tracks.
     pub(crate) fn ends_within(&self, count: usize) -> bool
         ensures { IsTrue result ↔ EndWithin self.now.direction self.now.spans count }
     {

@@ -69,7 +69,7 @@ impl Drop for SpanTable {
 }
 
 impl SpanTable {
-    /// The table with no span. It takes no memory.
+    /// The table with no span. It does not allocate.
     pub fn new(alloc: Global) -> Self
         ensures { HasSpanHistory [] result }
     {
@@ -81,8 +81,8 @@ impl SpanTable {
         }
     }
 
-    /// Sets the column span of a position: 0 does nothing and 1 removes the one that is held, so
-    /// that neither takes memory. Where memory is refused the table is as it was.
+    /// Sets the column span of a position: 0 does nothing and 1 removes the one that is stored,
+    /// so that neither takes memory. Where an allocation fails the table is as it was.
     pub fn set_column(&mut self, pos: Position, span: usize) -> Result<(), AllocError>
         ensures ok { OnOk result
             (AppendsHistory HasSpanHistory self.old self.new (SetSpan Columns pos span ∷ [])) }
@@ -104,7 +104,7 @@ impl SpanTable {
         set_span(&mut self.rows, &self.columns, &mut self.both, pos, span)
     }
 
-    /// The column span held at a position, of 2 or more.
+    /// The column span stored at a position, of 2 or more.
     pub fn get_column(&self, pos: Position) -> Option<usize>
         ensures stored { result ≡ value_at self.now.columns pos }
         ensures from_two { IfSome result (λ n. 2 ≤ n) }
@@ -112,7 +112,7 @@ impl SpanTable {
         self.columns.get(pos)
     }
 
-    /// The row span held at a position, of 2 or more.
+    /// The row span stored at a position, of 2 or more.
     pub fn get_row(&self, pos: Position) -> Option<usize>
         ensures stored { result ≡ value_at self.now.rows pos }
         ensures from_two { IfSome result (λ n. 2 ≤ n) }
@@ -138,28 +138,28 @@ impl SpanTable {
         self.both.clear();
     }
 
-    /// Whether a column span is held.
+    /// Whether a column span is stored.
     pub fn has_columns(&self) -> bool
         ensures { IsTrue result ↔ HasSpan self.now.columns }
     {
         self.columns.holds_any()
     }
 
-    /// Whether a row span is held.
+    /// Whether a row span is stored.
     pub fn has_rows(&self) -> bool
         ensures { IsTrue result ↔ HasSpan self.now.rows }
     {
         self.rows.holds_any()
     }
 
-    /// All column spans that are held, or out of memory.
+    /// All column spans that are stored, or out of memory.
     pub fn columns(&self) -> Result<HashMap<Position, usize>, AllocError>
         ensures { IfOk result (λ all. HasAtEach position_eq all (value_at self.now.columns)) }
     {
         self.columns.by_position(self.alloc)
     }
 
-    /// All row spans that are held, or out of memory.
+    /// All row spans that are stored, or out of memory.
     pub fn rows(&self) -> Result<HashMap<Position, usize>, AllocError>
         ensures { IfOk result (λ all. HasAtEach position_eq all (value_at self.now.rows)) }
     {
@@ -177,8 +177,8 @@ impl SpanTable {
         anchors_of(self.alloc, &self.columns, &self.rows)
     }
 
-    /// Whether each span of the direction that is held ends within so many columns (rows), wherever its
-    /// position stands in the other direction. It takes no memory.
+    /// Whether each span of the direction that is stored ends within so many tracks, wherever its
+    /// position stands in the other direction. It does not allocate.
     pub fn end_within(&self, direction: Direction, count: usize) -> bool
         ensures ends { IsTrue result ↔ EndWithin direction (spans_along direction self.now) count }
         ensures from_one { (p : Position) → 1 ≤ span_along self.now direction p }
@@ -295,7 +295,7 @@ fn set_span(
     }
 }
 
-// Holds a span of one direction. Where memory is refused, what was taken is given back.
+// Holds a span of one direction. Where an allocation fails, what was taken is given back.
 fn hold_span(
     index: &mut SpanIndex,
     others: &SpanIndex,
@@ -316,7 +316,7 @@ fn hold_span(
     match both.insert(pos, extent_of(index.direction(), span, other)) {
         Ok(_) => Ok(()),
         Err(_) => {
-            // Both were not held here, and so neither was this one.
+            // Both were not stored here, and so neither was this one.
             index.remove(pos);
             Err(AllocError)
         }

@@ -43,13 +43,13 @@ pub trait ConfigView {
         ensures sorted { IfOk result (λ anchors. IsSorted anchors.items) }
         ensures shows { IfOk result (λ anchors. AreAnchorsOf (grid self.now) anchors.items) };
 
-    /// How many columns (rows) the cell at a position spans.
+    /// How many tracks the cell at a position spans.
     fn span(&self, direction: Direction, pos: Position) -> usize
         ensures value { result ≡ (grid self.now).span direction pos }
         ensures positive { 1 ≤ result };
 
-    /// Whether it is known of each position before column (row) `count` that its span ends there or
-    /// before. It takes no memory.
+    /// Whether it is known of each position before track `count` that its span ends there or
+    /// before. It does not allocate.
     fn spans_end_within(&self, direction: Direction, count: usize) -> bool
         ensures { IsTrue result → StayWithin direction ((grid self.now).span direction) count };
 
@@ -79,7 +79,7 @@ pub trait ConfigView {
     fn common_paddings(&self) -> Option<Paddings>
         ensures { AreCommon (grid self.now) result };
 
-    /// Whether there is a line before column (row) `i` of so many, or, at their count, after the last.
+    /// Whether there is a line before track `i` of so many, or, at their count, after the last.
     fn has_line(&self, direction: Direction, count: usize, i: usize) -> bool
         ensures { result ≡ (grid self.now).draws direction count i };
 }

@@ -1,4 +1,4 @@
-//! Tests of refused memory, for each call that asks for some.
+//! Tests of failed allocations, for each call that allocates.
 #![tactic(auto)]
 
 #[cfg(test)]

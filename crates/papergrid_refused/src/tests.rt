@@ -1,7 +1,8 @@
-//! Calls that ask for memory. Where no request is refused, each test passes. Where one is refused to a call that
-//! a test is about, the test ends with `refused` and the number of the call, once what the call changes equals its
-//! clone of before. Where one is refused to what is made for a call, it ends with `AllocError`. `tests/refuse-each`
-//! refuses each request of each test, and sees that each call was refused something.
+//! Calls that allocate. Where no request is refused, each test passes. Where one is refused to a
+//! call that a test is about, the test ends with `refused` and the number of the call, once what
+//! the call changes equals its clone of before. Where one is refused to what is made for a call, it
+//! ends with `AllocError`. `tests/refuse-each` refuses each request of each test, and sees that
+//! each call was refused something.
 
 mod colors;
 mod configurations;
@@ -46,7 +47,8 @@ fn says<A: Drop>(call: CallNumber, answer: Result<A, AllocError>) -> Result<(), 
     }
 }
 
-/// The same of a call that leaves a value, which has to equal the one of before where memory was refused.
+/// The same of a call that leaves a value, which has to equal the one of before where an allocation
+/// failed.
 fn keeps<T: PartialEq + Drop, A: Drop>(
     rt: &impl Abort,
     call: CallNumber,

@@ -69,8 +69,9 @@ fn spaced(sides: Sides<usize>) -> Sides<Indent>
     )
 }
 
-/// The configuration that the settings tell. Errors: `AllocError` where memory is refused; settings that take
-/// none (borders, removals, paddings of the whole table, spans below 2) are never refused.
+/// The configuration that the settings tell. Errors: `AllocError` where an allocation fails;
+/// settings that do not allocate (borders, removals, paddings of the whole table, spans below 2)
+/// are never refused.
 // It is made where its caller keeps it: it is large, and is not moved.
 #[inline(always)]
 pub fn configuration_of(

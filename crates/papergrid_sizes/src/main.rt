@@ -139,7 +139,7 @@ fn unexpected(rt: &impl Eprint, word: &str) -> ExitCode {
     ExitCode::from(2)
 }
 
-/// Says why the arguments can't be read: one is no text, or memory was refused.
+/// Says why the arguments can't be read: one is no text, or an allocation failed.
 fn unread_words(rt: &impl Eprint, error: &io::Error) -> ExitCode {
     if error.kind() == ErrorKind::InvalidData {
         let _ = eprintln!(rt; "an argument is not UTF-8; {TAKES}");

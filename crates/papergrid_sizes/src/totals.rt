@@ -7,8 +7,9 @@ use papergrid::{Failed, Sink};
 /// What the lines that are dropped begin with.
 const DROPPED: [&[u8]; 3] = [b"widths", b"heights", b"witness"];
 
-/// A sink that takes all of the output, and passes on no line of single sizes or of witnesses. The others may go in
-/// several pieces, since no rest of `total ..`, of a refusal or of `bad script ..` begins like a line that is dropped.
+/// A sink that takes all of the output, and passes on no line of single sizes or of certificates.
+/// The others may go in several pieces, since no rest of `total ..`, of a refusal or of `bad script
+/// ..` begins like a line that is dropped.
 #[derive(Drop)]
 pub struct TotalsSink<W> {
     pub sink: W,

@@ -133,7 +133,7 @@ module _ {T : Type 0} where
     pub history_set_global : (v : T) → AppendsHistory HasBorderHistory (table_of g f hl vl he ve ks) (table_of (Some v) f hl vl he ve ks) (SetGlobal v ∷ [])
     history_set_global v = history_step _ _ (SetGlobal v) refl
 
-    -- edges and corners that answer alike are held alike
+    -- edges and corners that answer alike are stored alike
     pub same_table : (he' ve' ks' : List (Position × T))
         → ((p : Position) → lookup (position_eq p) he' ≡ lookup (position_eq p) he) → ((p : Position) → lookup (position_eq p) ve' ≡ lookup (position_eq p) ve)
         → ((p : Position) → lookup (position_eq p) ks' ≡ lookup (position_eq p) ks)

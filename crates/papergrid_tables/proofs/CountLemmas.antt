@@ -43,7 +43,7 @@ module _ {K X : Type 0} (test : K → Bool) where
         | false ↦ λ _. omega (arith, one_more e es, one_more e (remove_entry is_key es), removed is_key k exact es)
       ] refl
 
-  -- one less where the key was held
+  -- one less where the key was stored
   pub count_removed : (is_key : K → Bool) (k : K) → ((q : K) → is_key q ≡ true → q ≡ k) → (es fs : List (K × X)) (b : Bool) → IsPermutation (remove_entry is_key es) fs → b ≡ is_some (lookup is_key es)
       → count_by test (keys_of fs) + cond (b && test k) 1 0 ≡ count_by test (keys_of es)
   count_removed is_key k exact es fs b same is =

@@ -1,4 +1,4 @@
--- Tables that are told by the same calls are equal.
+-- Tables with the same history of calls are equal.
 use Rattle.std.proofs.Common.{◌≡◌, ◌∙◌, sym, ap, refl, Bool, true, List, [], ◌∷◌, Option, Some, None}
 use Rattle.std.specs.FinMap.{FinMap, get}
 use Rattle.std.specs.Option.{option_eq}

@@ -20,7 +20,7 @@ use Rattle.papergrid_tables.proofs.BorderFound.{either, has_end_is, some_value}
 use Rattle.papergrid_keys.proofs.KeyLemmas.{exact_position, position_ties, position_equiv}
 use Rattle.papergrid_keys.proofs.ResultLemmas.{same_answer}
 
--- some key that is held passes
+-- some key that is stored passes
 module _ {K X : Type 0} {R : K → K → Ordering} (exact : (x y : K) → eq_by_cmp R x y ≡ true → x ≡ y) (ties : (x : K) → eq_by_cmp R x x ≡ true) (m : FinMap R X) (test : K → Bool) where
   found_key : list_any test (keys m) ≡ true → (k : K) × IsSome (get m k) × (test k ≡ true)
   found_key h =

@@ -1,4 +1,4 @@
--- The border table that calls make is told by them, and no other is.
+-- The border table that calls make has them as its history, and no other does.
 use Rattle.std.proofs.Common.{◌≡◌, ℕ, Bool, true, false, cond, List, [], ◌∷◌, ◌++◌, Option, Some, None, refl, sym, ◌∙◌, eqb}
 use Rattle.std.specs.Prelude.{◌||◌, flat_map, reverse, is_some}
 use Rattle.std.specs.Cmp.{nat_cmp_total, unsigned_tied}

@@ -23,7 +23,7 @@ module _ {T : Type 0} where
   ends_at_row r count None = false
   ends_at_row r count (Some line) = has_end r count line.top line.bottom
 
-  -- something is held at a position on the line n of a direction
+  -- something is stored at a position on the line n of a direction
   abbrev pub stands_on : Direction → ℕ → FinMap position_cmp T → Bool
   stands_on direction n stored = list_any (λ p. along direction p == n) (keys stored)
 

@@ -1,4 +1,4 @@
--- Overrides at the offsets of positions: what the calls leave, what is held, and what is found.
+-- Overrides at the offsets of positions: what the calls leave, what is stored, and what is found.
 use Rattle.std.specs.Prelude.{◌≡◌, ℕ, ◌-◌, ◌==◌, ◌&&◌, nat_lt, Bool, true, false, if◌then◌else◌, List, [], ◌∷◌, reverse, Option, Some, None, IsSome, option_and_then}
 use Rattle.std.specs.FinMap.{FinMap, get}
 use Rattle.std.specs.Option.{option_eq, option_or}
@@ -44,7 +44,7 @@ module _ {T : Type 0} where
   at_offset stored (Start n) = get stored.from_start n
   at_offset stored (End n) = get stored.from_end n
 
-  -- what is held for a position at an offset
+  -- what is stored for a position at an offset
   abbrev pub override_at : FinMap position_cmp (StoredOffsets T) → Position → Offset → Option T
   override_at stored p o = option_and_then (λ offsets. at_offset offsets o) (get stored p)
 

@@ -148,8 +148,8 @@ pub(crate) fn in_frame_horizontal<T>(frame: &Borders<T>, row: usize, count: usiz
 }
 
 /// Whether one of the first lines, which are those across, ends at a place of so many with that end
-/// set, or there one of the second lines is held, or one of the counts, which are those of the edges
-/// and of the corners, is above 0.
+/// set, or there one of the second lines is stored, or one of the counts, which are those of the
+/// edges and of the corners, is above 0.
 pub(crate) fn is_set_at<A, L>(
     place: (usize, usize),
     lines: (&Lines<A>, &Lines<L>),

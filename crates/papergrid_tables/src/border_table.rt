@@ -23,7 +23,7 @@ use std::marker::Model;
 
 /// A value for all lines, a frame, horizontal lines by row, vertical lines by column, and the
 /// edges and corners of cells by position. Neighbouring cells share edges and corners. What is
-/// held on each line is counted, so that a line is found without a look at all of it.
+/// stored on each line is counted, so that a line is found without a look at all of it.
 #[derive(Debug, Drop)]
 pub struct BorderTable<T> {
     global: Option<T>,
@@ -61,7 +61,7 @@ impl<T> Model for BorderTable<T> {
 }
 
 impl<T> BorderTable<T> {
-    /// The table that holds nothing. It takes no memory.
+    /// The table that holds nothing. It does not allocate.
     pub fn new(alloc: Global) -> Self
         ensures told { HasBorderHistory [] result }
         ensures cleared { (calls : List (BorderCall T)) → HasBorderHistory (calls ++ Clear ∷ []) result }
@@ -78,7 +78,7 @@ impl<T> BorderTable<T> {
     }
 
     /// Whether there is no value for all lines, no part of the frame is set, and no edge, corner
-    /// or line is held. A line with no part set is one that is held.
+    /// or line is stored. A line with no part set is one that is stored.
     pub fn is_empty(&self) -> bool
         ensures { IsTrue result ↔ HasBorderHistory [] self.now }
     {
@@ -168,14 +168,14 @@ impl<T> BorderTable<T> {
         }
     }
 
-    /// The horizontal line held at a row.
+    /// The horizontal line stored at a row.
     pub fn get_horizontal_line(&self, row: usize) -> Option<&HorizontalLine<T>>
         ensures { option_copied result ≡ value_at self.now.horizontal_lines row }
     {
         self.horizontal_lines.values.get(&row)
     }
 
-    /// The vertical line held at a column.
+    /// The vertical line stored at a column.
     pub fn get_vertical_line(&self, col: usize) -> Option<&VerticalLine<T>>
         ensures { option_copied result ≡ value_at self.now.vertical_lines col }
     {
@@ -216,8 +216,8 @@ impl<T> BorderTable<T> {
         is_drawn || self.is_horizontal_set(row, count)
     }
 
-    /// Whether a vertical line, an edge or a corner is held at a column, where there are so many
-    /// columns, or a horizontal line that ends there has that end set.
+    /// Whether a vertical line, an edge or a corner is stored at a column, where there are so
+    /// many columns, or a horizontal line that ends there has that end set.
     pub fn is_vertical_set(&self, col: usize, count: usize) -> bool
         ensures { IsTrue result ↔ IsSet Columns (parts_of_borders self.now) col count }
     {
@@ -226,8 +226,8 @@ impl<T> BorderTable<T> {
         parts::is_set_at((col, count), lines, counts)
     }
 
-    /// Whether a horizontal line, an edge or a corner is held at a row, where there are so many
-    /// rows, or a vertical line that ends there has that end set.
+    /// Whether a horizontal line, an edge or a corner is stored at a row, where there are so
+    /// many rows, or a vertical line that ends there has that end set.
     pub fn is_horizontal_set(&self, row: usize, count: usize) -> bool
         ensures { IsTrue result ↔ IsSet Rows (parts_of_borders self.now) row count }
     {
@@ -238,8 +238,9 @@ impl<T> BorderTable<T> {
 }
 
 impl<T: Drop> BorderTable<T> {
-    /// Writes the parts of a cell's border that are set, and leaves the others. Where memory is
-    /// refused the table is as it was. Condition: the next row and column exist in `usize`.
+    /// Writes the parts of a cell's border that are set, and leaves the others. Where an
+    /// allocation fails the table is as it was. Condition: the next row and column exist in
+    /// `usize`.
     pub fn insert_border(&mut self, pos: Position, border: Border<T>) -> Result<(), AllocError>
         requires row { pos.row + 1 < 2 ^ 64 }
         requires col { pos.col + 1 < 2 ^ 64 }
@@ -276,8 +277,8 @@ impl<T: Drop> BorderTable<T> {
         );
     }
 
-    /// Sets the horizontal line at a row, in place of the one held. Where memory is refused the
-    /// table is as it was.
+    /// Sets the horizontal line at a row, in place of the one stored. Where an allocation fails
+    /// the table is as it was.
     pub fn insert_horizontal_line(
         &mut self,
         row: usize,
@@ -290,8 +291,8 @@ impl<T: Drop> BorderTable<T> {
         self.horizontal_lines.put(row, line)
     }
 
-    /// Sets the vertical line at a column, in place of the one held. Where memory is refused the
-    /// table is as it was.
+    /// Sets the vertical line at a column, in place of the one stored. Where an allocation fails
+    /// the table is as it was.
     pub fn insert_vertical_line(
         &mut self,
         col: usize,
@@ -334,8 +335,8 @@ impl<T: Drop> BorderTable<T> {
 }
 
 impl<T: Clone> BorderTable<T> {
-    /// All horizontal lines that are held, or out of memory. Condition: a clone of a value equals
-    /// it.
+    /// All horizontal lines that are stored, or out of memory. Condition: a clone of a value
+    /// equals it.
     pub fn get_horizontal_lines(&self) -> Result<HashMap<usize, HorizontalLine<T>>, AllocError>
         requires equal_clones { (x y : T) → T.is_clone x y → y ≡ x }
         ensures { IfOk result (λ all. (n : ℕ) →
@@ -344,8 +345,8 @@ impl<T: Clone> BorderTable<T> {
         self.horizontal_lines.all()
     }
 
-    /// All vertical lines that are held, or out of memory. Condition: a clone of a value equals
-    /// it.
+    /// All vertical lines that are stored, or out of memory. Condition: a clone of a value
+    /// equals it.
     pub fn get_vertical_lines(&self) -> Result<HashMap<usize, VerticalLine<T>>, AllocError>
         requires equal_clones { (x y : T) → T.is_clone x y → y ≡ x }
         ensures { IfOk result (λ all. (n : ℕ) →

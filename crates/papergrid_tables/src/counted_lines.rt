@@ -75,7 +75,7 @@ pub(crate) struct Lines<L> {
 }
 
 impl<L> Lines<L> {
-    /// No line. It takes no memory.
+    /// No line. It does not allocate.
     pub(crate) fn new(alloc: Global) -> Self
         ensures empty { result.values.entries ≡ [] }
         ensures counted { (has_first has_last : L → Bool) →
@@ -123,7 +123,7 @@ impl<L: Clone> Lines<L> {
 }
 
 impl<L: Ended + Drop> Lines<L> {
-    /// Writes a line, or leaves all as it was where memory is refused.
+    /// Writes a line, or leaves all as it was where an allocation fails.
     pub(crate) fn put(&mut self, number: usize, line: L) -> Result<(), AllocError>
         requires { AreEndsCounted L.has_first L.has_last self.old }
         ensures ok { OnOk result

@@ -31,7 +31,7 @@ pub(crate) struct Corners<T> {
 }
 
 impl<T> Edges<T> {
-    /// No edge. It takes no memory.
+    /// No edge. It does not allocate.
     pub(crate) fn new(alloc: Global) -> Self
         ensures empty { result.values.entries ≡ [] }
         ensures counted { (direction : Direction) → AreEdgesCounted direction result }
@@ -81,7 +81,7 @@ impl<T: Drop> Edges<T> {
 }
 
 impl<T> Corners<T> {
-    /// No corner. It takes no memory.
+    /// No corner. It does not allocate.
     pub(crate) fn new(alloc: Global) -> Self
         ensures empty { result.values.entries ≡ [] }
         ensures counted { AreCornersCounted result }

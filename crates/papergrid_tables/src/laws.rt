@@ -13,7 +13,7 @@ ghost use Rattle.papergrid_tables.specs.Overrides.{StoredOffsets, HoldTheSame, O
 
 use crate::{BorderTable, OffsetTable};
 
-/// The border table that calls make is told by them, and no other is.
+/// The border table that calls make has them as its history, and no other does.
 pub fn history_makes_borders<T>()
     ensures told { (calls : List (BorderCall T)) → borders.HasBorderHistory calls (borders_made calls) }
     ensures only { (calls : List (BorderCall T)) (stored : StoredBorders T) →
@@ -35,7 +35,7 @@ pub fn equal_overrides<T: PartialEq>()
         (⟦<OffsetTable<T> as PartialEq>⟧.eq s t ≡ true) ↔ HoldTheSame T.eq s t }
 {}
 
-/// Two tables that are told by the same calls are equal.
+/// Two tables with the same history of calls are equal.
 pub fn equal_tables_by_history<T: Eq>()
     ensures borders { (calls : List (BorderCall T)) (s t : StoredBorders T) →
         borders.HasBorderHistory calls s → borders.HasBorderHistory calls t →

@@ -15,7 +15,7 @@ pub(crate) struct LineCounts {
 }
 
 impl LineCounts {
-    /// None on any line. It takes no memory.
+    /// None on any line. It does not allocate.
     pub(crate) fn new(alloc: Global) -> Self
         ensures { (n : ℕ) → count_of result.counts n ≡ 0 }
     {

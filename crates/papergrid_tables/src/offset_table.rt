@@ -92,7 +92,7 @@ impl<T> Overrides<T> {
 }
 
 impl<T> OffsetTable<T> {
-    /// The table that holds nothing. It takes no memory.
+    /// The table that holds nothing. It does not allocate.
     pub fn new(alloc: Global) -> Self
         ensures { HasOverrideHistory [] result }
     {
@@ -103,8 +103,8 @@ impl<T> OffsetTable<T> {
     }
 
     /// The value of a position at an offset from the start, where the end stands so far from it:
-    /// the one held at this offset from the start, else the one held at the same place counted
-    /// from the end, 0 being the last place before it.
+    /// the one stored at this offset from the start, else the one stored at the same place
+    /// counted from the end, 0 being the last place before it.
     pub fn lookup(&self, pos: Position, offset: usize, end: usize) -> Option<&T>
         ensures { option_copied result ≡ found_override (override_at self.now pos) offset end }
     {
@@ -114,14 +114,14 @@ impl<T> OffsetTable<T> {
         }
     }
 
-    /// Whether a value is held for a position.
+    /// Whether a value is stored for a position.
     pub fn is_overridden(&self, pos: Position) -> bool
         ensures { IsTrue result ↔ IsOverridden self.now pos }
     {
         self.overrides.contains_key(&pos)
     }
 
-    /// Whether no value is held.
+    /// Whether no value is stored.
     pub fn is_empty(&self) -> bool
         ensures { IsTrue result ↔ HasOverrideHistory [] self.now }
     {
@@ -130,7 +130,7 @@ impl<T> OffsetTable<T> {
 }
 
 impl<T: Drop> OffsetTable<T> {
-    /// Sets the value of a position at an offset. Where memory is refused the table is as it was.
+    /// Sets the value of a position at an offset. Where an allocation fails the table is as it was.
     pub fn set(&mut self, pos: Position, offset: Offset, value: T) -> Result<(), AllocError>
         ensures ok { OnOk result (AppendsHistory HasOverrideHistory self.old self.new (SetAt pos offset value ∷ [])) }
         ensures err { OnErr result (self.new ≡ self.old) }

@@ -175,7 +175,7 @@ fn measure_first_line(text: &str, printable: usize) -> (usize, Option<&str>)
 /// The text with `n` spaces in place of each tab. Where `n` is not 4, a tab right after a backslash
 /// stays.
 ///
-/// A text without a tab comes back as it is, and takes no memory.
+/// A text without a tab comes back as it is, and does not allocate.
 pub fn replace_tab(alloc: Global, text: &str, n: usize) -> Result<CowStr<'_>, AllocError>
     ensures value { IfOk result (λ new. cow_str_bytes new ≡ tabs_replaced n text.now) }
     ensures takes_no_memory { count_by (λ b. b == 9) text.now ≡ 0 →

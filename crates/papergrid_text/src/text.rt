@@ -64,7 +64,7 @@ impl<S: AsStr> Text<S> {
     }
 
     /// Measures the text, and keeps where its lines are. Where there is one line it keeps none, and
-    /// takes no memory.
+    /// does not allocate.
     pub fn new(alloc: Global, text: S) -> Result<Text<S>, AllocError>
     where
         S: Drop,

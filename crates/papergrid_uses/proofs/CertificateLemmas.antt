@@ -13,7 +13,7 @@ use Rattle.papergrid_maps.specs.Grids.{Grid}
 use Rattle.papergrid_layout.specs.Certificates.{IsChecked}
 use Rattle.papergrid_uses.proofs.RowLemmas.{one_told}
 
--- chosen cells are accepted, and are chosen where ranges are kept apart
+-- cells of the certificate are accepted, and are chosen where ranges are nested or disjoint
 accepted_where : (problem : Problem) (sizes : List ℕ) (places : List Position) (answer : Bool)
     → AreSizes problem sizes → AreCertifying problem places → IsChecked problem sizes places answer → IsTrue answer ↔ IsLaminar problem.demands
 accepted_where problem sizes places answer are chosen checked = (

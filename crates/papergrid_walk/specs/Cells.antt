@@ -56,7 +56,7 @@ count_along Columns columns rows = columns
 count_along Rows columns rows = rows
 
 module _ {C : Type 0} (grid : Grid) (measure : C → ℕ × ℕ) where
-  -- what the sizes along a direction, of so many columns (rows), are found for
+  -- what the sizes along a direction, of so many tracks, are found for
   abbrev pub problem_with : Direction → ℕ → List (List C) → Problem
   problem_with direction count rows =
       record { count = count; line = grid.draws direction count; demands = demands_of direction grid measure rows }

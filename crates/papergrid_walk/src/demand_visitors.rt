@@ -27,8 +27,8 @@ use papergrid_values::{Direction, Position};
 use std::alloc::{AllocError, Global};
 use std::marker::PhantomData;
 
-/// Below which column (row) a cell that covers one alone is in the table for certain: rows are counted
-/// as they come, and none comes that is not one of the table.
+/// Below which track a cell that covers one alone is in the table for certain: rows are counted as
+/// they come, and none comes that is not one of the table.
 fn limit_of(direction: Direction, columns: usize) -> usize
     ensures { result ≡ limit_along direction columns }
 {

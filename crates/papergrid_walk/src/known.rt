@@ -36,7 +36,7 @@ const NO_PADDINGS: Paddings = Paddings {
 };
 
 impl KnownPaddings {
-    /// What is known before the first cell. Where all cells are alike it takes no memory.
+    /// What is known before the first cell. Where all cells are alike it does not allocate.
     pub fn new<S: ConfigView>(alloc: Global, settings: &S) -> Result<KnownPaddings, AllocError>
         ensures { IfOk result (λ known.
             Knows (S.grid settings.now) (S.set_for settings.now) known) }

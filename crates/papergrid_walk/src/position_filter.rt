@@ -17,7 +17,7 @@ pub struct PositionFilter {
 }
 
 impl PositionFilter {
-    /// The filter that these positions pass. For none it takes no memory, and nothing passes.
+    /// The filter that these positions pass. For none it does not allocate, and nothing passes.
     pub fn new(alloc: Global, positions: &[Position]) -> Result<PositionFilter, AllocError>
         ensures { IfOk result (λ filter. All (λ p. passes filter p ≡ true) positions.now) }
     {

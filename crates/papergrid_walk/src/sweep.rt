@@ -65,7 +65,8 @@ impl Sweep {
         self.columns
     }
 
-    /// Begins anew over a table of so many columns. Where memory is refused the walk is as it was.
+    /// Begins anew over a table of so many columns. Where an allocation fails the walk is as it
+    /// was.
     pub fn restart(&mut self, alloc: Global, columns: usize) -> Result<(), AllocError>
         ensures ok { OnOk result (self.new ≡
             record { anchors = self.old.anchors; columns = columns; passed = 0 }) }

@@ -21,7 +21,7 @@ pub trait Visitor<C> {
     // Holds of it before and after it took these cells, by row and then by column.
     ghost consumed: { Self → Self → List (Position × C) → Type 0 };
 
-    // Holds where a visit may be refused memory.
+    // Holds where a visit may fail to allocate.
     ghost may_fail: { Type 0 };
 
     /// Takes a cell.

@@ -9,7 +9,7 @@ use Rattle.papergrid_values.specs.Positions.{AreRising, StayWithin, along, count
 use Rattle.papergrid_axis.specs.Ranges.{AreDisjoint, demand_of, end_of, inner_lines, place_of}
 use Rattle.papergrid_axis.specs.Fits.{HasRoom}
 
--- a range with a need, wherever its cell stands
+-- a range with a minimum size, wherever its cell stands
 abbrev pub range_of : ℕ → ℕ → ℕ → Demand
 range_of start span minimum = record { row = 0; col = 0; start = start; span = span; minimum = minimum }
 
@@ -21,7 +21,7 @@ times_listed places d = count_of (place_of d) places
 abbrev pub all_listed : (Demand → ℕ) → List Position → List Demand → ℕ
 all_listed number places demands = sum_by (λ d. number d * times_listed places d) demands
 
--- the ranges at two places have no number in common
+-- the ranges at two places have no track in common
 abbrev pub AreDisjointAt : Direction → (Position → ℕ) → Position → Position → Type 0
 AreDisjointAt direction span_of p q = AreDisjoint (demand_of direction p (span_of p) 0) (demand_of direction q (span_of q) 0)
 
@@ -72,7 +72,7 @@ abbrev pub ChecksFor : (ℕ → Bool) → (Position → ℕ) → Candidate → C
 ChecksFor line span_of candidate checked demands =
     Checks line candidate.sizes.now candidate.places.now candidate.direction span_of checked demands
 
--- all cells have room, each place is a cell's, and the listed needs less their inner lines add up to the total
+-- all cells have room, each place is a cell's, and the listed minimum sizes less their inner lines add up to the total
 pub record SumsAgree (checked : Checked) (sizes : List ℕ) (places : List Position) : Type 0 where
   pub holds : checked.holds ≡ true
   pub found : checked.found ≡ length places

@@ -7,7 +7,7 @@ use Rattle.papergrid_values.specs.Positions.{IsBefore}
 use Rattle.papergrid_axis.specs.Ranges.{place_of}
 use Rattle.papergrid_axis.specs.Sizes.{base_size}
 
--- whether the need is past the greatest `usize`
+-- whether the minimum size is past the greatest `usize`
 abbrev pub is_large : Demand → Bool
 is_large d = nat_le (2 ^ 64) d.minimum
 
@@ -15,7 +15,7 @@ is_large d = nat_le (2 ^ 64) d.minimum
 abbrev pub without_minimum : Demand → Demand
 without_minimum d = record { row = d.row; col = d.col; start = d.start; span = d.span; minimum = 0 }
 
--- whether the cell covers one number alone, below the limit
+-- whether the cell covers one track alone, below the limit
 abbrev pub is_single : ℕ → Demand → Bool
 is_single limit d = d.span == 1 && nat_lt d.start limit
 
@@ -23,21 +23,21 @@ is_single limit d = d.span == 1 && nat_lt d.start limit
 abbrev pub rest_of : ℕ → List Demand → List Demand
 rest_of limit demands = filter (λ d. not (is_single limit d)) demands
 
--- a cell that needs nothing
+-- a cell of minimum size 0
 abbrev pub no_demand : Demand
 no_demand = record { row = 0; col = 0; start = 0; span = 1; minimum = 0 }
 
--- of the cells that cover i alone, the first that needs as much as any of them; none where none needs anything
+-- of the cells that cover i alone, the first of greatest minimum size; none where all are 0
 unfoldable pub first_greatest : ℕ → List Demand → Demand
 first_greatest i demands =
     if base_size demands i == 0 then no_demand
     else unwrap_or (find (λ d. d.span == 1 && d.start == i && d.minimum == base_size demands i) demands) no_demand
 
--- what is kept for number i once one more cell is met: that, if it covers i alone and needs more
+-- what is kept for track i once one more cell is met: that, if it covers i alone and needs more
 abbrev pub gathered_for : ℕ → Demand → Demand → Demand
 gathered_for i kept d = if (d.span == 1 && d.start == i) && nat_lt kept.minimum d.minimum then d else kept
 
--- these demands were kept by a limit: ranges, whether a need is large, and, where none is, the demands themselves
+-- these demands were kept by a limit: ranges, whether a minimum size is large, and, where none is, the demands themselves
 pub record HoldsDemands (limit : ℕ) (kept : Demands) (demands : List Demand) : Type 0 where
   pub limit_is : kept.limit ≡ limit
   pub ranges : map without_minimum kept.rest.items ≡ map without_minimum (rest_of limit demands)
@@ -54,8 +54,8 @@ AddsDemands old new further = (limit : ℕ) (demands : List Demand) → HoldsDem
 abbrev pub StandInOrder : List Demand → Type 0
 StandInOrder demands = AllPairs (λ d e. IsBefore (place_of d) (place_of e)) demands
 
--- these are the demands of a table of n columns (rows), in order, and they were kept by a limit that tells which of those that
--- cover one number alone are in the table
+-- these are the demands of a table of n tracks, in order, and they were kept by a limit that tells which of those that cover
+-- one track alone are in the table
 pub record AreGathered (n : ℕ) (kept : Demands) (demands : List Demand) : Type 0 where
   pub limit : ℕ
   pub held : HoldsDemands limit kept demands

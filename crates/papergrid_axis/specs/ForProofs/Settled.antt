@@ -11,7 +11,7 @@ use Rattle.papergrid_axis.specs.Sizes.{sizes_of, by_span}
 abbrev pub line_at : List Bool → ℕ → Bool
 line_at lines i = slice_index_or lines i false
 
--- no cell reaches out of so many numbers, and one has a large need
+-- no cell overflows so many tracks, and one has a large minimum size
 pub record IsLargeInside (count : ℕ) (kept : Demands) : Type 0 where
   pub inside : first_out count kept.rest.items ≡ None
   pub is_large : kept.is_large ≡ true

@@ -3,7 +3,7 @@ use Rattle.std.specs.Prelude.{Bool, true, false}
 use Rattle.papergrid_config.specs.declared.setting.Setting.{Setting}
 use Rattle.papergrid_config.specs.declared.setting.Setting.TheVariants.{SetPadding, SetPaddingColor, SetTrimHorizontal, SetTrimVertical, SetLineAlignment, SetAlignmentHorizontal, SetAlignmentVertical, SetJustification, SetJustificationColor, SetColumnSpan, SetRowSpan, InsertHorizontalLine, InsertVerticalLine, SetHorizontalChar, SetVerticalChar, SetHorizontalCharColor, SetVerticalCharColor, SetBorder, SetBorderColor}
 
--- the calls that may ask for memory
+-- the calls that may allocate
 abbrev pub may_grow_by : Setting → Bool
 may_grow_by (SetPadding entity v) = true
 may_grow_by (SetPaddingColor entity v) = true

@@ -10,7 +10,7 @@ use Rattle.papergrid_layout.specs.declared.marks.Marks.{Marks}
 use Rattle.papergrid_layout.specs.declared.rect.Place.{Place}
 use Rattle.papergrid_layout.specs.declared.cell_rects.Placing.{Placing}
 
--- where each of so many columns (rows) begins, and where it ends
+-- where each of so many tracks begins, and where it ends
 pub record AreMarks (size : ℕ → ℕ) (line : ℕ → Bool) (count : ℕ) (marks : Marks) : Type 0 where
   pub each_begin : length marks.begins.items ≡ count
   pub each_end : length marks.ends.items ≡ count

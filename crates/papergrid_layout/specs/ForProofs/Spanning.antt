@@ -38,7 +38,7 @@ IsSpannedStep table p old new =
     ⊎ (IsInsideTable table p × (old.reach ≤ new.reach) × (end_row table p ≤ new.reach)
     × (new.cells.items ≡ old.cells.items ++ record { position = p; place = place_at table p; reach = new.reach } ∷ []))
 
--- the walk over the anchors has come to number i
+-- the walk over the anchors has come to track i
 pub record HasSpanned (table : TableView) (anchors : List Anchor) (i : ℕ) (found : Spanning) : Type 0 where
   pub shows : (k : ℕ) (a : Anchor) → i ≤ k → slice_get anchors k ≡ Some a → Shows table.grid found.sweep a.position.row a.position.col
   pub are : AreSpanning table found.cells.items

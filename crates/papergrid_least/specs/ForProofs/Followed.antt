@@ -1,4 +1,4 @@
--- Going back along the earliest edges, by what is kept of the cells.
+-- Going back along the lowest positions of the boundaries, by what is kept of the cells.
 use Rattle.std.specs.Prelude.{ℕ, zero, suc, ◌+◌, ◌-◌, Bool, ◌&&◌, ◌||◌, ◌==◌, nat_lt, if◌then◌else◌, List, [], find, Option, Some, None, slice_index_or}
 use Rattle.papergrid_values.specs.declared.position.Position.{Position}
 use Rattle.papergrid_axis.specs.declared.demand.Demand.{Demand}
@@ -6,7 +6,7 @@ use Rattle.papergrid_axis.specs.Ranges.{end_of, place_of}
 use Rattle.papergrid_axis.specs.ForProofs.Demands.{no_demand}
 use Rattle.papergrid_least.specs.CriticalPath.{is_tight, with_earlier}
 
--- the first cell that covers one number alone and pushes the edge at i to where it is
+-- the first cell that covers one track alone and is tight at the boundary at i
 abbrev pub single_tight_cell : (Demand → ℕ) → List Demand → ℕ → Option Demand
 single_tight_cell asks demands i = find (λ d. d.span == 1 && is_tight asks demands i d) demands
 
@@ -24,7 +24,7 @@ earlier_cell None other = other
 earlier_cell (Some d) None = Some d
 earlier_cell (Some d) (Some e) = if is_before (place_of e) (place_of d) then Some e else Some d
 
--- whether the cell pushes the edge at i to where it is, by these edges
+-- whether the cell is tight at the boundary at i, by these boundaries
 abbrev pub is_tight_by : (Demand → ℕ) → (ℕ → ℕ) → ℕ → Demand → Bool
 is_tight_by asks boundary i d = end_of d == i && (boundary d.start + asks d == boundary i)
 
@@ -32,9 +32,9 @@ is_tight_by asks boundary i d = end_of d == i && (boundary d.start + asks d == b
 abbrev pub with_minimum : ℕ → Demand → Option Demand
 with_minimum step d = if d.minimum == step then Some d else None
 
--- the cells met going back from the edge at i: over what no cell pushed to the edge before it, else from the earlier of two cells
--- to where its range starts: what is kept for the number before it, where that needs what lies between the two edges, and the cell
--- of a longer range that is kept for the edge
+-- the cells met going back from the boundary at i: over a boundary without a tight cell to the one before, else from the earlier
+-- of two cells to where its range starts: what is kept for the number before it, where that needs what lies between the two
+-- boundaries, and the cell of a longer range that is kept for the boundary
 abbrev pub followed_cells : (ℕ → ℕ) → (ℕ → Demand) → (ℕ → Option Demand) → ℕ → ℕ → List Demand
 followed_cells boundary single longer zero i = []
 followed_cells boundary single longer (suc steps) i =
@@ -45,6 +45,6 @@ followed_cells boundary single longer (suc steps) i =
 abbrev pub kept_single : List Demand → ℕ → Demand
 kept_single single_span i = slice_index_or single_span i no_demand
 
--- the cell of a longer range that is kept for an edge
+-- the cell of a longer range that is kept for a boundary
 abbrev pub kept_longer : List (Option Demand) → ℕ → Option Demand
 kept_longer tight_cells i = slice_index_or tight_cells i None

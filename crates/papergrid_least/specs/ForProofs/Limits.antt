@@ -1,4 +1,4 @@
--- The earliest and the latest edges as lists.
+-- The lowest and the highest positions of the boundaries as lists.
 use Rattle.std.specs.Prelude.{◌≡◌, ℕ, ◌+◌, ◌^◌, ◌<◌, ◌≤◌, Bool, List, length, slice_index, ⊤}
 use Rattle.papergrid_values.specs.Lines.{all_lines}
 use Rattle.papergrid_axis.specs.declared.demand.Demand.{Demand}
@@ -7,20 +7,20 @@ use Rattle.papergrid_axis.specs.declared.error.LayoutError.TheVariants.{OutOfTab
 use Rattle.papergrid_least.specs.declared.limits.Limits.{Limits}
 use Rattle.papergrid_least.specs.ForProofs.Laid.{AreLaid}
 
--- too large, of which this is known; memory may be refused in place of any answer
+-- too large, of which this is known; an allocation may fail in place of any answer
 abbrev pub Refuses : Type 0 → LayoutError → Type 0
 Refuses too_large (OutOfTable place) = ⊥
 Refuses too_large TooLarge = too_large
 Refuses too_large (Memory e) = ⊤
 
 module _ (base : List ℕ) (cells : List Demand) where
-  -- edges, and none are below them
+  -- boundaries, and none are below them
   pub record AreLowestBoundaries (boundaries : List ℕ) : Type 0 where
     pub one_more : length boundaries ≡ length base + 1
     pub laid : AreLaid base cells (slice_index boundaries)
     pub below : (boundary : ℕ → ℕ) → AreLaid base cells boundary → (i : ℕ) → i ≤ length base → slice_index boundaries i ≤ boundary i
 
-  -- edges that end at the total, and none that end there or before are above them
+  -- boundaries that end at the total, and none that end there or before are above them
   pub record AreHighestBoundaries (total : ℕ) (boundaries : List ℕ) : Type 0 where
     pub one_more : length boundaries ≡ length base + 1
     pub last : slice_index boundaries (length base) ≡ total

@@ -1,4 +1,4 @@
--- What is known of the earliest edges once the sizes are least.
+-- What is known of the lowest positions of the boundaries once the sizes are least.
 use Rattle.std.specs.Prelude.{◌≡◌, ℕ, ◌+◌, ◌^◌, ◌<◌, ◌≤◌, Bool, List, None, length, slice_index, All}
 use Rattle.papergrid_axis.specs.ForProofs.Settled.{line_at}
 use Rattle.papergrid_axis.specs.Problem.{Problem, total_of}
@@ -7,7 +7,7 @@ use Rattle.papergrid_least.specs.LowestPositions.{lowest_position}
 use Rattle.papergrid_least.specs.TrackBoundaries.{net_minimum}
 use Rattle.papergrid_least.specs.Least.{least_of}
 
--- the lines and the earliest edges of a problem whose least total fits
+-- the lines and the lowest positions of the boundaries of a problem whose least total fits
 pub record AreLowestPositions (problem : Problem) (lines : List Bool) (boundaries : List ℕ) : Type 0 where
   pub none_out : first_out problem.count problem.demands ≡ None
   pub table : All (IsInTable problem.count) problem.demands

@@ -72,17 +72,17 @@ IsKeyReached spans key =
     (start : Position) × (start.row ≡ key.row) × (start.col < key.col)
     × (key.col < start.col + unwrap_or (tree_get position_cmp spans start) 1)
 
--- no span below 2 is held
+-- no span below 2 is stored
 abbrev pub AreFromTwo : FinMap position_cmp ℕ → Type 0
 AreFromTwo spans = (p : Position) (n : ℕ) → get spans p ≡ Some n → 2 ≤ n
 
--- what a position has after a call for q: 0 does nothing, 1 removes, and more is held
+-- what a position has after a call for q: 0 does nothing, 1 removes, and more is stored
 abbrev pub span_set : Position → ℕ → Position → Option ℕ → Option ℕ
 span_set q n p old = if nat_le 1 n && position_eq q p then from_two n else old
 
 -- ---- both spans
 
--- the anchor at a position, by the spans that are held, 1 where none is
+-- the anchor at a position, by the spans that are stored, 1 where none is
 abbrev pub anchor_at : (Position → Option ℕ) → (Position → Option ℕ) → Position → Anchor
 anchor_at columns rows p = record { position = p; rows = unwrap_or (rows p) 1; cols = unwrap_or (columns p) 1 }
 
@@ -91,7 +91,7 @@ abbrev pub anchor_along : Direction → (Position → Option ℕ) → (Position 
 anchor_along Columns own others = anchor_at own others
 anchor_along Rows own others = anchor_at others own
 
--- each of these anchors is the one at its position, and they are at the positions that are held
+-- each of these anchors is the one at its position, and they are at the positions that are stored
 pub record AreAt (at : Position → Anchor) (IsStored : Position → Type 0) (anchors : List Anchor) : Type 0 where
   pub made : All (λ a. a ≡ at a.position) anchors
   pub has : (p : Position) → Contains anchors (at p) ↔ IsStored p
@@ -112,7 +112,7 @@ entry_anchor direction others e =
     let extent = extent_of direction e.1 (span_at others p) in
     record { position = p; rows = extent.rows; cols = extent.columns }
 
--- the rectangle, where both spans are held
+-- the rectangle, where both spans are stored
 abbrev pub extent_stored : Direction → Option ℕ → Option ℕ → Option Extent
 extent_stored direction (Some span) (Some other) = Some (extent_of direction span other)
 extent_stored direction span other = None

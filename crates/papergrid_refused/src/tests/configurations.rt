@@ -32,7 +32,7 @@ fn applies(
     }
 }
 
-/// Each setter that may ask for memory, by its setting.
+/// Each setter that may allocate, by its setting.
 #[test]
 fn each_alone(rt: HostRuntime) -> Result<(), Fail> {
     let settings = beside(rt.alloc())?;

@@ -105,7 +105,7 @@ pub fn held(alloc: Global) -> Result<Vec<Setting>, AllocError> {
     Ok(settings)
 }
 
-/// Each setting that may ask for memory, at a place for which there is no room beside those.
+/// Each setting that may allocate, at a place for which there is no room beside those.
 fn more(alloc: Global, settings: &mut Vec<Setting>) -> Result<(), AllocError> {
     of_entity(alloc, Entity::Column(2), settings)?;
     of_offsets(alloc, 9, settings)?;

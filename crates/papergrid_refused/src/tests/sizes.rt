@@ -37,7 +37,7 @@ pub fn settings(alloc: Global) -> Result<Vec<Setting>, AllocError> {
     ]?)
 }
 
-/// An answer that can be no other error than refused memory.
+/// An answer that can be no other error than out of memory.
 pub fn in_table<A>(rt: &impl Abort, answer: Result<A, LayoutError>) -> Result<A, AllocError> {
     match answer {
         Ok(answer) => Ok(answer),

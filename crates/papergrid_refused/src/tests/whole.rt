@@ -40,7 +40,7 @@ fn layouts(rt: HostRuntime) -> Result<(), Fail> {
     says(call(2, 2), in_table(&rt, least))
 }
 
-/// The picture has sizes, and to know that asks for memory.
+/// The picture has sizes, and to know that allocates.
 #[test]
 fn explain_of_picture(rt: HostRuntime) -> Result<(), Fail> {
     let answer = explain(rt.alloc(), Sizing::ByShares, PICTURE);
@@ -84,8 +84,8 @@ fn end_of(alloc: Global, it: Case, written: &mut Vec<u8>) -> Result<RunEnd, RunF
     }
 }
 
-/// What a test ends with that runs into a buffer, which has room for the output and asks for no more: the whole output
-/// is written, or nothing where memory was refused.
+/// What a test ends with that runs into a buffer, which has room for the output and asks for no
+/// more: the whole output is written, or nothing where an allocation failed.
 fn runs(rt: &(impl Abort + AllocGlobal), call: CallNumber, it: Case) -> Result<(), Fail> {
     let mut written: Vec<u8> = Vec::with_capacity(rt.alloc(), 1000)?;
     match end_of(rt.alloc(), it, &mut written) {

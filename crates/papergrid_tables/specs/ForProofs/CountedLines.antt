@@ -21,7 +21,7 @@ module _ {L : Type 0} where
   abbrev pub reaches : ℕ → ℕ → Lines L → Bool
   reaches place count lines = (place == 0 && nat_lt 0 lines.first_ends) || (place == count && nat_lt 0 lines.last_ends)
 
--- a line is held there, or one of two counts is above 0
+-- a line is stored there, or one of two counts is above 0
 abbrev pub is_stored : {L S : Type 0} → HashMap ℕ L S → LineCounts → LineCounts → ℕ → Bool
 is_stored lines edges corners line =
     is_some (get nat_eq lines line) || (nat_lt 0 (count_of edges.counts line) || nat_lt 0 (count_of corners.counts line))

@@ -9,7 +9,7 @@ use Rattle.papergrid_values.specs.declared.position.Position.{Position}
 abbrev pub one_if : Bool → ℕ
 one_if holds = if holds then 1 else 0
 
--- the count of a line, 0 where none is held
+-- the count of a line, 0 where none is stored
 abbrev pub count_of : {S : Type 0} → HashMap ℕ ℕ S → ℕ → ℕ
 count_of counts line = unwrap_or (get nat_eq counts line) 0
 

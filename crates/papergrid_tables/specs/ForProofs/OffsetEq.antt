@@ -18,7 +18,7 @@ module _ {T : Type 0} where
   abbrev pub has_number : FinMap nat_cmp T → Bool
   has_number m = list_any (λ _. true) (keys m)
 
-  -- an override is held, from either end
+  -- an override is stored, from either end
   abbrev pub has_override : StoredOffsets T → Bool
   has_override stored = has_number stored.from_start || has_number stored.from_end
 

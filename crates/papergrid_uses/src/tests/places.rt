@@ -84,7 +84,7 @@ fn are_placed(config: &SpannedConfig) -> bool {
         && is_hidden(place_of(&SIZES, config, (2, 3), Position::new(0, 1)))
 }
 
-/// Five cells of six are visible; in a table of one column the first one reaches out.
+/// Five cells of six are visible; in a table of one column the first one overflows the table.
 fn are_all_placed(alloc: Global, config: &SpannedConfig, table: &Table<'_>) -> bool {
     let all = match all_places(alloc, table) {
         Ok(list) => list.len(),

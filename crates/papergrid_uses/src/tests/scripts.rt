@@ -29,7 +29,8 @@ const OTHERS: [(&[u8], Option<Reason>); 6] = [
         Some(Reason::BadLine(3)),
     ),
     (b"cell a\n", Some(Reason::BadLine(1))),
-    // Two cells reach out, and the first by row is named, with its two rows and three columns.
+    // Two cells overflow the table, and the first by row is named, with its two rows and three
+    // columns.
     (
         b"columns 2\ncolspan 1,0 4\nrowspan 0,1 2\ncolspan 0,1 3\nrow\ncell a\ncell b\nrow\ncell c\n",
         Some(Reason::OutOfTable(Position { row: 0, col: 1 }, (2, 3), (2, 2))),
