@@ -23,7 +23,7 @@ use Rattle.papergrid_layout.specs.declared.sizing.Sizing.{Sizing}
 use Rattle.papergrid_layout.specs.declared.sizing.Sizing.TheVariants.{ByShares, Least}
 use Rattle.papergrid.specs.Estimates.{Estimate, OutOfTable, TooLarge, Sized, unless_large, unless_out, sizes_by, certificate_by, totalled_sizes, estimate_by}
 use Rattle.papergrid.specs.Totals.{AreSizesBy, HasNone}
-use Rattle.papergrid.specs.ForProofs.Seen.{GivesEstimate, IsFoundCertificate, places_seen, total_along}
+use Rattle.papergrid.specs.ForProofs.Seen.{GivesEstimate, IsFoundCertificate, places_seen, total_with_lines}
 
 -- ---- tests and options
 
@@ -101,23 +101,23 @@ module _ {C : Type 0} (grid : Grid) (measure : C → ℕ × ℕ) (columns : ℕ)
       high : AreFound sizing down certified.heights.items
       high = are_found sizing down certified.heights.items are.heights.0
 
-      pub width_fits : total_along Columns grid (length certified.widths.items) certified.widths.items < 2 ^ 64
-      width_fits = subst (λ n. total_along Columns grid n certified.widths.items < 2 ^ 64) (sym wide.one_each) wide.total
+      pub width_fits : total_with_lines Columns grid (length certified.widths.items) certified.widths.items < 2 ^ 64
+      width_fits = subst (λ n. total_with_lines Columns grid n certified.widths.items < 2 ^ 64) (sym wide.one_each) wide.total
 
-      pub height_fits : total_along Rows grid (length certified.heights.items) certified.heights.items < 2 ^ 64
-      height_fits = subst (λ n. total_along Rows grid n certified.heights.items < 2 ^ 64) (sym high.one_each) high.total
+      pub height_fits : total_with_lines Rows grid (length certified.heights.items) certified.heights.items < 2 ^ 64
+      height_fits = subst (λ n. total_with_lines Rows grid n certified.heights.items < 2 ^ 64) (sym high.one_each) high.total
 
       -- sizes with what certifies them are what is estimated
       pub estimate_certified : estimate_by sizing grid measure columns cells
-          ≡ Sized certified.widths.items certified.heights.items (total_along Columns grid (length certified.widths.items) certified.widths.items)
-          (total_along Rows grid (length certified.heights.items) certified.heights.items) (places_seen certified.width_witness) (places_seen certified.height_witness)
+          ≡ Sized certified.widths.items certified.heights.items (total_with_lines Columns grid (length certified.widths.items) certified.widths.items)
+          (total_with_lines Rows grid (length certified.heights.items) certified.heights.items) (places_seen certified.width_witness) (places_seen certified.height_witness)
       estimate_certified =
           estimate_inside ((none_overflows grid measure columns cells).1 (wide.none_out, high.none_out))
           ∙ (λ i. unless_large (sym wide.exact i) (sym high.exact i)
-          (total_along Columns grid (sym wide.one_each i) (sym wide.exact i)) (total_along Rows grid (sym high.one_each i) (sym high.exact i))
+          (total_with_lines Columns grid (sym wide.one_each i) (sym wide.exact i)) (total_with_lines Rows grid (sym high.one_each i) (sym high.exact i))
           (sym (found_certificate sizing across certified.width_witness are.widths.1) i) (sym (found_certificate sizing down certified.height_witness are.heights.1) i))
-          ∙ sized certified.widths.items certified.heights.items (total_along Columns grid (length certified.widths.items) certified.widths.items)
-          (total_along Rows grid (length certified.heights.items) certified.heights.items) (places_seen certified.width_witness) (places_seen certified.height_witness) width_fits height_fits
+          ∙ sized certified.widths.items certified.heights.items (total_with_lines Columns grid (length certified.widths.items) certified.widths.items)
+          (total_with_lines Rows grid (length certified.heights.items) certified.heights.items) (places_seen certified.width_witness) (places_seen certified.height_witness) width_fits height_fits
 
 -- cells that are seen through a view
 module _ {A B : Type 0} (grid : Grid) (v : A → B) (f : B → ℕ × ℕ) (columns : ℕ) (cells : List (List A)) (rows : List (List B)) (same : map (map v) cells ≡ rows) where

@@ -6,7 +6,7 @@ ghost use Rattle.papergrid_config.specs.Grids.{spanned_grid};
 ghost use Rattle.papergrid_walk.specs.Measures.{line_measure};
 ghost use Rattle.papergrid_layout.specs.Answers.{UnlessMemory};
 ghost use Rattle.papergrid.specs.Estimates.{estimate_by};
-ghost use Rattle.papergrid.specs.ForProofs.Seen.{GivesEstimate, IsCertifiedBy, total_along};
+ghost use Rattle.papergrid.specs.ForProofs.Seen.{GivesEstimate, IsCertifiedBy, total_with_lines};
 
 use papergrid_config::SpannedConfig;
 use papergrid_layout::certificates::{Certified, certified_least, certified_sizes};
@@ -73,15 +73,15 @@ where
 
 /// The sizes, with the totals by the lines of the configuration.
 fn with_totals(certified: Certified, cfg: &SpannedConfig) -> Sizes
-    requires width { total_along Columns (spanned_grid cfg.now)
+    requires width { total_with_lines Columns (spanned_grid cfg.now)
         (length certified.widths.items) certified.widths.items < 2 ^ 64 }
-    requires height { total_along Rows (spanned_grid cfg.now)
+    requires height { total_with_lines Rows (spanned_grid cfg.now)
         (length certified.heights.items) certified.heights.items < 2 ^ 64 }
     ensures certified { result.certified ≡ certified }
-    ensures total_width { result.total_width ≡ total_along Columns (spanned_grid cfg.now)
+    ensures total_width { result.total_width ≡ total_with_lines Columns (spanned_grid cfg.now)
         (length certified.widths.items) certified.widths.items }
     ensures total_height { result.total_height
-        ≡ total_along Rows (spanned_grid cfg.now)
+        ≡ total_with_lines Rows (spanned_grid cfg.now)
         (length certified.heights.items) certified.heights.items }
 {
     let vertical = cfg.count_vertical(certified.widths.len());

@@ -21,8 +21,8 @@ abbrev pub characters_of : List Setting → StoredBorders ℕ
 characters_of settings = borders_made (flat_map character_calls settings)
 
 -- what the settings leave at each place of the lines, as the last call that sets it
-abbrev pub lines_left : List Setting → BorderParts ℕ
-lines_left settings = parts_from (reverse (flat_map character_calls settings))
+abbrev pub lines_from_settings : List Setting → BorderParts ℕ
+lines_from_settings settings = parts_from (reverse (flat_map character_calls settings))
 
 -- the spans
 abbrev pub spans_of : List Setting → Spans

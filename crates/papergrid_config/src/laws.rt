@@ -12,7 +12,7 @@ ghost use Rattle.papergrid_config.specs.ConfigSame.{HoldTheSameSettings};
 ghost use Rattle.papergrid_config.specs.EffectiveCall.{IsEffective};
 ghost use Rattle.papergrid_config.specs.Laws.{HoldsEffectiveValues};
 ghost use Rattle.papergrid_config.specs.Lines.{shown_horizontal, shown_intersection, shown_vertical};
-ghost use Rattle.papergrid_config.specs.Made.{characters_of, lines_left};
+ghost use Rattle.papergrid_config.specs.Made.{characters_of, lines_from_settings};
 ghost use Rattle.papergrid_config.specs.History.{HasSettingHistory};
 ghost use Rattle.papergrid_config.specs.declared.setting.Setting.{Setting};
 ghost use Rattle.papergrid_config.specs.declared.spanned.SpannedConfig.{SpannedConfig};
@@ -47,10 +47,10 @@ pub fn effective_by_place<T>()
 pub fn lines_by_place()
     ensures vertical { (settings : List Setting) (col count : ℕ) →
         IsTrue (vertical_line_at (characters_of settings) col count)
-        ↔ HasVertical (lines_left settings) col count }
+        ↔ HasVertical (lines_from_settings settings) col count }
     ensures horizontal { (settings : List Setting) (row count : ℕ) →
         IsTrue (horizontal_line_at (characters_of settings) row count)
-        ↔ HasHorizontal (lines_left settings) row count }
+        ↔ HasHorizontal (lines_from_settings settings) row count }
 {}
 
 /// In a table of so many columns (rows) a character is shown on a line exactly where the line is

@@ -14,7 +14,7 @@ use Rattle.papergrid_values.specs.declared.direction.Direction.{Direction}
 use Rattle.papergrid_values.specs.declared.position.Position.{Position}
 use Rattle.papergrid_tables.specs.BorderScan.{has_end}
 use Rattle.papergrid_tables.specs.ForProofs.CountedLines.{AreEndsCounted, is_stored, reaches}
-use Rattle.papergrid_tables.specs.ForProofs.Counts.{AreCounts, count_of}
+use Rattle.papergrid_tables.specs.ForProofs.Counts.{AreCounts, line_count_of}
 use Rattle.papergrid_keys.specs.Keys.{position_cmp}
 use Rattle.papergrid_tables.specs.BorderParts.{EndsThere, HasEnd, StandsOn}
 use Rattle.papergrid_tables.specs.declared.counted_lines.Lines.{Lines}
@@ -64,7 +64,7 @@ ends_counted first end place count lines b counted is =
 
 -- a place in a row or a column
 pub parts_counted : {T R S : Type 0} (direction : Direction) (n : ℕ) (places : HashMap Position T R) (counts : HashMap ℕ ℕ S) (b : Bool)
-    → AreCounts direction counts (keys places) → b ≡ nat_lt 0 (count_of counts n)
+    → AreCounts direction counts (keys places) → b ≡ nat_lt 0 (line_count_of counts n)
     → IsTrue b ↔ ((p : Position) × (along direction p ≡ n) × IsSome (get (from_entries {R = position_cmp} places.entries) p))
 parts_counted direction n places counts b counted is =
     let test = λ (p : Position). eqb (along direction p) n in

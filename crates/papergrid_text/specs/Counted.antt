@@ -9,8 +9,8 @@ module _ {I : Type 0} where
   rows_iterated r = r.iter
 
   -- the rows that an iterator gives
-  abbrev pub rows_from : I → RowIter I
-  rows_from iter = record { iter = iter }
+  abbrev pub rows_of_iterator : I → RowIter I
+  rows_of_iterator iter = record { iter = iter }
 
   -- records of what can be walked, with a number of columns and a hint of the number of rows
   abbrev pub iter_records_of : I → ℕ → Option ℕ → IterRecords I

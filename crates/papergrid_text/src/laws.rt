@@ -17,7 +17,7 @@ ghost use Rattle.papergrid_text.specs.declared.iter_records.RowIter.{RowIter};
 ghost use Rattle.papergrid_text.specs.declared.line_cache.StrWithWidth.{StrWithWidth};
 ghost use Rattle.papergrid_text.specs.declared.string.Lines.{Lines};
 ghost use Rattle.papergrid_text.specs.declared.vec_records.VecRecords.{VecRecords};
-ghost use Rattle.papergrid_text.specs.Counted.{counted_columns, counted_rows, row_hint, rows_from};
+ghost use Rattle.papergrid_text.specs.Counted.{counted_columns, counted_rows, row_hint, rows_of_iterator};
 ghost use Rattle.papergrid_text.specs.Cut.{cut_rows, cut_whole_rows};
 ghost use Rattle.papergrid_text.specs.HeldRows.{column_count, row_count, rows_held};
 ghost use Rattle.papergrid_text.specs.LineCache.{given_line};
@@ -150,9 +150,9 @@ pub fn vector_tells_cells<'a, T: 'a>()
 /// cells are those of the vectors that are left.
 pub fn vectors_tell_rows<'a, T: 'a>()
     ensures lawful { (iter : Iter (Vec T Global)) → length (iter_rest iter) < 2 ^ 64 →
-        ⟦<RowIter<Iter<'a, Vec<T>>> as IntoRecords>⟧.is_lawful (rows_from iter) }
+        ⟦<RowIter<Iter<'a, Vec<T>>> as IntoRecords>⟧.is_lawful (rows_of_iterator iter) }
     ensures told { (iter : Iter (Vec T Global)) (cells : List (List (Bor T))) →
-        ⟦<RowIter<Iter<'a, Vec<T>>> as IntoRecords>⟧.tells (rows_from iter) cells →
+        ⟦<RowIter<Iter<'a, Vec<T>>> as IntoRecords>⟧.tells (rows_of_iterator iter) cells →
         map (map (λ cell. cell.now)) cells ≡ map (λ row. row.items) (iter_rest iter) }
 {}
 
@@ -162,10 +162,10 @@ pub fn vectors_tell_rows<'a, T: 'a>()
 pub fn chunks_tell_rows<'a, T: 'a>()
     ensures lawful { (chunks : Chunks T) →
         0 < chunks_size chunks → length (chunks_rest chunks) < 2 ^ 64 →
-        ⟦<RowIter<Chunks<'a, T>> as IntoRecords>⟧.is_lawful (rows_from chunks) }
+        ⟦<RowIter<Chunks<'a, T>> as IntoRecords>⟧.is_lawful (rows_of_iterator chunks) }
     ensures told { (chunks : Chunks T) (cells : List (List (Bor T))) →
         0 < chunks_size chunks →
-        ⟦<RowIter<Chunks<'a, T>> as IntoRecords>⟧.tells (rows_from chunks) cells →
+        ⟦<RowIter<Chunks<'a, T>> as IntoRecords>⟧.tells (rows_of_iterator chunks) cells →
         map (map (λ cell. cell.now)) cells
         ≡ cut_rows (chunks_size chunks) (chunks_rest chunks) }
 {}
@@ -176,10 +176,10 @@ pub fn chunks_tell_rows<'a, T: 'a>()
 pub fn exact_chunks_tell_rows<'a, T: 'a>()
     ensures lawful { (chunks : ChunksExact T) →
         0 < chunks_exact_size chunks → length (chunks_exact_rest chunks) < 2 ^ 64 →
-        ⟦<RowIter<ChunksExact<'a, T>> as IntoRecords>⟧.is_lawful (rows_from chunks) }
+        ⟦<RowIter<ChunksExact<'a, T>> as IntoRecords>⟧.is_lawful (rows_of_iterator chunks) }
     ensures told { (chunks : ChunksExact T) (cells : List (List (Bor T))) →
         0 < chunks_exact_size chunks →
-        ⟦<RowIter<ChunksExact<'a, T>> as IntoRecords>⟧.tells (rows_from chunks) cells →
+        ⟦<RowIter<ChunksExact<'a, T>> as IntoRecords>⟧.tells (rows_of_iterator chunks) cells →
         map (map (λ cell. cell.now)) cells
         ≡ cut_whole_rows (chunks_exact_size chunks) (chunks_exact_rest chunks) }
 {}

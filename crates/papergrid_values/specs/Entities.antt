@@ -27,15 +27,15 @@ positions entity rows cols =
 -- ---- what an iterator has left
 
 -- the position of an entity at a step down and to the right
-abbrev pub place : Entity → ℕ → ℕ → Position
-place Global row col = position_of (row, col)
-place (Column c) row col = position_of (row, c)
-place (Row r) row col = position_of (r, col)
-place (Cell r c) row col = position_of (r, c)
+abbrev pub position_at_step : Entity → ℕ → ℕ → Position
+position_at_step Global row col = position_of (row, col)
+position_at_step (Column c) row col = position_of (row, c)
+position_at_step (Row r) row col = position_of (r, col)
+position_at_step (Cell r c) row col = position_of (r, c)
 
 -- the places of one row of steps, from a column on
 abbrev pub row_from : Entity → ℕ → ℕ → ℕ → List Position
-row_from entity cols row col = map (λ c. place entity row c) (range_with_len col (cols - col))
+row_from entity cols row col = map (λ c. position_at_step entity row c) (range_with_len col (cols - col))
 
 -- the places of all rows of steps, from a row on
 abbrev pub rows_from : Entity → ℕ → ℕ → ℕ → List Position

@@ -2,7 +2,7 @@
 
 ghost use Rattle.std.specs.Prelude.{◌≡◌};
 ghost use Rattle.std.specs.Iterator.{YieldsFirst, item_count};
-ghost use Rattle.papergrid_values.specs.Entities.{positions, positions_left, place};
+ghost use Rattle.papergrid_values.specs.Entities.{positions, positions_left, position_at_step};
 
 use crate::entity::Entity;
 use crate::position::Position;
@@ -66,7 +66,7 @@ impl Iterator for EntityIterator {
 
 // The position of an entity at a step down and to the right.
 fn position_at(entity: Entity, row: usize, col: usize) -> Position
-    ensures { result ≡ place entity row col }
+    ensures { result ≡ position_at_step entity row col }
 {
     match entity {
         Entity::Global => Position::new(row, col),

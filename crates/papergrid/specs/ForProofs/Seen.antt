@@ -46,5 +46,5 @@ GivesEstimate (Err layout_errors.TooLarge) IsSo = IsSo TooLarge
 GivesEstimate (Err (layout_errors.Memory e)) IsSo = Unit {0}
 
 -- the sum of sizes along a direction, with the lines between, before and after them
-abbrev pub total_along : Direction → Grid → ℕ → List ℕ → ℕ
-total_along direction grid count sizes = sum sizes + all_lines (grid.draws direction count) count
+abbrev pub total_with_lines : Direction → Grid → ℕ → List ℕ → ℕ
+total_with_lines direction grid count sizes = sum sizes + all_lines (grid.draws direction count) count

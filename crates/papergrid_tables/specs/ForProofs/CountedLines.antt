@@ -1,7 +1,7 @@
 -- The counts of the lines that have an end set.
 use Rattle.std.specs.Prelude.{◌≡◌, ◌==◌, ◌&&◌, ◌||◌, ℕ, Bool, false, Option, Some, None, count_by, is_some, nat_eq, nat_lt}
 use Rattle.std.specs.HashMap.{HashMap, IsUnique, get, values}
-use Rattle.papergrid_tables.specs.ForProofs.Counts.{count_of}
+use Rattle.papergrid_tables.specs.ForProofs.Counts.{line_count_of}
 use Rattle.papergrid_tables.specs.declared.counted_lines.Lines.{Lines}
 use Rattle.papergrid_tables.specs.declared.line_counts.LineCounts.{LineCounts}
 
@@ -24,4 +24,4 @@ module _ {L : Type 0} where
 -- a line is stored there, or one of two counts is above 0
 abbrev pub is_stored : {L S : Type 0} → HashMap ℕ L S → LineCounts → LineCounts → ℕ → Bool
 is_stored lines edges corners line =
-    is_some (get nat_eq lines line) || (nat_lt 0 (count_of edges.counts line) || nat_lt 0 (count_of corners.counts line))
+    is_some (get nat_eq lines line) || (nat_lt 0 (line_count_of edges.counts line) || nat_lt 0 (line_count_of corners.counts line))

@@ -10,8 +10,8 @@ abbrev pub one_if : Bool → ℕ
 one_if holds = if holds then 1 else 0
 
 -- the count of a line, 0 where none is stored
-abbrev pub count_of : {S : Type 0} → HashMap ℕ ℕ S → ℕ → ℕ
-count_of counts line = unwrap_or (get nat_eq counts line) 0
+abbrev pub line_count_of : {S : Type 0} → HashMap ℕ ℕ S → ℕ → ℕ
+line_count_of counts line = unwrap_or (get nat_eq counts line) 0
 
 -- how many of the positions stand on the line
 abbrev pub number_on : Direction → ℕ → List Position → ℕ
@@ -19,4 +19,4 @@ number_on direction line places = count_by (λ p. along direction p == line) pla
 
 -- each line's count is how many of the positions stand on it
 abbrev pub AreCounts : {S : Type 0} → Direction → HashMap ℕ ℕ S → List Position → Type 0
-AreCounts direction counts places = (line : ℕ) → count_of counts line ≡ number_on direction line places
+AreCounts direction counts places = (line : ℕ) → line_count_of counts line ≡ number_on direction line places
