@@ -38,7 +38,8 @@ pub fn worked_rows()
 /// What an estimate reads of a configuration that settings tell, which is which positions are visible and the spans,
 /// the paddings and the lines, is what the settings decide.
 pub fn grid_by_settings()
-    ensures { (settings : List Setting) (config : SpannedConfig) → HasSettingHistory settings config →
+    ensures { (settings : List Setting) (config : SpannedConfig) →
+        HasSettingHistory settings config →
         spanned_grid config ≡ grid_of settings }
 {}
 

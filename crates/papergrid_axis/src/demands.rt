@@ -112,7 +112,8 @@ pub fn keep(
 ) -> Result<(), AllocError>
     requires { 1 ≤ span }
     ensures { let minimum = measure + before + after in
-        OnOk result (AddsDemands kept.old kept.new (demand_of direction position span minimum ∷ [])) }
+        OnOk result (AddsDemands kept.old kept.new
+        (demand_of direction position span minimum ∷ [])) }
 {
     let start = direction.number_of(position);
     if let Some(minimum) = minimum_of(measure, before, after) {
@@ -138,7 +139,8 @@ fn keep_new(
 ) -> Result<(), AllocError>
     requires { 1 ≤ span }
     ensures { let minimum = measure + before + after in
-        OnOk result (AddsDemands kept.old kept.new (demand_of direction position span minimum ∷ [])) }
+        OnOk result (AddsDemands kept.old kept.new
+        (demand_of direction position span minimum ∷ [])) }
 {
     let minimum = minimum_of(measure, before, after);
     let demand = Demand {

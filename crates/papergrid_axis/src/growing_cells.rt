@@ -113,7 +113,8 @@ pub fn grow_all(
     requires lines { length lines.now ≡ length sizes.old + 1 }
     ensures growing_cells { IfOk result (λ growing_cells.
         growing_cells.items ≡ growing_demands (line_at lines.now) sizes.old cells.now) }
-    ensures sizes { OnOk result (sizes.new ≡ fold (grown_sizes (line_at lines.now)) sizes.old cells.now) }
+    ensures sizes { OnOk result (sizes.new
+        ≡ fold (grown_sizes (line_at lines.now)) sizes.old cells.now) }
 {
     let mut growing_cells = Vec::new(alloc);
     for demand in cells {

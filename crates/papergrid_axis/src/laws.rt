@@ -47,7 +47,8 @@ pub fn sizes_by_minimums()
         (i : ℕ) → i < problem.count →
         slice_index (sizes_of problem) i ≤ top_minimum problem.demands i }
     ensures certified { (problem : Problem) → All (IsInTable problem.count) problem.demands →
-        IsLaminar problem.demands → IsCertificate problem (sizes_of problem) (certificate_cells_of problem) }
+        IsLaminar problem.demands →
+        IsCertificate problem (sizes_of problem) (certificate_cells_of problem) }
 {}
 
 /// Whether any two longer ranges are nested or disjoint can be computed; where they are not, two of

@@ -101,7 +101,8 @@ pub fn refusal(count: usize, kept: &Demands) -> Option<LayoutError>
     requires { (demands : List Demand) × AreGathered count kept.now demands }
     ensures refused { IfSome result (λ error.
         (line : ℕ → Bool) (demands : List Demand) → AreGathered count kept.now demands →
-        IsRefusedWhere (problem_of_demands line count demands) (IsLargeInside count kept.now) error) }
+        IsRefusedWhere (problem_of_demands line count demands)
+        (IsLargeInside count kept.now) error) }
     ensures inside { IfNone result (first_out count kept.now.rest.items ≡ None) }
     ensures small { IfNone result (kept.now.is_large ≡ false) }
 {

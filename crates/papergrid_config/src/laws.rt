@@ -26,7 +26,8 @@ use papergrid_values::{ANSIBuf, AlignmentHorizontal, AlignmentVertical, Indent, 
 /// A configuration with the settings as its history has at each position what they decide, and
 /// the lines and spans that they make.
 pub fn history_decides()
-    ensures { (settings : List Setting) (config : SpannedConfig) → HasSettingHistory settings config →
+    ensures { (settings : List Setting) (config : SpannedConfig) →
+        HasSettingHistory settings config →
         HoldsEffectiveValues settings config }
 {}
 

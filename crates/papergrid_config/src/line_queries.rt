@@ -47,14 +47,16 @@ impl SpannedConfig {
 
     /// The colour of the vertical line at a row and a column, where there are so many columns.
     pub fn get_vertical_color(&self, pos: Position, count: usize) -> Option<&ANSIBuf>
-        ensures { option_copied result ≡ found_vertical (parts_of_borders self.now.colors) pos count }
+        ensures { option_copied result
+            ≡ found_vertical (parts_of_borders self.now.colors) pos count }
     {
         self.colors.get_vertical(pos, count)
     }
 
     /// The colour of the horizontal line at a row and a column, where there are so many rows.
     pub fn get_horizontal_color(&self, pos: Position, count: usize) -> Option<&ANSIBuf>
-        ensures { option_copied result ≡ found_horizontal (parts_of_borders self.now.colors) pos count }
+        ensures { option_copied result
+            ≡ found_horizontal (parts_of_borders self.now.colors) pos count }
     {
         self.colors.get_horizontal(pos, count)
     }
@@ -69,7 +71,8 @@ impl SpannedConfig {
 
     /// Whether there is a vertical line at a column, where there are so many columns.
     pub fn has_vertical(&self, col: usize, count: usize) -> bool
-        ensures line { IsTrue result ↔ HasVertical (parts_of_borders self.now.characters) col count }
+        ensures line { IsTrue result ↔
+            HasVertical (parts_of_borders self.now.characters) col count }
         ensures test { result ≡ vertical_line_at self.now.characters col count }
     {
         self.characters.has_vertical(col, count)
@@ -77,7 +80,8 @@ impl SpannedConfig {
 
     /// Whether there is a horizontal line at a row, where there are so many rows.
     pub fn has_horizontal(&self, row: usize, count: usize) -> bool
-        ensures line { IsTrue result ↔ HasHorizontal (parts_of_borders self.now.characters) row count }
+        ensures line { IsTrue result ↔
+            HasHorizontal (parts_of_borders self.now.characters) row count }
         ensures test { result ≡ horizontal_line_at self.now.characters row count }
     {
         self.characters.has_horizontal(row, count)

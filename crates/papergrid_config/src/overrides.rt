@@ -21,7 +21,8 @@ impl SpannedConfig {
         offset: Offset,
         character: char,
     ) -> Result<(), AllocError>
-        ensures ok { OnOk result (AddsSetting self.old self.new (SetHorizontalChar pos offset character)) }
+        ensures ok { OnOk result (AddsSetting self.old self.new
+            (SetHorizontalChar pos offset character)) }
         ensures err { OnErr result (self.new ≡ self.old) }
         ensures others { self.new ≡
             record self.old { horizontal_chars = self.new.horizontal_chars } }
@@ -110,7 +111,8 @@ impl SpannedConfig {
         offset: Offset,
         character: char,
     ) -> Result<(), AllocError>
-        ensures ok { OnOk result (AddsSetting self.old self.new (SetVerticalChar pos offset character)) }
+        ensures ok { OnOk result (AddsSetting self.old self.new
+            (SetVerticalChar pos offset character)) }
         ensures err { OnErr result (self.new ≡ self.old) }
         ensures others { self.new ≡ record self.old { vertical_chars = self.new.vertical_chars } }
     {
@@ -156,7 +158,8 @@ impl SpannedConfig {
         offset: Offset,
         color: ANSIBuf,
     ) -> Result<(), AllocError>
-        ensures ok { OnOk result (AddsSetting self.old self.new (SetVerticalCharColor pos offset color)) }
+        ensures ok { OnOk result (AddsSetting self.old self.new
+            (SetVerticalCharColor pos offset color)) }
         ensures err { OnErr result (self.new ≡ self.old) }
         ensures others { self.new ≡ record self.old { vertical_colors = self.new.vertical_colors } }
     {

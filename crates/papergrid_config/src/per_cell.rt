@@ -48,7 +48,8 @@ impl SpannedConfig {
 
     /// The cells with room of their own, each once, in no order, or out of memory.
     pub fn padded_cells(&self) -> Result<Vec<Position>, AllocError>
-        ensures stored { IfOk result (λ cells. AreSetCells (held_for self.now.padding) cells.items) }
+        ensures stored { IfOk result
+            (λ cells. AreSetCells (held_for self.now.padding) cells.items) }
         ensures once { IfOk result (λ cells. AllPairs (λ p q. p ≢ q) cells.items) }
     {
         self.padding.held_cells()
@@ -183,7 +184,8 @@ impl SpannedConfig {
         entity: Entity,
         alignment: AlignmentVertical,
     ) -> Result<(), AllocError>
-        ensures ok { OnOk result (AddsSetting self.old self.new (SetAlignmentVertical entity alignment)) }
+        ensures ok { OnOk result (AddsSetting self.old self.new
+            (SetAlignmentVertical entity alignment)) }
         ensures err { OnErr result (self.new ≡ self.old) }
         ensures global { entity ≡ Entity.Global → IsOk result }
         ensures others { self.new ≡
@@ -203,7 +205,8 @@ impl SpannedConfig {
     /// Sets the character that fills up the lines of an entity's texts. Where an allocation fails
     /// the configuration is as it was; a value for the whole table is never refused.
     pub fn set_justification(&mut self, entity: Entity, character: char) -> Result<(), AllocError>
-        ensures ok { OnOk result (AddsSetting self.old self.new (SetJustification entity character)) }
+        ensures ok { OnOk result (AddsSetting self.old self.new
+            (SetJustification entity character)) }
         ensures err { OnErr result (self.new ≡ self.old) }
         ensures global { entity ≡ Entity.Global → IsOk result }
         ensures others { self.new ≡ record self.old { justification = self.new.justification } }
@@ -226,7 +229,8 @@ impl SpannedConfig {
         entity: Entity,
         color: Option<ANSIBuf>,
     ) -> Result<(), AllocError>
-        ensures ok { OnOk result (AddsSetting self.old self.new (SetJustificationColor entity color)) }
+        ensures ok { OnOk result (AddsSetting self.old self.new
+            (SetJustificationColor entity color)) }
         ensures err { OnErr result (self.new ≡ self.old) }
         ensures global { entity ≡ Entity.Global → IsOk result }
         ensures others { self.new ≡

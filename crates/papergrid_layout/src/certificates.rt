@@ -43,7 +43,8 @@ where
     <<R as Records>::Iter as IntoRecords>::Cell: AsStr + Drop,
     requires { R.is_lawful records }
     ensures { UnlessMemory result ((cells : List (List R.Iter.Cell)) × R.tells records cells
-        × Answers IsCertificateOrNone (problem_of (spanned_grid config.now) (line_measure R.Iter.Cell.text)
+        × Answers IsCertificateOrNone
+        (problem_of (spanned_grid config.now) (line_measure R.Iter.Cell.text)
         (R.columns records) cells Columns) result) }
 {
     solve_along::<ByShares, ByLines, _, _>(alloc, records, config, Direction::Columns, true).map(
@@ -69,7 +70,8 @@ where
     <<R as Records>::Iter as IntoRecords>::Cell: AsStr + Drop,
     requires { R.is_lawful records }
     ensures { UnlessMemory result ((cells : List (List R.Iter.Cell)) × R.tells records cells
-        × Answers IsCertificateOrNone (problem_of (spanned_grid config.now) (line_measure R.Iter.Cell.text)
+        × Answers IsCertificateOrNone
+        (problem_of (spanned_grid config.now) (line_measure R.Iter.Cell.text)
         (R.columns records) cells Rows) result) }
 {
     solve_along::<ByShares, ByLines, _, _>(alloc, records, config, Direction::Rows, true).map(

@@ -54,7 +54,8 @@ pub fn equal_text_measures<S: AsStr>()
 pub fn cells_by_place<C>()
     ensures cells { (rows : List (List C)) (p : Position) (cell : C) →
         Contains (positioned_cells rows) (p, cell) ↔ IsCellAt rows p cell }
-    ensures order { (rows : List (List C)) → AllPairs (λ x y. IsBefore x.0 y.0) (positioned_cells rows) }
+    ensures order { (rows : List (List C)) →
+        AllPairs (λ x y. IsBefore x.0 y.0) (positioned_cells rows) }
 {}
 
 /// Sizes do not depend on the order in which spans of different cells were set, side by side or
@@ -84,7 +85,8 @@ pub fn lent_cells<C, D, S: AsStr>()
     ensures texts { (rows : List (List (Bor (Measured S)))) →
         All (All (λ t. IsNewText S.text t.now)) rows →
         (direction : Direction) (grid : Grid) →
-        demands_of direction grid (cell_measure ⟦<&'static Text<S> as Cell>⟧.width ⟦<&'static Text<S> as Cell>⟧.lines) rows
+        demands_of direction grid (cell_measure ⟦<&'static Text<S> as Cell>⟧.width
+        ⟦<&'static Text<S> as Cell>⟧.lines) rows
         ≡ demands_of direction grid (line_measure ⟦<&'static Text<S> as AsStr>⟧.text) rows }
 {}
 
@@ -135,7 +137,8 @@ pub fn least_as_by_shares<C>()
         AreLeastSizes (problem_of grid measure columns rows direction) least →
         IsLaminar (demands_of direction grid measure rows) → least ≡ sizes }
     ensures accepted { (problem : Problem) (sizes : List ℕ) (places : List Position) →
-        AreLeastSizes problem sizes → AreCriticalPath problem places → IsAccepted problem sizes places }
+        AreLeastSizes problem sizes → AreCriticalPath problem places →
+        IsAccepted problem sizes places }
 {}
 
 /// A clone of a dimension, of a place or of an error equals it.

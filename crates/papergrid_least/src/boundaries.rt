@@ -18,8 +18,10 @@ fn lay(boundaries: &mut [usize], base: &[usize], from: usize, to: usize) -> Opti
     ensures before { IfSome result (λ done. (i : ℕ) → i ≤ from →
         slice_index boundaries.new i ≡ slice_index boundaries.old i) }
     ensures laid { IfSome result (λ done. (i : ℕ) → from ≤ i → i < to →
-        slice_index boundaries.new (i + 1) ≡ slice_index boundaries.new i + slice_index base.now i) }
-    ensures too_large { IfNone result ((boundary : ℕ → ℕ) → slice_index boundaries.old from ≤ boundary from →
+        slice_index boundaries.new (i + 1)
+        ≡ slice_index boundaries.new i + slice_index base.now i) }
+    ensures too_large { IfNone result ((boundary : ℕ → ℕ) →
+        slice_index boundaries.old from ≤ boundary from →
         AreSteps base.now from (length base.now) boundary → 2 ^ 64 ≤ boundary (length base.now)) }
 {
     for i in from..to {
@@ -36,7 +38,8 @@ pub fn lay_lowest(boundaries: &mut [usize], base: &[usize], cells: &[Demand]) ->
     requires sorted { IsNonDecreasingBy end_of cells.now }
     ensures length { IfSome result (λ done. length boundaries.new ≡ length boundaries.old) }
     ensures laid { IfSome result (λ done. AreLaid base.now cells.now (slice_index boundaries.new)) }
-    ensures below { IfSome result (λ done. (boundary : ℕ → ℕ) → AreLaid base.now cells.now boundary →
+    ensures below { IfSome result (λ done. (boundary : ℕ → ℕ) →
+        AreLaid base.now cells.now boundary →
         (i : ℕ) → i ≤ length base.now → slice_index boundaries.new i ≤ boundary i) }
     ensures too_large { IfNone result ((boundary : ℕ → ℕ) → AreLaid base.now cells.now boundary →
         2 ^ 64 ≤ boundary (length base.now)) }

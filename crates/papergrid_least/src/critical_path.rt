@@ -18,9 +18,11 @@ use std::alloc::{AllocError, Global};
 fn is_tight(lowest_position: &[usize], lines: &Lines, cell: Demand) -> bool
     requires table { IsInTable (length lines.now) cell }
     requires ends { end_of cell < length lowest_position.now }
-    requires apart { slice_index lowest_position.now cell.start + net_minimum (line_at lines.now) cell
+    requires apart { slice_index lowest_position.now cell.start
+        + net_minimum (line_at lines.now) cell
         ≤ slice_index lowest_position.now (end_of cell) }
-    ensures { result ≡ (slice_index lowest_position.now cell.start + net_minimum (line_at lines.now) cell
+    ensures { result ≡ (slice_index lowest_position.now cell.start
+        + net_minimum (line_at lines.now) cell
         == slice_index lowest_position.now (end_of cell)) }
 {
     lowest_position[cell.start] + asking(lines, cell).minimum
@@ -38,11 +40,13 @@ pub fn mark_tight_cells(
     requires boundaries { length lowest_position.now ≡ length tight_cells.old }
     requires table { All (IsInTable (length lines.now)) cells.now }
     requires ends { All (λ d. end_of d < length tight_cells.old) cells.now }
-    requires apart { All (λ d. slice_index lowest_position.now d.start + net_minimum (line_at lines.now) d
+    requires apart { All (λ d. slice_index lowest_position.now d.start
+        + net_minimum (line_at lines.now) d
         ≤ slice_index lowest_position.now (end_of d)) cells.now }
     ensures length { length tight_cells.new ≡ length tight_cells.old }
     ensures first { EachIndex tight_cells.new (λ i. slice_index_or tight_cells.new i None ≡
-        find (is_tight_by (net_minimum (line_at lines.now)) (slice_index lowest_position.now) i) cells.now) }
+        find (is_tight_by (net_minimum (line_at lines.now)) (slice_index lowest_position.now) i)
+        cells.now) }
 {
     // The last cells first, so that the first tight one is the one that stays.
     for passed in 0..cells.len() {

@@ -19,7 +19,8 @@ pub fn fits_by_boundaries()
     ensures fits { (problem : Problem) (sizes : List ℕ) →
         All (IsInTable problem.count) problem.demands → length sizes ≡ problem.count →
         Fits problem sizes ↔
-        AreBoundaries (net_minimum problem.line) problem.count problem.demands (boundaries_of sizes) }
+        AreBoundaries (net_minimum problem.line) problem.count problem.demands
+        (boundaries_of sizes) }
     ensures between { (problem : Problem) (boundary : ℕ → ℕ) →
         All (IsInTable problem.count) problem.demands →
         AreBoundaries (net_minimum problem.line) problem.count problem.demands boundary →

@@ -25,7 +25,8 @@ fn critical_path_places(
     lowest_position: &[usize],
 ) -> Result<Vec<Position>, AllocError>
     requires small { kept.now.is_large ≡ false }
-    requires lowest_position { (problem : Problem) × AreGathered problem.count kept.now problem.demands
+    requires lowest_position { (problem : Problem)
+        × AreGathered problem.count kept.now problem.demands
         × AreLowestPositions problem lines.now lowest_position.now }
     ensures { (problem : Problem) → AreGathered problem.count kept.now problem.demands →
         AreLowestPositions problem lines.now lowest_position.now →
@@ -47,7 +48,8 @@ fn certificate_of(
     lowest_position: &[usize],
 ) -> Result<Option<Vec<Position>>, AllocError>
     requires small { kept.now.is_large ≡ false }
-    requires lowest_position { (problem : Problem) × AreGathered problem.count kept.now problem.demands
+    requires lowest_position { (problem : Problem)
+        × AreGathered problem.count kept.now problem.demands
         × AreLowestPositions problem lines.now lowest_position.now }
     ensures asked { (problem : Problem) → AreGathered problem.count kept.now problem.demands →
         AreLowestPositions problem lines.now lowest_position.now →

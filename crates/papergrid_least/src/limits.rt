@@ -26,7 +26,8 @@ pub struct Limits {
 /// As many zeros, and then one more number.
 fn zeros_and(alloc: Global, count: usize, last: usize) -> Result<Vec<usize>, AllocError>
     ensures length { IfOk result (λ boundaries. length boundaries.items ≡ count + 1) }
-    ensures zeros { IfOk result (λ boundaries. (i : ℕ) → i < count → slice_index boundaries.items i ≡ 0) }
+    ensures zeros { IfOk result (λ boundaries. (i : ℕ) → i < count →
+        slice_index boundaries.items i ≡ 0) }
     ensures last { IfOk result (λ boundaries. slice_index boundaries.items count ≡ last) }
 {
     let mut boundaries = vec![in alloc; 0; count]?;
@@ -39,8 +40,10 @@ fn zeros_and(alloc: Global, count: usize, last: usize) -> Result<Vec<usize>, All
 fn lowest_of(alloc: Global, base: &[usize], cells: &[Demand]) -> LayoutResult<Vec<usize>>
     requires table { All (IsInTable (length base.now)) cells.now }
     requires sorted { IsNonDecreasingBy end_of cells.now }
-    ensures lowest_position { IfOk result (λ boundaries. AreLowestBoundaries base.now cells.now boundaries.items) }
-    ensures refused { IfErr result (Refuses ((boundary : ℕ → ℕ) → AreLaid base.now cells.now boundary →
+    ensures lowest_position { IfOk result
+        (λ boundaries. AreLowestBoundaries base.now cells.now boundaries.items) }
+    ensures refused { IfErr result
+        (Refuses ((boundary : ℕ → ℕ) → AreLaid base.now cells.now boundary →
         2 ^ 64 ≤ boundary (length base.now))) }
 {
     let mut boundaries = zeros_and(alloc, base.len(), 0)?;
@@ -61,7 +64,8 @@ fn highest_of(
     requires sorted { AreLaterFirst cells.now }
     requires room { (boundary : ℕ → ℕ) × AreLaid base.now cells.now boundary
         × (boundary (length base.now) ≤ total) }
-    ensures { IfOk result (λ boundaries. AreHighestBoundaries base.now cells.now total boundaries.items) }
+    ensures { IfOk result (λ boundaries.
+        AreHighestBoundaries base.now cells.now total boundaries.items) }
 {
     let mut boundaries = zeros_and(alloc, base.len(), total)?;
     lay_highest(&mut boundaries, base, cells);
@@ -78,7 +82,8 @@ pub fn limits_of(
     requires lines { length lines.now ≡ length base.now + 1 }
     requires table { All (IsInTable (length base.now)) cells.now }
     ensures limits { let line = line_at lines.now in
-        IfOk result (AreLimits line base.now (map (with_net_minimum (net_minimum line)) cells.now)) }
+        IfOk result (AreLimits line base.now
+        (map (with_net_minimum (net_minimum line)) cells.now)) }
     ensures refused { let line = line_at lines.now in
         IfErr result (Refuses ((boundary : ℕ → ℕ) →
         AreLaid base.now (map (with_net_minimum (net_minimum line)) cells.now) boundary →

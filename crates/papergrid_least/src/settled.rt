@@ -28,12 +28,14 @@ pub fn make_least(
     requires lines { length lines.now ≡ length sizes.old + 1 }
     requires table { All (IsInTable (length sizes.old)) cells.now }
     ensures limits { let line = line_at lines.now in
-        IfOk result (AreLimits line sizes.old (map (with_net_minimum (net_minimum line)) cells.now)) }
+        IfOk result (AreLimits line sizes.old
+        (map (with_net_minimum (net_minimum line)) cells.now)) }
     ensures sizes { let line = line_at lines.now in
         let count = length sizes.old in
         let shares = fold (grown_sizes line) sizes.old (by_span count cells.now) in
         IfOk result (λ limits. sizes.new ≡
-        sizes_between count (λ i. min (boundaries_of shares i) (slice_index limits.highest_position.items i))) }
+        sizes_between count (λ i. min (boundaries_of shares i)
+        (slice_index limits.highest_position.items i))) }
     ensures refused { let line = line_at lines.now in
         IfErr result (Refuses ((boundary : ℕ → ℕ) →
         AreLaid sizes.old (map (with_net_minimum (net_minimum line)) cells.now) boundary →

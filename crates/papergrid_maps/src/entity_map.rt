@@ -251,7 +251,8 @@ impl<T: Clone> EntityMap<T> {
     /// a value equals it.
     pub fn insert(&mut self, entity: Entity, value: T) -> Result<(), AllocError>
         requires equal_clones { (x y : T) → T.is_clone x y → y ≡ x }
-        ensures ok { OnOk result (AppendsCalls self.old self.new (MapCall.Insert entity value ∷ [])) }
+        ensures ok { OnOk result (AppendsCalls self.old self.new
+            (MapCall.Insert entity value ∷ [])) }
         ensures err { OnErr result (self.new ≡ self.old) }
         ensures global { entity ≡ Entity.Global → IsOk result }
     {

@@ -33,7 +33,8 @@ use std::hash::Hash;
 /// A map that was made with a value and has the calls as its history has at each position the
 /// value that they decide.
 pub fn history_decides<T>()
-    ensures { (given : T) (calls : List (MapCall T)) (stored : Stored T) → HasMapHistory given calls stored →
+    ensures { (given : T) (calls : List (MapCall T)) (stored : Stored T) →
+        HasMapHistory given calls stored →
         (pos : Position) → stored_value stored pos ≡ effective_value given calls pos }
 {}
 

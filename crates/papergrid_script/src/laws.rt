@@ -25,7 +25,8 @@ pub fn entity_form()
 
 /// A line is read exactly where it is text that is spelled so.
 pub fn line_form()
-    ensures read { (line : List ℕ) (s : Said) → line_says line ≡ Some s → IsUtf8 line × IsLine line s }
+    ensures read { (line : List ℕ) (s : Said) → line_says line ≡ Some s →
+        IsUtf8 line × IsLine line s }
     ensures spelled { (line : List ℕ) (s : Said) →
         IsUtf8 line → IsLine line s → line_says line ≡ Some s }
 {}

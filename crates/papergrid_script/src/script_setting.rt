@@ -33,7 +33,8 @@ pub enum ScriptSetting {
 impl ScriptSetting {
     /// Makes the call of a configuration that the setting is, or is out of memory.
     fn apply(self, config: &mut SpannedConfig) -> Result<(), AllocError>
-        ensures told { OnOk result (AppendsSettings config.old config.new (setting_told self ∷ [])) }
+        ensures told { OnOk result
+            (AppendsSettings config.old config.new (setting_told self ∷ [])) }
         ensures free { is_free (setting_told self) ≡ true → IsOk result }
     {
         match self {
@@ -78,7 +79,8 @@ pub fn configuration_of(
     alloc: Global,
     settings: Vec<ScriptSetting>,
 ) -> Result<SpannedConfig, AllocError>
-    ensures told { IfOk result (λ config. HasSettingHistory (map setting_told settings.items) config) }
+    ensures told { IfOk result (λ config.
+        HasSettingHistory (map setting_told settings.items) config) }
     ensures free { All (λ setting. is_free (setting_told setting) ≡ true) settings.items →
         IsOk result }
 {

@@ -64,7 +64,8 @@ impl<T> BorderTable<T> {
     /// The table that holds nothing. It does not allocate.
     pub fn new(alloc: Global) -> Self
         ensures told { HasBorderHistory [] result }
-        ensures cleared { (calls : List (BorderCall T)) → HasBorderHistory (calls ++ Clear ∷ []) result }
+        ensures cleared { (calls : List (BorderCall T)) →
+            HasBorderHistory (calls ++ Clear ∷ []) result }
     {
         BorderTable {
             global: None,
@@ -244,7 +245,8 @@ impl<T: Drop> BorderTable<T> {
     pub fn insert_border(&mut self, pos: Position, border: Border<T>) -> Result<(), AllocError>
         requires row { pos.row + 1 < 2 ^ 64 }
         requires col { pos.col + 1 < 2 ^ 64 }
-        ensures ok { OnOk result (AppendsHistory HasBorderHistory self.old self.new (InsertBorder pos border ∷ [])) }
+        ensures ok { OnOk result (AppendsHistory HasBorderHistory self.old self.new
+            (InsertBorder pos border ∷ [])) }
         ensures err { OnErr result (self.new ≡ self.old) }
     {
         parts::reserve(
@@ -285,7 +287,8 @@ impl<T: Drop> BorderTable<T> {
         line: HorizontalLine<T>,
     ) -> Result<(), AllocError>
         ensures ok { OnOk result
-            (AppendsHistory HasBorderHistory self.old self.new (InsertHorizontalLine row line ∷ [])) }
+            (AppendsHistory HasBorderHistory self.old self.new
+            (InsertHorizontalLine row line ∷ [])) }
         ensures err { OnErr result (self.new ≡ self.old) }
     {
         self.horizontal_lines.put(row, line)
@@ -307,7 +310,8 @@ impl<T: Drop> BorderTable<T> {
 
     /// Removes the horizontal line at a row, whatever the number of rows.
     pub fn remove_horizontal_line(&mut self, row: usize, _count: usize)
-        ensures { AppendsHistory HasBorderHistory self.old self.new (RemoveHorizontalLine row ∷ []) }
+        ensures { AppendsHistory HasBorderHistory self.old self.new
+            (RemoveHorizontalLine row ∷ []) }
     {
         self.horizontal_lines.take(row);
     }

@@ -15,7 +15,8 @@ use crate::{BorderTable, OffsetTable};
 
 /// The border table that calls make has them as its history, and no other does.
 pub fn history_makes_borders<T>()
-    ensures told { (calls : List (BorderCall T)) → borders.HasBorderHistory calls (borders_made calls) }
+    ensures told { (calls : List (BorderCall T)) →
+        borders.HasBorderHistory calls (borders_made calls) }
     ensures only { (calls : List (BorderCall T)) (stored : StoredBorders T) →
         borders.HasBorderHistory calls stored → stored ≡ borders_made calls }
 {}
@@ -40,7 +41,8 @@ pub fn equal_tables_by_history<T: Eq>()
     ensures borders { (calls : List (BorderCall T)) (s t : StoredBorders T) →
         borders.HasBorderHistory calls s → borders.HasBorderHistory calls t →
         ⟦<BorderTable<T> as PartialEq>⟧.eq s t ≡ true }
-    ensures overrides { (calls : List (OffsetCall T)) (s t : FinMap position_cmp (StoredOffsets T)) →
+    ensures overrides { (calls : List (OffsetCall T))
+        (s t : FinMap position_cmp (StoredOffsets T)) →
         overrides.HasOverrideHistory calls s → overrides.HasOverrideHistory calls t →
         ⟦<OffsetTable<T> as PartialEq>⟧.eq s t ≡ true }
 {}

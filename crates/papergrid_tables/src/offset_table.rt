@@ -132,7 +132,8 @@ impl<T> OffsetTable<T> {
 impl<T: Drop> OffsetTable<T> {
     /// Sets the value of a position at an offset. Where an allocation fails the table is as it was.
     pub fn set(&mut self, pos: Position, offset: Offset, value: T) -> Result<(), AllocError>
-        ensures ok { OnOk result (AppendsHistory HasOverrideHistory self.old self.new (SetAt pos offset value ∷ [])) }
+        ensures ok { OnOk result (AppendsHistory HasOverrideHistory self.old self.new
+            (SetAt pos offset value ∷ [])) }
         ensures err { OnErr result (self.new ≡ self.old) }
     {
         set_override(self.alloc, &mut self.overrides, pos, offset, value)

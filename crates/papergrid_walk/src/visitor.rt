@@ -83,7 +83,8 @@ where
     <<R as Records>::Iter as IntoRecords>::Cell: Drop,
     requires lawful { R.is_lawful records }
     requires ready { V.ready visitor.old 0 0 }
-    ensures consumed { IfOk result (λ rows. (cells : List (List R.Iter.Cell)) × R.tells records cells
+    ensures consumed { IfOk result
+        (λ rows. (cells : List (List R.Iter.Cell)) × R.tells records cells
         × V.consumed visitor.old visitor.new (positioned_cells cells) × (rows ≡ length cells)) }
     ensures fails { OnErr result V.may_fail }
 {
