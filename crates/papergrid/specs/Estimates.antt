@@ -20,8 +20,8 @@ use Rattle.papergrid_layout.specs.declared.sizing.Sizing.TheVariants.{ByShares, 
 use Rattle.papergrid.specs.Grids.{grid_of}
 use Rattle.papergrid_script.specs.Scripts.{Table}
 
--- the sizes are the widths, the heights, the totals of both with the lines, and the certificates of both: the places of
--- cells that certify them, where there are such
+-- the sizes are the widths, the heights, the totals of both with the lines, and the certificates of both: the positions
+-- of cells that certify them, where there are such
 pub data Estimate : Type 0 where
   OutOfTable : Position → Estimate
   TooLarge : Estimate
@@ -33,7 +33,7 @@ unless_large widths heights total_width total_height width_witness height_witnes
     if nat_le (2 ^ 64) total_width || nat_le (2 ^ 64) total_height then TooLarge
     else Sized widths heights total_width total_height width_witness height_witness
 
--- out of the table at a place, where there is one, else what was found
+-- out of the table at a position, where there is one, else what was found
 abbrev pub unless_out : Option Position → Estimate → Estimate
 unless_out (Some place) sized = OutOfTable place
 unless_out None sized = sized
@@ -43,7 +43,7 @@ abbrev pub sizes_by : Sizing → Problem → List ℕ
 sizes_by ByShares problem = sizes_of problem
 sizes_by Least problem = least_of problem
 
--- the places of the cells that certify them
+-- the positions of the cells that certify them
 abbrev pub certificate_by : Sizing → Problem → Option (List Position)
 certificate_by ByShares problem = certificate_by_shares problem
 certificate_by Least problem = Some (map place_of (critical_path problem))

@@ -22,7 +22,7 @@ number_line word numbers = word ++ spaced_numbers numbers ++ newline ∷ []
 abbrev pub spaced_places : List Position → List ℕ
 spaced_places places = flat_map (λ place. space ∷ (decimal place.row ++ (comma ∷ decimal place.col))) places
 
--- the cells that certify, by their places, or that there are none such
+-- the cells that certify, by their positions, or that there are none such
 abbrev pub certificate_line : List ℕ → Option (List Position) → List ℕ
 certificate_line word None = word ++ codes " none" ++ newline ∷ []
 certificate_line word (Some places) = word ++ spaced_places places ++ newline ∷ []

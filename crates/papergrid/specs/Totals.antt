@@ -41,8 +41,8 @@ abbrev pub AreSizesBy : Sizing → Problem → List ℕ → Type 0
 AreSizesBy ByShares = AreSizes
 AreSizesBy Least = AreLeastSizes
 
--- the places of the cells that certify that the sizes are least. By shares there are none where two longer ranges are neither
--- nested nor disjoint, and only there; least sizes always have them
+-- the positions of the cells that certify that the sizes are least. By shares there are none where two longer ranges are
+-- neither nested nor disjoint, and only there; least sizes always have them
 abbrev pub IsCertificateBy : Sizing → Problem → Option (List Position) → Type 0
 IsCertificateBy ByShares problem None = NoneCertify problem
 IsCertificateBy ByShares problem (Some places) = AreCertifying problem places

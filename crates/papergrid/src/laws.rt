@@ -48,9 +48,9 @@ pub fn grid_by_settings()
 /// with room where ranges are nested or disjoint; else its sizes are those of its visible cells,
 /// with room for each of them and no size above the greatest minimum size over it, least where
 /// ranges are nested or disjoint, and its totals count the lines. The certificate along a direction
-/// is none exactly where two ranges are neither nested nor disjoint, else the places of cells that
-/// certify that the sizes are least. Of least sizes all this holds whatever ranges cross, and there
-/// always is a certificate; so they are too large only where those by shares are.
+/// is none exactly where two ranges are neither nested nor disjoint, else the positions of cells
+/// that certify that the sizes are least. Of least sizes all this holds whatever ranges cross, and
+/// there always is a certificate; so they are too large only where those by shares are.
 pub fn estimate_by_grid()
     ensures out { (sizing : Sizing) (table : Table) (place : Position) →
         (estimate_of sizing table ≡ OutOfTable place)

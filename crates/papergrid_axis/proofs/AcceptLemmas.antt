@@ -1,4 +1,4 @@
--- The sums over the listed cells tell whether the places are those of a certificate.
+-- The sums over the listed cells tell whether the positions are those of a certificate.
 use Rattle.std.proofs.Common.{◌≡◌, ℕ, zero, suc, ◌+◌, ◌*◌, ◌<◌, ◌≤◌, ◌≢◌, ◌==◌, ◌&&◌, Bool, true, false, cond, inl, inr, List, [], ◌∷◌, length, map, get_or, sum, sum_by, refl, sym, ap, ap₂, ◌∙◌, subst, subst₂, arith, eqb, eqb-true, eq-eqb}
 use Rattle.std.specs.Prelude.{All, AllPairs, Contains, ⊤}
 use Rattle.std.specs.List.{AllByRecursion}
@@ -37,7 +37,7 @@ at_own_place d = and_from (eqb d.row d.row) (eqb d.col d.col) (eq-eqb d.row d.ro
 not_at_place : (d : Demand) (p : Position) → place_of d ≢ p → stands_at d p ≡ false
 not_at_place d p ne = elim (cases_Bool (stands_at d p)) [ inl t ↦ absurd (ne (at_place d p t)) | inr f ↦ f ]
 
--- the sum over the cells at a place
+-- the sum over the cells at a position
 abbrev at_sum : (Demand → ℕ) → Position → List Demand → ℕ
 at_sum f p ds = sum_by (λ d. cond (stands_at d p) (f d) 0) ds
 
@@ -71,7 +71,7 @@ all_listed-cons f p ps (d ∷ ds) =
           omega arith
     ]
 
--- no two of the cells stand at one place, by recursion
+-- no two of the cells stand at one position, by recursion
 abbrev IsDistinct : List Demand → Type 0
 IsDistinct [] = ⊤
 IsDistinct (d ∷ ds) = AllByRecursion (λ e. place_of d ≢ place_of e) ds × IsDistinct ds
@@ -111,7 +111,7 @@ at_sum-here f ds c distinct m = go ds distinct m.0 m.1 m.2
         let ih : at_sum f (place_of c) ds ≡ f c = go ds distinct.1 k (omega arith) e in
         omega arith
 
--- at a place there is one cell at most
+-- at a position there is one cell at most
 at_sum-one : (p : Position) (ds : List Demand) → IsDistinct ds → at_sum (λ _. 1) p ds ≤ 1
 at_sum-one p [] distinct = omega arith
 at_sum-one p (d ∷ ds) distinct =
@@ -147,7 +147,7 @@ all_listed-few (p ∷ ps) ds distinct =
     let ih : all_listed (λ _. 1) ps ds ≤ length ps = all_listed-few ps ds distinct in
     omega arith
 
--- where as many cells are listed as there are places, each place is a cell's
+-- where as many cells are listed as there are positions, each position is a cell's
 listed_cells : (places : List Position) (ds : List Demand) → IsDistinct ds → all_listed (λ _. 1) places ds ≡ length places →
     (cells : List Demand) × (map place_of cells ≡ places) × AllByRecursion (Contains ds) cells
 listed_cells [] ds distinct e = ([], refl, tt)
@@ -159,7 +159,7 @@ listed_cells (p ∷ ps) ds distinct e =
     let found : (c : Demand) × Contains ds c × (place_of c ≡ p) = at_sum-found p ds (omega arith) in
     (found.0 ∷ rest.0, ap₂ (λ q qs. q ∷ qs) found.2 rest.1, (found.1, rest.2))
 
--- the sums over the listed cells are the sums over the cells at the places
+-- the sums over the listed cells are the sums over the cells at the positions
 all_listed-cells : (f : Demand → ℕ) (ds : List Demand) → IsDistinct ds → (cells : List Demand) → AllByRecursion (Contains ds) cells → all_listed f (map place_of cells) ds ≡ sum_by f cells
 all_listed-cells f ds distinct [] all = all_listed-nil f ds
 all_listed-cells f ds distinct (c ∷ cells) all =
@@ -264,7 +264,7 @@ pub IsLeast-accepted : (line : ℕ → Bool) (n : ℕ) (ds : List Demand) (sizes
 IsLeast-accepted line n ds sizes places spans a =
     IsLeast-from_certificate line n ds a.cells sizes (none_out n ds a.none_out spans) a.fits a.certificate
 
--- ---- how many places are accepted
+-- ---- how many positions are accepted
 
 upto_ones : (n : ℕ) → upto (λ _. 1) n ≡ n
 upto_ones zero = refl

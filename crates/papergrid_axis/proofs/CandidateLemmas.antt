@@ -11,7 +11,7 @@ use Rattle.papergrid_values.specs.declared.direction.Direction.TheVariants.{Colu
 use Rattle.papergrid_axis.specs.ForProofs.Checks.{AreDisjointAt, AreInOrder}
 use Rattle.papergrid_values.specs.Positions.{AreRising, along}
 
--- one more place, where each is related to the next
+-- one more position, where each is related to the next
 module _ (R : Position → Position → Type 0) (R-trans : (p q r : Position) → R p q → R q r → R p r) (places : List Position) (i : ℕ) (one : 1 ≤ i)
     (before : (j k : ℕ) (p : Position) → j < k → k < i → R (get_or places j p) (get_or places k p)) (next : (p : Position) → R (get_or places (i - 1) p) (get_or places i p)) where
   pub chain-more : (j k : ℕ) (p : Position) → j < k → k < i + 1 → R (get_or places j p) (get_or places k p)
@@ -64,7 +64,7 @@ count_by-one f (p ∷ ps) (suc i) e l others =
     let all : count_by f (p ∷ ps) ≡ cond (f (get_or ps i e)) 1 0 = omega arith in
     all
 
--- ---- where the numbers rise, a place can be listed only where they reach its own
+-- ---- where the numbers rise, a position can be listed only where they reach its own
 
 abbrev pub is_same : Position → Position → Bool
 is_same p q = p.row == q.row && p.col == q.col
@@ -82,7 +82,7 @@ never_falls direction places rising i j d le l = elim (cases_eq i j) [
   | inr ne ↦ let lt : along direction (get_or places i d) < along direction (get_or places j d) = rising i j d (omega arith) l in omega arith
 ]
 
--- the place at an index has that very number, so all before it have lesser ones
+-- the position at an index has that very number, so all before it have lesser ones
 pub point-guess : (direction : Direction) (places : List Position) (start : ℕ) (e : Position) → AllPairs (AreRising direction) places → start < length places → along direction (get_or places start e) ≡ start →
     IsPartitionPoint (λ p. nat_lt (along direction p) start ≡ true) (λ p. nat_lt (along direction p) start ≡ false) places start
 point-guess direction places start e rising l is = (

@@ -68,7 +68,7 @@ module _ (line : ℕ → Bool) (sizes : List ℕ) (places : List Position) (dire
         few = omega arith;
       }
 
-  -- the cell has room, and does not make more listed cells than there are places
+  -- the cell has room, and does not make more listed cells than there are positions
   pub Checks-more : old.holds ≡ true → end_of d ≤ length sizes → HasRoom line sizes d → old.found + times_listed places d ≤ length places → d.minimum ≤ 73786976294838206464 → inner_lines line d ≤ 18446744073709551616 →
       Checks line sizes places direction span_of
       (record { holds = true; found = old.found + times_listed places d; minimums = old.minimums + d.minimum * times_listed places d; inner = old.inner + inner_lines line d * times_listed places d }) (ds ++ d ∷ [])

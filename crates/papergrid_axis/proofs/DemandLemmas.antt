@@ -160,7 +160,7 @@ table-rest_of n limit ds table = All-filter (λ d. not (is_single limit d)) (IsI
 
 -- ---- one cell more
 
--- a cell that covers a number alone and needs no more than the one that is kept there changes nothing
+-- a cell that covers a track alone and needs no more than the one that is kept there changes nothing
 pub gathered_for-met : (single_span : List Demand) (d : Demand) → d.minimum ≤ (get_or single_span d.start no_demand).minimum → (k : ℕ) →
     get_or single_span k no_demand ≡ gathered_for k (get_or single_span k no_demand) d
 gathered_for-met single_span d met k = elim (cases_Bool (eqb d.span 1 && eqb d.start k)) [
@@ -194,7 +194,7 @@ module _ (limit : ℕ) (old new : Demands) (demands : List Demand) (d : Demand) 
   spans : All (λ e. 1 ≤ e.span) (demands ++ d ∷ [])
   spans = All-push (λ e. 1 ≤ e.span) demands d held.spans one
 
-  -- one that covers a number alone, below the limit, is kept by its number
+  -- one that covers a track alone, below the limit, is kept by its number
   pub Holds-single : is_single limit d ≡ true → new.rest.items ≡ old.rest.items →
       ((k : ℕ) → get_or new.single_span.items k no_demand ≡ gathered_for k (get_or old.single_span.items k no_demand) d) → HoldsDemands limit new (demands ++ d ∷ [])
   Holds-single single same kept = record {

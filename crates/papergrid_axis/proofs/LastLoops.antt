@@ -111,7 +111,7 @@ slot-kept demands growing_cells sizes single_span i l exact = elim (cases_Bool (
   ]
 ]
 
--- the cells by one look at each number are those of the certificate
+-- the cells by one look at each track are those of the certificate
 pub certificate_cells-by_slots : (demands growing_cells : List Demand) (sizes : List ℕ) (last : List (Option Demand)) (single_span : List Demand) → IsLaminarInOrder growing_cells → AllByRecursion (λ d. 1 ≤ d.span) growing_cells →
     ((i : ℕ) → i < length sizes → get_or last i None ≡ last_holding growing_cells i) → AreExact demands growing_cells sizes single_span →
     filter_map (certificate_slot last single_span sizes) (range_with_len 0 (length sizes)) ≡ certificate_cells (length sizes) demands growing_cells sizes

@@ -39,7 +39,7 @@ module _ (problem : Problem) where
   abbrev pub IsRefused : LayoutError → Type 0
   IsRefused e = IsRefusedWhere NoneHolds e
 
-  -- the places of the cells of the certificate
+  -- the positions of the cells of the certificate
   pub record AreCertifying (places : List Position) : Type 0 where
     pub none_out : first_out problem.count problem.demands ≡ None
     pub total : total_of problem (sizes_of problem) < 2 ^ 64
@@ -63,7 +63,7 @@ module _ (problem : Problem) where
   abbrev pub IsTotal : ℕ → Type 0
   IsTotal total = IsTotalBy AreSizes total
 
--- the places of the cells of the certificate, none where two ranges are neither nested nor disjoint
+-- the positions of the cells of the certificate, none where two ranges are neither nested nor disjoint
 abbrev pub IsCertificateOrNone : {Z : Type 0} → Problem → Option (Vec Position Z) → Type 0
 IsCertificateOrNone problem None = NoneCertify problem
 IsCertificateOrNone problem (Some places) = AreCertifying problem places.items
@@ -91,7 +91,7 @@ Answers holds problem result = AnswersWhere NoneHolds holds problem result
 abbrev pub IsSized : {Z : Type 0} → Problem → Result (Vec ℕ Z) LayoutError → Type 0
 IsSized {Z} problem result = Answers (λ p (sizes : Vec ℕ Z). AreSizes p sizes.items) problem result
 
--- what a checker accepts: no cell overflows the table, the sizes fit, and the places are those of cells that certify them
+-- what a checker accepts: no cell overflows the table, the sizes fit, and the positions are those of cells that certify them
 pub record IsAccepted (problem : Problem) (sizes : List ℕ) (places : List Position) : Type 0 where
   pub none_out : first_out problem.count problem.demands ≡ None
   pub fits : Fits problem sizes

@@ -8,7 +8,7 @@ use Rattle.papergrid_axis.specs.declared.demand.Demand.{Demand}
 use Rattle.papergrid_values.specs.declared.direction.Direction.{Direction}
 use Rattle.papergrid_values.specs.Positions.{along}
 
--- what the cell at a place asks for along a direction, by its span and its minimum size
+-- what the cell at a position asks for along a direction, by its span and its minimum size
 abbrev pub demand_of : Direction → Position → ℕ → ℕ → Demand
 demand_of direction place span minimum =
     record { row = place.row; col = place.col; start = along direction place; span = span; minimum = minimum }

@@ -10,7 +10,7 @@ use Rattle.papergrid_axis.specs.Fits.{greatest_minimum, range_sum}
 abbrev pub base_size : List Demand → ℕ → ℕ
 base_size demands i = greatest_minimum (λ d. d.span == 1 && d.start == i) demands
 
--- these minimum sizes for each of n numbers
+-- these minimum sizes for each of n tracks
 abbrev pub base_sizes : ℕ → List Demand → List ℕ
 base_sizes n demands = map (base_size demands) (range_with_len 0 n)
 

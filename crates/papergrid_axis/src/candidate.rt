@@ -9,21 +9,21 @@ use crate::axis::Axis;
 use crate::disjoint::{are_all_disjoint, ends_by};
 use papergrid_values::{Direction, Position};
 
-/// Sizes along a direction, and the places of cells that are to certify that they are least.
+/// Sizes along a direction, and the positions of cells that are to certify that they are least.
 #[derive(Clone, Copy, Debug)]
 pub struct Candidate<'a> {
     pub direction: Direction,
     pub sizes: &'a [usize],
     pub places: &'a [Position],
-    /// Whether each of the ranges at the places is known to end before a later one begins: then a
-    /// place is looked for by binary search, and no two ranges have a number in common.
+    /// Whether each of the ranges at the positions is known to end before a later one begins:
+    /// then a position is looked for by binary search, and no two ranges have a track in common.
     pub is_ordered: bool,
     /// Whether each range that begins within the sizes is known to end within them: then a cell for
     /// whose minimum size the first size of its range is enough has room, whatever its span.
     pub ends_within: bool,
 }
 
-/// Whether the range at a place ends at or before that at another begins.
+/// Whether the range at a position ends at or before that at another begins.
 fn is_before<A: Axis>(direction: Direction, axis: &A, place: Position, later: Position) -> bool
     ensures { IsTrue result ↔ AreInOrder direction (A.span_of axis.now) place later }
 {
@@ -34,7 +34,7 @@ fn is_before<A: Axis>(direction: Direction, axis: &A, place: Position, later: Po
     )
 }
 
-/// Whether each of the ranges at the places ends before a later one begins.
+/// Whether each of the ranges at the positions ends before a later one begins.
 pub fn are_in_order<A: Axis>(direction: Direction, axis: &A, places: &[Position]) -> bool
     ensures { IsTrue result ↔ AllPairs (AreInOrder direction (A.span_of axis.now)) places.now }
 {
@@ -53,8 +53,8 @@ fn count_all(places: &[Position], place: Position) -> usize
     places.iter().filter(|listed| place == **listed).count()
 }
 
-/// The index of the first place whose number is not below `start`, where the numbers rise. It is looked
-/// for at `start` itself before, where it is if all numbers up to that one have places.
+/// The index of the first position whose number is not below `start`, where the numbers rise. It is
+/// looked for at `start` itself before, where it is if all numbers up to that one have positions.
 fn index_rising(direction: Direction, places: &[Position], start: usize) -> usize
     requires { AllPairs (AreRising direction) places.now }
     ensures { IsPartitionPoint (λ p. nat_lt (along direction p) start ≡ true)
@@ -70,7 +70,7 @@ fn index_rising(direction: Direction, places: &[Position], start: usize) -> usiz
     )
 }
 
-/// How often a position is listed, where the numbers of the places rise.
+/// How often a position is listed, where the numbers of the positions rise.
 fn count_rising(direction: Direction, places: &[Position], place: Position) -> usize
     requires { AllPairs (AreRising direction) places.now }
     ensures { result ≡ count_of place places.now }
@@ -95,7 +95,7 @@ pub fn count_listed(candidate: &Candidate<'_>, place: Position) -> usize
     }
 }
 
-/// Whether no two of the ranges at the places have a number in common.
+/// Whether no two of the ranges at the positions have a track in common.
 pub fn are_disjoint<A: Axis>(candidate: &Candidate<'_>, axis: &A) -> bool
     requires { IsCandidate (A.span_of axis.now) candidate.now }
     ensures { let are_disjoint = AreDisjointAt candidate.now.direction (A.span_of axis.now) in

@@ -28,8 +28,9 @@ fn is_laminar_in_order(alloc: Global, count: usize, cells: &[Demand]) -> Result<
     Ok(are_laminar(&mut last, cells))
 }
 
-/// The certificate of the sizes, where it is asked for: the places of the cells that certify that they
-/// are least, by the starts of their ranges; none where two longer ranges are neither nested nor disjoint.
+/// The certificate of the sizes, where it is asked for: the positions of the cells that certify
+/// that they are least, by the starts of their ranges; none where two longer ranges are neither
+/// nested nor disjoint.
 pub fn certificate_of(
     alloc: Global,
     certify: bool,

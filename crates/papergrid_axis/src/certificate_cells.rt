@@ -13,7 +13,7 @@ use crate::last_cells::write_all;
 use papergrid_values::Position;
 use std::alloc::{AllocError, Global};
 
-/// The cell of the certificate at a number: the last growing cell there, where its range starts
+/// The cell of the certificate at a track: the last growing cell there, where its range starts
 /// there, or, where there is none, the single one.
 fn slot(last: Option<Demand>, single: Demand, size: usize, i: usize) -> Option<Demand>
     ensures { result ≡ slot_of last (Some single) size i }
@@ -30,7 +30,7 @@ fn slot(last: Option<Demand>, single: Demand, size: usize, i: usize) -> Option<D
     }
 }
 
-/// The cell at a number; none past the end.
+/// The cell at a track; none past the end.
 fn cell_at(last: &[Option<Demand>], i: usize) -> Option<Demand>
     ensures { result ≡ slice_index_or last.now i None }
 {
@@ -40,7 +40,7 @@ fn cell_at(last: &[Option<Demand>], i: usize) -> Option<Demand>
     }
 }
 
-/// The cells of the certificate, by one look at each number.
+/// The cells of the certificate, by one look at each track.
 fn certifying_cells(
     alloc: Global,
     last: &[Option<Demand>],
@@ -82,8 +82,8 @@ fn places(alloc: Global, cells: &[Demand]) -> Result<Vec<Position>, AllocError>
     cells.iter().map(|cell| cell.place()).collect(alloc)
 }
 
-/// The places of the cells of the certificate of those that grew, by the sizes after they did and
-/// by the cells that were kept for each track.
+/// The positions of the cells of the certificate of those that grew, by the sizes after they did
+/// and by the cells that were kept for each track.
 pub fn certifying_places(
     alloc: Global,
     single_span: &[Demand],

@@ -1,4 +1,4 @@
-//! Checking sizes and a list of places cell by cell, without allocating.
+//! Checking sizes and a list of positions cell by cell, without allocating.
 
 ghost use Rattle.std.specs.Prelude.{ℕ, Bool, ◌==◌, ◌&&◌, ◌*◌, ◌-◌, true, false, ◌≡◌, ◌+◌, ◌<◌, ◌≤◌, ◌^◌, ◌↔◌, ◌∷◌, ◌++◌, [], IfNone, IfSome, IsTrue, List, length, slice_index, sum};
 ghost use Rattle.papergrid_values.specs.declared.position.Position.{Position};
@@ -143,7 +143,7 @@ fn with_cell(checked: Checked, times: usize, minimum: u128, inner: usize) -> Che
     }
 }
 
-/// Whether a range that begins at a number has room for the minimum size whatever its span is,
+/// Whether a range that begins at a track has room for the minimum size whatever its span is,
 /// since the size of that number has.
 fn has_room_alone(candidate: &Candidate<'_>, start: usize, minimum: u128) -> bool
     ensures { IsTrue result → (candidate.now.ends_within ≡ true)

@@ -48,7 +48,7 @@ impl Demands {
     }
 }
 
-/// What is kept of the cells that cover a number alone.
+/// What is kept of the cells that cover a track alone.
 pub fn single_at(single_span: &[Demand], i: usize) -> Demand
     ensures { result ≡ slice_index_or single_span.now i no_demand }
 {
@@ -78,7 +78,7 @@ fn extend(single_span: &mut Vec<Demand>, i: usize) -> Result<(), AllocError>
     Ok(())
 }
 
-/// Keeps a cell that covers its number alone, where it needs more than the one that was kept there.
+/// Keeps a cell that covers its track alone, where it needs more than the one that was kept there.
 fn raise(single_span: &mut Vec<Demand>, demand: Demand) -> Result<(), AllocError>
     requires { demand.span ≡ 1 }
     ensures { OnOk result ((k : ℕ) → slice_index_or single_span.new.items k no_demand ≡
@@ -91,7 +91,7 @@ fn raise(single_span: &mut Vec<Demand>, demand: Demand) -> Result<(), AllocError
     Ok(())
 }
 
-/// Whether the cell that is kept for a number needs as much.
+/// Whether the cell that is kept for a track needs as much.
 fn is_met(single_span: &[Demand], i: usize, minimum: usize) -> bool
     ensures { result ≡ true → minimum ≤ (slice_index_or single_span.now i no_demand).minimum }
 {

@@ -39,7 +39,7 @@ fn is_disjoint<A: Axis>(
     true
 }
 
-/// Whether no two of the ranges at the positions have a number in common.
+/// Whether no two of the ranges at the positions have a track in common.
 pub fn are_all_disjoint<A: Axis>(direction: Direction, axis: &A, places: &[Position]) -> bool
     ensures { IsTrue result ↔ AllPairs (AreDisjointAt direction (A.span_of axis.now)) places.now }
 {

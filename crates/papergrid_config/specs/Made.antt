@@ -1,4 +1,4 @@
--- What a list of settings makes of the parts that are looked at place by place, and of a compact configuration.
+-- What a list of settings makes of the parts that are looked at part by part, and of a compact configuration.
 use Rattle.std.specs.Prelude.{ℕ, List, [], ◌∷◌, flat_map, reverse, Some, Option, option_map}
 use Rattle.papergrid_values.specs.Colors.{texts_of}
 use Rattle.papergrid_values.specs.declared.ansi_buf.ANSIBuf.{ANSIBuf}
@@ -20,7 +20,7 @@ use Rattle.papergrid_config.specs.declared.setting.Setting.TheVariants.{SetPaddi
 abbrev pub characters_of : List Setting → StoredBorders ℕ
 characters_of settings = borders_made (flat_map character_calls settings)
 
--- what the settings leave at each place of the lines, as the last call that sets it
+-- what the settings leave for each part of the lines, as the last call that sets it
 abbrev pub lines_from_settings : List Setting → BorderParts ℕ
 lines_from_settings settings = parts_from (reverse (flat_map character_calls settings))
 

@@ -8,7 +8,7 @@ use papergrid_tables::{BorderTable, OffsetTable};
 use papergrid_values::{ANSIBuf, AlignmentHorizontal, AlignmentVertical, Indent, Offset, Sides};
 use std::alloc::Global;
 
-/// The settings of a table: of each cell by entity, of the lines by place, overrides of their
+/// The settings of a table: of each cell by entity, of the lines by part, overrides of their
 /// characters and colours, spans, and the margin of the whole table.
 #[derive(Clone, Debug, PartialEq)]
 pub struct SpannedConfig {

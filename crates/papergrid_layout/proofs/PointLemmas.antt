@@ -25,7 +25,7 @@ pub none-but-visible : (config : SpannedConfig) (p q : Position) → (spanned_gr
     IsInRectangle (spanned_grid config).span q p → q ≢ p → ⊥
 none-but-visible config p q visible within other = (visible_test config.spans p).0 visible q other within
 
--- a point of a range from number s on, of n numbers, and the number whose stretch the point lies in
+-- a point of a range from track s on, of n numbers, and the number whose stretch the point lies in
 module _ (size : ℕ → ℕ) (line : ℕ → Bool) (s n x : ℕ) (from : offset size line s ≤ x) (to : x < offset size line s + extent size line s n) where
   pub number-within : (i : ℕ) → (offset size line i ≤ x) × (x < offset size line (i + 1)) → (s ≤ i) × (i < s + n)
   number-within i at = (first, last)

@@ -18,7 +18,7 @@ use Rattle.papergrid_walk.specs.ForProofs.Visits.{demands_by-append}
 use Rattle.papergrid_layout.specs.Answers.{first_out_of_table, overflows}
 use Rattle.papergrid_layout.specs.Certificates.{certificate_by_shares}
 
--- the places that a certificate gives, by the test of ranges that are nested or disjoint
+-- the positions that a certificate gives, by the test of ranges that are nested or disjoint
 pub certificate_is : {Z : Type 0} (problem : Problem) (found : Option (Vec Position Z)) → IsCertificateOrNone problem found →
     option_map (λ places. places.items) found ≡ certificate_by_shares problem
 certificate_is problem None none = elim (cases_Bool (is_laminar problem.demands)) [

@@ -16,12 +16,12 @@ use Rattle.papergrid_maps.specs.Grids.{Grid}
 use Rattle.papergrid_layout.specs.Answers.{IsBothRefusedWhere}
 use Rattle.papergrid_layout.specs.declared.certificates.Certified.{Certified}
 
--- whether these sizes, with these places of cells that certify them, are accepted; those that are, are least
+-- whether these sizes, with these positions of cells that certify them, are accepted; those that are, are least
 pub record IsChecked (problem : Problem) (sizes : List ℕ) (places : List Position) (answer : Bool) : Type 0 where
   pub exact : IsTrue answer ↔ IsAccepted problem sizes places
   pub least : IsTrue answer → IsLeast problem sizes
 
--- the places of the cells that certify the sizes by shares, none where two longer ranges are neither nested nor disjoint
+-- the positions of the cells that certify the sizes by shares, none where two longer ranges are neither nested nor disjoint
 abbrev pub certificate_by_shares : Problem → Option (List Position)
 certificate_by_shares problem = if is_laminar problem.demands then Some (map place_of (certificate_cells_of problem)) else None
 

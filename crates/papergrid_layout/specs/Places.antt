@@ -17,16 +17,16 @@ use Rattle.papergrid_layout.specs.declared.rect.Place.{Place}
 use Rattle.papergrid_layout.specs.declared.rect.PlaceError.{PlaceError}
 use Rattle.papergrid_layout.specs.declared.rect.PlaceError.TheVariants.{Hidden, OutOfTable, TooLarge}
 
--- the sizes of so many tracks from number s on, added up
+-- the sizes of so many tracks from track s on, added up
 abbrev pub sum_from : (ℕ → ℕ) → ℕ → ℕ → ℕ
 sum_from size s many = sum_by size (range_with_len s many)
 
 module _ (size : ℕ → ℕ) (line : ℕ → Bool) where
-  -- where number s begins: after the sizes of those before it and the lines at 0, 1 and so on up to s
+  -- where track s begins: after the sizes of those before it and the lines at 0, 1 and so on up to s
   abbrev pub offset : ℕ → ℕ
   offset s = sum_from size 0 s + all_lines line s
 
-  -- how long a range of n from number s on is: their sizes, and the lines strictly inside of the range
+  -- how long a range of n from track s on is: their sizes, and the lines strictly inside of the range
   abbrev pub extent : ℕ → ℕ → ℕ
   extent s n = sum_from size s n + count_by line (range_with_len (s + 1) (n - 1))
 
@@ -57,7 +57,7 @@ abbrev pub size_along : (ℕ → ℕ) → (ℕ → ℕ) → Direction → ℕ �
 size_along widths heights Columns = widths
 size_along widths heights Rows = heights
 
--- the place covers column x of the terminal in line y
+-- the screen rectangle covers column x of the terminal in line y
 pub record Covers (place : Place) (x y : ℕ) : Type 0 where
   pub after_left : place.left ≤ x
   pub before_right : x < place.left + place.width
@@ -108,7 +108,7 @@ module _ (table : TableView) where
   abbrev pub length_along : Direction → Position → ℕ
   length_along direction p = extent (track_size direction) (track_line direction) (along direction p) (table.grid.span direction p)
 
-  -- its place
+  -- its screen rectangle
   abbrev pub place_at : Position → Place
   place_at p = record {
     left = begin_along Columns p;
@@ -117,7 +117,7 @@ module _ (table : TableView) where
     height = length_along Rows p;
   }
 
-  -- a place ends within both totals
+  -- a screen rectangle ends within both totals
   abbrev pub EndsWithin : Place → Type 0
   EndsWithin place = (place.left + place.width ≤ total_along Columns) × (place.top + place.height ≤ total_along Rows)
 
@@ -131,13 +131,14 @@ module _ (table : TableView) where
     pub across : p.col + table.grid.span Columns p ≤ table.shape.1
     pub down : p.row + table.grid.span Rows p ≤ table.shape.0
 
-  -- it has this place, in a table whose totals fit
+  -- it has this screen rectangle, in a table whose totals fit
   pub record HasPlace (p : Position) (place : Place) : Type 0 where
     pub inside : IsInsideTable p
     pub fit : (direction : Direction) → total_along direction < 2 ^ 64
     pub exact : place ≡ place_at p
 
-  -- its place, or why it has none: it is hidden, else it overflows the table, else a total is past the greatest `usize`
+  -- its screen rectangle, or why it has none: it is hidden, else it overflows the table, else a total is past the
+  -- greatest `usize`
   abbrev pub IsPlaced : Position → Result Place PlaceError → Type 0
   IsPlaced p (Ok place) = HasPlace p place
   IsPlaced p (Err Hidden) = table.grid.shows p ≡ false
@@ -150,25 +151,26 @@ module _ (table : TableView) where
     pub row_in : p.row < table.shape.0
     pub col_in : p.col < table.shape.1
 
-  -- all visible positions of the table with their places, by row and then by column
+  -- all visible positions of the table with their screen rectangles, by row and then by column
   pub record HaveAllPlaces (list : List (Position × Place)) : Type 0 where
     pub in_order : AllPairs (λ x y. IsBefore x.0 y.0) list
     pub placed : All (λ x. HasPlace x.0 x.1) list
     pub complete : (p : Position) → IsVisibleCell p → (place : Place) × Contains list (p, place)
 
-  -- the first visible position of the table that has no place, and why it has none
+  -- the first visible position of the table that has no screen rectangle, and why it has none
   pub record IsFirstRefused (p : Position) (error : PlaceError) : Type 0 where
     pub is_cell : IsVisibleCell p
     pub refused : IsPlaced p (Err error)
     pub earlier : (q : Position) → IsVisibleCell q → IsBefore q p → (place : Place) × HasPlace q place
 
-  -- why the visible positions have no places: the first that has none decides; an allocation may fail in place of any answer
+  -- why the visible positions have no screen rectangles: the first that has none decides; an allocation may fail in place of
+  -- any answer
   abbrev pub ArePlacesRefused : LayoutError → Type 0
   ArePlacesRefused (layout_error.OutOfTable p) = IsFirstRefused p OutOfTable
   ArePlacesRefused layout_error.TooLarge = (p : Position) × IsFirstRefused p TooLarge
   ArePlacesRefused (layout_error.Memory e) = ⊤
 
-  -- the cell at a position has a place, and that covers column x of the terminal in line y
+  -- the cell at a position has a screen rectangle, and that covers column x of the terminal in line y
   pub record StandsOver (x y : ℕ) (p : Position) : Type 0 where
     pub placed : HasPlace p (place_at p)
     pub covers : Covers (place_at p) x y
@@ -187,7 +189,7 @@ abbrev pub HaveNoneInCommon : Grid → Position → Position → Type 0
 HaveNoneInCommon grid p q =
     (r : Position) → IsInRectangle grid.span p r → IsInRectangle grid.span q r → ⊥
 
--- the cell has a place, which is at least as wide and as high as its measure with its paddings
+-- the cell has a screen rectangle, which is at least as wide and as high as its measure with its paddings
 pub record HasRoomAtPlace {C : Type 0} (table : TableView) (measure : C → ℕ × ℕ) (cell : Position × C) : Type 0 where
   pub place : Place
   pub is_placed : IsPlaced table cell.0 (Ok place)

@@ -51,11 +51,11 @@ module _ {C : Type 0} (config : SpannedConfig) (measure : C → ℕ × ℕ) (col
   IsTableOf sizing (Ok table) = (table.config ≡ config) × AreSizesBySizing sizing table.widths table.heights
   IsTableOf sizing (Err e) = AreNoSizesBySizing sizing e
 
--- the cell at a position has this place; else it is hidden, else it overflows the table
+-- the cell at a position has this screen rectangle; else it is hidden, else it overflows the table
 abbrev pub IsPlacedIn : TableView → Position → Result Place PlaceError → Type 0
 IsPlacedIn table p answer = IsPlaced table p answer × (answer ≢ Err TooLarge)
 
--- the first visible cell without a place overflows the table
+-- the first visible cell without a screen rectangle overflows the table
 abbrev pub AreNotPlacedIn : TableView → LayoutError → Type 0
 AreNotPlacedIn table e = ArePlacesRefused table e × (e ≢ layout_error.TooLarge)
 

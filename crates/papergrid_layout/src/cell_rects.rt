@@ -1,4 +1,4 @@
-//! The places of all visible cells.
+//! The screen rectangles of all visible cells.
 
 ghost use Rattle.std.specs.Prelude.{◌≡◌, ◌+◌, ◌-◌, ◌<◌, ◌≤◌, ◌^◌, ◌⊎◌, [], ℕ, All, IfErr, IfOk};
 ghost use Rattle.std.specs.Result.{IsOkAnd};
@@ -19,8 +19,8 @@ use papergrid_walk::Sweep;
 use papergrid_walk::shown::{sweep_of, visible_anchor};
 use std::alloc::{AllocError, Global};
 
-/// A walk over the positions of a table, by row and then by column, and the visible ones that it met, with
-/// their places.
+/// A walk over the positions of a table, by row and then by column, and the visible ones that it
+/// met, with their screen rectangles.
 #[derive(Drop)]
 struct Placing {
     marks: PerDirection<Marks>,
@@ -114,9 +114,9 @@ impl Placing {
     }
 }
 
-/// All visible cells of a table of the shape (rows, columns) with their places, by row and then by column. It
-/// takes time that grows with the rows, the columns, the cells and the spans, and memory for the places and
-/// for a few numbers for each row, column and span.
+/// All visible cells of a table of the shape (rows, columns) with their screen rectangles, by row
+/// and then by column. It takes time that grows with the rows, the columns, the cells and the
+/// spans, and memory for the screen rectangles and for a few numbers for each row, column and span.
 ///
 /// Condition: the dimension has a width for each of the columns and a height for each of the rows.
 ///
@@ -146,7 +146,8 @@ pub fn places<D: Dimension>(
     if rows == 0 || columns == 0 {
         return Ok(Vec::new(alloc));
     }
-    // The totals are those of all places, so where they are too large the first cell decides.
+    // The totals are those of all screen rectangles, so where they are too large the first
+    // cell decides.
     let first = Position { row: 0, col: 0 };
     match place(dim, cfg, shape, first) {
         Ok(_) => {}

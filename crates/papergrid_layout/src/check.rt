@@ -219,9 +219,9 @@ where
 }
 
 /// Whether no visible cell of the records overflows the table, the sizes are as many as the tracks
-/// and give each visible cell room, and the places are those of visible cells of disjoint ranges,
-/// whose minimum sizes less the lines inside of them add up to the sizes. Then no other choice of
-/// sizes has a smaller total. It does not allocate.
+/// and give each visible cell room, and the positions are those of visible cells of disjoint
+/// ranges, whose minimum sizes less the lines inside of them add up to the sizes. Then no other
+/// choice of sizes has a smaller total. It does not allocate.
 pub fn check<M, R: Records + Drop, S: ConfigView>(
     records: R,
     settings: &S,

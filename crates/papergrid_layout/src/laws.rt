@@ -141,7 +141,7 @@ pub fn least_as_by_shares<C>()
         IsAccepted problem sizes places }
 {}
 
-/// A clone of a dimension, of a place or of an error equals it.
+/// A clone of a dimension, of a screen rectangle or of an error equals it.
 pub fn equal_clones()
     ensures iterable { (x y : IterGridDimension) → ⟦<IterGridDimension as Clone>⟧.is_clone x y →
         y ≡ x }
@@ -156,7 +156,8 @@ pub fn equal_clones()
     ensures layout_error { (x y : LayoutError) → ⟦<LayoutError as Clone>⟧.is_clone x y → y ≡ x }
 {}
 
-/// Dimensions are equal exactly where their sizes are, places and errors exactly where they are the same.
+/// Dimensions are equal exactly where their sizes are, screen rectangles and errors exactly where
+/// they are the same.
 pub fn equal_where_same()
     ensures iterable { (x y : IterGridDimension) →
         (⟦<IterGridDimension as PartialEq>⟧.eq x y ≡ true)
@@ -175,7 +176,8 @@ pub fn equal_where_same()
         ↔ (x ≡ y) }
 {}
 
-/// The places of two cells of one table whose rectangles have no position in common do not meet.
+/// The screen rectangles of two cells of one table whose rectangles have no position in common
+/// do not meet.
 pub fn places_apart()
     ensures { (table : TableView) (p q : Position) →
         HaveNoneInCommon table.grid p q → DoNotMeet (place_at table p) (place_at table q) }
@@ -189,9 +191,9 @@ pub fn points_in_one_cell()
         (q : Position) → StandsOver table x y q → q ≡ p }
 {}
 
-/// With any sizes along both directions that have room, by shares and least ones among them, each visible cell has a
-/// place, and room in it, and none is refused as too large. The totals fit; by shares and for least sizes they are those
-/// of the records' table.
+/// With any sizes along both directions that have room, by shares and least ones among them, each
+/// visible cell has a screen rectangle, and room in it, and none is refused as too large. The
+/// totals fit; by shares and for least sizes they are those of the records' table.
 pub fn places_have_room<C>()
     ensures room { (grid : Grid) (measure : C → ℕ × ℕ)
         (columns : ℕ) (rows : List (List C)) (widths heights : List ℕ) →

@@ -77,7 +77,7 @@ impl Marks {
     }
 }
 
-/// The place of a visible position with its spans, if it lies in the table.
+/// The screen rectangle of a visible position with its spans, if it lies in the table.
 pub fn place_of(marks: &PerDirection<Marks>, anchor: Anchor) -> Option<Place>
     requires spans { (1 ≤ anchor.cols) × (1 ≤ anchor.rows) }
     requires marked { (table : TableView) × AreMarked table marks.now.columns marks.now.rows }

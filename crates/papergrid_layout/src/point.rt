@@ -100,10 +100,10 @@ impl<'a, D: Dimension> Point<'a, D> {
 
 /// The position of the cell at a column of the terminal in a line of a table of the shape (rows,
 /// columns), both counted from the left edge and the top of the table: that of the first cell, by
-/// row and then by column, whose place covers the point. None on a line of the table over which no
-/// such place goes, outside of the table, and where no cell has a place since a total is more than
-/// the greatest `usize`. It does not allocate, and takes time that grows with the rows and columns,
-/// at a hidden position with the cells.
+/// row and then by column, whose screen rectangle covers the point. None on a line of the table
+/// over which no such screen rectangle goes, outside of the table, and where no cell has a screen
+/// rectangle since a total is more than the greatest `usize`. It does not allocate, and takes time
+/// that grows with the rows and columns, at a hidden position with the cells.
 ///
 /// Condition: the dimension has a width for each of the columns and a height for each of the rows.
 pub fn cell_at<D: Dimension>(

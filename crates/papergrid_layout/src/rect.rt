@@ -28,7 +28,7 @@ impl Place {
     }
 }
 
-/// Why a position has no place.
+/// Why a position has no screen rectangle.
 #[derive(Clone, Copy, Debug, PartialEq, Eq, Error)]
 pub enum PlaceError {
     /// The position is hidden by the span of another one.

@@ -18,8 +18,8 @@ use papergrid_walk::Sweep;
 use papergrid_walk::shown::{sweep_of, visible_anchor};
 use std::alloc::{AllocError, Global};
 
-/// A cell over several columns or rows, its place, and the first row that neither it nor a cell before it
-/// spans.
+/// A cell over several columns or rows, its screen rectangle, and the first row that neither it nor
+/// a cell before it spans.
 #[derive(Clone, Copy, Debug)]
 pub struct SpanningCell {
     pub position: Position,

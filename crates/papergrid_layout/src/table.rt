@@ -166,7 +166,7 @@ impl<'a> Table<'a> {
         self.totals.rows
     }
 
-    /// The place of the cell at a position.
+    /// The screen rectangle of the cell at a position.
     ///
     /// # Errors
     ///
@@ -187,7 +187,7 @@ impl<'a> Table<'a> {
         place_of(&self.marks, anchor).ok_or(PlaceError::OutOfTable)
     }
 
-    /// All visible cells with their places, by row and then by column.
+    /// All visible cells with their screen rectangles, by row and then by column.
     ///
     /// # Errors
     ///
@@ -216,9 +216,9 @@ impl<'a> Table<'a> {
 
     /// The position of the cell at a column of the terminal in a line, both counted from the left
     /// edge and the top of the table: that of the first cell, by row and then by column, whose
-    /// place covers the point. None on a line of the table over which no such place goes, and
-    /// outside of the table. It does not allocate, and takes time that grows with the logarithms of
-    /// the rows and columns, at a hidden position with the spans.
+    /// screen rectangle covers the point. None on a line of the table over which no such screen
+    /// rectangle goes, and outside of the table. It does not allocate, and takes time that grows
+    /// with the logarithms of the rows and columns, at a hidden position with the spans.
     pub fn cell_at(&self, column: usize, line: usize) -> Option<Position>
         ensures { IsFirstOver (view_of self.now) column line result }
     {

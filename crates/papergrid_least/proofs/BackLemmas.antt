@@ -8,7 +8,7 @@ use Rattle.papergrid_axis.specs.Ranges.{IsInTable, end_of}
 use Rattle.papergrid_least.specs.ForProofs.Laid.{AreLaid, AreLaterFirst, AreSteps}
 use Rattle.papergrid_least.proofs.LaidLemmas.{no_cell}
 
--- boundaries that are laid back from number a stay above any others; k numbers back from a
+-- boundaries that are laid back from track a stay above any others; k tracks back from a
 above-by : (base : List ℕ) (boundary f : ℕ → ℕ) (a b : ℕ) → AreSteps base b a boundary → boundary a ≤ f a →
     ((i : ℕ) → b ≤ i → i < a → f (i + 1) ≡ f i + get_or base i 0) → (k : ℕ) → b + k ≤ a → boundary (a - k) ≤ f (a - k)
 above-by base boundary f a b steps start laid zero le = let e : a - 0 ≡ a = omega arith in rw e start
@@ -30,7 +30,7 @@ above-more base boundary f a b steps start laid i from le =
     let r : f (a - (a - i)) ≡ f i = ap f e in
     omega arith
 
--- boundaries laid back to number a from the last, which is at `total`, by the first k cells, all of which start there or
+-- boundaries laid back to track a from the last, which is at `total`, by the first k cells, all of which start there or
 -- after; the later ones start there or before
 pub record LaidFrom (base : List ℕ) (cells : List Demand) (k a total : ℕ) (boundaries : List ℕ) : Type 0 where
   pub one_more : length boundaries ≡ length base + 1

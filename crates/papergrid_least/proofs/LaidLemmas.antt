@@ -24,7 +24,7 @@ steps-rise base a b boundary steps i j from le within =
     let up : boundary i ≤ boundary (i + (j - i)) = rise_by base a b boundary steps i (j - i) from (omega arith) in
     omega arith
 
--- boundaries that are laid on from number a stay below any others
+-- boundaries that are laid on from track a stay below any others
 pub below-more : (base : List ℕ) (n : ℕ) (boundary f : ℕ → ℕ) (a b : ℕ) → AreSteps base 0 n boundary → b ≤ n → ((i : ℕ) → i ≤ a → f i ≤ boundary i) →
     ((i : ℕ) → a ≤ i → i < b → f (i + 1) ≡ f i + get_or base i 0) → (i : ℕ) → i ≤ b → f i ≤ boundary i
 below-more base n boundary f a b steps within below laid zero le = below 0 (omega arith)
@@ -112,7 +112,7 @@ module _ (base : List ℕ) (n : ℕ) (cells : List Demand) (table : All (IsInTab
 abbrev pub no_cell : Demand
 no_cell = record { row = 0; col = 0; start = 0; span = 0; minimum = 0 }
 
--- boundaries laid up to number a, by the first k cells, all of which end there or before; the later ones end there or after
+-- boundaries laid up to track a, by the first k cells, all of which end there or before; the later ones end there or after
 pub record LaidTo (base : List ℕ) (cells : List Demand) (k a : ℕ) (boundaries : List ℕ) : Type 0 where
   pub one_more : length boundaries ≡ length base + 1
   pub within : a ≤ length base

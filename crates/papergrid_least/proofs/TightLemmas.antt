@@ -57,7 +57,7 @@ module _ (line drawn : ℕ → Bool) (n limit : ℕ) (demands : List Demand) (ag
   abbrev top : ℕ → ℕ
   top = lowest_position (net_minimum line) demands
 
-  -- what the cells need that cover number j alone fits between its boundaries
+  -- what the cells need that cover track j alone fits between its boundaries
   base-fits : (j : ℕ) → j < n → top j + base_size demands j ≤ top (suc j)
   base-fits j l =
       let laid : AreLaid (base_sizes n demands) (longer_asking line drawn n limit demands agree table below (base_sizes n demands) refl (length-base_sizes n demands)) top =

@@ -20,7 +20,7 @@ module _ (problem : Problem) where
     pub least : IsLeast problem sizes
     pub bound : EachIndex sizes (λ i. slice_index sizes i ≤ top_minimum problem.demands i)
 
-  -- the places of the cells of the critical path, which certify any least sizes; and these fit
+  -- the positions of the cells of the critical path, which certify any least sizes; and these fit
   pub record AreCriticalPath (places : List Position) : Type 0 where
     pub table : All (IsInTable problem.count) problem.demands
     pub none_out : first_out problem.count problem.demands ≡ None
@@ -40,7 +40,7 @@ module _ (problem : Problem) where
   abbrev pub IsLeastTotal : ℕ → Type 0
   IsLeastTotal total = IsTotalBy problem AreLeastSizes total
 
--- the places of these cells; there always are some
+-- the positions of these cells; there always are some
 abbrev pub IsCriticalPath : {Z : Type 0} → Problem → Option (Vec Position Z) → Type 0
 IsCriticalPath problem None = ⊥
 IsCriticalPath problem (Some places) = AreCriticalPath problem places.items
@@ -53,6 +53,6 @@ LeastAnswers holds problem result = AnswersWhere NoneFits holds problem result
 abbrev pub IsLeastSized : {Z : Type 0} → Problem → Result (Vec ℕ Z) LayoutError → Type 0
 IsLeastSized {Z} problem result = LeastAnswers (λ p (sizes : Vec ℕ Z). AreLeastSizes p sizes.items) problem result
 
--- the places of the cells that certify them, or why there are no least sizes
+-- the positions of the cells that certify them, or why there are no least sizes
 abbrev pub IsLeastCertified : {Z : Type 0} → Problem → Result (Vec Position Z) LayoutError → Type 0
 IsLeastCertified {Z} problem result = LeastAnswers (λ p (places : Vec Position Z). AreCriticalPath p places.items) problem result

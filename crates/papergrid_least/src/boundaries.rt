@@ -8,7 +8,7 @@ ghost use Rattle.papergrid_least.specs.ForProofs.Laid.{AreLaid, AreLaterFirst, A
 
 use papergrid_axis::Demand;
 
-/// Lays the boundaries after number `from` up to `to`, each past the one before by the
+/// Lays the boundaries after track `from` up to `to`, each past the one before by the
 /// minimum size of the track between alone; none where one does not fit.
 fn lay(boundaries: &mut [usize], base: &[usize], from: usize, to: usize) -> Option<()>
     requires one_more { length boundaries.old ≡ length base.now + 1 }
@@ -55,7 +55,7 @@ pub fn lay_lowest(boundaries: &mut [usize], base: &[usize], cells: &[Demand]) ->
     Some(())
 }
 
-/// Lays the boundaries before number `to` down to `from`, each before the next by the minimum size
+/// Lays the boundaries before track `to` down to `from`, each before the next by the minimum size
 /// of the track between alone.
 fn lay_back(boundaries: &mut [usize], base: &[usize], from: usize, to: usize)
     requires one_more { length boundaries.old ≡ length base.now + 1 }

@@ -57,7 +57,7 @@ pub fn mark_tight_cells(
     }
 }
 
-/// The cell that is kept for a number alone, where it needs so much.
+/// The cell that is kept for a track alone, where it needs so much.
 fn with_minimum(single_span: &[Demand], number: usize, step: usize) -> Option<Demand>
     ensures { result ≡ with_minimum step (kept_single single_span.now number) }
 {
@@ -86,7 +86,7 @@ fn earlier_cell(cell: Option<Demand>, other: Option<Demand>) -> Option<Demand>
     }
 }
 
-/// The places of the cells that are met going back from the last boundary.
+/// The positions of the cells that are met going back from the last boundary.
 pub fn follow(
     alloc: Global,
     lowest_position: &[usize],

@@ -27,7 +27,7 @@ pub fn fits_by_boundaries()
         Fits problem (sizes_between problem.count boundary) }
 {}
 
-/// Of two choices of boundaries, the lower at each place is one too.
+/// Of two choices of boundaries, the lower at each track is one too.
 pub fn lower_boundaries()
     ensures { (asks : Demand → ℕ) (n : ℕ) (demands : List Demand) (a b : ℕ → ℕ) →
         AreBoundaries asks n demands a → AreBoundaries asks n demands b →

@@ -17,7 +17,7 @@ use papergrid_axis::{Demands, LayoutResult, Solved, Solver};
 use papergrid_values::Position;
 use std::alloc::{AllocError, Global};
 
-/// The places of the cells of the critical path, by the starts of their ranges.
+/// The positions of the cells of the critical path, by the starts of their ranges.
 fn critical_path_places(
     alloc: Global,
     kept: &Demands,

@@ -1,4 +1,4 @@
--- Equality of border tables is agreement of what they hold at each place.
+-- Equality of border tables is agreement of what they hold for each part.
 use Rattle.std.proofs.Common.{◌≡◌, ◌∙◌, Bool, true, List, [], ◌∷◌, Option, Some, None, refl, sym, ap}
 use Rattle.std.specs.Prelude.{◌↔◌, ◌&&◌}
 use Rattle.std.specs.FinMap.{get}

@@ -29,7 +29,7 @@ or_with_next : (m a n : Bool) → (m || a) ≡ true → (a ≡ true → n ≡ tr
 or_with_next true a n h next = refl
 or_with_next false a n h next = next h
 
--- where nothing is at first, and a call leaves something only where it names the place or something was there
+-- where nothing is at first, and a call leaves something only where it names the part or something was there
 module _ {T K A : Type 0} (R : K → K → Ordering) (stored : BorderParts T → K → Option A) (named : BorderCall T → List K) (none : (q : K) → is_some (stored no_parts q) ≡ true → ⊥)
     (names : (call : BorderCall T) (old : BorderParts T) (q : K) → is_some (stored (parts_after_call call old) q) ≡ true → (list_any (eq_by_cmp R q) (named call) || is_some (stored old q)) ≡ true) where
   all_named : (calls : List (BorderCall T)) (q : K) → is_some (stored (parts_from calls) q) ≡ true → list_any (eq_by_cmp R q) (flat_map named calls) ≡ true
@@ -144,7 +144,7 @@ module _ {T : Type 0} where
         corner = λ p. tabulates position_total exact_position (parts_from older).corner (flat_map named_positions older) (all_named position_cmp (λ (places : BorderParts T). places.corner) named_positions (λ q h. false≢true h) corner_named older) p i;
       }
 
-  -- tables that have the same at each place are the same
+  -- tables that have the same parts are the same
   same_borders : (s t : StoredBorders T) → parts_of_borders s ≡ parts_of_borders t → s ≡ t
   same_borders s t same = λ i. record {
     global = (same i).global;

@@ -1,4 +1,4 @@
--- What is at the places of a border table after calls, what is found, and which lines there are.
+-- The parts of a border table after calls, what is found, and which lines there are.
 use Rattle.std.specs.Prelude.{◌≡◌, ℕ, ◌==◌, ◌&&◌, ◌||◌, nat_lt, not, Bool, true, if◌then◌else◌, List, [], ◌∷◌, Option, Some, None, IsSome, ◌⊎◌, option_and_then}
 use Rattle.std.specs.Option.{option_or}
 use Rattle.papergrid_values.specs.Borders.{frame_with, has_left, has_right, has_top, has_bottom, has_horizontal, has_vertical}
@@ -17,7 +17,7 @@ abbrev pub at_ends : ℕ → ℕ → Bool → Bool → Bool → Bool
 at_ends place count first end inner =
     (place == 0 && first) || ((place == count && end) || (nat_lt 0 place && (nat_lt place count && inner)))
 
--- what is at each place
+-- the parts
 pub record BorderParts (T : Type 0) : Type 0 where
   pub global : Option T
   pub frame : Borders T
@@ -32,7 +32,7 @@ abbrev pub lines_with : {L : Type 0} → ℕ → Option L → (ℕ → Option L)
 lines_with n line old k = if n == k then line else old k
 
 module _ {T : Type 0} where
-  -- nothing at any place
+  -- no part is set
   abbrev pub no_parts : BorderParts T
   no_parts = record {
     global = None;
@@ -44,7 +44,7 @@ module _ {T : Type 0} where
     corner = λ _. None;
   }
 
-  -- what is at each place after a call
+  -- the parts after a call
   abbrev pub parts_after_call : BorderCall T → BorderParts T → BorderParts T
   parts_after_call (InsertBorder cell b) old = record old {
     horizontal_edge = λ p. option_or (edge_part Rows cell b p) (old.horizontal_edge p);
@@ -68,7 +68,7 @@ module _ {T : Type 0} where
   parts_after_call (SetGlobal v) old = record old { global = Some v }
   parts_after_call Clear old = no_parts
 
-  -- what the calls leave at each place; the newest call first
+  -- the parts that the calls leave; the newest call first
   abbrev pub parts_from : List (BorderCall T) → BorderParts T
   parts_from [] = no_parts
   parts_from (call ∷ older) = parts_after_call call (parts_from older)

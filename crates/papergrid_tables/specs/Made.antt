@@ -1,4 +1,4 @@
--- The border table that calls make: what the calls leave, at each place that one of them names.
+-- The border table that calls make: what the calls leave, for each part that one of them names.
 use Rattle.std.specs.Prelude.{ℕ, List, [], ◌∷◌, flat_map, reverse}
 use Rattle.papergrid_values.specs.declared.position.Position.{Position}
 use Rattle.papergrid_keys.specs.Tabulated.{tabulation}

@@ -20,7 +20,7 @@ pub record StoredBorders (T : Type 0) : Type 0 where
   pub corners : FinMap position_cmp T
 
 module _ {T : Type 0} where
-  -- by place
+  -- by part
   abbrev pub parts_of_borders : StoredBorders T → BorderParts T
   parts_of_borders stored = record {
     global = stored.global;
@@ -32,6 +32,6 @@ module _ {T : Type 0} where
     corner = λ p. get stored.corners p;
   }
 
-  -- a new table that was given the calls holds this: at each place what they leave there
+  -- a new table that was given the calls holds this: each part is what they leave there
   abbrev pub HasBorderHistory : List (BorderCall T) → StoredBorders T → Type 0
   HasBorderHistory calls stored = parts_of_borders stored ≡ parts_from (reverse calls)

@@ -21,7 +21,7 @@ pub fn history_makes_borders<T>()
         borders.HasBorderHistory calls stored → stored ≡ borders_made calls }
 {}
 
-/// Two border tables are equal exactly where they hold equal values, or none, at each place: for
+/// Two border tables are equal exactly where they hold equal values, or none, for each part: for
 /// all lines, in each part of the frame and of each line, and at each edge and corner.
 pub fn equal_borders<T: PartialEq>()
     ensures { (s t : StoredBorders T) →

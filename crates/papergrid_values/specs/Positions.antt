@@ -28,7 +28,7 @@ CanSubtract p q = (q.row ≤ p.row) × (q.col ≤ p.col)
 abbrev pub IsBefore : Position → Position → Type 0
 IsBefore p q = (p.row < q.row) ⊎ ((p.row ≡ q.row) × (p.col < q.col))
 
--- the number of a position's column, or of its row
+-- the track index of a position: that of its column, or of its row
 abbrev pub along : Direction → Position → ℕ
 along Columns p = p.col
 along Rows p = p.row

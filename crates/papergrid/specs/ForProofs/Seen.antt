@@ -28,7 +28,7 @@ abbrev pub IsCertifiedBy : Sizing → {C : Type 0} → Grid → (C → ℕ × �
 IsCertifiedBy sizing grid measure columns cells result =
     IsCertifiedWhere grid measure columns cells (HasNone sizing) (AreSizesBy sizing) (IsFoundCertificate sizing) result
 
--- the places of a certificate that the program holds
+-- the positions of a certificate that the program holds
 abbrev pub places_seen : Option (Vec Position Global) → Option (List Position)
 places_seen witness = option_map (λ places. places.items) witness
 

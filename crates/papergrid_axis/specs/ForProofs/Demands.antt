@@ -11,7 +11,7 @@ use Rattle.papergrid_axis.specs.Sizes.{base_size}
 abbrev pub is_large : Demand → Bool
 is_large d = nat_le (2 ^ 64) d.minimum
 
--- the cell's place and its range alone
+-- the cell's position and its range alone
 abbrev pub without_minimum : Demand → Demand
 without_minimum d = record { row = d.row; col = d.col; start = d.start; span = d.span; minimum = 0 }
 

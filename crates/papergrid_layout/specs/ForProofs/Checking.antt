@@ -11,11 +11,11 @@ use Rattle.papergrid_walk.specs.Cells.{demands_by}
 use Rattle.papergrid_maps.specs.Grids.{Grid}
 use Rattle.papergrid_walk.specs.ForProofs.Visits.{demands_by-append}
 
--- the cells at these places are visible
+-- the cells at these positions are visible
 abbrev pub AreShown : Grid → List Position → Type 0
 AreShown grid places = All (λ p. IsTrue (grid.shows p)) places
 
--- the places of a candidate that is said to be in order are those of visible cells
+-- the positions of a candidate that is said to be in order are those of visible cells
 abbrev pub IsShownCandidate : Grid → Candidate → Type 0
 IsShownCandidate grid candidate = candidate.is_ordered ≡ true → AreShown grid candidate.places.now
 

@@ -1,4 +1,4 @@
--- What is known on a walk over the positions of a table that finds their places.
+-- What is known on a walk over the positions of a table that finds their screen rectangles.
 use Rattle.std.specs.Prelude.{◌≡◌, ℕ, ◌+◌, ◌^◌, ◌<◌, All, AllPairs, Bool, Contains, List, length, slice_index}
 use Rattle.papergrid_values.specs.declared.position.Position.{Position}
 use Rattle.papergrid_values.specs.declared.direction.Direction.{Direction}
@@ -17,7 +17,7 @@ pub record AreMarks (size : ℕ → ℕ) (line : ℕ → Bool) (count : ℕ) (ma
   pub begins : (k : ℕ) → k < count → slice_index marks.begins.items k ≡ offset size line k
   pub ends : (k : ℕ) → k < count → slice_index marks.ends.items k ≡ offset size line k + size k
 
--- the visible positions before row r and column c have places, and these are listed
+-- the visible positions before row r and column c have screen rectangles, and these are listed
 pub record ArePlacedBefore (table : TableView) (r c : ℕ) (list : List (Position × Place)) : Type 0 where
   pub in_order : AllPairs (λ x y. IsBefore x.0 y.0) list
   pub placed : All (λ x. HasPlace table x.0 x.1) list

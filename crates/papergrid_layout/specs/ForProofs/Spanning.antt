@@ -15,7 +15,7 @@ use Rattle.papergrid_layout.specs.declared.spanning.Spanning.{Spanning}
 abbrev pub end_row : TableView → Position → ℕ
 end_row table p = p.row + table.grid.span Rows p
 
--- the cells stand in order, each with its place, and no row of it or of one before it is past its reach
+-- the cells stand in order, each with its screen rectangle, and no row of it or of one before it is past its reach
 pub record AreSpanning (table : TableView) (cells : List SpanningCell) : Type 0 where
   pub in_order : AllPairs (λ a b. IsBefore a.position b.position) cells
   pub rising : IsNonDecreasingBy (λ (a : SpanningCell). a.reach) cells
@@ -31,7 +31,7 @@ pub record HaveAllSpanning (table : TableView) (cells : List SpanningCell) : Typ
   pub are : AreSpanning table cells
   pub complete : (direction : Direction) (p : Position) → IsInsideTable table p → 2 ≤ table.grid.span direction p → IsListed cells p
 
--- past a position: its cell is listed if it has a place, and nothing else changed
+-- past a position: its cell is listed if it has a screen rectangle, and nothing else changed
 abbrev pub IsSpannedStep : TableView → Position → Spanning → Spanning → Type 0
 IsSpannedStep table p old new =
     ((IsInsideTable table p → ⊥) × (new.cells.items ≡ old.cells.items) × (new.reach ≡ old.reach))

@@ -41,7 +41,7 @@ followed_cells boundary single longer (suc steps) i =
     if boundary i - boundary (i - 1) == 0 then followed_cells boundary single longer steps (i - 1)
     else with_earlier (earlier_cell (with_minimum (boundary i - boundary (i - 1)) (single (i - 1))) (longer i)) (followed_cells boundary single longer steps)
 
--- what is kept for a number alone
+-- what is kept for a track alone
 abbrev pub kept_single : List Demand → ℕ → Demand
 kept_single single_span i = slice_index_or single_span i no_demand
 

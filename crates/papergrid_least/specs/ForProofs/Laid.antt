@@ -3,7 +3,7 @@ use Rattle.std.specs.Prelude.{ℕ, ◌+◌, ◌<◌, ◌≤◌, List, length, sl
 use Rattle.papergrid_axis.specs.declared.demand.Demand.{Demand}
 use Rattle.papergrid_axis.specs.Ranges.{end_of}
 
--- each boundary is past the one to its left by the minimum size of the track between alone, from number a on, up to b
+-- each boundary is past the one to its left by the minimum size of the track between alone, from track a on, up to b
 abbrev pub AreSteps : List ℕ → ℕ → ℕ → (ℕ → ℕ) → Type 0
 AreSteps base a b boundary = (i : ℕ) → a ≤ i → i < b → boundary i + slice_index base i ≤ boundary (i + 1)
 
