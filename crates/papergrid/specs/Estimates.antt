@@ -20,8 +20,8 @@ use Rattle.papergrid_layout.specs.declared.sizing.Sizing.TheVariants.{ByShares, 
 use Rattle.papergrid.specs.Grids.{grid_of}
 use Rattle.papergrid_script.specs.Scripts.{Table}
 
--- the sizes are the widths, the heights, the totals of both with the lines, and the certificates of both: the positions
--- of cells that certify them, where there are such
+-- the sizes are the widths, the heights, the totals of both with the lines, and the certificates of both: the positions of
+-- cells that certify them, where there are such
 pub data Estimate : Type 0 where
   OutOfTable : Position → Estimate
   TooLarge : Estimate

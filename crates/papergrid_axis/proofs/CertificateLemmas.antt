@@ -13,10 +13,10 @@ use Rattle.papergrid_axis.specs.ForProofs.LastCells.{AreExact, IsLaminarInOrder}
 use Rattle.papergrid_axis.specs.declared.demands.Demands.{Demands}
 use Rattle.papergrid_axis.specs.ForProofs.Demands.{AreGathered}
 use Rattle.papergrid_axis.proofs.Certified.{base-not_covered}
-use Rattle.papergrid_axis.proofs.GrowLemmas.{IsLaminar-growing}
+use Rattle.papergrid_axis.proofs.GrowLemmas.{IsLaminarInOrder-growing}
 use Rattle.papergrid_axis.proofs.LaminarLemmas.{SomeCross-unless}
 use Rattle.papergrid_axis.proofs.LastLemmas.{IsLaminar-from_laminar}
-use Rattle.papergrid_axis.proofs.Orders.{IsLaminar-by_span, TakesAll-by_span}
+use Rattle.papergrid_axis.proofs.Orders.{IsLaminarInOrder-by_span, TakesAll-by_span}
 use Rattle.papergrid_axis.proofs.OutLemmas.{NoneHolds-large, out_kept}
 use Rattle.papergrid_axis.proofs.DemandLemmas.{exact_single-first}
 use Rattle.papergrid_axis.proofs.Theorems.{Fits-sizes_of, first_out-none, IsCertificate-certificate_cells_of}
@@ -39,13 +39,13 @@ module _ (problem : Problem) (table : All (IsInTable problem.count) problem.dema
   NoneCertify-unless_laminar none = record {
     none_out = first_out-none problem.count problem.demands (recursion_from_All (IsInTable problem.count) problem.demands table);
     total = total;
-    not_laminar = SomeCross-unless problem.demands (λ disjoint. none (IsLaminar-by_span problem.count problem.demands disjoint));
+    not_laminar = SomeCross-unless problem.demands (λ disjoint. none (IsLaminarInOrder-by_span problem.count problem.demands disjoint));
   }
 
 -- of laminar cells the growing ones are laminar
-pub IsLaminar-growing_cells : (problem : Problem) → IsLaminarInOrder (by_span problem.count problem.demands) → IsLaminarInOrder (growing_cells_of problem)
-IsLaminar-growing_cells problem laminar =
-    IsLaminar-growing problem.line (base_sizes problem.count problem.demands) (by_span problem.count problem.demands) laminar
+pub IsLaminarInOrder-growing_cells : (problem : Problem) → IsLaminarInOrder (by_span problem.count problem.demands) → IsLaminarInOrder (growing_cells_of problem)
+IsLaminarInOrder-growing_cells problem laminar =
+    IsLaminarInOrder-growing problem.line (base_sizes problem.count problem.demands) (by_span problem.count problem.demands) laminar
 
 module _ (problem : Problem) (kept : Demands) (is : AreGathered problem.count kept problem.demands) (table : All (IsInTable problem.count) problem.demands)
     (total : total_of problem (sizes_of problem) < 18446744073709551616) where

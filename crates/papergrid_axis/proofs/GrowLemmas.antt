@@ -77,11 +77,11 @@ disjoint-from_outer d (e ∷ later) all f =
     let parts : (lies_in d e ≡ false) × (list_any (lies_in d) later ≡ false) = or_parts (lies_in d e) (list_any (lies_in d) later) f in
     (elim all.0 [ inl x ↦ x | inr x ↦ absurd (lies_in-false d e parts.0 x) ], disjoint-from_outer d later all.1 parts.1)
 
-pub IsLaminar-growing : (line : ℕ → Bool) (sizes : List ℕ) (by_span : List Demand) → IsLaminarInOrder by_span → IsLaminarInOrder (growing_demands line sizes by_span)
-IsLaminar-growing line sizes [] laminar = tt
-IsLaminar-growing line sizes (d ∷ rest) laminar = elim (cases_Bool (ltb 0 (deficit line sizes d))) [
-  | inl t ↦ rw t (growing-all (Precedes d) line (grown_sizes line sizes d) rest laminar.0, IsLaminar-growing line (grown_sizes line sizes d) rest laminar.1)
-  | inr f ↦ rw f (IsLaminar-growing line (grown_sizes line sizes d) rest laminar.1)
+pub IsLaminarInOrder-growing : (line : ℕ → Bool) (sizes : List ℕ) (by_span : List Demand) → IsLaminarInOrder by_span → IsLaminarInOrder (growing_demands line sizes by_span)
+IsLaminarInOrder-growing line sizes [] laminar = tt
+IsLaminarInOrder-growing line sizes (d ∷ rest) laminar = elim (cases_Bool (ltb 0 (deficit line sizes d))) [
+  | inl t ↦ rw t (growing-all (Precedes d) line (grown_sizes line sizes d) rest laminar.0, IsLaminarInOrder-growing line (grown_sizes line sizes d) rest laminar.1)
+  | inr f ↦ rw f (IsLaminarInOrder-growing line (grown_sizes line sizes d) rest laminar.1)
 ]
 
 ArePairwiseDisjoint-outermost_laminar : (ds : List Demand) → IsLaminarInOrder ds → ArePairwiseDisjoint (outermost ds)
@@ -93,7 +93,7 @@ ArePairwiseDisjoint-outermost_laminar (d ∷ later) laminar = elim (cases_Bool (
 
 -- the outermost growing cells are pairwise disjoint
 pub ArePairwiseDisjoint-outermost : (line : ℕ → Bool) (sizes : List ℕ) (by_span : List Demand) → IsLaminarInOrder by_span → ArePairwiseDisjoint (outermost (growing_demands line sizes by_span))
-ArePairwiseDisjoint-outermost line sizes by_span laminar = ArePairwiseDisjoint-outermost_laminar (growing_demands line sizes by_span) (IsLaminar-growing line sizes by_span laminar)
+ArePairwiseDisjoint-outermost line sizes by_span laminar = ArePairwiseDisjoint-outermost_laminar (growing_demands line sizes by_span) (IsLaminarInOrder-growing line sizes by_span laminar)
 
 -- a cell has exactly its minimum size
 abbrev pub IsTight : (ℕ → Bool) → List ℕ → Demand → Type 0

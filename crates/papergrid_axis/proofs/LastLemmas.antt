@@ -207,9 +207,9 @@ ByRecursion-last P [] d es all = all.0
 ByRecursion-last P (c ∷ ds) d es all = ByRecursion-last P ds d es all.1
 
 -- the cells before one of a laminar list precede it
-pub IsLaminar-before : (ds : List Demand) (d : Demand) (es : List Demand) → IsLaminarInOrder (ds ++ d ∷ es) → AllByRecursion (λ c. Precedes c d) ds
-IsLaminar-before [] d es laminar = tt
-IsLaminar-before (c ∷ ds) d es laminar = (ByRecursion-last (Precedes c) ds d es laminar.0, IsLaminar-before ds d es laminar.1)
+pub IsLaminarInOrder-before : (ds : List Demand) (d : Demand) (es : List Demand) → IsLaminarInOrder (ds ++ d ∷ es) → AllByRecursion (λ c. Precedes c d) ds
+IsLaminarInOrder-before [] d es laminar = tt
+IsLaminarInOrder-before (c ∷ ds) d es laminar = (ByRecursion-last (Precedes c) ds d es laminar.0, IsLaminarInOrder-before ds d es laminar.1)
 
 pub IsLaminarInOrder_push : (ds : List Demand) (d : Demand) → IsLaminarInOrder ds → AllByRecursion (λ c. Precedes c d) ds → IsLaminarInOrder (ds ++ d ∷ [])
 IsLaminarInOrder_push [] d laminar all = (tt, tt)

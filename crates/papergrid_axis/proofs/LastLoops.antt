@@ -16,7 +16,7 @@ use Rattle.papergrid_axis.specs.ForProofs.Demands.{no_demand}
 use Rattle.papergrid_axis.proofs.Upto.{holds_cases}
 use Rattle.papergrid_axis.proofs.FitBound.{ByRecursion-weaker}
 use Rattle.papergrid_axis.proofs.Certified.{none_some}
-use Rattle.papergrid_axis.proofs.LastLemmas.{certificate_cells-at, starting_at, last_holding-some, last_holding-none, last_holding-all, last_holding_push, precedes-from_last, last-from_precedes, IsLaminar-before, IsLaminarInOrder_push}
+use Rattle.papergrid_axis.proofs.LastLemmas.{certificate_cells-at, starting_at, last_holding-some, last_holding-none, last_holding-all, last_holding_push, precedes-from_last, last-from_precedes, IsLaminarInOrder-before, IsLaminarInOrder_push}
 
 -- the cell is written below i
 pub record WrittenOver (d : Demand) (old new : List (Option Demand)) (i : ℕ) : Type 0 where
@@ -70,7 +70,7 @@ module _ (n : ℕ) (ds : List Demand) (last : List (Option Demand)) (table : All
   -- where all the cells are laminar, what stands in the range of the next one lies in it
   pub under-from_laminar : (d : Demand) (es : List Demand) → IsInTable n d → IsLaminarInOrder (ds ++ d ∷ es) → (i : ℕ) (o : Demand) → holds d i ≡ true → get_or last i None ≡ Some o → LiesIn o d
   under-from_laminar d es t laminar i o h e =
-      last-from_precedes ds d (IsLaminar-before ds d es laminar) i o h (sym (is.holds_last i (in_table d i t h)) ∙ e)
+      last-from_precedes ds d (IsLaminarInOrder-before ds d es laminar) i o h (sym (is.holds_last i (in_table d i t h)) ∙ e)
 
 -- one more number for the cells of the certificate
 pub filter_map_slot_more : (h : ℕ → Option Demand) (i : ℕ) → filter_map h (range_with_len 0 (i + 1)) ≡ filter_map h (range_with_len 0 i) ++ cons_option (h i) []

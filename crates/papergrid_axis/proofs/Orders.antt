@@ -116,5 +116,5 @@ laminar_from demands laminar a (suc m) two =
     (of_span demands a) (of_span-all demands a))
 
 -- where the ranges are nested or disjoint, no cell is taken after one that its range meets and that does not lie in it
-pub IsLaminar-by_span : (n : ℕ) (demands : List Demand) → IsLaminar demands → IsLaminarInOrder (by_span n demands)
-IsLaminar-by_span n demands laminar = laminar_from demands laminar 2 (n - 1) (omega arith)
+pub IsLaminarInOrder-by_span : (n : ℕ) (demands : List Demand) → IsLaminar demands → IsLaminarInOrder (by_span n demands)
+IsLaminarInOrder-by_span n demands laminar = laminar_from demands laminar 2 (n - 1) (omega arith)

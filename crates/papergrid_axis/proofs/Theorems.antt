@@ -13,7 +13,7 @@ use Rattle.papergrid_axis.specs.Fits.{Fits, IsLeast, IsTooLarge, IsCertificate, 
 use Rattle.papergrid_axis.specs.Sizes.{base_sizes, by_span, sizes_of}
 use Rattle.papergrid_axis.specs.Certificates.{growing_cells_of, certificate_cells_of}
 use Rattle.papergrid_axis.proofs.FitBound.{Fits-sizes_after, bound-sizes_after}
-use Rattle.papergrid_axis.proofs.Orders.{TakesAll-by_span, IsLaminar-by_span}
+use Rattle.papergrid_axis.proofs.Orders.{TakesAll-by_span, IsLaminarInOrder-by_span}
 use Rattle.papergrid_axis.proofs.Certified.{certificate_of, IsLeast-sizes_after}
 use Rattle.papergrid_axis.proofs.GrowLemmas.{growing-all}
 
@@ -32,12 +32,12 @@ module _ (problem : Problem) (table : All (IsInTable problem.count) problem.dema
   pub IsCertificate-certificate_cells_of : IsLaminar problem.demands → IsCertificate problem (sizes_of problem) (certificate_cells_of problem)
   IsCertificate-certificate_cells_of disjoint =
       certificate_of problem.line problem.count problem.demands (by_span problem.count problem.demands) table (TakesAll-by_span problem.count problem.demands table)
-      (IsLaminar-by_span problem.count problem.demands disjoint)
+      (IsLaminarInOrder-by_span problem.count problem.demands disjoint)
 
   pub IsLeast-sizes_of : IsLaminar problem.demands → IsLeast problem (sizes_of problem)
   IsLeast-sizes_of disjoint =
       IsLeast-sizes_after problem.line problem.count problem.demands (by_span problem.count problem.demands) table (TakesAll-by_span problem.count problem.demands table)
-      (IsLaminar-by_span problem.count problem.demands disjoint)
+      (IsLaminarInOrder-by_span problem.count problem.demands disjoint)
 
   -- no table was refused that another choice of sizes could have held
   pub none_holds-sizes_of : IsLaminar problem.demands → IsTooLarge problem (sizes_of problem) →

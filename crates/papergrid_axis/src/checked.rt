@@ -143,8 +143,8 @@ fn with_cell(checked: Checked, times: usize, minimum: u128, inner: usize) -> Che
     }
 }
 
-/// Whether a range that begins at a track has room for the minimum size whatever its span is,
-/// since the size of that number has.
+/// Whether a range that begins at a track has room for the minimum size whatever its span is, since
+/// the size of that number has.
 fn has_room_alone(candidate: &Candidate<'_>, start: usize, minimum: u128) -> bool
     ensures { IsTrue result → (candidate.now.ends_within ≡ true)
         × (start < length candidate.now.sizes.now)

@@ -5,8 +5,8 @@ ghost use Rattle.std.specs.Prelude.{◌≡◌};
 use papergrid_values::Position;
 
 /// What the visible cell at (`row`, `col`) asks for along a direction: its range are the `span`
-/// tracks from track `start` on, and it needs `minimum` columns of a terminal (lines) over them
-/// and the lines between them.
+/// tracks from track `start` on, and it needs `minimum` columns of a terminal (lines) over them and
+/// the lines between them.
 #[derive(Clone, Copy, Debug, PartialEq, Eq)]
 pub struct Demand {
     pub row: usize,

@@ -137,8 +137,8 @@ module _ (table : TableView) where
     pub fit : (direction : Direction) → total_along direction < 2 ^ 64
     pub exact : place ≡ place_at p
 
-  -- its screen rectangle, or why it has none: it is hidden, else it overflows the table, else a total is past the
-  -- greatest `usize`
+  -- its screen rectangle, or why it has none: it is hidden, else it overflows the table, else a total is past
+  -- the greatest `usize`
   abbrev pub IsPlaced : Position → Result Place PlaceError → Type 0
   IsPlaced p (Ok place) = HasPlace p place
   IsPlaced p (Err Hidden) = table.grid.shows p ≡ false
@@ -163,8 +163,8 @@ module _ (table : TableView) where
     pub refused : IsPlaced p (Err error)
     pub earlier : (q : Position) → IsVisibleCell q → IsBefore q p → (place : Place) × HasPlace q place
 
-  -- why the visible positions have no screen rectangles: the first that has none decides; an allocation may fail in place of
-  -- any answer
+  -- why the visible positions have no screen rectangles: the first that has none decides; an allocation may fail in place
+  -- of any answer
   abbrev pub ArePlacesRefused : LayoutError → Type 0
   ArePlacesRefused (layout_error.OutOfTable p) = IsFirstRefused p OutOfTable
   ArePlacesRefused layout_error.TooLarge = (p : Position) × IsFirstRefused p TooLarge

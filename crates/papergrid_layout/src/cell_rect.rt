@@ -10,8 +10,8 @@ use papergrid_config::SpannedConfig;
 use papergrid_maps::ConfigView;
 use papergrid_values::{Direction, Position};
 
-/// The screen rectangle of the cell at a position, in a table of the shape (rows, columns).
-/// It does not allocate, and takes time that grows with the rows and columns.
+/// The screen rectangle of the cell at a position, in a table of the shape (rows, columns). It does
+/// not allocate, and takes time that grows with the rows and columns.
 ///
 /// Condition: the dimension has a width for each of the columns and a height for each of the rows.
 ///

@@ -30,8 +30,8 @@ above-more base boundary f a b steps start laid i from le =
     let r : f (a - (a - i)) ≡ f i = ap f e in
     omega arith
 
--- boundaries laid back to track a from the last, which is at `total`, by the first k cells, all of which start there or
--- after; the later ones start there or before
+-- boundaries laid back to track a from the last, which is at `total`, by the first k cells, all of which start there or after;
+-- the later ones start there or before
 pub record LaidFrom (base : List ℕ) (cells : List Demand) (k a total : ℕ) (boundaries : List ℕ) : Type 0 where
   pub one_more : length boundaries ≡ length base + 1
   pub within : a ≤ length base

@@ -8,8 +8,8 @@ ghost use Rattle.papergrid_least.specs.ForProofs.Laid.{AreLaid, AreLaterFirst, A
 
 use papergrid_axis::Demand;
 
-/// Lays the boundaries after track `from` up to `to`, each past the one before by the
-/// minimum size of the track between alone; none where one does not fit.
+/// Lays the boundaries after track `from` up to `to`, each past the one before by the minimum
+/// size of the track between alone; none where one does not fit.
 fn lay(boundaries: &mut [usize], base: &[usize], from: usize, to: usize) -> Option<()>
     requires one_more { length boundaries.old ≡ length base.now + 1 }
     requires ordered { from ≤ to }

@@ -4,7 +4,7 @@ use Rattle.papergrid_axis.specs.Certificates.{certificate_cells}
 use Rattle.papergrid_axis.specs.ForProofs.LastCells.{AreExact, IsLaminarInOrder}
 use Rattle.papergrid_axis.specs.Ranges.{place_of}
 use Rattle.papergrid_axis.proofs.Theorems.{table-by_span, table-growing, Fits-sizes_of}
-use Rattle.papergrid_axis.proofs.CertificateLemmas.{AreChosen-from_laminar, AreExact-settled, NoneCertify-unless_laminar, IsLaminar-growing_cells}
+use Rattle.papergrid_axis.proofs.CertificateLemmas.{AreChosen-from_laminar, AreExact-settled, NoneCertify-unless_laminar, IsLaminarInOrder-growing_cells}
 use Rattle.papergrid_axis.proofs.certificate.certificate_of.Goals as goal
 
 pub is_laminar_in_order-requires : goal.is_laminar_in_order-requires
@@ -29,7 +29,7 @@ pub certifying_places-requires-clause-laminar : goal.certifying_places-requires-
 certifying_places-requires-clause-laminar c =
     let grown = c.requires.2 in
     let laminar = (rw c.if-not-branch.false at c.in_ok-is_laminar_in_order.ensures).0 refl in
-    subst IsLaminarInOrder (sym grown.grew) (IsLaminar-growing_cells c.requires.0 (subst IsLaminarInOrder grown.in_order laminar))
+    subst IsLaminarInOrder (sym grown.grew) (IsLaminarInOrder-growing_cells c.requires.0 (subst IsLaminarInOrder grown.in_order laminar))
 
 pub returns-clause-asked : goal.returns-clause-asked
 returns-clause-asked c = λ problem kept grown asked.
