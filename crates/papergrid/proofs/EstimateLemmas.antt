@@ -6,11 +6,11 @@ use Rattle.std.proofs.lemmas.Bool.Decides.{nat_tests}
 use Rattle.std.proofs.lemmas.List.{length-map}
 use Rattle.papergrid_values.specs.declared.position.Position.{Position}
 use Rattle.papergrid_values.specs.declared.direction.Direction.TheVariants.{Columns, Rows}
-use Rattle.papergrid_axis.specs.declared.error.LayoutError.{LayoutError}
-use Rattle.papergrid_axis.specs.declared.error.LayoutError.TheVariants as layout_errors
-use Rattle.papergrid_axis.specs.Problem.{Problem, total_of}
-use Rattle.papergrid_axis.specs.Ranges.{first_out, place_of}
-use Rattle.papergrid_least.proofs.LeastLemmas.{exact-least, exact-critical_path}
+use Rattle.papergrid_tracks.specs.declared.error.LayoutError.{LayoutError}
+use Rattle.papergrid_tracks.specs.declared.error.LayoutError.TheVariants as layout_errors
+use Rattle.papergrid_tracks.specs.Problem.{Problem, total_of}
+use Rattle.papergrid_tracks.specs.Ranges.{first_out, place_of}
+use Rattle.papergrid_tracks.proofs.LeastLemmas.{exact-least, exact-critical_path}
 use Rattle.papergrid_walk.specs.Cells.{demand_by, demands_of, problem_of, visible_cells}
 use Rattle.papergrid_maps.specs.Grids.{Grid}
 use Rattle.papergrid_layout.specs.Answers.{IsBothRefusedWhere, UnlessMemoryError, first_out_of_table, overflows}

@@ -4,19 +4,19 @@ use Rattle.std.specs.Prelude.{◌↔◌, All, Option, Some, None, sum, if◌then
 use Rattle.std.proofs.lemmas.Bool.Decides.{nat_tests}
 use Rattle.std.proofs.lemmas.List.Elements.{All-map}
 use Rattle.papergrid_values.specs.declared.position.Position.{Position}
-use Rattle.papergrid_axis.specs.declared.demand.Demand.{Demand}
+use Rattle.papergrid_tracks.specs.declared.demand.Demand.{Demand}
 use Rattle.papergrid_values.specs.declared.direction.Direction.{Direction}
 use Rattle.papergrid_values.specs.declared.direction.Direction.TheVariants.{Columns, Rows}
-use Rattle.papergrid_axis.specs.Certificates.{certificate_cells_of}
-use Rattle.papergrid_axis.specs.Laminar.{is_laminar}
-use Rattle.papergrid_axis.specs.Problem.{Problem, total_of}
-use Rattle.papergrid_axis.specs.Ranges.{IsInTable, first_out, place_of}
-use Rattle.papergrid_axis.specs.Sizes.{sizes_of}
-use Rattle.papergrid_axis.proofs.LaminarLemmas.{Decides-is_laminar, SomeCross-from_test}
-use Rattle.papergrid_axis.proofs.OutLemmas as out_lemmas
-use Rattle.papergrid_axis.proofs.Theorems.{AreSizes-sizes_of, Fits-sizes_of, IsCertificate-certificate_cells_of, NoneHolds-sizes_of}
-use Rattle.papergrid_least.specs.Least.{least_of}
-use Rattle.papergrid_least.proofs.LeastLemmas.{AreLeastSizes-least_of, AreCriticalPath-critical_path, IsLeast-least_of, NoneFits-least_of}
+use Rattle.papergrid_tracks.specs.Certificates.{certificate_cells_of}
+use Rattle.papergrid_tracks.specs.Laminar.{is_laminar}
+use Rattle.papergrid_tracks.specs.Problem.{Problem, total_of}
+use Rattle.papergrid_tracks.specs.Ranges.{IsInTable, first_out, place_of}
+use Rattle.papergrid_tracks.specs.Sizes.{sizes_of}
+use Rattle.papergrid_tracks.proofs.LaminarLemmas.{Decides-is_laminar, SomeCross-from_test}
+use Rattle.papergrid_tracks.proofs.OutLemmas as out_lemmas
+use Rattle.papergrid_tracks.proofs.Theorems.{AreSizes-sizes_of, Fits-sizes_of, IsCertificate-certificate_cells_of, NoneHolds-sizes_of}
+use Rattle.papergrid_tracks.specs.Least.{least_of}
+use Rattle.papergrid_tracks.proofs.LeastLemmas.{AreLeastSizes-least_of, AreCriticalPath-critical_path, IsLeast-least_of, NoneFits-least_of}
 use Rattle.papergrid_values.specs.Lines.{all_lines}
 use Rattle.papergrid_walk.specs.Cells.{demand_by, visible_cells}
 use Rattle.papergrid_maps.specs.Grids.{Grid}
@@ -27,7 +27,7 @@ use Rattle.papergrid_layout.specs.declared.sizing.Sizing.{Sizing}
 use Rattle.papergrid_layout.specs.declared.sizing.Sizing.TheVariants.{ByShares, Least}
 use Rattle.papergrid.specs.Estimates.{Estimate, OutOfTable, TooLarge, Sized, unless_large, unless_out, text_measure, sizes_by, certificate_by, estimate_by, estimate_of}
 use Rattle.papergrid.specs.Grids.{grid_of}
-use Rattle.papergrid_script.specs.Scripts.{Table}
+use Rattle.papergrid.specs.Scripts.{Table}
 use Rattle.papergrid.specs.Totals.{AreSized, AreSizesBy, HasNone, IsTableTooLarge, IsCertificateBy, problem_of_table}
 use Rattle.papergrid.proofs.EstimateLemmas.{estimate_large, estimate_out}
 use Rattle.papergrid.proofs.GridLemmas.{grid_covers, grid_draws}

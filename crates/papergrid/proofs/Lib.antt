@@ -1,8 +1,19 @@
+mod CharacterLemmas
+mod CutLemmas
+pub mod DraftLemmas
 mod EqualLemmas
+mod EscapeLemmas
 mod EstimateLemmas
+mod GridLemmas
 mod KnownLemmas
 mod LawLemmas
+mod LineLemmas
 mod ListedLemmas
-mod GridLemmas
+mod MarkLemmas
+mod RangeLemmas
+mod ReadLemmas
 mod ReasonLemmas
+mod ScriptLineLemmas
 mod SeenLemmas
+mod SpellLemmas
+mod TellsLemmas

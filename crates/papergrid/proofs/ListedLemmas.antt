@@ -16,14 +16,14 @@ use Rattle.papergrid_values.specs.declared.vertical_line.VerticalLine.{VerticalL
 use Rattle.papergrid_values.specs.declared.direction.Direction.{Direction}
 use Rattle.papergrid_values.specs.declared.direction.Direction.TheVariants.{Columns, Rows}
 use Rattle.papergrid_tables.specs.BorderCalls.{BorderCall}
-use Rattle.papergrid_keys.specs.Keys.{position_cmp}
+use Rattle.papergrid_values.specs.MapKeys.{position_cmp}
 use Rattle.papergrid_tables.specs.LineTests.{ends_at_column, ends_at_row, vertical_line_at, horizontal_line_at}
-use Rattle.papergrid_keys.specs.Tabulated.{tabulation, with_value}
+use Rattle.papergrid_values.specs.Tabulated.{tabulation, with_value}
 use Rattle.papergrid_tables.specs.Made.{borders_made, named_columns, named_positions, named_rows}
 use Rattle.papergrid_tables.specs.BorderParts.{at_ends, parts_from}
 use Rattle.papergrid_maps.specs.Made.{named_anchors, spans_made}
 use Rattle.papergrid_maps.specs.Spans.{SpanCall, Spans, effective_span, from_two, is_hidden_by, is_visible, span_along}
-use Rattle.papergrid_keys.proofs.KeyLemmas.{position_total}
+use Rattle.papergrid_values.proofs.KeyLemmas.{position_total}
 use Rattle.papergrid_config.specs.Effective as effective
 use Rattle.papergrid_config.specs.Parts.{character_calls, span_calls}
 use Rattle.papergrid_config.specs.declared.setting.Setting.{Setting}
@@ -35,7 +35,7 @@ use Rattle.papergrid.specs.Estimates.{Estimate, estimate_by, estimate_of, text_m
 use Rattle.papergrid.specs.Grids.{grid_of}
 use Rattle.papergrid.specs.Outputs.{estimate_end, estimate_text, script_end, script_text, output_by, end_by}
 use Rattle.papergrid.specs.Rows.{GivesBy}
-use Rattle.papergrid_script.specs.Scripts.{Table, table_of}
+use Rattle.papergrid.specs.Scripts.{Table, table_of}
 
 no_entries : {A : Type 0} (es : List A) → length es ≡ 0 → es ≡ []
 no_entries [] e = refl

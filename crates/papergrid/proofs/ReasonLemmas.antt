@@ -8,7 +8,7 @@ use Rattle.papergrid.specs.declared.running.RunEnd.TheVariants.{BadScript, Done,
 use Rattle.papergrid.specs.Estimates.{Estimate, OutOfTable, Sized, TooLarge, estimate_of}
 use Rattle.papergrid.specs.Outputs.{end_by, estimate_end, estimate_text, output_by, script_end, script_text}
 use Rattle.papergrid.specs.Reasons.{IsOfTable, estimate_reason, reason_by, reason_text, script_reason}
-use Rattle.papergrid_script.specs.Scripts.{Table, table_of}
+use Rattle.papergrid.specs.Scripts.{Table, table_of}
 
 -- one reason is written in one way
 worded : (s r : Reason) → Some s ≡ Some r → reason_text s ≡ reason_text r

@@ -3,19 +3,19 @@ use Rattle.std.proofs.Common.{◌≡◌, ℕ, List, map, ap, ◌∙◌}
 use Rattle.std.specs.Prelude.{Result}
 use Rattle.std.specs.Borrow.{Bor}
 use Rattle.papergrid_text.proofs.RowSteps.{told_by}
-use Rattle.papergrid_axis.specs.declared.error.LayoutError.{LayoutError}
+use Rattle.papergrid_tracks.specs.declared.error.LayoutError.{LayoutError}
 use Rattle.papergrid_config.specs.History.{HasSettingHistory}
 use Rattle.papergrid_config.specs.declared.spanned.SpannedConfig.{SpannedConfig}
 use Rattle.papergrid_config.specs.Grids.{spanned_grid}
 use Rattle.papergrid_walk.specs.Measures.{line_measure}
 use Rattle.papergrid.specs.Estimates.{Estimate, estimate_by, estimate_of, text_measure}
 use Rattle.papergrid.specs.Grids.{grid_of}
-use Rattle.papergrid_script.specs.ForProofs.Seen.{rows_seen, table_seen}
-use Rattle.papergrid_script.specs.ForProofs.Settings.{setting_told}
+use Rattle.papergrid.specs.ForProofs.ScriptSeen.{rows_seen, table_seen}
+use Rattle.papergrid.specs.ForProofs.Settings.{setting_told}
 use Rattle.papergrid.specs.ForProofs.Seen.{GivesEstimate}
 use Rattle.papergrid.specs.declared.estimate.Sizes.{Sizes}
 use Rattle.papergrid_layout.specs.declared.sizing.Sizing.{Sizing}
-use Rattle.papergrid_script.specs.declared.script.Script.{Script}
+use Rattle.papergrid.specs.declared.script.Script.{Script}
 use Rattle.papergrid.proofs.EstimateLemmas.{estimate_told, gives_also}
 use Rattle.papergrid.proofs.GridLemmas.{grid_told}
 

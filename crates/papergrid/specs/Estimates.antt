@@ -5,11 +5,11 @@ use Rattle.papergrid_values.specs.declared.position.Position.{Position}
 use Rattle.papergrid_values.specs.declared.direction.Direction.{Direction}
 use Rattle.papergrid_values.specs.declared.direction.Direction.TheVariants.{Columns, Rows}
 use Rattle.papergrid_values.specs.Lines.{all_lines}
-use Rattle.papergrid_axis.specs.Problem.{Problem, total_of}
-use Rattle.papergrid_axis.specs.Ranges.{place_of}
-use Rattle.papergrid_axis.specs.Sizes.{sizes_of}
-use Rattle.papergrid_least.specs.Least.{least_of}
-use Rattle.papergrid_least.specs.CriticalPath.{critical_path}
+use Rattle.papergrid_tracks.specs.Problem.{Problem, total_of}
+use Rattle.papergrid_tracks.specs.Ranges.{place_of}
+use Rattle.papergrid_tracks.specs.Sizes.{sizes_of}
+use Rattle.papergrid_tracks.specs.Least.{least_of}
+use Rattle.papergrid_tracks.specs.CriticalPath.{critical_path}
 use Rattle.papergrid_walk.specs.Cells.{problem_of}
 use Rattle.papergrid_maps.specs.Grids.{Grid}
 use Rattle.papergrid_walk.specs.Measures.{line_measure}
@@ -18,7 +18,7 @@ use Rattle.papergrid_layout.specs.Certificates.{certificate_by_shares}
 use Rattle.papergrid_layout.specs.declared.sizing.Sizing.{Sizing}
 use Rattle.papergrid_layout.specs.declared.sizing.Sizing.TheVariants.{ByShares, Least}
 use Rattle.papergrid.specs.Grids.{grid_of}
-use Rattle.papergrid_script.specs.Scripts.{Table}
+use Rattle.papergrid.specs.Scripts.{Table}
 
 -- the sizes are the widths, the heights, the totals of both with the lines, and the certificates of both: the positions of
 -- cells that certify them, where there are such

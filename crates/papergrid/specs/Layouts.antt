@@ -1,6 +1,6 @@
 -- What the layout of records is.
 use Rattle.std.specs.Prelude.{ℕ, List, Result, Ok, Err}
-use Rattle.papergrid_axis.specs.declared.error.LayoutError.{LayoutError}
+use Rattle.papergrid_tracks.specs.declared.error.LayoutError.{LayoutError}
 use Rattle.papergrid_config.specs.Laws.{HoldsEffectiveValues}
 use Rattle.papergrid_config.specs.History.{HasSettingHistory}
 use Rattle.papergrid_config.specs.declared.setting.Setting.{Setting}

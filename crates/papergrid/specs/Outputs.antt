@@ -5,10 +5,10 @@ use Rattle.papergrid_layout.specs.declared.sizing.Sizing.{Sizing}
 use Rattle.papergrid_layout.specs.declared.sizing.Sizing.TheVariants.{ByShares, Least}
 use Rattle.papergrid.specs.declared.running.RunEnd.{RunEnd}
 use Rattle.papergrid.specs.declared.running.RunEnd.TheVariants.{Done, Refused, BadScript}
-use Rattle.papergrid_script.specs.Grammar.{space, comma}
-use Rattle.papergrid_script.specs.Scripts.{Table, table_of}
+use Rattle.papergrid.specs.Grammar.{space, comma}
+use Rattle.papergrid.specs.Scripts.{Table, table_of}
 use Rattle.papergrid.specs.Estimates.{Estimate, OutOfTable, TooLarge, Sized, estimate_of}
-use Rattle.papergrid_script.specs.Texts.{newline}
+use Rattle.papergrid.specs.Texts.{newline}
 
 -- a space and a number for each
 abbrev pub spaced_numbers : List ℕ → List ℕ

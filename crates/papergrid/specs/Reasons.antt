@@ -9,8 +9,8 @@ use Rattle.papergrid.specs.declared.explained.Reason.{Reason}
 use Rattle.papergrid.specs.declared.explained.Reason.TheVariants as reason
 use Rattle.papergrid.specs.Estimates.{Estimate, OutOfTable, TooLarge, Sized, estimate_of}
 use Rattle.papergrid.specs.Outputs.{estimate_text}
-use Rattle.papergrid_script.specs.Scripts.{Table, table_of}
-use Rattle.papergrid_script.specs.Texts.{newline}
+use Rattle.papergrid.specs.Scripts.{Table, table_of}
+use Rattle.papergrid.specs.Texts.{newline}
 
 -- for the first visible cell out of the table, its spans and the shape of the table, rows first
 abbrev pub estimate_reason : Table → Estimate → Option Reason

@@ -1,9 +1,9 @@
 -- What the answers for a table are, apart from how they are found.
 use Rattle.std.specs.Prelude.{◌≡◌, ◌⊎◌, ℕ, ◌+◌, ◌^◌, ◌<◌, List, Option, Some, None, length, sum}
 use Rattle.papergrid_values.specs.declared.position.Position.{Position}
-use Rattle.papergrid_axis.specs.Answers.{AreCertifying, AreSizes, NoneCertify, NoneHolds}
-use Rattle.papergrid_axis.specs.Problem.{Problem}
-use Rattle.papergrid_least.specs.Answers.{AreLeastSizes, AreCriticalPath, NoneFits}
+use Rattle.papergrid_tracks.specs.Answers.{AreCertifying, AreSizes, NoneCertify, NoneHolds}
+use Rattle.papergrid_tracks.specs.Problem.{Problem}
+use Rattle.papergrid_tracks.specs.LeastAnswers.{AreLeastSizes, AreCriticalPath, NoneFits}
 use Rattle.papergrid_values.specs.declared.direction.Direction.{Direction}
 use Rattle.papergrid_values.specs.declared.direction.Direction.TheVariants.{Columns, Rows}
 use Rattle.papergrid_values.specs.Lines.{all_lines}
@@ -16,7 +16,7 @@ use Rattle.papergrid_layout.specs.declared.sizing.Sizing.{Sizing}
 use Rattle.papergrid_layout.specs.declared.sizing.Sizing.TheVariants.{ByShares, Least}
 use Rattle.papergrid.specs.Estimates.{text_measure}
 use Rattle.papergrid.specs.Grids.{grid_of}
-use Rattle.papergrid_script.specs.Scripts.{Table}
+use Rattle.papergrid.specs.Scripts.{Table}
 
 -- how many lines the settings make along a direction of so many tracks
 abbrev pub lines_along : Direction → List Setting → ℕ → ℕ

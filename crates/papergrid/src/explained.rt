@@ -5,13 +5,14 @@ ghost use Rattle.papergrid_maps.specs.Spans.{span_along};
 ghost use Rattle.papergrid_values.specs.declared.direction.Direction.TheVariants.{Columns, Rows};
 ghost use Rattle.papergrid.specs.Estimates.{estimate_of};
 ghost use Rattle.papergrid.specs.Reasons.{estimate_reason, reason_by};
-ghost use Rattle.papergrid_script.specs.ForProofs.Seen.{table_seen};
+ghost use Rattle.papergrid.specs.ForProofs.ScriptSeen.{table_seen};
 
 use crate::estimate::estimate;
+use crate::script::{Script, ScriptError, read_script};
+use crate::script_setting::configuration_of;
 use bumpalo::Bump;
 use papergrid_config::SpannedConfig;
 use papergrid_layout::{LayoutError, Sizing};
-use papergrid_script::{Script, ScriptError, configuration_of, read_script};
 use papergrid_text::IterRecords;
 use papergrid_values::Position;
 use std::alloc::{AllocError, Global};

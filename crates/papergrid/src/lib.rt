@@ -2,13 +2,21 @@
 //! tells such a table.
 #![tactic(auto)]
 
+mod cut;
+mod draft;
 mod estimate;
 mod explained;
 pub mod laws;
+mod number;
 mod output;
 mod running;
+pub mod script;
+mod script_line;
+pub mod script_setting;
+mod setting_line;
 mod table_layout;
 mod transfer;
+mod unescape;
 
 pub use explained::{Reason, explain};
 pub use papergrid_layout::{Sizing, Table};

@@ -7,8 +7,9 @@ use crate::run_questions::ask_run;
 use crate::running::Subject;
 use crate::table::{Table, Told, add_line};
 use bumpalo::Bump;
+use papergrid::script::{Script, ScriptError, read_script};
+use papergrid::script_setting::configuration_of;
 use papergrid_config::SpannedConfig;
-use papergrid_script::{Script, ScriptError, configuration_of, read_script};
 use std::alloc::{AllocError, Global};
 
 /// A script, how many rows the records say that they have, and sizes for the questions on places.

@@ -4,7 +4,7 @@ use Rattle.std.specs.declared.alloc.Global.{Global}
 use Rattle.papergrid_text.specs.HeldRows.{column_count, rows_held}
 use Rattle.papergrid_text.specs.declared.vec_records.VecRecords.{VecRecords}
 use Rattle.papergrid_values.specs.declared.direction.Direction.TheVariants.{Columns}
-use Rattle.papergrid_axis.specs.Problem.{Problem}
+use Rattle.papergrid_tracks.specs.Problem.{Problem}
 use Rattle.papergrid_config.specs.declared.spanned.SpannedConfig.{SpannedConfig}
 use Rattle.papergrid_walk.specs.Cells.{problem_of}
 use Rattle.papergrid_config.specs.Grids.{spanned_grid}

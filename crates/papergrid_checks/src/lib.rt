@@ -1,35 +1,22 @@
-//! Tests alone: what worked cases as data can't tell. The laws at a type each, orders, hashes and clones of each type
-//! of values, operators, conversions, types of a caller's own, callers with contracts, and readers and writers that
-//! fail.
+//! Callers of the library, each proved: the examples of the documents stand here. What each says is
+//! shown by what the library says in public. And, in `tests`, what worked cases as data can't tell.
 #![tactic(auto)]
 
+pub mod cells;
+pub mod certificates;
+pub mod colored;
+pub mod compact;
+pub mod dimensions;
+pub mod entities;
+pub mod entries;
+pub mod errors;
+pub mod own;
+pub mod picture;
+pub mod places;
+pub mod refusals;
+pub mod scripts;
+pub mod settings;
+pub mod sizes;
 #[cfg(test)]
-mod clones;
-#[cfg(test)]
-mod colors;
-#[cfg(test)]
-mod consumer;
-#[cfg(test)]
-mod cuts;
-#[cfg(test)]
-mod ends;
-#[cfg(test)]
-mod layouts;
-#[cfg(test)]
-mod orders;
-#[cfg(test)]
-mod peeks;
-#[cfg(test)]
-mod record_callers;
-#[cfg(test)]
-mod records;
-#[cfg(test)]
-mod size_callers;
-#[cfg(test)]
-mod sizes;
-#[cfg(test)]
-mod texts;
-#[cfg(test)]
-mod types_of_laws;
-#[cfg(test)]
-mod values;
+mod tests;
+pub mod texts;

@@ -1,118 +1,89 @@
-//! Sizes that callers learn exactly, dimensions as values, and rows that are taken for one line each.
+//! The sizes of a table of texts, and its totals.
 
-ghost use Rattle.std.specs.Prelude.{◌≡◌, IfOk, OnOk, length};
-ghost use Rattle.papergrid_text.specs.HeldRows.{column_count};
+ghost use Rattle.std.specs.Prelude.{◌≡◌, ◌+◌, ◌≤◌, All, IfOk, List, MatchResult, ℕ, length, slice_index, sum};
+ghost use Rattle.papergrid_tracks.specs.Answers.{Answers, IsRefused, IsSized};
+ghost use Rattle.papergrid_tracks.specs.Fits.{Fits};
+ghost use Rattle.papergrid_tracks.specs.Sizes.{sizes_of};
+ghost use Rattle.papergrid_layout.specs.Answers.{AreBothSized, IsBothRefused, UnlessMemory};
+ghost use Rattle.papergrid_values.specs.declared.direction.Direction.TheVariants.{Columns};
+ghost use Rattle.papergrid_walk.specs.Cells.{problem_of, side, visible_cells};
+ghost use Rattle.papergrid_config.specs.Grids.{spanned_grid};
+ghost use Rattle.papergrid_walk.specs.Measures.{line_measure};
+ghost use Rattle.papergrid_checks.specs.Rows.{cells_of, text_measure, texts_problem};
 
-use crate::size_callers::{of_held, of_lent, width_by_estimate};
-use papergrid_config::{CompactConfig, SpannedConfig};
-use papergrid_layout::{CompactGridDimension, Dimension, Estimate, IterGridDimension, LayoutError};
-use papergrid_text::VecRecords;
-use std::alloc::{AllocError, Global};
-use std::test::Fail;
+use papergrid::config::spanned::SpannedConfig;
+use papergrid::dimension::iterable::IterGridDimension;
+use papergrid::dimension::{Dimension, Estimate, LayoutError};
+use papergrid::records::{IntoRecords, IterRecords, Records};
+use papergrid_layout::laws::total_covers_cells;
+use std::alloc::Global;
+use std::convert::AsStr;
 
-fn row_of(alloc: Global, texts: &[&str]) -> Result<Vec<String>, AllocError> {
-    let mut row = Vec::new(alloc);
-    for text in texts {
-        row.push(String::from_str(alloc, *text)?)?;
-    }
-    Ok(row)
-}
-
-/// Records of rows of so many columns.
-fn records_of(
+/// The widths and the heights of rows of texts, of three columns.
+pub fn sizes(
     alloc: Global,
-    columns: usize,
-    rows: &[&[&str]],
-) -> Result<VecRecords<String>, AllocError>
-    ensures { IfOk result (λ records. column_count records ≡ columns) }
-{
-    let mut held = Vec::new(alloc);
-    for texts in rows {
-        held.push(row_of(alloc, *texts)?)?;
-    }
-    Ok(VecRecords::with_size(held, 0, columns))
-}
-
-/// What is answered of records by a configuration where nothing is set.
-fn by_default<A: Drop, F>(
-    alloc: Global,
-    records: VecRecords<String>,
-    ask: F,
-) -> Result<A, LayoutError>
-where
-    F: FnOnce(Global, VecRecords<String>, &SpannedConfig) -> Result<A, LayoutError>,
-    requires { F.IsAlwaysCallable ask }
-{
-    let config = SpannedConfig::new(alloc);
-    let answer = ask(alloc, records, &config);
-    drop(config);
-    answer
-}
-
-/// Whether the widths are the same, lent and by value.
-fn is_same_lent(
-    alloc: Global,
-    records: VecRecords<String>,
+    rows: &[Vec<&str>],
     config: &SpannedConfig,
-) -> Result<bool, LayoutError> {
-    let lent = of_lent(alloc, &records, config)?;
-    Ok(lent == of_held(alloc, records, config)?)
-}
-
-const ROWS: &[&[&str]] = &[&["a", "a", "a"], &["0123456789"], &["a", "01234567"]];
-
-#[test]
-fn lent_records(rt: HostRuntime) -> Result<(), Fail> {
-    let records = records_of(rt.alloc(), 3, ROWS)?;
-    assert_eq!(rt; by_default(rt.alloc(), records, is_same_lent), Ok(true));
-    Ok(())
-}
-
-// The columns are as wide as their longest texts: 10, 8 and 1.
-#[test]
-fn width_of_estimated(rt: HostRuntime) -> Result<(), Fail> {
-    let records = records_of(rt.alloc(), 3, ROWS)?;
-    assert_eq!(rt; by_default(rt.alloc(), records, width_by_estimate), Ok(19));
-    Ok(())
-}
-
-/// Whether a dimension equals its clone, and no new one, once it has sizes.
-fn is_cloned(
-    alloc: Global,
-    records: VecRecords<String>,
-    config: &SpannedConfig,
-) -> Result<bool, LayoutError> {
+) -> Result<(Vec<usize>, Vec<usize>), LayoutError>
+    ensures { AreBothSized (spanned_grid config.now) text_measure 3 (cells_of rows.now) result }
+{
     let mut dimension = IterGridDimension::new(alloc);
-    let is_new = dimension == IterGridDimension::new(alloc);
-    dimension.estimate(records, config)?;
-    let copy = dimension.clone()?;
-    Ok(is_new && copy == dimension && copy != IterGridDimension::new(alloc))
+    dimension.estimate(IterRecords::new(rows, 3, None), config)?;
+    Ok(dimension.get_values())
 }
 
-#[test]
-fn clones(rt: HostRuntime) -> Result<(), Fail> {
-    let records = records_of(rt.alloc(), 1, &[&["ab"]])?;
-    assert_eq!(rt; by_default(rt.alloc(), records, is_cloned), Ok(true));
-    Ok(())
-}
-
-/// Estimates records by the default configuration.
-fn estimate_compact(
-    records: VecRecords<String>,
-    dimension: &mut CompactGridDimension,
-) -> Result<(), LayoutError>
-    ensures { OnOk result (length dimension.new.widths ≡ column_count records) }
+/// The width of the first of three columns.
+pub fn first_width(
+    alloc: Global,
+    rows: &[Vec<&str>],
+    config: &SpannedConfig,
+) -> Result<usize, LayoutError>
+    ensures { let problem = texts_problem config.now 3 rows.now Columns in
+        MatchResult result (λ width. width ≡ slice_index (sizes_of problem) 0)
+        (IsBothRefused (spanned_grid config.now) text_measure 3 (cells_of rows.now)) }
 {
-    let config = CompactConfig::new();
-    dimension.estimate(records, &config)
+    let mut dimension = IterGridDimension::new(alloc);
+    dimension.estimate(IterRecords::new(rows, 3, None), config)?;
+    Ok(dimension.get_width(0))
 }
 
-#[test]
-fn compact_dimension(rt: HostRuntime) -> Result<(), Fail> {
-    let records = records_of(rt.alloc(), 2, &[&["ab", "c\nde"], &["", "x"]])?;
-    let mut dimension = CompactGridDimension::new(rt.alloc());
-    estimate_compact(records, &mut dimension)?;
-    assert_eq!(rt; (dimension.get_width(0), dimension.get_width(1)), (4, 4));
-    assert_eq!(rt; (dimension.get_height(0), dimension.get_height(99)), (1, 1));
-    Ok(())
+/// The widths, one for each column.
+pub fn widths(
+    alloc: Global,
+    rows: &[Vec<&str>],
+    columns: usize,
+    config: &SpannedConfig,
+) -> Result<Vec<usize>, LayoutError>
+    ensures exact { IsSized (texts_problem config.now columns rows.now Columns) result }
+    ensures one_each { IfOk result (λ widths. length widths.items ≡ columns) }
+{
+    IterGridDimension::width(alloc, IterRecords::new(rows, columns, None), config)
+}
+
+/// The width of the records' table. There are widths in it that have room for each visible cell, and no visible cell, with
+/// its paddings, needs more.
+pub fn covering_width<R>(
+    alloc: Global,
+    records: R,
+    config: &SpannedConfig,
+) -> Result<usize, LayoutError>
+where
+    R: Records + Drop,
+    <<R as Records>::Iter as IntoRecords>::Cell: AsStr + Drop,
+    requires { R.is_lawful records }
+    ensures fits { let grid = spanned_grid config.now in
+        let measure = line_measure R.Iter.Cell.text in
+        UnlessMemory result ((cells : List (List R.Iter.Cell)) × R.tells records cells
+        × Answers (λ problem total. (widths : List ℕ) × (sum widths ≤ total) × Fits problem widths)
+        (problem_of grid measure (R.columns records) cells Columns) result) }
+    ensures covers { let grid = spanned_grid config.now in
+        let measure = line_measure R.Iter.Cell.text in
+        UnlessMemory result ((cells : List (List R.Iter.Cell)) × R.tells records cells
+        × MatchResult result (λ total. All (λ cell.
+        side Columns (measure cell.1) + grid.before Columns cell.0 + grid.after Columns cell.0
+        ≤ total) (visible_cells grid cells))
+        (IsRefused (problem_of grid measure (R.columns records) cells Columns))) }
+{
+    total_covers_cells::<<<R as Records>::Iter as IntoRecords>::Cell>();
+    IterGridDimension::width_total(alloc, records, config)
 }

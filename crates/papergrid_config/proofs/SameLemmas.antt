@@ -20,9 +20,9 @@ use Rattle.papergrid_values.specs.contracts.alignment.AlignmentVerticalPartialEq
 use Rattle.papergrid_values.specs.contracts.ansi_buf.ANSIBufPartialEq.TheImpl as color
 use Rattle.papergrid_values.specs.contracts.indent.IndentPartialEq.TheImpl as indent
 use Rattle.papergrid_values.specs.contracts.offset.OffsetPartialEq.TheImpl as offset
-use Rattle.papergrid_keys.proofs.KeyLemmas.{exact_positions, position_total}
-use Rattle.papergrid_keys.proofs.EqualLemmas.{numbers_agree, option_same, positions_agree}
-use Rattle.papergrid_keys.specs.Keys.{position_cmp}
+use Rattle.papergrid_values.proofs.KeyLemmas.{exact_positions, position_total}
+use Rattle.papergrid_values.proofs.EqualLemmas.{numbers_agree, option_same, positions_agree}
+use Rattle.papergrid_values.specs.MapKeys.{position_cmp}
 use Rattle.papergrid_tables.specs.StoredBorders.{StoredBorders}
 use Rattle.papergrid_tables.specs.BorderSame.{same_parts}
 use Rattle.papergrid_tables.specs.ForProofs.BorderEq.{borders_eq}

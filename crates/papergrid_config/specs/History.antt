@@ -4,7 +4,7 @@ use Rattle.std.specs.List.{flat_map}
 use Rattle.papergrid_values.specs.declared.alignment.AlignmentHorizontal.TheVariants.{Left}
 use Rattle.papergrid_values.specs.declared.alignment.AlignmentVertical.TheVariants.{Top}
 use Rattle.papergrid_values.specs.declared.offset.Offset.TheVariants.{Start}
-use Rattle.papergrid_keys.specs.History as told
+use Rattle.papergrid_values.specs.History as told
 use Rattle.papergrid_tables.specs.StoredBorders as lines
 use Rattle.papergrid_tables.specs.Overrides as overrides
 use Rattle.papergrid_maps.specs.Compact.{all_sides, spaces}

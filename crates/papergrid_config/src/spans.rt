@@ -5,7 +5,7 @@ ghost use Rattle.std.specs.FinMap.{get as value_at};
 ghost use Rattle.papergrid_values.specs.Positions.{AreRising};
 ghost use Rattle.papergrid_values.specs.declared.direction.Direction.{Direction};
 ghost use Rattle.papergrid_values.specs.declared.position.Position.{Position};
-ghost use Rattle.papergrid_keys.specs.Keys.{position_eq};
+ghost use Rattle.papergrid_values.specs.MapKeys.{position_eq};
 ghost use Rattle.papergrid_maps.specs.Anchors.{AreAnchors, HasAnchor, IsSorted};
 ghost use Rattle.papergrid_maps.specs.Listed.{HasAtEach};
 ghost use Rattle.papergrid_maps.specs.Spans.{EndWithin, HasSpan, IsCoveredByBoth, IsCoveredByColumn, IsCoveredByRow, IsVisible, is_visible, span_along, spans_along};

@@ -4,11 +4,11 @@ use Rattle.std.specs.Prelude.{Result, Ok, Err, Option, None, Some, is_some}
 use Rattle.std.proofs.lemmas.Bool.{false≢true}
 use Rattle.papergrid_values.specs.declared.direction.Direction.{Direction}
 use Rattle.papergrid_values.specs.declared.direction.Direction.TheVariants.{Columns, Rows}
-use Rattle.papergrid_axis.specs.declared.error.LayoutError.{LayoutError}
-use Rattle.papergrid_axis.specs.declared.error.LayoutError.TheVariants.{OutOfTable, TooLarge, Memory}
-use Rattle.papergrid_axis.specs.Answers.{IsRefusedWhere}
-use Rattle.papergrid_axis.specs.Problem.{Problem}
-use Rattle.papergrid_axis.specs.Ranges.{first_out}
+use Rattle.papergrid_tracks.specs.declared.error.LayoutError.{LayoutError}
+use Rattle.papergrid_tracks.specs.declared.error.LayoutError.TheVariants.{OutOfTable, TooLarge, Memory}
+use Rattle.papergrid_tracks.specs.Answers.{IsRefusedWhere}
+use Rattle.papergrid_tracks.specs.Problem.{Problem}
+use Rattle.papergrid_tracks.specs.Ranges.{first_out}
 use Rattle.papergrid_walk.specs.Cells.{problem_of}
 use Rattle.papergrid_maps.specs.Grids.{Grid}
 use Rattle.papergrid_layout.specs.Answers.{IsBothRefusedWhere, UnlessMemory, UnlessMemoryError, first_out_of_table}

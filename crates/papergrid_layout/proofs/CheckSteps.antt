@@ -4,15 +4,15 @@ use Rattle.std.specs.Prelude.{All, Contains, IsTrue, ◌↔◌}
 use Rattle.std.proofs.lemmas.Bool.{and_parts, cases_Bool, eqb-true, false≢true, true≢false}
 use Rattle.std.proofs.lemmas.List.Elements.{All-contains, All-map, All-weaker, filter_passes}
 use Rattle.papergrid_values.specs.declared.position.Position.{Position}
-use Rattle.papergrid_axis.specs.declared.checked.Checked.{Checked}
-use Rattle.papergrid_axis.specs.declared.candidate.Candidate.{Candidate}
+use Rattle.papergrid_tracks.specs.declared.checked.Checked.{Checked}
+use Rattle.papergrid_tracks.specs.declared.candidate.Candidate.{Candidate}
 use Rattle.papergrid_values.specs.declared.direction.Direction.{Direction}
-use Rattle.papergrid_axis.specs.Answers.{IsAccepted}
-use Rattle.papergrid_axis.specs.Fits.{Fits, IsLeast}
-use Rattle.papergrid_axis.specs.Problem.{Problem}
-use Rattle.papergrid_axis.specs.Ranges.{demand_of, place_of}
-use Rattle.papergrid_axis.proofs.AcceptLemmas.{few_places}
-use Rattle.papergrid_axis.proofs.CandidateLemmas.{count_by-none, is_same}
+use Rattle.papergrid_tracks.specs.Answers.{IsAccepted}
+use Rattle.papergrid_tracks.specs.Fits.{Fits, IsLeast}
+use Rattle.papergrid_tracks.specs.Problem.{Problem}
+use Rattle.papergrid_tracks.specs.Ranges.{demand_of, place_of}
+use Rattle.papergrid_tracks.proofs.AcceptLemmas.{few_places}
+use Rattle.papergrid_tracks.proofs.CandidateLemmas.{count_by-none, is_same}
 use Rattle.papergrid_walk.specs.Cells.{demand_by, demands_by, demands_of, positioned_cells, problem_of, side, visible_of}
 use Rattle.papergrid_maps.specs.Grids.{Grid}
 use Rattle.papergrid_layout.specs.Certificates.{IsChecked}

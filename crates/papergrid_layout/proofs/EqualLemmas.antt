@@ -7,9 +7,9 @@ use Rattle.std.proofs.lemmas.Bool.{and_from, and_parts, eqb-true, false≢true}
 use Rattle.std.proofs.lemmas.Slice.Eq.{bytes_eq-Decides}
 use Rattle.papergrid_values.specs.declared.position.Position.{Position}
 use Rattle.papergrid_values.specs.contracts.position.PositionPartialEq.TheImpl as position
-use Rattle.papergrid_axis.specs.declared.error.LayoutError.{LayoutError}
-use Rattle.papergrid_axis.specs.declared.error.LayoutError.TheVariants as layout_error
-use Rattle.papergrid_axis.specs.contracts.error.LayoutErrorPartialEq.TheImpl as layout_error_eq
+use Rattle.papergrid_tracks.specs.declared.error.LayoutError.{LayoutError}
+use Rattle.papergrid_tracks.specs.declared.error.LayoutError.TheVariants as layout_error
+use Rattle.papergrid_tracks.specs.contracts.error.LayoutErrorPartialEq.TheImpl as layout_error_eq
 use Rattle.papergrid_layout.specs.declared.rect.Place.{Place}
 use Rattle.papergrid_layout.specs.declared.rect.PlaceError.{PlaceError}
 use Rattle.papergrid_layout.specs.declared.rect.PlaceError.TheVariants.{Hidden, OutOfTable, TooLarge}

@@ -13,14 +13,14 @@ use Rattle.papergrid_text.specs.Measured.{Measured}
 use Rattle.papergrid_text.specs.Text.{split_lines, with_width}
 use Rattle.papergrid_text.proofs.Widths.{all_answered}
 use Rattle.papergrid_values.specs.declared.direction.Direction.{Direction}
-use Rattle.papergrid_axis.specs.Ranges.{demand_of}
-use Rattle.papergrid_keys.specs.Keys.{position_eq}
+use Rattle.papergrid_tracks.specs.Ranges.{demand_of}
+use Rattle.papergrid_values.specs.MapKeys.{position_eq}
 use Rattle.papergrid_tables.specs.Made.{borders_made}
 use Rattle.papergrid_maps.specs.MapCalls.{effective_value}
 use Rattle.papergrid_maps.specs.StoredMap.{stored_value}
 use Rattle.papergrid_maps.specs.Spans as spans
 use Rattle.papergrid_maps.specs.Spans.{SetSpan, RemoveSpans, SpanCall, from_two, is_same_direction, is_visible, span_from}
-use Rattle.papergrid_keys.proofs.KeyLemmas.{exact_position_eq}
+use Rattle.papergrid_values.proofs.KeyLemmas.{exact_position_eq}
 use Rattle.papergrid_tables.proofs.MadeTables.{border_history}
 use Rattle.papergrid_maps.proofs.MadeTables.{span_history}
 use Rattle.papergrid_maps.proofs.StoredMapLemmas.{stored_effective}

@@ -4,14 +4,14 @@ use Rattle.std.specs.Prelude.{All}
 use Rattle.std.proofs.lemmas.List.Elements.{All-map}
 use Rattle.papergrid_values.specs.declared.position.Position.{Position}
 use Rattle.papergrid_values.specs.declared.direction.Direction.{Direction}
-use Rattle.papergrid_axis.specs.declared.demand.Demand.{Demand}
-use Rattle.papergrid_axis.specs.Answers.{AreSizes, IsAccepted}
-use Rattle.papergrid_axis.specs.Fits.{IsLeast}
-use Rattle.papergrid_axis.specs.Problem.{Problem}
-use Rattle.papergrid_axis.specs.Ranges.{IsInTable, IsLaminar}
-use Rattle.papergrid_axis.proofs.OutLemmas.{none_out}
-use Rattle.papergrid_least.specs.Answers.{AreLeastSizes, AreCriticalPath}
-use Rattle.papergrid_least.proofs.LeastLemmas.{exact-least, least_of-shares, same-least_of}
+use Rattle.papergrid_tracks.specs.declared.demand.Demand.{Demand}
+use Rattle.papergrid_tracks.specs.Answers.{AreSizes, IsAccepted}
+use Rattle.papergrid_tracks.specs.Fits.{IsLeast}
+use Rattle.papergrid_tracks.specs.Problem.{Problem}
+use Rattle.papergrid_tracks.specs.Ranges.{IsInTable, IsLaminar}
+use Rattle.papergrid_tracks.proofs.OutLemmas.{none_out}
+use Rattle.papergrid_tracks.specs.LeastAnswers.{AreLeastSizes, AreCriticalPath}
+use Rattle.papergrid_tracks.proofs.LeastLemmas.{exact-least, least_of-shares, same-least_of}
 use Rattle.papergrid_walk.specs.Cells.{demand_by, problem_of, visible_cells}
 use Rattle.papergrid_maps.specs.Grids.{Grid}
 

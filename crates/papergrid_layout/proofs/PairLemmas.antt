@@ -7,9 +7,9 @@ use Rattle.papergrid_values.specs.declared.position.Position.{Position}
 use Rattle.papergrid_values.specs.Positions.{IsBefore}
 use Rattle.papergrid_values.specs.declared.direction.Direction.{Direction}
 use Rattle.papergrid_values.specs.declared.direction.Direction.TheVariants.{Columns, Rows}
-use Rattle.papergrid_axis.specs.Ranges.{end_of, first_out}
-use Rattle.papergrid_axis.specs.ForProofs.Demands.{AreGathered}
-use Rattle.papergrid_axis.proofs.OutLemmas.{out_kept}
+use Rattle.papergrid_tracks.specs.Ranges.{end_of, first_out}
+use Rattle.papergrid_tracks.specs.ForProofs.Demands.{AreGathered}
+use Rattle.papergrid_tracks.proofs.OutLemmas.{out_kept}
 use Rattle.papergrid_walk.specs.declared.demand_visitors.BothDemands.{BothDemands}
 use Rattle.papergrid_walk.specs.Cells.{demand_by, demands_of, visible_cells}
 use Rattle.papergrid_maps.specs.Grids.{Grid}

@@ -10,15 +10,15 @@ use Rattle.papergrid_values.specs.declared.position.Position.{Position}
 use Rattle.papergrid_values.specs.declared.direction.Direction.{Direction}
 use Rattle.papergrid_values.specs.declared.direction.Direction.TheVariants.{Columns, Rows}
 use Rattle.papergrid_values.specs.Positions.{along}
-use Rattle.papergrid_axis.specs.declared.demand.Demand.{Demand}
-use Rattle.papergrid_axis.specs.Answers.{AreSizes, IsTotal, IsTotalBy}
-use Rattle.papergrid_axis.specs.Fits.{HasRoom, range_sum}
-use Rattle.papergrid_axis.specs.Problem.{Problem, total_of}
-use Rattle.papergrid_axis.specs.Ranges.{end_of, first_out, inner_lines, place_of}
-use Rattle.papergrid_axis.proofs.OutLemmas.{if_none}
-use Rattle.papergrid_least.specs.Answers.{AreLeastSizes, IsLeastTotal}
+use Rattle.papergrid_tracks.specs.declared.demand.Demand.{Demand}
+use Rattle.papergrid_tracks.specs.Answers.{AreSizes, IsTotal, IsTotalBy}
+use Rattle.papergrid_tracks.specs.Fits.{HasRoom, range_sum}
+use Rattle.papergrid_tracks.specs.Problem.{Problem, total_of}
+use Rattle.papergrid_tracks.specs.Ranges.{end_of, first_out, inner_lines, place_of}
+use Rattle.papergrid_tracks.proofs.OutLemmas.{if_none}
+use Rattle.papergrid_tracks.specs.LeastAnswers.{AreLeastSizes, IsLeastTotal}
 use Rattle.papergrid_maps.proofs.HiddenLemmas.{position-same}
-use Rattle.papergrid_least.proofs.LeastLemmas.{exact-least}
+use Rattle.papergrid_tracks.proofs.LeastLemmas.{exact-least}
 use Rattle.papergrid_walk.specs.Cells.{demand_by, positioned_cells, problem_of, side, visible_cells}
 use Rattle.papergrid_maps.specs.Grids.{Grid}
 use Rattle.papergrid_layout.specs.Answers.{AreBothLeast, AreBothSizes, HoldAlong}

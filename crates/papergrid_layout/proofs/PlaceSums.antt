@@ -6,8 +6,8 @@ use Rattle.std.specs.List.{range_with_len, sum_by}
 use Rattle.std.proofs.lemmas.Bool.{cases_lt, ltb-false}
 use Rattle.std.proofs.lemmas.List.Sums.{sum_by-append, sum_by-cons}
 use Rattle.papergrid_values.specs.Lines.{all_lines}
-use Rattle.papergrid_axis.specs.declared.error.LayoutError.TheVariants as layout_error
-use Rattle.papergrid_axis.proofs.LoopLemmas.{range_with_len-append}
+use Rattle.papergrid_tracks.specs.declared.error.LayoutError.TheVariants as layout_error
+use Rattle.papergrid_tracks.proofs.LoopLemmas.{range_with_len-append}
 use Rattle.papergrid_values.specs.declared.direction.Direction.{Direction}
 use Rattle.papergrid_values.specs.declared.direction.Direction.TheVariants.{Columns, Rows}
 use Rattle.papergrid_values.specs.declared.position.Position.{Position}

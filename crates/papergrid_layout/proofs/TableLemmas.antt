@@ -8,8 +8,8 @@ use Rattle.std.proofs.lemmas.Result.{IfErr-weaker}
 use Rattle.papergrid_values.specs.declared.direction.Direction.{Direction}
 use Rattle.papergrid_values.specs.declared.direction.Direction.TheVariants.{Columns, Rows}
 use Rattle.papergrid_values.specs.declared.position.Position.{Position}
-use Rattle.papergrid_axis.specs.declared.error.LayoutError.{LayoutError}
-use Rattle.papergrid_axis.specs.declared.error.LayoutError.TheVariants as layout_error
+use Rattle.papergrid_tracks.specs.declared.error.LayoutError.{LayoutError}
+use Rattle.papergrid_tracks.specs.declared.error.LayoutError.TheVariants as layout_error
 use Rattle.papergrid_maps.specs.declared.anchors.Anchor.{Anchor}
 use Rattle.papergrid_walk.specs.ForProofs.Shown.{anchor_in}
 use Rattle.papergrid_layout.specs.Places.{ArePlacesRefused, EndsWithin, IsFirstOver, TableView, line_offset, offset, place_at, total, total_along}

@@ -7,11 +7,11 @@ use Rattle.std.proofs.lemmas.List.{length-map}
 use Rattle.papergrid_values.specs.declared.position.Position.{Position}
 use Rattle.papergrid_values.specs.declared.direction.Direction.{Direction}
 use Rattle.papergrid_values.specs.declared.direction.Direction.TheVariants.{Columns, Rows}
-use Rattle.papergrid_axis.specs.Answers.{IsCertificateOrNone}
-use Rattle.papergrid_axis.specs.Laminar.{is_laminar}
-use Rattle.papergrid_axis.specs.Problem.{Problem, problem_of_demands}
-use Rattle.papergrid_axis.proofs.LaminarLemmas.{Decides-is_laminar, not_laminar}
-use Rattle.papergrid_axis.specs.Ranges.{place_of}
+use Rattle.papergrid_tracks.specs.Answers.{IsCertificateOrNone}
+use Rattle.papergrid_tracks.specs.Laminar.{is_laminar}
+use Rattle.papergrid_tracks.specs.Problem.{Problem, problem_of_demands}
+use Rattle.papergrid_tracks.proofs.LaminarLemmas.{Decides-is_laminar, not_laminar}
+use Rattle.papergrid_tracks.specs.Ranges.{place_of}
 use Rattle.papergrid_walk.specs.Cells.{demand_by, demands_by, count_along, demands_of, placed_from, placed_row, problem_of, visible_cells}
 use Rattle.papergrid_maps.specs.Grids.{Grid}
 use Rattle.papergrid_walk.specs.ForProofs.Visits.{demands_by-append}

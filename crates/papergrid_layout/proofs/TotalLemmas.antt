@@ -5,14 +5,14 @@ use Rattle.std.proofs.lemmas.Bool.{ltb-false}
 use Rattle.std.proofs.lemmas.List.Elements.{All-cons, All-head, All-nil, All-tail}
 use Rattle.papergrid_values.specs.declared.position.Position.{Position}
 use Rattle.papergrid_values.specs.declared.direction.Direction.{Direction}
-use Rattle.papergrid_axis.specs.Answers.{IsTotal}
-use Rattle.papergrid_axis.specs.Fits.{Fits, HasRoom}
-use Rattle.papergrid_axis.specs.Problem.{Problem, total_of}
+use Rattle.papergrid_tracks.specs.Answers.{IsTotal}
+use Rattle.papergrid_tracks.specs.Fits.{Fits, HasRoom}
+use Rattle.papergrid_tracks.specs.Problem.{Problem, total_of}
 use Rattle.papergrid_values.specs.Lines.{all_lines}
-use Rattle.papergrid_axis.specs.Ranges.{end_of, first_out, place_of}
-use Rattle.papergrid_axis.proofs.LoopLemmas.{minimum_within_total}
-use Rattle.papergrid_axis.proofs.OutLemmas.{if_none}
-use Rattle.papergrid_least.specs.Answers.{IsLeastTotal}
+use Rattle.papergrid_tracks.specs.Ranges.{end_of, first_out, place_of}
+use Rattle.papergrid_tracks.proofs.LoopLemmas.{minimum_within_total}
+use Rattle.papergrid_tracks.proofs.OutLemmas.{if_none}
+use Rattle.papergrid_tracks.specs.LeastAnswers.{IsLeastTotal}
 use Rattle.papergrid_walk.specs.Cells.{demand_by, problem_of, side, visible_cells}
 use Rattle.papergrid_maps.specs.Grids.{Grid}
 

@@ -2,11 +2,11 @@
 use Rattle.std.specs.Prelude.{◌≡◌, ◌⊎◌, ℕ, ◌+◌, ◌||◌, Bool, List, length, map, find, nat_lt, Option, None, Some, Result, Ok, Err, Vec, ⊤}
 use Rattle.papergrid_values.specs.declared.position.Position.{Position}
 use Rattle.papergrid_values.specs.declared.direction.Direction.TheVariants.{Columns, Rows}
-use Rattle.papergrid_axis.specs.declared.error.LayoutError.{LayoutError}
-use Rattle.papergrid_axis.specs.declared.error.LayoutError.TheVariants.{OutOfTable, TooLarge, Memory}
-use Rattle.papergrid_axis.specs.Answers.{AreSizes, NoneHolds}
-use Rattle.papergrid_axis.specs.Problem.{Problem}
-use Rattle.papergrid_least.specs.Answers.{AreLeastSizes, NoneFits}
+use Rattle.papergrid_tracks.specs.declared.error.LayoutError.{LayoutError}
+use Rattle.papergrid_tracks.specs.declared.error.LayoutError.TheVariants.{OutOfTable, TooLarge, Memory}
+use Rattle.papergrid_tracks.specs.Answers.{AreSizes, NoneHolds}
+use Rattle.papergrid_tracks.specs.Problem.{Problem}
+use Rattle.papergrid_tracks.specs.LeastAnswers.{AreLeastSizes, NoneFits}
 use Rattle.papergrid_walk.specs.Cells.{problem_of, visible_cells}
 use Rattle.papergrid_maps.specs.Grids.{Grid}
 

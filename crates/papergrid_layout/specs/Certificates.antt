@@ -3,14 +3,14 @@ use Rattle.std.specs.Prelude.{◌↔◌, ℕ, Bool, IsTrue, if◌then◌else◌,
 use Rattle.std.specs.declared.alloc.Global.{Global}
 use Rattle.papergrid_values.specs.declared.position.Position.{Position}
 use Rattle.papergrid_values.specs.declared.direction.Direction.TheVariants.{Columns, Rows}
-use Rattle.papergrid_axis.specs.declared.error.LayoutError.{LayoutError}
-use Rattle.papergrid_axis.specs.Answers.{AreSizes, IsAccepted, IsCertificateOrNone, NoneHolds}
-use Rattle.papergrid_axis.specs.Certificates.{certificate_cells_of}
-use Rattle.papergrid_axis.specs.Fits.{IsLeast}
-use Rattle.papergrid_axis.specs.Laminar.{is_laminar}
-use Rattle.papergrid_axis.specs.Problem.{Problem}
-use Rattle.papergrid_axis.specs.Ranges.{place_of}
-use Rattle.papergrid_least.specs.Answers.{AreLeastSizes, IsCriticalPath, NoneFits}
+use Rattle.papergrid_tracks.specs.declared.error.LayoutError.{LayoutError}
+use Rattle.papergrid_tracks.specs.Answers.{AreSizes, IsAccepted, IsCertificateOrNone, NoneHolds}
+use Rattle.papergrid_tracks.specs.Certificates.{certificate_cells_of}
+use Rattle.papergrid_tracks.specs.Fits.{IsLeast}
+use Rattle.papergrid_tracks.specs.Laminar.{is_laminar}
+use Rattle.papergrid_tracks.specs.Problem.{Problem}
+use Rattle.papergrid_tracks.specs.Ranges.{place_of}
+use Rattle.papergrid_tracks.specs.LeastAnswers.{AreLeastSizes, IsCriticalPath, NoneFits}
 use Rattle.papergrid_walk.specs.Cells.{problem_of}
 use Rattle.papergrid_maps.specs.Grids.{Grid}
 use Rattle.papergrid_layout.specs.Answers.{IsBothRefusedWhere}

@@ -4,11 +4,11 @@ use Rattle.std.specs.List.{flat_map}
 use Rattle.papergrid_values.specs.declared.position.Position.{Position}
 use Rattle.papergrid_text.specs.Measured.{Measured, measured_text}
 use Rattle.papergrid_values.specs.declared.direction.Direction.{Direction}
-use Rattle.papergrid_axis.specs.Fits.{Fits}
-use Rattle.papergrid_axis.specs.Problem.{Problem, total_of}
-use Rattle.papergrid_axis.specs.Ranges.{first_out}
-use Rattle.papergrid_axis.specs.Sizes.{sizes_of}
-use Rattle.papergrid_keys.specs.Keys.{position_eq}
+use Rattle.papergrid_tracks.specs.Fits.{Fits}
+use Rattle.papergrid_tracks.specs.Problem.{Problem, total_of}
+use Rattle.papergrid_tracks.specs.Ranges.{first_out}
+use Rattle.papergrid_tracks.specs.Sizes.{sizes_of}
+use Rattle.papergrid_values.specs.MapKeys.{position_eq}
 use Rattle.papergrid_maps.specs.Spans as spans
 use Rattle.papergrid_values.specs.declared.direction.Direction.TheVariants.{Columns, Rows}
 use Rattle.papergrid_maps.specs.Spans.{RemoveSpans, SetSpan, SpanCall, is_same_direction}

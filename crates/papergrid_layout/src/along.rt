@@ -1,13 +1,13 @@
 //! What is found along one direction.
 
 ghost use Rattle.std.specs.Prelude.{◌≡◌, List};
-ghost use Rattle.papergrid_axis.specs.Answers.{AnswersWhere};
+ghost use Rattle.papergrid_tracks.specs.Answers.{AnswersWhere};
 ghost use Rattle.papergrid_walk.specs.Cells.{count_along, problem_of};
 ghost use Rattle.papergrid_layout.specs.Answers.{UnlessMemory};
 
-use papergrid_axis::{Axis, LayoutError, Solved, Solver};
 use papergrid_maps::ConfigView;
 use papergrid_text::{IntoRecords, Records};
+use papergrid_tracks::{Axis, LayoutError, Solved, Solver};
 use papergrid_values::{Direction, Position};
 use papergrid_walk::{Measure, gather};
 use std::alloc::Global;

@@ -1,16 +1,16 @@
 //! What is found along both directions.
 
 ghost use Rattle.std.specs.Prelude.{◌≡◌, List, length};
-ghost use Rattle.papergrid_axis.specs.Ranges.{first_out};
+ghost use Rattle.papergrid_tracks.specs.Ranges.{first_out};
 ghost use Rattle.papergrid_walk.specs.ForProofs.Pairs.{AreBothGathered};
 ghost use Rattle.papergrid_layout.specs.Answers.{AnswersBothWhere, UnlessMemory};
 ghost use Rattle.papergrid_layout.specs.ForProofs.Earlier.{earlier, earlier_of};
 
 use crate::along::Along;
-use papergrid_axis::settled::find_out;
-use papergrid_axis::{LayoutError, LayoutResult, Solved, Solver};
 use papergrid_maps::ConfigView;
 use papergrid_text::{IntoRecords, Records};
+use papergrid_tracks::settled::find_out;
+use papergrid_tracks::{LayoutError, LayoutResult, Solved, Solver};
 use papergrid_values::{Direction, Position};
 use papergrid_walk::{BothDemands, Measure, gather_both};
 use std::alloc::Global;

@@ -3,8 +3,8 @@
 
 ghost use Rattle.std.specs.Prelude.{List};
 ghost use Rattle.papergrid_values.specs.declared.direction.Direction.TheVariants.{Columns, Rows};
-ghost use Rattle.papergrid_axis.specs.Answers.{Answers, IsCertificateOrNone};
-ghost use Rattle.papergrid_least.specs.Answers.{IsLeastCertified};
+ghost use Rattle.papergrid_tracks.specs.Answers.{Answers, IsCertificateOrNone};
+ghost use Rattle.papergrid_tracks.specs.LeastAnswers.{IsLeastCertified};
 ghost use Rattle.papergrid_walk.specs.Cells.{problem_of};
 ghost use Rattle.papergrid_config.specs.Grids.{spanned_grid};
 ghost use Rattle.papergrid_walk.specs.Measures.{line_measure};
@@ -14,10 +14,9 @@ ghost use Rattle.papergrid_layout.specs.Certificates.{IsCertified, IsCertifiedLe
 use crate::along::solve_along;
 use crate::both::solve_both;
 use crate::check::check;
-use papergrid_axis::{ByShares, LayoutError};
 use papergrid_config::SpannedConfig;
-use papergrid_least::ByLeastTotal;
 use papergrid_text::{IntoRecords, Records};
+use papergrid_tracks::{ByLeastTotal, ByShares, LayoutError};
 use papergrid_values::{Direction, Position};
 use papergrid_walk::measure::ByLines;
 use std::alloc::Global;

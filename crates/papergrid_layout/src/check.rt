@@ -1,18 +1,18 @@
 //! The check that sizes along one direction are least, by a list of positions.
 
 ghost use Rattle.std.specs.Prelude.{◌≡◌, ◌+◌, ◌^◌, ◌<◌, ◌≤◌, ◌⊎◌, ◌∷◌, [], ⊤, List, length};
-ghost use Rattle.papergrid_axis.specs.ForProofs.Checks.{AreBounded, IsCandidate};
+ghost use Rattle.papergrid_tracks.specs.ForProofs.Checks.{AreBounded, IsCandidate};
 ghost use Rattle.papergrid_walk.specs.Cells.{demands_by, demands_of, problem_of};
 ghost use Rattle.papergrid_layout.specs.Certificates.{IsChecked};
 ghost use Rattle.papergrid_layout.specs.ForProofs.Checking.{AreShown, ChecksBy, ChecksMore, IsShownCandidate, check_more, check_none};
 ghost use Rattle.std.proofs.Common.{◌∙◌, ap, refl};
 
 use crate::along::{Along, count_of};
-use papergrid_axis::candidate::{are_in_order, count_listed};
-use papergrid_axis::checked::{accepts, is_unchanged, visit, wide_minimum};
-use papergrid_axis::{Candidate, Checked};
 use papergrid_maps::ConfigView;
 use papergrid_text::{IntoRecords, Records};
+use papergrid_tracks::candidate::{are_in_order, count_listed};
+use papergrid_tracks::checked::{accepts, is_unchanged, visit, wide_minimum};
+use papergrid_tracks::{Candidate, Checked};
 use papergrid_values::{Direction, Position};
 use papergrid_walk::{Measure, Visitor, walk};
 use std::alloc::AllocError;

@@ -5,7 +5,7 @@ ghost use Rattle.std.specs.Prelude.{◌≡◌, [], List};
 ghost use Rattle.papergrid_values.specs.declared.direction.Direction.TheVariants.{Columns, Rows};
 ghost use Rattle.papergrid_maps.specs.Grids.{compact_grid};
 ghost use Rattle.papergrid_walk.specs.Measures.{std_line_measure};
-ghost use Rattle.papergrid_axis.specs.Answers.{IsSized};
+ghost use Rattle.papergrid_tracks.specs.Answers.{IsSized};
 ghost use Rattle.papergrid_walk.specs.Cells.{problem_of};
 ghost use Rattle.papergrid_layout.specs.Answers.{AreBothSized, UnlessMemory};
 
@@ -13,9 +13,9 @@ use crate::along::solve_along;
 use crate::both::solve_both;
 use crate::dimension::{Dimension, Estimate};
 use crate::size_list::SizeList;
-use papergrid_axis::{ByShares, LayoutError};
 use papergrid_config::CompactConfig;
 use papergrid_text::{IntoRecords, Records};
+use papergrid_tracks::{ByShares, LayoutError};
 use papergrid_values::Direction;
 use papergrid_walk::measure::ByStdLines;
 use std::alloc::Global;
@@ -160,7 +160,7 @@ where
     ghost use Rattle.papergrid_values.specs.declared.direction.Direction.TheVariants.{Columns};
     ghost use Rattle.papergrid_maps.specs.Grids.{compact_grid};
     ghost use Rattle.papergrid_walk.specs.Measures.{std_line_measure};
-    ghost use Rattle.papergrid_axis.specs.Answers.{AreSizes, IsRefused};
+    ghost use Rattle.papergrid_tracks.specs.Answers.{AreSizes, IsRefused};
     ghost use Rattle.papergrid_walk.specs.Cells.{problem_of};
     ghost use Rattle.papergrid_layout.specs.Answers.{UnlessMemoryError};
 

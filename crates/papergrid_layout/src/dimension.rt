@@ -2,9 +2,9 @@
 //! `dimension/mod.rs`.
 
 ghost use Rattle.std.specs.Prelude.{◌≡◌, ℕ, IfErr, IfOk, OnErr};
-ghost use Rattle.papergrid_axis.specs.declared.error.LayoutError.{LayoutError};
+ghost use Rattle.papergrid_tracks.specs.declared.error.LayoutError.{LayoutError};
 
-use papergrid_axis::LayoutError;
+use papergrid_tracks::LayoutError;
 
 /// The sizes of a table.
 pub trait Dimension {

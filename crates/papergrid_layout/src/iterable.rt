@@ -4,7 +4,7 @@ ghost use Rattle.std.specs.Prelude.{◌≡◌, [], List};
 ghost use Rattle.papergrid_values.specs.declared.direction.Direction.TheVariants.{Columns, Rows};
 ghost use Rattle.papergrid_config.specs.Grids.{spanned_grid};
 ghost use Rattle.papergrid_walk.specs.Measures.{line_measure};
-ghost use Rattle.papergrid_axis.specs.Answers.{Answers, IsSized, IsTotal};
+ghost use Rattle.papergrid_tracks.specs.Answers.{Answers, IsSized, IsTotal};
 ghost use Rattle.papergrid_walk.specs.Cells.{problem_of};
 ghost use Rattle.papergrid_layout.specs.Answers.{UnlessMemory};
 
@@ -15,9 +15,9 @@ pub use crate::certificates::{
 };
 use crate::dimension::{Dimension, Estimate};
 use crate::size_list::SizeList;
-use papergrid_axis::{ByShares, LayoutError};
 use papergrid_config::SpannedConfig;
 use papergrid_text::{IntoRecords, Records};
+use papergrid_tracks::{ByShares, LayoutError};
 use papergrid_values::Direction;
 use papergrid_walk::measure::ByLines;
 use std::alloc::Global;

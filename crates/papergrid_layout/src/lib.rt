@@ -30,7 +30,7 @@ pub use compact::CompactGridDimension;
 pub use dimension::{Dimension, Estimate};
 pub use iterable::IterGridDimension;
 pub use least::LeastGridDimension;
-pub use papergrid_axis::{LayoutError, LayoutResult};
+pub use papergrid_tracks::{LayoutError, LayoutResult};
 pub use peekable::PeekableGridDimension;
 pub use per_direction::PerDirection;
 pub use point::cell_at;

@@ -8,8 +8,8 @@ ghost use Rattle.papergrid_layout.specs.ForProofs.Rulers.{has_along};
 
 use crate::dimension::Dimension;
 use crate::ruler::Ruler;
-use papergrid_axis::LayoutError;
 use papergrid_config::SpannedConfig;
+use papergrid_tracks::LayoutError;
 use papergrid_values::Direction;
 
 /// The total along a direction, of so many tracks.

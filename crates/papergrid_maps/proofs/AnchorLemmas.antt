@@ -22,8 +22,8 @@ use Rattle.papergrid_values.specs.Positions.{IsBefore}
 use Rattle.papergrid_values.specs.declared.direction.Direction.{Direction}
 use Rattle.papergrid_values.specs.declared.direction.Direction.TheVariants.{Columns, Rows}
 use Rattle.papergrid_values.specs.declared.position.Position.{Position}
-use Rattle.papergrid_keys.specs.Keys.{position_cmp, position_eq}
-use Rattle.papergrid_keys.proofs.KeyLemmas.{exact_position_eq, exact_positions, position_equiv, position_ties, position_total}
+use Rattle.papergrid_values.specs.MapKeys.{position_cmp, position_eq}
+use Rattle.papergrid_values.proofs.KeyLemmas.{exact_position_eq, exact_positions, position_equiv, position_ties, position_total}
 use Rattle.papergrid_maps.specs.Anchors.{AreAnchors, HasAnchor, IsSorted}
 use Rattle.papergrid_maps.specs.Spans.{HasSpan, span_along, span_at}
 use Rattle.papergrid_maps.specs.ForProofs.SpanIndex.{AreAt, DirectedSpans, IsRising, anchor_along, anchor_at, entry_anchor, stored_along, key_of}

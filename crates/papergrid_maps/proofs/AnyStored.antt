@@ -7,12 +7,12 @@ use Rattle.std.specs.Cmp.{IsEquivalence, nat_eq_equiv}
 use Rattle.std.specs.Map.{lookup, keys_of, values_of}
 use Rattle.std.proofs.lemmas.Map.Entries.{lookup_from_place, All-lookup}
 use Rattle.papergrid_values.specs.declared.position.Position.{Position}
-use Rattle.papergrid_keys.specs.Keys.{position_eq}
+use Rattle.papergrid_values.specs.MapKeys.{position_eq}
 use Rattle.papergrid_maps.specs.StoredMap.{HoldsValue, held_for}
 use Rattle.papergrid_values.specs.declared.entity.Entity.{Entity}
 use Rattle.papergrid_values.specs.declared.entity.Entity.TheVariants.{Global, Column, Row, Cell}
 use Rattle.std.proofs.lemmas.Option.{same_Some}
-use Rattle.papergrid_keys.proofs.KeyLemmas.{get_at_number, get_at_position, position_equiv}
+use Rattle.papergrid_values.proofs.KeyLemmas.{get_at_number, get_at_position, position_equiv}
 use Rattle.papergrid_maps.proofs.StoredMapLemmas.{view_of}
 use Rattle.std.proofs.lemmas.List.{map-append, append-nil, length-append}
 use Rattle.std.proofs.Math.Seq.{get_or-append_seam}

@@ -13,8 +13,8 @@ use Rattle.std.proofs.lemmas.Bool.{and_from, and_parts, false≢true, ltb-true, 
 use Rattle.papergrid_values.specs.declared.direction.Direction.{Direction}
 use Rattle.papergrid_values.specs.declared.direction.Direction.TheVariants.{Columns}
 use Rattle.papergrid_values.specs.declared.position.Position.{Position}
-use Rattle.papergrid_keys.specs.Keys.{position_cmp}
-use Rattle.papergrid_keys.proofs.KeyLemmas.{exact_position_eq, exact_positions, position_ties, position_total}
+use Rattle.papergrid_values.specs.MapKeys.{position_cmp}
+use Rattle.papergrid_values.proofs.KeyLemmas.{exact_position_eq, exact_positions, position_ties, position_total}
 use Rattle.papergrid_maps.specs.ForProofs.SpanIndex.{DirectedSpans, HoldsBoth, IsReachedByBoth, extent_stored, extent_of}
 use Rattle.papergrid_maps.specs.Spans.{IsCoveredByBoth, Spans, span_along}
 use Rattle.papergrid_maps.specs.declared.span_index.Extent.{Extent}

@@ -14,9 +14,9 @@ use Rattle.papergrid_values.specs.Positions.{AreRising, along}
 use Rattle.papergrid_values.specs.declared.direction.Direction.{Direction}
 use Rattle.papergrid_values.specs.declared.direction.Direction.TheVariants.{Columns, Rows}
 use Rattle.papergrid_values.specs.declared.position.Position.{Position}
-use Rattle.papergrid_keys.specs.Keys.{position_cmp, position_eq}
-use Rattle.papergrid_keys.proofs.AnyLemmas.{any_found, any_from_found}
-use Rattle.papergrid_keys.proofs.KeyLemmas.{exact_position_eq, position_ties, position_total}
+use Rattle.papergrid_values.specs.MapKeys.{position_cmp, position_eq}
+use Rattle.papergrid_values.proofs.AnyLemmas.{any_found, any_from_found}
+use Rattle.papergrid_values.proofs.KeyLemmas.{exact_position_eq, position_ties, position_total}
 use Rattle.papergrid_maps.specs.Spans.{Spans, span_along, is_visible, IsInRectangle}
 use Rattle.papergrid_maps.specs.ForProofs.SpanIndex.{CoversOne, DirectedSpans, covers, covers_stored, extent_of, stored_along, key_of}
 use Rattle.papergrid_maps.proofs.IndexKeys.{stored_at, key_key}

@@ -7,7 +7,7 @@ use Rattle.std.proofs.lemmas.List.Elements.{All-append, All-cons}
 use Rattle.papergrid_values.specs.declared.direction.Direction.{Direction}
 use Rattle.papergrid_values.specs.declared.direction.Direction.TheVariants.{Columns, Rows}
 use Rattle.papergrid_values.specs.declared.position.Position.{Position}
-use Rattle.papergrid_keys.proofs.KeyLemmas.{exact_position_eq, position_equiv}
+use Rattle.papergrid_values.proofs.KeyLemmas.{exact_position_eq, position_equiv}
 use Rattle.papergrid_maps.specs.EffectiveSpan.{ByNone, ByRemoval, BySet, IsEffectiveSpan, NoneDecides, decides_span}
 use Rattle.papergrid_maps.specs.Spans.{RemoveSpans, SetSpan, SpanCall, effective_span, is_same_direction, span_from}
 

@@ -4,8 +4,8 @@ use Rattle.std.specs.Prelude.{nat_eq}
 use Rattle.std.specs.Cmp.{nat_cmp_total, nat_eq_equiv}
 use Rattle.std.specs.FinMap.{nat_cmp-IsAntisymmetric, same_map}
 use Rattle.std.proofs.lemmas.Bool.{and_from}
-use Rattle.papergrid_keys.proofs.KeyLemmas.{exact_positions, position_total}
-use Rattle.papergrid_keys.proofs.EqualLemmas.{numbers_same, positions_same}
+use Rattle.papergrid_values.proofs.KeyLemmas.{exact_positions, position_total}
+use Rattle.papergrid_values.proofs.EqualLemmas.{numbers_same, positions_same}
 use Rattle.papergrid_maps.specs.MapEq.{stored_eq}
 use Rattle.papergrid_maps.specs.StoredMap as maps
 use Rattle.papergrid_maps.specs.StoredMap.{Stored}

@@ -19,11 +19,11 @@ use Rattle.std.proofs.lemmas.Map.Lookups.{btree_map_eq-Decides, btree_map_from_g
 use Rattle.std.proofs.lemmas.Map.Made.{update_all_none}
 use Rattle.papergrid_values.specs.declared.direction.Direction.{Direction}
 use Rattle.papergrid_values.specs.declared.position.Position.{Position}
-use Rattle.papergrid_keys.specs.Equal.{positions_eq}
-use Rattle.papergrid_keys.specs.Keys.{position_cmp, position_eq}
-use Rattle.papergrid_keys.proofs.EqualLemmas.{positions_agree, positions_same}
-use Rattle.papergrid_keys.proofs.KeyLemmas.{exact_position_eq, exact_positions, get_at_position, position_equiv, position_ties, position_total}
-use Rattle.papergrid_keys.proofs.ResultLemmas.{same_answer}
+use Rattle.papergrid_values.specs.Equal.{positions_eq}
+use Rattle.papergrid_values.specs.MapKeys.{position_cmp, position_eq}
+use Rattle.papergrid_values.proofs.EqualLemmas.{positions_agree, positions_same}
+use Rattle.papergrid_values.proofs.KeyLemmas.{exact_position_eq, exact_positions, get_at_position, position_equiv, position_ties, position_total}
+use Rattle.papergrid_values.proofs.ResultLemmas.{same_answer}
 use Rattle.papergrid_maps.specs.ForProofs.SpanIndex.{stored_along, key_of}
 use Rattle.papergrid_maps.proofs.IndexKeys.{stored_at, key_key, same_key}
 

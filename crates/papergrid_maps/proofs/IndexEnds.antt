@@ -10,8 +10,8 @@ use Rattle.std.proofs.lemmas.Map.Views.{All-found, btree_map_get_iff}
 use Rattle.papergrid_values.specs.Positions.{along}
 use Rattle.papergrid_values.specs.declared.direction.Direction.{Direction}
 use Rattle.papergrid_values.specs.declared.position.Position.{Position}
-use Rattle.papergrid_keys.specs.Keys.{position_cmp}
-use Rattle.papergrid_keys.proofs.KeyLemmas.{exact_positions, position_total}
+use Rattle.papergrid_values.specs.MapKeys.{position_cmp}
+use Rattle.papergrid_values.proofs.KeyLemmas.{exact_positions, position_total}
 use Rattle.papergrid_maps.specs.Spans.{EndWithin}
 use Rattle.papergrid_maps.specs.ForProofs.SpanIndex.{stored_along, key_of}
 use Rattle.papergrid_maps.proofs.IndexKeys.{stored_at, key_key}

@@ -10,8 +10,8 @@ use Rattle.std.proofs.Math.Bool.{and_comm}
 use Rattle.papergrid_values.specs.declared.direction.Direction.{Direction}
 use Rattle.papergrid_values.specs.declared.direction.Direction.TheVariants.{Columns, Rows}
 use Rattle.papergrid_values.specs.declared.position.Position.{Position}
-use Rattle.papergrid_keys.specs.Keys.{position_cmp}
-use Rattle.papergrid_keys.proofs.KeyLemmas.{exact_positions, position_ties, position_total}
+use Rattle.papergrid_values.specs.MapKeys.{position_cmp}
+use Rattle.papergrid_values.proofs.KeyLemmas.{exact_positions, position_ties, position_total}
 use Rattle.papergrid_maps.specs.ForProofs.SpanIndex.{stored_along, key_of}
 
 -- the key of a key is the position

@@ -14,9 +14,9 @@ use Rattle.std.proofs.lemmas.Bool.{and_from, and_parts, false≢true}
 use Rattle.std.proofs.lemmas.Cmp.{ranked}
 use Rattle.std.proofs.lemmas.Map.Keys.{IsDistinct-from_sorted}
 use Rattle.papergrid_values.specs.declared.position.Position.{Position}
-use Rattle.papergrid_keys.specs.Keys.{position_cmp}
-use Rattle.papergrid_keys.proofs.AnyLemmas.{any_found, any_from_found}
-use Rattle.papergrid_keys.proofs.KeyLemmas.{exact_position_eq, position_ties, position_total}
+use Rattle.papergrid_values.specs.MapKeys.{position_cmp}
+use Rattle.papergrid_values.proofs.AnyLemmas.{any_found, any_from_found}
+use Rattle.papergrid_values.proofs.KeyLemmas.{exact_position_eq, position_ties, position_total}
 
 any_filter : {A : Type 0} (p test : A → Bool) (xs : List A) → list_any test (filter p xs) ≡ list_any (λ x. p x && test x) xs
 any_filter p test [] = refl

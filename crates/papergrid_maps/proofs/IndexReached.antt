@@ -10,7 +10,7 @@ use Rattle.std.proofs.lemmas.Bool.{ltb-true, lt-ltb}
 use Rattle.papergrid_values.specs.Positions.{along}
 use Rattle.papergrid_values.specs.declared.direction.Direction.{Direction}
 use Rattle.papergrid_values.specs.declared.position.Position.{Position}
-use Rattle.papergrid_keys.specs.Keys.{position_cmp}
+use Rattle.papergrid_values.specs.MapKeys.{position_cmp}
 use Rattle.papergrid_maps.specs.ForProofs.SpanIndex.{IsKeyReached, IsReached, stored_along, key_of, line_of}
 use Rattle.papergrid_maps.proofs.IndexKeys.{stored_at, key_key}
 use Rattle.papergrid_maps.proofs.IndexRanges.{any_between, in_line, of_line}

@@ -9,10 +9,10 @@ use Rattle.papergrid_values.specs.contracts.entity.EntityPartialEq.TheImpl.{eq-v
 use Rattle.papergrid_values.specs.declared.entity.Entity.{Entity}
 use Rattle.papergrid_values.specs.declared.entity.Entity.TheVariants.{Global, Column, Row, Cell}
 use Rattle.papergrid_values.specs.declared.position.Position.{Position}
-use Rattle.papergrid_keys.specs.Keys.{position_eq}
+use Rattle.papergrid_values.specs.MapKeys.{position_eq}
 use Rattle.papergrid_maps.specs.Keys.{entity_eq}
 use Rattle.papergrid_maps.specs.StoredMap.{held_for}
-use Rattle.papergrid_keys.proofs.KeyLemmas.{get_at_number, get_at_position, position_equiv}
+use Rattle.papergrid_values.proofs.KeyLemmas.{get_at_number, get_at_position, position_equiv}
 use Rattle.papergrid_maps.proofs.StoredMapLemmas.{view_of}
 
 -- the derived comparison of entities

@@ -6,9 +6,9 @@ use Rattle.std.specs.Ordering.{eq_by_cmp}
 use Rattle.std.specs.FinMap.{same_map}
 use Rattle.std.proofs.lemmas.Bool.{false≢true, or_left, or_right}
 use Rattle.papergrid_values.specs.declared.position.Position.{Position}
-use Rattle.papergrid_keys.specs.Keys.{position_cmp, position_eq}
-use Rattle.papergrid_keys.proofs.KeyLemmas.{exact_positions, position_equiv, position_ties, position_total, exact_position}
-use Rattle.papergrid_keys.proofs.TabulatedLemmas.{tabulates}
+use Rattle.papergrid_values.specs.MapKeys.{position_cmp, position_eq}
+use Rattle.papergrid_values.proofs.KeyLemmas.{exact_positions, position_equiv, position_ties, position_total, exact_position}
+use Rattle.papergrid_values.proofs.TabulatedLemmas.{tabulates}
 use Rattle.papergrid_maps.specs.Made.{named_anchors, spans_made}
 use Rattle.papergrid_maps.specs.Spans as spans
 use Rattle.papergrid_values.specs.declared.direction.Direction.{Direction}

@@ -8,13 +8,13 @@ use Rattle.std.specs.Map.{lookup, keys_of}
 use Rattle.std.proofs.lemmas.Bool.{and_parts, eqb-true}
 use Rattle.std.proofs.lemmas.Map.Made.{is_some-lookup}
 use Rattle.std.proofs.lemmas.Map.Entries.{lookup-filter-keys}
-use Rattle.papergrid_keys.specs.Keys.{position_eq}
+use Rattle.papergrid_values.specs.MapKeys.{position_eq}
 use Rattle.papergrid_values.specs.declared.position.Position.{Position}
 use Rattle.papergrid_values.specs.declared.entity.Entity.TheVariants.{Global, Column, Row, Cell}
 use Rattle.papergrid_maps.specs.declared.entity_map.MapCall.{MapCall}
 use Rattle.papergrid_maps.specs.declared.entity_map.MapCall.TheVariants.{Insert, Remove}
-use Rattle.papergrid_keys.proofs.EntryLemmas.{same_numbers, same_positions}
-use Rattle.papergrid_keys.proofs.KeyLemmas.{get_at_number, get_at_position}
+use Rattle.papergrid_values.proofs.EntryLemmas.{same_numbers, same_positions}
+use Rattle.papergrid_values.proofs.KeyLemmas.{get_at_number, get_at_position}
 use Rattle.papergrid_maps.proofs.StoredMapLemmas.{view_of}
 use Rattle.papergrid_maps.proofs.MapHistory.{IsStep, cell_after, global_after, value_after}
 

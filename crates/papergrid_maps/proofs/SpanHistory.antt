@@ -9,13 +9,13 @@ use Rattle.std.specs.Map.{lookup}
 use Rattle.std.specs.Ordering.{eq_by_cmp}
 use Rattle.std.specs.FinMap.{FinMap, empty, get, get-empty, get-insert, get-remove, insert, remove}
 use Rattle.papergrid_values.specs.declared.position.Position.{Position}
-use Rattle.papergrid_keys.specs.Keys.{position_cmp, position_eq}
+use Rattle.papergrid_values.specs.MapKeys.{position_cmp, position_eq}
 use Rattle.papergrid_values.specs.declared.direction.Direction.{Direction}
 use Rattle.papergrid_values.specs.declared.direction.Direction.TheVariants.{Columns, Rows}
-use Rattle.papergrid_keys.specs.History.{AppendsHistory}
+use Rattle.papergrid_values.specs.History.{AppendsHistory}
 use Rattle.papergrid_maps.specs.Spans.{Spans, SpanCall, RemoveSpans, HasSpan, HasSpanHistory, spans_along, span_from, from_two}
 use Rattle.papergrid_maps.specs.ForProofs.SpanIndex.{AreFromTwo, stored_along, key_of, span_set}
-use Rattle.papergrid_keys.proofs.KeyLemmas.{position_equiv, position_ties, position_total}
+use Rattle.papergrid_values.proofs.KeyLemmas.{position_equiv, position_ties, position_total}
 use Rattle.papergrid_maps.proofs.IndexKeys.{stored_at, key_key}
 
 newest : (calls : List SpanCall) (call : SpanCall) → reverse (calls ++ call ∷ []) ≡ call ∷ reverse calls

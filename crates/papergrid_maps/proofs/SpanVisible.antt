@@ -8,10 +8,10 @@ use Rattle.std.proofs.lemmas.Map.Keys.{any_passes_from_place}
 use Rattle.papergrid_values.specs.declared.direction.Direction.{Direction}
 use Rattle.papergrid_values.specs.declared.direction.Direction.TheVariants.{Columns, Rows}
 use Rattle.papergrid_values.specs.declared.position.Position.{Position}
-use Rattle.papergrid_keys.specs.Keys.{position_cmp, position_eq}
+use Rattle.papergrid_values.specs.MapKeys.{position_cmp, position_eq}
 use Rattle.papergrid_maps.specs.Spans.{HasSpan, Spans, span_along, is_hidden_by, is_in_rectangle, is_visible, IsVisible, IsInRectangle}
-use Rattle.papergrid_keys.proofs.AnyLemmas.{any_place}
-use Rattle.papergrid_keys.proofs.KeyLemmas.{exact_position_eq, position_ties, position_equiv}
+use Rattle.papergrid_values.proofs.AnyLemmas.{any_place}
+use Rattle.papergrid_values.proofs.KeyLemmas.{exact_position_eq, position_ties, position_equiv}
 
 -- the test of a rectangle
 in_rectangle : (span : Direction → Position → ℕ) (anchor p : Position) → is_in_rectangle span anchor p ≡ true → IsInRectangle span anchor p

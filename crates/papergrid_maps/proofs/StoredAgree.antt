@@ -9,8 +9,8 @@ use Rattle.papergrid_values.specs.declared.direction.Direction.{Direction}
 use Rattle.papergrid_values.specs.declared.direction.Direction.TheVariants.{Columns, Rows}
 use Rattle.papergrid_values.specs.declared.entity.Entity.TheVariants.{Global, Column, Row, Cell}
 use Rattle.papergrid_values.specs.declared.position.Position.{Position}
-use Rattle.papergrid_keys.specs.Equal.{numbers_eq, positions_eq}
-use Rattle.papergrid_keys.proofs.EqualLemmas.{numbers_agree, option_same, positions_agree}
+use Rattle.papergrid_values.specs.Equal.{numbers_eq, positions_eq}
+use Rattle.papergrid_values.proofs.EqualLemmas.{numbers_agree, option_same, positions_agree}
 use Rattle.papergrid_maps.specs.StoredSame.{HoldTheSameSpans, HoldTheSameValues}
 use Rattle.papergrid_maps.specs.MapEq.{stored_eq}
 use Rattle.papergrid_maps.specs.StoredMap.{Stored}

@@ -6,13 +6,13 @@ use Rattle.std.proofs.lemmas.Bool.{and_parts, and_from}
 use Rattle.std.specs.Prelude.{unwrap_or}
 use Rattle.std.specs.Map.{lookup}
 use Rattle.std.specs.FinMap.{from_entries}
-use Rattle.papergrid_keys.specs.Keys.{position_eq}
+use Rattle.papergrid_values.specs.MapKeys.{position_eq}
 use Rattle.papergrid_maps.specs.StoredMap.{Stored, HasNothing, stored_value, HasMapHistory}
 use Rattle.papergrid_maps.specs.MapCalls.{effective_value}
 use Rattle.papergrid_maps.specs.declared.entity_map.MapCall.{MapCall}
 use Rattle.papergrid_values.specs.declared.position.Position.{Position}
-use Rattle.papergrid_keys.proofs.EntryLemmas.{no_entries, none_of_nothing}
-use Rattle.papergrid_keys.proofs.KeyLemmas.{get_at_number, get_at_position, position_equiv}
+use Rattle.papergrid_values.proofs.EntryLemmas.{no_entries, none_of_nothing}
+use Rattle.papergrid_values.proofs.KeyLemmas.{get_at_number, get_at_position, position_equiv}
 
 module _ {T : Type 0} where
   -- the map with these entries

@@ -2,7 +2,7 @@
 use Rattle.std.specs.Prelude.{◌≡◌, Bool, List, Option, is_some}
 use Rattle.std.specs.HashMap.{HashMap, get}
 use Rattle.std.specs.Set.{is_member}
-use Rattle.papergrid_keys.specs.Keys.{position_eq}
+use Rattle.papergrid_values.specs.MapKeys.{position_eq}
 use Rattle.papergrid_values.specs.declared.entity.Entity.{Entity}
 use Rattle.papergrid_values.specs.declared.entity.Entity.TheVariants.{Cell}
 use Rattle.papergrid_values.specs.declared.position.Position.{Position}

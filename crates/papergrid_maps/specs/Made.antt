@@ -1,7 +1,7 @@
 -- The spans that calls make: what the calls decide, at each anchor that one of them names.
 use Rattle.std.specs.Prelude.{List, [], ◌∷◌, flat_map, reverse}
 use Rattle.papergrid_values.specs.declared.position.Position.{Position}
-use Rattle.papergrid_keys.specs.Tabulated.{tabulation}
+use Rattle.papergrid_values.specs.Tabulated.{tabulation}
 use Rattle.papergrid_values.specs.declared.direction.Direction.TheVariants.{Columns, Rows}
 use Rattle.papergrid_maps.specs.Spans.{SetSpan, SpanCall, Spans, effective_span, from_two}
 

@@ -1,6 +1,6 @@
 -- When two maps hold the same.
 use Rattle.std.specs.Prelude.{Bool, ◌&&◌}
-use Rattle.papergrid_keys.specs.Equal.{numbers_eq, positions_eq}
+use Rattle.papergrid_values.specs.Equal.{numbers_eq, positions_eq}
 use Rattle.papergrid_maps.specs.StoredMap.{Stored}
 
 -- the global values are equal, and the columns, the rows and the cells have equal values

@@ -3,8 +3,8 @@ use Rattle.std.specs.Prelude.{◌≡◌, ℕ, List, reverse, Option, Some, None,
 use Rattle.std.specs.Ordering.{nat_cmp}
 use Rattle.std.specs.FinMap.{FinMap, get, code}
 use Rattle.std.specs.Coded.{Coded, code_by, coded×, coded_ℕ}
-use Rattle.papergrid_keys.specs.Keys.{position_cmp, coded_position}
-use Rattle.papergrid_keys.specs.History as told
+use Rattle.papergrid_values.specs.MapKeys.{position_cmp, coded_position}
+use Rattle.papergrid_values.specs.History as told
 use Rattle.papergrid_maps.specs.MapCalls.{global_value, cell_override_value, standing_value}
 use Rattle.papergrid_values.specs.declared.position.Position.{Position}
 use Rattle.papergrid_values.specs.declared.entity.Entity.{Entity}

@@ -5,7 +5,7 @@ ghost use Rattle.std.specs.Option.{option_copied};
 ghost use Rattle.std.specs.BTreeMap.{get as tree_get};
 ghost use Rattle.std.specs.HashMap.{get as map_get};
 ghost use Rattle.papergrid_values.specs.declared.position.Position.{Position};
-ghost use Rattle.papergrid_keys.specs.Keys.{position_cmp, position_eq};
+ghost use Rattle.papergrid_values.specs.MapKeys.{position_cmp, position_eq};
 ghost use Rattle.papergrid_maps.specs.StoredMap.{stored_value};
 
 use crate::EntityMap;

@@ -7,14 +7,14 @@ ghost use Rattle.std.specs.HashMap.{IsUnique, keys, values, get as map_get};
 ghost use Rattle.std.specs.Set.{is_member};
 ghost use Rattle.papergrid_values.specs.declared.entity.Entity.{Entity};
 ghost use Rattle.papergrid_values.specs.declared.position.Position.{Position};
-ghost use Rattle.papergrid_keys.specs.Keys.{position_eq};
+ghost use Rattle.papergrid_values.specs.MapKeys.{position_eq};
 ghost use Rattle.papergrid_maps.specs.Keys.{entity_eq};
 ghost use Rattle.papergrid_maps.specs.Listed.{AreSetCells, HasAtEach};
 ghost use Rattle.papergrid_maps.specs.MapCalls.{effective_value, may_grow};
 ghost use Rattle.papergrid_maps.specs.StoredMap.{HasMapHistory, AppendsCalls, HasNothing, HoldsValue, held_for, stored_value};
 ghost use Rattle.papergrid_maps.specs.declared.entity_map.MapCall.{MapCall};
 
-use papergrid_keys::hashed::{look_up, put, remove};
+use papergrid_values::hashed::{look_up, put, remove};
 use papergrid_values::{Entity, Position};
 use std::alloc::{AllocError, Global};
 use std::collections::HashMap;

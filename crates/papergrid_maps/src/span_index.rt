@@ -9,8 +9,8 @@ ghost use Rattle.std.specs.List.{list_all, list_any};
 ghost use Rattle.papergrid_values.specs.declared.direction.Direction.TheVariants.{Columns};
 ghost use Rattle.papergrid_values.specs.declared.position.Position.{Position};
 ghost use Rattle.papergrid_values.specs.Positions.{AreRising};
-ghost use Rattle.papergrid_keys.specs.Equal.{positions_eq};
-ghost use Rattle.papergrid_keys.specs.Keys.{position_cmp, position_eq};
+ghost use Rattle.papergrid_values.specs.Equal.{positions_eq};
+ghost use Rattle.papergrid_values.specs.MapKeys.{position_cmp, position_eq};
 ghost use Rattle.papergrid_maps.specs.Listed.{HasAtEach};
 ghost use Rattle.papergrid_maps.specs.Spans.{EndWithin, HasSpan};
 ghost use Rattle.papergrid_maps.specs.ForProofs.SpanIndex.{AreAt, CoversOne, IsReached, IsRising, anchor_along, covers_stored, entry_anchor, extent_of, key_of};
@@ -34,7 +34,7 @@ pub(crate) struct SpanIndex {
 
 impl Model for SpanIndex {
     ghost use Rattle.std.specs.BTreeMap.{IsOrdered};
-    ghost use Rattle.papergrid_keys.specs.Keys.{position_cmp};
+    ghost use Rattle.papergrid_values.specs.MapKeys.{position_cmp};
     ghost use Rattle.papergrid_maps.specs.ForProofs.SpanIndex.{DirectedSpans, directed_code, stored_along};
 
     ghost Value = { DirectedSpans };

@@ -6,7 +6,7 @@ use Rattle.std.specs.Option.{option_eq}
 use Rattle.std.proofs.lemmas.Bool.{and_from, and_parts}
 use Rattle.papergrid_values.specs.Borders.{frame_parts}
 use Rattle.papergrid_values.specs.Lines.{horizontal_parts, vertical_parts}
-use Rattle.papergrid_keys.proofs.EqualLemmas.{numbers_agree, positions_agree}
+use Rattle.papergrid_values.proofs.EqualLemmas.{numbers_agree, positions_agree}
 use Rattle.papergrid_tables.specs.StoredBorders.{StoredBorders, parts_of_borders}
 use Rattle.papergrid_tables.specs.BorderSame.{HoldTheSameBorders, same_parts}
 use Rattle.papergrid_tables.specs.ForProofs.BorderEq.{borders_eq, horizontal_line_eq, parts_eq, vertical_line_eq}

@@ -16,12 +16,12 @@ use Rattle.papergrid_values.specs.declared.horizontal_line.HorizontalLine.{Horiz
 use Rattle.papergrid_values.specs.declared.vertical_line.VerticalLine.{VerticalLine}
 use Rattle.papergrid_tables.specs.StoredBorders.{HasBorderHistory}
 use Rattle.papergrid_tables.specs.BorderScan.{has_end}
-use Rattle.papergrid_keys.specs.Keys.{position_eq}
+use Rattle.papergrid_values.specs.MapKeys.{position_eq}
 use Rattle.papergrid_tables.specs.BorderParts.{HasEnd, BorderParts}
-use Rattle.papergrid_keys.proofs.AnyLemmas.{any_found, any_from_found}
+use Rattle.papergrid_values.proofs.AnyLemmas.{any_found, any_from_found}
 use Rattle.papergrid_tables.proofs.BorderHistory.{table_of}
-use Rattle.papergrid_keys.proofs.KeyLemmas.{get_at_number, get_at_position, position_equiv}
-use Rattle.papergrid_keys.proofs.EntryLemmas.{no_entries, none_of_nothing}
+use Rattle.papergrid_values.proofs.KeyLemmas.{get_at_number, get_at_position, position_equiv}
+use Rattle.papergrid_values.proofs.EntryLemmas.{no_entries, none_of_nothing}
 
 -- ---- the first that is set
 

@@ -13,12 +13,12 @@ use Rattle.papergrid_values.specs.declared.borders.Borders.{Borders}
 use Rattle.papergrid_values.specs.declared.horizontal_line.HorizontalLine.{HorizontalLine}
 use Rattle.papergrid_values.specs.declared.vertical_line.VerticalLine.{VerticalLine}
 use Rattle.papergrid_tables.specs.BorderCalls.{BorderCall, InsertBorder, RemoveBorder, InsertHorizontalLine, RemoveHorizontalLine, InsertVerticalLine, RemoveVerticalLine, SetBorders, SetGlobal, Clear, is_edge_of, is_corner_of, edge_part, corner_part}
-use Rattle.papergrid_keys.specs.History.{AppendsHistory}
+use Rattle.papergrid_values.specs.History.{AppendsHistory}
 use Rattle.papergrid_tables.specs.StoredBorders.{StoredBorders, HasBorderHistory, parts_of_borders}
-use Rattle.papergrid_keys.specs.Keys.{position_cmp, position_eq}
+use Rattle.papergrid_values.specs.MapKeys.{position_cmp, position_eq}
 use Rattle.papergrid_tables.specs.BorderParts.{parts_after_call, parts_from}
-use Rattle.papergrid_keys.proofs.KeyLemmas.{get_at_number, get_at_position}
-use Rattle.papergrid_keys.proofs.EntryLemmas.{same_positions}
+use Rattle.papergrid_values.proofs.KeyLemmas.{get_at_number, get_at_position}
+use Rattle.papergrid_values.proofs.EntryLemmas.{same_positions}
 
 -- what one map of lines holds after a change
 line_changed : {L : Type 0} (k : ℕ) (line : Option L) (es es' : List (ℕ × L)) → ((n : ℕ) → lookup (eqb n) es' ≡ cond (eqb k n) line (lookup (eqb n) es))

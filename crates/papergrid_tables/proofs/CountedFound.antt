@@ -15,13 +15,13 @@ use Rattle.papergrid_values.specs.declared.position.Position.{Position}
 use Rattle.papergrid_tables.specs.BorderScan.{has_end}
 use Rattle.papergrid_tables.specs.ForProofs.CountedLines.{AreEndsCounted, is_stored, reaches}
 use Rattle.papergrid_tables.specs.ForProofs.Counts.{AreCounts, line_count_of}
-use Rattle.papergrid_keys.specs.Keys.{position_cmp}
+use Rattle.papergrid_values.specs.MapKeys.{position_cmp}
 use Rattle.papergrid_tables.specs.BorderParts.{EndsThere, HasEnd, StandsOn}
 use Rattle.papergrid_tables.specs.declared.counted_lines.Lines.{Lines}
 use Rattle.papergrid_tables.specs.declared.line_counts.LineCounts.{LineCounts}
-use Rattle.papergrid_keys.proofs.AnyLemmas.{any_from_found, some_key}
+use Rattle.papergrid_values.proofs.AnyLemmas.{any_from_found, some_key}
 use Rattle.papergrid_tables.proofs.BorderFound.{either, ends_scan, key_scan, some_value}
-use Rattle.papergrid_keys.proofs.KeyLemmas.{exact_position_eq, get_at_position, position_equiv}
+use Rattle.papergrid_values.proofs.KeyLemmas.{exact_position_eq, get_at_position, position_equiv}
 
 -- a count is above 0 where something is counted
 one_first : (b : Bool) (n : ℕ) (rest : Bool) → nat_lt 0 n ≡ rest → nat_lt 0 (cond b 1 0 + n) ≡ (b || rest)

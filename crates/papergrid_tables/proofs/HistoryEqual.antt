@@ -9,11 +9,11 @@ use Rattle.papergrid_tables.specs.BorderCalls.{BorderCall}
 use Rattle.papergrid_tables.specs.ForProofs.BorderEq.{borders_eq, horizontal_line_eq, parts_eq, vertical_line_eq}
 use Rattle.papergrid_tables.specs.StoredBorders as borders
 use Rattle.papergrid_tables.specs.StoredBorders.{StoredBorders}
-use Rattle.papergrid_keys.specs.Keys.{position_cmp}
+use Rattle.papergrid_values.specs.MapKeys.{position_cmp}
 use Rattle.papergrid_tables.specs.ForProofs.OffsetEq.{overrides_eq}
 use Rattle.papergrid_tables.specs.Overrides as overrides
 use Rattle.papergrid_tables.specs.Overrides.{StoredOffsets, OffsetCall}
-use Rattle.papergrid_keys.proofs.EqualLemmas.{numbers_agree, option_same, positions_same}
+use Rattle.papergrid_values.proofs.EqualLemmas.{numbers_agree, option_same, positions_same}
 use Rattle.papergrid_tables.proofs.MadeTables.{border_history}
 use Rattle.papergrid_tables.proofs.OffsetEqual.{overrides_agree}
 

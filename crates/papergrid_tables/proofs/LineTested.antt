@@ -12,13 +12,13 @@ use Rattle.papergrid_values.specs.declared.position.Position.{Position}
 use Rattle.papergrid_values.specs.declared.horizontal_line.HorizontalLine.{HorizontalLine}
 use Rattle.papergrid_values.specs.declared.vertical_line.VerticalLine.{VerticalLine}
 use Rattle.papergrid_tables.specs.StoredBorders.{StoredBorders, parts_of_borders}
-use Rattle.papergrid_keys.specs.Keys.{position_cmp}
+use Rattle.papergrid_values.specs.MapKeys.{position_cmp}
 use Rattle.papergrid_tables.specs.LineTests.{ends_at_column, ends_at_row, horizontal_line_at, vertical_line_at}
 use Rattle.papergrid_tables.specs.BorderParts.{HasHorizontal, HasVertical, HasEnd}
-use Rattle.papergrid_keys.proofs.AnyLemmas.{any_place}
+use Rattle.papergrid_values.proofs.AnyLemmas.{any_place}
 use Rattle.papergrid_tables.proofs.BorderFound.{either, has_end_is, some_value}
-use Rattle.papergrid_keys.proofs.KeyLemmas.{exact_position, position_ties, position_equiv}
-use Rattle.papergrid_keys.proofs.ResultLemmas.{same_answer}
+use Rattle.papergrid_values.proofs.KeyLemmas.{exact_position, position_ties, position_equiv}
+use Rattle.papergrid_values.proofs.ResultLemmas.{same_answer}
 
 -- some key that is stored passes
 module _ {K X : Type 0} {R : K → K → Ordering} (exact : (x y : K) → eq_by_cmp R x y ≡ true → x ≡ y) (ties : (x : K) → eq_by_cmp R x x ≡ true) (m : FinMap R X) (test : K → Bool) where

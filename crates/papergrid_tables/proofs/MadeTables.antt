@@ -12,11 +12,11 @@ use Rattle.papergrid_values.specs.declared.direction.Direction.TheVariants.{Colu
 use Rattle.papergrid_values.specs.declared.position.Position.{Position}
 use Rattle.papergrid_tables.specs.BorderCalls.{at_place, below, right_of, BorderCall, InsertBorder, RemoveBorder, InsertHorizontalLine, RemoveHorizontalLine, InsertVerticalLine, RemoveVerticalLine, Clear, is_edge_of, is_corner_of, edge_part, corner_part}
 use Rattle.papergrid_tables.specs.StoredBorders.{StoredBorders, HasBorderHistory, parts_of_borders}
-use Rattle.papergrid_keys.specs.Keys.{position_cmp, position_eq}
+use Rattle.papergrid_values.specs.MapKeys.{position_cmp, position_eq}
 use Rattle.papergrid_tables.specs.Made.{borders_made, named_columns, named_positions, named_rows}
 use Rattle.papergrid_tables.specs.BorderParts.{BorderParts, parts_after_call, no_parts, parts_from}
-use Rattle.papergrid_keys.proofs.TabulatedLemmas.{tabulates}
-use Rattle.papergrid_keys.proofs.KeyLemmas.{exact_position, exact_positions, position_equiv, position_ties, position_total}
+use Rattle.papergrid_values.proofs.TabulatedLemmas.{tabulates}
+use Rattle.papergrid_values.proofs.KeyLemmas.{exact_position, exact_positions, position_equiv, position_ties, position_total}
 use Rattle.papergrid_tables.proofs.LineTested.{exact_number}
 
 -- ---- what calls write, they name

@@ -11,12 +11,12 @@ use Rattle.std.proofs.lemmas.Bool.{and_from, and_parts, cases_Bool, false≢true
 use Rattle.papergrid_values.specs.declared.offset.Offset.{Offset}
 use Rattle.papergrid_values.specs.declared.offset.Offset.TheVariants.{Start, End}
 use Rattle.papergrid_values.specs.declared.position.Position.{Position}
-use Rattle.papergrid_keys.specs.Keys.{position_cmp, position_eq}
+use Rattle.papergrid_values.specs.MapKeys.{position_cmp, position_eq}
 use Rattle.papergrid_tables.specs.ForProofs.OffsetEq.{has_number, has_override, no_offsets, offsets_eq, overrides_eq, with_overrides}
 use Rattle.papergrid_tables.specs.Overrides.{StoredOffsets, HoldTheSame, at_offset, override_at}
 use Rattle.papergrid_tables.specs.ForProofs.OverrideScan.{AreSet}
-use Rattle.papergrid_keys.proofs.EqualLemmas.{numbers_agree, positions_agree, positions_eq-from_entries, same_test}
-use Rattle.papergrid_keys.proofs.KeyLemmas.{exact_positions, get_at_position}
+use Rattle.papergrid_values.proofs.EqualLemmas.{numbers_agree, positions_agree, positions_eq-from_entries, same_test}
+use Rattle.papergrid_values.proofs.KeyLemmas.{exact_positions, get_at_position}
 
 -- ---- maps that hold something
 

@@ -13,12 +13,12 @@ use Rattle.std.proofs.lemmas.Map.Entries.{lookup_clone}
 use Rattle.papergrid_values.specs.declared.offset.Offset.{Offset}
 use Rattle.papergrid_values.specs.declared.offset.Offset.TheVariants.{Start, End}
 use Rattle.papergrid_values.specs.declared.position.Position.{Position}
-use Rattle.papergrid_keys.specs.Keys.{position_cmp, position_eq}
-use Rattle.papergrid_keys.specs.History.{AppendsHistory}
+use Rattle.papergrid_values.specs.MapKeys.{position_cmp, position_eq}
+use Rattle.papergrid_values.specs.History.{AppendsHistory}
 use Rattle.papergrid_tables.specs.Overrides.{StoredOffsets, OffsetCall, SetAt, RemoveAt, RemoveAll, IsOverridden, HasOverrideHistory, override_after_call, at_offset, is_same_offset, override_at, overrides_from}
 use Rattle.papergrid_tables.specs.ForProofs.OverrideScan.{AfterSet, AreSet}
-use Rattle.papergrid_keys.proofs.KeyLemmas.{get_at_number, get_at_position, exact_position_eq, position_equiv}
-use Rattle.papergrid_keys.proofs.EntryLemmas.{none_of_nothing}
+use Rattle.papergrid_values.proofs.KeyLemmas.{get_at_number, get_at_position, exact_position_eq, position_equiv}
+use Rattle.papergrid_values.proofs.EntryLemmas.{none_of_nothing}
 
 same_offset : (o : Offset) → is_same_offset o o ≡ true
 same_offset (Start n) = nat_eq_equiv.refl n

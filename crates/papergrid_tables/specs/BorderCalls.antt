@@ -8,7 +8,7 @@ use Rattle.papergrid_values.specs.declared.direction.Direction.TheVariants.{Colu
 use Rattle.papergrid_values.specs.declared.horizontal_line.HorizontalLine.{HorizontalLine}
 use Rattle.papergrid_values.specs.declared.position.Position.{Position}
 use Rattle.papergrid_values.specs.declared.vertical_line.VerticalLine.{VerticalLine}
-use Rattle.papergrid_keys.specs.Keys.{position_eq}
+use Rattle.papergrid_values.specs.MapKeys.{position_eq}
 
 -- the calls that change a border table; `Clear` puts a new one in its place
 pub data BorderCall (T : Type 0) : Type 0 where

@@ -9,7 +9,7 @@ use Rattle.papergrid_values.specs.declared.horizontal_line.HorizontalLine.{Horiz
 use Rattle.papergrid_values.specs.declared.vertical_line.VerticalLine.{VerticalLine}
 use Rattle.papergrid_tables.specs.StoredBorders.{StoredBorders}
 use Rattle.papergrid_tables.specs.BorderScan.{has_end}
-use Rattle.papergrid_keys.specs.Keys.{position_cmp}
+use Rattle.papergrid_values.specs.MapKeys.{position_cmp}
 use Rattle.papergrid_tables.specs.BorderParts.{in_frame}
 
 module _ {T : Type 0} where

@@ -12,8 +12,9 @@ ghost use Rattle.papergrid_tables.specs.BorderParts as places;
 use crate::counted_lines::Lines;
 use crate::counted_parts::{Corners, Edges};
 use crate::line_counts::LineCounts;
-use papergrid_keys::hashed;
-use papergrid_values::{Border, Borders, Direction, HorizontalLine, Position, VerticalLine};
+use papergrid_values::{
+    Border, Borders, Direction, HorizontalLine, Position, VerticalLine, hashed,
+};
 use std::alloc::AllocError;
 use std::collections::HashMap;
 

@@ -4,12 +4,12 @@ ghost use Rattle.std.specs.Prelude.{◌≡◌, ◌∷◌, [], ◌+◌, ◌<◌, 
 ghost use Rattle.std.specs.HashMap.{get as map_get};
 ghost use Rattle.std.specs.Option.{option_or};
 ghost use Rattle.std.specs.FinMap.{get as value_at};
-ghost use Rattle.papergrid_keys.specs.History.{AppendsHistory};
+ghost use Rattle.papergrid_values.specs.History.{AppendsHistory};
 ghost use Rattle.papergrid_values.specs.Borders.{border_map};
 ghost use Rattle.papergrid_values.specs.declared.direction.Direction.TheVariants.{Columns, Rows};
 ghost use Rattle.papergrid_tables.specs.BorderCalls.{BorderCall, Clear, InsertBorder, RemoveBorder, InsertHorizontalLine, RemoveHorizontalLine, InsertVerticalLine, RemoveVerticalLine, SetBorders, SetGlobal};
 ghost use Rattle.papergrid_tables.specs.StoredBorders.{HasBorderHistory, parts_of_borders};
-ghost use Rattle.papergrid_keys.specs.Keys.{position_eq};
+ghost use Rattle.papergrid_values.specs.MapKeys.{position_eq};
 ghost use Rattle.papergrid_tables.specs.LineTests.{horizontal_line_at, vertical_line_at};
 ghost use Rattle.papergrid_tables.specs.BorderParts.{HasHorizontal, HasVertical, IsSet, found_border, found_horizontal, found_intersection, found_vertical};
 

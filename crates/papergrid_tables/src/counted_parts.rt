@@ -8,7 +8,7 @@ ghost use Rattle.papergrid_tables.specs.BorderCalls.{at_place};
 ghost use Rattle.papergrid_tables.specs.ForProofs.CountedParts.{AreEdgesCounted, AreCornersCounted, HasEdgeRoom, HasCornerRoom};
 ghost use Rattle.papergrid_tables.specs.ForProofs.Counts.{number_on, one_if};
 ghost use Rattle.papergrid_tables.specs.ForProofs.Maps.{Gains, HoldsAsBefore, Loses};
-ghost use Rattle.papergrid_keys.specs.Keys.{position_eq};
+ghost use Rattle.papergrid_values.specs.MapKeys.{position_eq};
 
 use crate::line_counts::LineCounts;
 use papergrid_values::{Direction, Position};

@@ -6,7 +6,7 @@ ghost use Rattle.papergrid_tables.specs.BorderCalls.{BorderCall};
 ghost use Rattle.papergrid_tables.specs.StoredBorders as borders;
 ghost use Rattle.papergrid_tables.specs.StoredBorders.{StoredBorders, parts_of_borders};
 ghost use Rattle.papergrid_tables.specs.BorderSame.{HoldTheSameBorders};
-ghost use Rattle.papergrid_keys.specs.Keys.{position_cmp};
+ghost use Rattle.papergrid_values.specs.MapKeys.{position_cmp};
 ghost use Rattle.papergrid_tables.specs.Made.{borders_made};
 ghost use Rattle.papergrid_tables.specs.Overrides as overrides;
 ghost use Rattle.papergrid_tables.specs.Overrides.{StoredOffsets, HoldTheSame, OffsetCall};

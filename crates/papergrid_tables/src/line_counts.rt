@@ -4,7 +4,7 @@ ghost use Rattle.std.specs.Prelude.{◌≡◌, ◌↔◌, ◌+◌, ◌<◌, ◌�
 ghost use Rattle.std.specs.HashMap.{spare};
 ghost use Rattle.papergrid_tables.specs.ForProofs.Counts.{line_count_of, one_if};
 
-use papergrid_keys::hashed::{look_up, put};
+use papergrid_values::hashed::{look_up, put};
 use std::alloc::{AllocError, Global};
 use std::collections::HashMap;
 

@@ -2,14 +2,14 @@
 
 ghost use Rattle.std.specs.Prelude.{◌≡◌, ◌∷◌, [], ◌↔◌, Some, None, ◌-◌, nat_eq, nat_lt, IsTrue, OnOk, OnErr, if◌then◌else◌, option_copied};
 ghost use Rattle.std.specs.HashMap.{get as map_get};
-ghost use Rattle.papergrid_keys.specs.History.{AppendsHistory};
+ghost use Rattle.papergrid_values.specs.History.{AppendsHistory};
 ghost use Rattle.papergrid_values.specs.declared.offset.Offset.{Offset};
-ghost use Rattle.papergrid_keys.specs.Keys.{position_eq};
+ghost use Rattle.papergrid_values.specs.MapKeys.{position_eq};
 ghost use Rattle.papergrid_tables.specs.ForProofs.Maps.{HoldsAsBefore};
 ghost use Rattle.papergrid_tables.specs.ForProofs.OverrideScan.{AfterSet, AreSet};
 ghost use Rattle.papergrid_tables.specs.Overrides.{IsOverridden, HasOverrideHistory, RemoveAll, RemoveAt, SetAt, at_offset, found_override, is_same_offset, override_at};
 
-use papergrid_keys::hashed::{remove, write};
+use papergrid_values::hashed::{remove, write};
 use papergrid_values::{Offset, Position};
 use std::alloc::{AllocError, Global};
 use std::collections::HashMap;
@@ -46,7 +46,7 @@ impl<T> Model for Overrides<T> {
 
 impl<T> Model for OffsetTable<T> {
     ghost use Rattle.std.specs.FinMap as map;
-    ghost use Rattle.papergrid_keys.specs.Keys.{position_cmp, coded_position};
+    ghost use Rattle.papergrid_values.specs.MapKeys.{position_cmp, coded_position};
     ghost use Rattle.papergrid_tables.specs.Overrides.{StoredOffsets};
     ghost use Rattle.papergrid_tables.specs.ForProofs.OverrideScan.{AreSet, offsets_code};
 

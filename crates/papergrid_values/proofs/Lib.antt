@@ -1,3 +1,9 @@
+pub mod AnyLemmas
 pub mod CloneLemmas
+pub mod EntryLemmas
+pub mod EqualLemmas
 pub mod GridLemmas
+pub mod KeyLemmas
+pub mod ResultLemmas
+pub mod TabulatedLemmas
 pub mod WalkLemmas

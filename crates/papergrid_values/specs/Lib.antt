@@ -1,10 +1,15 @@
 pub mod Borders
 pub mod Colors
 pub mod Entities
+pub mod Equal
 pub mod Folds
+pub mod History
 pub mod Keys
 pub mod Lines
+pub mod MapKeys
 pub mod Offsets
 pub mod Parts
 pub mod Positions
+pub mod Tabulated
 pub mod Writes
+pub mod ForProofs

@@ -1,5 +1,6 @@
 //! The values that the settings of a table are made of: positions and entities, sides, indents and
-//! offsets, the borders of cells, the frame and the lines of a table, and colours as two texts.
+//! offsets, the borders of cells, the frame and the lines of a table, and colours as two texts. And
+//! positions and numbers as the keys of maps: single steps on hashed maps, told by what each key has.
 #![tactic(auto)]
 
 pub mod alignment;
@@ -12,6 +13,7 @@ pub mod direction;
 pub mod entity;
 pub mod entity_iterator;
 pub mod formatting;
+pub mod hashed;
 pub mod horizontal_line;
 pub mod indent;
 pub mod laws;

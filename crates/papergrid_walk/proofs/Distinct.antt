@@ -6,12 +6,12 @@ use Rattle.std.proofs.lemmas.List.Demands.{AllPairs-cons, AllPairs-filter}
 use Rattle.papergrid_values.specs.declared.position.Position.{Position}
 use Rattle.papergrid_values.specs.declared.direction.Direction.{Direction}
 use Rattle.papergrid_values.specs.declared.direction.Direction.TheVariants.{Columns, Rows}
-use Rattle.papergrid_axis.specs.declared.demand.Demand.{Demand}
-use Rattle.papergrid_axis.specs.declared.demands.Demands.{Demands}
-use Rattle.papergrid_axis.specs.ForProofs.Checks.{AreDistinct}
-use Rattle.papergrid_axis.specs.Ranges.{place_of}
-use Rattle.papergrid_axis.specs.ForProofs.Demands.{HoldsDemands, AreGathered, StandInOrder, is_single}
-use Rattle.papergrid_axis.proofs.DemandLemmas.{below-own_limit}
+use Rattle.papergrid_tracks.specs.declared.demand.Demand.{Demand}
+use Rattle.papergrid_tracks.specs.declared.demands.Demands.{Demands}
+use Rattle.papergrid_tracks.specs.ForProofs.Checks.{AreDistinct}
+use Rattle.papergrid_tracks.specs.Ranges.{place_of}
+use Rattle.papergrid_tracks.specs.ForProofs.Demands.{HoldsDemands, AreGathered, StandInOrder, is_single}
+use Rattle.papergrid_tracks.proofs.DemandLemmas.{below-own_limit}
 use Rattle.papergrid_values.specs.Positions.{IsBefore}
 use Rattle.papergrid_walk.specs.Cells.{demand_by, count_along, demands_of, positioned_cells, placed_from, placed_row, visible_cells}
 use Rattle.papergrid_walk.specs.ForProofs.Limits.{limit_along}

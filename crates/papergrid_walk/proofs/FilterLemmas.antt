@@ -7,8 +7,8 @@ use Rattle.std.proofs.Math.Seq.{take-suc}
 use Rattle.std.proofs.lemmas.List.{get_or-set_same}
 use Rattle.std.proofs.lemmas.List.Elements.{All-head, All-push, All-tail, All-weaker}
 use Rattle.papergrid_values.specs.declared.position.Position.{Position}
-use Rattle.papergrid_keys.specs.Keys.{position_eq}
-use Rattle.papergrid_keys.proofs.KeyLemmas.{exact_position_eq}
+use Rattle.papergrid_values.specs.MapKeys.{position_eq}
+use Rattle.papergrid_values.proofs.KeyLemmas.{exact_position_eq}
 use Rattle.papergrid_values.specs.declared.entity.Entity.{Entity}
 use Rattle.papergrid_values.specs.declared.entity.Entity.TheVariants.{Cell}
 use Rattle.papergrid_walk.specs.ForProofs.Filters.{passes, slot}

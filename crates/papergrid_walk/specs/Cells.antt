@@ -1,11 +1,11 @@
 -- The visible cells of told rows with their positions, and what they ask for along a direction.
 use Rattle.std.specs.Prelude.{ℕ, ◌+◌, List, [], ◌∷◌, ◌++◌, length, map, filter}
 use Rattle.papergrid_values.specs.declared.position.Position.{Position}
-use Rattle.papergrid_axis.specs.declared.demand.Demand.{Demand}
+use Rattle.papergrid_tracks.specs.declared.demand.Demand.{Demand}
 use Rattle.papergrid_values.specs.declared.direction.Direction.{Direction}
 use Rattle.papergrid_values.specs.declared.direction.Direction.TheVariants.{Columns, Rows}
-use Rattle.papergrid_axis.specs.Problem.{Problem}
-use Rattle.papergrid_axis.specs.Ranges.{demand_of}
+use Rattle.papergrid_tracks.specs.Problem.{Problem}
+use Rattle.papergrid_tracks.specs.Ranges.{demand_of}
 use Rattle.papergrid_maps.specs.Grids.{Grid}
 
 -- the width, or the height, of a measure (width, height)

@@ -2,10 +2,10 @@
 
 ghost use Rattle.std.specs.Prelude.{◌≡◌, ℕ, ◌+◌, ◌-◌, ◌<◌, ◌≤◌, ◌^◌, ◌∷◌, [], ⊤, if◌then◌else◌, IfOk, IfSome, List, None, OnOk, Some, length};
 ghost use Rattle.papergrid_values.specs.declared.direction.Direction.TheVariants.{Columns, Rows};
-ghost use Rattle.papergrid_axis.specs.ForProofs.Demands.{AddsDemands, AreGathered};
+ghost use Rattle.papergrid_tracks.specs.ForProofs.Demands.{AddsDemands, AreGathered};
 ghost use Rattle.papergrid_walk.specs.Cells.{demands_by, count_along, demands_of};
 ghost use Rattle.papergrid_walk.specs.ForProofs.Limits.{limit_along};
-ghost use Rattle.papergrid_axis.specs.Ranges.{demand_of};
+ghost use Rattle.papergrid_tracks.specs.Ranges.{demand_of};
 ghost use Rattle.papergrid_maps.specs.Grids.{Grid};
 ghost use Rattle.papergrid_walk.specs.ForProofs.Paddings.{Knows};
 ghost use Rattle.papergrid_maps.specs.Paddings.{paddings_at};
@@ -19,10 +19,10 @@ use crate::known::KnownPaddings;
 use crate::measure::Measure;
 use crate::shown::{sweep_of, visible_anchor};
 use crate::visitor::{Visitor, walk};
-use papergrid_axis::Demands;
-use papergrid_axis::demands::keep;
 use papergrid_maps::{Anchor, ConfigView, Paddings};
 use papergrid_text::{IntoRecords, Records};
+use papergrid_tracks::Demands;
+use papergrid_tracks::demands::keep;
 use papergrid_values::{Direction, Position};
 use std::alloc::{AllocError, Global};
 use std::marker::PhantomData;

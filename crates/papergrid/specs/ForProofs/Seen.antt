@@ -7,13 +7,13 @@ use Rattle.papergrid_values.specs.Lines.{all_lines}
 use Rattle.papergrid.specs.declared.estimate.Sizes.{Sizes}
 use Rattle.papergrid_layout.specs.declared.sizing.Sizing.{Sizing}
 use Rattle.papergrid_layout.specs.declared.sizing.Sizing.TheVariants.{ByShares, Least}
-use Rattle.papergrid_axis.specs.declared.error.LayoutError.{LayoutError}
-use Rattle.papergrid_axis.specs.declared.error.LayoutError.TheVariants as layout_errors
-use Rattle.papergrid_axis.specs.Answers.{IsCertificateOrNone}
-use Rattle.papergrid_axis.specs.Problem.{Problem}
+use Rattle.papergrid_tracks.specs.declared.error.LayoutError.{LayoutError}
+use Rattle.papergrid_tracks.specs.declared.error.LayoutError.TheVariants as layout_errors
+use Rattle.papergrid_tracks.specs.Answers.{IsCertificateOrNone}
+use Rattle.papergrid_tracks.specs.Problem.{Problem}
 use Rattle.papergrid_maps.specs.Grids.{Grid}
 use Rattle.papergrid_layout.specs.Certificates.{IsCertifiedWhere}
-use Rattle.papergrid_least.specs.Answers.{IsCriticalPath}
+use Rattle.papergrid_tracks.specs.LeastAnswers.{IsCriticalPath}
 use Rattle.papergrid_layout.specs.declared.certificates.Certified.{Certified}
 use Rattle.papergrid.specs.Estimates.{Estimate, OutOfTable, TooLarge, Sized}
 use Rattle.papergrid.specs.Totals.{AreSizesBy, HasNone}

@@ -3,10 +3,10 @@ use Rattle.std.proofs.Common.{◌≡◌, ℕ, true, List, [], ◌++◌, length, 
 use Rattle.std.specs.Prelude.{All, IsTrue}
 use Rattle.std.proofs.lemmas.List.{append-nil, append_assoc}
 use Rattle.papergrid_values.specs.declared.position.Position.{Position}
-use Rattle.papergrid_axis.specs.declared.checked.Checked.{Checked}
-use Rattle.papergrid_axis.specs.declared.candidate.Candidate.{Candidate}
-use Rattle.papergrid_axis.specs.declared.demand.Demand.{Demand}
-use Rattle.papergrid_axis.specs.ForProofs.Checks.{Checks}
+use Rattle.papergrid_tracks.specs.declared.checked.Checked.{Checked}
+use Rattle.papergrid_tracks.specs.declared.candidate.Candidate.{Candidate}
+use Rattle.papergrid_tracks.specs.declared.demand.Demand.{Demand}
+use Rattle.papergrid_tracks.specs.ForProofs.Checks.{Checks}
 use Rattle.papergrid_walk.specs.Cells.{demands_by}
 use Rattle.papergrid_maps.specs.Grids.{Grid}
 use Rattle.papergrid_walk.specs.ForProofs.Visits.{demands_by-append}

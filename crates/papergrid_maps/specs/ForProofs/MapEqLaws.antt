@@ -1,7 +1,7 @@
 -- Equality of maps is one where that of their values is.
 use Rattle.std.specs.Prelude.{Bool}
 use Rattle.std.specs.Cmp.{IsPartialEquivalence, and_per, on_per}
-use Rattle.papergrid_keys.specs.ForProofs.EqualLaws.{numbers_laws, positions_laws}
+use Rattle.papergrid_values.specs.ForProofs.EqualLaws.{numbers_laws, positions_laws}
 use Rattle.papergrid_maps.specs.MapEq.{stored_eq}
 use Rattle.papergrid_maps.specs.StoredMap.{Stored}
 

@@ -1,8 +1,8 @@
 -- When two span tables hold the same.
 use Rattle.std.specs.Prelude.{Bool, ◌&&◌, nat_eq}
 use Rattle.std.specs.Cmp.{IsPartialEquivalence, and_per, nat_eq_equiv, on_per, partial_equiv_from_equiv}
-use Rattle.papergrid_keys.specs.Equal.{positions_eq}
-use Rattle.papergrid_keys.specs.ForProofs.EqualLaws.{positions_laws}
+use Rattle.papergrid_values.specs.Equal.{positions_eq}
+use Rattle.papergrid_values.specs.ForProofs.EqualLaws.{positions_laws}
 use Rattle.papergrid_maps.specs.Spans.{Spans}
 
 -- whether two sets of spans hold the same

@@ -9,7 +9,7 @@ use Rattle.papergrid_values.specs.Positions.{along}
 use Rattle.papergrid_values.specs.declared.direction.Direction.{Direction}
 use Rattle.papergrid_values.specs.declared.direction.Direction.TheVariants.{Columns, Rows}
 use Rattle.papergrid_values.specs.declared.position.Position.{Position}
-use Rattle.papergrid_keys.specs.Keys.{coded_position, position_cmp, position_eq}
+use Rattle.papergrid_values.specs.MapKeys.{coded_position, position_cmp, position_eq}
 use Rattle.papergrid_maps.specs.Spans.{Spans, from_two, span_at}
 use Rattle.papergrid_maps.specs.declared.anchors.Anchor.{Anchor}
 use Rattle.papergrid_maps.specs.declared.span_index.Extent.{Extent}

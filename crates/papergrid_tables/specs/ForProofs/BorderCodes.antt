@@ -3,7 +3,7 @@ use Rattle.std.specs.Prelude.{Option, refl}
 use Rattle.std.specs.Ordering.{nat_cmp}
 use Rattle.std.specs.FinMap.{FinMap, code}
 use Rattle.std.specs.Coded.{Coded, code_by, coded×, coded_ℕ, coded_option}
-use Rattle.papergrid_keys.specs.Keys.{position_cmp, coded_position}
+use Rattle.papergrid_values.specs.MapKeys.{position_cmp, coded_position}
 use Rattle.papergrid_tables.specs.StoredBorders.{StoredBorders}
 use Rattle.papergrid_values.specs.declared.borders.Borders.{Borders}
 use Rattle.papergrid_values.specs.declared.horizontal_line.HorizontalLine.{HorizontalLine}

@@ -9,8 +9,8 @@ use Rattle.papergrid_values.specs.declared.borders.Borders.{Borders}
 use Rattle.papergrid_values.specs.declared.horizontal_line.HorizontalLine.{HorizontalLine}
 use Rattle.papergrid_values.specs.declared.vertical_line.VerticalLine.{VerticalLine}
 use Rattle.papergrid_tables.specs.StoredBorders.{StoredBorders}
-use Rattle.papergrid_keys.specs.Equal.{numbers_eq, positions_eq}
-use Rattle.papergrid_keys.specs.ForProofs.EqualLaws.{option_laws, numbers_laws, positions_laws}
+use Rattle.papergrid_values.specs.Equal.{numbers_eq, positions_eq}
+use Rattle.papergrid_values.specs.ForProofs.EqualLaws.{option_laws, numbers_laws, positions_laws}
 
 -- the same parts are set, to equal values
 abbrev pub parts_eq : {X : Type 0} → (X → X → Bool) → List (Option X) → List (Option X) → Bool

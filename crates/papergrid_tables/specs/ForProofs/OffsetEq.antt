@@ -4,9 +4,9 @@ use Rattle.std.specs.Cmp.{IsPartialEquivalence, and_per, on_per}
 use Rattle.std.specs.FinMap.{FinMap, empty, get, keys, retain_keys}
 use Rattle.std.specs.List.{list_any}
 use Rattle.std.specs.Ordering.{nat_cmp}
-use Rattle.papergrid_keys.specs.Equal.{numbers_eq, positions_eq}
-use Rattle.papergrid_keys.specs.ForProofs.EqualLaws.{numbers_laws, positions_laws}
-use Rattle.papergrid_keys.specs.Keys.{position_cmp}
+use Rattle.papergrid_values.specs.Equal.{numbers_eq, positions_eq}
+use Rattle.papergrid_values.specs.ForProofs.EqualLaws.{numbers_laws, positions_laws}
+use Rattle.papergrid_values.specs.MapKeys.{position_cmp}
 use Rattle.papergrid_tables.specs.Overrides.{StoredOffsets}
 
 module _ {T : Type 0} where

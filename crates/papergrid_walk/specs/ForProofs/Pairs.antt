@@ -3,7 +3,7 @@ use Rattle.std.specs.Prelude.{ℕ, List, Option, length}
 use Rattle.papergrid_values.specs.declared.direction.Direction.TheVariants.{Columns, Rows}
 use Rattle.papergrid_values.specs.declared.entity.Entity.{Entity}
 use Rattle.papergrid_values.specs.declared.position.Position.{Position}
-use Rattle.papergrid_axis.specs.ForProofs.Demands.{AddsDemands, AreGathered}
+use Rattle.papergrid_tracks.specs.ForProofs.Demands.{AddsDemands, AreGathered}
 use Rattle.papergrid_walk.specs.declared.known.KnownPaddings.{KnownPaddings}
 use Rattle.papergrid_walk.specs.declared.demand_visitors.BothDemands.{BothDemands}
 use Rattle.papergrid_maps.specs.declared.view.Paddings.{Paddings}

@@ -4,8 +4,8 @@ use Rattle.std.proofs.lemmas.List.{append-nil, append_assoc, map-append}
 use Rattle.std.proofs.lemmas.List.Elements.{filter-append}
 use Rattle.papergrid_values.specs.declared.direction.Direction.{Direction}
 use Rattle.papergrid_values.specs.declared.position.Position.{Position}
-use Rattle.papergrid_axis.specs.declared.demands.Demands.{Demands}
-use Rattle.papergrid_axis.specs.ForProofs.Demands.{AddsDemands, HoldsDemands}
+use Rattle.papergrid_tracks.specs.declared.demands.Demands.{Demands}
+use Rattle.papergrid_tracks.specs.ForProofs.Demands.{AddsDemands, HoldsDemands}
 use Rattle.papergrid_walk.specs.Cells.{demand_by, demands_by, visible_of}
 use Rattle.papergrid_walk.specs.ForProofs.Shown.{Shows}
 use Rattle.papergrid_walk.specs.ForProofs.Swept.{Walk}

@@ -7,8 +7,8 @@ use Rattle.papergrid_maps.proofs.MadeTables.{span_history}
 use Rattle.papergrid_config.specs.Parts.{span_calls}
 use Rattle.papergrid.specs.Estimates.{OutOfTable}
 use Rattle.papergrid.specs.Reasons.{estimate_reason}
-use Rattle.papergrid_script.specs.ForProofs.Seen.{table_seen, row_texts_of}
-use Rattle.papergrid_script.specs.ForProofs.Settings.{setting_told}
+use Rattle.papergrid.specs.ForProofs.ScriptSeen.{table_seen, row_texts_of}
+use Rattle.papergrid.specs.ForProofs.Settings.{setting_told}
 use Rattle.papergrid.specs.declared.explained.Reason.TheVariants as reason
 use Rattle.papergrid.proofs.SeenLemmas.{gives_seen}
 use Rattle.papergrid.proofs.explained.table_reason.Goals as goal

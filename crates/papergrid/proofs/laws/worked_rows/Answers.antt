@@ -3,9 +3,9 @@ use lib.Utf8.{encode}
 use Rattle.std.specs.Fmt.{digits}
 use Rattle.std.specs.Str.{chars, is_utf8}
 use Rattle.unicode_width.specs.Width.{str_width, step, past_emoji}
-use Rattle.papergrid_script.specs.Texts.{unescaped}
-use Rattle.papergrid_script.specs.Grammar.{number_of, position_said, placed_span, entity_of, sides_of, padding_of, character_of, placed_character, setting_of, keyword_says, text_says, line_says, script_lines}
-use Rattle.papergrid_script.specs.Scripts.{table_of}
+use Rattle.papergrid.specs.Texts.{unescaped}
+use Rattle.papergrid.specs.Grammar.{number_of, position_said, placed_span, entity_of, sides_of, padding_of, character_of, placed_character, setting_of, keyword_says, text_says, line_says, script_lines}
+use Rattle.papergrid.specs.Scripts.{table_of}
 use Rattle.papergrid.specs.Estimates.{estimate_by}
 use Rattle.papergrid.proofs.ListedLemmas.{worked}
 use Rattle.papergrid.proofs.laws.worked_rows.Goals as goal

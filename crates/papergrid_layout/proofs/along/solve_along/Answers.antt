@@ -1,6 +1,6 @@
 use Rattle.std.proofs.Common.{◌∙◌, subst, sym}
-use Rattle.papergrid_axis.specs.Answers.{AnswersWhere}
-use Rattle.papergrid_axis.specs.ForProofs.Demands.{AreGathered}
+use Rattle.papergrid_tracks.specs.Answers.{AnswersWhere}
+use Rattle.papergrid_tracks.specs.ForProofs.Demands.{AreGathered}
 use Rattle.papergrid_walk.specs.Cells.{count_along, demands_of, problem_with}
 use Rattle.papergrid_layout.proofs.AnswerLemmas.{unless}
 use Rattle.papergrid_layout.proofs.along.solve_along.Goals as goal

@@ -1,6 +1,6 @@
 use Rattle.std.proofs.Common.{◌∙◌, subst, sym}
 use Rattle.std.proofs.lemmas.Result.{err_from_is_err_and}
-use Rattle.papergrid_axis.specs.Answers.{IsRefusedWhere}
+use Rattle.papergrid_tracks.specs.Answers.{IsRefusedWhere}
 use Rattle.papergrid_values.specs.declared.direction.Direction.TheVariants.{Columns, Rows}
 use Rattle.papergrid_walk.specs.Cells.{demands_of, problem_with}
 use Rattle.papergrid_layout.proofs.AnswerLemmas.{refused_along}

@@ -1,4 +1,4 @@
-use Rattle.papergrid_axis.proofs.CandidateLemmas.{rising-from_order}
+use Rattle.papergrid_tracks.proofs.CandidateLemmas.{rising-from_order}
 use Rattle.papergrid_layout.proofs.check.check.Goals as goal
 
 pub are_visible-requires : goal.are_visible-requires

@@ -1,5 +1,5 @@
 use Rattle.std.proofs.Common.{◌∙◌, refl, subst}
-use Rattle.papergrid_axis.specs.Problem.{problem_of_demands}
+use Rattle.papergrid_tracks.specs.Problem.{problem_of_demands}
 use Rattle.papergrid_walk.specs.Cells.{count_along, demands_of, problem_with}
 use Rattle.papergrid_walk.proofs.Distinct.{AreDistinct-demands}
 use Rattle.papergrid_layout.specs.Certificates.{IsChecked}

@@ -1,5 +1,5 @@
 use Rattle.std.proofs.Common.{sym}
-use Rattle.papergrid_axis.proofs.CandidateLemmas.{rising-from_order}
+use Rattle.papergrid_tracks.proofs.CandidateLemmas.{rising-from_order}
 use Rattle.papergrid_layout.proofs.CheckSteps.{listed_shown}
 use Rattle.papergrid_layout.proofs.check.is_shown.Goals as goal
 

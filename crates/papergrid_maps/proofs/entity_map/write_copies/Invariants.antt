@@ -1,5 +1,5 @@
 use Rattle.std.specs.HashMap.{spare, get}
-use Rattle.papergrid_keys.specs.Keys.{position_eq}
+use Rattle.papergrid_values.specs.MapKeys.{position_eq}
 use Rattle.papergrid_maps.proofs.WrittenCopies.{Written}
 use Rattle.papergrid_maps.proofs.entity_map.write_copies.Given as goal
 

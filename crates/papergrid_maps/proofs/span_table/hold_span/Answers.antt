@@ -2,8 +2,8 @@ use Rattle.std.proofs.Common.{◌≡◌, ◌∙◌, None, Some, ap, cond, refl, 
 use Rattle.std.specs.BTreeMap.{get as tree_get, is_at}
 use Rattle.std.specs.FinMap.{get, get-insert}
 use Rattle.std.specs.Map.{lookup}
-use Rattle.papergrid_keys.specs.Keys.{position_cmp}
-use Rattle.papergrid_keys.proofs.KeyLemmas.{position_total}
+use Rattle.papergrid_values.specs.MapKeys.{position_cmp}
+use Rattle.papergrid_values.proofs.KeyLemmas.{position_total}
 use Rattle.papergrid_maps.specs.ForProofs.SpanIndex.{extent_stored, extent_of}
 use Rattle.papergrid_maps.proofs.BothStored.{alone_stored, both_stored, stored_and_dropped, not_stored}
 use Rattle.papergrid_maps.proofs.span_table.hold_span.Goals as goal

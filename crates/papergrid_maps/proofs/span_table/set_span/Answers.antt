@@ -1,9 +1,9 @@
 use Rattle.std.proofs.Common.{◌≤◌, arith, ap}
 use Rattle.std.specs.BTreeMap.{get as tree_get}
 use Rattle.std.specs.FinMap.{get, get-remove}
-use Rattle.papergrid_keys.specs.Keys.{position_cmp}
-use Rattle.papergrid_keys.proofs.KeyLemmas.{position_total}
-use Rattle.papergrid_keys.proofs.ResultLemmas.{on_err_map, on_ok_map}
+use Rattle.papergrid_values.specs.MapKeys.{position_cmp}
+use Rattle.papergrid_values.proofs.KeyLemmas.{position_total}
+use Rattle.papergrid_values.proofs.ResultLemmas.{on_err_map, on_ok_map}
 use Rattle.papergrid_maps.proofs.BothStored.{both_dropped}
 use Rattle.papergrid_maps.proofs.SpanHistory.{stored_set, kept_either_way, kept_from_two, removed_set}
 use Rattle.papergrid_maps.proofs.span_table.set_span.Goals as goal

@@ -1,6 +1,6 @@
 use Rattle.std.proofs.Common.{eqb}
 use Rattle.papergrid_values.specs.Positions.{along}
-use Rattle.papergrid_keys.specs.Keys.{position_eq}
+use Rattle.papergrid_values.specs.MapKeys.{position_eq}
 use Rattle.papergrid_tables.proofs.BorderFound.{unset}
 use Rattle.papergrid_tables.proofs.CountLemmas.{count_put}
 use Rattle.papergrid_tables.proofs.counted_parts.put_part.Goals as goal

@@ -1,9 +1,9 @@
 use Rattle.std.proofs.Common.{eqb, sym, ap, ◌∙◌}
 use Rattle.std.specs.Prelude.{is_some}
 use Rattle.papergrid_values.specs.Positions.{along}
-use Rattle.papergrid_keys.specs.Keys.{position_eq}
+use Rattle.papergrid_values.specs.MapKeys.{position_eq}
 use Rattle.papergrid_tables.proofs.CountLemmas.{count_removed}
-use Rattle.papergrid_keys.proofs.KeyLemmas.{exact_position_eq}
+use Rattle.papergrid_values.proofs.KeyLemmas.{exact_position_eq}
 use Rattle.papergrid_tables.proofs.counted_parts.take_part.Goals as goal
 
 pub returns-clause-less : goal.returns-clause-less

@@ -1,7 +1,7 @@
 use Rattle.std.proofs.Common.{◌∙◌, ap, cond, is_some, Some, sym}
 use Rattle.std.specs.HashMap.{get}
-use Rattle.papergrid_keys.specs.Keys.{position_eq}
-use Rattle.papergrid_keys.proofs.ResultLemmas.{on_ok_map, on_err_map}
+use Rattle.papergrid_values.specs.MapKeys.{position_eq}
+use Rattle.papergrid_values.proofs.ResultLemmas.{on_ok_map, on_err_map}
 use Rattle.papergrid_tables.proofs.OverrideHistory.{put_back, set_anew, set_in_place}
 use Rattle.papergrid_tables.proofs.offset_table.set_override.Goals as goal
 

@@ -1,6 +1,6 @@
 use Rattle.std.proofs.Common.{[], ap, arith, length, subst, ◌∙◌}
 use Rattle.papergrid_values.specs.declared.direction.Direction.TheVariants.{Columns, Rows}
-use Rattle.papergrid_axis.specs.ForProofs.Demands.{HoldsDemands}
+use Rattle.papergrid_tracks.specs.ForProofs.Demands.{HoldsDemands}
 use Rattle.papergrid_walk.specs.Cells.{demands_of}
 use Rattle.papergrid_walk.specs.ForProofs.Limits.{limit_along}
 use Rattle.papergrid_walk.proofs.Distinct.{AreGathered-demands, count-le}

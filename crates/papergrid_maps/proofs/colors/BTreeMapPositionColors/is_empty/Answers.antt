@@ -1,8 +1,8 @@
 use Rattle.std.specs.Cmp.{eq_by_cmp_equiv}
 use Rattle.std.specs.Ordering.{eq_by_cmp}
-use Rattle.papergrid_keys.specs.Keys.{position_cmp}
-use Rattle.papergrid_keys.proofs.KeyLemmas.{position_total}
-use Rattle.papergrid_keys.proofs.EntryLemmas.{empty_where_none}
+use Rattle.papergrid_values.specs.MapKeys.{position_cmp}
+use Rattle.papergrid_values.proofs.KeyLemmas.{position_total}
+use Rattle.papergrid_values.proofs.EntryLemmas.{empty_where_none}
 use Rattle.papergrid_maps.proofs.colors.BTreeMapPositionColors.is_empty.Goals as goal
 
 pub returns : goal.returns

@@ -1,6 +1,6 @@
-use Rattle.papergrid_keys.specs.Keys.{position_eq}
-use Rattle.papergrid_keys.proofs.KeyLemmas.{position_equiv}
-use Rattle.papergrid_keys.proofs.EntryLemmas.{empty_where_none}
+use Rattle.papergrid_values.specs.MapKeys.{position_eq}
+use Rattle.papergrid_values.proofs.KeyLemmas.{position_equiv}
+use Rattle.papergrid_values.proofs.EntryLemmas.{empty_where_none}
 use Rattle.papergrid_maps.proofs.colors.HashMapPositionColors.is_empty.Goals as goal
 
 pub returns : goal.returns

@@ -4,8 +4,8 @@ use Rattle.std.specs.Set.{is_member}
 use Rattle.std.proofs.lemmas.Map.Made.{AllPairs-from_IsDistinct, is_some-lookup}
 use Rattle.std.proofs.lemmas.Result.{IfOk-weaker}
 use Rattle.papergrid_values.specs.declared.position.Position.{Position}
-use Rattle.papergrid_keys.specs.Keys.{position_eq}
-use Rattle.papergrid_keys.proofs.KeyLemmas.{exact_position_eq, get_at_position, position_equiv}
+use Rattle.papergrid_values.specs.MapKeys.{position_eq}
+use Rattle.papergrid_values.proofs.KeyLemmas.{exact_position_eq, get_at_position, position_equiv}
 use Rattle.papergrid_maps.proofs.entity_map.EntityMap.held_cells.Goals as goal
 
 pub returns-clause-stored : goal.returns-clause-stored

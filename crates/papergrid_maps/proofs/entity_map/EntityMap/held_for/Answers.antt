@@ -1,5 +1,5 @@
 use Rattle.std.proofs.Common.{sym, ◌∙◌}
-use Rattle.papergrid_keys.proofs.KeyLemmas.{get_at_number, get_at_position}
+use Rattle.papergrid_values.proofs.KeyLemmas.{get_at_number, get_at_position}
 use Rattle.papergrid_maps.proofs.entity_map.EntityMap.held_for.Goals as goal
 
 pub returns-in-Column : goal.returns-in-Column

@@ -1,9 +1,9 @@
 use Rattle.std.proofs.Common.{ap, refl, ◌∙◌, cond, eqb, Some}
 use Rattle.std.specs.HashMap.{get}
 use Rattle.std.specs.Set.{is_member}
-use Rattle.papergrid_keys.specs.Keys.{position_eq}
+use Rattle.papergrid_values.specs.MapKeys.{position_eq}
 use Rattle.papergrid_maps.specs.declared.entity_map.MapCall.TheVariants.{Insert}
-use Rattle.papergrid_keys.proofs.ResultLemmas.{on_err}
+use Rattle.papergrid_values.proofs.ResultLemmas.{on_err}
 use Rattle.papergrid_maps.proofs.MapHistory.{history_from_step}
 use Rattle.papergrid_maps.proofs.MapSteps.{same_view, step_insert_global, step_insert_column, step_insert_row, step_insert_cell}
 use Rattle.papergrid_maps.proofs.entity_map.EntityMap.insert.Goals as goal

@@ -7,7 +7,7 @@ use Rattle.std.proofs.lemmas.Iterator.Consumers.{YieldsList-at, YieldsList-from_
 use Rattle.papergrid_values.specs.contracts.entity.EntityPartialEq.TheImpl.{eq-value}
 use Rattle.papergrid_values.specs.declared.entity.Entity.TheVariants.{Column, Row}
 use Rattle.papergrid_values.specs.declared.position.Position.{Position}
-use Rattle.papergrid_keys.specs.Keys.{position_eq}
+use Rattle.papergrid_values.specs.MapKeys.{position_eq}
 use Rattle.papergrid_maps.proofs.IntoMap.{cell_of, entity_eq_is, gathered}
 use Rattle.papergrid_maps.proofs.entity_map.EntityMap.into_map.Goals as goal
 

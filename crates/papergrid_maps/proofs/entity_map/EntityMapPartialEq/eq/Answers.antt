@@ -1,5 +1,5 @@
 use Rattle.std.proofs.Common.{◌&&◌, ◌∙◌, sym}
-use Rattle.papergrid_keys.proofs.EqualLemmas.{numbers_eq-from_entries, positions_eq-from_entries}
+use Rattle.papergrid_values.proofs.EqualLemmas.{numbers_eq-from_entries, positions_eq-from_entries}
 use Rattle.papergrid_maps.proofs.entity_map.EntityMapPartialEq.eq.Goals as goal
 
 pub returns : goal.returns

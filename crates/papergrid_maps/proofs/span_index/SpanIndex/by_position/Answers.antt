@@ -4,7 +4,7 @@ use Rattle.std.proofs.lemmas.Iterator.{YieldsList-from_map}
 use Rattle.std.proofs.lemmas.Iterator.Adapters.{fact_from_collect}
 use Rattle.std.proofs.lemmas.Iterator.Consumers.{YieldsList-at, YieldsList-from_rest}
 use Rattle.std.proofs.lemmas.Result.{IfOk-weaker}
-use Rattle.papergrid_keys.specs.Keys.{position_eq}
+use Rattle.papergrid_values.specs.MapKeys.{position_eq}
 use Rattle.papergrid_maps.specs.ForProofs.SpanIndex.{key_of}
 use Rattle.papergrid_maps.proofs.IndexCopies.{by_position}
 use Rattle.papergrid_maps.proofs.span_index.SpanIndex.by_position.Goals as goal

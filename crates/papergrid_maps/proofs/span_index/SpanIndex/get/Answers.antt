@@ -1,6 +1,6 @@
 use Rattle.std.proofs.Common.{◌∙◌, ap, sym}
 use Rattle.std.specs.BTreeMap.{get as tree_get}
-use Rattle.papergrid_keys.specs.Keys.{position_cmp}
+use Rattle.papergrid_values.specs.MapKeys.{position_cmp}
 use Rattle.papergrid_maps.proofs.IndexKeys.{stored_at}
 use Rattle.papergrid_maps.proofs.span_index.SpanIndex.get.Goals as goal
 

@@ -1,6 +1,6 @@
 use Rattle.std.proofs.Common.{◌≡◌, ◌∙◌, ap, sym}
 use Rattle.std.specs.Prelude.{nat_eq}
-use Rattle.papergrid_keys.specs.Equal.{positions_eq}
+use Rattle.papergrid_values.specs.Equal.{positions_eq}
 use Rattle.papergrid_maps.specs.ForProofs.SpanIndex.{stored_along}
 use Rattle.papergrid_maps.proofs.IndexCopies.{holds_same}
 use Rattle.papergrid_maps.proofs.span_index.SpanIndex.holds_same.Goals as goal

@@ -1,7 +1,7 @@
 use Rattle.std.proofs.Common.{◌∙◌, Some, ap, cond, refl, sym}
 use Rattle.std.specs.BTreeMap.{get as tree_get, is_at}
-use Rattle.papergrid_keys.specs.Keys.{position_cmp}
-use Rattle.papergrid_keys.proofs.ResultLemmas.{on_err}
+use Rattle.papergrid_values.specs.MapKeys.{position_cmp}
+use Rattle.papergrid_values.proofs.ResultLemmas.{on_err}
 use Rattle.papergrid_maps.proofs.IndexKeys.{stored_at, stored_insert}
 use Rattle.papergrid_maps.proofs.span_index.SpanIndex.insert.Goals as goal
 

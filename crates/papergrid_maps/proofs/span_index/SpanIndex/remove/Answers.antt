@@ -1,6 +1,6 @@
 use Rattle.std.proofs.Common.{◌∙◌, None, ap, cond, refl}
 use Rattle.std.specs.BTreeMap.{get as tree_get, is_at}
-use Rattle.papergrid_keys.specs.Keys.{position_cmp}
+use Rattle.papergrid_values.specs.MapKeys.{position_cmp}
 use Rattle.papergrid_maps.proofs.IndexKeys.{stored_remove}
 use Rattle.papergrid_maps.proofs.span_index.SpanIndex.remove.Goals as goal
 

@@ -1,7 +1,7 @@
 use Rattle.std.proofs.Common.{rules, refl, subst, sym, ◌∙◌}
 use Rattle.std.proofs.lemmas.Bool.{true≢false}
 use Rattle.papergrid_maps.specs.Spans.{IsCoveredByColumn, IsCoveredByRow, IsVisible, span_along}
-use Rattle.papergrid_keys.proofs.ResultLemmas.{same_answer}
+use Rattle.papergrid_values.proofs.ResultLemmas.{same_answer}
 use Rattle.papergrid_maps.proofs.SpanHidden.{hidden_right, hidden_below, not_visible}
 use Rattle.papergrid_maps.proofs.SpanVisible.{visible_test, visible_without_spans}
 use Rattle.papergrid_maps.proofs.span_table.SpanTable.is_visible.Goals as goal

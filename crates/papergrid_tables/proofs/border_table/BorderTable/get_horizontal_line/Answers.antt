@@ -1,5 +1,5 @@
 use Rattle.std.proofs.Common.{◌∙◌, sym}
-use Rattle.papergrid_keys.proofs.KeyLemmas.{get_at_number}
+use Rattle.papergrid_values.proofs.KeyLemmas.{get_at_number}
 use Rattle.papergrid_tables.proofs.border_table.BorderTable.get_horizontal_line.Goals as goal
 
 pub returns : goal.returns

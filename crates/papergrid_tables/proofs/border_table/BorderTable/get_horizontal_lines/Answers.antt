@@ -1,7 +1,7 @@
 use Rattle.std.proofs.Common.{◌∙◌, sym}
 use Rattle.std.specs.contracts.prelude.OptionClone.TheImpl.{by_variants}
 use Rattle.std.proofs.lemmas.Result.{IfOk-weaker}
-use Rattle.papergrid_keys.proofs.KeyLemmas.{get_at_number}
+use Rattle.papergrid_values.proofs.KeyLemmas.{get_at_number}
 use Rattle.papergrid_tables.proofs.PartCopies.{horizontal_line_copy}
 use Rattle.papergrid_tables.proofs.border_table.BorderTable.get_horizontal_lines.Goals as goal
 

@@ -2,7 +2,7 @@ use Rattle.std.proofs.Common.{◌∙◌, ap, sym}
 use Rattle.std.specs.Prelude.{option_and_then}
 use Rattle.papergrid_tables.specs.BorderParts.{of_horizontal_line, of_vertical_line}
 use Rattle.papergrid_tables.proofs.BorderFound.{first_of_five}
-use Rattle.papergrid_keys.proofs.KeyLemmas.{get_at_number, get_at_position}
+use Rattle.papergrid_values.proofs.KeyLemmas.{get_at_number, get_at_position}
 use Rattle.papergrid_tables.proofs.border_table.BorderTable.get_intersection.Goals as goal
 
 pub returns : goal.returns

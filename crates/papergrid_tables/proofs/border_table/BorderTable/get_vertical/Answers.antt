@@ -1,7 +1,7 @@
 use Rattle.std.proofs.Common.{◌∙◌, ap, sym}
 use Rattle.std.specs.Option.{option_or}
 use Rattle.std.specs.Prelude.{option_and_then}
-use Rattle.papergrid_keys.proofs.KeyLemmas.{get_at_number, get_at_position}
+use Rattle.papergrid_values.proofs.KeyLemmas.{get_at_number, get_at_position}
 use Rattle.papergrid_tables.proofs.border_table.BorderTable.get_vertical.Goals as goal
 
 pub returns : goal.returns

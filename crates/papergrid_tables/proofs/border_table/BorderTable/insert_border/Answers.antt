@@ -3,7 +3,7 @@ use Rattle.std.specs.Option.{option_or}
 use Rattle.papergrid_values.specs.declared.direction.Direction.TheVariants.{Columns, Rows}
 use Rattle.papergrid_tables.specs.BorderCalls.{edge_part, corner_part}
 use Rattle.papergrid_tables.proofs.BorderHistory.{same_table, history_insert_border}
-use Rattle.papergrid_keys.proofs.ResultLemmas.{on_err}
+use Rattle.papergrid_values.proofs.ResultLemmas.{on_err}
 use Rattle.papergrid_tables.proofs.border_table.BorderTable.insert_border.Goals as goal
 
 pub returns-in_err-reserve-clause-err : goal.returns-in_err-reserve-clause-err

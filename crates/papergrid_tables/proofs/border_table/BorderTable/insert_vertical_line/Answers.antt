@@ -1,5 +1,5 @@
 use Rattle.papergrid_tables.proofs.BorderHistory.{history_insert_vertical_line}
-use Rattle.papergrid_keys.proofs.ResultLemmas.{on_ok_map}
+use Rattle.papergrid_values.proofs.ResultLemmas.{on_ok_map}
 use Rattle.papergrid_tables.proofs.border_table.BorderTable.insert_vertical_line.Goals as goal
 
 pub returns-clause-ok : goal.returns-clause-ok

@@ -2,7 +2,7 @@ use Rattle.std.proofs.Common.{◌&&◌, ◌∙◌, sym, eqb}
 use Rattle.std.specs.HashMap.{entries_eq}
 use Rattle.papergrid_tables.specs.ForProofs.BorderEq.{horizontal_line_eq, vertical_line_eq}
 use Rattle.papergrid_tables.proofs.BorderEqual.{frame_by_parts, horizontal_by_parts, vertical_by_parts}
-use Rattle.papergrid_keys.proofs.EqualLemmas.{numbers_eq-from_entries, positions_eq-from_entries}
+use Rattle.papergrid_values.proofs.EqualLemmas.{numbers_eq-from_entries, positions_eq-from_entries}
 use Rattle.papergrid_tables.proofs.border_table.BorderTablePartialEq.eq.Goals as goal
 
 pub returns : goal.returns

@@ -2,7 +2,7 @@ use Rattle.std.proofs.Common.{ℕ, ap, eqb}
 use Rattle.std.specs.Map.{lookup}
 use Rattle.std.proofs.lemmas.Map.Entries.{entries_from_clone}
 use Rattle.std.proofs.lemmas.Result.{IfOk-weaker}
-use Rattle.papergrid_keys.proofs.ResultLemmas.{ok_part}
+use Rattle.papergrid_values.proofs.ResultLemmas.{ok_part}
 use Rattle.papergrid_tables.proofs.counted_lines.Lines.all.Goals as goal
 
 pub returns : goal.returns

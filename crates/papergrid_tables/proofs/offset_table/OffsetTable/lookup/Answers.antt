@@ -1,7 +1,7 @@
 use Rattle.std.proofs.Common.{◌∙◌, ap, sym}
 use Rattle.std.specs.Prelude.{option_and_then}
 use Rattle.papergrid_tables.specs.Overrides.{at_offset, found_override}
-use Rattle.papergrid_keys.proofs.KeyLemmas.{get_at_position}
+use Rattle.papergrid_values.proofs.KeyLemmas.{get_at_position}
 use Rattle.papergrid_tables.proofs.OverrideHistory.{none_found}
 use Rattle.papergrid_tables.proofs.offset_table.OffsetTable.lookup.Goals as goal
 

@@ -1,6 +1,6 @@
 use Rattle.std.proofs.Common.{◌∙◌}
-use Rattle.papergrid_keys.proofs.ResultLemmas.{on_ok_map, on_err_map}
-use Rattle.papergrid_keys.proofs.EntryLemmas.{same_positions}
+use Rattle.papergrid_values.proofs.ResultLemmas.{on_ok_map, on_err_map}
+use Rattle.papergrid_values.proofs.EntryLemmas.{same_positions}
 use Rattle.papergrid_tables.proofs.OverrideHistory.{either_way, kept_set, kept_unchanged, history_set}
 use Rattle.papergrid_tables.proofs.offset_table.OffsetTable.set.Goals as goal
 

@@ -1,6 +1,6 @@
 use Rattle.std.proofs.Common.{◌∙◌, ap, cond, ltb, None, sym}
 use Rattle.papergrid_tables.proofs.BorderFound.{both}
-use Rattle.papergrid_keys.proofs.KeyLemmas.{get_at_number}
+use Rattle.papergrid_values.proofs.KeyLemmas.{get_at_number}
 use Rattle.papergrid_tables.proofs.offset_table.Overrides.lookup.Goals as goal
 
 pub returns : goal.returns

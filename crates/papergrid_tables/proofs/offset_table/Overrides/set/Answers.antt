@@ -1,4 +1,4 @@
-use Rattle.papergrid_keys.proofs.ResultLemmas.{on_ok_map}
+use Rattle.papergrid_values.proofs.ResultLemmas.{on_ok_map}
 use Rattle.papergrid_tables.proofs.OverrideHistory.{set_end, set_start}
 use Rattle.papergrid_tables.proofs.offset_table.Overrides.set.Goals as goal
 

@@ -1,7 +1,0 @@
-use Rattle.std.proofs.Common.{take}
-use Rattle.std.specs.Prelude.{All}
-use Rattle.papergrid_axis.specs.ForProofs.Checks.{AreDisjointAt}
-use Rattle.papergrid_axis.proofs.disjoint.is_disjoint.Given as goal
-
-abbrev pub invariant-loop-other : goal.invariant-loop-other
-invariant-loop-other g l = All (AreDisjointAt l.direction (g.A.Axis.span_of l.axis) l.place) (take l.other-index l.others)

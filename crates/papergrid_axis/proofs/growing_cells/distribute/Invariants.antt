@@ -1,5 +1,0 @@
-use Rattle.papergrid_axis.proofs.growing_cells.distribute.Given as goal
-use Rattle.papergrid_axis.proofs.LoopLemmas.{Distributes}
-
-abbrev pub invariant-loop-i : goal.invariant-loop-i
-invariant-loop-i l = Distributes l.fn.amount l.fn.demand l.fn.sizes l.sizes l.i l.share

@@ -1,6 +1,0 @@
-use Rattle.std.proofs.Common.{◌∙◌}
-use Rattle.papergrid_axis.proofs.LoopLemmas.{inner_lines-slice}
-use Rattle.papergrid_axis.proofs.growing_cells.lines_within.Goals as goal
-
-pub returns : goal.returns
-returns c = c.count_drawn.ensures ∙ inner_lines-slice c.args.lines.now c.args.demand c.requires

@@ -1,5 +1,0 @@
-use Rattle.papergrid_axis.proofs.last_cells.write_over.Given as goal
-use Rattle.papergrid_axis.proofs.LastLoops.{WrittenOver}
-
-abbrev pub invariant-loop-i : goal.invariant-loop-i
-invariant-loop-i l = WrittenOver l.fn.demand l.fn.last l.last l.i

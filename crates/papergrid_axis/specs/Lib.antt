@@ -1,9 +1,0 @@
-pub mod Answers
-pub mod Certificates
-pub mod Fits
-pub mod Laminar
-pub mod Problem
-pub mod Ranges
-pub mod Rows
-pub mod Sizes
-pub mod ForProofs

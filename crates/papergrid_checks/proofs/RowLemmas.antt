@@ -1,0 +1,92 @@
+-- What a caller that holds its rows reads of an answer: the cells told are seen through a view, and are those of the rows.
+use Rattle.std.proofs.Common.{◌≡◌, ◌∙◌, ℕ, ◌+◌, ◌||◌, inl, inr, List, [], ◌∷◌, length, map, nat_lt, refl, ap, sym, subst}
+use Rattle.std.specs.Prelude.{Err, IsErrAnd, Ok, Result}
+use Rattle.std.proofs.lemmas.List.{length-map}
+use Rattle.papergrid_values.specs.declared.position.Position.{Position}
+use Rattle.papergrid_values.specs.declared.direction.Direction.{Direction}
+use Rattle.papergrid_values.specs.declared.direction.Direction.TheVariants.{Columns, Rows}
+use Rattle.papergrid_tracks.specs.declared.error.LayoutError.{LayoutError}
+use Rattle.papergrid_tracks.specs.declared.error.LayoutError.TheVariants.{OutOfTable, TooLarge, Memory}
+use Rattle.papergrid_tracks.specs.Answers.{AnswersWhere, IsRefusedWhere, NoneHolds}
+use Rattle.papergrid_tracks.specs.Problem.{Problem}
+use Rattle.papergrid_tracks.specs.Ranges.{place_of}
+use Rattle.papergrid_config.specs.Grids.{spanned_grid}
+use Rattle.papergrid_config.specs.declared.spanned.SpannedConfig.{SpannedConfig}
+use Rattle.papergrid_tracks.specs.LeastAnswers.{AreLeastSizes, NoneFits}
+use Rattle.papergrid_walk.specs.Cells.{demand_by, demands_of, problem_of, visible_cells}
+use Rattle.papergrid_maps.specs.Grids.{Grid}
+use Rattle.papergrid_layout.specs.Answers.{AnswersBothWhere, HoldAlong, IsBothRefusedWhere, UnlessMemory, UnlessMemoryError}
+use Rattle.papergrid_layout.specs.Tables.{IsTableOf, TableParts}
+use Rattle.papergrid_layout.specs.declared.sizing.Sizing.TheVariants.{Least}
+use Rattle.papergrid_layout.specs.declared.iterable.IterGridDimension.{IterGridDimension}
+use Rattle.papergrid_layout.proofs.Told.{first_told, problem_told}
+use Rattle.papergrid.specs.Layouts.{IsLaidOut}
+
+module _ {A B : Type 0} (grid : Grid) (v : A → B) (f : B → ℕ × ℕ) (columns : ℕ) (rows : List (List B)) where
+  module _ (cells : List (List A)) (same : map (map v) cells ≡ rows) where
+    pub one_told : (direction : Direction) → problem_of grid (λ x. f (v x)) columns cells direction ≡ problem_of grid f columns rows direction
+    one_told direction = problem_told grid v f cells rows same direction columns
+
+    -- what holds along both directions of the cells told holds of the rows
+    pub both_told : {V : Type 0} (holds : Problem → V → Type 0) (across down : V) → HoldAlong grid (λ x. f (v x)) columns cells holds across down → HoldAlong grid f columns rows holds across down
+    both_told holds across down both = record {
+      widths = subst (λ problem. holds problem across) (one_told Columns) both.widths;
+      heights = subst (λ problem. holds problem down) (one_told Rows) both.heights;
+    }
+
+  -- a refusal along both directions
+  pub both_refused : (too_large : Problem → Type 0) (e : LayoutError)
+      → UnlessMemoryError e ((cells : List (List A)) × (map (map v) cells ≡ rows) × IsBothRefusedWhere grid (λ x. f (v x)) columns cells too_large e) → IsBothRefusedWhere grid f columns rows too_large e
+  both_refused too_large (OutOfTable place) is = sym (first_told grid v f is.0 rows is.1 columns) ∙ is.2
+  both_refused too_large TooLarge is = (
+    sym (first_told grid v f is.0 rows is.1 columns) ∙ is.2.0,
+    elim is.2.1 [
+      | inl wide ↦ inl (subst too_large (one_told is.0 is.1 Columns) wide)
+      | inr high ↦ inr (subst too_large (one_told is.0 is.1 Rows) high)
+    ],
+  )
+  both_refused too_large (Memory e) is = tt
+
+  -- the same, as a `?` hands it on
+  pub refused_on : {V : Type 0} (too_large : Problem → Type 0) (holds : Problem → V → Type 0) (result : Result (V × V) LayoutError) (e : LayoutError) → IsErrAnd result (λ error. error ≡ e)
+      → UnlessMemoryError e ((cells : List (List A)) × (map (map v) cells ≡ rows) × IsBothRefusedWhere grid (λ x. f (v x)) columns cells too_large e) → AnswersBothWhere grid f columns rows too_large holds result
+  refused_on too_large holds (Ok found) e is told = absurd is
+  refused_on too_large holds (Err error) e is told = subst (IsBothRefusedWhere grid f columns rows too_large) (sym is) (both_refused too_large e told)
+
+  -- the sizes along both directions, as a dimension hands them out
+  pub sizes_told : {V : Type 0} (items : V → List ℕ) (holds : Problem → List ℕ → Type 0) (across down : List ℕ) (wide high : V) → items wide ≡ across → items high ≡ down
+      → (cells : List (List A)) × (map (map v) cells ≡ rows) × HoldAlong grid (λ x. f (v x)) columns cells holds across down → HoldAlong grid f columns rows (λ problem sizes. holds problem (items sizes)) wide high
+  sizes_told items holds across down wide high widths heights told =
+      let both = both_told told.0 told.1 holds across down told.2 in
+      record { widths = rw widths both.widths; heights = rw heights both.heights }
+
+  -- a refusal along one direction
+  pub one_refused : (too_large : Problem → Type 0) (direction : Direction) (e : LayoutError)
+      → UnlessMemoryError e ((cells : List (List A)) × (map (map v) cells ≡ rows) × IsRefusedWhere (problem_of grid (λ x. f (v x)) columns cells direction) (too_large (problem_of grid (λ x. f (v x)) columns cells direction)) e)
+      → IsRefusedWhere (problem_of grid f columns rows direction) (too_large (problem_of grid f columns rows direction)) e
+  one_refused too_large direction (OutOfTable place) is = subst (λ problem. IsRefusedWhere problem (too_large problem) (OutOfTable place)) (one_told is.0 is.1 direction) is.2
+  one_refused too_large direction TooLarge is = subst too_large (one_told is.0 is.1 direction) is.2
+  one_refused too_large direction (Memory e) is = tt
+
+  -- an answer along one direction
+  pub answers_told : {V : Type 0} (too_large : Problem → Type 0) (holds : Problem → V → Type 0) (direction : Direction) (result : Result V LayoutError)
+      → UnlessMemory result ((cells : List (List A)) × (map (map v) cells ≡ rows) × AnswersWhere too_large holds (problem_of grid (λ x. f (v x)) columns cells direction) result)
+      → AnswersWhere too_large holds (problem_of grid f columns rows direction) result
+  answers_told too_large holds direction (Ok found) is = subst (λ problem. holds problem found) (one_told is.0 is.1 direction) is.2
+  answers_told too_large holds direction (Err e) is = one_refused too_large direction e is
+
+  -- an answer with a dimension
+  pub laid_told : (result : Result IterGridDimension LayoutError)
+      → UnlessMemory result ((cells : List (List A)) × (map (map v) cells ≡ rows) × IsLaidOut grid (λ x. f (v x)) columns cells result) → IsLaidOut grid f columns rows result
+  laid_told (Ok dimension) is = both_told is.0 is.1 _ _ _ is.2
+  laid_told (Err e) is = both_refused NoneHolds e is
+
+-- the table of the cells told, of least sizes, is that of the rows
+pub table_told : {A B : Type 0} (config : SpannedConfig) (v : A → B) (f : B → ℕ × ℕ) (columns : ℕ) (rows : List (List B)) (result : Result TableParts LayoutError)
+    → UnlessMemory result ((cells : List (List A)) × (map (map v) cells ≡ rows) × IsTableOf config (λ x. f (v x)) columns cells Least result)
+    → UnlessMemory result (IsTableOf config f columns rows Least result)
+table_told config v f columns rows (Ok table) is =
+    (is.2.0, both_told (spanned_grid config) v f columns rows is.0 is.1 AreLeastSizes table.widths table.heights is.2.1)
+table_told config v f columns rows (Err (OutOfTable place)) is = both_refused (spanned_grid config) v f columns rows NoneFits (OutOfTable place) is
+table_told config v f columns rows (Err TooLarge) is = both_refused (spanned_grid config) v f columns rows NoneFits TooLarge is
+table_told config v f columns rows (Err (Memory e)) is = tt

@@ -1,0 +1,14 @@
+use Rattle.std.proofs.Common.{ap}
+use Rattle.papergrid.specs.Outputs.{output_of}
+use Rattle.papergrid_checks.proofs.WrittenLemmas.{begun}
+use Rattle.papergrid_checks.proofs.scripts.answer_to.Goals as goal
+
+pub returns-clause-written : goal.returns-clause-written
+returns-clause-written g c = rw c.new-source.ensures at c.run.ensures.written
+
+pub returns-clause-beginning : goal.returns-clause-beginning
+returns-clause-beginning g c =
+    let contents = g.W.Sink.contents in
+    begun c.run.result (contents c.args.writer.now) (contents c.run.new.writer) (output_of c.args.script.now)
+    (λ e. let is = c.run.ensures.beginning e in rw c.new-source.ensures at is)
+    (λ e. ap contents (c.run.ensures.memory_nothing e)) (λ e. ap contents (c.run.ensures.read_nothing e))

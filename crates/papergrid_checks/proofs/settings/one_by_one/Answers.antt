@@ -1,0 +1,10 @@
+use Rattle.std.proofs.Common.{◌∙◌, ap, []}
+use Rattle.papergrid_checks.proofs.settings.one_by_one.Goals as goal
+
+pub returns : goal.returns
+returns c = λ pos.
+    let one = c.set_borders.ensures.told [] c.new-config.ensures in
+    let two = c.in_ok-set_column_span.ensures.ok _ one in
+    let three = c.in_ok-set_padding.ensures.ok _ two in
+    let held = (c.history_decides.ensures _ _ three).padding pos in
+    ap (λ sides. sides.left.size) held ∙ c.blanks.ensures

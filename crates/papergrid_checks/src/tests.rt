@@ -1,0 +1,158 @@
+//! The worked tables of the documents, and what worked cases as data can't tell: the laws at a type each, orders,
+//! hashes and clones of each type of values, operators, conversions, types of a caller's own, callers with contracts,
+//! and readers and writers that fail.
+
+mod clones;
+mod colors;
+mod consumer;
+mod cuts;
+mod ends;
+mod exact_sizes;
+mod layouts;
+mod messages;
+mod orders;
+mod own_types;
+mod peeks;
+mod places;
+mod record_callers;
+mod records;
+mod scripts;
+mod shown;
+mod size_callers;
+mod texts;
+mod types_of_laws;
+mod values;
+
+use crate::certificates::{is_certified, is_right};
+use crate::own::{Flat, of_flat};
+use crate::settings::{as_a_list, laid_out, one_by_one};
+use crate::sizes::{covering_width, sizes};
+use crate::texts::measures;
+use papergrid::config::Position;
+use papergrid::config::spanned::SpannedConfig;
+use papergrid::dimension::LayoutError;
+use papergrid::records::IterRecords;
+use std::alloc::{AllocError, Global};
+
+/// Two rows of three texts.
+fn rows(alloc: Global) -> Result<Vec<Vec<&'static str>>, AllocError> {
+    Ok(vec![in alloc;
+        vec![in alloc; "one", "two", "three"]?,
+        vec![in alloc; "four", "five", "six"]?,
+    ]?)
+}
+
+/// The first cell spans two columns and hides the second one; each text has two blanks beside it.
+fn are_right(found: Result<(Vec<usize>, Vec<usize>), LayoutError>) -> bool {
+    match found {
+        Ok((widths, heights)) => {
+            widths.as_slice() == [6, 6, 7].as_slice() && heights.as_slice() == [1, 1].as_slice()
+        }
+        Err(_) => false,
+    }
+}
+
+fn has_sizes(alloc: Global, config: &SpannedConfig) -> bool {
+    match rows(alloc) {
+        Ok(rows) => are_right(sizes(alloc, &rows, config)),
+        Err(_) => false,
+    }
+}
+
+/// 19 columns of widths, and four of lines.
+fn has_total(alloc: Global, config: &SpannedConfig) -> bool {
+    match rows(alloc) {
+        Ok(rows) => { covering_width(alloc, IterRecords::new(&rows, 3, None), config) == Ok(23) }
+        Err(_) => false,
+    }
+}
+
+/// Certified by the cells below the first one and by the third cell of the first row; not by a hidden one.
+fn has_certificate(alloc: Global, config: &SpannedConfig) -> bool {
+    let Ok(rows) = rows(alloc) else {
+        return false;
+    };
+    let cells = [
+        Position::new(1, 0),
+        Position::new(1, 1),
+        Position::new(0, 2),
+    ];
+    let hidden = [
+        Position::new(1, 0),
+        Position::new(0, 1),
+        Position::new(0, 2),
+    ];
+    is_certified(alloc, &rows, config) == Ok(true)
+        && is_right(IterRecords::new(&rows, 3, None), config, &[6, 6, 7], &cells)
+        && !is_right(
+            IterRecords::new(&rows, 3, None),
+            config,
+            &[6, 6, 7],
+            &hidden,
+        )
+}
+
+/// Whether the table has its sizes, its total and its certificate.
+fn is_as_told(alloc: Global) -> bool {
+    let Ok(config) = one_by_one(alloc) else {
+        return false;
+    };
+    let sized = has_sizes(alloc, &config);
+    let total = has_total(alloc, &config);
+    let certified = has_certificate(alloc, &config);
+    drop(config);
+    sized && total && certified
+}
+
+#[test]
+fn small_table(rt: HostRuntime) {
+    assert!(rt; is_as_told(rt.alloc()));
+}
+
+fn is_laid_out(alloc: Global) -> bool {
+    let (Ok(rows), Ok(settings)) = (rows(alloc), as_a_list(alloc)) else {
+        return false;
+    };
+    match laid_out(alloc, settings, &rows) {
+        Ok(dimension) => are_right(Ok(dimension.get_values())),
+        Err(_) => false,
+    }
+}
+
+#[test]
+fn by_a_list(rt: HostRuntime) {
+    assert!(rt; is_laid_out(rt.alloc()));
+}
+
+/// The texts of a table one after the other.
+fn flat(alloc: Global) -> Result<Vec<String>, AllocError> {
+    let mut texts = Vec::new(alloc);
+    for text in ["one", "two", "three", "four", "five", "six"] {
+        texts.push(String::from_str(alloc, text)?)?;
+    }
+    Ok(texts)
+}
+
+/// Whether records of one's own have the same sizes.
+fn flat_has_sizes(alloc: Global) -> bool {
+    let Ok(texts) = flat(alloc) else {
+        return false;
+    };
+    let flat = Flat { texts, columns: 3 };
+    let Ok(config) = one_by_one(alloc) else {
+        return false;
+    };
+    let found = of_flat(alloc, &flat, &config);
+    drop(config);
+    are_right(found)
+}
+
+#[test]
+fn records_of_ones_own(rt: HostRuntime) {
+    assert!(rt; flat_has_sizes(rt.alloc()));
+}
+
+#[test]
+fn measured(rt: HostRuntime) {
+    assert_eq!(rt; measures("a 👍\nbc"), (2, 4));
+}

@@ -1,6 +1,0 @@
-pub mod AnyLemmas
-pub mod EntryLemmas
-pub mod EqualLemmas
-pub mod KeyLemmas
-pub mod ResultLemmas
-pub mod TabulatedLemmas

@@ -1,8 +1,0 @@
-use Rattle.papergrid_least.proofs.LeastLemmas.{decides-least_total, refused-least_of}
-use Rattle.papergrid_least.proofs.laws.least_total_decides.Goals as goal
-
-pub returns-clause-decides : goal.returns-clause-decides
-returns-clause-decides c = λ problem table. decides-least_total problem table
-
-pub returns-clause-too_large : goal.returns-clause-too_large
-returns-clause-too_large c = λ problem table. refused-least_of problem table

@@ -1,5 +1,0 @@
-use Rattle.papergrid_least.proofs.PathBackLemmas.{path_back-is}
-use Rattle.papergrid_least.proofs.laws.one_critical_path.Goals as goal
-
-pub returns : goal.returns
-returns c = λ problem cells table. path_back-is problem table cells

@@ -1,8 +1,0 @@
-use Rattle.std.proofs.Common.{subst, sym}
-use Rattle.papergrid_least.specs.Answers.{AreCriticalPath}
-use Rattle.papergrid_least.proofs.LeastLemmas.{AreCriticalPath-critical_path}
-use Rattle.papergrid_least.proofs.least.certificate_of.Goals as goal
-
-pub returns-clause-asked : goal.returns-clause-asked
-returns-clause-asked c = λ problem kept are asked.
-    subst (AreCriticalPath problem) (sym (c.in_ok-places.ensures problem kept are)) (AreCriticalPath-critical_path problem are.table are.none_out are.total)

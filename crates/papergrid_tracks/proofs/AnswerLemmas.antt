@@ -1,0 +1,154 @@
+-- What is made of the kept cells is the answer for the problem.
+use Rattle.std.proofs.Common.{◌≡◌, ℕ, ◌+◌, ◌-◌, ◌<◌, ◌≤◌, ◌∙◌, min, Bool, false, List, length, get_or, fold, sum, take, map, sym, ap, subst, arith}
+use Rattle.std.specs.Prelude.{All, None}
+use Rattle.std.proofs.lemmas.List.FromFn.{fill_by_all, get_or-map-range_with_len, length-map-range_with_len}
+use Rattle.papergrid_values.specs.Lines.{all_lines}
+use Rattle.papergrid_tracks.specs.declared.demand.Demand.{Demand}
+use Rattle.papergrid_tracks.specs.declared.error.LayoutError.{LayoutError}
+use Rattle.papergrid_tracks.specs.declared.error.LayoutError.TheVariants.{OutOfTable, TooLarge, Memory}
+use Rattle.papergrid_tracks.specs.declared.demands.Demands.{Demands}
+use Rattle.papergrid_tracks.specs.Answers.{IsRefusedWhere}
+use Rattle.papergrid_tracks.specs.Fits.{Fits, IsTooLarge}
+use Rattle.papergrid_tracks.specs.ForProofs.Demands.{AreGathered, no_demand}
+use Rattle.papergrid_tracks.specs.ForProofs.Settled.{IsLargeInside, line_at}
+use Rattle.papergrid_tracks.specs.Problem.{problem_of_demands, total_of}
+use Rattle.papergrid_tracks.specs.Ranges.{IsInTable, first_out}
+use Rattle.papergrid_tracks.specs.Sizes.{base_sizes, grown_sizes, sizes_of, by_span}
+use Rattle.papergrid_tracks.proofs.DrawnLemmas.{lines-drawn, sizes-drawn}
+use Rattle.papergrid_tracks.proofs.OutLemmas.{large_any, out_kept, table_demands}
+use Rattle.papergrid_tracks.proofs.DemandLemmas.{base-kept, by_span-kept}
+use Rattle.papergrid_tracks.specs.declared.limits.Limits.{Limits}
+use Rattle.papergrid_tracks.specs.LeastAnswers.{AreLeastSizes, NoneFits}
+use Rattle.papergrid_tracks.specs.LowestPositions.{lowest_position}
+use Rattle.papergrid_tracks.specs.TrackBoundaries.{net_minimum, boundaries_of, sizes_between}
+use Rattle.papergrid_tracks.specs.Least.{highest_position, least_of}
+use Rattle.papergrid_tracks.specs.ForProofs.Laid.{AreLaid, with_net_minimum}
+use Rattle.papergrid_tracks.specs.ForProofs.Limits.{AreLimits, AreLowestBoundaries, AreHighestBoundaries, Refuses}
+use Rattle.papergrid_tracks.specs.ForProofs.LeastSettled.{AreLowestPositions}
+use Rattle.papergrid_tracks.proofs.BoundaryLemmas.{AreBoundaries-boundaries_of, take_whole}
+use Rattle.papergrid_tracks.proofs.LeastLemmas.{AreLeastSizes-least_of, NoneFits-by_all, total-least_of}
+use Rattle.papergrid_tracks.proofs.LeastDemandLemmas.{AreLaid-from_boundaries, lowest_position-is, highest_position-is, longer_asking}
+
+pub NoneFits-large : (n : ℕ) (kept : Demands) (demands : List Demand) → AreGathered n kept demands → (line : ℕ → Bool) → IsLargeInside n kept → NoneFits (problem_of_demands line n demands)
+NoneFits-large n kept demands is line large =
+    let table : All (IsInTable n) demands = table_demands n kept demands is large.inside in
+    NoneFits-by_all (problem_of_demands line n demands) table (out_kept n kept demands is ∙ large.inside)
+    (λ other fits. large_any line n other demands (sym is.held.large ∙ large.is_large) table fits.room)
+
+-- where the boundaries agree, so do the sizes between them
+between-same : (n : ℕ) (f g : ℕ → ℕ) → ((i : ℕ) → i ≤ n → f i ≡ g i) → sizes_between n f ≡ sizes_between n g
+between-same n f g same =
+    fill_by_all (λ i. g (i + 1) - g i) (sizes_between n f) n 0 (length-map-range_with_len (λ i. f (i + 1) - f i) 0 n) at
+  where
+    at : (k : ℕ) → k < n → get_or (sizes_between n f) k 0 ≡ g (k + 1) - g k
+    at k l =
+        let a : get_or (sizes_between n f) k 0 ≡ f (k + 1) - f k = get_or-map-range_with_len (λ i. f (i + 1) - f i) 0 n k k 0 l (omega arith) in
+        let b : f (k + 1) ≡ g (k + 1) = same (k + 1) (omega arith) in
+        let c : f k ≡ g k = same k (omega arith) in
+        omega arith
+
+module _ (line : ℕ → Bool) (n : ℕ) (kept : Demands) (demands : List Demand) (is_kept : AreGathered n kept demands) (inside : first_out n kept.rest.items ≡ None) (small : kept.is_large ≡ false)
+    (drawn : ℕ → Bool) (agree : (i : ℕ) → i ≤ n → drawn i ≡ line i)
+    (base : List ℕ) (many : length base ≡ n) (written : (k : ℕ) → k < length base → get_or base k 0 ≡ (get_or kept.single_span.items k no_demand).minimum) where
+  table : All (IsInTable n) demands
+  table = table_demands n kept demands is_kept inside
+
+  base_is : base ≡ base_sizes n demands
+  base_is = base-kept n kept demands is_kept small base many written
+
+  abbrev asking : List Demand
+  asking = map (with_net_minimum (net_minimum drawn)) kept.rest.items
+
+  asking_are : asking ≡ longer_asking line drawn n is_kept.limit demands agree table is_kept.below base base_is many
+  asking_are = ap (map (with_net_minimum (net_minimum drawn))) (is_kept.held.exact small)
+
+  all_drawn : all_lines drawn n ≡ all_lines line n
+  all_drawn = lines-drawn drawn line n agree
+
+  past : ((boundary : ℕ → ℕ) → AreLaid base asking boundary → 18446744073709551616 ≤ boundary (length base) + all_lines drawn (length base)) → NoneFits (problem_of_demands line n demands)
+  past large = NoneFits-by_all (problem_of_demands line n demands) table (out_kept n kept demands is_kept ∙ inside) each
+    where
+      each : (other : List ℕ) → Fits (problem_of_demands line n demands) other → IsTooLarge (problem_of_demands line n demands) other
+      each other fits =
+          let laid : AreLaid base asking (boundaries_of other) =
+          subst (λ cells. AreLaid base cells (boundaries_of other)) (sym asking_are)
+          (AreLaid-from_boundaries line drawn n is_kept.limit demands agree table is_kept.below base base_is many (boundaries_of other) (AreBoundaries-boundaries_of line n demands other fits)) in
+          let l : 18446744073709551616 ≤ boundaries_of other (length base) + all_lines drawn (length base) = large (boundaries_of other) laid in
+          let a : boundaries_of other (length base) ≡ boundaries_of other n = ap (boundaries_of other) many in
+          let b : sum (take n other) ≡ sum other = ap sum (take_whole n other fits.one_each) in
+          let c : all_lines drawn (length base) ≡ all_lines drawn n = ap (all_lines drawn) many in
+          let d : all_lines drawn n ≡ all_lines line n = all_drawn in
+          let all : 18446744073709551616 ≤ sum other + all_lines line n = omega arith in
+          all
+
+  pub IsRefusedWhere-refuses : (e : LayoutError) → Refuses ((boundary : ℕ → ℕ) → AreLaid base asking boundary → 18446744073709551616 ≤ boundary (length base) + all_lines drawn (length base)) e → IsRefusedWhere (problem_of_demands line n demands) (NoneFits (problem_of_demands line n demands)) e
+  IsRefusedWhere-refuses (OutOfTable place) refused = absurd refused
+  IsRefusedWhere-refuses TooLarge refused = past refused
+  IsRefusedWhere-refuses (Memory e) refused = tt
+
+  module _ (limits : Limits) (are : AreLimits drawn base asking limits) where
+    lowest_position-asking : AreLowestBoundaries base (longer_asking line drawn n is_kept.limit demands agree table is_kept.below base base_is many) limits.lowest_position.items
+    lowest_position-asking = subst (λ cells. AreLowestBoundaries base cells limits.lowest_position.items) asking_are are.lowest_position
+
+    total_is : get_or limits.lowest_position.items (length base) 0 ≡ lowest_position (net_minimum line) demands n
+    total_is =
+        ap (λ k. get_or limits.lowest_position.items k 0) many
+        ∙ lowest_position-is line drawn n is_kept.limit demands agree table is_kept.below base base_is many limits.lowest_position.items lowest_position-asking n (omega arith)
+
+    highest_at : (i : ℕ) → i ≤ n → get_or limits.highest_position.items i 0 ≡ highest_position (net_minimum line) n demands i
+    highest_at =
+        highest_position-is line drawn n is_kept.limit demands agree table is_kept.below base base_is many limits.highest_position.items (get_or limits.lowest_position.items (length base) 0) total_is
+        (subst (λ cells. AreHighestBoundaries base cells (get_or limits.lowest_position.items (length base) 0) limits.highest_position.items) asking_are are.highest_position)
+
+    shares : fold (grown_sizes drawn) base (by_span (length base) kept.rest.items) ≡ sizes_of (problem_of_demands line n demands)
+    shares =
+        ap (λ k. fold (grown_sizes drawn) base (by_span k kept.rest.items)) many
+        ∙ ap (fold (grown_sizes drawn) base) (by_span-kept n kept demands is_kept small)
+        ∙ ap (λ xs. fold (grown_sizes drawn) xs (by_span n demands)) base_is
+        ∙ sizes-drawn drawn line n agree demands table
+
+    exact : (sizes : List ℕ) → sizes ≡ sizes_between (length base) (λ i. min (boundaries_of (fold (grown_sizes drawn) base (by_span (length base) kept.rest.items)) i) (get_or limits.highest_position.items i 0)) →
+        sizes ≡ least_of (problem_of_demands line n demands)
+    exact sizes e =
+        e
+        ∙ ap (λ k. sizes_between k (λ i. min (boundaries_of (fold (grown_sizes drawn) base (by_span (length base) kept.rest.items)) i) (get_or limits.highest_position.items i 0))) many
+        ∙ between-same n (λ i. min (boundaries_of (fold (grown_sizes drawn) base (by_span (length base) kept.rest.items)) i) (get_or limits.highest_position.items i 0))
+        (λ i. min (boundaries_of (sizes_of (problem_of_demands line n demands)) i) (highest_position (net_minimum line) n demands i)) same
+      where
+        same : (i : ℕ) → i ≤ n → min (boundaries_of (fold (grown_sizes drawn) base (by_span (length base) kept.rest.items)) i) (get_or limits.highest_position.items i 0) ≡
+            min (boundaries_of (sizes_of (problem_of_demands line n demands)) i) (highest_position (net_minimum line) n demands i)
+        same i l =
+            let a : boundaries_of (fold (grown_sizes drawn) base (by_span (length base) kept.rest.items)) i ≡ boundaries_of (sizes_of (problem_of_demands line n demands)) i = ap (λ xs. boundaries_of xs i) shares in
+            let b : get_or limits.highest_position.items i 0 ≡ highest_position (net_minimum line) n demands i = highest_at i l in
+            omega arith
+
+    module _ (sizes : List ℕ) (e : sizes ≡ sizes_between (length base) (λ i. min (boundaries_of (fold (grown_sizes drawn) base (by_span (length base) kept.rest.items)) i) (get_or limits.highest_position.items i 0))) where
+      pub total-made : limits.total ≡ total_of (problem_of_demands line n demands) sizes
+      total-made =
+          let a : sum sizes ≡ sum (least_of (problem_of_demands line n demands)) = ap sum (exact sizes e) in
+          let b : sum (least_of (problem_of_demands line n demands)) ≡ lowest_position (net_minimum line) demands n = total-least_of (problem_of_demands line n demands) table in
+          let c : get_or limits.lowest_position.items (length base) 0 ≡ lowest_position (net_minimum line) demands n = total_is in
+          let d : limits.total ≡ get_or limits.lowest_position.items (length base) 0 + all_lines drawn (length base) = are.total in
+          let f : all_lines drawn (length base) ≡ all_lines line n = ap (all_lines drawn) many ∙ all_drawn in
+          let all : limits.total ≡ sum sizes + all_lines line n = omega arith in
+          all
+
+      fits-made : total_of (problem_of_demands line n demands) (least_of (problem_of_demands line n demands)) < 18446744073709551616
+      fits-made = subst (λ k. k < 18446744073709551616) (total-made ∙ ap (total_of (problem_of_demands line n demands)) (exact sizes e)) are.fits
+
+      pub AreLeastSizes-made : AreLeastSizes (problem_of_demands line n demands) sizes
+      AreLeastSizes-made =
+          subst (AreLeastSizes (problem_of_demands line n demands)) (sym (exact sizes e))
+          (AreLeastSizes-least_of (problem_of_demands line n demands) table (out_kept n kept demands is_kept ∙ inside) fits-made)
+
+      pub AreLowestPositions-made : (lines : List Bool) → length lines ≡ n + 1 → ((i : ℕ) → i ≤ n → line_at lines i ≡ line i) →
+          AreLowestPositions (problem_of_demands line n demands) lines limits.lowest_position.items
+      AreLowestPositions-made lines lined same = record {
+        none_out = out_kept n kept demands is_kept ∙ inside;
+        table = table;
+        total = fits-made;
+        lined = lined;
+        drawn = same;
+        many = are.lowest_position.one_more ∙ ap (λ k. k + 1) many;
+        boundary_at = lowest_position-is line drawn n is_kept.limit demands agree table is_kept.below base base_is many limits.lowest_position.items lowest_position-asking;
+      }

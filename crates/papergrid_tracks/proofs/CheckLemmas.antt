@@ -1,0 +1,162 @@
+-- What a checker goes by: its sums over the listed cells, and the certificate that they make.
+use Rattle.std.proofs.Common.{◌≡◌, ℕ, zero, suc, ◌+◌, ◌-◌, ◌*◌, ◌<◌, ◌≤◌, Bool, true, false, cond, inl, inr, List, [], ◌∷◌, ◌++◌, length, count_by, drop, drop-cons, get_or, refl, subst, sum, sym, take, ap, ◌∙◌, arith}
+use Rattle.std.specs.Prelude.{All}
+use Rattle.std.specs.List.{AllByRecursion, range_with_len}
+use Rattle.std.proofs.lemmas.Bool.{cases_Bool, true≢false, false≢true}
+use Rattle.std.proofs.Math.Nat.{mul-le-mul_right}
+use Rattle.std.proofs.lemmas.List.Sums.{sum_by-cons, sum_by-append}
+use Rattle.std.proofs.lemmas.List.Elements.{All-append, All-cons, All-nil, recursion_from_All, All-from_recursion}
+use Rattle.papergrid_values.specs.declared.position.Position.{Position}
+use Rattle.papergrid_tracks.specs.declared.checked.Checked.{Checked}
+use Rattle.papergrid_tracks.specs.declared.demand.Demand.{Demand}
+use Rattle.papergrid_values.specs.declared.direction.Direction.{Direction}
+use Rattle.papergrid_tracks.specs.ForProofs.Checks.{CanHold, Checks, all_listed, times_listed}
+use Rattle.papergrid_tracks.specs.Fits.{HasRoom, range_sum}
+use Rattle.papergrid_tracks.specs.Ranges.{demand_of, end_of, inner_lines, place_of}
+use Rattle.papergrid_tracks.proofs.LoopLemmas.{range_with_len-append}
+
+-- one more number
+pub count_by-more : (line : ℕ → Bool) (s i : ℕ) → s ≤ i → count_by line (range_with_len s (i + 1 - s)) ≡ count_by line (range_with_len s (i - s)) + cond (line i) 1 0
+count_by-more line s i le =
+    let e : i + 1 - s ≡ i - s + 1 = omega arith in
+    let at : s + (i - s) ≡ i = omega arith in
+    let a : count_by line (range_with_len s (i + 1 - s)) ≡ count_by line (range_with_len s (i - s) ++ range_with_len (s + (i - s)) 1) =
+    ap (λ k. count_by line (range_with_len s k)) e ∙ ap (count_by line) (range_with_len-append s (i - s) 1) in
+    let b : count_by line (range_with_len s (i - s) ++ range_with_len (s + (i - s)) 1) ≡ count_by line (range_with_len s (i - s)) + count_by line (range_with_len (s + (i - s)) 1) =
+    sum_by-append (λ j. cond (line j) 1 0) (range_with_len s (i - s)) (range_with_len (s + (i - s)) 1) in
+    let o : count_by line (range_with_len (s + (i - s)) 1) ≡ count_by line (range_with_len i 1) = ap (λ k. count_by line (range_with_len k 1)) at in
+    let p : count_by line (range_with_len i 1) ≡ cond (line i) 1 0 + 0 = sum_by-cons (λ j. cond (line j) 1 0) i [] in
+    omega arith
+
+pub count_by-agree : (f g : ℕ → Bool) (a m : ℕ) → ((i : ℕ) → a ≤ i → i < a + m → f i ≡ g i) → count_by f (range_with_len a m) ≡ count_by g (range_with_len a m)
+count_by-agree f g a zero same = refl
+count_by-agree f g a (suc m) same =
+    let ih : count_by f (range_with_len (a + 1) m) ≡ count_by g (range_with_len (a + 1) m) = count_by-agree f g (a + 1) m (λ i l l'. same i (omega arith) (omega arith)) in
+    let x : count_by f (range_with_len a (suc m)) ≡ cond (f a) 1 0 + count_by f (range_with_len (a + 1) m) = sum_by-cons (λ j. cond (f j) 1 0) a (range_with_len (a + 1) m) in
+    let y : count_by g (range_with_len a (suc m)) ≡ cond (g a) 1 0 + count_by g (range_with_len (a + 1) m) = sum_by-cons (λ j. cond (g j) 1 0) a (range_with_len (a + 1) m) in
+    x ∙ ap (λ b. cond b 1 0 + count_by f (range_with_len (a + 1) m)) (same a (omega arith) (omega arith)) ∙ ap (λ k. cond (g a) 1 0 + k) ih ∙ sym y
+
+-- ---- one more cell
+
+all_listed_push : (f : Demand → ℕ) (places : List Position) (ds : List Demand) (d : Demand) → all_listed f places (ds ++ d ∷ []) ≡ all_listed f places ds + f d * times_listed places d
+all_listed_push f places ds d =
+    let a : all_listed f places (ds ++ d ∷ []) ≡ all_listed f places ds + all_listed f places (d ∷ []) = sum_by-append (λ e. f e * times_listed places e) ds (d ∷ []) in
+    let b : all_listed f places (d ∷ []) ≡ f d * times_listed places d + 0 = sum_by-cons (λ e. f e * times_listed places e) d [] in
+    omega arith
+
+All_push : (P : Demand → Type 0) (ds : List Demand) (d : Demand) → All P ds → P d → All P (ds ++ d ∷ [])
+All_push P ds d all p = All-append P ds (d ∷ []) all (All-cons P d [] p (All-nil P))
+
+-- of all and one more
+All-front : (P : Demand → Type 0) (ds : List Demand) (d : Demand) → All P (ds ++ d ∷ []) → All P ds × P d
+All-front P ds d all = let r = go ds (recursion_from_All P (ds ++ d ∷ []) all) in (All-from_recursion P ds r.0, r.1)
+  where
+    go : (ds : List Demand) → AllByRecursion P (ds ++ d ∷ []) → AllByRecursion P ds × P d
+    go [] all = (tt, all.0)
+    go (c ∷ ds) all = let r = go ds all.1 in ((all.0, r.0), r.1)
+
+module _ (line : ℕ → Bool) (sizes : List ℕ) (places : List Position) (direction : Direction) (span_of : Position → ℕ) (old : Checked) (ds : List Demand) (d : Demand)
+    (h : Checks line sizes places direction span_of old ds)
+    (ranged : d ≡ demand_of direction (place_of d) (span_of (place_of d)) d.minimum) (one : 1 ≤ d.span) where
+  CanHold-front : CanHold line sizes places (ds ++ d ∷ []) → CanHold line sizes places ds
+  CanHold-front can =
+      let e : all_listed (λ _. 1) places (ds ++ d ∷ []) ≡ all_listed (λ _. 1) places ds + 1 * times_listed places d = all_listed_push (λ _. 1) places ds d in
+      let few : all_listed (λ _. 1) places (ds ++ d ∷ []) ≤ length places = can.few in
+      record {
+        table = (All-front (λ e. end_of e ≤ length sizes) ds d can.table).0;
+        room = (All-front (HasRoom line sizes) ds d can.room).0;
+        few = omega arith;
+      }
+
+  -- the cell has room, and does not make more listed cells than there are positions
+  pub Checks-more : old.holds ≡ true → end_of d ≤ length sizes → HasRoom line sizes d → old.found + times_listed places d ≤ length places → d.minimum ≤ 73786976294838206464 → inner_lines line d ≤ 18446744073709551616 →
+      Checks line sizes places direction span_of
+      (record { holds = true; found = old.found + times_listed places d; minimums = old.minimums + d.minimum * times_listed places d; inner = old.inner + inner_lines line d * times_listed places d }) (ds ++ d ∷ [])
+  Checks-more so ends has few minimum_small inner_small =
+      let all = h.holds so in
+      let e : all_listed (λ _. 1) places (ds ++ d ∷ []) ≡ all_listed (λ _. 1) places ds + 1 * times_listed places d = all_listed_push (λ _. 1) places ds d in
+      let found : old.found ≡ all_listed (λ _. 1) places ds = all.found in
+      let minimums : old.minimums ≡ all_listed (λ c. c.minimum) places ds = all.minimums in
+      let inner : old.inner ≡ all_listed (inner_lines line) places ds = all.inner in
+      let n : all_listed (λ c. c.minimum) places (ds ++ d ∷ []) ≡ all_listed (λ c. c.minimum) places ds + d.minimum * times_listed places d = all_listed_push (λ c. c.minimum) places ds d in
+      let i : all_listed (inner_lines line) places (ds ++ d ∷ []) ≡ all_listed (inner_lines line) places ds + inner_lines line d * times_listed places d = all_listed_push (inner_lines line) places ds d in
+      let nb : old.minimums ≤ 73786976294838206464 * old.found = h.bounded.minimums in
+      let ib : old.inner ≤ 18446744073709551616 * old.found = h.bounded.inner in
+      let nm : d.minimum * times_listed places d ≤ 73786976294838206464 * times_listed places d = mul-le-mul_right (times_listed places d) minimum_small in
+      let im : inner_lines line d * times_listed places d ≤ 18446744073709551616 * times_listed places d = mul-le-mul_right (times_listed places d) inner_small in
+      record {
+        ranged = All_push (λ c. c ≡ demand_of direction (place_of c) (span_of (place_of c)) c.minimum) ds d h.ranged ranged;
+        spans = All_push (λ c. 1 ≤ c.span) ds d h.spans one;
+        holds = λ so. record {
+          table = All_push (λ c. end_of c ≤ length sizes) ds d all.table ends;
+          room = All_push (HasRoom line sizes) ds d all.room has;
+          found = omega arith;
+          minimums = omega arith;
+          inner = omega arith;
+        };
+        fails = λ so. absurd (true≢false so);
+        bounded = record { few = few; minimums = omega arith; inner = omega arith };
+      }
+
+  -- something fails, and with this cell does still
+  pub Checks-fails : (old.holds ≡ true → CanHold line sizes places (ds ++ d ∷ []) → ⊥) →
+      Checks line sizes places direction span_of (record { holds = false; found = old.found; minimums = old.minimums; inner = old.inner }) (ds ++ d ∷ [])
+  Checks-fails why = record {
+    ranged = All_push (λ c. c ≡ demand_of direction (place_of c) (span_of (place_of c)) c.minimum) ds d h.ranged ranged;
+    spans = All_push (λ c. 1 ≤ c.span) ds d h.spans one;
+    holds = λ so. absurd (false≢true so);
+    fails = λ so can. elim (cases_Bool old.holds) [
+      | inl t ↦ why t can
+      | inr other ↦ h.fails other (CanHold-front can)
+    ];
+    bounded = record { few = h.bounded.few; minimums = h.bounded.minimums; inner = h.bounded.inner };
+  }
+
+  -- because it has no room in the table
+  pub none_room : (end_of d ≤ length sizes → HasRoom line sizes d → ⊥) → CanHold line sizes places (ds ++ d ∷ []) → ⊥
+  none_room none can = none (All-front (λ e. end_of e ≤ length sizes) ds d can.table).1 (All-front (HasRoom line sizes) ds d can.room).1
+
+  -- because too many are listed
+  pub too_many : old.holds ≡ true → length places < old.found + times_listed places d → CanHold line sizes places (ds ++ d ∷ []) → ⊥
+  too_many so many can =
+      let e : all_listed (λ _. 1) places (ds ++ d ∷ []) ≡ all_listed (λ _. 1) places ds + 1 * times_listed places d = all_listed_push (λ _. 1) places ds d in
+      let found : old.found ≡ all_listed (λ _. 1) places ds = (h.holds so).found in
+      let few : all_listed (λ _. 1) places (ds ++ d ∷ []) ≤ length places = can.few in
+      omega arith
+
+count_by-le : (line : ℕ → Bool) (a m : ℕ) → count_by line (range_with_len a m) ≤ m
+count_by-le line a zero = omega arith
+count_by-le line a (suc m) =
+    let ih : count_by line (range_with_len (a + 1) m) ≤ m = count_by-le line (a + 1) m in
+    let x : count_by line (range_with_len a (suc m)) ≡ cond (line a) 1 0 + count_by line (range_with_len (a + 1) m) = sum_by-cons (λ j. cond (line j) 1 0) a (range_with_len (a + 1) m) in
+    elim (cases_Bool (line a)) [
+      | inl t ↦ let x' : count_by line (range_with_len a (suc m)) ≡ 1 + count_by line (range_with_len (a + 1) m) = rw t at x in omega arith
+      | inr f ↦ let x' : count_by line (range_with_len a (suc m)) ≡ 0 + count_by line (range_with_len (a + 1) m) = rw f at x in omega arith
+    ]
+
+-- a range has no more inner lines than numbers
+pub inner_lines-span : (line : ℕ → Bool) (d : Demand) → inner_lines line d ≤ d.span
+inner_lines-span line d = let le : inner_lines line d ≤ d.span - 1 = count_by-le line (d.start + 1) (d.span - 1) in omega arith
+
+-- ---- a cell whose range begins where there is room enough
+
+-- the first size of a range is a part of its sum
+pub first_of_range : (sizes : List ℕ) (d : Demand) → 1 ≤ d.span → d.start < length sizes → get_or sizes d.start 0 ≤ range_sum sizes d
+first_of_range sizes d one l = go d.span one
+  where
+    go : (n : ℕ) → 1 ≤ n → get_or sizes d.start 0 ≤ sum (take n (drop d.start sizes))
+    go zero one = absurd (omega arith)
+    go (suc n) one =
+        let first : sum (take (suc n) (drop d.start sizes)) ≡ get_or sizes d.start 0 + sum (take n (drop (suc d.start) sizes)) =
+        ap (λ xs. sum (take (suc n) xs)) (drop-cons sizes d.start 0 l) ∙ sum_by-cons (λ x. x) (get_or sizes d.start 0) (take n (drop (suc d.start) sizes)) in
+        omega (arith, first)
+
+-- what is listed no time changes nothing
+pub none_listed : (checked : Checked) (minimum inner times : ℕ) → checked.holds ≡ true → times ≡ 0 →
+    record { holds = true; found = checked.found + times; minimums = checked.minimums + minimum * times; inner = checked.inner + inner * times } ≡ checked
+none_listed checked minimum inner times so none =
+    let found : checked.found + 0 ≡ checked.found = omega arith in
+    let minimums : checked.minimums + minimum * 0 ≡ checked.minimums = omega arith in
+    let inners : checked.inner + inner * 0 ≡ checked.inner = omega arith in
+    subst (λ t. record { holds = true; found = checked.found + t; minimums = checked.minimums + minimum * t; inner = checked.inner + inner * t } ≡ checked) (sym none)
+    (λ i. record { holds = sym so i; found = found i; minimums = minimums i; inner = inners i })

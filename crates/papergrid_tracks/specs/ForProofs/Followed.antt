@@ -1,0 +1,50 @@
+-- Going back along the lowest positions of the boundaries, by what is kept of the cells.
+use Rattle.std.specs.Prelude.{ℕ, zero, suc, ◌+◌, ◌-◌, Bool, ◌&&◌, ◌||◌, ◌==◌, nat_lt, if◌then◌else◌, List, [], find, Option, Some, None, slice_index_or}
+use Rattle.papergrid_values.specs.declared.position.Position.{Position}
+use Rattle.papergrid_tracks.specs.declared.demand.Demand.{Demand}
+use Rattle.papergrid_tracks.specs.Ranges.{end_of, place_of}
+use Rattle.papergrid_tracks.specs.ForProofs.Demands.{no_demand}
+use Rattle.papergrid_tracks.specs.CriticalPath.{is_tight, with_earlier}
+
+-- the first cell that covers one track alone and is tight at the boundary at i
+abbrev pub single_tight_cell : (Demand → ℕ) → List Demand → ℕ → Option Demand
+single_tight_cell asks demands i = find (λ d. d.span == 1 && is_tight asks demands i d) demands
+
+-- the first cell of a longer range that does so
+abbrev pub longer_tight_cell : (Demand → ℕ) → List Demand → ℕ → Option Demand
+longer_tight_cell asks demands i = find (λ d. nat_lt 1 d.span && is_tight asks demands i d) demands
+
+-- whether one position comes before another, by row and then by column
+abbrev pub is_before : Position → Position → Bool
+is_before p q = nat_lt p.row q.row || (p.row == q.row && nat_lt p.col q.col)
+
+-- of two cells the earlier by row and then by column, at one position the first of the two; where there is one, that
+abbrev pub earlier_cell : Option Demand → Option Demand → Option Demand
+earlier_cell None other = other
+earlier_cell (Some d) None = Some d
+earlier_cell (Some d) (Some e) = if is_before (place_of e) (place_of d) then Some e else Some d
+
+-- whether the cell is tight at the boundary at i, by these boundaries
+abbrev pub is_tight_by : (Demand → ℕ) → (ℕ → ℕ) → ℕ → Demand → Bool
+is_tight_by asks boundary i d = end_of d == i && (boundary d.start + asks d == boundary i)
+
+-- the cell, where it needs so much
+abbrev pub with_minimum : ℕ → Demand → Option Demand
+with_minimum step d = if d.minimum == step then Some d else None
+
+-- the cells met going back from the boundary at i: over a boundary without a tight cell to the one before, else from the earlier
+-- of two cells to where its range starts: what is kept for the number before it, where that needs what lies between the two
+-- boundaries, and the cell of a longer range that is kept for the boundary
+abbrev pub followed_cells : (ℕ → ℕ) → (ℕ → Demand) → (ℕ → Option Demand) → ℕ → ℕ → List Demand
+followed_cells boundary single longer zero i = []
+followed_cells boundary single longer (suc steps) i =
+    if boundary i - boundary (i - 1) == 0 then followed_cells boundary single longer steps (i - 1)
+    else with_earlier (earlier_cell (with_minimum (boundary i - boundary (i - 1)) (single (i - 1))) (longer i)) (followed_cells boundary single longer steps)
+
+-- what is kept for a track alone
+abbrev pub kept_single : List Demand → ℕ → Demand
+kept_single single_span i = slice_index_or single_span i no_demand
+
+-- the cell of a longer range that is kept for a boundary
+abbrev pub kept_longer : List (Option Demand) → ℕ → Option Demand
+kept_longer tight_cells i = slice_index_or tight_cells i None

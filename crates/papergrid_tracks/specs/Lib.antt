@@ -1,0 +1,15 @@
+pub mod Answers
+pub mod Certificates
+pub mod CriticalPath
+pub mod Crossing
+pub mod Fits
+pub mod Laminar
+pub mod Least
+pub mod LeastAnswers
+pub mod LowestPositions
+pub mod Problem
+pub mod Ranges
+pub mod Rows
+pub mod Sizes
+pub mod TrackBoundaries
+pub mod ForProofs

@@ -1,0 +1,172 @@
+//! Laws of the definitions, each the contract of a function that does nothing.
+
+ghost use Rattle.std.specs.Prelude.{ℕ, ◌≡◌, ◌<◌, ◌≤◌, ◌↔◌, All, IsTrue, List, false, slice_index, true, length, min, reverse, sum, ◌+◌, ◌^◌};
+ghost use Rattle.papergrid_tracks.specs.declared.candidate.Candidate.{Candidate};
+ghost use Rattle.papergrid_tracks.specs.declared.checked.Checked.{Checked};
+ghost use Rattle.papergrid_tracks.specs.declared.demand.Demand.{Demand};
+ghost use Rattle.papergrid_tracks.specs.declared.error.LayoutError.{LayoutError};
+ghost use Rattle.papergrid_tracks.specs.Certificates.{certificate_cells_of};
+ghost use Rattle.papergrid_tracks.specs.Fits.{Fits, IsCertificate, IsLeast, top_minimum, IsTooLarge};
+ghost use Rattle.papergrid_tracks.specs.Laminar.{is_laminar};
+ghost use Rattle.papergrid_tracks.specs.Problem.{Problem, total_of};
+ghost use Rattle.papergrid_tracks.specs.Ranges.{IsInTable, IsLaminar, SomeCross};
+ghost use Rattle.papergrid_tracks.specs.Sizes.{sizes_of};
+ghost use Rattle.papergrid_values.specs.Lines.{all_lines};
+ghost use Rattle.papergrid_tracks.specs.LowestPositions.{lowest_position, least_total};
+ghost use Rattle.papergrid_tracks.specs.TrackBoundaries.{AreBoundaries, net_minimum, boundaries_of, sizes_between};
+ghost use Rattle.papergrid_tracks.specs.Least.{AreFurthestRight, highest_position, least_of, least_sizes};
+ghost use Rattle.papergrid_tracks.specs.CriticalPath.{IsPathBack, critical_path};
+
+pub use crate::worked::{crossing_worked, worked_rows};
+use crate::{Candidate, Checked, Demand, LayoutError};
+
+/// Demands, and reasons why there are no sizes, are equal where they are the same.
+pub fn equal_by_fields()
+    ensures demands { (x y : Demand) → (⟦<Demand as PartialEq>⟧.eq x y ≡ true) ↔ (x ≡ y) }
+    ensures errors { (x y : LayoutError) →
+        (⟦<LayoutError as PartialEq>⟧.eq x y ≡ true) ↔ (x ≡ y) }
+{}
+
+/// Clones of them, of candidates and of what is kept of a check equal their originals.
+pub fn equal_clones()
+    ensures demands { (x y : Demand) → ⟦<Demand as Clone>⟧.is_clone x y → y ≡ x }
+    ensures errors { (x y : LayoutError) → ⟦<LayoutError as Clone>⟧.is_clone x y → y ≡ x }
+    ensures candidates { (x y : Candidate) →
+        ⟦<Candidate<'static> as Clone>⟧.is_clone x y → y ≡ x }
+    ensures checks { (x y : Checked) → ⟦<Checked as Clone>⟧.is_clone x y → y ≡ x }
+{}
+
+/// Sizes that fit and have a certificate are least.
+pub fn certified_are_least()
+    ensures { (problem : Problem) (cells : List Demand) (sizes : List ℕ) →
+        All (IsInTable problem.count) problem.demands → Fits problem sizes →
+        IsCertificate problem sizes cells → IsLeast problem sizes }
+{}
+
+/// The sizes along a direction fit, and none is above the greatest minimum size over its track;
+/// where ranges are nested or disjoint, the cells of the certificate certify them.
+pub fn sizes_by_minimums()
+    ensures fit { (problem : Problem) → All (IsInTable problem.count) problem.demands →
+        Fits problem (sizes_of problem) }
+    ensures bound { (problem : Problem) → All (IsInTable problem.count) problem.demands →
+        (i : ℕ) → i < problem.count →
+        slice_index (sizes_of problem) i ≤ top_minimum problem.demands i }
+    ensures certified { (problem : Problem) → All (IsInTable problem.count) problem.demands →
+        IsLaminar problem.demands →
+        IsCertificate problem (sizes_of problem) (certificate_cells_of problem) }
+{}
+
+/// Whether any two longer ranges are nested or disjoint can be computed; where they are not, two of
+/// them are neither.
+pub fn laminar_is_computed()
+    ensures laminar { (demands : List Demand) →
+        IsTrue (is_laminar demands) ↔ IsLaminar demands }
+    ensures crossing { (demands : List Demand) →
+        (is_laminar demands ≡ false) ↔ SomeCross demands }
+{}
+
+/// Sizes fit exactly where their sums are boundaries.
+pub fn fits_by_boundaries()
+    ensures fits { (problem : Problem) (sizes : List ℕ) →
+        All (IsInTable problem.count) problem.demands → length sizes ≡ problem.count →
+        Fits problem sizes ↔
+        AreBoundaries (net_minimum problem.line) problem.count problem.demands
+        (boundaries_of sizes) }
+    ensures between { (problem : Problem) (boundary : ℕ → ℕ) →
+        All (IsInTable problem.count) problem.demands →
+        AreBoundaries (net_minimum problem.line) problem.count problem.demands boundary →
+        Fits problem (sizes_between problem.count boundary) }
+{}
+
+/// Of two choices of boundaries, the lower at each track is one too.
+pub fn lower_boundaries()
+    ensures { (asks : Demand → ℕ) (n : ℕ) (demands : List Demand) (a b : ℕ → ℕ) →
+        AreBoundaries asks n demands a → AreBoundaries asks n demands b →
+        AreBoundaries asks n demands (λ i. min (a i) (b i)) }
+{}
+
+/// The lowest positions are boundaries, and no boundaries are below them; so they end at the
+/// least total.
+pub fn lowest_boundaries()
+    ensures boundaries { (asks : Demand → ℕ) (n : ℕ) (demands : List Demand) →
+        All (IsInTable n) demands → AreBoundaries asks n demands (lowest_position asks demands) }
+    ensures below { (asks : Demand → ℕ) (n : ℕ) (demands : List Demand) (boundary : ℕ → ℕ) →
+        All (IsInTable n) demands → AreBoundaries asks n demands boundary →
+        (i : ℕ) → i ≤ n → lowest_position asks demands i ≤ boundary i }
+    ensures total { (problem : Problem) (sizes : List ℕ) →
+        All (IsInTable problem.count) problem.demands → Fits problem sizes →
+        least_total problem ≤ sum sizes }
+    ensures least { (problem : Problem) → All (IsInTable problem.count) problem.demands →
+        let boundary = lowest_position (net_minimum problem.line) problem.demands in
+        IsLeast problem (sizes_between problem.count boundary) }
+{}
+
+/// The highest positions are boundaries from 0 to the least total, and no boundaries that end there
+/// are past them.
+pub fn highest_boundaries()
+    ensures boundaries { (asks : Demand → ℕ) (n : ℕ) (demands : List Demand) →
+        All (IsInTable n) demands → AreBoundaries asks n demands (highest_position asks n demands) }
+    ensures first { (asks : Demand → ℕ) (n : ℕ) (demands : List Demand) →
+        All (IsInTable n) demands → highest_position asks n demands 0 ≡ 0 }
+    ensures last { (asks : Demand → ℕ) (n : ℕ) (demands : List Demand) →
+        highest_position asks n demands n ≡ lowest_position asks demands n }
+    ensures above { (asks : Demand → ℕ) (n : ℕ) (demands : List Demand) (boundary : ℕ → ℕ) →
+        All (IsInTable n) demands → AreBoundaries asks n demands boundary →
+        boundary n ≤ lowest_position asks demands n →
+        (i : ℕ) → i ≤ n → boundary i ≤ highest_position asks n demands i }
+{}
+
+/// From any sizes that fit, least ones, which are the same where those are least.
+pub fn least_from_any()
+    ensures least { (problem : Problem) (sizes : List ℕ) →
+        All (IsInTable problem.count) problem.demands → Fits problem sizes →
+        IsLeast problem (least_sizes problem sizes) }
+    ensures certified { (problem : Problem) (sizes : List ℕ) →
+        All (IsInTable problem.count) problem.demands → Fits problem sizes →
+        IsCertificate problem (least_sizes problem sizes) (critical_path problem) }
+    ensures bound { (problem : Problem) (sizes : List ℕ) →
+        All (IsInTable problem.count) problem.demands → (i : ℕ) → i < problem.count →
+        slice_index sizes i ≤ top_minimum problem.demands i →
+        slice_index (least_sizes problem sizes) i ≤ top_minimum problem.demands i }
+    ensures same { (problem : Problem) (sizes : List ℕ) →
+        All (IsInTable problem.count) problem.demands → IsLeast problem sizes →
+        least_sizes problem sizes ≡ sizes }
+{}
+
+/// The sizes by shares, made least, are the least sizes whose boundaries are nowhere past those by shares and furthest
+/// to the right; and they are those by shares wherever these are least.
+pub fn least_by_shares()
+    ensures least { (problem : Problem) → All (IsInTable problem.count) problem.demands →
+        IsLeast problem (least_of problem) }
+    ensures total { (problem : Problem) → All (IsInTable problem.count) problem.demands →
+        sum (least_of problem) ≡ least_total problem }
+    ensures bound { (problem : Problem) → All (IsInTable problem.count) problem.demands →
+        (i : ℕ) → i < problem.count →
+        slice_index (least_of problem) i ≤ top_minimum problem.demands i }
+    ensures certified { (problem : Problem) → All (IsInTable problem.count) problem.demands →
+        IsCertificate problem (least_of problem) (critical_path problem) }
+    ensures furthest_right { (problem : Problem) (sizes : List ℕ) →
+        All (IsInTable problem.count) problem.demands →
+        AreFurthestRight problem sizes ↔ (sizes ≡ least_of problem) }
+    ensures same { (problem : Problem) → All (IsInTable problem.count) problem.demands →
+        IsLeast problem (sizes_of problem) → least_of problem ≡ sizes_of problem }
+    ensures laminar { (problem : Problem) → All (IsInTable problem.count) problem.demands →
+        IsLaminar problem.demands → least_of problem ≡ sizes_of problem }
+{}
+
+/// Some sizes fit that have a total in `usize` exactly where the least total and all lines are in it.
+pub fn least_total_decides()
+    ensures decides { (problem : Problem) → All (IsInTable problem.count) problem.demands →
+        ((sizes : List ℕ) × Fits problem sizes × (total_of problem sizes < 2 ^ 64)) ↔
+        (least_total problem + all_lines problem.line problem.count < 2 ^ 64) }
+    ensures too_large { (problem : Problem) → All (IsInTable problem.count) problem.demands →
+        IsTooLarge problem (least_of problem) ↔
+        ((other : List ℕ) → Fits problem other → IsTooLarge problem other) }
+{}
+
+/// The cells that certify the least total are those of the critical path.
+pub fn one_critical_path()
+    ensures { (problem : Problem) (cells : List Demand) →
+        All (IsInTable problem.count) problem.demands →
+        IsPathBack problem problem.count (reverse cells) ↔ (cells ≡ critical_path problem) }
+{}

@@ -1,0 +1,102 @@
+//! The least sizes of the tracks of a table, and the cells that certify them.
+
+ghost use Rattle.std.specs.Prelude.{IfOk, None, false, map, true, ◌≡◌};
+ghost use Rattle.papergrid_tracks.specs.ForProofs.Demands.{AreGathered};
+ghost use Rattle.papergrid_tracks.specs.Problem.{Problem};
+ghost use Rattle.papergrid_tracks.specs.Ranges.{place_of};
+ghost use Rattle.papergrid_tracks.specs.LeastAnswers.{IsCriticalPath};
+ghost use Rattle.papergrid_tracks.specs.ForProofs.LeastSettled.{AreLowestPositions};
+ghost use Rattle.papergrid_tracks.specs.CriticalPath.{critical_path};
+
+use crate::axis::Axis;
+use crate::critical_path::{follow, mark_tight_cells};
+use crate::demands::Demands;
+use crate::error::LayoutResult;
+use crate::least_sizes::make_least;
+use crate::lines::Lines;
+use crate::settled::{refusal, write_base};
+use crate::solution::{Solved, Solver};
+use papergrid_values::Position;
+use std::alloc::{AllocError, Global};
+
+/// The positions of the cells of the critical path, by the starts of their ranges.
+fn critical_path_places(
+    alloc: Global,
+    kept: &Demands,
+    lines: &Lines,
+    lowest_position: &[usize],
+) -> Result<Vec<Position>, AllocError>
+    requires small { kept.now.is_large ≡ false }
+    requires lowest_position { (problem : Problem)
+        × AreGathered problem.count kept.now problem.demands
+        × AreLowestPositions problem lines.now lowest_position.now }
+    ensures { (problem : Problem) → AreGathered problem.count kept.now problem.demands →
+        AreLowestPositions problem lines.now lowest_position.now →
+        IfOk result (λ places. places.items ≡ map place_of (critical_path problem)) }
+{
+    let mut tight_cells = vec![in alloc; None; lowest_position.len()]?;
+    mark_tight_cells(&mut tight_cells, lowest_position, lines, &kept.rest);
+    let mut places = follow(alloc, lowest_position, &kept.single_span, &tight_cells)?;
+    places.reverse();
+    Ok(places)
+}
+
+/// The certificate of least sizes, where it is asked for.
+fn certificate_of(
+    alloc: Global,
+    certify: bool,
+    kept: &Demands,
+    lines: &Lines,
+    lowest_position: &[usize],
+) -> Result<Option<Vec<Position>>, AllocError>
+    requires small { kept.now.is_large ≡ false }
+    requires lowest_position { (problem : Problem)
+        × AreGathered problem.count kept.now problem.demands
+        × AreLowestPositions problem lines.now lowest_position.now }
+    ensures asked { (problem : Problem) → AreGathered problem.count kept.now problem.demands →
+        AreLowestPositions problem lines.now lowest_position.now →
+        certify ≡ true → IfOk result (IsCriticalPath problem) }
+    ensures unasked { certify ≡ false → IfOk result (λ certificate. certificate ≡ None) }
+{
+    if !certify {
+        return Ok(None);
+    }
+    let places = critical_path_places(alloc, kept, lines, lowest_position)?;
+    Ok(Some(places))
+}
+
+/// With the least total: there are no sizes only where none with room for each cell come with all lines
+/// to at most the greatest `usize`. There always is a certificate.
+pub struct ByLeastTotal {}
+
+impl Solver for ByLeastTotal {
+    ghost use Rattle.papergrid_tracks.specs.Answers.{IsSolvedBy};
+    ghost use Rattle.papergrid_tracks.specs.LeastAnswers.{AreLeastSizes, NoneFits};
+
+    ghost solves = { λ certify problem solved. IsSolvedBy AreLeastSizes IsCriticalPath certify problem solved };
+
+    ghost too_large = { NoneFits };
+
+    fn solve<A: Axis>(
+        alloc: Global,
+        count: usize,
+        kept: &Demands,
+        axis: &A,
+        certify: bool,
+    ) -> LayoutResult<Solved> {
+        // A count that no memory holds is refused before it is counted up to.
+        let mut sizes = vec![in alloc; 0; count]?;
+        let lines = Lines::of(alloc, axis, count)?;
+        if let Some(error) = refusal(count, kept) {
+            return Err(error);
+        }
+        write_base(&mut sizes, &kept.single_span);
+        let limits = make_least(alloc, &lines, &mut sizes, &kept.rest)?;
+        let certificate = certificate_of(alloc, certify, kept, &lines, &limits.lowest_position)?;
+        Ok(Solved {
+            sizes,
+            total: limits.total,
+            certificate,
+        })
+    }
+}

@@ -1,0 +1,93 @@
+//! The answer for a direction of a configuration, once all cells are kept.
+
+ghost use Rattle.std.specs.Prelude.{Bool, List};
+ghost use Rattle.papergrid_tracks.specs.Answers.{AnswersWhere};
+ghost use Rattle.papergrid_tracks.specs.Problem.{Problem, problem_of_demands};
+ghost use Rattle.papergrid_tracks.specs.declared.demand.Demand.{Demand};
+ghost use Rattle.papergrid_tracks.specs.declared.solution.Solved.{Solved};
+ghost use Rattle.papergrid_tracks.specs.ForProofs.Demands.{AreGathered};
+
+use crate::axis::Axis;
+use crate::certificate::certificate_of;
+use crate::demands::Demands;
+use crate::error::{LayoutError, LayoutResult};
+use crate::growing_cells::{checked_total, grow_all};
+use crate::settled::{by_span, lines_of, refusal, write_base};
+use papergrid_values::Position;
+use std::alloc::Global;
+
+/// What a solver finds of a table along a direction: the sizes of the tracks, their total with all
+/// lines, and, where it is asked for, the certificate: the positions of the cells that show that no
+/// sizes with room for each cell have a smaller total, by the starts of their ranges.
+#[derive(Debug, Drop)]
+pub struct Solved {
+    pub sizes: Vec<usize>,
+    pub total: usize,
+    pub certificate: Option<Vec<Position>>,
+}
+
+/// A way to find sizes.
+pub trait Solver {
+    // What holds of what is found, by whether the certificate is asked for, and of what problem.
+    ghost solves: { Bool → Problem → Solved → Type 0 };
+
+    // What holds of a problem for which it is refused as too large.
+    ghost too_large: { Problem → Type 0 };
+
+    /// What the kept cells of a table of `count` tracks come to, with the lines of the axis.
+    ///
+    /// # Errors
+    ///
+    /// `OutOfTable` with the position of the first cell that overflows the table, else `TooLarge`
+    /// where the sizes that are looked for come, with all lines, to more than the greatest `usize`.
+    fn solve<A: Axis>(
+        alloc: Global,
+        count: usize,
+        kept: &Demands,
+        axis: &A,
+        certify: bool,
+    ) -> LayoutResult<Solved>
+        requires { (demands : List Demand) × AreGathered count kept.now demands }
+        ensures { (demands : List Demand) → AreGathered count kept.now demands →
+            let problem = problem_of_demands (A.line axis.now) count demands in
+            AnswersWhere too_large (solves certify) problem result };
+}
+
+/// By shares: the deficit of a cell of a longer range is distributed evenly over it. There is
+/// no certificate where two longer ranges are neither nested nor disjoint.
+pub struct ByShares {}
+
+impl Solver for ByShares {
+    ghost use Rattle.papergrid_tracks.specs.Answers.{AreSizes, IsSolvedBy, IsCertificateOrNone, NoneHolds};
+
+    ghost solves = { λ certify problem solved. IsSolvedBy AreSizes IsCertificateOrNone certify problem solved };
+
+    ghost too_large = { NoneHolds };
+
+    fn solve<A: Axis>(
+        alloc: Global,
+        count: usize,
+        kept: &Demands,
+        axis: &A,
+        certify: bool,
+    ) -> LayoutResult<Solved> {
+        // A count that no memory holds is refused before it is counted up to.
+        let mut sizes = vec![in alloc; 0; count]?;
+        let lines = lines_of(alloc, axis, count)?;
+        if let Some(error) = refusal(count, kept) {
+            return Err(error);
+        }
+        write_base(&mut sizes, &kept.single_span);
+        let cells = by_span(alloc, count, &kept.rest)?;
+        let growing_cells = grow_all(alloc, &mut sizes, &lines, &cells)?;
+        let Some(total) = checked_total(&sizes, &lines) else {
+            return Err(LayoutError::TooLarge);
+        };
+        let certificate = certificate_of(alloc, certify, kept, &sizes, &cells, &growing_cells)?;
+        Ok(Solved {
+            sizes,
+            total,
+            certificate,
+        })
+    }
+}

@@ -1,4 +1,0 @@
-pub mod AnswerLemmas
-pub mod CertificateLemmas
-pub mod RowLemmas
-pub mod WrittenLemmas
