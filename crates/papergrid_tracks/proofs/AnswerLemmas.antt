@@ -1,30 +1,31 @@
 -- What is made of the kept cells is the answer for the problem.
 use Rattle.std.proofs.Common.{◌≡◌, ℕ, ◌+◌, ◌-◌, ◌<◌, ◌≤◌, ◌∙◌, min, Bool, false, List, length, get_or, fold, sum, take, map, sym, ap, subst, arith}
-use Rattle.std.specs.Prelude.{All, None}
+use Rattle.std.specs.Prelude.{All, None, Option, Some, Vec}
 use Rattle.std.proofs.lemmas.List.FromFn.{fill_by_all, get_or-map-range_with_len, length-map-range_with_len}
 use Rattle.papergrid_values.specs.Lines.{all_lines}
+use Rattle.papergrid_values.specs.declared.position.Position.{Position}
 use Rattle.papergrid_tracks.specs.declared.demand.Demand.{Demand}
 use Rattle.papergrid_tracks.specs.declared.error.LayoutError.{LayoutError}
 use Rattle.papergrid_tracks.specs.declared.error.LayoutError.TheVariants.{OutOfTable, TooLarge, Memory}
 use Rattle.papergrid_tracks.specs.declared.demands.Demands.{Demands}
 use Rattle.papergrid_tracks.specs.Answers.{IsRefusedWhere}
 use Rattle.papergrid_tracks.specs.Fits.{Fits, IsTooLarge}
-use Rattle.papergrid_tracks.specs.ForProofs.Demands.{AreGathered, no_demand}
+use Rattle.papergrid_tracks.specs.ForProofs.Demands.{AreGathered, StandInOrder, no_demand}
 use Rattle.papergrid_tracks.specs.ForProofs.Settled.{IsLargeInside, line_at}
-use Rattle.papergrid_tracks.specs.Problem.{problem_of_demands, total_of}
+use Rattle.papergrid_tracks.specs.Problem.{Problem, problem_of_demands, total_of}
 use Rattle.papergrid_tracks.specs.Ranges.{IsInTable, first_out}
 use Rattle.papergrid_tracks.specs.Sizes.{base_sizes, grown_sizes, sizes_of, by_span}
 use Rattle.papergrid_tracks.proofs.DrawnLemmas.{lines-drawn, sizes-drawn}
 use Rattle.papergrid_tracks.proofs.OutLemmas.{large_any, out_kept, table_demands}
 use Rattle.papergrid_tracks.proofs.DemandLemmas.{base-kept, by_span-kept}
 use Rattle.papergrid_tracks.specs.declared.limits.Limits.{Limits}
-use Rattle.papergrid_tracks.specs.LeastAnswers.{AreLeastSizes, NoneFits}
+use Rattle.papergrid_tracks.specs.LeastAnswers.{AreLeastSizes, IsCriticalPath, NoneFits}
 use Rattle.papergrid_tracks.specs.LowestPositions.{lowest_position}
 use Rattle.papergrid_tracks.specs.TrackBoundaries.{net_minimum, boundaries_of, sizes_between}
 use Rattle.papergrid_tracks.specs.Least.{highest_position, least_of}
 use Rattle.papergrid_tracks.specs.ForProofs.Laid.{AreLaid, with_net_minimum}
 use Rattle.papergrid_tracks.specs.ForProofs.Limits.{AreLimits, AreLowestBoundaries, AreHighestBoundaries, Refuses}
-use Rattle.papergrid_tracks.specs.ForProofs.LeastSettled.{AreLowestPositions}
+use Rattle.papergrid_tracks.specs.ForProofs.LeastSettled.{AreLowestPositions, IsCriticalPathInOrder}
 use Rattle.papergrid_tracks.proofs.BoundaryLemmas.{AreBoundaries-boundaries_of, take_whole}
 use Rattle.papergrid_tracks.proofs.LeastLemmas.{AreLeastSizes-least_of, NoneFits-by_all, total-least_of}
 use Rattle.papergrid_tracks.proofs.LeastDemandLemmas.{AreLaid-from_boundaries, lowest_position-is, highest_position-is, longer_asking}
@@ -152,3 +153,9 @@ module _ (line : ℕ → Bool) (n : ℕ) (kept : Demands) (demands : List Demand
         many = are.lowest_position.one_more ∙ ap (λ k. k + 1) many;
         boundary_at = lowest_position-is line drawn n is_kept.limit demands agree table is_kept.below base base_is many limits.lowest_position.items lowest_position-asking;
       }
+
+-- where the demands stand in order, these are the places that certify the least sizes
+pub IsCriticalPath-in_order : {Z : Type 0} (problem : Problem) (certificate : Option (Vec Position Z)) → StandInOrder problem.demands →
+    IsCriticalPathInOrder problem certificate → IsCriticalPath problem certificate
+IsCriticalPath-in_order problem None ordered none = none
+IsCriticalPath-in_order problem (Some places) ordered critical_path = critical_path ordered

@@ -6,7 +6,7 @@ use Rattle.std.proofs.lemmas.List.{get_or_past, map-append, reverse-append}
 use Rattle.std.proofs.lemmas.List.Elements.{All-contains, All-contains_itself, All-filter, recursion_from_All}
 use Rattle.papergrid_tracks.specs.declared.demand.Demand.{Demand}
 use Rattle.papergrid_tracks.specs.declared.demands.Demands.{Demands}
-use Rattle.papergrid_tracks.specs.ForProofs.Demands.{AreGathered, first_greatest, is_single, no_demand, rest_of}
+use Rattle.papergrid_tracks.specs.ForProofs.Demands.{AreGathered, StandInOrder, first_greatest, is_single, no_demand, rest_of}
 use Rattle.papergrid_tracks.specs.ForProofs.Settled.{line_at}
 use Rattle.papergrid_tracks.specs.Problem.{Problem}
 use Rattle.papergrid_tracks.specs.Ranges.{IsInTable, end_of, inner_lines, place_of}
@@ -115,12 +115,12 @@ module _ (problem : Problem) (kept : Demands) (is : AreGathered problem.count ke
             let many : length boundaries ≡ problem.count + 1 = are.many in
             omega arith
 
-    pub critical_path-met : reverse (map place_of (followed_cells boundary (kept_single kept.single_span.items) (kept_longer tight_cells) (length boundaries - 1) (length boundaries - 1))) ≡ map place_of (critical_path problem)
-    critical_path-met =
+    pub critical_path-met : StandInOrder problem.demands → reverse (map place_of (followed_cells boundary (kept_single kept.single_span.items) (kept_longer tight_cells) (length boundaries - 1) (length boundaries - 1))) ≡ map place_of (critical_path problem)
+    critical_path-met in_order =
         let many : length boundaries ≡ problem.count + 1 = are.many in
         let last : length boundaries - 1 ≡ problem.count = omega arith in
         ap (λ k. reverse (map place_of (followed_cells boundary (kept_single kept.single_span.items) (kept_longer tight_cells) k k))) last
         ∙ ap (λ ds. reverse (map place_of ds))
-        (followed-is problem.line drawn problem.count is.limit problem.demands are.drawn are.table is.below is.from_limit is.in_order boundary are.boundary_at (kept_single kept.single_span.items) (is.held.single_span small)
+        (followed-is problem.line drawn problem.count is.limit problem.demands are.drawn are.table is.below is.from_limit in_order boundary are.boundary_at (kept_single kept.single_span.items) (is.held.single_span small)
         (kept_longer tight_cells) (λ i l. first i (omega arith) ∙ ap (find (is_tight_by (net_minimum drawn) boundary i)) exact) problem.count problem.count (omega arith))
         ∙ reverse-places (path (net_minimum problem.line) problem.demands problem.count problem.count)

@@ -1,11 +1,10 @@
 //! The least sizes of the tracks of a table, and the cells that certify them.
 
 ghost use Rattle.std.specs.Prelude.{IfOk, None, false, map, true, ◌≡◌};
-ghost use Rattle.papergrid_tracks.specs.ForProofs.Demands.{AreGathered};
+ghost use Rattle.papergrid_tracks.specs.ForProofs.Demands.{AreGathered, StandInOrder};
 ghost use Rattle.papergrid_tracks.specs.Problem.{Problem};
 ghost use Rattle.papergrid_tracks.specs.Ranges.{place_of};
-ghost use Rattle.papergrid_tracks.specs.LeastAnswers.{IsCriticalPath};
-ghost use Rattle.papergrid_tracks.specs.ForProofs.LeastSettled.{AreLowestPositions};
+ghost use Rattle.papergrid_tracks.specs.ForProofs.LeastSettled.{AreLowestPositions, IsCriticalPathInOrder};
 ghost use Rattle.papergrid_tracks.specs.CriticalPath.{critical_path};
 
 use crate::axis::Axis;
@@ -31,7 +30,7 @@ fn critical_path_places(
         × AreGathered problem.count kept.now problem.demands
         × AreLowestPositions problem lines.now lowest_position.now }
     ensures { (problem : Problem) → AreGathered problem.count kept.now problem.demands →
-        AreLowestPositions problem lines.now lowest_position.now →
+        AreLowestPositions problem lines.now lowest_position.now → StandInOrder problem.demands →
         IfOk result (λ places. places.items ≡ map place_of (critical_path problem)) }
 {
     let mut tight_cells = vec![in alloc; None; lowest_position.len()]?;
@@ -55,7 +54,7 @@ fn certificate_of(
         × AreLowestPositions problem lines.now lowest_position.now }
     ensures asked { (problem : Problem) → AreGathered problem.count kept.now problem.demands →
         AreLowestPositions problem lines.now lowest_position.now →
-        certify ≡ true → IfOk result (IsCriticalPath problem) }
+        certify ≡ true → IfOk result (IsCriticalPathInOrder problem) }
     ensures unasked { certify ≡ false → IfOk result (λ certificate. certificate ≡ None) }
 {
     if !certify {
@@ -73,7 +72,9 @@ impl Solver for ByLeastTotal {
     ghost use Rattle.papergrid_tracks.specs.Answers.{IsSolvedBy};
     ghost use Rattle.papergrid_tracks.specs.LeastAnswers.{AreLeastSizes, NoneFits};
 
-    ghost solves = { λ certify problem solved. IsSolvedBy AreLeastSizes IsCriticalPath certify problem solved };
+    // What certifies them is told where the demands stand by row and then by column.
+    ghost solves = { λ certify problem solved.
+        IsSolvedBy AreLeastSizes IsCriticalPathInOrder certify problem solved };
 
     ghost too_large = { NoneFits };
 

@@ -114,5 +114,4 @@ module _ {C : Type 0} where
     held = held;
     from_limit = le;
     below = below-limit direction grid measure columns rows;
-    in_order = in_order-demands direction grid measure rows;
   }

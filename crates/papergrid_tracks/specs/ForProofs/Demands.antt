@@ -54,11 +54,10 @@ AddsDemands old new further = (limit : ℕ) (demands : List Demand) → HoldsDem
 abbrev pub StandInOrder : List Demand → Type 0
 StandInOrder demands = AllPairs (λ d e. IsBefore (place_of d) (place_of e)) demands
 
--- these are the demands of a table of n tracks, in order, and they were kept by a limit that tells which of those that cover
--- one track alone are in the table
+-- these are the demands of a table of n tracks, and they were kept by a limit that tells which of those that cover one track
+-- alone are in the table
 pub record AreGathered (n : ℕ) (kept : Demands) (demands : List Demand) : Type 0 where
   pub limit : ℕ
   pub held : HoldsDemands limit kept demands
   pub from_limit : n ≤ limit
   pub below : All (λ d. is_single limit d ≡ true → d.start < n) demands
-  pub in_order : StandInOrder demands

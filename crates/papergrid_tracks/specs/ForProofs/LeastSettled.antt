@@ -1,11 +1,14 @@
 -- What is known of the lowest positions of the boundaries once the sizes are least.
-use Rattle.std.specs.Prelude.{◌≡◌, ℕ, ◌+◌, ◌^◌, ◌<◌, ◌≤◌, Bool, List, None, length, slice_index, All}
+use Rattle.std.specs.Prelude.{◌≡◌, ℕ, ◌+◌, ◌^◌, ◌<◌, ◌≤◌, Bool, List, None, Option, Some, Vec, length, slice_index, All}
+use Rattle.papergrid_values.specs.declared.position.Position.{Position}
+use Rattle.papergrid_tracks.specs.ForProofs.Demands.{StandInOrder}
 use Rattle.papergrid_tracks.specs.ForProofs.Settled.{line_at}
 use Rattle.papergrid_tracks.specs.Problem.{Problem, total_of}
 use Rattle.papergrid_tracks.specs.Ranges.{IsInTable, first_out}
 use Rattle.papergrid_tracks.specs.LowestPositions.{lowest_position}
 use Rattle.papergrid_tracks.specs.TrackBoundaries.{net_minimum}
 use Rattle.papergrid_tracks.specs.Least.{least_of}
+use Rattle.papergrid_tracks.specs.LeastAnswers.{AreCriticalPath}
 
 -- the lines and the lowest positions of the boundaries of a problem whose least total fits
 pub record AreLowestPositions (problem : Problem) (lines : List Bool) (boundaries : List ℕ) : Type 0 where
@@ -17,3 +20,8 @@ pub record AreLowestPositions (problem : Problem) (lines : List Bool) (boundarie
   pub many : length boundaries ≡ problem.count + 1
   pub boundary_at : (i : ℕ) → i ≤ problem.count →
       slice_index boundaries i ≡ lowest_position (net_minimum problem.line) problem.demands i
+
+-- the places of cells, of which there always are some, and which certify the least sizes where the demands stand in order
+abbrev pub IsCriticalPathInOrder : {Z : Type 0} → Problem → Option (Vec Position Z) → Type 0
+IsCriticalPathInOrder problem None = ⊥
+IsCriticalPathInOrder problem (Some places) = StandInOrder problem.demands → AreCriticalPath problem places.items
