@@ -17,8 +17,8 @@ use Rattle.papergrid.specs.contracts.running.RunEndPartialEq.TheImpl as run_end
 use Rattle.papergrid.specs.declared.running.RunFault.{RunFault}
 use Rattle.papergrid.specs.declared.running.RunFault.TheVariants.{Memory, Read, Write}
 use Rattle.papergrid.specs.contracts.running.RunFaultPartialEq.TheImpl as run_fault
-use Rattle.papergrid.specs.declared.transfer.Failed.{Failed}
-use Rattle.papergrid.specs.contracts.transfer.FailedPartialEq.TheImpl as failed
+use Rattle.papergrid_draw.specs.declared.transfer.Failed.{Failed}
+use Rattle.papergrid_draw.specs.contracts.transfer.FailedPartialEq.TheImpl as failed
 
 -- ---- how sizes are chosen
 

@@ -5,7 +5,6 @@ mod EqualLemmas
 mod EscapeLemmas
 mod EstimateLemmas
 mod GridLemmas
-mod KnownLemmas
 mod LawLemmas
 mod LineLemmas
 mod ListedLemmas

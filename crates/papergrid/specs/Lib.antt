@@ -12,5 +12,4 @@ pub mod Spelling
 pub mod Tells
 pub mod Texts
 pub mod Totals
-pub mod Transfer
 pub mod ForProofs

@@ -12,7 +12,7 @@ ghost use Rattle.papergrid_layout.specs.declared.sizing.Sizing.TheVariants.{BySh
 ghost use Rattle.papergrid.specs.declared.explained.Reason.{Reason};
 ghost use Rattle.papergrid.specs.declared.running.RunEnd.{RunEnd};
 ghost use Rattle.papergrid.specs.declared.running.RunFault.{RunFault};
-ghost use Rattle.papergrid.specs.declared.transfer.Failed.{Failed};
+ghost use Rattle.papergrid_draw.specs.declared.transfer.Failed.{Failed};
 ghost use Rattle.papergrid.specs.Estimates.{OutOfTable, Sized, TooLarge, estimate_of, text_measure};
 ghost use Rattle.papergrid.specs.Grids.{grid_of};
 ghost use Rattle.papergrid.specs.Outputs.{end_by, output_by};
@@ -29,7 +29,7 @@ ghost use Rattle.papergrid.specs.Tells.{IsBad, IsFirstBad, Tells};
 
 use crate::explained::Reason;
 use crate::running::{RunEnd, RunFault};
-use crate::transfer::Failed;
+use papergrid_draw::transfer::Failed;
 use papergrid_layout::Sizing;
 
 /// What the worked scripts give, by the definitions alone.

@@ -15,14 +15,13 @@ mod script_line;
 pub mod script_setting;
 mod setting_line;
 mod table_layout;
-mod transfer;
 mod unescape;
 
 pub use explained::{Reason, explain};
+pub use papergrid_draw::transfer::{Failed, ReadSource, Sink, Source, WriteSink};
 pub use papergrid_layout::{Sizing, Table};
 pub use running::{RunEnd, RunFault, run, run_keeping, run_least};
 pub use table_layout::{layout, layout_least};
-pub use transfer::{Failed, ReadSource, Sink, Source, WriteSink};
 
 /// Colours as texts.
 pub mod ansi {
@@ -84,6 +83,13 @@ pub mod dimension {
     pub mod peekable {
         pub use papergrid_layout::PeekableGridDimension;
     }
+}
+
+/// The table, drawn.
+pub mod grid {
+    pub use papergrid_draw::DrawError;
+    pub use papergrid_draw::printer::draw_cells;
+    pub use papergrid_draw::source::Cells;
 }
 
 /// Rows of cells.

@@ -13,8 +13,8 @@ use crate::estimate::{Sizes, estimate};
 use crate::output::{bad_script_text, out_of_table_text, sizes_text, too_large_text};
 use crate::script::{Script, ScriptError, read_script};
 use crate::script_setting::configuration_of;
-use crate::transfer::{Failed, Sink, Source};
 use bumpalo::Bump;
+use papergrid_draw::transfer::{Sink, Source, write_all};
 use papergrid_layout::{LayoutError, Sizing};
 use papergrid_text::IterRecords;
 use std::alloc::{AllocError, Global};
@@ -77,27 +77,6 @@ fn read_all<S: Source>(alloc: Global, reader: &mut S) -> Result<Vec<u8>, RunFaul
         }
     }
     Err(RunFault::Memory)
-}
-
-/// Writes all the bytes.
-fn write_all<W: Sink>(writer: &mut W, bytes: &[u8]) -> Result<(), Failed>
-    ensures ok { OnOk result (Appends (W.contents writer.old) (W.contents writer.new) bytes.now) }
-    ensures works { OnOk result (W.has_failed writer.new ≡ W.has_failed writer.old) }
-    ensures moves { OnOk result (W.has_stalled writer.new ≡ W.has_stalled writer.old) }
-    ensures beginning { OnErr result ((n : ℕ)
-        × Appends (W.contents writer.old) (W.contents writer.new) (take n bytes.now)) }
-    ensures failed { OnErr result ((W.has_failed writer.new ≡ true)
-        ⊎ (W.has_stalled writer.old ≡ false → W.has_stalled writer.new ≡ true)) }
-{
-    let mut at = 0;
-    while at < bytes.len() {
-        let count = writer.write(&bytes[at..])?;
-        if count == 0 {
-            return Err(Failed);
-        }
-        at += count;
-    }
-    Ok(())
 }
 
 /// How the run of an input ends, and what is written.

@@ -10,7 +10,6 @@ use Rattle.papergrid_values.specs.declared.direction.Direction.TheVariants.{Colu
 use Rattle.papergrid_values.specs.declared.position.Position.{Position}
 use Rattle.papergrid_tracks.specs.declared.error.LayoutError.{LayoutError}
 use Rattle.papergrid_tracks.specs.declared.error.LayoutError.TheVariants as layout_error
-use Rattle.papergrid_maps.specs.declared.anchors.Anchor.{Anchor}
 use Rattle.papergrid_walk.specs.ForProofs.Shown.{anchor_in}
 use Rattle.papergrid_layout.specs.Places.{ArePlacesRefused, EndsWithin, IsFirstOver, TableView, line_offset, offset, place_at, total, total_along}
 use Rattle.papergrid_layout.specs.Tables.{AreNotPlacedIn, IsPlacedIn}
@@ -68,12 +67,12 @@ both-fit table wide high Rows = high
 module _ (table : TableView) (fit : (direction : Direction) → total_along table direction < 2 ^ 64) where
   -- ---- places
 
-  -- a visible position has the place that was found for it, or overflows the table
-  pub placed-in : (p : Position) (anchor : Anchor) (found : Option Place) → table.grid.shows p ≡ true → anchor ≡ anchor_in table.grid p →
-      SomeIff found ((anchor.position.col + anchor.cols ≤ table.shape.1) × (anchor.position.row + anchor.rows ≤ table.shape.0)) (place_at table anchor.position) →
+  -- a visible position has the screen rectangle that was found for it, or overflows the table
+  pub placed-in : (p : Position) (found : Option Place) → table.grid.shows p ≡ true →
+      SomeIff found ((p.col + table.grid.span Columns p ≤ table.shape.1) × (p.row + table.grid.span Rows p ≤ table.shape.0)) (place_at table p) →
       IsPlacedIn table p (ok_or found OutOfTable)
-  placed-in p anchor None visible e none = (is-out table p anchor visible e none, λ same. cc)
-  placed-in p anchor (Some place) visible e found = (has-found table p anchor place fit visible e found, λ same. cc)
+  placed-in p None visible none = (is-out table p (anchor_in table.grid p) visible refl none, λ same. cc)
+  placed-in p (Some place) visible found = (has-found table p (anchor_in table.grid p) place fit visible refl found, λ same. cc)
 
   -- which ends within the totals
   pub placed-within : (p : Position) (answer : Result Place PlaceError) → IsPlacedIn table p answer → IfOk answer (EndsWithin table)

@@ -1,12 +1,13 @@
 //! A table as one value: a configuration with the sizes of its columns and rows.
 
-ghost use Rattle.std.specs.Prelude.{◌≡◌, ◌<◌, ◌↔◌, ◌⊎◌, ◌&&◌, [], List, All, IfErr, IfOk, IsTrue, length, nat_le};
+ghost use Rattle.std.specs.Prelude.{◌≡◌, ◌+◌, ◌<◌, ◌≤◌, ◌↔◌, ◌⊎◌, ◌&&◌, [], List, All, IfErr, IfOk, IsTrue, length, nat_le};
+ghost use Rattle.std.specs.Option.{SomeIff};
 ghost use Rattle.std.specs.Result.{IsOkAnd};
 ghost use Rattle.papergrid_values.specs.declared.direction.Direction.{Direction};
 ghost use Rattle.papergrid_values.specs.declared.direction.Direction.TheVariants.{Columns, Rows};
 ghost use Rattle.papergrid_walk.specs.Measures.{line_measure};
 ghost use Rattle.papergrid_layout.specs.Answers.{UnlessMemory};
-ghost use Rattle.papergrid_layout.specs.Places.{EndsWithin, HaveAllPlaces, IsFirstOver, IsTrackAt, StandsOver, total_along, track_count, track_line, track_size};
+ghost use Rattle.papergrid_layout.specs.Places.{EndsWithin, HaveAllPlaces, IsFirstOver, IsTrackAt, StandsOver, place_at, total_along, track_count, track_line, track_size};
 ghost use Rattle.papergrid_layout.specs.Tables.{AreNotPlacedIn, IsPlacedIn, IsTable, IsTableOf, line_position, view_of};
 
 use crate::cell_rects::places;
@@ -166,6 +167,29 @@ impl<'a> Table<'a> {
         self.totals.rows
     }
 
+    /// The configuration.
+    pub fn config(&self) -> &'a SpannedConfig
+        ensures { result.now ≡ self.now.config }
+    {
+        self.config
+    }
+
+    /// The screen rectangle of the cell at a position by its spans, if it ends within the table, whether the
+    /// position is visible or not.
+    pub fn rectangle(&self, position: Position) -> Option<Place>
+        ensures { let table = view_of self.now in SomeIff result
+            ((position.col + table.grid.span Columns position ≤ table.shape.1)
+            × (position.row + table.grid.span Rows position ≤ table.shape.0))
+            (place_at table position) }
+    {
+        let anchor = Anchor {
+            position,
+            rows: self.config.span(Direction::Rows, position),
+            cols: self.config.span(Direction::Columns, position),
+        };
+        place_of(&self.marks, anchor)
+    }
+
     /// The screen rectangle of the cell at a position.
     ///
     /// # Errors
@@ -179,12 +203,7 @@ impl<'a> Table<'a> {
         if !self.config.is_visible(position) {
             return Err(PlaceError::Hidden);
         }
-        let anchor = Anchor {
-            position,
-            rows: self.config.span(Direction::Rows, position),
-            cols: self.config.span(Direction::Columns, position),
-        };
-        place_of(&self.marks, anchor).ok_or(PlaceError::OutOfTable)
+        self.rectangle(position).ok_or(PlaceError::OutOfTable)
     }
 
     /// All visible cells with their screen rectangles, by row and then by column.

@@ -1,9 +1,9 @@
 //! Readers and writers that tell their bytes, and whether they have failed.
 
-ghost use Rattle.std.specs.Prelude.{◌≡◌, ℕ, List, Bool, Option, false};
+ghost use Rattle.std.specs.Prelude.{◌≡◌, ◌⊎◌, ℕ, List, Bool, OnErr, OnOk, Option, false, take, true};
 ghost use Rattle.std.specs.Io.{ReadsAtMost, WritesAtMost};
-ghost use Rattle.std.specs.Io.KnownBytes.{ReadConsumes, WriteAppends};
-ghost use Rattle.papergrid.specs.Transfer.{failed_after, stalled_after};
+ghost use Rattle.std.specs.Io.KnownBytes.{Appends, ReadConsumes, WriteAppends};
+ghost use Rattle.papergrid_draw.specs.Transfer.{failed_after, stalled_after};
 
 use std::io::{Read, Write};
 
@@ -133,4 +133,25 @@ impl<W: Write> Sink for WriteSink<W> {
             }
         }
     }
+}
+
+/// Writes all the bytes.
+pub fn write_all<W: Sink>(writer: &mut W, bytes: &[u8]) -> Result<(), Failed>
+    ensures ok { OnOk result (Appends (W.contents writer.old) (W.contents writer.new) bytes.now) }
+    ensures works { OnOk result (W.has_failed writer.new ≡ W.has_failed writer.old) }
+    ensures moves { OnOk result (W.has_stalled writer.new ≡ W.has_stalled writer.old) }
+    ensures beginning { OnErr result ((n : ℕ)
+        × Appends (W.contents writer.old) (W.contents writer.new) (take n bytes.now)) }
+    ensures failed { OnErr result ((W.has_failed writer.new ≡ true)
+        ⊎ (W.has_stalled writer.old ≡ false → W.has_stalled writer.new ≡ true)) }
+{
+    let mut at = 0;
+    while at < bytes.len() {
+        let count = writer.write(&bytes[at..])?;
+        if count == 0 {
+            return Err(Failed);
+        }
+        at += count;
+    }
+    Ok(())
 }

@@ -1,0 +1,47 @@
+-- Why a table is not drawn, by what was found.
+use Rattle.std.proofs.Common.{◌≡◌, ◌⊎◌, ◌^◌, ◌<◌, ◌≤◌, ℕ, inl, inr, Option, Some, None, Result, Ok, Err, sym, subst}
+use Rattle.std.specs.Option.{SomeIff, ok_or}
+use Rattle.std.proofs.lemmas.Bool.{cases_lt}
+use Rattle.papergrid_draw.specs.Drawings.{Drawing, layout_of}
+use Rattle.papergrid_draw.specs.Faults.{AllHaveRoom, whole_height}
+use Rattle.papergrid_draw.specs.Margins.{whole_width}
+use Rattle.papergrid_draw.specs.Tiles.{IsTileFault, IsTiled}
+use Rattle.papergrid_draw.specs.ForProofs.Sheets.{IsRefusal, IsRoomFault}
+use Rattle.papergrid_draw.specs.declared.error.DrawError.{DrawError}
+use Rattle.papergrid_draw.specs.declared.error.DrawError.TheVariants.{Memory, NoRoom, NotTiled, OutOfTable, TooLarge, Write}
+
+pub tile-refusal : (d : Drawing) (e : DrawError) → IsTileFault (layout_of d) e → IsRefusal d e
+tile-refusal d (OutOfTable p) is = (is, λ same. cc)
+tile-refusal d (NotTiled p) is = (is, λ same. cc)
+tile-refusal d (NoRoom p) is = absurd is
+tile-refusal d TooLarge is = absurd is
+tile-refusal d (Memory e) is = (tt, λ same. cc)
+tile-refusal d Write is = absurd is
+
+pub room-refusal : (d : Drawing) (e : DrawError) → IsTiled (layout_of d) → IsRoomFault d e → IsRefusal d e
+room-refusal d (OutOfTable p) tiled is = absurd is
+room-refusal d (NotTiled p) tiled is = absurd is
+room-refusal d (NoRoom p) tiled is = ((tiled, is), λ same. cc)
+room-refusal d TooLarge tiled is = absurd is
+room-refusal d (Memory e) tiled is = (tt, λ same. cc)
+room-refusal d Write tiled is = absurd is
+
+-- no width was found
+pub large-refusal : (d : Drawing) (found : Option ℕ) (e : DrawError) → IsTiled (layout_of d) → AllHaveRoom d →
+    SomeIff found ((whole_width d < 2 ^ 64) × (whole_height d < 2 ^ 64)) (whole_width d) → Err e ≡ ok_or found TooLarge → IsRefusal d e
+large-refusal d None e tiled room none at =
+    let same : TooLarge ≡ e = cc in
+    let large : (2 ^ 64 ≤ whole_width d) ⊎ (2 ^ 64 ≤ whole_height d) = elim (cases_lt (whole_width d) (2 ^ 64)) [
+      | inl narrow ↦ elim (cases_lt (whole_height d) (2 ^ 64)) [
+        | inl low ↦ absurd (none (narrow, low))
+        | inr high ↦ inr high
+      ]
+      | inr wide ↦ inl wide
+    ] in
+    subst (IsRefusal d) same ((tiled, room, large), λ other. cc)
+large-refusal d (Some n) e tiled room some at = absurd (cc)
+
+-- the width that was found
+pub width-found : (found : Option ℕ) (whole n : ℕ) (P : Type 0) → SomeIff found P whole → ◌≡◌ {A = Result ℕ DrawError} (Ok n) (ok_or found TooLarge) → n ≡ whole
+width-found None whole n P none at = absurd (cc)
+width-found (Some m) whole n P some at = let same : n ≡ m = cc in subst (λ k. k ≡ whole) (sym same) some.1

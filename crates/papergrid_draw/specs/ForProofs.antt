@@ -1,0 +1,7 @@
+-- What only proofs and contracts of private functions speak of.
+pub mod Blocks
+pub mod Looks
+pub mod Pages
+pub mod Pens
+pub mod Sheets
+pub mod Tiles

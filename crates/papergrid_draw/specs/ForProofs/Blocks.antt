@@ -1,0 +1,25 @@
+-- A cell as it is kept while it is drawn.
+use Rattle.std.specs.Prelude.{◌≡◌, ◌+◌, ◌<◌, ◌≤◌, ◌^◌, ℕ, Bool, List, [], Option, Some, None, drop, length, reverse, take}
+use Rattle.papergrid_draw.specs.Contents as contents
+use Rattle.papergrid_draw.specs.Contents.{above, block_width, from_text, shown_lines}
+
+-- the lines of a cell, none where there is no cell
+abbrev pub lines_of : {T : Type 0} → (T → List (List ℕ × ℕ)) → Option T → List (List ℕ × ℕ)
+lines_of lines None = []
+lines_of lines (Some cell) = lines cell
+
+-- the lines up to the last that is not blank
+abbrev pub to_text : List (List ℕ × ℕ) → List (List ℕ × ℕ)
+to_text lines = reverse (from_text (reverse lines))
+
+-- of the lines so many are shown, from this one on
+pub record IsShownRange (trims : Bool) (lines : List (List ℕ × ℕ)) (first count : ℕ) : Type 0 where
+  pub are : take count (drop first lines) ≡ shown_lines trims lines
+  pub within : first + count ≤ length lines
+  pub fits : first + count < 2 ^ 64
+
+-- what is found of a block: from which line on how many are shown, how many stand above, and the greatest width
+pub record IsFound (b : contents.Block) (first count lines_above width : ℕ) : Type 0 where
+  pub shown : IsShownRange b.look.formatting.vertical_trim b.lines first count
+  pub above_is : lines_above ≡ above b
+  pub widest : width ≡ block_width b.look.formatting.horizontal_trim b.lines

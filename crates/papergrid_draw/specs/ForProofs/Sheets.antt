@@ -1,0 +1,153 @@
+-- The lines of a table as they are written.
+use Rattle.std.specs.Prelude.{◌≡◌, ◌≢◌, ◌⊎◌, ◌+◌, ◌<◌, ◌≤◌, ℕ, Bool, false, true, if◌then◌else◌, List, [], ◌∷◌, ◌++◌, Option, Result, Ok, Err, OnOk, length, map, take, ⊤}
+use Rattle.std.specs.Io.KnownBytes.{Appends}
+use Rattle.std.specs.List.{enumerate_from, range_with_len}
+use Rattle.std.specs.declared.alloc.AllocError.{AllocError}
+use Rattle.papergrid_values.specs.Positions.{IsBefore, position_of}
+use Rattle.papergrid_values.specs.declared.direction.Direction.TheVariants.{Rows}
+use Rattle.papergrid_values.specs.declared.position.Position.{Position}
+use Rattle.papergrid_layout.specs.Places.{total_along}
+use Rattle.papergrid_layout.specs.Tables.{TableParts, view_of}
+use Rattle.papergrid_draw.specs.Bytes.{line_bytes}
+use Rattle.papergrid_draw.specs.Drawings.{Drawing, layout_of}
+use Rattle.papergrid_draw.specs.Drawn.{DrawnLine, TextLine, text_line}
+use Rattle.papergrid_draw.specs.Faults.{HasNoRoom, IsDrawFault}
+use Rattle.papergrid_draw.specs.Margins.{beside, whole_width, with_margins}
+use Rattle.papergrid_draw.specs.Tiles.{IsFirstPosition, IsTiled}
+use Rattle.papergrid_draw.specs.ForProofs.Pages.{AreSet, AreSlots, IsFrame, Texts, drawing_of, row_start, text_start}
+use Rattle.papergrid_draw.specs.declared.error.DrawError.{DrawError}
+use Rattle.papergrid_draw.specs.declared.error.DrawError.TheVariants.{Memory, NoRoom, Write}
+use Rattle.papergrid_draw.specs.declared.page.Frame.{Frame}
+use Rattle.papergrid_draw.specs.declared.page.Slot.{Slot}
+use Rattle.papergrid_draw.specs.declared.sheet.Sheet.{Sheet}
+
+-- ---- lines one after the other
+
+-- what a line begins with: a line feed, if it is not the first
+abbrev pub separator : Bool → List ℕ
+separator begun = if begun then 10 ∷ [] else []
+
+-- the bytes of lines, where others may stand before them
+abbrev pub lines_after : Bool → List (List ℕ) → List ℕ
+lines_after begun [] = []
+lines_after begun (line ∷ lines) = separator begun ++ line ++ lines_after true lines
+
+-- whether any line stands there after them
+abbrev pub begun_after : Bool → List (List ℕ) → Bool
+begun_after begun [] = begun
+begun_after begun (line ∷ lines) = true
+
+-- ---- what is written
+
+-- what a sink tells: the bytes that it took, where they are known, and whether it has failed or stalled
+pub record Output : Type 0 where
+  pub contents : Option (List ℕ)
+  pub has_failed : Bool
+  pub has_stalled : Bool
+
+-- of a sink
+abbrev pub output_of : {W : Type 0} → (W → Option (List ℕ)) → (W → Bool) → (W → Bool) → W → Output
+output_of contents has_failed has_stalled sink = record {
+  contents = contents sink;
+  has_failed = has_failed sink;
+  has_stalled = has_stalled sink;
+}
+
+-- all the bytes were taken
+pub record IsWritten (old new : Output) (bytes : List ℕ) : Type 0 where
+  pub taken : Appends old.contents new.contents bytes
+  pub works : new.has_failed ≡ old.has_failed
+  pub moves : new.has_stalled ≡ old.has_stalled
+
+-- what can be known of a sink that did not take all
+abbrev pub HasEnded : Output → Output → Type 0
+HasEnded old new = (new.has_failed ≡ true) ⊎ (old.has_stalled ≡ false → new.has_stalled ≡ true)
+
+-- some of their first were, and then an allocation failed, or the sink
+pub record IsCutOff (old new : Output) (bytes : List ℕ) (error : DrawError) : Type 0 where
+  pub beginning : (n : ℕ) × Appends old.contents new.contents (take n bytes)
+  pub fault : ((error ≡ Write) × HasEnded old new) ⊎ ((e : AllocError) × (error ≡ Memory e))
+
+-- one or the other
+abbrev pub Writes : {A : Type 0} → Output → Output → List ℕ → Result A DrawError → Type 0
+Writes old new bytes (Ok x) = IsWritten old new bytes
+Writes old new bytes (Err error) = IsCutOff old new bytes error
+
+-- lines are written, before which others may stand
+pub record WritesLines {A : Type 0} (old new : Output) (begun after : Bool) (lines : List (List ℕ))
+    (result : Result A DrawError) : Type 0 where
+  pub bytes : Writes old new (lines_after begun lines) result
+  pub begun_is : OnOk result (after ≡ begun_after begun lines)
+
+-- ---- the lines of a table
+
+-- what is told of cells
+abbrev pub texts_of : {C : Type 0} → (C → Position → List (List ℕ × ℕ)) → (C → Position → Option (List ℕ × List ℕ)) → C → Texts
+texts_of lines color cells = record { lines = lines cells; color = color cells }
+
+module _ (d : Drawing) where
+  -- what stands left and right of line y
+  abbrev pub left_of : ℕ → List ℕ
+  left_of y = beside d.config.margin.left d.config.margin_color.left d.config.margin_offset.left
+      (total_along (layout_of d) Rows) y
+
+  abbrev pub right_of : ℕ → List ℕ
+  right_of y = beside d.config.margin.right d.config.margin_color.right d.config.margin_offset.right
+      (total_along (layout_of d) Rows) y
+
+  -- lines with their margins, from line y on
+  abbrev pub margined : ℕ → List DrawnLine → List (List ℕ)
+  margined y lines = map (with_margins d) (enumerate_from y (map line_bytes lines))
+
+  -- the first k text lines of row r
+  abbrev pub text_lines : ℕ → ℕ → List DrawnLine
+  text_lines r k = map (λ i. TextLine (text_line d r i)) (range_with_len 0 k)
+
+-- a table, whose texts may be any, is drawn: its frame, its lines that are written, and its slots
+module _ (parts : TableParts) (texts : Texts) (frame : Frame) where
+  -- the horizontal line before row r comes next, or where there is none, what comes after it
+  pub record AtRule {T : Type 0} (r : ℕ) (sheet : Sheet) (slots : List (Slot T)) : Type 0 where
+    pub frame_is : IsFrame parts frame
+    pub row_in : r ≤ length parts.heights
+    pub written : sheet.written ≡ row_start (drawing_of parts texts) r
+    pub each : length slots ≡ length parts.widths
+    pub kept : r < length parts.heights →
+        AreSlots (drawing_of parts texts) r (λ _. row_start (drawing_of parts texts) r) slots
+
+  -- text line k of row r comes next, or after the last one the next row
+  pub record AtText {T : Type 0} (r k : ℕ) (sheet : Sheet) (slots : List (Slot T)) : Type 0 where
+    pub frame_is : IsFrame parts frame
+    pub row_in : r < length parts.heights
+    pub written : sheet.written ≡ text_start (drawing_of parts texts) r + k
+    pub kept : AreSlots (drawing_of parts texts) r (λ _. text_start (drawing_of parts texts) r + k) slots
+
+  -- row r comes next, whose cells are not taken, or none
+  pub record AtRow {T : Type 0} (r : ℕ) (sheet : Sheet) (slots : List (Slot T)) : Type 0 where
+    pub frame_is : IsFrame parts frame
+    pub written : sheet.written ≡ row_start (drawing_of parts texts) r
+    pub kept : AreSet (drawing_of parts texts) r 0 slots
+
+-- ---- room
+
+module _ (d : Drawing) where
+  -- each visible cell before row r and column c has room
+  abbrev pub HaveRoomBefore : ℕ → ℕ → Type 0
+  HaveRoomBefore r c = (q : Position) → IsBefore q (position_of (r, c)) → HasNoRoom d q → ⊥
+
+  -- the first one that has none; memory may be refused in place of any answer
+  abbrev pub IsRoomFault : DrawError → Type 0
+  IsRoomFault (NoRoom p) = IsFirstPosition (HasNoRoom d) p
+  IsRoomFault (Memory e) = ⊤
+  IsRoomFault e = ⊥
+
+-- ---- before anything is written
+
+-- what is read of a table that is to be drawn
+pub record IsPrepared (parts : TableParts) (d : Drawing) (read : Frame × ℕ) : Type 0 where
+  pub frame_is : IsFrame parts read.0
+  pub tiled : IsTiled (view_of parts)
+  pub wide : read.1 ≡ whole_width d
+
+-- why it is not drawn, but for a failed writer
+abbrev pub IsRefusal : Drawing → DrawError → Type 0
+IsRefusal d e = IsDrawFault d e × (e ≢ Write)

@@ -1,0 +1,65 @@
+-- What is known of the owner of a position, and on walks that check that each position has just one.
+use Rattle.std.specs.Prelude.{◌≡◌, ◌⊎◌, ℕ, ◌+◌, ◌<◌, ◌≤◌, ◌^◌, List, Some, length, slice_get, slice_index}
+use Rattle.papergrid_values.specs.Positions.{IsBefore, position_of}
+use Rattle.papergrid_values.specs.declared.direction.Direction.TheVariants.{Columns, Rows}
+use Rattle.papergrid_values.specs.declared.position.Position.{Position}
+use Rattle.papergrid_maps.specs.declared.anchors.Anchor.{Anchor}
+use Rattle.papergrid_walk.specs.ForProofs.Shown.{Shows}
+use Rattle.papergrid_walk.specs.ForProofs.Swept.{Walk}
+use Rattle.papergrid_layout.specs.Places.{TableView}
+use Rattle.papergrid_draw.specs.Tiles.{AreWithin, IsInTable, IsOwnedOnce, EndsOutside, Owns, owner}
+use Rattle.papergrid_draw.specs.declared.tiles.Tiling.{Tiling}
+
+-- the cell at p is the owner of q, and no other visible cell covers that; p is a cell of the table, and ends in it
+pub record HasOwner (table : TableView) (q p : Position) : Type 0 where
+  pub is : owner table q ≡ Some p
+  pub owns : Owns table p q
+  pub alone : (other : Position) → Owns table other q → other ≡ p
+  pub in_table : IsInTable table p
+  pub across : p.col + table.grid.span Columns p ≤ table.shape.1
+  pub down : p.row + table.grid.span Rows p ≤ table.shape.0
+
+-- a walk over positions has come to row r and column c
+module _ (table : TableView) (r c : ℕ) where
+  -- the visible cell at p stands before these, and covers column d of the row
+  pub record OwnsBefore (d : ℕ) (p : Position) : Type 0 where
+    pub owns : Owns table p (position_of (r, d))
+    pub before : IsBefore p (position_of (r, c))
+
+  -- just one does, and the number is the first row that it leaves free
+  pub record IsOwnedUntil (d end : ℕ) (p : Position) : Type 0 where
+    pub it : OwnsBefore d p
+    pub ends : end ≡ p.row + table.grid.span Rows p
+    pub alone : (other : Position) → OwnsBefore d other → other ≡ p
+
+  -- the same, or none does, and the number is no greater than the row
+  abbrev pub IsUntil : ℕ → ℕ → Type 0
+  IsUntil d end = ((end ≤ r) × ((p : Position) → OwnsBefore d p → ⊥)) ⊎ ((p : Position) × IsOwnedUntil d end p)
+
+  -- there is such a number for each column, and just one visible cell covers each position that is passed
+  pub record AreOwnedBefore (until : List ℕ) : Type 0 where
+    pub each : length until ≡ table.shape.1
+    pub are : (d : ℕ) → d < table.shape.1 → IsUntil d (slice_index until d)
+    pub once : (q : Position) → IsInTable table q → IsBefore q (position_of (r, c)) → IsOwnedOnce table q
+
+-- the columns of a range have numbers no greater than the row
+abbrev pub AreFree : List ℕ → ℕ → ℕ → ℕ → Type 0
+AreFree until row start last = (k : ℕ) → start ≤ k → k < last → slice_index until k ≤ row
+
+-- they are given a number, and no others are changed
+pub record AreRaised (old new : List ℕ) (start last end : ℕ) : Type 0 where
+  pub each : length new ≡ length old
+  pub inside : (k : ℕ) → start ≤ k → k < last → slice_index new k ≡ end
+  pub outside : (k : ℕ) → (k < start) ⊎ (last ≤ k) → slice_index new k ≡ slice_index old k
+
+-- the walk has come to row r and column c
+pub record HasTiled (table : TableView) (r c : ℕ) (tiling : Tiling) : Type 0 where
+  pub fits : (table.shape.0 < 2 ^ 64) × (table.shape.1 < 2 ^ 64)
+  pub within : AreWithin table
+  pub shows : Shows table.grid tiling.sweep r c
+  pub owned : AreOwnedBefore table r c tiling.until.items
+
+-- a walk over the anchors has come to number i, and passed no visible cell of the table that ends outside
+pub record EndInTable (table : TableView) (anchors : List Anchor) (i : ℕ) (walk : Walk) : Type 0 where
+  pub shows : (k : ℕ) (a : Anchor) → i ≤ k → slice_get anchors k ≡ Some a → Shows table.grid walk a.position.row a.position.col
+  pub none : (k : ℕ) (a : Anchor) → k < i → slice_get anchors k ≡ Some a → EndsOutside table a.position → ⊥

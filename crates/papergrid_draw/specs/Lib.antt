@@ -1,0 +1,12 @@
+-- Definitions: the drawn table.
+pub mod Bytes
+pub mod Characters
+pub mod Contents
+pub mod Drawings
+pub mod Drawn
+pub mod Faults
+pub mod ForProofs
+pub mod Margins
+pub mod Pieces
+pub mod Tiles
+pub mod Transfer

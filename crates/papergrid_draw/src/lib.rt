@@ -1,0 +1,17 @@
+//! The table, drawn: line by line.
+#![tactic(auto)]
+
+mod block;
+mod characters;
+mod error;
+mod look;
+mod margins;
+mod page;
+mod pen;
+pub mod printer;
+mod sheet;
+pub mod source;
+mod tiles;
+pub mod transfer;
+
+pub use error::DrawError;

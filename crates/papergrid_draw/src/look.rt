@@ -1,0 +1,90 @@
+//! The settings of a cell's text, read once.
+
+ghost use Rattle.std.specs.Prelude.{◌≡◌, ◌↔◌, IsFalse};
+ghost use Rattle.papergrid_draw.specs.Contents.{look_of};
+ghost use Rattle.papergrid_draw.specs.ForProofs.Looks.{IsCommonLook, IsLookedUp, look_seen};
+
+use papergrid_config::SpannedConfig;
+use papergrid_values::{
+    ANSIBuf, AlignmentHorizontal, AlignmentVertical, Formatting, Indent, Position, Sides,
+};
+
+/// The settings of a cell's text.
+#[derive(Clone, Copy)]
+pub struct Look<'a> {
+    pub padding: &'a Sides<Indent>,
+    pub padding_color: &'a Sides<Option<ANSIBuf>>,
+    pub formatting: Formatting,
+    pub horizontal: AlignmentHorizontal,
+    pub vertical: AlignmentVertical,
+    pub justification: char,
+    pub justification_color: Option<&'a ANSIBuf>,
+}
+
+impl<'a> Look<'a> {
+    /// Those that a configuration has for the cell at a position.
+    fn of(config: &'a SpannedConfig, position: Position) -> Look<'a>
+        ensures { look_seen result ≡ look_of config.now position }
+    {
+        Look {
+            padding: config.get_padding(position),
+            padding_color: config.get_padding_color(position),
+            formatting: config.get_formatting(position),
+            horizontal: *config.get_alignment_horizontal(position),
+            vertical: *config.get_alignment_vertical(position),
+            justification: config.get_justification(position),
+            justification_color: config.get_justification_color(position),
+        }
+    }
+}
+
+/// The settings of all cells: where none is set for a column, a row or a cell, those of the whole table.
+#[derive(Drop)]
+pub struct Looks<'a> {
+    config: &'a SpannedConfig,
+    common: Option<Look<'a>>,
+}
+
+/// Whether a setting of a text is set for a column, a row or a cell, or the colour of a padding or
+/// of a justification for the whole table.
+fn has_own_look(config: &SpannedConfig) -> bool
+    ensures { IsFalse result ↔ IsCommonLook config.now }
+{
+    let padding = config.has_padding();
+    let padding_color = config.has_padding_color();
+    let formatting = config.has_formatting();
+    let horizontal = config.has_alignment_horizontal();
+    let vertical = config.has_alignment_vertical();
+    let justification = config.has_justification();
+    padding || padding_color || formatting || horizontal || vertical || justification
+}
+
+impl<'a> Looks<'a> {
+    /// Those of a configuration.
+    pub fn new(config: &'a SpannedConfig) -> Looks<'a>
+        ensures { IsLookedUp config.now result }
+    {
+        if has_own_look(config) {
+            return Looks {
+                config,
+                common: None,
+            };
+        }
+        let look = Look::of(config, Position { row: 0, col: 0 });
+        Looks {
+            config,
+            common: Some(look),
+        }
+    }
+
+    /// Those of the cell at a position.
+    pub fn get(&self, position: Position) -> Look<'a>
+        requires { IsLookedUp self.now.config.now self.now }
+        ensures { look_seen result ≡ look_of self.now.config.now position }
+    {
+        match self.common {
+            Some(look) => look,
+            None => Look::of(self.config, position),
+        }
+    }
+}
