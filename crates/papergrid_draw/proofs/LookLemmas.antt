@@ -10,7 +10,7 @@ use Rattle.papergrid_values.specs.declared.entity.Entity.TheVariants.{Global, Co
 use Rattle.papergrid_values.specs.declared.position.Position.{Position}
 use Rattle.papergrid_values.specs.declared.sides.Sides.{Sides}
 use Rattle.papergrid_maps.specs.StoredColors.{IsBlank}
-use Rattle.papergrid_maps.specs.StoredMap.{HasNothing, Held, HoldsValue, stored_value}
+use Rattle.papergrid_maps.specs.StoredMap.{HasNothing, Stored, HoldsValue, stored_value}
 use Rattle.papergrid_config.specs.Queries.{HasFormatting, HasJustification, HasSetSide}
 use Rattle.papergrid_config.specs.declared.spanned.SpannedConfig.{SpannedConfig}
 use Rattle.papergrid_draw.specs.Contents.{look_of}
@@ -22,30 +22,30 @@ none_of : {T : Type 0} (o : Option T) → ((o ≡ None → ⊥) → ⊥) → o �
 none_of None refuted = refl
 none_of (Some v) refuted = absurd (refuted (λ e. (cc)))
 
-nothing_of : {T : Type 0} (held : Held T) → ((HasNothing held → ⊥) → ⊥) → HasNothing held
+nothing_of : {T : Type 0} (held : Stored T) → ((HasNothing held → ⊥) → ⊥) → HasNothing held
 nothing_of held refuted = record {
   columns = λ c. none_of (get held.columns c) (λ other. refuted (λ nothing. other (nothing.columns c)));
   rows = λ r. none_of (get held.rows r) (λ other. refuted (λ nothing. other (nothing.rows r)));
   cells = λ p. none_of (get held.cells p) (λ other. refuted (λ nothing. other (nothing.cells p)));
 }
 
-blank_of : {C : Type 0} (held : Held (Option C)) → ((IsBlank held → ⊥) → ⊥) → IsBlank held
+blank_of : {C : Type 0} (held : Stored (Option C)) → ((IsBlank held → ⊥) → ⊥) → IsBlank held
 blank_of held refuted = record {
   nothing = nothing_of held (λ other. refuted (λ blank. other blank.nothing));
   global = none_of held.global (λ other. refuted (λ blank. other blank.global));
 }
 
 -- then the value of the whole table is that of each position
-value_of_all : {T : Type 0} (held : Held T) → HasNothing held → (p : Position) → stored_value held p ≡ held.global
+value_of_all : {T : Type 0} (held : Stored T) → HasNothing held → (p : Position) → stored_value held p ≡ held.global
 value_of_all held nothing p = λ i. unwrap_or (nothing.cells p i) (unwrap_or (nothing.columns p.col i) (unwrap_or (nothing.rows p.row i) held.global))
 
-same_value : {T : Type 0} (held : Held T) → HasNothing held → (p q : Position) → stored_value held p ≡ stored_value held q
+same_value : {T : Type 0} (held : Stored T) → HasNothing held → (p q : Position) → stored_value held p ≡ stored_value held q
 same_value held nothing p q = value_of_all held nothing p ∙ sym (value_of_all held nothing q)
 
 -- ---- no colour is held
 
 -- the value of a position is held for some entity
-module _ {T : Type 0} (held : Held T) (p : Position) where
+module _ {T : Type 0} (held : Stored T) (p : Position) where
   found : (cell column row : Option T) → get held.cells p ≡ cell → get held.columns p.col ≡ column → get held.rows p.row ≡ row → HoldsValue held (unwrap_or cell (unwrap_or column (unwrap_or row held.global)))
   found (Some v) column row in_cell in_column in_row = (Cell p.row p.col, in_cell)
   found None (Some v) row in_cell in_column in_row = (Column p.col, in_column)
@@ -71,7 +71,7 @@ unset_is sides unset =
     let e = all_none sides.top sides.bottom sides.left sides.right unset in
     λ i. record { top = e.0 i; bottom = e.1 i; left = e.2 i; right = e.3 i }
 
-no_color : (held : Held (Sides (Option ANSIBuf))) → (HasSetSide held → ⊥) → (p : Position) → stored_value held p ≡ no_side
+no_color : (held : Stored (Sides (Option ANSIBuf))) → (HasSetSide held → ⊥) → (p : Position) → stored_value held p ≡ no_side
 no_color held unset p = unset_is (stored_value held p) (λ set. unset (stored_value held p, holds_value held p, set))
 
 -- ---- a look
