@@ -1,5 +1,5 @@
 -- What stands in the place of a cell, line by line.
-use Rattle.std.specs.Prelude.{ℕ, ◌+◌, ◌-◌, ◌/◌, ◌≤◌, ◌≡◌, ◌⊎◌, ◌==◌, nat_lt, Bool, if◌then◌else◌, List, [], ◌∷◌, ◌++◌, Option, length, max, reverse, slice_index_or}
+use Rattle.std.specs.Prelude.{ℕ, ◌+◌, ◌-◌, ◌/◌, ◌≤◌, ◌≡◌, ◌⊎◌, ◌==◌, nat_lt, Bool, if◌then◌else◌, List, [], ◌∷◌, ◌++◌, Option, Some, None, length, max, reverse, slice_index_or}
 use Rattle.std.specs.Str.{trim}
 use Rattle.papergrid_values.specs.declared.alignment.AlignmentHorizontal.{AlignmentHorizontal}
 use Rattle.papergrid_values.specs.declared.alignment.AlignmentHorizontal.TheVariants as horizontal
@@ -43,6 +43,11 @@ look_of config p = record {
   justification = stored_value config.justification p;
   justification_color = stored_value config.justification_color p;
 }
+
+-- the lines of a cell, none where there is no cell
+abbrev pub lines_of : {T : Type 0} → (T → List (List ℕ × ℕ)) → Option T → List (List ℕ × ℕ)
+lines_of lines None = []
+lines_of lines (Some cell) = lines cell
 
 -- how much of some free columns is left of a text
 abbrev pub free_before : AlignmentHorizontal → ℕ → ℕ

@@ -4,6 +4,7 @@ pub mod Characters
 pub mod Contents
 pub mod Drawings
 pub mod Drawn
+pub mod Errors
 pub mod Faults
 pub mod ForProofs
 pub mod Margins

@@ -1,16 +1,17 @@
 //! A cell as it is drawn: what stands in its place, line by line.
 
-ghost use Rattle.std.specs.Prelude.{◌≡◌, ◌+◌, ◌-◌, ◌++◌, ◌<◌, ◌≤◌, ◌↔◌, ◌⊎◌, ℕ, List, [], IsTrue, OnOk, drop, length, option_copied, slice_index_or, string_bytes, take};
+ghost use Rattle.std.specs.Prelude.{◌≡◌, ◌+◌, ◌-◌, ◌++◌, ◌<◌, ◌≤◌, ◌↔◌, ◌⊎◌, ℕ, List, [], IsTrue, OnOk, drop, length, option_map, slice_index_or, string_bytes, take};
+ghost use Rattle.papergrid_values.specs.Colors.{texts_of};
 ghost use Rattle.papergrid_draw.specs.Bytes.{pieces_bytes};
-ghost use Rattle.papergrid_draw.specs.Contents.{HasRoom, aligned_width, before, block_width, content, free_above, free_before, from_text, inner, is_blank, line_pieces, shown_line};
-ghost use Rattle.papergrid_draw.specs.ForProofs.Blocks.{IsShownRange, lines_of, to_text};
+ghost use Rattle.papergrid_draw.specs.Contents.{HasRoom, aligned_width, before, block_width, content, free_above, free_before, from_text, inner, is_blank, line_pieces, lines_of, shown_line};
+ghost use Rattle.papergrid_draw.specs.ForProofs.Blocks.{IsShownRange, to_text};
 ghost use Rattle.papergrid_draw.specs.ForProofs.Looks.{look_seen};
 
 use crate::look::Look;
 use crate::pen::{push_colored, push_colored_fill};
 use papergrid_text::Cell;
 use papergrid_text::string::get_line_width;
-use papergrid_values::{ANSIBuf, AlignmentHorizontal, AlignmentVertical, Formatting};
+use papergrid_values::{ANSIStr, AlignmentHorizontal, AlignmentVertical, Formatting};
 use std::alloc::AllocError;
 use std::marker::Model;
 
@@ -21,7 +22,7 @@ use std::marker::Model;
 pub struct Block<'a, T: Cell> {
     look: Look<'a>,
     cell: Option<T>,
-    color: Option<&'a ANSIBuf>,
+    color: Option<ANSIStr<'a>>,
     width: usize,
     height: usize,
     first: usize,
@@ -31,9 +32,11 @@ pub struct Block<'a, T: Cell> {
 }
 
 impl<'a, T: Cell> Model for Block<'a, T> {
-    ghost use Rattle.std.specs.Prelude.{option_copied};
+    ghost use Rattle.std.specs.Prelude.{option_map};
+    ghost use Rattle.papergrid_values.specs.Colors.{texts_of};
     ghost use Rattle.papergrid_draw.specs.Contents as contents;
-    ghost use Rattle.papergrid_draw.specs.ForProofs.Blocks.{IsFound, lines_of};
+    ghost use Rattle.papergrid_draw.specs.Contents.{lines_of};
+    ghost use Rattle.papergrid_draw.specs.ForProofs.Blocks.{IsFound};
     ghost use Rattle.papergrid_draw.specs.ForProofs.Looks.{look_seen};
 
     ghost Value = { contents.Block };
@@ -41,7 +44,7 @@ impl<'a, T: Cell> Model for Block<'a, T> {
     ghost view = { λ b. record {
       look = look_seen b.look;
       lines = lines_of T.lines b.cell;
-      color = option_copied b.color;
+      color = option_map texts_of b.color;
       width = b.width;
       height = b.height;
     } };
@@ -49,7 +52,7 @@ impl<'a, T: Cell> Model for Block<'a, T> {
     ghost invariant = { λ b. IsFound (record {
       look = look_seen b.look;
       lines = lines_of T.lines b.cell;
-      color = option_copied b.color;
+      color = option_map texts_of b.color;
       width = b.width;
       height = b.height;
     }) b.first b.count b.above b.block_width };
@@ -193,14 +196,14 @@ impl<'a, T: Cell> Block<'a, T> {
     pub fn new(
         look: Look<'a>,
         cell: Option<T>,
-        color: Option<&'a ANSIBuf>,
+        color: Option<ANSIStr<'a>>,
         width: usize,
         height: usize,
     ) -> Block<'a, T>
         ensures { result ≡ record {
           look = look_seen look.entry;
           lines = lines_of T.lines cell;
-          color = option_copied color.entry;
+          color = option_map texts_of color.entry;
           width = width;
           height = height;
         } }

@@ -1,8 +1,10 @@
 //! Why a table is not drawn.
 
 ghost use Rattle.std.specs.Prelude.{◌≡◌};
+ghost use Rattle.papergrid_draw.specs.Errors.{draw_error_of};
 ghost use Rattle.papergrid_draw.specs.declared.error.DrawError.TheVariants.{Memory};
 
+use papergrid_layout::LayoutError;
 use papergrid_values::Position;
 use std::alloc::AllocError;
 use std::fmt;
@@ -36,6 +38,18 @@ impl From<AllocError> for DrawError {
 
     fn from(error: AllocError) -> DrawError {
         DrawError::Memory(error)
+    }
+}
+
+impl From<LayoutError> for DrawError {
+    ghost from_gives = { λ error e. e ≡ draw_error_of error };
+
+    fn from(error: LayoutError) -> DrawError {
+        match error {
+            LayoutError::OutOfTable(position) => DrawError::OutOfTable(position),
+            LayoutError::TooLarge => DrawError::TooLarge,
+            LayoutError::Memory(error) => DrawError::Memory(error),
+        }
     }
 }
 

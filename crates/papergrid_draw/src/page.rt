@@ -1,16 +1,16 @@
 //! A table while it is drawn: what stands in each column of a row.
 
-ghost use Rattle.std.specs.Prelude.{◌≡◌, ◌↔◌, ◌<◌, ◌≤◌, ◌+◌, ◌-◌, ◌++◌, IsTrue, Some, IfOk, OnOk, ◌&&◌, length, nat_lt, option_copied, slice_index, string_bytes, true};
+ghost use Rattle.std.specs.Prelude.{◌≡◌, ◌↔◌, ◌<◌, ◌≤◌, ◌+◌, ◌-◌, ◌++◌, IsTrue, Some, IfOk, OnOk, ◌&&◌, length, nat_lt, option_copied, option_map, slice_index, string_bytes, true};
+ghost use Rattle.papergrid_values.specs.Colors.{texts_of};
 ghost use Rattle.papergrid_values.specs.declared.direction.Direction.TheVariants.{Columns, Rows};
 ghost use Rattle.papergrid_config.specs.Grids.{spanned_grid};
 ghost use Rattle.papergrid_layout.specs.Places.{IsInsideTable};
 ghost use Rattle.papergrid_layout.specs.Tables.{TableParts};
 ghost use Rattle.papergrid_draw.specs.Bytes.{pieces_bytes, rule_bytes};
-ghost use Rattle.papergrid_draw.specs.Contents.{block_at};
+ghost use Rattle.papergrid_draw.specs.Contents.{block_at, lines_of};
 ghost use Rattle.papergrid_draw.specs.Drawings.{layout_of};
 ghost use Rattle.papergrid_draw.specs.Drawn.{column_pieces, column_stretch, crossing_stretch, has_horizontal, owner_at, rule_line, text_line, vertical_pieces};
 ghost use Rattle.papergrid_draw.specs.Tiles.{IsTiled};
-ghost use Rattle.papergrid_draw.specs.ForProofs.Blocks.{lines_of};
 ghost use Rattle.papergrid_draw.specs.ForProofs.Pages.{AreSet, AreSlots, IsFrame, IsSlot, Texts, drawing_of, row_start, text_start};
 ghost use Rattle.papergrid_draw.specs.ForProofs.Pens.{AddsStretches, stretches_over};
 
@@ -21,7 +21,7 @@ use papergrid_config::SpannedConfig;
 use papergrid_layout::{Dimension, Table};
 use papergrid_maps::ConfigView;
 use papergrid_text::Cell;
-use papergrid_values::{ANSIBuf, Direction, Position};
+use papergrid_values::{ANSIStr, Direction, Position};
 use std::alloc::{AllocError, Global};
 
 /// The cell that covers a column in a row: its position, how many of its lines are drawn, and, in the column in which
@@ -122,7 +122,7 @@ impl<'a> Frame<'a> {
         slots: &mut [Slot<'a, T>],
         position: Position,
         cell: Option<T>,
-        color: Option<&'a ANSIBuf>,
+        color: Option<ANSIStr<'a>>,
     )
         requires { (parts : TableParts) × (texts : Texts) × IsFrame parts self.now
             × AreSet (drawing_of parts texts) position.row position.col slots.old
@@ -131,7 +131,7 @@ impl<'a> Frame<'a> {
             AreSet (drawing_of parts texts) position.row position.col slots.old →
             IsTiled (layout_of (drawing_of parts texts)) → position.row < length parts.heights →
             position.col < length parts.widths → texts.lines position ≡ lines_of T.lines cell →
-            texts.color position ≡ option_copied color.entry →
+            texts.color position ≡ option_map texts_of color.entry →
             AreSet (drawing_of parts texts) position.row (position.col + 1) slots.new }
     {
         let owner = self.owner(slots, position);
@@ -154,13 +154,13 @@ impl<'a> Frame<'a> {
         &self,
         position: Position,
         cell: Option<T>,
-        color: Option<&'a ANSIBuf>,
+        color: Option<ANSIStr<'a>>,
     ) -> Option<Block<'a, T>>
         requires { (parts : TableParts) × IsFrame parts self.now }
         ensures { (parts : TableParts) (texts : Texts) → IsFrame parts self.now →
             IsInsideTable (layout_of (drawing_of parts texts)) position →
             texts.lines position ≡ lines_of T.lines cell →
-            texts.color position ≡ option_copied color.entry →
+            texts.color position ≡ option_map texts_of color.entry →
             result ≡ Some (block_at (drawing_of parts texts) position) }
     {
         let place = self.table.rectangle(position)?;

@@ -1,11 +1,12 @@
 //! The cells of a table that is drawn, read by position.
 
-ghost use Rattle.std.specs.Prelude.{◌≡◌, ℕ, List, Option, IfOk, option_copied};
+ghost use Rattle.std.specs.Prelude.{◌≡◌, ℕ, List, Option, IfOk, option_map};
+ghost use Rattle.papergrid_values.specs.Colors.{texts_of};
 ghost use Rattle.papergrid_values.specs.declared.position.Position.{Position};
-ghost use Rattle.papergrid_draw.specs.ForProofs.Blocks.{lines_of};
+ghost use Rattle.papergrid_draw.specs.Contents.{lines_of};
 
 use papergrid_text::Cell;
-use papergrid_values::{ANSIBuf, Position};
+use papergrid_values::{ANSIStr, Position};
 use std::alloc::AllocError;
 
 /// Cells by position. An implementation says which lines, each with its width, and which colour the cell at a
@@ -24,6 +25,6 @@ pub trait Cells {
         ensures { IfOk result (λ cell. lines self.now position ≡ lines_of Self.Cell.lines cell) };
 
     /// The colour of its text.
-    fn color(&self, position: Position) -> Option<&ANSIBuf>
-        ensures { color self.now position ≡ option_copied result };
+    fn color(&self, position: Position) -> Option<ANSIStr<'_>>
+        ensures { color self.now position ≡ option_map texts_of result };
 }

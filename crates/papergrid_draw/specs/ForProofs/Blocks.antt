@@ -1,12 +1,7 @@
 -- A cell as it is kept while it is drawn.
-use Rattle.std.specs.Prelude.{◌≡◌, ◌+◌, ◌<◌, ◌≤◌, ◌^◌, ℕ, Bool, List, [], Option, Some, None, drop, length, reverse, take}
+use Rattle.std.specs.Prelude.{◌≡◌, ◌+◌, ◌<◌, ◌≤◌, ◌^◌, ℕ, Bool, List, drop, length, reverse, take}
 use Rattle.papergrid_draw.specs.Contents as contents
 use Rattle.papergrid_draw.specs.Contents.{above, block_width, from_text, shown_lines}
-
--- the lines of a cell, none where there is no cell
-abbrev pub lines_of : {T : Type 0} → (T → List (List ℕ × ℕ)) → Option T → List (List ℕ × ℕ)
-lines_of lines None = []
-lines_of lines (Some cell) = lines cell
 
 -- the lines up to the last that is not blank
 abbrev pub to_text : List (List ℕ × ℕ) → List (List ℕ × ℕ)

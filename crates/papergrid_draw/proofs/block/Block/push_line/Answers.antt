@@ -1,6 +1,6 @@
 use Rattle.std.proofs.Common.{◌≡◌, ◌≤◌, ◌-◌, ◌++◌, ◌∙◌, ap, arith, string_bytes}
 use Rattle.std.proofs.lemmas.Result.{on_ok_weaker}
-use Rattle.papergrid_draw.specs.ForProofs.Blocks.{lines_of}
+use Rattle.papergrid_draw.specs.Contents.{lines_of}
 use Rattle.papergrid_draw.specs.ForProofs.Pens.{fill_bytes}
 use Rattle.papergrid_draw.proofs.BlockLemmas.{content-below, none_shown}
 use Rattle.papergrid_draw.proofs.block.Block.push_line.Goals as goal
