@@ -1,12 +1,12 @@
 -- The columns that the pieces of a text line take, and where the cells and the vertical lines stand in it.
-use Rattle.std.proofs.Common.{◌≡◌, ◌∙◌, ap, sym, subst, refl, inl, inr, ℕ, ◌+◌, ◌-◌, ◌<◌, ◌≤◌, Bool, true, false, cond, List, [], ◌∷◌, ◌++◌, Option, Some, None, append_assoc, arith}
-use Rattle.std.specs.Prelude.{◌==◌, if◌then◌else◌}
+use Rattle.std.proofs.Common.{◌≡◌, ◌∙◌, ap, sym, subst, refl, inl, inr, ℕ, ◌+◌, ◌-◌, ◌<◌, ◌≤◌, Bool, true, false, cond, List, [], ◌∷◌, ◌++◌, Some, None, append_assoc, arith}
+use Rattle.std.specs.Prelude.{if◌then◌else◌}
 use Rattle.std.specs.List.{flat_map, range_with_len}
 use Rattle.std.proofs.lemmas.Bool.{cases_lt, eq-eqb, ne_eqb}
 use Rattle.papergrid_values.specs.Positions.{position_of}
 use Rattle.papergrid_values.specs.declared.direction.Direction.TheVariants.{Columns, Rows}
 use Rattle.papergrid_values.specs.declared.position.Position.{Position}
-use Rattle.papergrid_layout.specs.Places.{IsVisibleCell, TableView, begin_along, extent, length_along, line_offset, offset, total_along, track_line, track_size}
+use Rattle.papergrid_layout.specs.Places.{IsVisibleCell, TableView, begin_along, extent, line_offset, total_along, track_line, track_size}
 use Rattle.papergrid_layout.proofs.PlaceSums.{line-before}
 use Rattle.papergrid_draw.specs.Characters.{vertical}
 use Rattle.papergrid_draw.specs.Contents.{block_at, content}

@@ -1,5 +1,5 @@
 -- How many columns the lines of a cell's place take, and where the lines of its text stand in them.
-use Rattle.std.proofs.Common.{◌≡◌, ◌∙◌, ap, sym, subst, refl, inl, inr, ℕ, zero, suc, ◌+◌, ◌-◌, ◌<◌, ◌≤◌, ◌⊎◌, max, Bool, true, false, List, [], ◌∷◌, ◌++◌, get_or, length, reverse, Option, append_assoc, arith}
+use Rattle.std.proofs.Common.{◌≡◌, ◌∙◌, ap, sym, subst, refl, inl, inr, ℕ, ◌+◌, ◌-◌, ◌<◌, ◌≤◌, ◌⊎◌, Bool, true, false, List, [], ◌∷◌, ◌++◌, get_or, length, reverse, Option, append_assoc, arith}
 use Rattle.std.specs.Prelude.{◌==◌, All, if◌then◌else◌, nat_lt}
 use Rattle.std.proofs.lemmas.Bool.{cases_lt, eqb-true, le-ltb, lt-ltb, ltb-false, ltb-true}
 use Rattle.std.proofs.lemmas.List.{get_or-reverse, length-reverse}
@@ -14,7 +14,7 @@ use Rattle.papergrid_draw.specs.Contents.{HasRoom, above, before, block_at, bloc
 use Rattle.papergrid_draw.specs.Drawings.{Drawing, layout_of}
 use Rattle.papergrid_draw.specs.Faults.{AllHaveRoom}
 use Rattle.papergrid_draw.specs.Laws.{StandAt, columns_of, text_piece}
-use Rattle.papergrid_draw.specs.Pieces.{CellText, Justification, Kind, Padding, Piece, fill, fill_text}
+use Rattle.papergrid_draw.specs.Pieces.{Justification, Kind, Padding, Piece, fill, fill_text}
 use Rattle.papergrid_draw.proofs.BlockLemmas.{Line, free_above-le}
 
 -- ---- columns of pieces

@@ -1,5 +1,5 @@
 -- Where cells, their texts and the lines of a table stand in its picture.
-use Rattle.std.proofs.Common.{◌≡◌, ◌≢◌, ◌∙◌, ap, sym, subst, refl, inl, inr, ℕ, ◌+◌, ◌-◌, ◌<◌, ◌≤◌, ◌⊎◌, Bool, true, false, List, [], ◌∷◌, Option, Some, length, map, slice_index_or, arith}
+use Rattle.std.proofs.Common.{◌≡◌, ◌≢◌, ◌∙◌, ap, sym, subst, inl, inr, ℕ, ◌+◌, ◌-◌, ◌<◌, ◌≤◌, true, false, [], ◌∷◌, Some, length, map, slice_index_or, arith}
 use Rattle.std.specs.Prelude.{slice_get}
 use Rattle.std.proofs.lemmas.Bool.{cases_eq, cases_lt}
 use Rattle.papergrid_values.specs.Positions.{position_of}
@@ -17,7 +17,7 @@ use Rattle.papergrid_draw.specs.Laws.{AreDrawnAt, StandAt, columns_of, pieces_of
 use Rattle.papergrid_draw.specs.Tiles.{IsTiled, Owns}
 use Rattle.papergrid_draw.specs.ForProofs.Pages.{row_start, text_start}
 use Rattle.papergrid_draw.specs.ForProofs.Ranges.{first_of, text_first}
-use Rattle.papergrid_draw.proofs.ColumnLemmas.{cell-in-text_line, line-in-text_line, owner-beside, text-ranges}
+use Rattle.papergrid_draw.proofs.ColumnLemmas.{cell-in-text_line, line-in-text_line, owner-beside}
 use Rattle.papergrid_draw.proofs.ContentLemmas.{above-within, columns-content, content-line, has-room, line-fits, line_at, stands-within, text-stands}
 use Rattle.papergrid_draw.proofs.DrawnLemmas.{IsLineInside, IsOfRow, row-or-line, rule_line-at, text_line-at}
 use Rattle.papergrid_draw.proofs.OverLemmas.{cell-in-rule_line, crossing-in-rule_line, segment-in-rule_line}

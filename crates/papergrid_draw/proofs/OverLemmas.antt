@@ -1,6 +1,6 @@
 -- The columns that the pieces of a horizontal line take, and where the cells that stand over it, its segments and its
 -- crossings stand in it.
-use Rattle.std.proofs.Common.{◌≡◌, ◌∙◌, ap, sym, subst, refl, inl, inr, ℕ, zero, suc, ◌+◌, ◌-◌, ◌<◌, ◌≤◌, Bool, true, false, ◌&&◌, cond, List, [], ◌∷◌, ◌++◌, Option, Some, None, map, append-nil, append_assoc, arith}
+use Rattle.std.proofs.Common.{◌≡◌, ◌∙◌, ap, sym, subst, refl, inl, inr, ℕ, zero, suc, ◌+◌, ◌-◌, ◌<◌, ◌≤◌, Bool, true, false, ◌&&◌, cond, List, [], ◌∷◌, ◌++◌, Some, None, map, append-nil, append_assoc, arith}
 use Rattle.std.specs.Prelude.{◌==◌, if◌then◌else◌, nat_lt, not}
 use Rattle.std.specs.FinMap.{get}
 use Rattle.std.specs.List.{flat_map, range_with_len}
@@ -16,7 +16,7 @@ use Rattle.papergrid_layout.proofs.PlaceSums.{line-before}
 use Rattle.papergrid_draw.specs.Characters.{Mark, crossing, has_overrides, overridden_mark, plain_mark, segment, segment_character, segment_piece}
 use Rattle.papergrid_draw.specs.Contents.{block_at, content}
 use Rattle.papergrid_draw.specs.Drawings.{Drawing, layout_of}
-use Rattle.papergrid_draw.specs.Drawn.{OnLine, Over, column_stretch, content_from, crossing_stretch, has_vertical, over_line, owner_at, rule_line, stands_over, stands_over_crossing}
+use Rattle.papergrid_draw.specs.Drawn.{OnLine, column_stretch, content_from, crossing_stretch, has_vertical, over_line, owner_at, rule_line, stands_over, stands_over_crossing}
 use Rattle.papergrid_draw.specs.Faults.{AllHaveRoom}
 use Rattle.papergrid_draw.specs.Laws.{StandAt, columns_of, stretch_pieces}
 use Rattle.papergrid_draw.specs.Pieces.{Piece}
