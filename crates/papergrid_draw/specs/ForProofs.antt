@@ -3,5 +3,6 @@ pub mod Blocks
 pub mod Looks
 pub mod Pages
 pub mod Pens
+pub mod Ranges
 pub mod Sheets
 pub mod Tiles

@@ -7,6 +7,7 @@ pub mod Drawn
 pub mod Errors
 pub mod Faults
 pub mod ForProofs
+pub mod Laws
 pub mod Margins
 pub mod Pieces
 pub mod Tiles

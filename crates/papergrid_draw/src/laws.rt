@@ -1,0 +1,81 @@
+//! Laws of the picture, each the contract of a function that does nothing.
+
+ghost use Rattle.std.specs.Prelude.{◌≡◌, ◌≢◌, ◌+◌, ◌-◌, ◌<◌, ◌≤◌, ◌∷◌, [], ℕ, All, false, length, map, slice_index_or, true};
+ghost use Rattle.papergrid_values.specs.Positions.{position_of};
+ghost use Rattle.papergrid_values.specs.declared.direction.Direction.TheVariants.{Columns, Rows};
+ghost use Rattle.papergrid_values.specs.declared.position.Position.{Position};
+ghost use Rattle.papergrid_layout.specs.Places.{IsVisibleCell, begin_along, length_along, line_offset, offset, total_along, track_line, track_size};
+ghost use Rattle.papergrid_draw.specs.Characters.{crossing, segment, vertical};
+ghost use Rattle.papergrid_draw.specs.Contents.{above, before, block_at, content, shown, shown_line};
+ghost use Rattle.papergrid_draw.specs.Drawings.{Drawing, layout_of};
+ghost use Rattle.papergrid_draw.specs.Drawn.{drawn_lines, has_horizontal, has_vertical, owner_at, stands_over, stands_over_crossing};
+ghost use Rattle.papergrid_draw.specs.Faults.{AllHaveRoom};
+ghost use Rattle.papergrid_draw.specs.Laws.{AreDrawnAt, columns_of, pieces_of, text_piece};
+ghost use Rattle.papergrid_draw.specs.Tiles.{IsTiled};
+
+/// Of a tiled table in which each text has room, the pieces of each line take exactly the columns of the table.
+pub fn columns_of_lines()
+    ensures { (d : Drawing) → IsTiled (layout_of d) → AllHaveRoom d →
+        All (λ line. columns_of (pieces_of line) ≡ total_along (layout_of d) Columns)
+        (drawn_lines d) }
+{}
+
+/// Each visible cell stands in its screen rectangle: line k of its content in line k of that, from its first column
+/// on, and that content is as wide as the rectangle.
+pub fn cells_in_place()
+    ensures drawn { (d : Drawing) → IsTiled (layout_of d) → AllHaveRoom d →
+        (p : Position) → IsVisibleCell (layout_of d) p →
+        (k : ℕ) → k < length_along (layout_of d) Rows p →
+        AreDrawnAt d (begin_along (layout_of d) Columns p) (begin_along (layout_of d) Rows p + k)
+        (content (block_at d p) k) }
+    ensures width { (d : Drawing) → AllHaveRoom d →
+        (p : Position) → IsVisibleCell (layout_of d) p → (k : ℕ) →
+        columns_of (content (block_at d p) k) ≡ length_along (layout_of d) Columns p }
+{}
+
+/// Each line of the table stands where no cell is: a vertical line in each line of a row, but inside of a cell that
+/// spans columns; a horizontal line over each column, but inside of one that spans rows; a crossing where both
+/// are, but inside of one that spans both.
+pub fn lines_in_place()
+    ensures vertical { (d : Drawing) → IsTiled (layout_of d) → AllHaveRoom d → (r j k : ℕ) →
+        r < d.shape.0 → k < d.heights r → j ≤ d.shape.1 → has_vertical d j ≡ true →
+        (0 < j → j < d.shape.1 → owner_at d r (j - 1) ≢ owner_at d r j) →
+        AreDrawnAt d
+        (line_offset (track_size (layout_of d) Columns) (track_line (layout_of d) Columns) j)
+        (offset (track_size (layout_of d) Rows) (track_line (layout_of d) Rows) r + k)
+        (vertical d.config d.shape (position_of (r, j)) (d.heights r) k ∷ []) }
+    ensures horizontal { (d : Drawing) → IsTiled (layout_of d) → AllHaveRoom d → (i c : ℕ) →
+        i ≤ d.shape.0 → c < d.shape.1 → has_horizontal d i ≡ true → stands_over d i c ≡ false →
+        AreDrawnAt d
+        (offset (track_size (layout_of d) Columns) (track_line (layout_of d) Columns) c)
+        (line_offset (track_size (layout_of d) Rows) (track_line (layout_of d) Rows) i)
+        (map (λ mark. mark.piece) (segment d.config d.shape (position_of (i, c)) (d.widths c))) }
+    ensures crossing { (d : Drawing) → IsTiled (layout_of d) → AllHaveRoom d → (i j : ℕ) →
+        i ≤ d.shape.0 → j ≤ d.shape.1 → has_horizontal d i ≡ true → has_vertical d j ≡ true →
+        stands_over_crossing d i j ≡ false →
+        AreDrawnAt d
+        (line_offset (track_size (layout_of d) Columns) (track_line (layout_of d) Columns) j)
+        (line_offset (track_size (layout_of d) Rows) (track_line (layout_of d) Rows) i)
+        ((crossing d.config d.shape (position_of (i, j))).piece ∷ []) }
+{}
+
+/// Each line of a visible cell's text that is shown stands whole in the cell's screen rectangle, where its alignment
+/// puts it, between the paddings, if the rectangle is high enough for the padding above and the lines that are shown.
+pub fn texts_in_place()
+    ensures drawn { (d : Drawing) → IsTiled (layout_of d) → AllHaveRoom d →
+        (p : Position) → IsVisibleCell (layout_of d) p → let b = block_at d p in
+        b.look.padding.top.size + length (shown b) ≤ b.height →
+        (i : ℕ) → i < length (shown b) →
+        let line = shown_line b.look.formatting.horizontal_trim (slice_index_or (shown b) i ([], 0)) in
+        AreDrawnAt d
+        (begin_along (layout_of d) Columns p + (b.look.padding.left.size + before b line))
+        (begin_along (layout_of d) Rows p + (above b + i))
+        (text_piece b line ∷ []) }
+    ensures within { (d : Drawing) → AllHaveRoom d →
+        (p : Position) → IsVisibleCell (layout_of d) p → let b = block_at d p in
+        b.look.padding.top.size + length (shown b) ≤ b.height →
+        (i : ℕ) → i < length (shown b) →
+        let line = shown_line b.look.formatting.horizontal_trim (slice_index_or (shown b) i ([], 0)) in
+        ((b.look.padding.left.size + before b line) + line.1 + b.look.padding.right.size ≤ b.width)
+        × (above b + i < b.height) }
+{}
