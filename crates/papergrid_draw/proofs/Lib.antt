@@ -1,5 +1,7 @@
 pub mod BlockLemmas
+pub mod CountLemmas
 pub mod EndLemmas
+pub mod HiddenLemmas
 pub mod KnownLemmas
 pub mod LineLemmas
 pub mod LookLemmas

@@ -6,6 +6,7 @@ pub mod Drawings
 pub mod Drawn
 pub mod Faults
 pub mod ForProofs
+pub mod Laws
 pub mod Margins
 pub mod Pieces
 pub mod Tiles

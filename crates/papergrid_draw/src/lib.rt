@@ -4,6 +4,7 @@
 mod block;
 mod characters;
 mod error;
+pub mod laws;
 mod look;
 mod margins;
 mod page;

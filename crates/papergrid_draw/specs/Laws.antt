@@ -1,0 +1,34 @@
+-- What is seen of a picture: which pieces stand where in its lines.
+use Rattle.std.specs.Prelude.{◌≡◌, ◌++◌, ℕ, List, [], ◌∷◌, Some, flat_map, slice_get, sum_by}
+use Rattle.papergrid_draw.specs.Contents.{Block}
+use Rattle.papergrid_draw.specs.Drawings.{Drawing}
+use Rattle.papergrid_draw.specs.Drawn.{DrawnLine, OnLine, Over, RuleLine, Stretch, TextLine, drawn_lines}
+use Rattle.papergrid_draw.specs.Pieces.{CellText, Piece}
+
+-- the pieces of a stretch of a horizontal line
+abbrev pub stretch_pieces : Stretch → List Piece
+stretch_pieces (OnLine mark) = mark.piece ∷ []
+stretch_pieces (Over pieces) = pieces
+
+-- those of a line, from left to right
+abbrev pub pieces_of : DrawnLine → List Piece
+pieces_of (TextLine pieces) = pieces
+pieces_of (RuleLine stretches) = flat_map stretch_pieces stretches
+
+-- the columns of a terminal that pieces count for
+abbrev pub columns_of : List Piece → ℕ
+columns_of pieces = sum_by (λ (piece : Piece). piece.columns) pieces
+
+-- among the pieces of a line some stand together, from column x on
+abbrev pub StandAt : List Piece → ℕ → List Piece → Type 0
+StandAt line x pieces =
+    (front : List Piece) × (back : List Piece) × (line ≡ front ++ (pieces ++ back)) × (columns_of front ≡ x)
+
+-- in line y of the table, counted from its top, some pieces stand together, from column x on
+abbrev pub AreDrawnAt : Drawing → ℕ → ℕ → List Piece → Type 0
+AreDrawnAt d x y pieces =
+    (line : DrawnLine) × (slice_get (drawn_lines d) y ≡ Some line) × StandAt (pieces_of line) x pieces
+
+-- the text of a line of a cell, as a piece
+abbrev pub text_piece : Block → List ℕ × ℕ → Piece
+text_piece b line = record { kind = CellText; text = line.0; columns = line.1; color = b.color }
