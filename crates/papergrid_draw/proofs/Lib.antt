@@ -1,6 +1,7 @@
 pub mod BlockLemmas
 pub mod CountLemmas
 pub mod EndLemmas
+pub mod EstimateLemmas
 pub mod HiddenLemmas
 pub mod KnownLemmas
 pub mod LineLemmas

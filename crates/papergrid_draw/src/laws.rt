@@ -1,13 +1,18 @@
 //! Laws of the picture, each the contract of a function that does nothing.
 
-ghost use Rattle.std.specs.Prelude.{◌≡◌, ◌≢◌, ◌==◌, ◌⊎◌, [], All, Contains, length};
+ghost use Rattle.std.specs.Prelude.{◌≡◌, ◌≢◌, ◌==◌, ◌⊎◌, [], ℕ, All, Contains, List, length, slice_index};
 ghost use Rattle.std.specs.List.{join_with_byte, slice_split};
-ghost use Rattle.papergrid_values.specs.declared.direction.Direction.TheVariants.{Rows};
+ghost use Rattle.papergrid_values.specs.declared.direction.Direction.TheVariants.{Columns, Rows};
 ghost use Rattle.papergrid_values.specs.declared.position.Position.{Position};
+ghost use Rattle.papergrid_config.specs.Grids.{spanned_grid};
+ghost use Rattle.papergrid_tracks.specs.Fits.{Fits};
+ghost use Rattle.papergrid_walk.specs.Cells.{problem_of};
+ghost use Rattle.papergrid_walk.specs.Measures.{line_measure};
 ghost use Rattle.papergrid_layout.specs.Places.{IsVisibleCell, total_along};
 ghost use Rattle.papergrid_draw.specs.Drawings.{Drawing, layout_of};
 ghost use Rattle.papergrid_draw.specs.Drawn.{drawn_lines};
-ghost use Rattle.papergrid_draw.specs.Faults.{whole_height};
+ghost use Rattle.papergrid_draw.specs.Faults.{AllHaveRoom, whole_height};
+ghost use Rattle.papergrid_draw.specs.Laws.{AreLinesAt};
 ghost use Rattle.papergrid_draw.specs.Margins.{printed, printed_lines};
 
 /// A picture has as many lines as its table is high, with both margins, and a line feed between two. That of a table
@@ -30,4 +35,15 @@ pub fn hidden_cells_unseen()
         ((p : Position) → IsVisibleCell (layout_of d) p →
         (d.lines p ≡ e.lines p) × (d.color p ≡ e.color p)) →
         printed d ≡ printed e }
+{}
+
+/// A drawing leaves room for the text of each visible cell where its widths have room for what the cells ask for, as
+/// those of an estimate do.
+pub fn estimates_leave_room<C>()
+    ensures { (d : Drawing) (text : C → List ℕ) (rows : List (List C)) (widths : List ℕ) →
+        d.widths ≡ slice_index widths →
+        Fits (problem_of (spanned_grid d.config) (line_measure text) d.shape.1 rows Columns)
+        widths →
+        ((p : Position) → IsVisibleCell (layout_of d) p → AreLinesAt text rows p (d.lines p)) →
+        AllHaveRoom d }
 {}
