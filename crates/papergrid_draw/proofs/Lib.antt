@@ -1,8 +1,11 @@
 pub mod BlockLemmas
 pub mod ColumnLemmas
 pub mod ContentLemmas
+pub mod CountLemmas
 pub mod DrawnLemmas
 pub mod EndLemmas
+pub mod EstimateLemmas
+pub mod HiddenLemmas
 pub mod InPlaceLemmas
 pub mod KnownLemmas
 pub mod LineLemmas

@@ -35,6 +35,11 @@ found-passes test (y ∷ ys) x found =
       | false ↦ λ e rest. found-passes test ys x rest
     ] refl found
 
+-- an owner is visible
+pub owner-shown : (table : TableView) (q o : Position) → owner table q ≡ Some o → table.grid.shows o ≡ true
+unfolding owner
+owner-shown table q o found = (and_parts _ _ (found-passes (λ p. owns table p q) _ o found)).0
+
 -- an owner stands in no later row and in no later column
 pub owner-behind : (table : TableView) (q o : Position) → owner table q ≡ Some o → (o.row ≤ q.row) × (o.col ≤ q.col)
 unfolding owner

@@ -6,8 +6,10 @@ pub mod Nth
 pub mod Places
 pub mod Printable
 pub mod Ranges
+pub mod ReadBack
 pub mod RowSteps
 pub mod Splits
 pub mod Tabs
+pub mod TrimLemmas
 pub mod Walks
 pub mod Widths

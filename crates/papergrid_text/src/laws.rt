@@ -1,12 +1,13 @@
 //! Laws of the definitions, each the contract of a function that does nothing. A function that calls one
 //! may cite it in its proof.
 
-ghost use Rattle.std.specs.Prelude.{◌≡◌, ◌==◌, ◌<◌, ◌+◌, ◌^◌, ◌∷◌, ◌++◌, [], ⊤, List, Vec, count_by, length, map, nat_eq, ℕ};
+ghost use Rattle.std.specs.Prelude.{◌≡◌, ◌==◌, ◌<◌, ◌≤◌, ◌+◌, ◌^◌, ◌∷◌, ◌++◌, [], ⊤, List, Vec, count_by, length, map, nat_eq, ℕ};
 ghost use Rattle.std.specs.Hash as fed;
 ghost use Rattle.std.specs.List.{list_all};
 ghost use Rattle.std.specs.Option.{option_cmp, option_eq};
 ghost use Rattle.std.specs.Ordering.{nat_cmp, ordering_then};
 ghost use Rattle.std.specs.Borrow.{Bor};
+ghost use Rattle.std.specs.Str.{trim};
 ghost use Rattle.std.specs.Slice.Iter.{iter_rest, chunks_rest, chunks_size, chunks_exact_rest, chunks_exact_size};
 ghost use Rattle.std.specs.declared.alloc.Global.{Global};
 ghost use Rattle.std.specs.declared.slice.Chunks.{Chunks};
@@ -22,7 +23,7 @@ ghost use Rattle.papergrid_text.specs.Cut.{cut_rows, cut_whole_rows};
 ghost use Rattle.papergrid_text.specs.HeldRows.{column_count, row_count, rows_held};
 ghost use Rattle.papergrid_text.specs.LineCache.{given_line};
 ghost use Rattle.papergrid_text.specs.Records.{WalkIsShort, Gives};
-ghost use Rattle.papergrid_text.specs.Text.{HasNoCrLf, IsLines, split_lines, text_dimension, text_width};
+ghost use Rattle.papergrid_text.specs.Text.{HasNoCrLf, IsLines, split_lines, text_dimension, text_width, width_of};
 ghost use Rattle.papergrid_text.specs.TextOrder.{line_cmp, line_eq, line_hash};
 
 use crate::iter_records::{IterRecords, RowIter};
@@ -49,6 +50,11 @@ pub fn lines_join_to_text()
 pub fn dimension_without_carriage_returns()
     ensures { (text : List ℕ) → HasNoCrLf text →
         text_dimension text ≡ (length (split_lines text), text_width text) }
+{}
+
+/// A text is no wider without the white space at both ends.
+pub fn trimmed_no_wider()
+    ensures { (text : List ℕ) → width_of (trim text) ≤ width_of text }
 {}
 
 // ---- records, and the lines of texts, as values
