@@ -3,6 +3,7 @@ pub mod Grammar
 pub mod Grids
 pub mod Layouts
 pub mod Outputs
+pub mod Pictures
 pub mod Reasons
 pub mod Rows
 pub mod Runs

@@ -4,6 +4,7 @@
 
 mod cut;
 mod draft;
+mod drawing;
 mod estimate;
 mod explained;
 pub mod laws;
@@ -17,6 +18,7 @@ mod setting_line;
 mod table_layout;
 mod unescape;
 
+pub use drawing::{draw, run_table};
 pub use explained::{Reason, explain};
 pub use papergrid_draw::transfer::{Failed, ReadSource, Sink, Source, WriteSink};
 pub use papergrid_layout::{Sizing, Table};

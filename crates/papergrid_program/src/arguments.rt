@@ -1,4 +1,4 @@
-//! What the program is asked for.
+//! What a program is asked for.
 
 use papergrid::Sizing;
 use std::env::Args;
@@ -6,9 +6,9 @@ use std::env::Args;
 /// What the arguments ask for.
 #[derive(Drop)]
 pub enum Request {
-    /// The sizes of the script on standard input.
+    /// The table of the script on standard input.
     OfInput,
-    /// The sizes of the script in a file.
+    /// The table of the script in a file.
     OfFile(String),
     /// What the program takes and what it writes.
     Help,
@@ -16,12 +16,12 @@ pub enum Request {
     Version,
 }
 
-/// Which sizes are written.
+/// What is wanted of the table.
 #[derive(Clone, Copy)]
 pub struct Wanted {
-    /// How they are chosen.
+    /// How its sizes are chosen.
     pub sizing: Sizing,
-    /// Whether only the totals are written.
+    /// Whether only their totals are written.
     pub only_totals: bool,
 }
 
@@ -30,8 +30,8 @@ pub struct Wanted {
 pub struct Unexpected(pub String);
 
 /// What the words after the program's name ask for: options in any order, and one other word at most. After `--`
-/// no word is an option.
-pub fn asked_for(words: Args) -> Result<(Request, Wanted), Unexpected> {
+/// no word is an option. `--total` is one where it is taken.
+pub fn asked_for(words: Args, takes_total: bool) -> Result<(Request, Wanted), Unexpected> {
     let mut wanted = Wanted {
         sizing: Sizing::ByShares,
         only_totals: false,
@@ -42,7 +42,7 @@ pub fn asked_for(words: Args) -> Result<(Request, Wanted), Unexpected> {
         match word.as_str() {
             "--" if takes_options => takes_options = false,
             "--least" if takes_options => wanted.sizing = Sizing::Least,
-            "--total" if takes_options => wanted.only_totals = true,
+            "--total" if takes_options && takes_total => wanted.only_totals = true,
             _ if asked.is_some() => return Err(Unexpected(word)),
             _ => asked = Some(asked_by(word, takes_options)?),
         }

@@ -1,6 +1,6 @@
 //! What the program says of itself.
 
-use crate::forms::FORMS;
+use papergrid_program::FORMS;
 use std::alloc::{AllocError, Global};
 
 const TAKEN: &str = "\

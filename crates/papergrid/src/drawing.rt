@@ -1,0 +1,233 @@
+//! Tables drawn: of records by a list of settings, and of a script.
+
+ghost use Rattle.std.specs.Prelude.{◌≡◌, ◌⊎◌, ◌∷◌, ◌++◌, [], ℕ, All, IfErr, IfOk, IfSome, IsErrOf, List, OnErr, OnOk, codes, decimal, false, map, take, true};
+ghost use Rattle.std.specs.Io.KnownBytes.{Appends, Consumes, IsAtEnd};
+ghost use Rattle.papergrid_text.specs.HeldRows.{column_count};
+ghost use Rattle.papergrid_config.specs.Applied.{is_in_range};
+ghost use Rattle.papergrid_draw.specs.Drawings.{Drawing};
+ghost use Rattle.papergrid_draw.specs.Margins.{printed};
+ghost use Rattle.papergrid_draw.specs.declared.error.DrawError.TheVariants.{Memory, NoRoom, NotTiled, OutOfTable, TooLarge, Write};
+ghost use Rattle.papergrid_grid.specs.Lined.{lined};
+ghost use Rattle.papergrid.specs.Pictures.{IsDrawingBy, IsDrawingWith, IsFaultWith, IsPictureFault, IsPictureRun, IsRefusal, IsTablePicture, refusal_line, texts_held};
+ghost use Rattle.papergrid.specs.Runs.{IsWholeInput};
+ghost use Rattle.papergrid.specs.Scripts.{Table, table_of};
+ghost use Rattle.papergrid.specs.ForProofs.Drawn.{Draws, Runs};
+ghost use Rattle.papergrid.specs.ForProofs.ScriptSeen.{row_texts_of, rows_seen, table_seen};
+ghost use Rattle.papergrid.specs.ForProofs.Settings.{setting_told};
+ghost use Rattle.papergrid.specs.declared.running.RunEnd.TheVariants.{BadScript, Refused};
+
+use crate::output::{bad_script_text, out_of_table_text, too_large_text};
+use crate::running::{RunEnd, RunFault, read_all};
+use crate::script::{Script, ScriptError, read_script};
+use crate::script_setting::configuration_of;
+use crate::table_layout::configuration;
+use bumpalo::Bump;
+use papergrid_config::{NoColors, Setting, SpannedConfig};
+use papergrid_draw::DrawError;
+use papergrid_draw::printer::draw_cells;
+use papergrid_draw::transfer::{Sink, Source, write_all};
+use papergrid_grid::{TextCells, draw_lines};
+use papergrid_layout::{Sizing, Table};
+use papergrid_text::{IterRecords, VecRecords};
+use papergrid_values::Position;
+use std::alloc::{AllocError, Global};
+use std::convert::AsStr;
+
+/// Writes the picture of the records by the configuration that the settings tell, one line at a time: nothing of
+/// records without rows or columns. Texts are aligned by the lines that a line feed ends.
+///
+/// Condition: each setting is in range (`is_in_range` tests it).
+///
+/// # Errors
+///
+/// `OutOfTable` with the first visible cell that overflows the table, `NotTiled` with the first position that no
+/// visible cell covers, or that two do, `NoRoom`, and `TooLarge`, before anything is written; `Memory` and `Write` after a
+/// beginning of the picture.
+pub fn draw<T: AsStr, W: Sink>(
+    alloc: Global,
+    settings: Vec<Setting>,
+    records: &VecRecords<T>,
+    sizing: Sizing,
+    sink: &mut W,
+) -> Result<(), DrawError>
+    requires { All (λ setting. is_in_range setting ≡ true) settings.items }
+    ensures picture { OnOk result ((d : Drawing) × IsDrawingBy (column_count records.now)
+        (texts_held T.text records.now) sizing settings.items d
+        × Appends (W.contents sink.old) (W.contents sink.new) (printed d)) }
+    ensures works { OnOk result (W.has_failed sink.new ≡ W.has_failed sink.old) }
+    ensures moves { OnOk result (W.has_stalled sink.new ≡ W.has_stalled sink.old) }
+    ensures fault { IfErr result (λ e. IsRefusal e → IsPictureFault
+        (column_count records.now) (texts_held T.text records.now) sizing settings.items e) }
+    ensures nothing { IfErr result (λ e. IsRefusal e → sink.new ≡ sink.old) }
+    ensures beginning { OnErr result ((sink.new ≡ sink.old)
+        ⊎ ((d : Drawing) × IsDrawingBy (column_count records.now)
+        (texts_held T.text records.now) sizing settings.items d × ((n : ℕ)
+        × Appends (W.contents sink.old) (W.contents sink.new) (take n (printed d))))) }
+    ensures write { IsErrOf result DrawError.Write → (W.has_failed sink.new ≡ true)
+        ⊎ (W.has_stalled sink.old ≡ false → W.has_stalled sink.new ≡ true) }
+{
+    let config = configuration(alloc, settings)?;
+    let table = Table::new(alloc, &config, records, sizing)?;
+    let cells = TextCells {
+        alloc,
+        rows: records.as_slice(),
+        colors: &NoColors,
+    };
+    draw_cells(alloc, &table, &cells, sink)
+}
+
+/// Reads a script to its end, and writes the lines of the picture of its table, with sizes by shares or least ones, or why it
+/// has none. Each line ends with a line feed. Nothing is written before the input was read to its end and judged.
+/// The whole input is left in the vector, in place of what it held.
+///
+/// Conditions: as those of `run`.
+///
+/// # Errors
+///
+/// `Read` where the reader fails, `Write` where the writer fails or takes no byte of a piece that isn't empty,
+/// `Memory` where a growth is refused. No failed call is tried again. After `Read` nothing was written and the vector is as
+/// it was. After `Write` and `Memory` a beginning of the output was written, which may be nothing.
+pub fn run_table<S: Source, W: Sink>(
+    alloc: Global,
+    sizing: Sizing,
+    reader: &mut S,
+    writer: &mut W,
+    input: &mut Vec<u8>,
+) -> Result<RunEnd, RunFault>
+    // Of a reader and a writer that had not failed.
+    requires reader { S.has_failed reader.old ≡ false }
+    requires writer { W.has_failed writer.old ≡ false }
+    // The vector holds what was read, to the end of the reader; it is all where the reader tells its bytes.
+    ensures kept { OnOk result (Consumes (S.remaining reader.old)
+        (S.remaining reader.new) input.new.items) }
+    ensures all_kept { OnOk result (IfSome (S.remaining reader.old) (λ left.
+        input.new.items ≡ left)) }
+    ensures end { OnOk result (IsAtEnd (S.remaining reader.new)) }
+    // The picture that it tells was written, or why it has none, and nothing else.
+    ensures written { IfOk result (λ end. (output : List ℕ)
+        × IsPictureRun sizing input.new.items end output
+        × Appends (W.contents writer.old) (W.contents writer.new) output) }
+    // No read and no write failed, and each write of a piece that isn't empty took a byte.
+    ensures reader_works { OnOk result (S.has_failed reader.new ≡ false) }
+    ensures writer_works { OnOk result (W.has_failed writer.new ≡ false) }
+    ensures writer_moves { OnOk result (W.has_stalled writer.new ≡ W.has_stalled writer.old) }
+    // Which fault comes, what was written then, and what the vector holds.
+    ensures read { IsErrOf result RunFault.Read → S.has_failed reader.new ≡ true }
+    ensures write { IsErrOf result RunFault.Write →
+        (W.has_failed writer.new ≡ true) ⊎ (W.has_stalled writer.old ≡ false →
+        W.has_stalled writer.new ≡ true) }
+    ensures memory { IsErrOf result RunFault.Memory → S.has_failed reader.new ≡ false }
+    ensures write_alone { IsErrOf result RunFault.Write → S.has_failed reader.new ≡ false }
+    ensures read_nothing { IsErrOf result RunFault.Read → writer.new ≡ writer.old }
+    ensures read_kept { IsErrOf result RunFault.Read → input.new ≡ input.old }
+    ensures unread { OnErr result ((input.new ≡ input.old)
+        ⊎ IsWholeInput (S.remaining reader.old) (S.remaining reader.new) input.new.items) }
+    ensures beginning { OnErr result ((writer.new ≡ writer.old)
+        ⊎ ((end : RunEnd) × ((output : List ℕ) × IsPictureRun sizing input.new.items end output
+        × ((n : ℕ) × Appends (W.contents writer.old) (W.contents writer.new)
+        (take n output))))) }
+{
+    *input = read_all(alloc, reader)?;
+    draw_input(alloc, sizing, input.as_slice(), writer)
+}
+
+/// Writes the picture of the table that an input tells, or why it has none.
+fn draw_input<W: Sink>(
+    alloc: Global,
+    sizing: Sizing,
+    input: &[u8],
+    writer: &mut W,
+) -> Result<RunEnd, RunFault>
+    ensures { Runs W.contents W.has_failed W.has_stalled (IsPictureRun sizing input.now)
+        writer.old writer.new result }
+{
+    let texts = Bump::new(alloc);
+    match read_script(alloc, &texts, input) {
+        Err(ScriptError::Memory) => Err(RunFault::Memory),
+        Err(ScriptError::Bad(number)) => {
+            say(writer, RunEnd::BadScript, bad_script_text(alloc, number)?)
+        }
+        Ok(script) => draw_script(alloc, sizing, script, writer),
+    }
+}
+
+/// Writes a text, after which the run ends so.
+fn say<W: Sink>(writer: &mut W, end: RunEnd, text: Vec<u8>) -> Result<RunEnd, RunFault>
+    ensures { Runs W.contents W.has_failed W.has_stalled
+        (λ e output. (e ≡ end) × (output ≡ text.items)) writer.old writer.new result }
+{
+    match write_all(writer, text.as_slice()) {
+        Ok(()) => Ok(end),
+        Err(_) => Err(RunFault::Write),
+    }
+}
+
+/// Writes the picture of the table that a script tells, or why it has none.
+fn draw_script<W: Sink>(
+    alloc: Global,
+    sizing: Sizing,
+    script: Script<'_>,
+    writer: &mut W,
+) -> Result<RunEnd, RunFault>
+    ensures { Runs W.contents W.has_failed W.has_stalled
+        (IsTablePicture sizing (table_seen script.entry)) writer.old writer.new result }
+{
+    let Script {
+        columns,
+        settings,
+        rows,
+    } = script;
+    let config = configuration_of(alloc, settings)?;
+    let text = match draw_rows(alloc, sizing, &config, columns, &rows, writer) {
+        Ok(()) => return Ok(RunEnd::Done),
+        Err(DrawError::Memory(_)) => return Err(RunFault::Memory),
+        Err(DrawError::Write) => return Err(RunFault::Write),
+        Err(DrawError::OutOfTable(position)) => out_of_table_text(alloc, position)?,
+        Err(DrawError::NotTiled(position)) => not_tiled_text(alloc, position)?,
+        Err(DrawError::NoRoom(position)) => no_room_text(alloc, position)?,
+        Err(DrawError::TooLarge) => too_large_text(alloc)?,
+    };
+    say(writer, RunEnd::Refused, text)
+}
+
+/// Writes the picture of rows of texts.
+fn draw_rows<W: Sink>(
+    alloc: Global,
+    sizing: Sizing,
+    config: &SpannedConfig,
+    columns: usize,
+    rows: &Vec<&[&str]>,
+    writer: &mut W,
+) -> Result<(), DrawError>
+    ensures { Draws W.contents W.has_failed W.has_stalled
+        (IsDrawingWith columns (rows_seen rows.now.items) sizing config.now)
+        (IsFaultWith columns (rows_seen rows.now.items) sizing config.now)
+        lined writer.old writer.new result }
+{
+    let records = IterRecords::new(rows.clone()?, columns, Some(rows.len()));
+    let table = Table::new(alloc, config, records, sizing)?;
+    let cells = TextCells {
+        alloc,
+        rows: rows.as_slice(),
+        colors: &NoColors,
+    };
+    draw_lines(alloc, &table, &cells, writer)
+}
+
+/// The line for a table that its cells don't tile.
+fn not_tiled_text(alloc: Global, position: Position) -> Result<Vec<u8>, AllocError>
+    ensures { IfOk result (λ text. text.items ≡ refusal_line (NotTiled position)) }
+{
+    let Position { row, col } = position;
+    let text = format!(in alloc; "refused: not tiled at {row},{col}\n")?;
+    Ok(text.into_bytes())
+}
+
+/// The line for a cell without room.
+fn no_room_text(alloc: Global, position: Position) -> Result<Vec<u8>, AllocError>
+    ensures { IfOk result (λ text. text.items ≡ refusal_line (NoRoom position)) }
+{
+    let Position { row, col } = position;
+    let text = format!(in alloc; "refused: no room at {row},{col}\n")?;
+    Ok(text.into_bytes())
+}

@@ -1,0 +1,124 @@
+//! The cells of rows that are held, with the colours of their texts.
+
+ghost use Rattle.std.specs.Prelude.{◌≡◌, ℕ, List, map, option_copied, option_map, slice_get};
+ghost use Rattle.papergrid_values.specs.Colors.{texts_of};
+ghost use Rattle.papergrid_text.specs.HeldRows.{rows_held};
+ghost use Rattle.papergrid_grid.specs.Cells.{lines_at, text_lines};
+
+use crate::color::AsANSIStr;
+use papergrid_draw::source::Cells;
+use papergrid_maps::Colors;
+use papergrid_text::{Cell, Text, VecRecords};
+use papergrid_values::{ANSIStr, Position};
+use std::alloc::{AllocError, Global};
+use std::convert::AsStr;
+
+/// The cells of records that are held, which know their lines and widths.
+#[derive(Clone, Copy, Debug)]
+pub struct RecordCells<'a, T, C> {
+    /// The records. Their rows are read, whatever they tell of their counts.
+    pub records: &'a VecRecords<T>,
+    /// The colours of the texts.
+    pub colors: &'a C,
+}
+
+impl<'a, T: Cell, C: Colors> Cells for RecordCells<'a, T, C>
+where
+    <C as Colors>::Color: AsANSIStr,
+{
+    type Cell = &'a T;
+
+    ghost lines = { λ s. lines_at T.lines (map (λ row. row.items) (rows_held s.records.now).items) };
+
+    ghost color = { λ s p. option_map C.Color.texts (C.color_at s.colors.now p) };
+
+    fn cell(&self, position: Position) -> Result<Option<&'a T>, AllocError> {
+        match self.records.get(position.row) {
+            Some(row) => Ok(row.get(position.col)),
+            None => Ok(None),
+        }
+    }
+
+    fn color(&self, position: Position) -> Option<ANSIStr<'_>> {
+        color_of(self.colors, position)
+    }
+}
+
+/// The texts of the colour at a position.
+fn color_of<C: Colors>(colors: &C, position: Position) -> Option<ANSIStr<'_>>
+where
+    <C as Colors>::Color: AsANSIStr,
+    ensures { option_map texts_of result ≡ option_map C.Color.texts (C.color_at colors.now position) }
+{
+    match colors.get_color(position) {
+        Some(color) => Some(color.as_ansi_str()),
+        None => None,
+    }
+}
+
+/// A row of texts.
+pub trait TextRow {
+    // The texts.
+    ghost texts: { Self → List (List ℕ) };
+
+    /// The text in a column, if there is one.
+    fn text(&self, column: usize) -> Option<&str>
+        ensures { option_copied result ≡ slice_get (texts self.now) column };
+}
+
+impl<S: AsStr> TextRow for Vec<S> {
+    ghost texts = { λ s. map S.text s.items };
+
+    fn text(&self, column: usize) -> Option<&str> {
+        match self.get(column) {
+            Some(text) => Some(text.as_str()),
+            None => None,
+        }
+    }
+}
+
+impl<S: AsStr> TextRow for &[S] {
+    ghost texts = { λ s. map S.text s.now };
+
+    fn text(&self, column: usize) -> Option<&str> {
+        match self.get(column) {
+            Some(text) => Some(text.as_str()),
+            None => None,
+        }
+    }
+}
+
+/// Rows of texts as cells. A text is measured each time that it is read. One of several lines allocates then.
+#[derive(Clone, Copy, Debug)]
+pub struct TextCells<'a, R, C> {
+    pub alloc: Global,
+    /// The rows.
+    pub rows: &'a [R],
+    /// The colours of the texts.
+    pub colors: &'a C,
+}
+
+impl<'a, R: TextRow, C: Colors> Cells for TextCells<'a, R, C>
+where
+    <C as Colors>::Color: AsANSIStr,
+{
+    type Cell = Text<&'a str>;
+
+    ghost lines = { λ s. lines_at text_lines (map R.texts s.rows.now) };
+
+    ghost color = { λ s p. option_map C.Color.texts (C.color_at s.colors.now p) };
+
+    fn cell(&self, position: Position) -> Result<Option<Text<&'a str>>, AllocError> {
+        let Some(row) = self.rows.get(position.row) else {
+            return Ok(None);
+        };
+        match row.text(position.col) {
+            Some(text) => Ok(Some(Text::new(self.alloc, text)?)),
+            None => Ok(None),
+        }
+    }
+
+    fn color(&self, position: Position) -> Option<ANSIStr<'_>> {
+        color_of(self.colors, position)
+    }
+}

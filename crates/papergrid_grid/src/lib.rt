@@ -1,0 +1,11 @@
+//! Printers over records that are held: their cells, read by position, and the calls of the original.
+#![tactic(auto)]
+
+mod cells;
+mod color;
+mod lines;
+mod sized;
+
+pub use cells::{RecordCells, TextCells, TextRow};
+pub use color::AsANSIStr;
+pub use lines::draw_lines;

@@ -1,0 +1,63 @@
+//! The picture as a text of lines.
+
+ghost use Rattle.std.specs.Prelude.{◌≡◌, ◌≢◌, ◌⊎◌, ◌↔◌, ℕ, IfErr, IsErrOf, IsTrue, OnErr, OnOk, false, take, true};
+ghost use Rattle.std.specs.Io.KnownBytes.{Appends};
+ghost use Rattle.papergrid_draw.specs.Drawings.{Drawing, drawn_of, layout_of};
+ghost use Rattle.papergrid_draw.specs.Faults.{IsDrawFault, whole_height};
+ghost use Rattle.papergrid_draw.specs.declared.error.DrawError.TheVariants.{Memory, Write};
+ghost use Rattle.papergrid_layout.specs.Tables.{view_of};
+ghost use Rattle.papergrid_grid.specs.Lined.{lined};
+
+use papergrid_draw::DrawError;
+use papergrid_draw::printer::draw_cells;
+use papergrid_draw::source::Cells;
+use papergrid_draw::transfer::{Sink, write_all};
+use papergrid_layout::Table;
+use std::alloc::{AllocError, Global};
+
+/// Whether the picture of a table has a line.
+fn has_lines(table: &Table<'_>) -> bool
+    ensures { (d : Drawing) → layout_of d ≡ view_of table.now → d.config ≡ table.now.config →
+        IsTrue result ↔ ((d.shape.0 ≢ 0) × (d.shape.1 ≢ 0) × (whole_height d ≢ 0)) }
+{
+    let (rows, columns) = table.shape();
+    let margin = table.config().get_margin();
+    let beside = margin.top.size > 0 || margin.bottom.size > 0;
+    rows > 0 && columns > 0 && (table.height() > 0 || beside)
+}
+
+/// Writes the picture of a table as `draw_cells` does, with a line feed after each line, the last one too.
+///
+/// # Errors
+///
+/// As `draw_cells`.
+pub fn draw_lines<'a, S: Cells, W: Sink>(
+    alloc: Global,
+    table: &'a Table<'a>,
+    cells: &'a S,
+    sink: &mut W,
+) -> Result<(), DrawError>
+where
+    S::Cell: Drop,
+    ensures picture { OnOk result (Appends (W.contents sink.old) (W.contents sink.new)
+        (lined (drawn_of S.lines S.color table.now cells.now))) }
+    ensures works { OnOk result (W.has_failed sink.new ≡ W.has_failed sink.old) }
+    ensures moves { OnOk result (W.has_stalled sink.new ≡ W.has_stalled sink.old) }
+    ensures fault { IfErr result (IsDrawFault (drawn_of S.lines S.color table.now cells.now)) }
+    ensures nothing { IfErr result (λ e. (e ≡ Write) ⊎ ((error : AllocError) × (e ≡ Memory error))
+        ⊎ (sink.new ≡ sink.old)) }
+    ensures beginning { OnErr result ((n : ℕ)
+        × Appends (W.contents sink.old) (W.contents sink.new)
+        (take n (lined (drawn_of S.lines S.color table.now cells.now)))) }
+    ensures write { IsErrOf result DrawError.Write → (W.has_failed sink.new ≡ true)
+        ⊎ (W.has_stalled sink.old ≡ false → W.has_stalled sink.new ≡ true) }
+{
+    draw_cells(alloc, table, cells, sink)?;
+    if !has_lines(table) {
+        return Ok(());
+    }
+    match write_all(sink, b"\n") {
+        Ok(()) => Ok(()),
+        Err(_) => Err(DrawError::Write),
+    }
+}
