@@ -1,7 +1,9 @@
 -- What is seen of a picture: which pieces stand where in its lines.
-use Rattle.std.specs.Prelude.{◌≡◌, ◌++◌, ℕ, List, [], ◌∷◌, Some, flat_map, map, slice_get, sum_by}
+use Rattle.std.specs.Prelude.{◌≡◌, ◌≤◌, ◌++◌, ℕ, All, List, [], ◌∷◌, Some, flat_map, map, slice_get, sum_by}
+use Rattle.papergrid_values.specs.declared.direction.Direction.TheVariants.{Columns}
 use Rattle.papergrid_values.specs.declared.position.Position.{Position}
-use Rattle.papergrid_text.specs.Text.{split_lines, with_width}
+use Rattle.papergrid_text.specs.Text.{split_lines, width_of, with_width}
+use Rattle.papergrid_walk.specs.Cells.{side}
 use Rattle.papergrid_layout.specs.Laws.{IsCellAt}
 use Rattle.papergrid_draw.specs.Contents.{Block}
 use Rattle.papergrid_draw.specs.Drawings.{Drawing}
@@ -36,7 +38,17 @@ AreDrawnAt d x y pieces =
 abbrev pub text_piece : Block → List ℕ × ℕ → Piece
 text_piece b line = record { kind = CellText; text = line.0; columns = line.1; color = b.color }
 
--- the lines of the cell that the rows have at a position, each with its width, or none where they have no cell there
+-- lines of which none is narrower than its text or wider than this
+abbrev pub AreNoWider : ℕ → List (List ℕ × ℕ) → Type 0
+AreNoWider width lines = All (λ line. (width_of line.0 ≤ line.1) × (line.1 ≤ width)) lines
+
+-- such are the lines at a position, by the measure of the cell that the rows have there; there are none where they have none
+pub record AreMeasuredAt {C : Type 0} (measure : C → ℕ × ℕ) (rows : List (List C)) (p : Position)
+    (lines : List (List ℕ × ℕ)) : Type 0 where
+  pub of_cell : (cell : C) → IsCellAt rows p cell → AreNoWider (side Columns (measure cell)) lines
+  pub of_none : ((cell : C) → IsCellAt rows p cell → ⊥) → lines ≡ []
+
+-- the lines at a position are those of the text of the cell that the rows have there; there are none where they have none
 pub record AreLinesAt {C : Type 0} (text : C → List ℕ) (rows : List (List C)) (p : Position)
     (lines : List (List ℕ × ℕ)) : Type 0 where
   pub of_cell : (cell : C) → IsCellAt rows p cell → lines ≡ map with_width (split_lines (text cell))

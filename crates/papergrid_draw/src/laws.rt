@@ -12,7 +12,7 @@ ghost use Rattle.papergrid_layout.specs.Places.{IsVisibleCell, total_along};
 ghost use Rattle.papergrid_draw.specs.Drawings.{Drawing, layout_of};
 ghost use Rattle.papergrid_draw.specs.Drawn.{drawn_lines};
 ghost use Rattle.papergrid_draw.specs.Faults.{AllHaveRoom, whole_height};
-ghost use Rattle.papergrid_draw.specs.Laws.{AreLinesAt};
+ghost use Rattle.papergrid_draw.specs.Laws.{AreLinesAt, AreMeasuredAt};
 ghost use Rattle.papergrid_draw.specs.Margins.{printed, printed_lines};
 
 /// A picture has as many lines as its table is high, with both margins, and a line feed between two. That of a table
@@ -37,13 +37,18 @@ pub fn hidden_cells_unseen()
         printed d ≡ printed e }
 {}
 
-/// A drawing leaves room for the text of each visible cell where its widths have room for what the cells ask for, as
-/// those of an estimate do.
+/// A drawing leaves room for each visible cell where its widths have room for what the cells ask for along columns, as
+/// those of an estimate do, and it draws none wider than it was measured: so it is where each is drawn and measured by
+/// the lines of its text.
 pub fn estimates_leave_room<C>()
-    ensures { (d : Drawing) (text : C → List ℕ) (rows : List (List C)) (widths : List ℕ) →
-        d.widths ≡ slice_index widths →
+    ensures measured { (d : Drawing) (measure : C → ℕ × ℕ)
+        (rows : List (List C)) (widths : List ℕ) → d.widths ≡ slice_index widths →
+        Fits (problem_of (spanned_grid d.config) measure d.shape.1 rows Columns) widths →
+        ((p : Position) → IsVisibleCell (layout_of d) p →
+        AreMeasuredAt measure rows p (d.lines p)) → AllHaveRoom d }
+    ensures texts { (d : Drawing) (text : C → List ℕ)
+        (rows : List (List C)) (widths : List ℕ) → d.widths ≡ slice_index widths →
         Fits (problem_of (spanned_grid d.config) (line_measure text) d.shape.1 rows Columns)
-        widths →
-        ((p : Position) → IsVisibleCell (layout_of d) p → AreLinesAt text rows p (d.lines p)) →
-        AllHaveRoom d }
+        widths → ((p : Position) → IsVisibleCell (layout_of d) p →
+        AreLinesAt text rows p (d.lines p)) → AllHaveRoom d }
 {}
