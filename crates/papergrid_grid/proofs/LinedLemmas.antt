@@ -1,5 +1,5 @@
 -- The lines of a picture, each ended by a line feed.
-use Rattle.std.proofs.Common.{◌≡◌, ◌≢◌, ◌==◌, ◌∙◌, ◌≤◌, ◌+◌, ◌-◌, ℕ, List, [], ◌∷◌, ◌++◌, Option, Bool, true, false, ap, append-nil, append_assoc, arith, length, refl, subst, sym, take, inl, inr, min}
+use Rattle.std.proofs.Common.{◌≡◌, ◌≢◌, ◌⊎◌, ◌==◌, ◌∙◌, ◌≤◌, ◌+◌, ◌-◌, ℕ, List, [], ◌∷◌, ◌++◌, Option, Bool, true, false, ap, append-nil, append_assoc, arith, length, refl, subst, sym, take, inl, inr, min}
 use Rattle.std.specs.Io.KnownBytes.{Appends}
 use Rattle.std.specs.List.{join_with_byte}
 use Rattle.std.proofs.lemmas.Bool.{cases_Bool}
@@ -7,6 +7,8 @@ use Rattle.std.proofs.lemmas.Bool.Decides.{nat_tests}
 use Rattle.std.proofs.lemmas.List.{take-append-le, take_all}
 use Rattle.papergrid_draw.specs.Drawings.{Drawing}
 use Rattle.papergrid_draw.specs.Margins.{printed, printed_lines}
+use Rattle.std.proofs.Math.Seq.{take-append-add}
+use Rattle.papergrid_draw.proofs.KnownLemmas.{appends_more}
 use Rattle.papergrid_draw.proofs.PrinterLemmas.{printed-none, printed-some}
 use Rattle.papergrid_grid.specs.Lined.{ended_lines, lined}
 
@@ -41,7 +43,7 @@ lined-none d none = elim (cases_Bool (d.shape.0 == 0)) [
           let columns : d.shape.1 ≢ 0 = grind (arith, nat_tests, c) in
           elim (cases_Bool (length (printed_lines d) == 0)) [
             | inl l ↦ let empty : length (printed_lines d) ≡ 0 = grind (arith, nat_tests, l) in printed-some d r c ∙ ended-none (printed_lines d) empty ∙ rw (r, c) refl
-            | inr l ↦ let some : length (printed_lines d) ≢ 0 = grind (arith, nat_tests, l) in absurd (none (rows, (columns, some)))
+            | inr l ↦ let some : length (printed_lines d) ≢ 0 = grind (arith, nat_tests, l) in absurd (none (rows, columns, some))
           ]
     ]
 ]
@@ -59,9 +61,31 @@ begun n front whole is =
           take_all n xs (omega (arith, e)) ∙ sym (take_all (min n (length xs)) xs (omega (arith, e)))
     ]
 
-pub lined-begun : (d : Drawing) (has : Bool) → (has ≡ true → printed d ++ 10 ∷ [] ≡ lined d) → (has ≡ false → printed d ≡ lined d) →
-    (old new : Option (List ℕ)) (n : ℕ) → Appends old new (take n (printed d)) → (m : ℕ) × Appends old new (take m (lined d))
-lined-begun d true some none old new n are =
-    let found = begun n (printed d) (lined d) (sym (some refl)) in
-    (found.0, subst (Appends old new) found.1 are)
-lined-begun d false some none old new n are = (n, subst (λ (l : List ℕ). Appends old new (take n l)) (none refl) are)
+-- they are the same, or one line feed more
+lined-or : (d : Drawing) → (printed d ≡ lined d) ⊎ (printed d ++ 10 ∷ [] ≡ lined d)
+lined-or d = elim (cases_Bool (d.shape.0 == 0)) [
+  | inl r ↦ let zero_rows : d.shape.0 ≡ 0 = grind (arith, nat_tests, r) in inl (lined-none d (λ all. all.0 zero_rows))
+  | inr r ↦ elim (cases_Bool (d.shape.1 == 0)) [
+      | inl c ↦ let zero_columns : d.shape.1 ≡ 0 = grind (arith, nat_tests, c) in inl (lined-none d (λ all. all.1 zero_columns))
+      | inr c ↦ elim (cases_Bool (length (printed_lines d) == 0)) [
+          | inl l ↦ let zero_lines : length (printed_lines d) ≡ 0 = grind (arith, nat_tests, l) in inl (lined-none d (λ all. all.2 zero_lines))
+          | inr l ↦
+              let rows : d.shape.0 ≢ 0 = grind (arith, nat_tests, r) in
+              let columns : d.shape.1 ≢ 0 = grind (arith, nat_tests, c) in
+              let some : length (printed_lines d) ≢ 0 = grind (arith, nat_tests, l) in
+              inr (lined-some d rows columns some)
+        ]
+    ]
+]
+
+pub lined-begun : (d : Drawing) (old new : Option (List ℕ)) (n : ℕ) → Appends old new (take n (printed d)) → (m : ℕ) × Appends old new (take m (lined d))
+lined-begun d old new n are = elim (lined-or d) [
+  | inl same ↦ (n, subst (λ (l : List ℕ). Appends old new (take n l)) same are)
+  | inr more ↦ (let found = begun n (printed d) (lined d) (sym more) in (found.0, subst (Appends old new) found.1 are))
+]
+
+-- after the picture, a beginning of the last line feed
+pub lined-last : (d : Drawing) (old between new : Option (List ℕ)) (n : ℕ) → printed d ++ 10 ∷ [] ≡ lined d →
+    Appends old between (printed d) → Appends between new (take n (10 ∷ [])) → (m : ℕ) × Appends old new (take m (lined d))
+lined-last d old between new n is first rest =
+    (length (printed d) + n, subst (Appends old new) (sym (take-append-add (printed d) (10 ∷ []) n) ∙ ap (take (length (printed d) + n)) is) (appends_more old between new _ _ first rest))

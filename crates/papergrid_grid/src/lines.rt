@@ -1,6 +1,6 @@
 //! The picture as a text of lines.
 
-ghost use Rattle.std.specs.Prelude.{◌≡◌, ◌≢◌, ◌⊎◌, ◌↔◌, ℕ, IfErr, IsErrOf, IsTrue, OnErr, OnOk, false, take, true};
+ghost use Rattle.std.specs.Prelude.{◌≡◌, ◌≢◌, ◌+◌, ◌⊎◌, ◌↔◌, ℕ, IfErr, IsErrOf, IsTrue, OnErr, OnOk, false, take, true};
 ghost use Rattle.std.specs.Io.KnownBytes.{Appends};
 ghost use Rattle.papergrid_draw.specs.Drawings.{Drawing, drawn_of, layout_of};
 ghost use Rattle.papergrid_draw.specs.Faults.{IsDrawFault, whole_height};
@@ -15,6 +15,14 @@ use papergrid_draw::transfer::{Sink, write_all};
 use papergrid_layout::Table;
 use std::alloc::{AllocError, Global};
 
+/// Whether there is a line: there are rows and columns, and they or the margins have any height.
+fn is_any(rows: usize, columns: usize, height: usize, beside: (usize, usize)) -> bool
+    ensures { IsTrue result ↔ ((rows ≢ 0) × (columns ≢ 0)
+        × (height + (beside.0 + beside.1) ≢ 0)) }
+{
+    rows != 0 && columns != 0 && (height != 0 || beside.0 != 0 || beside.1 != 0)
+}
+
 /// Whether the picture of a table has a line.
 fn has_lines(table: &Table<'_>) -> bool
     ensures { (d : Drawing) → layout_of d ≡ view_of table.now → d.config ≡ table.now.config →
@@ -22,8 +30,12 @@ fn has_lines(table: &Table<'_>) -> bool
 {
     let (rows, columns) = table.shape();
     let margin = table.config().get_margin();
-    let beside = margin.top.size > 0 || margin.bottom.size > 0;
-    rows > 0 && columns > 0 && (table.height() > 0 || beside)
+    is_any(
+        rows,
+        columns,
+        table.height(),
+        (margin.top.size, margin.bottom.size),
+    )
 }
 
 /// Writes the picture of a table as `draw_cells` does, with a line feed after each line, the last one too.
