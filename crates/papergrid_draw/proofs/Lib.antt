@@ -1,4 +1,5 @@
 pub mod BlockLemmas
+pub mod DeliveryLemmas
 pub mod EndLemmas
 pub mod KnownLemmas
 pub mod LineLemmas
@@ -12,6 +13,7 @@ pub mod RoomLemmas
 pub mod RuleLemmas
 pub mod SegmentLemmas
 pub mod SheetLemmas
+pub mod SinkLemmas
 pub mod SlotLemmas
 pub mod StretchLemmas
 pub mod TileLemmas

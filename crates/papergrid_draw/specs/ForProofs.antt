@@ -4,4 +4,5 @@ pub mod Looks
 pub mod Pages
 pub mod Pens
 pub mod Sheets
+pub mod Sinks
 pub mod Tiles
