@@ -8,7 +8,7 @@ use Rattle.papergrid_draw.proofs.PrinterLemmas.{text_lines-cut, text_lines-next}
 use Rattle.papergrid_draw.proofs.printer.draw_text_lines.Goals as goal
 
 pub loop-k-init : goal.loop-k-init
-loop-k-init g c = λ parts texts at. record { comes = at; lines = lines-none _ _ _ _ tt }
+loop-k-init g c = λ parts texts at. record { comes = at; lines = lines-none g.D.Delivery.takes g.D.Delivery.breaks _ _ tt }
 
 pub draw_text_line-requires : goal.draw_text_line-requires
 draw_text_line-requires g c =
@@ -24,7 +24,7 @@ returns-in_err-draw_text_line-clause-lines g c =
     let now = c.loop-k.invariant parts texts at in
     let below : c.loop-k.k < slice_index parts.heights c.args.row =
     omega (arith, c.get_height-k-end.ensures, ap (λ (t : TableParts). slice_index t.heights c.args.row) at.frame_is.table) in
-    text_lines-cut (drawing_of parts texts) _ _ _ _ _ _ _ _ _ c.args.sheet.now.written c.loop-k.sheet.written c.args.row c.loop-k.k (slice_index parts.heights c.args.row) tt _
+    text_lines-cut (drawing_of parts texts) g.D.Delivery.takes g.D.Delivery.breaks _ _ _ _ _ _ _ c.args.sheet.now.written c.loop-k.sheet.written c.args.row c.loop-k.k (slice_index parts.heights c.args.row) tt _
     (omega (arith, at.written, now.comes.written)) below now.lines (c.in_err-draw_text_line.ensures.lines parts texts now.comes))
 
 pub loop-k-preserved : goal.loop-k-preserved
@@ -32,7 +32,7 @@ loop-k-preserved g c = λ parts texts at.
     let now = c.loop-k.invariant parts texts at in
     record {
       comes = c.in_ok-draw_text_line.ensures.kept parts texts now.comes;
-      lines = text_lines-next (drawing_of parts texts) _ _ _ _ _ _ _ _ c.args.sheet.now.written c.loop-k.sheet.written c.args.row c.loop-k.k tt (Ok tt)
+      lines = text_lines-next (drawing_of parts texts) g.D.Delivery.takes g.D.Delivery.breaks _ _ _ _ _ _ c.args.sheet.now.written c.loop-k.sheet.written c.args.row c.loop-k.k tt (Ok tt)
           (omega (arith, at.written, now.comes.written)) now.lines (c.in_ok-draw_text_line.ensures.lines parts texts now.comes);
     }
 

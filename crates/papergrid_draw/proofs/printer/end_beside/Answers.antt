@@ -9,7 +9,7 @@ use Rattle.papergrid_draw.proofs.printer.end_beside.Goals as goal
 pub returns-in_err-push_beside-clause-bytes : goal.returns-in_err-push_beside-clause-bytes
 returns-in_err-push_beside-clause-bytes g c =
     let p = err_from_is_err_and c.from_residual.result c.from_residual.ensures.1 in
-    rw (p.1, p.2) (λ parts texts is. cut-memory _ _ _ _ _)
+    rw (p.1, p.2) (λ parts texts is. cut-memory g.D.Delivery.takes g.D.Delivery.breaks _ _ _)
 
 pub returns-clause-bytes : goal.returns-clause-bytes
 returns-clause-bytes g c = λ parts texts is.
