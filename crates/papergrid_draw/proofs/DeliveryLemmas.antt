@@ -1,7 +1,6 @@
 -- What was written where a picture was, or was not.
-use Rattle.std.proofs.Common.{◌≡◌, ◌≢◌, ℕ, List, [], Result, Ok, Err, OnOk, IfErr, refl}
+use Rattle.std.proofs.Common.{ℕ, List, Result, Ok, Err, OnOk, IfErr}
 use Rattle.std.specs.Fmt.{WritesInCalls}
-use Rattle.std.proofs.Output.{writes_in_calls_nil}
 use Rattle.papergrid_draw.specs.Deliveries.{IsLeftOff}
 use Rattle.papergrid_draw.specs.declared.error.DrawError.{DrawError}
 use Rattle.papergrid_draw.specs.declared.error.DrawError.TheVariants.{Memory, NoRoom, NotTiled, OutOfTable, TooLarge, Write}
@@ -9,15 +8,7 @@ use Rattle.papergrid_draw.specs.ForProofs.Sheets.{IsCutOff, Writes}
 
 -- by the relations of texts that are taken and of one that breaks off
 module _ {W : Type 0} (takes breaks : W → List ℕ → W → Type 0) where
-  -- refused before anything was written
-  pub left-refused : (a : W) (bytes : List ℕ) (error : DrawError) → error ≢ Write → IsLeftOff takes breaks a bytes a error
-  left-refused a bytes (Memory e) other = record { taken = []; rest = bytes; calls = writes_in_calls_nil takes a; whole = refl }
-  left-refused a bytes Write other = absurd (other refl)
-  left-refused a bytes (OutOfTable p) other = refl
-  left-refused a bytes (NotTiled p) other = refl
-  left-refused a bytes (NoRoom p) other = refl
-  left-refused a bytes TooLarge other = refl
-
+  -- a picture that is cut off is left off
   left-cut : (a b : W) (bytes : List ℕ) (error : DrawError) → IsCutOff takes breaks a b bytes error → IsLeftOff takes breaks a bytes b error
   left-cut a b bytes (Memory e) cut = cut
   left-cut a b bytes Write cut = cut

@@ -3,14 +3,13 @@ use Rattle.std.specs.Fmt.{WritesInCalls}
 use Rattle.std.specs.List.{join_with_byte}
 use Rattle.std.proofs.Output.{writes_in_calls_nil}
 use Rattle.std.proofs.lemmas.Bool.Decides.{nat_tests}
-use Rattle.std.proofs.lemmas.Result.{err_from_is_err_and}
 use Rattle.papergrid_layout.specs.Tables.{TableParts, view_of}
 use Rattle.papergrid_draw.specs.Deliveries.{IsLeftOff}
 use Rattle.papergrid_draw.specs.Drawings.{drawn_of}
 use Rattle.papergrid_draw.specs.Margins.{printed_lines}
 use Rattle.papergrid_draw.specs.Tiles.{IsTiled}
 use Rattle.papergrid_draw.specs.ForProofs.Sheets.{Writes}
-use Rattle.papergrid_draw.proofs.DeliveryLemmas.{left-of, left-refused, written-of}
+use Rattle.papergrid_draw.proofs.DeliveryLemmas.{left-of, written-of}
 use Rattle.papergrid_draw.proofs.PrinterLemmas.{printed-none, printed-some}
 use Rattle.papergrid_draw.proofs.printer.draw_by.Goals as goal
 use Rattle.papergrid_draw.proofs.printer.draw_by.Goals.{then-rows-eq0-via-then-rows-eq0, then-rows-eq0-via-else-rows-eq0+then-columns-eq0}
