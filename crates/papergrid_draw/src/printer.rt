@@ -185,7 +185,14 @@ where
         config.get_margin_offset(),
     );
     let mut sheet = Sheet::new(alloc);
-    draw_margin::<D, W>(&mut sheet, &margin.top, color.top, &offset.top, width, writer)?;
+    draw_margin::<D, W>(
+        &mut sheet,
+        &margin.top,
+        color.top,
+        &offset.top,
+        width,
+        writer,
+    )?;
     draw_rows::<S, D, W>(alloc, frame, cells, &mut sheet, writer)?;
     draw_margin::<D, W>(
         &mut sheet,
@@ -538,7 +545,11 @@ fn begin_beside(frame: &Frame<'_>, sheet: &mut Sheet) -> Result<(), AllocError>
 }
 
 /// Ends a line of the table, with the right margin, and writes it.
-fn end_beside<D: Delivery<W>, W>(frame: &Frame<'_>, sheet: &mut Sheet, writer: &mut W) -> Result<(), DrawError>
+fn end_beside<D: Delivery<W>, W>(
+    frame: &Frame<'_>,
+    sheet: &mut Sheet,
+    writer: &mut W,
+) -> Result<(), DrawError>
     requires { sheet.old.written < 2 ^ 64 - 1 }
     ensures bytes { (parts : TableParts) (texts : Texts) → IsFrame parts frame.now →
         Writes D.takes D.breaks writer.old writer.new

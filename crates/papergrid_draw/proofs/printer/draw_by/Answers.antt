@@ -1,4 +1,4 @@
-use Rattle.std.proofs.Common.{◌≡◌, ◌==◌, ℕ, List, IfErr, OnOk, false, ap, eq-eqb, inl, inr, subst, sym, arith}
+use Rattle.std.proofs.Common.{◌≡◌, ◌==◌, IfErr, OnOk, false, ap, eq-eqb, inl, inr, subst, sym, arith}
 use Rattle.std.specs.Fmt.{WritesInCalls}
 use Rattle.std.specs.List.{join_with_byte}
 use Rattle.std.proofs.Output.{writes_in_calls_nil}
