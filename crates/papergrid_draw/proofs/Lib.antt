@@ -2,6 +2,7 @@ pub mod BlockLemmas
 pub mod ColumnLemmas
 pub mod ContentLemmas
 pub mod CountLemmas
+pub mod DeliveryLemmas
 pub mod DrawnLemmas
 pub mod EndLemmas
 pub mod EstimateLemmas
@@ -21,6 +22,7 @@ pub mod RoomLemmas
 pub mod RuleLemmas
 pub mod SegmentLemmas
 pub mod SheetLemmas
+pub mod SinkLemmas
 pub mod SlotLemmas
 pub mod StretchLemmas
 pub mod TileLemmas

@@ -18,7 +18,7 @@ use Rattle.papergrid_draw.specs.Drawings.{Drawing, layout_of}
 use Rattle.papergrid_draw.specs.Drawn.{DrawnLine, RuleLine, TextLine, drawn_lines, has_horizontal, row_lines, rule_line, rule_lines, text_line}
 use Rattle.papergrid_draw.specs.Margins.{beside, margin_line, printed, printed_lines, whole_width, with_margins}
 use Rattle.papergrid_draw.specs.ForProofs.Pages.{AreSet, AreSlots, IsFrame, IsSlot, Texts, drawing_of, row_start, text_start}
-use Rattle.papergrid_draw.specs.ForProofs.Sheets.{AtRow, AtRule, AtText, IsCutOff, Output, Writes, WritesLines, left_of, lines_after, margined, right_of, separator, text_lines}
+use Rattle.papergrid_draw.specs.ForProofs.Sheets.{AtRow, AtRule, AtText, IsCutOff, Writes, WritesLines, left_of, lines_after, margined, right_of, separator, text_lines}
 use Rattle.papergrid_draw.specs.declared.page.Frame.{Frame}
 use Rattle.papergrid_draw.specs.declared.page.Slot.{Slot}
 use Rattle.papergrid_draw.specs.declared.sheet.Sheet.{Sheet}
@@ -118,72 +118,74 @@ module _ (d : Drawing) where
       ∙ flat_map-append (row_lines d) (range_with_len 0 r) (range_with_len (0 + r) (d.shape.0 - r)))
       ∙ append_assoc (first_rows r) (flat_map (row_lines d) (range_with_len (0 + r) (d.shape.0 - r))) (rule_lines d d.shape.0)
 
-  -- a line between its margins
-  pub one-margined : {A : Type 0} (a b : Output) (begun after : Bool) (y z : ℕ) (line : DrawnLine) (first second : List ℕ) (r : Result A DrawError) → z ≡ y →
-      first ≡ separator begun ++ left_of d y → second ≡ first ++ line_bytes line → Writes a b (second ++ right_of d z) r → OnOk r (after ≡ true) →
-      WritesLines a b begun after (margined d y (line ∷ [])) r
-  one-margined a b begun after y z line first second r same starts goes writes done =
-      lines-beside a b begun after (left_of d y) (line_bytes line) (right_of d y) first second r starts goes
-      (subst (λ k. Writes a b (second ++ right_of d k) r) same writes) done
+  -- by the relations of texts that are taken and of one that breaks off
+  module _ {W : Type 0} (takes breaks : W → List ℕ → W → Type 0) where
+    -- a line between its margins
+    pub one-margined : {A : Type 0} (a b : W) (begun after : Bool) (y z : ℕ) (line : DrawnLine) (first second : List ℕ) (r : Result A DrawError) → z ≡ y →
+        first ≡ separator begun ++ left_of d y → second ≡ first ++ line_bytes line → Writes takes breaks a b (second ++ right_of d z) r → OnOk r (after ≡ true) →
+        WritesLines takes breaks a b begun after (margined d y (line ∷ [])) r
+    one-margined a b begun after y z line first second r same starts goes writes done =
+        lines-beside takes breaks a b begun after (left_of d y) (line_bytes line) (right_of d y) first second r starts goes
+        (subst (λ k. Writes takes breaks a b (second ++ right_of d k) r) same writes) done
 
-  -- the lines with their margins, where there are some before others
-  pub margined-lines : {A B : Type 0} (a b c : Output) (p q s : Bool) (y z : ℕ) (xs ys : List DrawnLine) (x : A) (r : Result B DrawError) → z ≡ y + length xs →
-      WritesLines a b p q (margined d y xs) (Ok x) → WritesLines b c q s (margined d z ys) r → WritesLines a c p s (margined d y (xs ++ ys)) r
-  margined-lines a b c p q s y z xs ys x r at first second =
-      subst (λ lines. WritesLines a c p s lines r) (margined-then y z xs ys at)
-      (lines-then a b c p q s (margined d y xs) (margined d z ys) x r first second)
+    -- the lines with their margins, where there are some before others
+    pub margined-lines : {A B : Type 0} (a b c : W) (p q s : Bool) (y z : ℕ) (xs ys : List DrawnLine) (x : A) (r : Result B DrawError) → z ≡ y + length xs →
+        WritesLines takes breaks a b p q (margined d y xs) (Ok x) → WritesLines takes breaks b c q s (margined d z ys) r → WritesLines takes breaks a c p s (margined d y (xs ++ ys)) r
+    margined-lines a b c p q s y z xs ys x r at first second =
+        subst (λ lines. WritesLines takes breaks a c p s lines r) (margined-then y z xs ys at)
+        (lines-then takes breaks a b c p q s (margined d y xs) (margined d z ys) x r first second)
 
-  -- or not all of them were written
-  pub margined-cut : {A B : Type 0} (a b : Output) (p q s : Bool) (y : ℕ) (xs ys : List DrawnLine) (error : DrawError) →
-      WritesLines {A = A} a b p q (margined d y xs) (Err error) → WritesLines {A = B} a b p s (margined d y (xs ++ ys)) (Err error)
-  margined-cut {B = B} a b p q s y xs ys error cut =
-      subst (λ lines. WritesLines {A = B} a b p s lines (Err error)) (sym (margined-append y xs ys))
-      (lines-cut a b p q s (margined d y xs) (margined d (y + length xs) ys) error cut)
+    -- or not all of them were written
+    pub margined-cut : {A B : Type 0} (a b : W) (p q s : Bool) (y : ℕ) (xs ys : List DrawnLine) (error : DrawError) →
+        WritesLines takes breaks {A = A} a b p q (margined d y xs) (Err error) → WritesLines takes breaks {A = B} a b p s (margined d y (xs ++ ys)) (Err error)
+    margined-cut {B = B} a b p q s y xs ys error cut =
+        subst (λ lines. WritesLines takes breaks {A = B} a b p s lines (Err error)) (sym (margined-append y xs ys))
+        (lines-cut takes breaks a b p q s (margined d y xs) (margined d (y + length xs) ys) error cut)
 
-  -- one more text line of a row
-  pub text_lines-next : {A B : Type 0} (a b c : Output) (p q s : Bool) (y z r k : ℕ) (x : A) (result : Result B DrawError) → z ≡ y + k →
-      WritesLines a b p q (margined d y (text_lines d r k)) (Ok x) → WritesLines b c q s (margined d z (TextLine (text_line d r k) ∷ [])) result →
-      WritesLines a c p s (margined d y (text_lines d r (k + 1))) result
-  text_lines-next {B = B} a b c p q s y z r k x result at first second =
-      subst (λ lines. WritesLines {A = B} a c p s (margined d y lines) result) (sym (text_lines-more r k))
-      (margined-lines a b c p q s y z (text_lines d r k) (TextLine (text_line d r k) ∷ []) x result (at ∙ ap (λ n. y + n) (sym (length-text_lines r k))) first second)
+    -- one more text line of a row
+    pub text_lines-next : {A B : Type 0} (a b c : W) (p q s : Bool) (y z r k : ℕ) (x : A) (result : Result B DrawError) → z ≡ y + k →
+        WritesLines takes breaks a b p q (margined d y (text_lines d r k)) (Ok x) → WritesLines takes breaks b c q s (margined d z (TextLine (text_line d r k) ∷ [])) result →
+        WritesLines takes breaks a c p s (margined d y (text_lines d r (k + 1))) result
+    text_lines-next {B = B} a b c p q s y z r k x result at first second =
+        subst (λ lines. WritesLines takes breaks {A = B} a c p s (margined d y lines) result) (sym (text_lines-more r k))
+        (margined-lines a b c p q s y z (text_lines d r k) (TextLine (text_line d r k) ∷ []) x result (at ∙ ap (λ n. y + n) (sym (length-text_lines r k))) first second)
 
-  -- or not all of it was written
-  pub text_lines-cut : {A B : Type 0} (a b c : Output) (p q s t : Bool) (y z r k n : ℕ) (x : A) (error : DrawError) → z ≡ y + k → k < n →
-      WritesLines a b p q (margined d y (text_lines d r k)) (Ok x) → WritesLines {A = B} b c q s (margined d z (TextLine (text_line d r k) ∷ [])) (Err error) →
-      WritesLines {A = B} a c p t (margined d y (text_lines d r n)) (Err error)
-  text_lines-cut {B = B} a b c p q s t y z r k n x error at l first second =
-      let later = map (λ i. TextLine (text_line d r i)) (range_with_len (0 + (k + 1)) (n - (k + 1))) in
-      subst (λ lines. WritesLines {A = B} a c p t (margined d y lines) (Err error))
-      (sym (map-append (λ i. TextLine (text_line d r i)) (range_with_len 0 (k + 1)) (range_with_len (0 + (k + 1)) (n - (k + 1))))
-      ∙ ap (map (λ i. TextLine (text_line d r i))) (sym (range_with_len-append 0 (k + 1) (n - (k + 1))))
-      ∙ ap (text_lines d r) (let e : k + 1 + (n - (k + 1)) ≡ n = omega arith in e))
-      (margined-cut {A = B} a c p s t y (text_lines d r (k + 1)) later error (text_lines-next a b c p q s y z r k x (Err error) at first second))
+    -- or not all of it was written
+    pub text_lines-cut : {A B : Type 0} (a b c : W) (p q s t : Bool) (y z r k n : ℕ) (x : A) (error : DrawError) → z ≡ y + k → k < n →
+        WritesLines takes breaks a b p q (margined d y (text_lines d r k)) (Ok x) → WritesLines takes breaks {A = B} b c q s (margined d z (TextLine (text_line d r k) ∷ [])) (Err error) →
+        WritesLines takes breaks {A = B} a c p t (margined d y (text_lines d r n)) (Err error)
+    text_lines-cut {B = B} a b c p q s t y z r k n x error at l first second =
+        let later = map (λ i. TextLine (text_line d r i)) (range_with_len (0 + (k + 1)) (n - (k + 1))) in
+        subst (λ lines. WritesLines takes breaks {A = B} a c p t (margined d y lines) (Err error))
+        (sym (map-append (λ i. TextLine (text_line d r i)) (range_with_len 0 (k + 1)) (range_with_len (0 + (k + 1)) (n - (k + 1))))
+        ∙ ap (map (λ i. TextLine (text_line d r i))) (sym (range_with_len-append 0 (k + 1) (n - (k + 1))))
+        ∙ ap (text_lines d r) (let e : k + 1 + (n - (k + 1)) ≡ n = omega arith in e))
+        (margined-cut {A = B} a c p s t y (text_lines d r (k + 1)) later error (text_lines-next a b c p q s y z r k x (Err error) at first second))
 
-  -- one more row
-  pub first_rows-next : {A B : Type 0} (a b c : Output) (p q s : Bool) (z r : ℕ) (x : A) (result : Result B DrawError) → z ≡ row_start d r →
-      WritesLines a b p q (margined d 0 (first_rows r)) (Ok x) → WritesLines b c q s (margined d z (row_lines d r)) result →
-      WritesLines a c p s (margined d 0 (first_rows (r + 1))) result
-  first_rows-next {B = B} a b c p q s z r x result at first second =
-      subst (λ lines. WritesLines {A = B} a c p s (margined d 0 lines) result) (sym (first_rows-more r))
-      (margined-lines a b c p q s 0 z (first_rows r) (row_lines d r) x result (omega (arith, at, length-first_rows r)) first second)
+    -- one more row
+    pub first_rows-next : {A B : Type 0} (a b c : W) (p q s : Bool) (z r : ℕ) (x : A) (result : Result B DrawError) → z ≡ row_start d r →
+        WritesLines takes breaks a b p q (margined d 0 (first_rows r)) (Ok x) → WritesLines takes breaks b c q s (margined d z (row_lines d r)) result →
+        WritesLines takes breaks a c p s (margined d 0 (first_rows (r + 1))) result
+    first_rows-next {B = B} a b c p q s z r x result at first second =
+        subst (λ lines. WritesLines takes breaks {A = B} a c p s (margined d 0 lines) result) (sym (first_rows-more r))
+        (margined-lines a b c p q s 0 z (first_rows r) (row_lines d r) x result (omega (arith, at, length-first_rows r)) first second)
 
-  -- or not all of it was written
-  pub drawn-cut : {A B : Type 0} (a b c : Output) (p q s t : Bool) (z r : ℕ) (x : A) (error : DrawError) → r < d.shape.0 → z ≡ row_start d r →
-      WritesLines a b p q (margined d 0 (first_rows r)) (Ok x) → WritesLines {A = B} b c q s (margined d z (row_lines d r)) (Err error) →
-      WritesLines {A = B} a c p t (margined d 0 (drawn_lines d)) (Err error)
-  drawn-cut {B = B} a b c p q s t z r x error l at first second =
-      subst (λ lines. WritesLines {A = B} a c p t (margined d 0 lines) (Err error)) (sym (drawn-from (r + 1) (let le : r + 1 ≤ d.shape.0 = omega arith in le)))
-      (margined-cut {A = B} a c p s t 0 (first_rows (r + 1)) (flat_map (row_lines d) (range_with_len (0 + (r + 1)) (d.shape.0 - (r + 1))) ++ rule_lines d d.shape.0) error
-      (first_rows-next a b c p q s z r x (Err error) at first second))
+    -- or not all of it was written
+    pub drawn-cut : {A B : Type 0} (a b c : W) (p q s t : Bool) (z r : ℕ) (x : A) (error : DrawError) → r < d.shape.0 → z ≡ row_start d r →
+        WritesLines takes breaks a b p q (margined d 0 (first_rows r)) (Ok x) → WritesLines takes breaks {A = B} b c q s (margined d z (row_lines d r)) (Err error) →
+        WritesLines takes breaks {A = B} a c p t (margined d 0 (drawn_lines d)) (Err error)
+    drawn-cut {B = B} a b c p q s t z r x error l at first second =
+        subst (λ lines. WritesLines takes breaks {A = B} a c p t (margined d 0 lines) (Err error)) (sym (drawn-from (r + 1) (let le : r + 1 ≤ d.shape.0 = omega arith in le)))
+        (margined-cut {A = B} a c p s t 0 (first_rows (r + 1)) (flat_map (row_lines d) (range_with_len (0 + (r + 1)) (d.shape.0 - (r + 1))) ++ rule_lines d d.shape.0) error
+        (first_rows-next a b c p q s z r x (Err error) at first second))
 
-  -- all lines, after the last row
-  pub drawn-all : {A B : Type 0} (a b c : Output) (p q s : Bool) (z r : ℕ) (x : A) (result : Result B DrawError) → r ≡ d.shape.0 → z ≡ row_start d r →
-      WritesLines a b p q (margined d 0 (first_rows r)) (Ok x) → WritesLines b c q s (margined d z (rule_lines d r)) result →
-      WritesLines a c p s (margined d 0 (drawn_lines d)) result
-  drawn-all {B = B} a b c p q s z r x result end at first second =
-      subst (λ n. WritesLines {A = B} a c p s (margined d 0 (first_rows n ++ rule_lines d n)) result) end
-      (margined-lines a b c p q s 0 z (first_rows r) (rule_lines d r) x result (omega (arith, at, length-first_rows r)) first second)
+    -- all lines, after the last row
+    pub drawn-all : {A B : Type 0} (a b c : W) (p q s : Bool) (z r : ℕ) (x : A) (result : Result B DrawError) → r ≡ d.shape.0 → z ≡ row_start d r →
+        WritesLines takes breaks a b p q (margined d 0 (first_rows r)) (Ok x) → WritesLines takes breaks b c q s (margined d z (rule_lines d r)) result →
+        WritesLines takes breaks a c p s (margined d 0 (drawn_lines d)) result
+    drawn-all {B = B} a b c p q s z r x result end at first second =
+        subst (λ n. WritesLines takes breaks {A = B} a c p s (margined d 0 (first_rows n ++ rule_lines d n)) result) end
+        (margined-lines a b c p q s 0 z (first_rows r) (rule_lines d r) x result (omega (arith, at, length-first_rows r)) first second)
 
   -- ---- slots
 
@@ -353,14 +355,16 @@ printed-none d none = no-lines (d.shape.0 == 0) (d.shape.1 == 0) (join_with_byte
 
 -- ---- the picture
 
-pub picture-of : {A : Type 0} (a b : Output) (p s : Bool) (lines : List (List ℕ)) (r : Result A DrawError) → p ≡ false → WritesLines a b p s lines r →
-    Writes a b (join_with_byte 10 lines) r
-picture-of a b p s lines r none writes =
-    subst (λ l. Writes a b l r) (ap (λ begun. lines_after begun lines) none ∙ lines_after-all lines) writes.bytes
+-- by the relations of texts that are taken and of one that breaks off
+module _ {W : Type 0} (takes breaks : W → List ℕ → W → Type 0) where
+  pub picture-of : {A : Type 0} (a b : W) (p s : Bool) (lines : List (List ℕ)) (r : Result A DrawError) → p ≡ false → WritesLines takes breaks a b p s lines r →
+      Writes takes breaks a b (join_with_byte 10 lines) r
+  picture-of a b p s lines r none writes =
+      subst (λ l. Writes takes breaks a b l r) (ap (λ begun. lines_after begun lines) none ∙ lines_after-all lines) writes.bytes
 
-pub lines-same : {A : Type 0} (a b : Output) (p s : Bool) (xs ys : List (List ℕ)) (r : Result A DrawError) → xs ≡ ys → WritesLines a b p s xs r →
-    WritesLines a b p s ys r
-lines-same a b p s xs ys r e writes = subst (λ lines. WritesLines a b p s lines r) e writes
+  pub lines-same : {A : Type 0} (a b : W) (p s : Bool) (xs ys : List (List ℕ)) (r : Result A DrawError) → xs ≡ ys → WritesLines takes breaks a b p s xs r →
+      WritesLines takes breaks a b p s ys r
+  lines-same a b p s xs ys r e writes = subst (λ lines. WritesLines takes breaks a b p s lines r) e writes
 
 -- the lines of the table between those of the margins
 module _ (d : Drawing) where
@@ -370,23 +374,25 @@ module _ (d : Drawing) where
   abbrev pub bottom_lines : List (List ℕ)
   bottom_lines = replicate d.config.margin.bottom.size (margin_line d.config.margin.bottom d.config.margin_color.bottom d.config.margin_offset.bottom (whole_width d))
 
-  pub picture-cut-above : {A : Type 0} (a b : Output) (p s : Bool) (error : DrawError) → p ≡ false → WritesLines {A = A} a b p s top_lines (Err error) →
-      IsCutOff a b (join_with_byte 10 (printed_lines d)) error
-  picture-cut-above {A = A} a b p s error none cut =
-      picture-of {A = A} a b p s (printed_lines d) (Err error) none
-      (lines-cut {B = A} a b p s s (top_lines ++ margined d 0 (drawn_lines d)) bottom_lines error
-      (lines-cut {B = A} a b p s s top_lines (margined d 0 (drawn_lines d)) error cut))
+  -- by the relations of texts that are taken and of one that breaks off
+  module _ {W : Type 0} (takes breaks : W → List ℕ → W → Type 0) where
+    pub picture-cut-above : {A : Type 0} (a b : W) (p s : Bool) (error : DrawError) → p ≡ false → WritesLines takes breaks {A = A} a b p s top_lines (Err error) →
+        IsCutOff takes breaks a b (join_with_byte 10 (printed_lines d)) error
+    picture-cut-above {A = A} a b p s error none cut =
+        picture-of takes breaks {A = A} a b p s (printed_lines d) (Err error) none
+        (lines-cut takes breaks {B = A} a b p s s (top_lines ++ margined d 0 (drawn_lines d)) bottom_lines error
+        (lines-cut takes breaks {B = A} a b p s s top_lines (margined d 0 (drawn_lines d)) error cut))
 
-  pub picture-cut : {A B : Type 0} (a b c : Output) (p q s : Bool) (x : A) (error : DrawError) → p ≡ false → WritesLines {A = A} a b p q top_lines (Ok x) →
-      WritesLines {A = B} b c q s (margined d 0 (drawn_lines d)) (Err error) → IsCutOff a c (join_with_byte 10 (printed_lines d)) error
-  picture-cut {B = B} a b c p q s x error none above lines =
-      picture-of {A = B} a c p s (printed_lines d) (Err error) none
-      (lines-cut {B = B} a c p s s (top_lines ++ margined d 0 (drawn_lines d)) bottom_lines error
-      (lines-then {B = B} a b c p q s top_lines (margined d 0 (drawn_lines d)) x (Err error) above lines))
+    pub picture-cut : {A B : Type 0} (a b c : W) (p q s : Bool) (x : A) (error : DrawError) → p ≡ false → WritesLines takes breaks {A = A} a b p q top_lines (Ok x) →
+        WritesLines takes breaks {A = B} b c q s (margined d 0 (drawn_lines d)) (Err error) → IsCutOff takes breaks a c (join_with_byte 10 (printed_lines d)) error
+    picture-cut {B = B} a b c p q s x error none above lines =
+        picture-of takes breaks {A = B} a c p s (printed_lines d) (Err error) none
+        (lines-cut takes breaks {B = B} a c p s s (top_lines ++ margined d 0 (drawn_lines d)) bottom_lines error
+        (lines-then takes breaks {B = B} a b c p q s top_lines (margined d 0 (drawn_lines d)) x (Err error) above lines))
 
-  pub picture-whole : {A B C : Type 0} (a b c e : Output) (p q s t : Bool) (x : A) (y : B) (r : Result C DrawError) → p ≡ false → WritesLines a b p q top_lines (Ok x) →
-      WritesLines b c q s (margined d 0 (drawn_lines d)) (Ok y) → WritesLines c e s t bottom_lines r → Writes a e (join_with_byte 10 (printed_lines d)) r
-  picture-whole a b c e p q s t x y r none above lines below =
-      picture-of a e p t (printed_lines d) r none
-      (lines-then a c e p s t (top_lines ++ margined d 0 (drawn_lines d)) bottom_lines y r
-      (lines-then a b c p q s top_lines (margined d 0 (drawn_lines d)) x (Ok y) above lines) below)
+    pub picture-whole : {A B C : Type 0} (a b c e : W) (p q s t : Bool) (x : A) (y : B) (r : Result C DrawError) → p ≡ false → WritesLines takes breaks a b p q top_lines (Ok x) →
+        WritesLines takes breaks b c q s (margined d 0 (drawn_lines d)) (Ok y) → WritesLines takes breaks c e s t bottom_lines r → Writes takes breaks a e (join_with_byte 10 (printed_lines d)) r
+    picture-whole a b c e p q s t x y r none above lines below =
+        picture-of takes breaks a e p t (printed_lines d) r none
+        (lines-then takes breaks a c e p s t (top_lines ++ margined d 0 (drawn_lines d)) bottom_lines y r
+        (lines-then takes breaks a b c p q s top_lines (margined d 0 (drawn_lines d)) x (Ok y) above lines) below)

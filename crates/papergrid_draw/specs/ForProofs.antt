@@ -5,4 +5,5 @@ pub mod Pages
 pub mod Pens
 pub mod Ranges
 pub mod Sheets
+pub mod Sinks
 pub mod Tiles

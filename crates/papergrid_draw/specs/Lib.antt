@@ -2,6 +2,7 @@
 pub mod Bytes
 pub mod Characters
 pub mod Contents
+pub mod Deliveries
 pub mod Drawings
 pub mod Drawn
 pub mod Errors

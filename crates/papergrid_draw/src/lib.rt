@@ -3,6 +3,7 @@
 
 mod block;
 mod characters;
+mod delivery;
 mod error;
 pub mod laws;
 mod look;

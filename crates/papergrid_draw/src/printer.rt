@@ -1,6 +1,7 @@
 //! The picture of a table, written line by line.
 
-ghost use Rattle.std.specs.Prelude.{◌≡◌, ◌+◌, ◌-◌, ◌^◌, ◌<◌, ◌≤◌, ◌⊎◌, ◌∷◌, ◌++◌, [], ℕ, IfErr, IfOk, IsErrOf, OnErr, OnOk, false, length, option_copied, replicate, slice_index, string_bytes, take, true};
+ghost use Rattle.std.specs.Prelude.{◌≡◌, ◌+◌, ◌-◌, ◌^◌, ◌<◌, ◌≤◌, ◌⊎◌, ◌∷◌, ◌++◌, ◌≢◌, [], ℕ, ⊤, IfErr, IfOk, IsErrOf, OnErr, OnOk, false, length, option_copied, replicate, slice_index, string_bytes, take, true};
+ghost use Rattle.std.specs.Fmt.{WritesInCalls};
 ghost use Rattle.std.specs.Io.KnownBytes.{Appends};
 ghost use Rattle.std.specs.List.{join_with_byte};
 ghost use Rattle.std.specs.Option.{SomeIff};
@@ -9,15 +10,17 @@ ghost use Rattle.papergrid_config.specs.Grids.{spanned_grid};
 ghost use Rattle.papergrid_walk.specs.ForProofs.Shown.{Shows};
 ghost use Rattle.papergrid_layout.specs.Places.{total_along};
 ghost use Rattle.papergrid_layout.specs.Tables.{TableParts, view_of};
+ghost use Rattle.papergrid_draw.specs.Deliveries.{IsLeftOff};
 ghost use Rattle.papergrid_draw.specs.Drawings.{drawn_of};
 ghost use Rattle.papergrid_draw.specs.Drawn.{TextLine, drawn_lines, row_lines, rule_lines, text_line};
 ghost use Rattle.papergrid_draw.specs.Faults.{AllHaveRoom, IsDrawFault, whole_height};
 ghost use Rattle.papergrid_draw.specs.Margins.{margin_line, printed, printed_lines, whole_width};
 ghost use Rattle.papergrid_draw.specs.Tiles.{IsTiled};
 ghost use Rattle.papergrid_draw.specs.ForProofs.Pages.{AreSet, IsFrame, Texts, drawing_of};
-ghost use Rattle.papergrid_draw.specs.ForProofs.Sheets.{IsPrepared, IsRefusal, AtRow, AtRule, AtText, HaveRoomBefore, IsRoomFault, Writes, WritesLines, left_of, margined, output_of, right_of, separator, text_lines, texts_of};
+ghost use Rattle.papergrid_draw.specs.ForProofs.Sheets.{IsPrepared, IsRefusal, AtRow, AtRule, AtText, HaveRoomBefore, IsRoomFault, Writes, WritesLines, left_of, margined, right_of, separator, text_lines, texts_of};
 ghost use Rattle.papergrid_draw.specs.declared.error.DrawError.TheVariants.{Memory, NoRoom, NotTiled, OutOfTable, TooLarge, Write};
 
+use crate::delivery::{Delivery, ToSink, ToText};
 use crate::error::DrawError;
 use crate::margins::{push_beside, push_margin_line};
 use crate::page::{Frame, Slot};
@@ -32,6 +35,7 @@ use papergrid_values::{ANSIBuf, Indent, Offset, Position};
 use papergrid_walk::Sweep;
 use papergrid_walk::shown::{sweep_of, visible_anchor};
 use std::alloc::{AllocError, Global};
+use std::fmt;
 
 /// Writes the picture of a table, one line at a time: nothing of a table without rows or columns. It takes
 /// some numbers for each column, and a line.
@@ -61,12 +65,80 @@ where
     ensures write { IsErrOf result DrawError.Write → (W.has_failed sink.new ≡ true)
         ⊎ (W.has_stalled sink.old ≡ false → W.has_stalled sink.new ≡ true) }
 {
+    draw_by::<S, ToSink, W>(alloc, table, cells, sink)
+}
+
+/// Writes the picture of a table as text, one line at a time: nothing of a table without rows or columns. It takes
+/// some numbers for each column, and a line. A writer of text tells nothing of a text that it did not take.
+///
+/// # Errors
+///
+/// `OutOfTable`, `NotTiled`, `NoRoom` and `TooLarge` before anything is written; `Memory` and `Write` after a
+/// beginning of the picture.
+pub fn draw_text<'a, S: Cells, F: fmt::Write>(
+    alloc: Global,
+    table: &'a Table<'a>,
+    cells: &'a S,
+    writer: &mut F,
+) -> Result<(), DrawError>
+where
+    S::Cell: Drop,
+    ensures picture { OnOk result (WritesInCalls F.write_str_gives writer.old
+        (printed (drawn_of S.lines S.color table.now cells.now)) writer.new) }
+    ensures fault { IfErr result (IsDrawFault (drawn_of S.lines S.color table.now cells.now)) }
+    ensures left { IfErr result (IsLeftOff F.write_str_gives (λ _ _ _. ⊤) writer.old
+        (printed (drawn_of S.lines S.color table.now cells.now)) writer.new) }
+{
+    draw_by::<S, ToText, F>(alloc, table, cells, writer)
+}
+
+/// The picture of a table: empty for a table without rows or columns. Beside the picture it takes some numbers for
+/// each column, and a line.
+///
+/// # Errors
+///
+/// `OutOfTable`, `NotTiled`, `NoRoom`, `TooLarge` and `Memory`.
+pub fn drawn_string<'a, S: Cells>(
+    alloc: Global,
+    table: &'a Table<'a>,
+    cells: &'a S,
+) -> Result<String, DrawError>
+where
+    S::Cell: Drop,
+    ensures picture { IfOk result (λ text. string_bytes text
+        ≡ printed (drawn_of S.lines S.color table.now cells.now)) }
+    ensures fault { IfErr result (IsDrawFault (drawn_of S.lines S.color table.now cells.now)) }
+    ensures works { IfErr result (λ e. e ≢ Write) }
+{
+    let mut text = String::new(alloc);
+    match draw_text(alloc, table, cells, &mut text) {
+        Ok(()) => Ok(text),
+        Err(DrawError::Write) => Err(DrawError::Memory(AllocError)),
+        Err(error) => Err(error),
+    }
+}
+
+/// Writes the picture of a table, by a way to deliver its lines.
+fn draw_by<'a, S: Cells, D: Delivery<W>, W>(
+    alloc: Global,
+    table: &'a Table<'a>,
+    cells: &'a S,
+    writer: &mut W,
+) -> Result<(), DrawError>
+where
+    S::Cell: Drop,
+    ensures picture { OnOk result (WritesInCalls D.takes writer.old
+        (printed (drawn_of S.lines S.color table.now cells.now)) writer.new) }
+    ensures fault { IfErr result (IsDrawFault (drawn_of S.lines S.color table.now cells.now)) }
+    ensures left { IfErr result (IsLeftOff D.takes D.breaks writer.old
+        (printed (drawn_of S.lines S.color table.now cells.now)) writer.new) }
+{
     let (rows, columns) = table.shape();
     if rows == 0 || columns == 0 {
         return Ok(());
     }
     let (frame, width) = prepare(alloc, table, cells)?;
-    draw_all(alloc, &frame, cells, width, sink)
+    draw_all::<S, D, W>(alloc, &frame, cells, width, writer)
 }
 
 /// What is read of a table once, with the columns of each line with both margins, if it can be drawn.
@@ -90,20 +162,19 @@ where
 }
 
 /// Writes the margins above and below, and between them the lines of the table.
-fn draw_all<'a, S: Cells, W: Sink>(
+fn draw_all<'a, S: Cells, D: Delivery<W>, W>(
     alloc: Global,
     frame: &Frame<'a>,
     cells: &'a S,
     width: usize,
-    sink: &mut W,
+    writer: &mut W,
 ) -> Result<(), DrawError>
 where
     S::Cell: Drop,
     requires frame { IsFrame frame.now.table.now frame.now }
     requires tiled { IsTiled (view_of frame.now.table.now) }
     requires width { width ≡ whole_width (drawn_of S.lines S.color frame.now.table.now cells.now) }
-    ensures { Writes (output_of W.contents W.has_failed W.has_stalled sink.old)
-        (output_of W.contents W.has_failed W.has_stalled sink.new)
+    ensures { Writes D.takes D.breaks writer.old writer.new
         (join_with_byte 10 (printed_lines (drawn_of S.lines S.color frame.now.table.now cells.now)))
         result }
 {
@@ -114,15 +185,22 @@ where
         config.get_margin_offset(),
     );
     let mut sheet = Sheet::new(alloc);
-    draw_margin(&mut sheet, &margin.top, color.top, &offset.top, width, sink)?;
-    draw_rows(alloc, frame, cells, &mut sheet, sink)?;
-    draw_margin(
+    draw_margin::<D, W>(
+        &mut sheet,
+        &margin.top,
+        color.top,
+        &offset.top,
+        width,
+        writer,
+    )?;
+    draw_rows::<S, D, W>(alloc, frame, cells, &mut sheet, writer)?;
+    draw_margin::<D, W>(
         &mut sheet,
         &margin.bottom,
         color.bottom,
         &offset.bottom,
         width,
-        sink,
+        writer,
     )
 }
 
@@ -233,53 +311,51 @@ where
 }
 
 /// Writes the lines of a margin above or below.
-fn draw_margin<W: Sink>(
+fn draw_margin<D: Delivery<W>, W>(
     sheet: &mut Sheet,
     indent: &Indent,
     color: Option<&ANSIBuf>,
     offset: &Offset,
     width: usize,
-    sink: &mut W,
+    writer: &mut W,
 ) -> Result<(), DrawError>
-    ensures lines { WritesLines (output_of W.contents W.has_failed W.has_stalled sink.old)
-        (output_of W.contents W.has_failed W.has_stalled sink.new)
+    ensures lines { WritesLines D.takes D.breaks writer.old writer.new
         sheet.old.begun sheet.new.begun (replicate indent.now.size
         (margin_line indent.now (option_copied color.entry) offset.now width)) result }
     ensures written { OnOk result (sheet.new.written ≡ sheet.old.written) }
 {
     for k in 0..indent.size {
-        draw_margin_line(sheet, indent, color, offset, width, sink)?;
+        draw_margin_line::<D, W>(sheet, indent, color, offset, width, writer)?;
     }
     Ok(())
 }
 
 /// Writes a line of a margin above or below.
-fn draw_margin_line<W: Sink>(
+fn draw_margin_line<D: Delivery<W>, W>(
     sheet: &mut Sheet,
     indent: &Indent,
     color: Option<&ANSIBuf>,
     offset: &Offset,
     width: usize,
-    sink: &mut W,
+    writer: &mut W,
 ) -> Result<(), DrawError>
-    ensures lines { WritesLines (output_of W.contents W.has_failed W.has_stalled sink.old)
-        (output_of W.contents W.has_failed W.has_stalled sink.new)
+    ensures lines { WritesLines D.takes D.breaks writer.old writer.new
         sheet.old.begun sheet.new.begun
         (margin_line indent.now (option_copied color.entry) offset.now width ∷ []) result }
     ensures written { OnOk result (sheet.new.written ≡ sheet.old.written) }
 {
     sheet.begin()?;
     push_margin_line(&mut sheet.line, indent, color, offset, width)?;
-    sheet.end(sink)
+    sheet.end::<D, W>(writer)
 }
 
 /// Writes the lines of a tiled table.
-fn draw_rows<'a, S: Cells, W: Sink>(
+fn draw_rows<'a, S: Cells, D: Delivery<W>, W>(
     alloc: Global,
     frame: &Frame<'a>,
     cells: &'a S,
     sheet: &mut Sheet,
-    sink: &mut W,
+    writer: &mut W,
 ) -> Result<(), DrawError>
 where
     S::Cell: Drop,
@@ -287,15 +363,14 @@ where
     requires tiled { IsTiled (view_of frame.now.table.now) }
     requires start { sheet.old.written ≡ 0 }
     ensures { let d = drawn_of S.lines S.color frame.now.table.now cells.now in
-        WritesLines (output_of W.contents W.has_failed W.has_stalled sink.old)
-        (output_of W.contents W.has_failed W.has_stalled sink.new)
+        WritesLines D.takes D.breaks writer.old writer.new
         sheet.old.begun sheet.new.begun (margined d 0 (drawn_lines d)) result }
 {
     let mut slots = first_slots(alloc, frame.shape.1)?;
     for row in 0..frame.shape.0 {
-        draw_row(frame, cells, slots.as_mut_slice(), row, sheet, sink)?;
+        draw_row::<S, D, W>(frame, cells, slots.as_mut_slice(), row, sheet, writer)?;
     }
-    draw_rule(frame, slots.as_mut_slice(), frame.shape.0, sheet, sink)
+    draw_rule::<S::Cell, D, W>(frame, slots.as_mut_slice(), frame.shape.0, sheet, writer)
 }
 
 /// A slot for each column, before the first row is taken.
@@ -317,13 +392,13 @@ fn first_slots<'a, T: Cell + Drop>(
 }
 
 /// Writes a row: the horizontal line before it, if there is one, and its text lines.
-fn draw_row<'a, S: Cells, W: Sink>(
+fn draw_row<'a, S: Cells, D: Delivery<W>, W>(
     frame: &Frame<'a>,
     cells: &'a S,
     slots: &mut [Slot<'a, S::Cell>],
     row: usize,
     sheet: &mut Sheet,
-    sink: &mut W,
+    writer: &mut W,
 ) -> Result<(), DrawError>
 where
     S::Cell: Drop,
@@ -332,15 +407,14 @@ where
     requires comes { AtRow frame.now.table.now (texts_of S.lines S.color cells.now) frame.now
         row sheet.old slots.old }
     ensures lines { let d = drawn_of S.lines S.color frame.now.table.now cells.now in
-        WritesLines (output_of W.contents W.has_failed W.has_stalled sink.old)
-        (output_of W.contents W.has_failed W.has_stalled sink.new)
+        WritesLines D.takes D.breaks writer.old writer.new
         sheet.old.begun sheet.new.begun (margined d sheet.old.written (row_lines d row)) result }
     ensures kept { OnOk result (AtRow frame.now.table.now (texts_of S.lines S.color cells.now)
         frame.now (row + 1) sheet.new slots.new) }
 {
     set_row(frame, cells, slots, row)?;
-    draw_rule(frame, slots, row, sheet, sink)?;
-    draw_text(frame, slots, row, sheet, sink)
+    draw_rule::<S::Cell, D, W>(frame, slots, row, sheet, writer)?;
+    draw_text_lines::<S::Cell, D, W>(frame, slots, row, sheet, writer)
 }
 
 /// Takes the cells of a row.
@@ -369,19 +443,18 @@ where
 }
 
 /// Writes the horizontal line before a row, or after the last, if there is one.
-fn draw_rule<'a, T: Cell, W: Sink>(
+fn draw_rule<'a, T: Cell, D: Delivery<W>, W>(
     frame: &Frame<'a>,
     slots: &mut [Slot<'a, T>],
     row: usize,
     sheet: &mut Sheet,
-    sink: &mut W,
+    writer: &mut W,
 ) -> Result<(), DrawError>
     requires { (parts : TableParts) × (texts : Texts)
         × AtRule parts texts frame.now row sheet.old slots.old }
     ensures lines { (parts : TableParts) (texts : Texts) →
         AtRule parts texts frame.now row sheet.old slots.old → IsTiled (view_of parts) →
-        WritesLines (output_of W.contents W.has_failed W.has_stalled sink.old)
-        (output_of W.contents W.has_failed W.has_stalled sink.new)
+        WritesLines D.takes D.breaks writer.old writer.new
         sheet.old.begun sheet.new.begun (margined (drawing_of parts texts) sheet.old.written
         (rule_lines (drawing_of parts texts) row)) result }
     ensures kept { OnOk result ((parts : TableParts) (texts : Texts) →
@@ -393,23 +466,22 @@ fn draw_rule<'a, T: Cell, W: Sink>(
     }
     begin_beside(frame, sheet)?;
     frame.push_rule_line(slots, row, &mut sheet.line)?;
-    end_beside(frame, sheet, sink)
+    end_beside::<D, W>(frame, sheet, writer)
 }
 
 /// Writes the text lines of a row.
-fn draw_text<'a, T: Cell, W: Sink>(
+fn draw_text_lines<'a, T: Cell, D: Delivery<W>, W>(
     frame: &Frame<'a>,
     slots: &mut [Slot<'a, T>],
     row: usize,
     sheet: &mut Sheet,
-    sink: &mut W,
+    writer: &mut W,
 ) -> Result<(), DrawError>
     requires { (parts : TableParts) × (texts : Texts)
         × AtText parts texts frame.now row 0 sheet.old slots.old }
     ensures lines { (parts : TableParts) (texts : Texts) →
         AtText parts texts frame.now row 0 sheet.old slots.old →
-        WritesLines (output_of W.contents W.has_failed W.has_stalled sink.old)
-        (output_of W.contents W.has_failed W.has_stalled sink.new)
+        WritesLines D.takes D.breaks writer.old writer.new
         sheet.old.begun sheet.new.begun (margined (drawing_of parts texts) sheet.old.written
         (text_lines (drawing_of parts texts) row (slice_index parts.heights row))) result }
     ensures kept { OnOk result ((parts : TableParts) (texts : Texts) →
@@ -417,26 +489,25 @@ fn draw_text<'a, T: Cell, W: Sink>(
         AtText parts texts frame.now row (slice_index parts.heights row) sheet.new slots.new) }
 {
     for k in 0..frame.table.get_height(row) {
-        draw_text_line(frame, slots, row, k, sheet, sink)?;
+        draw_text_line::<T, D, W>(frame, slots, row, k, sheet, writer)?;
     }
     Ok(())
 }
 
 /// Writes line k of a row.
-fn draw_text_line<'a, T: Cell, W: Sink>(
+fn draw_text_line<'a, T: Cell, D: Delivery<W>, W>(
     frame: &Frame<'a>,
     slots: &mut [Slot<'a, T>],
     row: usize,
     k: usize,
     sheet: &mut Sheet,
-    sink: &mut W,
+    writer: &mut W,
 ) -> Result<(), DrawError>
     requires { (parts : TableParts) × (texts : Texts) × (k < slice_index parts.heights row)
         × AtText parts texts frame.now row k sheet.old slots.old }
     ensures lines { (parts : TableParts) (texts : Texts) →
         AtText parts texts frame.now row k sheet.old slots.old →
-        WritesLines (output_of W.contents W.has_failed W.has_stalled sink.old)
-        (output_of W.contents W.has_failed W.has_stalled sink.new)
+        WritesLines D.takes D.breaks writer.old writer.new
         sheet.old.begun sheet.new.begun (margined (drawing_of parts texts) sheet.old.written
         (TextLine (text_line (drawing_of parts texts) row k) ∷ [])) result }
     ensures kept { OnOk result ((parts : TableParts) (texts : Texts) →
@@ -445,7 +516,7 @@ fn draw_text_line<'a, T: Cell, W: Sink>(
 {
     begin_beside(frame, sheet)?;
     frame.push_text_line(slots, row, k, &mut sheet.line)?;
-    end_beside(frame, sheet, sink)
+    end_beside::<D, W>(frame, sheet, writer)
 }
 
 /// Begins a line of the table, with the left margin.
@@ -474,11 +545,14 @@ fn begin_beside(frame: &Frame<'_>, sheet: &mut Sheet) -> Result<(), AllocError>
 }
 
 /// Ends a line of the table, with the right margin, and writes it.
-fn end_beside<W: Sink>(frame: &Frame<'_>, sheet: &mut Sheet, sink: &mut W) -> Result<(), DrawError>
+fn end_beside<D: Delivery<W>, W>(
+    frame: &Frame<'_>,
+    sheet: &mut Sheet,
+    writer: &mut W,
+) -> Result<(), DrawError>
     requires { sheet.old.written < 2 ^ 64 - 1 }
     ensures bytes { (parts : TableParts) (texts : Texts) → IsFrame parts frame.now →
-        Writes (output_of W.contents W.has_failed W.has_stalled sink.old)
-        (output_of W.contents W.has_failed W.has_stalled sink.new)
+        Writes D.takes D.breaks writer.old writer.new
         (string_bytes sheet.old.line ++ right_of (drawing_of parts texts) sheet.old.written)
         result }
     ensures written { OnOk result (sheet.new.written ≡ sheet.old.written + 1) }
@@ -499,5 +573,5 @@ fn end_beside<W: Sink>(frame: &Frame<'_>, sheet: &mut Sheet, sink: &mut W) -> Re
         y,
     )?;
     sheet.written += 1;
-    sheet.end(sink)
+    sheet.end::<D, W>(writer)
 }

@@ -1,16 +1,10 @@
 //! The lines of a table as they are written, one after the other, with its margins.
 
-ghost use Rattle.std.specs.Prelude.{◌≡◌, ◌⊎◌, ◌++◌, ◌+◌, ℕ, false, true, take, IfErr, IfOk, OnErr, OnOk, option_copied, string_bytes};
-ghost use Rattle.std.specs.Io.KnownBytes.{Appends};
-ghost use Rattle.papergrid_draw.specs.Margins.{beside, margin_line};
-ghost use Rattle.papergrid_draw.specs.ForProofs.Sheets.{separator};
-ghost use Rattle.papergrid_draw.specs.declared.error.DrawError.TheVariants.{Write};
+ghost use Rattle.std.specs.Prelude.{◌≡◌, false, true, OnOk, string_bytes};
+ghost use Rattle.papergrid_draw.specs.ForProofs.Sheets.{Writes, separator};
 
+use crate::delivery::Delivery;
 use crate::error::DrawError;
-use crate::margins::{push_beside, push_margin_line};
-use crate::transfer::{Sink, write_all};
-use papergrid_config::SpannedConfig;
-use papergrid_values::{ANSIBuf, Indent, Offset};
 use std::alloc::{AllocError, Global};
 
 /// A line that is made, how many lines of the table are written, and whether any line is.
@@ -48,21 +42,14 @@ impl Sheet {
     }
 
     /// Writes the line.
-    pub fn end<W: Sink>(&mut self, sink: &mut W) -> Result<(), DrawError>
-        ensures ok { OnOk result (Appends (W.contents sink.old) (W.contents sink.new)
-            (string_bytes self.old.line)) }
-        ensures works { OnOk result (W.has_failed sink.new ≡ W.has_failed sink.old) }
-        ensures moves { OnOk result (W.has_stalled sink.new ≡ W.has_stalled sink.old) }
+    pub fn end<D: Delivery<W>, W>(&mut self, writer: &mut W) -> Result<(), DrawError>
+        ensures bytes { Writes D.takes D.breaks writer.old writer.new (string_bytes self.old.line)
+            result }
         ensures begun { OnOk result (self.new.begun ≡ true) }
-        ensures err { IfErr result (λ e. e ≡ Write) }
-        ensures beginning { OnErr result ((n : ℕ) × Appends (W.contents sink.old)
-            (W.contents sink.new) (take n (string_bytes self.old.line))) }
-        ensures failed { OnErr result ((W.has_failed sink.new ≡ true)
-            ⊎ (W.has_stalled sink.old ≡ false → W.has_stalled sink.new ≡ true)) }
         ensures written { self.new.written ≡ self.old.written }
     {
         self.begun = true;
-        match write_all(sink, self.line.as_bytes()) {
+        match D::deliver(writer, self.line.as_str()) {
             Ok(()) => Ok(()),
             Err(_) => Err(DrawError::Write),
         }

@@ -1,8 +1,7 @@
 -- The lines of a table as they are written.
-use Rattle.std.specs.Prelude.{◌≡◌, ◌≢◌, ◌⊎◌, ◌+◌, ◌<◌, ◌≤◌, ℕ, Bool, false, true, if◌then◌else◌, List, [], ◌∷◌, ◌++◌, Option, Result, Ok, Err, OnOk, length, map, take, ⊤}
-use Rattle.std.specs.Io.KnownBytes.{Appends}
+use Rattle.std.specs.Prelude.{◌≡◌, ◌≢◌, ◌+◌, ◌<◌, ◌≤◌, ℕ, Bool, true, if◌then◌else◌, List, [], ◌∷◌, ◌++◌, Option, Result, Ok, Err, OnOk, length, map, ⊤}
+use Rattle.std.specs.Fmt.{WritesInCalls}
 use Rattle.std.specs.List.{enumerate_from, range_with_len}
-use Rattle.std.specs.declared.alloc.AllocError.{AllocError}
 use Rattle.papergrid_values.specs.Positions.{IsBefore, position_of}
 use Rattle.papergrid_values.specs.declared.direction.Direction.TheVariants.{Rows}
 use Rattle.papergrid_values.specs.declared.position.Position.{Position}
@@ -13,10 +12,11 @@ use Rattle.papergrid_draw.specs.Drawings.{Drawing, layout_of}
 use Rattle.papergrid_draw.specs.Drawn.{DrawnLine, TextLine, text_line}
 use Rattle.papergrid_draw.specs.Faults.{HasNoRoom, IsDrawFault}
 use Rattle.papergrid_draw.specs.Margins.{beside, whole_width, with_margins}
+use Rattle.papergrid_draw.specs.Deliveries.{BreaksOff, TakesBeginning}
 use Rattle.papergrid_draw.specs.Tiles.{IsFirstPosition, IsTiled}
 use Rattle.papergrid_draw.specs.ForProofs.Pages.{AreSet, AreSlots, IsFrame, Texts, drawing_of, row_start, text_start}
 use Rattle.papergrid_draw.specs.declared.error.DrawError.{DrawError}
-use Rattle.papergrid_draw.specs.declared.error.DrawError.TheVariants.{Memory, NoRoom, Write}
+use Rattle.papergrid_draw.specs.declared.error.DrawError.TheVariants.{Memory, NoRoom, NotTiled, OutOfTable, TooLarge, Write}
 use Rattle.papergrid_draw.specs.declared.page.Frame.{Frame}
 use Rattle.papergrid_draw.specs.declared.page.Slot.{Slot}
 use Rattle.papergrid_draw.specs.declared.sheet.Sheet.{Sheet}
@@ -39,45 +39,28 @@ begun_after begun (line ∷ lines) = true
 
 -- ---- what is written
 
--- what a sink tells: the bytes that it took, where they are known, and whether it has failed or stalled
-pub record Output : Type 0 where
-  pub contents : Option (List ℕ)
-  pub has_failed : Bool
-  pub has_stalled : Bool
+-- texts are delivered one after the other: takes relates the writer before one that was taken with the writer after it, and
+-- breaks the same of one that was not
+module _ {W : Type 0} (takes breaks : W → List ℕ → W → Type 0) where
+  -- not all of the bytes were taken, as an allocation failed, or a text
+  abbrev pub IsCutOff : W → W → List ℕ → DrawError → Type 0
+  IsCutOff old new bytes (Memory e) = TakesBeginning takes old bytes new
+  IsCutOff old new bytes Write = BreaksOff takes breaks old bytes new
+  IsCutOff old new bytes (OutOfTable p) = ⊥
+  IsCutOff old new bytes (NotTiled p) = ⊥
+  IsCutOff old new bytes (NoRoom p) = ⊥
+  IsCutOff old new bytes TooLarge = ⊥
 
--- of a sink
-abbrev pub output_of : {W : Type 0} → (W → Option (List ℕ)) → (W → Bool) → (W → Bool) → W → Output
-output_of contents has_failed has_stalled sink = record {
-  contents = contents sink;
-  has_failed = has_failed sink;
-  has_stalled = has_stalled sink;
-}
+  -- all of them were, or not
+  abbrev pub Writes : {A : Type 0} → W → W → List ℕ → Result A DrawError → Type 0
+  Writes old new bytes (Ok x) = WritesInCalls takes old bytes new
+  Writes old new bytes (Err error) = IsCutOff old new bytes error
 
--- all the bytes were taken
-pub record IsWritten (old new : Output) (bytes : List ℕ) : Type 0 where
-  pub taken : Appends old.contents new.contents bytes
-  pub works : new.has_failed ≡ old.has_failed
-  pub moves : new.has_stalled ≡ old.has_stalled
-
--- what can be known of a sink that did not take all
-abbrev pub HasEnded : Output → Output → Type 0
-HasEnded old new = (new.has_failed ≡ true) ⊎ (old.has_stalled ≡ false → new.has_stalled ≡ true)
-
--- some of their first were, and then an allocation failed, or the sink
-pub record IsCutOff (old new : Output) (bytes : List ℕ) (error : DrawError) : Type 0 where
-  pub beginning : (n : ℕ) × Appends old.contents new.contents (take n bytes)
-  pub fault : ((error ≡ Write) × HasEnded old new) ⊎ ((e : AllocError) × (error ≡ Memory e))
-
--- one or the other
-abbrev pub Writes : {A : Type 0} → Output → Output → List ℕ → Result A DrawError → Type 0
-Writes old new bytes (Ok x) = IsWritten old new bytes
-Writes old new bytes (Err error) = IsCutOff old new bytes error
-
--- lines are written, before which others may stand
-pub record WritesLines {A : Type 0} (old new : Output) (begun after : Bool) (lines : List (List ℕ))
-    (result : Result A DrawError) : Type 0 where
-  pub bytes : Writes old new (lines_after begun lines) result
-  pub begun_is : OnOk result (after ≡ begun_after begun lines)
+  -- lines are written, before which others may stand
+  pub record WritesLines {A : Type 0} (old new : W) (begun after : Bool) (lines : List (List ℕ))
+      (result : Result A DrawError) : Type 0 where
+    pub bytes : Writes old new (lines_after begun lines) result
+    pub begun_is : OnOk result (after ≡ begun_after begun lines)
 
 -- ---- the lines of a table
 

@@ -10,8 +10,8 @@ returns-in_err-draw_margin g c =
     let d = drawn_of g.S.Cells.lines g.S.Cells.color c.args.frame.now.table.now c.args.cells.now in
     let p = err_from_is_err_and c.from_residual.result c.from_residual.ensures.1 in
     rw (p.1, p.2)
-    (picture-cut-above d _ _ _ _ _ c.new-sheet.ensures.begun
-    (lines-same _ _ _ _ _ (top_lines d) _ (same-margin _ _ _ _ _ _ _ _
+    (picture-cut-above d g.D.Delivery.takes g.D.Delivery.breaks _ _ _ _ _ c.new-sheet.ensures.begun
+    (lines-same g.D.Delivery.takes g.D.Delivery.breaks _ _ _ _ _ (top_lines d) _ (same-margin _ _ _ _ _ _ _ _
     (ap (λ m. m.top) (c.get_margin-margin.ensures ∙ ap (λ (k : SpannedConfig). k.margin) c.requires.frame.config))
     (c.get_margin_color-color.ensures.top ∙ ap (λ (k : SpannedConfig). k.margin_color.top) c.requires.frame.config)
     (ap (λ m. m.top) (c.get_margin_offset-offset.ensures ∙ ap (λ (k : SpannedConfig). k.margin_offset) c.requires.frame.config))
@@ -23,8 +23,8 @@ returns-in_err-draw_rows g c =
     let d = drawn_of g.S.Cells.lines g.S.Cells.color c.args.frame.now.table.now c.args.cells.now in
     let p = err_from_is_err_and c.from_residual-in_err-draw_rows.result c.from_residual-in_err-draw_rows.ensures.1 in
     rw (p.1, p.2)
-    (picture-cut d _ _ _ _ _ _ tt _ c.new-sheet.ensures.begun
-    (lines-same _ _ _ _ _ (top_lines d) _ (same-margin _ _ _ _ _ _ _ _
+    (picture-cut d g.D.Delivery.takes g.D.Delivery.breaks _ _ _ _ _ _ tt _ c.new-sheet.ensures.begun
+    (lines-same g.D.Delivery.takes g.D.Delivery.breaks _ _ _ _ _ (top_lines d) _ (same-margin _ _ _ _ _ _ _ _
     (ap (λ m. m.top) (c.get_margin-margin.ensures ∙ ap (λ (k : SpannedConfig). k.margin) c.requires.frame.config))
     (c.get_margin_color-color.ensures.top ∙ ap (λ (k : SpannedConfig). k.margin_color.top) c.requires.frame.config)
     (ap (λ m. m.top) (c.get_margin_offset-offset.ensures ∙ ap (λ (k : SpannedConfig). k.margin_offset) c.requires.frame.config))
@@ -35,15 +35,15 @@ returns-in_err-draw_rows g c =
 pub returns : goal.returns
 returns g c =
     let d = drawn_of g.S.Cells.lines g.S.Cells.color c.args.frame.now.table.now c.args.cells.now in
-    picture-whole d _ _ _ _ _ _ _ _ tt tt _ c.new-sheet.ensures.begun
-    (lines-same _ _ _ _ _ (top_lines d) _ (same-margin _ _ _ _ _ _ _ _
+    picture-whole d g.D.Delivery.takes g.D.Delivery.breaks _ _ _ _ _ _ _ _ tt tt _ c.new-sheet.ensures.begun
+    (lines-same g.D.Delivery.takes g.D.Delivery.breaks _ _ _ _ _ (top_lines d) _ (same-margin _ _ _ _ _ _ _ _
     (ap (λ m. m.top) (c.get_margin-margin.ensures ∙ ap (λ (k : SpannedConfig). k.margin) c.requires.frame.config))
     (c.get_margin_color-color.ensures.top ∙ ap (λ (k : SpannedConfig). k.margin_color.top) c.requires.frame.config)
     (ap (λ m. m.top) (c.get_margin_offset-offset.ensures ∙ ap (λ (k : SpannedConfig). k.margin_offset) c.requires.frame.config))
     c.requires.width)
     c.in_ok-draw_margin.ensures.lines)
     c.in_ok-draw_rows.ensures
-    (lines-same _ _ _ _ _ (bottom_lines d) _ (same-margin _ _ _ _ _ _ _ _
+    (lines-same g.D.Delivery.takes g.D.Delivery.breaks _ _ _ _ _ (bottom_lines d) _ (same-margin _ _ _ _ _ _ _ _
     (ap (λ m. m.bottom) (c.get_margin-margin.ensures ∙ ap (λ (k : SpannedConfig). k.margin) c.requires.frame.config))
     (c.get_margin_color-color.ensures.bottom ∙ ap (λ (k : SpannedConfig). k.margin_color.bottom) c.requires.frame.config)
     (ap (λ m. m.bottom) (c.get_margin_offset-offset.ensures ∙ ap (λ (k : SpannedConfig). k.margin_offset) c.requires.frame.config))

@@ -1,11 +1,11 @@
 use Rattle.std.proofs.Common.{◌≡◌, Ok, option_copied, replicate}
 use Rattle.papergrid_draw.specs.Margins.{margin_line}
-use Rattle.papergrid_draw.specs.ForProofs.Sheets.{WritesLines, output_of}
+use Rattle.papergrid_draw.specs.ForProofs.Sheets.{WritesLines}
 use Rattle.papergrid_draw.proofs.printer.draw_margin.Given as goal
 
 abbrev pub invariant-loop-k : goal.invariant-loop-k
 invariant-loop-k g l = record {
-  lines : WritesLines {A = Unit {0}} (output_of g.W.Sink.contents g.W.Sink.has_failed g.W.Sink.has_stalled l.fn.sink) (output_of g.W.Sink.contents g.W.Sink.has_failed g.W.Sink.has_stalled l.sink) l.fn.sheet.begun l.sheet.begun
+  lines : WritesLines g.D.Delivery.takes g.D.Delivery.breaks {A = Unit {0}} l.fn.writer l.writer l.fn.sheet.begun l.sheet.begun
       (replicate l.k (margin_line l.indent (option_copied l.color) l.offset l.width)) (Ok tt);
   written : l.sheet.written ≡ l.fn.sheet.written;
 }

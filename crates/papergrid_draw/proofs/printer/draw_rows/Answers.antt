@@ -2,7 +2,7 @@ use Rattle.std.proofs.Common.{◌≡◌, ◌∙◌, ◌+◌, ◌<◌, Ok, drop, 
 use Rattle.std.proofs.lemmas.Result.{err_from_is_err_and}
 use Rattle.papergrid_draw.specs.Drawings.{drawn_of}
 use Rattle.papergrid_draw.specs.Drawn.{rule_lines}
-use Rattle.papergrid_draw.specs.ForProofs.Sheets.{AtRow, WritesLines, margined, output_of, texts_of}
+use Rattle.papergrid_draw.specs.ForProofs.Sheets.{AtRow, WritesLines, margined, texts_of}
 use Rattle.papergrid_draw.proofs.SheetLemmas.{lines-none, lines-refused}
 use Rattle.papergrid_draw.proofs.PrinterLemmas.{drawn-all, drawn-cut, first_rows-next, row-first, rule-last, whole-back}
 use Rattle.papergrid_draw.proofs.printer.draw_rows.Goals as goal
@@ -10,13 +10,13 @@ use Rattle.papergrid_draw.proofs.printer.draw_rows.Goals as goal
 pub returns-in_err-slots : goal.returns-in_err-slots
 returns-in_err-slots g c =
     let p = err_from_is_err_and c.from_residual.result c.from_residual.ensures.1 in
-    rw (p.1, p.2) (lines-refused _ _ _ _ _)
+    rw (p.1, p.2) (lines-refused g.D.Delivery.takes g.D.Delivery.breaks _ _ _ _ _)
 
 pub loop-row-init : goal.loop-row-init
 loop-row-init g c = record {
   comes = row-first c.args.frame.now.table.now (texts_of g.S.Cells.lines g.S.Cells.color c.args.cells.now) c.args.frame.now c.args.sheet.now c.in_ok-slots.slots.items
       c.requires.frame c.requires.start (c.in_ok-slots.ensures ∙ ap (λ s. s.1) c.requires.frame.shape);
-  lines = lines-none _ _ tt;
+  lines = lines-none g.D.Delivery.takes g.D.Delivery.breaks _ _ tt;
 }
 
 pub returns-in_err-draw_row : goal.returns-in_err-draw_row
@@ -25,7 +25,7 @@ returns-in_err-draw_row g c =
     let p = err_from_is_err_and c.from_residual-in_err-draw_row.result c.from_residual-in_err-draw_row.ensures.1 in
     let below : c.loop-row.row < d.shape.0 = omega (arith, ap (λ s. s.0) c.requires.frame.shape) in
     rw (p.1, p.2)
-    (drawn-cut d _ _ _ _ _ _ _ c.loop-row.sheet.written c.loop-row.row tt _ below c.loop-row.invariant.comes.written c.loop-row.invariant.lines c.in_err-draw_row.ensures.lines)
+    (drawn-cut d g.D.Delivery.takes g.D.Delivery.breaks _ _ _ _ _ _ _ c.loop-row.sheet.written c.loop-row.row tt _ below c.loop-row.invariant.comes.written c.loop-row.invariant.lines c.in_err-draw_row.ensures.lines)
 
 pub loop-row-preserved : goal.loop-row-preserved
 loop-row-preserved g c =
@@ -37,7 +37,7 @@ loop-row-preserved g c =
     record {
       comes = subst (λ slots. AtRow parts texts c.args.frame.now (c.loop-row.row + 1) c.draw_row.new.sheet slots)
           (sym (whole-back c.loop-row.slots.len c.draw_row.new.slots (drop (length c.draw_row.new.slots) c.loop-row.slots.items) same)) c.in_ok-draw_row.ensures.kept;
-      lines = first_rows-next d _ _ _ _ _ _ c.loop-row.sheet.written c.loop-row.row tt (Ok tt) c.loop-row.invariant.comes.written c.loop-row.invariant.lines c.in_ok-draw_row.ensures.lines;
+      lines = first_rows-next d g.D.Delivery.takes g.D.Delivery.breaks _ _ _ _ _ _ c.loop-row.sheet.written c.loop-row.row tt (Ok tt) c.loop-row.invariant.comes.written c.loop-row.invariant.lines c.in_ok-draw_row.ensures.lines;
     }
 
 pub draw_rule-requires : goal.draw_rule-requires
@@ -61,7 +61,7 @@ returns g c =
     let end : c.loop-row.row ≡ length parts.heights = omega (arith, ap (λ s. s.0) c.requires.frame.shape) in
     let at = rule-last parts texts c.args.frame.now c.loop-row.row c.args.frame.now.shape.0 c.loop-row.sheet c.loop-row.slots.items c.as_mut_slice-2.result.now
     c.loop-row.invariant.comes end last (sym c.as_mut_slice-2.ensures.value) in
-    drawn-all d _ _ _ _ _ _ c.loop-row.sheet.written c.loop-row.row tt _ end c.loop-row.invariant.comes.written c.loop-row.invariant.lines
-    (subst (λ r. WritesLines (output_of g.W.Sink.contents g.W.Sink.has_failed g.W.Sink.has_stalled c.loop-row.sink)
-    (output_of g.W.Sink.contents g.W.Sink.has_failed g.W.Sink.has_stalled c.draw_rule.new.sink) c.loop-row.sheet.begun c.draw_rule.new.sheet.begun
+    drawn-all d g.D.Delivery.takes g.D.Delivery.breaks _ _ _ _ _ _ c.loop-row.sheet.written c.loop-row.row tt _ end c.loop-row.invariant.comes.written c.loop-row.invariant.lines
+    (subst (λ r. WritesLines g.D.Delivery.takes g.D.Delivery.breaks c.loop-row.writer
+    c.draw_rule.new.writer c.loop-row.sheet.begun c.draw_rule.new.sheet.begun
     (margined d c.loop-row.sheet.written (rule_lines d r)) c.draw_rule.result) (sym last) (c.draw_rule.ensures.lines parts texts at c.requires.tiled))

@@ -1,13 +1,13 @@
 use Rattle.std.proofs.Common.{Ok}
 use Rattle.papergrid_draw.specs.Drawings.{drawn_of}
-use Rattle.papergrid_draw.specs.ForProofs.Sheets.{AtRow, WritesLines, margined, output_of, texts_of}
+use Rattle.papergrid_draw.specs.ForProofs.Sheets.{AtRow, WritesLines, margined, texts_of}
 use Rattle.papergrid_draw.proofs.PrinterLemmas.{first_rows}
 use Rattle.papergrid_draw.proofs.printer.draw_rows.Given as goal
 
 abbrev pub invariant-loop-row : goal.invariant-loop-row
 invariant-loop-row g l = record {
   comes : AtRow l.frame.table.now (texts_of g.S.Cells.lines g.S.Cells.color l.cells) l.frame l.row l.sheet l.slots.items;
-  lines : WritesLines {A = Unit {0}} (output_of g.W.Sink.contents g.W.Sink.has_failed g.W.Sink.has_stalled l.fn.sink) (output_of g.W.Sink.contents g.W.Sink.has_failed g.W.Sink.has_stalled l.sink) l.fn.sheet.begun l.sheet.begun
+  lines : WritesLines g.D.Delivery.takes g.D.Delivery.breaks {A = Unit {0}} l.fn.writer l.writer l.fn.sheet.begun l.sheet.begun
       (margined (drawn_of g.S.Cells.lines g.S.Cells.color l.frame.table.now l.cells) 0
       (first_rows (drawn_of g.S.Cells.lines g.S.Cells.color l.frame.table.now l.cells) l.row)) (Ok tt);
 }

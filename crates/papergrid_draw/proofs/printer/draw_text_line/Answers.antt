@@ -12,12 +12,12 @@ use Rattle.papergrid_draw.proofs.printer.draw_text_line.Goals as goal
 pub returns-in_err-begin_beside-clause-lines : goal.returns-in_err-begin_beside-clause-lines
 returns-in_err-begin_beside-clause-lines g c =
     let p = err_from_is_err_and c.from_residual.result c.from_residual.ensures.1 in
-    rw (p.1, p.2) (λ parts texts at. lines-refused _ _ _ _ _)
+    rw (p.1, p.2) (λ parts texts at. lines-refused g.D.Delivery.takes g.D.Delivery.breaks _ _ _ _ _)
 
 pub returns-in_err-push_text_line-clause-lines : goal.returns-in_err-push_text_line-clause-lines
 returns-in_err-push_text_line-clause-lines g c =
     let p = err_from_is_err_and c.from_residual-in_err-push_text_line.result c.from_residual-in_err-push_text_line.ensures.1 in
-    rw (p.1, p.2) (λ parts texts at. lines-refused _ _ _ _ _)
+    rw (p.1, p.2) (λ parts texts at. lines-refused g.D.Delivery.takes g.D.Delivery.breaks _ _ _ _ _)
 
 pub end_beside-requires : goal.end_beside-requires
 end_beside-requires g c =
@@ -29,7 +29,7 @@ end_beside-requires g c =
 pub returns-clause-lines : goal.returns-clause-lines
 returns-clause-lines g c = λ parts texts at.
     let d = drawing_of parts texts in
-    one-margined d _ _ _ _ c.args.sheet.now.written _ (TextLine (text_line d c.args.row c.args.k)) _ _ _
+    one-margined d g.D.Delivery.takes g.D.Delivery.breaks _ _ _ _ c.args.sheet.now.written _ (TextLine (text_line d c.args.row c.args.k)) _ _ _
     c.in_ok-begin_beside.ensures.written
     (c.in_ok-begin_beside.ensures.line parts texts at.frame_is)
     (c.in_ok-push_text_line.ensures parts texts at.frame_is at.kept).0

@@ -2,13 +2,13 @@ use Rattle.std.proofs.Common.{◌≡◌, ◌<◌, Ok, subst, ap, arith, slice_in
 use Rattle.std.proofs.lemmas.Result.{err_from_is_err_and}
 use Rattle.papergrid_layout.specs.Tables.{TableParts}
 use Rattle.papergrid_draw.specs.ForProofs.Pages.{drawing_of}
-use Rattle.papergrid_draw.specs.ForProofs.Sheets.{AtText, WritesLines, margined, output_of, text_lines}
+use Rattle.papergrid_draw.specs.ForProofs.Sheets.{AtText, WritesLines, margined, text_lines}
 use Rattle.papergrid_draw.proofs.SheetLemmas.{lines-none}
 use Rattle.papergrid_draw.proofs.PrinterLemmas.{text_lines-cut, text_lines-next}
-use Rattle.papergrid_draw.proofs.printer.draw_text.Goals as goal
+use Rattle.papergrid_draw.proofs.printer.draw_text_lines.Goals as goal
 
 pub loop-k-init : goal.loop-k-init
-loop-k-init g c = λ parts texts at. record { comes = at; lines = lines-none _ _ tt }
+loop-k-init g c = λ parts texts at. record { comes = at; lines = lines-none g.D.Delivery.takes g.D.Delivery.breaks _ _ tt }
 
 pub draw_text_line-requires : goal.draw_text_line-requires
 draw_text_line-requires g c =
@@ -24,7 +24,7 @@ returns-in_err-draw_text_line-clause-lines g c =
     let now = c.loop-k.invariant parts texts at in
     let below : c.loop-k.k < slice_index parts.heights c.args.row =
     omega (arith, c.get_height-k-end.ensures, ap (λ (t : TableParts). slice_index t.heights c.args.row) at.frame_is.table) in
-    text_lines-cut (drawing_of parts texts) _ _ _ _ _ _ _ c.args.sheet.now.written c.loop-k.sheet.written c.args.row c.loop-k.k (slice_index parts.heights c.args.row) tt _
+    text_lines-cut (drawing_of parts texts) g.D.Delivery.takes g.D.Delivery.breaks _ _ _ _ _ _ _ c.args.sheet.now.written c.loop-k.sheet.written c.args.row c.loop-k.k (slice_index parts.heights c.args.row) tt _
     (omega (arith, at.written, now.comes.written)) below now.lines (c.in_err-draw_text_line.ensures.lines parts texts now.comes))
 
 pub loop-k-preserved : goal.loop-k-preserved
@@ -32,7 +32,7 @@ loop-k-preserved g c = λ parts texts at.
     let now = c.loop-k.invariant parts texts at in
     record {
       comes = c.in_ok-draw_text_line.ensures.kept parts texts now.comes;
-      lines = text_lines-next (drawing_of parts texts) _ _ _ _ _ _ c.args.sheet.now.written c.loop-k.sheet.written c.args.row c.loop-k.k tt (Ok tt)
+      lines = text_lines-next (drawing_of parts texts) g.D.Delivery.takes g.D.Delivery.breaks _ _ _ _ _ _ c.args.sheet.now.written c.loop-k.sheet.written c.args.row c.loop-k.k tt (Ok tt)
           (omega (arith, at.written, now.comes.written)) now.lines (c.in_ok-draw_text_line.ensures.lines parts texts now.comes);
     }
 
@@ -41,7 +41,7 @@ returns-clause-lines g c = λ parts texts at.
     let d = drawing_of parts texts in
     let last : c.loop-k.k ≡ slice_index parts.heights c.args.row =
     omega (arith, c.get_height-k-end.ensures, ap (λ (t : TableParts). slice_index t.heights c.args.row) at.frame_is.table) in
-    subst (λ k. WritesLines {A = Unit {0}} (output_of g.W.Sink.contents g.W.Sink.has_failed g.W.Sink.has_stalled c.args.sink.now) (output_of g.W.Sink.contents g.W.Sink.has_failed g.W.Sink.has_stalled c.loop-k.sink) c.args.sheet.now.begun c.loop-k.sheet.begun
+    subst (λ k. WritesLines g.D.Delivery.takes g.D.Delivery.breaks {A = Unit {0}} c.args.writer.now c.loop-k.writer c.args.sheet.now.begun c.loop-k.sheet.begun
     (margined d c.args.sheet.now.written (text_lines d c.args.row k)) (Ok tt)) last (c.loop-k.invariant parts texts at).lines
 
 pub returns-clause-kept : goal.returns-clause-kept
