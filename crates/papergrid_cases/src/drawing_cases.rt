@@ -135,7 +135,9 @@ impl DrawingCases {
         if let Some((widths, heights)) = &self.sizes {
             return Table::from_sizes(self.alloc, config, widths.clone()?, heights.clone()?);
         }
-        let columns = self.columns.unwrap_or(self.texts.first().map_or(0, |row| row.len()));
+        let columns = self
+            .columns
+            .unwrap_or(self.texts.first().map_or(0, |row| row.len()));
         let records = IterRecords::new(self.texts.as_slice(), columns, self.count_rows);
         Table::new(self.alloc, config, records, Sizing::ByShares)
     }
