@@ -123,6 +123,7 @@ impl Answer {
             '\r' => self.push("\\r"),
             '\t' => self.push("\\t"),
             '\u{1b}' => self.push("\\u{1b}"),
+            '\u{200b}' => self.push("\\u{200b}"),
             '\\' => self.push("\\\\"),
             c if c == end => self.push(if end == ' ' { "\\s" } else { "\\\"" }),
             c => self.pushed(c),

@@ -7,6 +7,7 @@ mod certificate_questions;
 mod compact_cases;
 mod config_cases;
 mod config_questions;
+mod drawing_cases;
 mod hidden_questions;
 mod kinds;
 mod map_cases;
@@ -27,6 +28,7 @@ mod text_questions;
 
 use compact_cases::CompactCases;
 use config_cases::Config;
+use drawing_cases::DrawingCases;
 use map_cases::Map;
 use pair::Pair;
 use papergrid_maps::SpanTable;
@@ -70,6 +72,9 @@ fn report_of(rt: &HostRuntime, name: &str, text: &str) -> Report {
         "borders.txt" => run::<Pair<BorderTable<char>>>(rt, name, text),
         "compact.txt" => run::<CompactCases>(rt, name, text),
         "config.txt" | "removals.txt" => run::<Pair<Config>>(rt, name, text),
+        "drawings.txt" | "drawings_of_cells.txt" | "drawings_of_spans.txt" => {
+            run::<DrawingCases>(rt, name, text)
+        }
         "tables.txt" | "scripts.txt" => run::<TableCases>(rt, name, text),
         "texts.txt" | "values.txt" | "widths.txt" => run::<PlainCases>(rt, name, text),
         "maps.txt" => run::<Pair<Map>>(rt, name, text),

@@ -24,7 +24,7 @@ impl Marked for char {
 }
 
 /// The letter of a colour, and its texts before and after.
-const STYLES: [(char, &str, &str); 8] = [
+const STYLES: [(char, &str, &str); 17] = [
     ('r', "<red>", "</>"),
     ('b', "<blue>", "</>"),
     ('m', "m", "M"),
@@ -33,6 +33,15 @@ const STYLES: [(char, &str, &str); 8] = [
     ('a', "a", "z"),
     ('z', "z", ""),
     ('0', "", ""),
+    ('R', "{r ", "}"),
+    ('G', "{g ", "}"),
+    ('B', "{b ", "}"),
+    ('Y', "{y ", "}"),
+    ('T', "{t ", "}"),
+    ('S', "P", "S"),
+    ('s', "P", "s"),
+    ('e', "\u{1b}[31m", "\u{1b}[39m"),
+    ('f', "\u{1b}[32m", "\u{1b}[39m"),
 ];
 
 impl Marked for ANSIStr<'static> {
@@ -77,6 +86,15 @@ fn letter_of(before: &str, after: &str) -> char {
         }
     }
     '?'
+}
+
+/// The colour of a letter.
+pub fn color(words: &mut Words<'_>) -> Option<ANSIBuf> {
+    let color = ANSIBuf::read(words);
+    if color.is_none() {
+        words.lacks("the letter of a colour");
+    }
+    color
 }
 
 /// The eight parts round a cell: three above it, two beside it, three below it.

@@ -1,6 +1,6 @@
 //! Settings as lines: each reader takes those of its kind, and hands other words on to the next one.
 
-use crate::marks::{Marked, border, frame, horizontal_line, vertical_line};
+use crate::marks::{Marked, border, color, frame, horizontal_line, vertical_line};
 use crate::reading::Words;
 use crate::sides::{Side, alignment_horizontal, alignment_vertical, sides};
 use papergrid_config::Setting;
@@ -90,13 +90,4 @@ fn of_cells(word: &str, words: &mut Words<'_>) -> Option<Setting> {
             return None;
         }
     })
-}
-
-/// The colour of a letter.
-fn color(words: &mut Words<'_>) -> Option<ANSIBuf> {
-    let color = ANSIBuf::read(words);
-    if color.is_none() {
-        words.lacks("the letter of a colour");
-    }
-    color
 }

@@ -16,8 +16,8 @@ pub trait Side {
 impl Side for Indent {
     fn next(words: &mut Words<'_>) -> Indent {
         let word = words.word();
-        let (size, fill) = word.split_once(':').unwrap_or((word, " "));
-        let fill = fill.chars().next().unwrap_or(' ');
+        let (size, fill) = word.split_once(':').unwrap_or((word, "\\s"));
+        let fill = Words::new(words.alloc(), fill).character();
         Indent::new(words.number_of(size), fill)
     }
 }

@@ -2,22 +2,21 @@
 
 ghost use Rattle.std.specs.Prelude.{◌≡◌, ℕ, List, map, option_copied, option_map, slice_get};
 ghost use Rattle.papergrid_values.specs.Colors.{texts_of};
-ghost use Rattle.papergrid_text.specs.HeldRows.{rows_held};
 ghost use Rattle.papergrid_grid.specs.Cells.{lines_at, text_lines};
 
 use crate::color::AsANSIStr;
 use papergrid_draw::source::Cells;
 use papergrid_maps::Colors;
-use papergrid_text::{Cell, Text, VecRecords};
+use papergrid_text::{Cell, Text};
 use papergrid_values::{ANSIStr, Position};
 use std::alloc::{AllocError, Global};
 use std::convert::AsStr;
 
-/// The cells of records that are held, which know their lines and widths.
+/// The cells of rows that are held, which know their lines and widths.
 #[derive(Clone, Copy, Debug)]
 pub struct RecordCells<'a, T, C> {
-    /// The records. Their rows are read, whatever they tell of their counts.
-    pub records: &'a VecRecords<T>,
+    /// The rows, as a `VecRecords` lends them.
+    pub rows: &'a [Vec<T>],
     /// The colours of the texts.
     pub colors: &'a C,
 }
@@ -28,12 +27,12 @@ where
 {
     type Cell = &'a T;
 
-    ghost lines = { λ s. lines_at T.lines (map (λ row. row.items) (rows_held s.records.now).items) };
+    ghost lines = { λ s. lines_at T.lines (map (λ row. row.items) s.rows.now) };
 
     ghost color = { λ s p. option_map C.Color.texts (C.color_at s.colors.now p) };
 
     fn cell(&self, position: Position) -> Result<Option<&'a T>, AllocError> {
-        match self.records.get(position.row) {
+        match self.rows.get(position.row) {
             Some(row) => Ok(row.get(position.col)),
             None => Ok(None),
         }

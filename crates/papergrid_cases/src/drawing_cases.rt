@@ -1,0 +1,174 @@
+//! Cases of drawn tables: settings, cells and their colours are told, and the picture is asked for.
+
+ghost use Rattle.std.specs.HashMap.{get as map_get};
+ghost use Rattle.papergrid_values.specs.MapKeys.{position_eq};
+ghost use Rattle.papergrid_text.specs.Held.{cell_at};
+ghost use Rattle.papergrid_draw.specs.ForProofs.Blocks.{lines_of};
+
+use crate::answer::Answer;
+use crate::config_cases::Config;
+use crate::marks::color;
+use crate::pair::Kind;
+use crate::reading::Words;
+use crate::running::Subject;
+use crate::size_questions::Sizes;
+use crate::table_cases::numbers_to;
+use papergrid::grid::{Cells, DrawError, draw_cells};
+use papergrid::{Sizing, Table, WriteSink};
+use papergrid_layout::LayoutError;
+use papergrid_text::{Cell, IterRecords, Text};
+use papergrid_values::{ANSIBuf, Position};
+use std::alloc::{AllocError, Global};
+use std::collections::HashMap;
+
+/// Settings, cells as texts and as measured texts, colours of cells, and sizes where they are told.
+#[derive(Drop)]
+pub struct DrawingCases {
+    alloc: Global,
+    config: Config,
+    columns: Option<usize>,
+    count_rows: Option<usize>,
+    texts: Vec<Vec<String>>,
+    measured: Vec<Vec<Text<String>>>,
+    is_plain: bool,
+    colors: HashMap<Position, ANSIBuf>,
+    sizes: Option<Sizes>,
+}
+
+impl Subject for DrawingCases {
+    fn start(alloc: Global) -> DrawingCases {
+        DrawingCases {
+            alloc,
+            config: Config::new_one(alloc),
+            columns: None,
+            count_rows: None,
+            texts: Vec::new(alloc),
+            measured: Vec::new(alloc),
+            is_plain: false,
+            colors: HashMap::new(alloc),
+            sizes: None,
+        }
+    }
+
+    fn tell(&mut self, word: &str, words: &mut Words<'_>) -> Result<(), AllocError> {
+        match word {
+            "|" => self.add_row(words)?,
+            "columns" => self.columns = Some(words.number()),
+            "rows" => self.count_rows = Some(words.number()),
+            "plain" => self.is_plain = true,
+            "sizes" => self.sizes = Some((numbers_to(words, "|")?, numbers_to(words, "")?)),
+            "color" => {
+                let position = words.position();
+                if let Some(color) = color(words) {
+                    let _ = self.colors.insert(position, color)?;
+                }
+            }
+            _ => self.config.tell(word, words)?,
+        }
+        Ok(())
+    }
+
+    fn ask(
+        &mut self,
+        word: &str,
+        words: &mut Words<'_>,
+        answer: &mut Answer,
+    ) -> Result<(), AllocError> {
+        self.config.settle(words)?;
+        match self.picture() {
+            Ok(picture) => {
+                let text = std::str::from_utf8(&picture).unwrap_or("?");
+                ask_picture(text, word, words, answer);
+            }
+            Err(error) => show_refusal(error, answer),
+        }
+        Ok(())
+    }
+}
+
+impl DrawingCases {
+    /// Adds a row of cells between bars.
+    fn add_row(&mut self, words: &mut Words<'_>) -> Result<(), AllocError> {
+        let (mut texts, mut measured) = (Vec::new(self.alloc), Vec::new(self.alloc));
+        for _ in 0..usize::MAX {
+            if words.is_empty() {
+                break;
+            }
+            let text = words.cell()?;
+            measured.push(Text::new(self.alloc, text.clone()?)?)?;
+            texts.push(text)?;
+        }
+        self.texts.push(texts)?;
+        self.measured.push(measured)?;
+        Ok(())
+    }
+
+    /// Draws the table.
+    fn picture(&self) -> Result<Vec<u8>, DrawError> {
+        let mut written = Vec::new(self.alloc);
+        if self.is_plain {
+            self.draw(self.texts.as_slice(), &mut written)?;
+        } else {
+            self.draw(self.measured.as_slice(), &mut written)?;
+        }
+        Ok(written)
+    }
+
+    /// Writes the picture of the table with these cells.
+    fn draw<C: Cell>(&self, rows: &[Vec<C>], written: &mut Vec<u8>) -> Result<(), DrawError> {
+        let table = self.table()?;
+        let colors = &self.colors;
+        let cells = RecordCells { rows, colors };
+        draw_cells(self.alloc, &table, &cells, &mut WriteSink::new(written))
+    }
+
+    /// The table of the sizes that are told, or else of those that the texts ask for.
+    fn table(&self) -> Result<Table<'_>, LayoutError> {
+        let config = self.config.settings();
+        if let Some((widths, heights)) = &self.sizes {
+            return Table::from_sizes(self.alloc, config, widths.clone()?, heights.clone()?);
+        }
+        let columns = self
+            .columns
+            .unwrap_or(self.texts.first().map_or(0, |row| row.len()));
+        let records = IterRecords::new(self.texts.as_slice(), columns, self.count_rows);
+        Table::new(self.alloc, config, records, Sizing::ByShares)
+    }
+}
+
+/// Answers how many lines the picture has, or one of them.
+fn ask_picture(text: &str, word: &str, words: &mut Words<'_>, answer: &mut Answer) {
+    match word {
+        "picture" => show_count(text, answer),
+        "line" => match text.split('\n').nth(words.number()) {
+            Some(line) => answer.text(line),
+            None => answer.word("none"),
+        },
+        _ => words.lacks("a question"),
+    }
+}
+
+fn show_count(text: &str, answer: &mut Answer) {
+    if text.is_empty() {
+        return answer.word("nothing");
+    }
+    let count = text.split('\n').count();
+    answer.number(count);
+    answer.word(if count == 1 { "line" } else { "lines" });
+}
+
+fn show_refusal(error: DrawError, answer: &mut Answer) {
+    match error {
+        DrawError::OutOfTable(cell) => show_place("out of table", cell, answer),
+        DrawError::NotTiled(cell) => show_place("not tiled", cell, answer),
+        DrawError::NoRoom(cell) => show_place("no room", cell, answer),
+        DrawError::TooLarge => answer.word("too large"),
+        DrawError::Memory(_) => answer.word("out of memory"),
+        DrawError::Write => answer.word("not written"),
+    }
+}
+
+fn show_place(why: &str, cell: Position, answer: &mut Answer) {
+    answer.word(why);
+    answer.position(cell);
+}
