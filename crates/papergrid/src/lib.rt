@@ -90,8 +90,9 @@ pub mod dimension {
 /// The table, drawn.
 pub mod grid {
     pub use papergrid_draw::DrawError;
-    pub use papergrid_draw::printer::draw_cells;
+    pub use papergrid_draw::printer::{draw_cells, draw_text, drawn_string};
     pub use papergrid_draw::source::Cells;
+    pub use papergrid_grid::{AsANSIStr, RecordCells, TextCells, TextRow, draw_lines};
 }
 
 /// Rows of cells.

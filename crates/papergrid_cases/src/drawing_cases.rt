@@ -1,10 +1,5 @@
 //! Cases of drawn tables: settings, cells and their colours are told, and the picture is asked for.
 
-ghost use Rattle.std.specs.HashMap.{get as map_get};
-ghost use Rattle.papergrid_values.specs.MapKeys.{position_eq};
-ghost use Rattle.papergrid_text.specs.Held.{cell_at};
-ghost use Rattle.papergrid_draw.specs.ForProofs.Blocks.{lines_of};
-
 use crate::answer::Answer;
 use crate::config_cases::Config;
 use crate::marks::color;
@@ -13,7 +8,7 @@ use crate::reading::Words;
 use crate::running::Subject;
 use crate::size_questions::Sizes;
 use crate::table_cases::numbers_to;
-use papergrid::grid::{Cells, DrawError, draw_cells};
+use papergrid::grid::{DrawError, RecordCells, draw_cells};
 use papergrid::{Sizing, Table, WriteSink};
 use papergrid_layout::LayoutError;
 use papergrid_text::{Cell, IterRecords, Text};
