@@ -22,6 +22,7 @@ use crate::script::{Script, ScriptError, read_script};
 use crate::script_setting::configuration_of;
 use crate::table_layout::configuration;
 use bumpalo::Bump;
+use papergrid_config::laws::history_decides;
 use papergrid_config::{NoColors, Setting, SpannedConfig};
 use papergrid_draw::DrawError;
 use papergrid_draw::printer::draw_cells;
@@ -67,7 +68,24 @@ pub fn draw<T: AsStr, W: Sink>(
         ⊎ (W.has_stalled sink.old ≡ false → W.has_stalled sink.new ≡ true) }
 {
     let config = configuration(alloc, settings)?;
-    let table = Table::new(alloc, &config, records, sizing)?;
+    draw_records(alloc, &config, records, sizing, sink)
+}
+
+/// Writes the picture of the records by a configuration.
+fn draw_records<T: AsStr, W: Sink>(
+    alloc: Global,
+    config: &SpannedConfig,
+    records: &VecRecords<T>,
+    sizing: Sizing,
+    sink: &mut W,
+) -> Result<(), DrawError>
+    ensures { Draws W.contents W.has_failed W.has_stalled
+        (IsDrawingWith (column_count records.now) (texts_held T.text records.now) sizing
+        config.now)
+        (IsFaultWith (column_count records.now) (texts_held T.text records.now) sizing config.now)
+        printed sink.old sink.new result }
+{
+    let table = Table::new(alloc, config, records, sizing)?;
     let cells = TextCells {
         alloc,
         rows: records.as_slice(),
@@ -172,6 +190,7 @@ fn draw_script<W: Sink>(
     ensures { Runs W.contents W.has_failed W.has_stalled
         (IsTablePicture sizing (table_seen script.entry)) writer.old writer.new result }
 {
+    history_decides();
     let Script {
         columns,
         settings,
@@ -196,19 +215,19 @@ fn draw_rows<W: Sink>(
     sizing: Sizing,
     config: &SpannedConfig,
     columns: usize,
-    rows: &Vec<&[&str]>,
+    rows: &[&[&str]],
     writer: &mut W,
 ) -> Result<(), DrawError>
     ensures { Draws W.contents W.has_failed W.has_stalled
-        (IsDrawingWith columns (rows_seen rows.now.items) sizing config.now)
-        (IsFaultWith columns (rows_seen rows.now.items) sizing config.now)
+        (IsDrawingWith columns (rows_seen rows.now) sizing config.now)
+        (IsFaultWith columns (rows_seen rows.now) sizing config.now)
         lined writer.old writer.new result }
 {
-    let records = IterRecords::new(rows.clone()?, columns, Some(rows.len()));
+    let records = IterRecords::new(Vec::from_slice(alloc, rows)?, columns, Some(rows.len()));
     let table = Table::new(alloc, config, records, sizing)?;
     let cells = TextCells {
         alloc,
-        rows: rows.as_slice(),
+        rows,
         colors: &NoColors,
     };
     draw_lines(alloc, &table, &cells, writer)

@@ -1,0 +1,225 @@
+-- The sizes of cells that are seen through a view, and what is drawn with them.
+use Rattle.std.proofs.Common.{◌≡◌, ◌≢◌, ◌∙◌, ◌⊎◌, ℕ, Bool, List, Option, None, Result, Ok, Err, OnErr, OnOk, IfErr, map, ap, inl, inr, refl, subst, sym, take}
+use Rattle.std.specs.Io.KnownBytes.{Appends}
+use Rattle.std.specs.Prelude.{IsErrOf}
+use Rattle.std.specs.declared.alloc.AllocError.{AllocError}
+use Rattle.papergrid_values.specs.declared.direction.Direction.TheVariants.{Columns, Rows}
+use Rattle.papergrid_tracks.specs.Answers.{AreSizes, NoneHolds}
+use Rattle.papergrid_tracks.specs.LeastAnswers.{AreLeastSizes, NoneFits}
+use Rattle.papergrid_tracks.specs.Problem.{Problem}
+use Rattle.papergrid_tracks.specs.declared.error.LayoutError.{LayoutError}
+use Rattle.papergrid_tracks.specs.declared.error.LayoutError.TheVariants as layout_errors
+use Rattle.papergrid_config.specs.Grids.{spanned_grid}
+use Rattle.papergrid_config.specs.declared.setting.Setting.{Setting}
+use Rattle.papergrid_config.specs.declared.spanned.SpannedConfig.{SpannedConfig}
+use Rattle.papergrid_layout.specs.Answers.{HoldAlong, IsBothRefusedWhere}
+use Rattle.papergrid_layout.specs.declared.sizing.Sizing.{Sizing}
+use Rattle.papergrid_layout.specs.declared.sizing.Sizing.TheVariants.{ByShares, Least}
+use Rattle.papergrid_layout.proofs.Told.{first_told, problem_told}
+use Rattle.papergrid_layout.specs.Answers.{UnlessMemoryError}
+use Rattle.papergrid_layout.specs.Tables.{AreNoSizesBySizing, AreSizesBySizing, TableParts}
+use Rattle.papergrid_draw.specs.Drawings.{Drawing, drawn_of}
+use Rattle.papergrid_draw.specs.Errors.{draw_error_of}
+use Rattle.papergrid_draw.specs.Faults.{IsDrawFault}
+use Rattle.papergrid_draw.specs.declared.error.DrawError.{DrawError}
+use Rattle.papergrid_draw.specs.declared.error.DrawError.TheVariants as draw_errors
+use Rattle.papergrid.specs.Estimates.{text_measure}
+use Rattle.papergrid_grid.specs.Cells.{lines_at, text_lines}
+use Rattle.papergrid_grid.specs.Lined.{lined}
+use Rattle.papergrid.specs.Layouts.{IsConfiguredBy}
+use Rattle.papergrid.specs.Scripts.{Table}
+use Rattle.papergrid.specs.declared.running.RunEnd.{RunEnd}
+use Rattle.papergrid.specs.declared.running.RunEnd.TheVariants.{Done, Refused}
+use Rattle.papergrid.specs.declared.running.RunFault.{RunFault}
+use Rattle.papergrid.specs.declared.running.RunFault.TheVariants as run_faults
+use Rattle.papergrid.specs.Pictures.{IsDrawingBy, IsDrawingWith, IsFaultWith, IsPictureFault, IsRefusal, IsTablePicture, Undrawn, Unsized, refusal_line, texts_drawing}
+use Rattle.papergrid.specs.ForProofs.Drawn.{Draws, HasEnded, IsBrokenOff, IsTaken, IsUndrawn, Runs}
+
+module _ {A : Type 0} (view : A → List ℕ) (config : SpannedConfig) (columns : ℕ) (cells : List (List A)) (texts : List (List (List ℕ)))
+    (same : map (map view) cells ≡ texts) where
+  along-seen : {B : Type 0} (holds : Problem → B → Type 0) (across down : B) →
+      HoldAlong (spanned_grid config) (λ x. text_measure (view x)) columns cells holds across down → HoldAlong (spanned_grid config) text_measure columns texts holds across down
+  along-seen holds across down are = record {
+    widths = subst (λ problem. holds problem across) (problem_told (spanned_grid config) view text_measure cells texts same Columns columns) are.widths;
+    heights = subst (λ problem. holds problem down) (problem_told (spanned_grid config) view text_measure cells texts same Rows columns) are.heights;
+  }
+
+  -- sizes that are chosen so
+  pub sizes-seen : (sizing : Sizing) (widths heights : List ℕ) → AreSizesBySizing config (λ x. text_measure (view x)) columns cells sizing widths heights →
+      AreSizesBySizing config text_measure columns texts sizing widths heights
+  sizes-seen ByShares widths heights are = along-seen AreSizes widths heights are
+  sizes-seen Least widths heights are = along-seen AreLeastSizes widths heights are
+
+  refused-seen : (too_large : Problem → Type 0) (e : LayoutError) → IsBothRefusedWhere (spanned_grid config) (λ x. text_measure (view x)) columns cells too_large e →
+      IsBothRefusedWhere (spanned_grid config) text_measure columns texts too_large e
+  refused-seen too_large (layout_errors.OutOfTable p) is = sym (first_told (spanned_grid config) view text_measure cells texts same columns) ∙ is
+  refused-seen too_large layout_errors.TooLarge is = (
+    sym (first_told (spanned_grid config) view text_measure cells texts same columns) ∙ is.0,
+    elim is.1 [
+      | inl wide ↦ inl (subst too_large (problem_told (spanned_grid config) view text_measure cells texts same Columns columns) wide)
+      | inr high ↦ inr (subst too_large (problem_told (spanned_grid config) view text_measure cells texts same Rows columns) high)
+    ],
+  )
+  refused-seen too_large (layout_errors.Memory e) is = tt
+
+  -- why there are none
+  pub no-sizes-seen : (sizing : Sizing) (e : LayoutError) → AreNoSizesBySizing config (λ x. text_measure (view x)) columns cells sizing e →
+      AreNoSizesBySizing config text_measure columns texts sizing e
+  no-sizes-seen ByShares e is = refused-seen NoneHolds e is
+  no-sizes-seen Least e is = refused-seen NoneFits e is
+
+-- what follows from what holds unless an allocation failed
+pub unless-also : (e : LayoutError) {P Q : Type 0} → (P → Q) → UnlessMemoryError e P → UnlessMemoryError e Q
+unless-also (layout_errors.OutOfTable p) follows is = follows is
+unless-also layout_errors.TooLarge follows is = follows is
+unless-also (layout_errors.Memory e) follows is = tt
+
+-- the drawing of rows of texts that are lent, by a table of such sizes
+pub drawing-with : {R : Type 0} (texts : R → List (List ℕ)) (parts : TableParts) (config : SpannedConfig) (columns : ℕ) (sizing : Sizing) (lent held : List R) →
+    parts.config ≡ config → lent ≡ held → AreSizesBySizing config text_measure columns (map texts held) sizing parts.widths parts.heights →
+    IsDrawingWith columns (map texts held) sizing config (drawn_of (λ rows. lines_at text_lines (map texts rows)) (λ _ _. None) parts lent)
+drawing-with texts parts config columns sizing lent held same_config same_rows sized = record {
+  widths = parts.widths;
+  heights = parts.heights;
+  sized = sized;
+  is = λ i. texts_drawing (same_config i) (map texts (same_rows i)) parts.widths parts.heights;
+}
+
+-- what is known of a call that draws by a configuration, with the sizes that are chosen so
+module _ {W : Type 0} (contents : W → Option (List ℕ)) (has_failed has_stalled : W → Bool) (config : SpannedConfig) (columns : ℕ) (texts : List (List (List ℕ)))
+    (sizing : Sizing) (text_of : Drawing → List ℕ) where
+  abbrev AnswersSo : {A : Type 0} → W → W → Result A DrawError → Type 0
+  AnswersSo {A} old new result = Draws contents has_failed has_stalled (IsDrawingWith columns texts sizing config) (IsFaultWith columns texts sizing config) text_of {A} old new result
+
+  -- there are no sizes
+  pub unsized : (w : W) (e : LayoutError) → UnlessMemoryError e (AreNoSizesBySizing config text_measure columns texts sizing e) →
+      IsUndrawn contents has_failed has_stalled (IsDrawingWith columns texts sizing config) (IsFaultWith columns texts sizing config) text_of w w (draw_error_of e)
+  unsized w e are = record { fault = named e are; nothing = λ _. refl; beginning = inl refl; write = λ is. absurd (never e is) }
+    where
+      named : (e : LayoutError) → UnlessMemoryError e (AreNoSizesBySizing config text_measure columns texts sizing e) → IsRefusal (draw_error_of e) → IsFaultWith columns texts sizing config (draw_error_of e)
+      named (layout_errors.OutOfTable p) are is = Unsized (layout_errors.OutOfTable p) refl are
+      named layout_errors.TooLarge are is = Unsized layout_errors.TooLarge refl are
+      named (layout_errors.Memory e) are is = absurd is
+      never : (e : LayoutError) → draw_error_of e ≡ draw_errors.Write → ⊥
+      never (layout_errors.OutOfTable p) is = cc
+      never layout_errors.TooLarge is = cc
+      never (layout_errors.Memory e) is = cc
+
+  -- memory failed before anything was written
+  pub no-memory : (w : W) (e : AllocError) →
+      IsUndrawn contents has_failed has_stalled (IsDrawingWith columns texts sizing config) (IsFaultWith columns texts sizing config) text_of w w (draw_errors.Memory e)
+  no-memory w e = record { fault = λ is. absurd is; nothing = λ is. absurd is; beginning = inl refl; write = λ is. absurd (let none : ⊥ = cc in none) }
+
+  -- there are, and it was drawn with them, or not
+  pub drawn-so : {A : Type 0} (d : Drawing) → IsDrawingWith columns texts sizing config d → (old new : W) (result : Result A DrawError) →
+      OnOk result (Appends (contents old) (contents new) (text_of d)) → OnOk result (has_failed new ≡ has_failed old) → OnOk result (has_stalled new ≡ has_stalled old) →
+      IfErr result (IsDrawFault d) → IfErr result (λ e. (e ≡ draw_errors.Write) ⊎ ((error : AllocError) × (e ≡ draw_errors.Memory error)) ⊎ (new ≡ old)) →
+      OnErr result ((n : ℕ) × Appends (contents old) (contents new) (take n (text_of d))) →
+      (IsErrOf result draw_errors.Write → HasEnded contents has_failed has_stalled old new) → AnswersSo old new result
+  drawn-so d is old new (Ok x) taken works moves fault nothing begun write = (d, is, record { taken = taken; works = works; moves = moves })
+  drawn-so d is old new (Err e) taken works moves fault nothing begun write = record {
+    fault = λ named. Undrawn d is fault;
+    nothing = λ named. left e named nothing;
+    beginning = inr (d, is, begun);
+    write = λ same. write same;
+  }
+    where
+      left : (e : DrawError) → IsRefusal e → (e ≡ draw_errors.Write) ⊎ ((error : AllocError) × (e ≡ draw_errors.Memory error)) ⊎ (new ≡ old) → new ≡ old
+      left (draw_errors.Memory error) named how = absurd named
+      left draw_errors.Write named how = absurd named
+      left (draw_errors.OutOfTable p) named (inl same) = absurd (let none : ⊥ = cc in none)
+      left (draw_errors.OutOfTable p) named (inr (inl same)) = absurd (let none : ⊥ = (let is = same.1 in cc) in none)
+      left (draw_errors.OutOfTable p) named (inr (inr same)) = same
+      left (draw_errors.NotTiled p) named (inl same) = absurd (let none : ⊥ = cc in none)
+      left (draw_errors.NotTiled p) named (inr (inl same)) = absurd (let none : ⊥ = (let is = same.1 in cc) in none)
+      left (draw_errors.NotTiled p) named (inr (inr same)) = same
+      left (draw_errors.NoRoom p) named (inl same) = absurd (let none : ⊥ = cc in none)
+      left (draw_errors.NoRoom p) named (inr (inl same)) = absurd (let none : ⊥ = (let is = same.1 in cc) in none)
+      left (draw_errors.NoRoom p) named (inr (inr same)) = same
+      left draw_errors.TooLarge named (inl same) = absurd (let none : ⊥ = cc in none)
+      left draw_errors.TooLarge named (inr (inl same)) = absurd (let none : ⊥ = (let is = same.1 in cc) in none)
+      left draw_errors.TooLarge named (inr (inr same)) = same
+
+-- by a configuration that settings tell
+module _ {W : Type 0} (contents : W → Option (List ℕ)) (has_failed has_stalled : W → Bool) (settings : List Setting) (config : SpannedConfig) (told : IsConfiguredBy settings config)
+    (columns : ℕ) (texts : List (List (List ℕ))) (sizing : Sizing) where
+  module _ {A : Type 0} (text_of : Drawing → List ℕ) (old new : W) where
+    abbrev So : Result A DrawError → Type 0
+    So result = Draws contents has_failed has_stalled (IsDrawingWith columns texts sizing config) (IsFaultWith columns texts sizing config) text_of old new result
+
+    pub draw-picture : (result : Result A DrawError) → So result →
+        OnOk result ((d : Drawing) × IsDrawingBy columns texts sizing settings d × Appends (contents old) (contents new) (text_of d))
+    draw-picture (Ok x) so = (so.0, (config, told, so.1), so.2.taken)
+    draw-picture (Err e) so = tt
+
+    pub draw-works : (result : Result A DrawError) → So result → OnOk result (has_failed new ≡ has_failed old)
+    draw-works (Ok x) so = so.2.works
+    draw-works (Err e) so = tt
+
+    pub draw-moves : (result : Result A DrawError) → So result → OnOk result (has_stalled new ≡ has_stalled old)
+    draw-moves (Ok x) so = so.2.moves
+    draw-moves (Err e) so = tt
+
+    pub draw-fault : (result : Result A DrawError) → So result → IfErr result (λ e. IsRefusal e → IsPictureFault columns texts sizing settings e)
+    draw-fault (Ok x) so = tt
+    draw-fault (Err e) so = λ named. (config, told, so.fault named)
+
+    pub draw-nothing : (result : Result A DrawError) → So result → IfErr result (λ e. IsRefusal e → new ≡ old)
+    draw-nothing (Ok x) so = tt
+    draw-nothing (Err e) so = so.nothing
+
+    pub draw-beginning : (result : Result A DrawError) → So result →
+        OnErr result ((new ≡ old) ⊎ ((d : Drawing) × IsDrawingBy columns texts sizing settings d × ((n : ℕ) × Appends (contents old) (contents new) (take n (text_of d)))))
+    draw-beginning (Ok x) so = tt
+    draw-beginning (Err e) so = elim so.beginning [
+      | inl same ↦ inl same
+      | inr begun ↦ inr (begun.0, (config, told, begun.1), begun.2)
+    ]
+
+    pub draw-write : (result : Result A DrawError) → So result → IsErrOf result draw_errors.Write → HasEnded contents has_failed has_stalled old new
+    draw-write (Ok x) so is = absurd is
+    draw-write (Err e) so is = so.write is
+
+-- ---- runs
+
+module _ {W : Type 0} (contents : W → Option (List ℕ)) (has_failed has_stalled : W → Bool) where
+  -- a run whose output is so, where another way to say it follows
+  pub runs-also : (IsSo IsAlso : RunEnd → List ℕ → Type 0) → ((end : RunEnd) (output : List ℕ) → IsSo end output → IsAlso end output) → (old new : W) (result : Result RunEnd RunFault) →
+      Runs contents has_failed has_stalled IsSo old new result → Runs contents has_failed has_stalled IsAlso old new result
+  runs-also IsSo IsAlso follows old new (Ok end) so = (so.0, follows end so.0 so.1, so.2)
+  runs-also IsSo IsAlso follows old new (Err fault) so = record {
+    not_read = so.not_read;
+    beginning = elim so.beginning [
+      | inl same ↦ inl same
+      | inr begun ↦ inr (begun.0, (begun.1.0, follows begun.0 begun.1.0 begun.1.1, begun.1.2))
+    ];
+    write = so.write;
+  }
+
+  module _ (sizing : Sizing) (table : Table) (config : SpannedConfig) (told : IsConfiguredBy table.settings config) where
+    abbrev IsSoUndrawn : W → W → DrawError → Type 0
+    IsSoUndrawn old new e = IsUndrawn contents has_failed has_stalled (IsDrawingWith table.columns table.rows sizing config) (IsFaultWith table.columns table.rows sizing config) lined old new e
+
+    -- the picture was written
+    pub run-drawn : (old new : W) → ((d : Drawing) × IsDrawingWith table.columns table.rows sizing config d × IsTaken contents has_failed has_stalled old new (lined d)) →
+        Runs contents has_failed has_stalled (IsTablePicture sizing table) old new (Ok Done)
+    run-drawn old new so = (lined so.0, (so.0, (config, told, so.1), refl), so.2)
+
+    -- it broke off
+    pub run-broken : (old new : W) (e : DrawError) (fault : RunFault) → fault ≢ run_faults.Read → (fault ≡ run_faults.Write → e ≡ draw_errors.Write) → IsSoUndrawn old new e →
+        IsBrokenOff contents has_failed has_stalled (IsTablePicture sizing table) old new fault
+    run-broken old new e fault not_read follows so = record {
+      not_read = not_read;
+      beginning = elim so.beginning [
+        | inl same ↦ inl same
+        | inr begun ↦ inr (Done, (lined begun.0, (begun.0, (config, told, begun.1), refl), begun.2))
+      ];
+      write = λ is. so.write (follows is);
+    }
+
+    -- it was refused, and the line that says so was written
+    pub run-refused : (old between new : W) (e : DrawError) (text : List ℕ) (result : Result RunEnd RunFault) → IsRefusal e → IsSoUndrawn old between e → text ≡ refusal_line e →
+        Runs contents has_failed has_stalled (λ end output. (end ≡ Refused) × (output ≡ text)) between new result → Runs contents has_failed has_stalled (IsTablePicture sizing table) old new result
+    run-refused old between new e text result named so is ran =
+        subst (λ w. Runs contents has_failed has_stalled (IsTablePicture sizing table) w new result) (so.nothing named)
+        (runs-also _ _ (λ end output p. subst (λ x. IsTablePicture sizing table x output) (sym p.0) (e, named, (config, told, so.fault named), p.1 ∙ is)) between new result ran)
