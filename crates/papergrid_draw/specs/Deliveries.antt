@@ -1,5 +1,5 @@
--- Texts that are delivered to a writer, one after the other: takes relates the writer before a text that it took, the
--- text, and the writer after it, and breaks the same of a text that it did not take, or not all of it.
+-- Texts that are delivered to a writer, one after the other: takes relates the writer before a text that it took,
+-- the text, and the writer after it, and breaks the same of a text that it did not take, or not all of it.
 use Rattle.std.specs.Prelude.{◌≡◌, ℕ, List, ◌++◌}
 use Rattle.std.specs.Fmt.{WritesInCalls}
 use Rattle.papergrid_draw.specs.declared.error.DrawError.{DrawError}
@@ -7,14 +7,16 @@ use Rattle.papergrid_draw.specs.declared.error.DrawError.TheVariants.{Memory, No
 
 module _ {W : Type 0} where
   -- texts were taken that join to a beginning of the bytes
-  pub record TakesBeginning (takes : W → List ℕ → W → Type 0) (old : W) (bytes : List ℕ) (new : W) : Type 0 where
+  pub record TakesBeginning (takes : W → List ℕ → W → Type 0) (old : W) (bytes : List ℕ) (new : W)
+      : Type 0 where
     pub taken : List ℕ
     pub rest : List ℕ
     pub calls : WritesInCalls takes old taken new
     pub whole : taken ++ rest ≡ bytes
 
   -- the same, and then the next text, with which the bytes go on, was not
-  pub record BreaksOff (takes breaks : W → List ℕ → W → Type 0) (old : W) (bytes : List ℕ) (new : W) : Type 0 where
+  pub record BreaksOff (takes breaks : W → List ℕ → W → Type 0) (old : W) (bytes : List ℕ) (new : W)
+      : Type 0 where
     pub taken : List ℕ
     pub between : W
     pub text : List ℕ
@@ -23,8 +25,9 @@ module _ {W : Type 0} where
     pub broke : breaks between text new
     pub whole : taken ++ text ++ rest ≡ bytes
 
-  -- what was written where the bytes were not: a beginning before an allocation failed or a text, else nothing
-  abbrev pub IsLeftOff : (takes breaks : W → List ℕ → W → Type 0) → W → List ℕ → W → DrawError → Type 0
+  -- the writer after an error: an allocation failed after a beginning, or a text broke off, else it is as it was
+  abbrev pub IsLeftOff : (takes breaks : W → List ℕ → W → Type 0) → W → List ℕ → W → DrawError →
+      Type 0
   IsLeftOff takes breaks old bytes new (Memory e) = TakesBeginning takes old bytes new
   IsLeftOff takes breaks old bytes new Write = BreaksOff takes breaks old bytes new
   IsLeftOff takes breaks old bytes new (OutOfTable p) = new ≡ old

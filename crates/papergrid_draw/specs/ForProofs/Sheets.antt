@@ -39,10 +39,9 @@ begun_after begun (line ∷ lines) = true
 
 -- ---- what is written
 
--- texts are delivered one after the other: takes relates the writer before one that was taken with the writer after it, and
--- breaks the same of one that was not
+-- by the relations of texts that a writer takes and of one that breaks off
 module _ {W : Type 0} (takes breaks : W → List ℕ → W → Type 0) where
-  -- not all of the bytes were taken, as an allocation failed, or a text
+  -- not all of the bytes were taken: an allocation failed, or a text broke off
   abbrev pub IsCutOff : W → W → List ℕ → DrawError → Type 0
   IsCutOff old new bytes (Memory e) = TakesBeginning takes old bytes new
   IsCutOff old new bytes Write = BreaksOff takes breaks old bytes new
