@@ -89,7 +89,7 @@ drawing-with texts parts config columns sizing lent held same_config same_rows s
 module _ {W : Type 0} (contents : W → Option (List ℕ)) (has_failed has_stalled : W → Bool) (config : SpannedConfig) (columns : ℕ) (texts : List (List (List ℕ)))
     (sizing : Sizing) (text_of : Drawing → List ℕ) where
   abbrev AnswersSo : {A : Type 0} → W → W → Result A DrawError → Type 0
-  AnswersSo {A} old new result = Draws contents has_failed has_stalled (IsDrawingWith columns texts sizing config) (IsFaultWith columns texts sizing config) text_of {A} old new result
+  AnswersSo old new result = Draws contents has_failed has_stalled (IsDrawingWith columns texts sizing config) (IsFaultWith columns texts sizing config) text_of old new result
 
   -- there are no sizes
   pub unsized : (w : W) (e : LayoutError) → UnlessMemoryError e (AreNoSizesBySizing config text_measure columns texts sizing e) →
@@ -121,7 +121,7 @@ module _ {W : Type 0} (contents : W → Option (List ℕ)) (has_failed has_stall
     fault = λ named. Undrawn d is fault;
     nothing = λ named. left e named nothing;
     beginning = inr (d, is, begun);
-    write = λ same. write same;
+    write = λ same. write (ap Err same);
   }
     where
       left : (e : DrawError) → IsRefusal e → (e ≡ draw_errors.Write) ⊎ ((error : AllocError) × (e ≡ draw_errors.Memory error)) ⊎ (new ≡ old) → new ≡ old
@@ -177,8 +177,8 @@ module _ {W : Type 0} (contents : W → Option (List ℕ)) (has_failed has_stall
     ]
 
     pub draw-write : (result : Result A DrawError) → So result → IsErrOf result draw_errors.Write → HasEnded contents has_failed has_stalled old new
-    draw-write (Ok x) so is = absurd is
-    draw-write (Err e) so is = so.write is
+    draw-write (Ok x) so is = absurd (let none : ⊥ = cc in none)
+    draw-write (Err e) so is = let same : e ≡ draw_errors.Write = cc in so.write same
 
 -- ---- runs
 

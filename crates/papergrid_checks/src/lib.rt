@@ -7,6 +7,7 @@ pub mod certificates;
 pub mod colored;
 pub mod compact;
 pub mod dimensions;
+pub mod drawn;
 pub mod entities;
 pub mod entries;
 pub mod errors;

@@ -12,7 +12,7 @@ pub returns-in_err-table : goal.returns-in_err-table
 returns-in_err-table g c =
     let e = c.in_err-table.field-0.0 in
     let texts = rows_seen c.args.rows.now in
-    let rows = ap (λ r. r.iter.items) c.new-records.ensures ∙ c.in_ok-from_slice.ensures in
+    let rows = ap (λ r. r.iter.items) c.new-records.ensures ∙ c.in_ok-from_slice.ensures.items in
     let columns = ap (λ r. r.count_columns) c.new-records.ensures in
     let p = err_from_is_err_and c.from_residual-in_err-table.result c.from_residual-in_err-table.ensures.1 in
     rw (p.1, p.2)
@@ -24,7 +24,7 @@ returns-in_err-table g c =
 pub returns : goal.returns
 returns g c =
     let texts = rows_seen c.args.rows.now in
-    let rows = ap (λ r. r.iter.items) c.new-records.ensures ∙ c.in_ok-from_slice.ensures in
+    let rows = ap (λ r. r.iter.items) c.new-records.ensures ∙ c.in_ok-from_slice.ensures.items in
     let columns = ap (λ r. r.count_columns) c.new-records.ensures in
     let told = c.in_ok-table.ensures in
     let same = told_by (λ cell. cell.now) (λ text. text.now) (λ row. row.now) told.0 c.args.rows.now (told.1 ∙ ap (map (λ row. row.now)) rows) in

@@ -1,0 +1,47 @@
+//! Tables that are drawn.
+
+ghost use Rattle.std.specs.Prelude.{◌≢◌, IfErr};
+ghost use Rattle.papergrid_draw.specs.declared.error.DrawError.TheVariants.{Write};
+
+use papergrid::colors::NoColors;
+use papergrid::config::spanned::{Setting, SpannedConfig};
+use papergrid::config::{Borders, Entity, Indent, Sides};
+use papergrid::grid::{DrawError, TextCells, drawn_string};
+use papergrid::records::IterRecords;
+use papergrid::records::vec_records::VecRecords;
+use papergrid::{Sink, Sizing, Table, draw};
+use std::alloc::Global;
+
+/// Writes a table of texts in a frame, with a blank on both sides of each text.
+pub fn framed<W: Sink>(
+    alloc: Global,
+    texts: &VecRecords<&str>,
+    sink: &mut W,
+) -> Result<(), DrawError> {
+    let (blank, none) = (Indent::spaced(1), Indent::zero());
+    let settings = vec![in alloc;
+        Setting::SetBorders(Borders::filled('+')),
+        Setting::SetPadding(Entity::Global, Sides::new(blank, blank, none, none)),
+    ]?;
+    draw(alloc, settings, texts, Sizing::ByShares, sink)
+}
+
+/// The picture of rows of texts, of so many columns, by a configuration.
+pub fn picture(
+    alloc: Global,
+    config: &SpannedConfig,
+    rows: &[Vec<&str>],
+    columns: usize,
+) -> Result<String, DrawError>
+    ensures { IfErr result (λ e. e ≢ Write) }
+{
+    let records = IterRecords::new(rows, columns, Some(rows.len()));
+    let table = Table::new(alloc, config, records, Sizing::Least)?;
+    let colors = NoColors;
+    let cells = TextCells {
+        alloc,
+        rows,
+        colors: &colors,
+    };
+    drawn_string(alloc, &table, &cells)
+}
