@@ -8,6 +8,7 @@ use super::{CallNumber, call, only, says};
 use papergrid::records::vec_records::VecRecords;
 use papergrid::{
     ReadSource, RunEnd, RunFault, Sizing, WriteSink, explain, layout, layout_least, run, run_least,
+    run_table,
 };
 use papergrid_config::Setting;
 use std::alloc::{AllocError, Global};
@@ -109,4 +110,27 @@ fn each_run(rt: HostRuntime) -> Result<(), Fail> {
         runs(&rt, call(number, CASES.len()), it)?;
     }
     Ok(())
+}
+
+/// The lines of the picture, drawn.
+const DRAWN: &str = "+++++++++++++++++++++++++++++++++++++++++++++++++++\n+                 +is a library+for print tables+!+\n+    Papergrid    +++++++++++++++++++++++++++++++++\n+                 +Just like this                 +\n+++++++++++++++++++++++++++++++++++++++++++++++++++\n";
+
+/// The buffer has room for the lines: all of them are written, or a beginning where an allocation failed.
+#[test]
+fn table_of_picture(rt: HostRuntime) -> Result<(), Fail> {
+    let mut written: Vec<u8> = Vec::with_capacity(rt.alloc(), 1000)?;
+    let mut script = Vec::new(rt.alloc());
+    let (mut reader, mut writer) = (ReadSource::new(PICTURE), WriteSink::new(&mut written));
+    let by_shares = Sizing::ByShares;
+    match run_table(rt.alloc(), by_shares, &mut reader, &mut writer, &mut script) {
+        Err(RunFault::Memory) => {
+            assert!(rt; DRAWN.as_bytes().starts_with(written.as_slice()));
+            says(only(), Err::<(), AllocError>(AllocError))
+        }
+        end => {
+            assert_eq!(rt; end, Ok(RunEnd::Done));
+            assert_eq!(rt; written.as_slice(), DRAWN.as_bytes());
+            Ok(())
+        }
+    }
 }
