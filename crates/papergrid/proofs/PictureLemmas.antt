@@ -27,12 +27,12 @@ use Rattle.papergrid.specs.Estimates.{text_measure}
 use Rattle.papergrid_grid.specs.Cells.{lines_at, text_lines}
 use Rattle.papergrid_grid.specs.Lined.{lined}
 use Rattle.papergrid.specs.Layouts.{IsConfiguredBy}
-use Rattle.papergrid.specs.Scripts.{Table}
+use Rattle.papergrid.specs.Scripts.{Table, table_of}
 use Rattle.papergrid.specs.declared.running.RunEnd.{RunEnd}
 use Rattle.papergrid.specs.declared.running.RunEnd.TheVariants.{Done, Refused}
 use Rattle.papergrid.specs.declared.running.RunFault.{RunFault}
 use Rattle.papergrid.specs.declared.running.RunFault.TheVariants as run_faults
-use Rattle.papergrid.specs.Pictures.{IsDrawingBy, IsDrawingWith, IsFaultWith, IsPictureFault, IsRefusal, IsTablePicture, Undrawn, Unsized, refusal_line, texts_drawing}
+use Rattle.papergrid.specs.Pictures.{IsDrawingBy, IsDrawingWith, IsFaultWith, IsPictureFault, IsPictureOf, IsPictureRun, IsRefusal, IsTablePicture, Undrawn, Unsized, refusal_line, texts_drawing}
 use Rattle.papergrid.specs.ForProofs.Drawn.{Draws, HasEnded, IsBrokenOff, IsTaken, IsUndrawn, Runs}
 
 module _ {A : Type 0} (view : A → List ℕ) (config : SpannedConfig) (columns : ℕ) (cells : List (List A)) (texts : List (List (List ℕ)))
@@ -223,3 +223,9 @@ module _ {W : Type 0} (contents : W → Option (List ℕ)) (has_failed has_stall
     run-refused old between new e text result named so is ran =
         subst (λ w. Runs contents has_failed has_stalled (IsTablePicture sizing table) w new result) (so.nothing named)
         (runs-also _ _ (λ end output p. subst (λ x. IsTablePicture sizing table x output) (sym p.0) (e, named, (config, told, so.fault named), p.1 ∙ is)) between new result ran)
+
+-- of an input that tells so much
+pub picture-run-of : (sizing : Sizing) (input : List ℕ) (told : Result Table ℕ) → table_of input ≡ told → (end : RunEnd) (output : List ℕ) →
+    IsPictureOf sizing told end output → IsPictureRun sizing input end output
+unfolding IsPictureRun
+picture-run-of sizing input told is end output so = subst (λ t. IsPictureOf sizing t end output) (sym is) so

@@ -1,6 +1,6 @@
 //! Tables drawn: of records by a list of settings, and of a script.
 
-ghost use Rattle.std.specs.Prelude.{◌≡◌, ◌⊎◌, ◌∷◌, ◌++◌, [], ℕ, All, IfErr, IfOk, IfSome, IsErrOf, List, OnErr, OnOk, codes, decimal, false, map, take, true};
+ghost use Rattle.std.specs.Prelude.{◌≡◌, ◌≢◌, ◌⊎◌, ◌∷◌, ◌++◌, [], ℕ, All, IfErr, IfOk, IfSome, IsErrOf, List, OnErr, OnOk, codes, decimal, false, map, take, true};
 ghost use Rattle.std.specs.Io.KnownBytes.{Appends, Consumes, IsAtEnd};
 ghost use Rattle.papergrid_text.specs.HeldRows.{column_count};
 ghost use Rattle.papergrid_config.specs.Applied.{is_in_range};
@@ -14,7 +14,8 @@ ghost use Rattle.papergrid.specs.Scripts.{Table, table_of};
 ghost use Rattle.papergrid.specs.ForProofs.Drawn.{Draws, Runs};
 ghost use Rattle.papergrid.specs.ForProofs.ScriptSeen.{row_texts_of, rows_seen, table_seen};
 ghost use Rattle.papergrid.specs.ForProofs.Settings.{setting_told};
-ghost use Rattle.papergrid.specs.declared.running.RunEnd.TheVariants.{BadScript, Refused};
+ghost use Rattle.papergrid.specs.declared.running.RunFault.TheVariants.{Read};
+ghost use Rattle.papergrid.specs.declared.running.RunFault.TheVariants as run_faults;
 
 use crate::output::{bad_script_text, out_of_table_text, too_large_text};
 use crate::running::{RunEnd, RunFault, read_all};
@@ -197,16 +198,28 @@ fn draw_script<W: Sink>(
         rows,
     } = script;
     let config = configuration_of(alloc, settings)?;
-    let text = match draw_rows(alloc, sizing, &config, columns, &rows, writer) {
-        Ok(()) => return Ok(RunEnd::Done),
-        Err(DrawError::Memory(_)) => return Err(RunFault::Memory),
-        Err(DrawError::Write) => return Err(RunFault::Write),
-        Err(DrawError::OutOfTable(position)) => out_of_table_text(alloc, position)?,
-        Err(DrawError::NotTiled(position)) => not_tiled_text(alloc, position)?,
-        Err(DrawError::NoRoom(position)) => no_room_text(alloc, position)?,
-        Err(DrawError::TooLarge) => too_large_text(alloc)?,
-    };
-    say(writer, RunEnd::Refused, text)
+    match draw_rows(alloc, sizing, &config, columns, &rows, writer) {
+        Ok(()) => Ok(RunEnd::Done),
+        Err(error) => {
+            let text = refusal_text(alloc, error)?;
+            say(writer, RunEnd::Refused, text)
+        }
+    }
+}
+
+/// The line for a table that was refused.
+fn refusal_text(alloc: Global, error: DrawError) -> Result<Vec<u8>, RunFault>
+    ensures ok { IfOk result (λ text. IsRefusal error × (text.items ≡ refusal_line error)) }
+    ensures err { IfErr result (λ fault. (fault ≢ Read) × (fault ≡ run_faults.Write → error ≡ Write)) }
+{
+    match error {
+        DrawError::OutOfTable(position) => Ok(out_of_table_text(alloc, position)?),
+        DrawError::NotTiled(position) => Ok(not_tiled_text(alloc, position)?),
+        DrawError::NoRoom(position) => Ok(no_room_text(alloc, position)?),
+        DrawError::TooLarge => Ok(too_large_text(alloc)?),
+        DrawError::Memory(_) => Err(RunFault::Memory),
+        DrawError::Write => Err(RunFault::Write),
+    }
 }
 
 /// Writes the picture of rows of texts.
