@@ -7,11 +7,12 @@ use Rattle.papergrid_draw.specs.Characters.{Mark}
 use Rattle.papergrid_draw.specs.Drawn.{DrawnLine, OnLine, Over, RuleLine, Stretch, TextLine}
 use Rattle.papergrid_draw.specs.Pieces.{Piece}
 
--- the text before what has a colour, and the text after it
+-- the text before what has a colour
 abbrev pub prefix_of : Option (List ℕ × List ℕ) → List ℕ
 prefix_of None = []
 prefix_of (Some color) = color.0
 
+-- the text after it
 abbrev pub suffix_of : Option (List ℕ × List ℕ) → List ℕ
 suffix_of None = []
 suffix_of (Some color) = color.1
