@@ -8,6 +8,7 @@ pub mod Printable
 pub mod Ranges
 pub mod ReadBack
 pub mod RowSteps
+pub mod SeparatorLemmas
 pub mod Splits
 pub mod Tabs
 pub mod TrimLemmas
