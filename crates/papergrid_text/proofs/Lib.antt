@@ -1,6 +1,7 @@
 pub mod Compared
 pub mod Counts
 pub mod Cuts
+pub mod JoinedLemmas
 pub mod LineCacheClones
 pub mod Nth
 pub mod Places
