@@ -40,11 +40,11 @@ module _ (d : Drawing) where
   pub columns-vertical : (r j k : ℕ) → columns_of (vertical_pieces d r j k) ≡ cond (has_vertical d j) 1 0
   columns-vertical r j k = vertical_or_none (vertical d.config d.shape (at r j) (d.heights r) k) (has_vertical d j) refl
 
-  vertical-there : (r j k : ℕ) → has_vertical d j ≡ true → vertical_pieces d r j k ≡ vertical d.config d.shape (at r j) (d.heights r) k ∷ []
+  pub vertical-there : (r j k : ℕ) → has_vertical d j ≡ true → vertical_pieces d r j k ≡ vertical d.config d.shape (at r j) (d.heights r) k ∷ []
   vertical-there r j k line = ap (λ b. if b then vertical d.config d.shape (at r j) (d.heights r) k ∷ [] else []) line
 
   -- the line of a cell that begins there, after the line before it
-  column-begun : (r k c : ℕ) (o : Position) → owner_at d r c ≡ Some o → o.col ≡ c →
+  pub column-begun : (r k c : ℕ) (o : Position) → owner_at d r c ≡ Some o → o.col ≡ c →
       column_pieces d r k c ≡ vertical_pieces d r c k ++ content (block_at d o) (text_start d r + k - begin_along (layout_of d) Rows o)
   column-begun r k c o is here =
       ap (λ owner. after_these d (vertical_pieces d r c k) (content_from d owner c (text_start d r + k))) is
@@ -52,7 +52,7 @@ module _ (d : Drawing) where
       (if b then Some (content (block_at d o) (text_start d r + k - begin_along (layout_of d) Rows o)) else None)) (eq-eqb o.col c here)
 
   -- none of one that begins further left
-  column-inside : (r k c : ℕ) (o : Position) → owner_at d r c ≡ Some o → o.col < c → column_pieces d r k c ≡ []
+  pub column-inside : (r k c : ℕ) (o : Position) → owner_at d r c ≡ Some o → o.col < c → column_pieces d r k c ≡ []
   column-inside r k c o is left =
       ap (λ owner. after_these d (vertical_pieces d r c k) (content_from d owner c (text_start d r + k))) is
       ∙ ap (λ b. after_these d (vertical_pieces d r c k)

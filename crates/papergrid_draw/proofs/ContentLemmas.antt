@@ -75,7 +75,7 @@ All-from_text P (line ∷ lines) all =
       | false ↦ all
     ]
 
-All-shown : (P : Line → Type 0) (trims : Bool) (lines : List Line) → All P lines → All P (shown_lines trims lines)
+pub All-shown : (P : Line → Type 0) (trims : Bool) (lines : List Line) → All P lines → All P (shown_lines trims lines)
 All-shown P true lines all =
     All-reverse P (from_text (reverse (from_text lines)))
     (All-from_text P (reverse (from_text lines)) (All-reverse P (from_text lines) (All-from_text P lines all)))

@@ -39,13 +39,13 @@ get-mapped f a (suc n) (suc k) j below at = get-mapped f (a + 1) n k j (omega ar
 
 -- ---- what holds of each
 
-All-mapped : {X : Type 0} (P : X → Type 0) (f : ℕ → X) (a n : ℕ) → ((k : ℕ) → k < a + n → P (f k)) → All P (map f (range_with_len a n))
+pub All-mapped : {X : Type 0} (P : X → Type 0) (f : ℕ → X) (a n : ℕ) → ((k : ℕ) → k < a + n → P (f k)) → All P (map f (range_with_len a n))
 All-mapped P f a zero each = All-nil P
 All-mapped P f a (suc n) each =
     All-cons P (f a) (map f (range_with_len (a + 1) n)) (each a (omega arith))
     (All-mapped P f (a + 1) n (λ k below. each k (omega arith)))
 
-All-joined : {X : Type 0} (P : X → Type 0) (f : ℕ → List X) (a n : ℕ) → ((k : ℕ) → k < a + n → All P (f k)) → All P (flat_map f (range_with_len a n))
+pub All-joined : {X : Type 0} (P : X → Type 0) (f : ℕ → List X) (a n : ℕ) → ((k : ℕ) → k < a + n → All P (f k)) → All P (flat_map f (range_with_len a n))
 All-joined P f a zero each = All-nil P
 All-joined P f a (suc n) each =
     All-append P (f a) (flat_map f (range_with_len (a + 1) n)) (each a (omega arith))

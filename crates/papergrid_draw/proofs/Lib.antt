@@ -21,9 +21,11 @@ pub mod RefusalLemmas
 pub mod RoomLemmas
 pub mod RuleLemmas
 pub mod SegmentLemmas
+pub mod SeparateLemmas
 pub mod SheetLemmas
 pub mod SinkLemmas
 pub mod SlotLemmas
 pub mod StretchLemmas
 pub mod TileLemmas
 pub mod TilingLemmas
+pub mod WideLemmas

@@ -63,20 +63,20 @@ columns-segment d p width = in_case (has_overrides (get d.config.horizontal_char
 -- ---- the pieces of a horizontal line
 
 module _ (d : Drawing) (i : ℕ) where
-  abbrev crossing_pieces : ℕ → List Piece
+  abbrev pub crossing_pieces : ℕ → List Piece
   crossing_pieces j = flat_map stretch_pieces (crossing_stretch d i j)
 
-  abbrev over_pieces : ℕ → List Piece
+  abbrev pub over_pieces : ℕ → List Piece
   over_pieces c = flat_map stretch_pieces (column_stretch d i c)
 
   -- those of a column
   abbrev pub rule_pieces : ℕ → List Piece
   rule_pieces c = flat_map stretch_pieces (crossing_stretch d i c ++ column_stretch d i c)
 
-  parts : (c : ℕ) → rule_pieces c ≡ crossing_pieces c ++ over_pieces c
+  pub parts : (c : ℕ) → rule_pieces c ≡ crossing_pieces c ++ over_pieces c
   parts c = flat_map-append stretch_pieces (crossing_stretch d i c) (column_stretch d i c)
 
-  all-pieces : flat_map stretch_pieces (rule_line d i) ≡ flat_map rule_pieces (range_with_len 0 d.shape.1) ++ crossing_pieces d.shape.1
+  pub all-pieces : flat_map stretch_pieces (rule_line d i) ≡ flat_map rule_pieces (range_with_len 0 d.shape.1) ++ crossing_pieces d.shape.1
   all-pieces =
       flat_map-append stretch_pieces (flat_map (λ c. crossing_stretch d i c ++ column_stretch d i c) (range_with_len 0 d.shape.1)) (crossing_stretch d i d.shape.1)
       ∙ ap (λ pieces. pieces ++ crossing_pieces d.shape.1)
@@ -84,13 +84,13 @@ module _ (d : Drawing) (i : ℕ) where
 
   -- ---- crossings
 
-  crossing-there : (j : ℕ) → has_vertical d j ≡ true → stands_over_crossing d i j ≡ false →
+  pub crossing-there : (j : ℕ) → has_vertical d j ≡ true → stands_over_crossing d i j ≡ false →
       crossing_pieces j ≡ (crossing d.config d.shape (position_of (i, j))).piece ∷ []
   crossing-there j line free =
       let shown : (has_vertical d j && not (stands_over_crossing d i j)) ≡ true = (λ k. line k && not (free k)) in
       ap (flat_map stretch_pieces) (sym (crossing-some d i j shown))
 
-  crossing-away : (j : ℕ) → has_vertical d j ≡ false → crossing_pieces j ≡ []
+  pub crossing-away : (j : ℕ) → has_vertical d j ≡ false → crossing_pieces j ≡ []
   crossing-away j none =
       let shown : (has_vertical d j && not (stands_over_crossing d i j)) ≡ false = (λ k. none k && not (stands_over_crossing d i j)) in
       ap (flat_map stretch_pieces) (sym (crossing-none d i j shown))
@@ -112,7 +112,7 @@ module _ (d : Drawing) (i : ℕ) where
   -- ---- columns
 
   -- a cell that begins there and stands over the line
-  over-begun : (c : ℕ) (o : Position) → stands_over d i c ≡ true → owner_at d i c ≡ Some o → o.col ≡ c →
+  pub over-begun : (c : ℕ) (o : Position) → stands_over d i c ≡ true → owner_at d i c ≡ Some o → o.col ≡ c →
       over_pieces c ≡ content (block_at d o) (row_start d i - begin_along (layout_of d) Rows o)
   over-begun c o over is here =
       ap (λ s. flat_map stretch_pieces (if s then over_line d (content_from d (owner_at d i c) c (row_start d i))
@@ -123,7 +123,7 @@ module _ (d : Drawing) (i : ℕ) where
       ∙ append-nil (content (block_at d o) (row_start d i - begin_along (layout_of d) Rows o))
 
   -- nothing of one that begins further left
-  over-inside : (c : ℕ) (o : Position) → stands_over d i c ≡ true → owner_at d i c ≡ Some o → o.col < c → column_stretch d i c ≡ []
+  pub over-inside : (c : ℕ) (o : Position) → stands_over d i c ≡ true → owner_at d i c ≡ Some o → o.col < c → column_stretch d i c ≡ []
   over-inside c o over is left =
       ap (λ s. if s then over_line d (content_from d (owner_at d i c) c (row_start d i))
       else map OnLine (segment d.config d.shape (position_of (i, c)) (d.widths c))) over
@@ -132,7 +132,7 @@ module _ (d : Drawing) (i : ℕ) where
       (ne_eqb o.col c (λ same. omega (arith, left, same)))
 
   -- else the line
-  over-free : (c : ℕ) → stands_over d i c ≡ false → over_pieces c ≡ map (λ (mark : Mark). mark.piece) (segment d.config d.shape (position_of (i, c)) (d.widths c))
+  pub over-free : (c : ℕ) → stands_over d i c ≡ false → over_pieces c ≡ map (λ (mark : Mark). mark.piece) (segment d.config d.shape (position_of (i, c)) (d.widths c))
   over-free c free =
       ap (flat_map stretch_pieces) (sym (stretch-line d i c free))
       ∙ pieces-on_line (segment d.config d.shape (position_of (i, c)) (d.widths c))
@@ -140,13 +140,13 @@ module _ (d : Drawing) (i : ℕ) where
 -- ---- what stands over a horizontal line
 
 -- the cell at o, which owns the positions above and below it in the column
-record IsOver (d : Drawing) (i c : ℕ) (o : Position) : Type 0 where
-  row_in : i < d.shape.0
-  owns : HasOwner (layout_of d) (position_of (i, c)) o
-  above : o.row < i
+pub record IsOver (d : Drawing) (i c : ℕ) (o : Position) : Type 0 where
+  pub row_in : i < d.shape.0
+  pub owns : HasOwner (layout_of d) (position_of (i, c)) o
+  pub above : o.row < i
 
 module _ (d : Drawing) (tiled : IsTiled (layout_of d)) (i : ℕ) where
-  over-known : (c : ℕ) → c < d.shape.1 → stands_over d i c ≡ true → (o : Position) × IsOver d i c o
+  pub over-known : (c : ℕ) → c < d.shape.1 → stands_over d i c ≡ true → (o : Position) × IsOver d i c o
   over-known c col_in over =
       let begun = and_parts _ _ over in
       let within = and_parts _ _ begun.1 in
@@ -194,7 +194,7 @@ module _ (d : Drawing) (tiled : IsTiled (layout_of d)) (i : ℕ) where
       let first : rule_first d i j ≡ o.col = (λ k. if stands k then first_of (is k) j else j) in
       omega (arith, left, first)
 
-  crossing-free : (j : ℕ) → (j < d.shape.1 → rule_first d i j ≡ j) → j ≤ d.shape.1 → stands_over_crossing d i j ≡ false
+  pub crossing-free : (j : ℕ) → (j < d.shape.1 → rule_first d i j ≡ j) → j ≤ d.shape.1 → stands_over_crossing d i j ≡ false
   crossing-free j begins within = elim (cases_lt j d.shape.1) [
     | inl before ↦ false_from_ne_true (stands_over_crossing d i j) (λ over. omega (arith, crossing-behind j over, begins before))
     | inr past ↦ crossing-last d i j (omega (arith, past, within))

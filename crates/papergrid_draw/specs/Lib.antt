@@ -11,5 +11,6 @@ pub mod ForProofs
 pub mod Laws
 pub mod Margins
 pub mod Pieces
+pub mod Separated
 pub mod Tiles
 pub mod Transfer

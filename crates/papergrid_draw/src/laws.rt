@@ -6,6 +6,7 @@ ghost use Rattle.papergrid_values.specs.Positions.{position_of};
 ghost use Rattle.papergrid_values.specs.declared.direction.Direction.TheVariants.{Columns, Rows};
 ghost use Rattle.papergrid_values.specs.declared.position.Position.{Position};
 ghost use Rattle.papergrid_config.specs.Grids.{spanned_grid};
+ghost use Rattle.papergrid_text.specs.Text.{width_of};
 ghost use Rattle.papergrid_tracks.specs.Fits.{Fits};
 ghost use Rattle.papergrid_walk.specs.Cells.{problem_of};
 ghost use Rattle.papergrid_walk.specs.Measures.{line_measure};
@@ -17,6 +18,7 @@ ghost use Rattle.papergrid_draw.specs.Drawn.{drawn_lines, has_horizontal, has_ve
 ghost use Rattle.papergrid_draw.specs.Faults.{AllHaveRoom, whole_height};
 ghost use Rattle.papergrid_draw.specs.Laws.{AreDrawnAt, AreLinesAt, AreMeasuredAt, columns_of, pieces_of, text_piece};
 ghost use Rattle.papergrid_draw.specs.Margins.{printed, printed_lines};
+ghost use Rattle.papergrid_draw.specs.Separated.{IsHonest, IsSeparated, text_of};
 ghost use Rattle.papergrid_draw.specs.Tiles.{IsTiled};
 
 /// A picture has as many lines as its table is high, with both margins, and a line feed between two. That of a table
@@ -36,6 +38,15 @@ pub fn lines_of_pictures()
 pub fn columns_of_lines()
     ensures { (d : Drawing) → IsTiled (layout_of d) → AllHaveRoom d →
         All (λ line. columns_of (pieces_of line) ≡ total_along (layout_of d) Columns)
+        (drawn_lines d) }
+{}
+
+/// The text of each line, without colours, is as wide as the table, as `unicode_width` counts it, where the lines of
+/// cells are as wide as is told and separators stand between them.
+pub fn lines_as_wide()
+    ensures { (d : Drawing) → IsTiled (layout_of d) → AllHaveRoom d →
+        IsHonest d → IsSeparated d →
+        All (λ line. width_of (text_of (pieces_of line)) ≡ total_along (layout_of d) Columns)
         (drawn_lines d) }
 {}
 

@@ -1,6 +1,7 @@
 pub mod Compared
 pub mod Counts
 pub mod Cuts
+pub mod JoinedLemmas
 pub mod LineCacheClones
 pub mod Nth
 pub mod Places
@@ -8,6 +9,7 @@ pub mod Printable
 pub mod Ranges
 pub mod ReadBack
 pub mod RowSteps
+pub mod SeparatorLemmas
 pub mod Splits
 pub mod Tabs
 pub mod TrimLemmas

@@ -52,7 +52,7 @@ of_four c rest high =
     rw (le-ltb c 128 (omega arith), le-ltb c 2048 (omega arith), le-ltb c 65536 high)
     (led a (suc (suc (suc zero))) (a - 240) (b ∷ d ∷ e ∷ rest) (grind arith) (grind arith) ∙ whole _ rest ∙ ap (λ x. x ∷ chars rest) is)
 
-read-one : (c : ℕ) (rest : List ℕ) → chars (encode_utf8 c ++ rest) ≡ c ∷ chars rest
+pub read-one : (c : ℕ) (rest : List ℕ) → chars (encode_utf8 c ++ rest) ≡ c ∷ chars rest
 read-one c rest = elim (cases_lt c 128) [
   | inl low ↦ of_one c rest low
   | inr past ↦ elim (cases_lt c 2048) [

@@ -39,7 +39,7 @@ of_white P c low k32 k133 k160 k5760 between k8232 k8233 k8239 k8287 k12288 =
     at k holds same = subst P (sym (eqb-true c k same)) holds
 
 -- what a test tells of each number of a range
-of_range : (test : ℕ → Bool) (a n c : ℕ) → list_all test (range_with_len a n) ≡ true → a ≤ c → c < a + n → test c ≡ true
+pub of_range : (test : ℕ → Bool) (a n c : ℕ) → list_all test (range_with_len a n) ≡ true → a ≤ c → c < a + n → test c ≡ true
 of_range test a zero c all from below = absurd (omega (arith, from, below))
 of_range test a (suc n) c all from below =
     let parts = and_parts (test a) (list_all test (range_with_len (a + 1) n)) all in
@@ -161,7 +161,7 @@ skipped-no_wider (c ∷ cs) =
 
 -- ---- after a text
 
-read-append : (xs ys : List ℕ) (r : Reading) → read_before false (xs ++ ys) r ≡ read_before false xs (read_before false ys r)
+pub read-append : (xs ys : List ℕ) (r : Reading) → read_before false (xs ++ ys) r ≡ read_before false xs (read_before false ys r)
 read-append [] ys r = refl
 read-append (x ∷ xs) ys r = ap (step false x) (read-append xs ys r)
 
@@ -174,7 +174,7 @@ simple-spaces zero = refl
 simple-spaces (suc n) = simple-spaces n
 
 -- what stands before n columns adds its width to them
-read-shifted : (cs : List ℕ) (n : ℕ) → (read_before false cs (n, plain)).0 ≡ str_width false cs + n
+pub read-shifted : (cs : List ℕ) (n : ℕ) → (read_before false cs (n, plain)).0 ≡ str_width false cs + n
 unfolding str_width
 read-shifted cs n =
     let ys : List ℕ = replicate n 32 in

@@ -47,11 +47,11 @@ all_answered text (line ∷ next ∷ more) e = refl
 
 -- ---- where there is no CR LF, std's lines are as wide as the lines of the text
 
-str_width-nil : str_width false [] ≡ 0
+pub str_width-nil : str_width false [] ≡ 0
 unfolding str_width
 str_width-nil = refl
 
-width_of-nil : width_of [] ≡ 0
+pub width_of-nil : width_of [] ≡ 0
 width_of-nil = ap (str_width false) chars-nil ∙ str_width-nil
 
 no_crlf_tail : (xs ys : List ℕ) → HasNoCrLf (xs ++ ys) → HasNoCrLf ys

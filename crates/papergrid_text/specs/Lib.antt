@@ -7,6 +7,7 @@ pub mod LinesLeft
 pub mod Measured
 pub mod Records
 pub mod Rows
+pub mod Separators
 pub mod Text
 pub mod TextOrder
 pub mod ForProofs

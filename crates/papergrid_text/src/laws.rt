@@ -1,7 +1,7 @@
 //! Laws of the definitions, each the contract of a function that does nothing. A function that calls one
 //! may cite it in its proof.
 
-ghost use Rattle.std.specs.Prelude.{◌≡◌, ◌==◌, ◌<◌, ◌≤◌, ◌+◌, ◌^◌, ◌∷◌, ◌++◌, [], ⊤, List, Vec, count_by, length, map, nat_eq, ℕ};
+ghost use Rattle.std.specs.Prelude.{◌≡◌, ◌==◌, ◌<◌, ◌≤◌, ◌+◌, ◌^◌, ◌∷◌, ◌++◌, [], ⊤, List, Vec, count_by, length, map, nat_eq, true, ℕ};
 ghost use Rattle.std.specs.Hash as fed;
 ghost use Rattle.std.specs.List.{list_all};
 ghost use Rattle.std.specs.Option.{option_cmp, option_eq};
@@ -23,6 +23,7 @@ ghost use Rattle.papergrid_text.specs.Cut.{cut_rows, cut_whole_rows};
 ghost use Rattle.papergrid_text.specs.HeldRows.{column_count, row_count, rows_held};
 ghost use Rattle.papergrid_text.specs.LineCache.{given_line};
 ghost use Rattle.papergrid_text.specs.Records.{WalkIsShort, Gives};
+ghost use Rattle.papergrid_text.specs.Separators.{IsSeparator, is_separator};
 ghost use Rattle.papergrid_text.specs.Text.{HasNoCrLf, IsLines, split_lines, text_dimension, text_width, width_of};
 ghost use Rattle.papergrid_text.specs.TextOrder.{line_cmp, line_eq, line_hash};
 
@@ -55,6 +56,12 @@ pub fn dimension_without_carriage_returns()
 /// A text is no wider without the white space at both ends.
 pub fn trimmed_no_wider()
     ensures { (text : List ℕ) → width_of (trim text) ≤ width_of text }
+{}
+
+/// At the blank, at the lines of boxes (U+2500 to U+257F), and at printable ASCII but `#`, `*` and the
+/// digits, the widths of what stands before and after add up.
+pub fn separators()
+    ensures { (c : ℕ) → is_separator c ≡ true → IsSeparator c }
 {}
 
 // ---- records, and the lines of texts, as values

@@ -1,0 +1,46 @@
+-- Where the texts of a drawn table are as wide as is told of them, and separators stand between.
+use Rattle.std.specs.Prelude.{◌≡◌, ◌<◌, ◌⊎◌, ℕ, All, IsUtf8, List, [], ◌∷◌, Some, flat_map, true}
+use Rattle.papergrid_values.specs.declared.position.Position.{Position}
+use Rattle.papergrid_tables.specs.Overrides.{found_override, override_at}
+use Rattle.papergrid_text.specs.Separators.{IsSeparator}
+use Rattle.papergrid_text.specs.Text.{width_of}
+use Rattle.papergrid_layout.specs.Places.{IsVisibleCell}
+use Rattle.papergrid_draw.specs.Characters.{crossing_character, segment_character, vertical_character}
+use Rattle.papergrid_draw.specs.Contents.{Look, look_of}
+use Rattle.papergrid_draw.specs.Drawings.{Drawing, layout_of}
+use Rattle.papergrid_draw.specs.Drawn.{has_vertical}
+use Rattle.papergrid_draw.specs.Pieces.{Piece}
+
+-- the texts of pieces, joined
+abbrev pub text_of : List Piece → List ℕ
+text_of pieces = flat_map (λ (piece : Piece). piece.text) pieces
+
+-- a line of a cell is UTF-8, and as wide as is told
+abbrev pub IsMeasured : List ℕ × ℕ → Type 0
+IsMeasured line = IsUtf8 line.0 × (line.1 ≡ width_of line.0)
+
+-- the characters that stand on all sides of a text in the place of its cell
+abbrev pub fills_of : Look → List ℕ
+fills_of look =
+    look.padding.left.fill ∷ look.padding.right.fill ∷ look.padding.top.fill
+    ∷ look.padding.bottom.fill ∷ look.justification ∷ []
+
+module _ (d : Drawing) where
+  -- so are all lines of visible cells
+  abbrev pub IsHonest : Type 0
+  IsHonest = (p : Position) → IsVisibleCell (layout_of d) p → All IsMeasured (d.lines p)
+
+  -- all characters but those of texts are separators, and one stands before each visible cell that
+  -- begins in no first column: that of a vertical line, or of a padding
+  pub record IsSeparated : Type 0 where
+    pub vertical : (p : Position) (k : ℕ) →
+        IsSeparator (vertical_character d.config d.shape p (d.heights p.row) k)
+    pub crossing : (p : Position) → IsSeparator (crossing_character d.config d.shape p)
+    pub horizontal : (p : Position) → IsSeparator (segment_character d.config d.shape p)
+    pub overridden : (p : Position) (k c : ℕ) →
+        found_override (override_at d.config.horizontal_chars p) k (d.widths p.col) ≡ Some c →
+        IsSeparator c
+    pub filled : (p : Position) → IsVisibleCell (layout_of d) p →
+        All IsSeparator (fills_of (look_of d.config p))
+    pub apart : (p : Position) → IsVisibleCell (layout_of d) p → 0 < p.col →
+        (has_vertical d p.col ≡ true) ⊎ (0 < (look_of d.config p).padding.left.size)

@@ -1,0 +1,167 @@
+-- Separators: a step of `unicode_width` at one of them tells nothing to what stands before it.
+use Rattle.std.proofs.Common.{◌≡◌, ◌∙◌, ap, sym, refl, ℕ, ◌+◌, ◌<◌, ◌≤◌, ◌&&◌, ◌||◌, Bool, true, false, not, is_some, ◌∷◌, Option, Some, None, inl, inr, arith}
+use Rattle.std.specs.Int.{is_in_range}
+use Rattle.std.specs.List.{list_all, range_with_len}
+use Rattle.std.proofs.lemmas.Bool.{and_parts, not-true, or_cases}
+use Rattle.std.proofs.lemmas.Bool.Decides.{nat_tests}
+use Rattle.unicode_width.specs.Kind.{is_ligature_transparent, is_text_presentation_base, kind}
+use Rattle.unicode_width.specs.declared.state.After.{After}
+use Rattle.unicode_width.specs.declared.state.After.TheVariants.{Nothing, LineFeed, EmojiModifier, RegionalIndicator, RegionalIndicators, Emoji, ZwjEmoji, KeycapZwjEmoji, IndicatorZwj, EvenIndicatorsZwj, OddIndicatorsZwj, TagEnd, TagDigit1, TagDigit2, TagDigit3, TagLetter1, TagLetter2, TagLetter3, TagLetter4, TagLetter5, TagLetter6, KiratE, KiratAi, Alef, Solidus, SolidusAlef, Lamed, ZwjLamed, Ya, ZwjYa, VowelZwjYa, Tifinagh, ZwjTifinagh, JoinerTifinagh, LisuTone, OrkhonI, ZwjOrkhonI, KhmerLetter}
+use Rattle.unicode_width.specs.declared.state.State.{State}
+use Rattle.unicode_width.specs.Width.{Reading, alone, if_kept, in_context, is_emoji_variation_base, joins, past_emoji, past_selectors, plain, read_before, step, str_width}
+use Rattle.unicode_width.proofs.Computing.{unicode_width}
+use Rattle.papergrid_width.proofs.RangeLemmas.{Ones, has_kind, own_alone}
+use Rattle.papergrid_text.specs.Separators.{IsSeparator, begins_keycap, is_separator}
+use Rattle.papergrid_text.proofs.TrimLemmas.{of_range, read-append, read-shifted}
+
+-- ---- printable ASCII
+
+-- what begins no keycap is no emoji under a selector
+abbrev is_keycap_or_plain : ℕ → Bool
+is_keycap_or_plain c = begins_keycap c || not (is_emoji_variation_base c)
+
+ascii_plain : list_all is_keycap_or_plain (range_with_len 0x20 0x5F) ≡ true
+unfolding unicode_width
+ascii_plain = refl
+
+ascii_step : (c total : ℕ) (s : State) → is_in_range 0x20 0x7E c ≡ true → is_emoji_variation_base c ≡ false → step false c (total, s) ≡ (total + 1, plain)
+unfolding step past_emoji
+ascii_step c total s low base = grind (arith, nat_tests)
+
+ascii_separates : (c total : ℕ) (s : State) → is_in_range 0x20 0x7E c ≡ true → begins_keycap c ≡ false → step false c (total, s) ≡ (total + 1, plain)
+ascii_separates c total s low keyless =
+    let known : is_keycap_or_plain c ≡ true = of_range is_keycap_or_plain 0x20 0x5F c ascii_plain (grind (arith, nat_tests)) (grind (arith, nat_tests)) in
+    let other : not (is_emoji_variation_base c) ≡ true =
+    sym (ap (λ b. b || not (is_emoji_variation_base c)) keyless) ∙ known in
+    ascii_step c total s low (not-true (is_emoji_variation_base c) other)
+
+-- ---- the lines of boxes
+
+abbrev are_lines : (ℕ → Bool) → Bool
+are_lines test = list_all test (range_with_len 0x2500 0x80)
+
+-- no emoji, no mark, and of one column
+abbrev is_line_alone : ℕ → Bool
+is_line_alone c =
+    not (is_emoji_variation_base c) && (not (is_text_presentation_base c) && (not (is_ligature_transparent c) && has_kind Ones (kind c)))
+
+lines_alone : are_lines is_line_alone ≡ true
+unfolding unicode_width is_text_presentation_base
+lines_alone = refl
+
+-- none joins what follows
+lines_join_none : (after : After) → are_lines (λ c. not (is_some (joins false after c))) ≡ true
+unfolding unicode_width
+lines_join_none Nothing = refl
+lines_join_none LineFeed = refl
+lines_join_none EmojiModifier = refl
+lines_join_none RegionalIndicator = refl
+lines_join_none RegionalIndicators = refl
+lines_join_none Emoji = refl
+lines_join_none ZwjEmoji = refl
+lines_join_none KeycapZwjEmoji = refl
+lines_join_none IndicatorZwj = refl
+lines_join_none EvenIndicatorsZwj = refl
+lines_join_none OddIndicatorsZwj = refl
+lines_join_none TagEnd = refl
+lines_join_none TagDigit1 = refl
+lines_join_none TagDigit2 = refl
+lines_join_none TagDigit3 = refl
+lines_join_none TagLetter1 = refl
+lines_join_none TagLetter2 = refl
+lines_join_none TagLetter3 = refl
+lines_join_none TagLetter4 = refl
+lines_join_none TagLetter5 = refl
+lines_join_none TagLetter6 = refl
+lines_join_none KiratE = refl
+lines_join_none KiratAi = refl
+lines_join_none Alef = refl
+lines_join_none Solidus = refl
+lines_join_none SolidusAlef = refl
+lines_join_none Lamed = refl
+lines_join_none ZwjLamed = refl
+lines_join_none Ya = refl
+lines_join_none ZwjYa = refl
+lines_join_none VowelZwjYa = refl
+lines_join_none Tifinagh = refl
+lines_join_none ZwjTifinagh = refl
+lines_join_none JoinerTifinagh = refl
+lines_join_none LisuTone = refl
+lines_join_none OrkhonI = refl
+lines_join_none ZwjOrkhonI = refl
+lines_join_none KhmerLetter = refl
+
+record IsLine (c : ℕ) : Type 0 where
+  from : 0x2500 ≤ c
+  to : c < 0x2580
+  base : is_emoji_variation_base c ≡ false
+  presented : is_text_presentation_base c ≡ false
+  seen : is_ligature_transparent c ≡ false
+  own : alone false c ≡ (1, plain)
+
+-- what a test tells of a line
+of_lines : (test : ℕ → Bool) (c : ℕ) → are_lines test ≡ true → is_in_range 0x2500 0x257F c ≡ true → test c ≡ true
+of_lines test c all inside = of_range test 0x2500 0x80 c all (grind (arith, nat_tests)) (grind (arith, nat_tests))
+
+is_line : (c : ℕ) → is_in_range 0x2500 0x257F c ≡ true → IsLine c
+is_line c inside =
+    let known = and_parts _ _ (of_lines is_line_alone c lines_alone inside) in
+    let more = and_parts _ _ known.1 in
+    let last = and_parts _ _ more.1 in
+    record {
+      from = grind (arith, nat_tests);
+      to = grind (arith, nat_tests);
+      base = not-true (is_emoji_variation_base c) known.0;
+      presented = not-true (is_text_presentation_base c) more.0;
+      seen = not-true (is_ligature_transparent c) last.0;
+      own = own_alone Ones c last.1;
+    }
+
+none_from : {A : Type 0} (found : Option A) → not (is_some found) ≡ true → found ≡ None
+none_from None none = refl
+none_from (Some a) none = cc
+
+line_joins_none : (c : ℕ) (after : After) → is_in_range 0x2500 0x257F c ≡ true → joins false after c ≡ None
+line_joins_none c after inside = none_from (joins false after c) (of_lines (λ c. not (is_some (joins false after c))) c (lines_join_none after) inside)
+
+line_past_selectors : (c total : ℕ) (after : After) → IsLine c → joins false after c ≡ None → past_selectors false c total after ≡ (total + 1, plain)
+unfolding past_selectors
+line_past_selectors c total after line none = let seen = line.seen in let own = line.own in let from = line.from in let to = line.to in grind (arith, nat_tests)
+
+line_in_context : (c total : ℕ) (s : State) → IsLine c → past_selectors false c total s.after ≡ (total + 1, plain) → in_context false c total s ≡ (total + 1, plain)
+unfolding in_context
+line_in_context c total s line past = let presented = line.presented in let from = line.from in let to = line.to in grind (arith, nat_tests)
+
+line_past_emoji : (c total : ℕ) (s : State) → IsLine c → in_context false c total s ≡ (total + 1, plain) → past_emoji false c total s ≡ (total + 1, plain)
+unfolding past_emoji
+line_past_emoji c total s line past = let own = line.own in let from = line.from in let to = line.to in grind (arith, nat_tests)
+
+line_separates : (c total : ℕ) (s : State) → is_in_range 0x2500 0x257F c ≡ true → step false c (total, s) ≡ (total + 1, plain)
+unfolding step
+line_separates c total s inside =
+    let line = is_line c inside in
+    let base = line.base in
+    let alone : (s : State) → past_emoji false c total s ≡ (total + 1, plain) = λ (s : State).
+    line_past_emoji c total s line (line_in_context c total s line (line_past_selectors c total s.after line (line_joins_none c s.after inside))) in
+    let here = alone s in
+    let kept = alone (record (if_kept s) { emoji = false }) in
+    grind arith
+
+-- ---- both
+
+separator_step : (c total : ℕ) (s : State) → is_separator c ≡ true → step false c (total, s) ≡ (total + 1, plain)
+separator_step c total s is = elim (or_cases (is_in_range 0x20 0x7E c && not (begins_keycap c)) (is_in_range 0x2500 0x257F c) is) [
+  | inl low ↦
+      let parts = and_parts (is_in_range 0x20 0x7E c) (not (begins_keycap c)) low in
+      ascii_separates c total s parts.0 (not-true (begins_keycap c) parts.1)
+  | inr line ↦ line_separates c total s line
+]
+
+pub separates : (c : ℕ) → is_separator c ≡ true → IsSeparator c
+unfolding str_width
+separates c is front back =
+    let r = read_before false back (0, plain) in
+    ap (λ (r : Reading). r.0) (read-append front (c ∷ back) (0, plain))
+    ∙ ap (λ (r : Reading). (read_before false front r).0) (separator_step c r.0 r.1 is)
+    ∙ read-shifted front (r.0 + 1)
+    ∙ omega arith
