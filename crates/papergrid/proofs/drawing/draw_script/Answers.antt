@@ -17,15 +17,15 @@ returns-in-Ok g c =
     run-drawn g.W.Sink.contents g.W.Sink.has_failed g.W.Sink.has_stalled c.args.sizing (table_seen c.args.script) c.in_ok-config.config told c.args.writer.now c.draw_rows.new.writer
     (rw c.in-Ok.is at ran)
 
-pub returns-in_err-text : goal.returns-in_err-text
-returns-in_err-text g c =
+pub returns-in_err-text-in-Err : goal.returns-in_err-text-in-Err
+returns-in_err-text-in-Err g c =
     let told : IsConfiguredBy (map setting_told c.args.script.settings.items) c.in_ok-config.config = record { told = c.in_ok-config.ensures.told; effective = c.history_decides.ensures _ _ c.in_ok-config.ensures.told } in
     let ran = subst (λ rows. Draws g.W.Sink.contents g.W.Sink.has_failed g.W.Sink.has_stalled (IsDrawingWith c.args.script.columns (rows_seen rows) c.args.sizing c.in_ok-config.config)
     (IsFaultWith c.args.script.columns (rows_seen rows) c.args.sizing c.in_ok-config.config) lined c.args.writer.now c.draw_rows.new.writer c.draw_rows.result) c.deref.ensures.value c.draw_rows.ensures in
-    let p = err_from_is_err_and c.from_residual-in_err-text.result c.from_residual-in_err-text.ensures.1 in
+    let p = err_from_is_err_and c.from_residual-in_err-text-in-Err.result c.from_residual-in_err-text-in-Err.ensures.1 in
     rw (p.1, p.2)
     (run-broken g.W.Sink.contents g.W.Sink.has_failed g.W.Sink.has_stalled c.args.sizing (table_seen c.args.script) c.in_ok-config.config told c.args.writer.now c.draw_rows.new.writer
-    c.in-Err.error _ c.in_err-text.ensures.err.0 c.in_err-text.ensures.err.1 (rw c.in-Err.is at ran))
+    c.in-Err.error _ c.in_err-text-in-Err.ensures.err.0 c.in_err-text-in-Err.ensures.err.1 (rw c.in-Err.is at ran))
 
 pub returns : goal.returns
 returns g c =
@@ -33,4 +33,4 @@ returns g c =
     let ran = subst (λ rows. Draws g.W.Sink.contents g.W.Sink.has_failed g.W.Sink.has_stalled (IsDrawingWith c.args.script.columns (rows_seen rows) c.args.sizing c.in_ok-config.config)
     (IsFaultWith c.args.script.columns (rows_seen rows) c.args.sizing c.in_ok-config.config) lined c.args.writer.now c.draw_rows.new.writer c.draw_rows.result) c.deref.ensures.value c.draw_rows.ensures in
     run-refused g.W.Sink.contents g.W.Sink.has_failed g.W.Sink.has_stalled c.args.sizing (table_seen c.args.script) c.in_ok-config.config told c.args.writer.now c.draw_rows.new.writer
-    c.say.new.writer c.in-Err.error c.in_ok-text.text.items c.say.result c.in_ok-text.ensures.ok.0 (rw c.in-Err.is at ran) c.in_ok-text.ensures.ok.1 c.say.ensures
+    c.say.new.writer c.in-Err.error c.in_ok-text-in-Err.text.items c.say.result c.in_ok-text-in-Err.ensures.ok.0 (rw c.in-Err.is at ran) c.in_ok-text-in-Err.ensures.ok.1 c.say.ensures
