@@ -21,6 +21,7 @@ pub mod RoomLemmas
 pub mod RuleLemmas
 pub mod SegmentLemmas
 pub mod SeparateLemmas
+pub mod SettingLemmas
 pub mod SheetLemmas
 pub mod SlotLemmas
 pub mod StretchLemmas

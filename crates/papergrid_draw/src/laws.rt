@@ -1,11 +1,13 @@
 //! Laws of the picture, each the contract of a function that does nothing.
 
 ghost use Rattle.std.specs.Prelude.{◌+◌, ◌-◌, ◌<◌, ◌==◌, ◌∷◌, ◌≡◌, ◌≢◌, ◌≤◌, ◌⊎◌, [], All, Contains, List, false, length, map, slice_index, slice_index_or, true, ℕ};
-ghost use Rattle.std.specs.List.{join_with_byte, slice_split};
+ghost use Rattle.std.specs.List.{join_with_byte, list_all, slice_split};
 ghost use Rattle.papergrid_values.specs.Positions.{position_of};
 ghost use Rattle.papergrid_values.specs.declared.direction.Direction.TheVariants.{Columns, Rows};
 ghost use Rattle.papergrid_values.specs.declared.position.Position.{Position};
 ghost use Rattle.papergrid_config.specs.Grids.{spanned_grid};
+ghost use Rattle.papergrid_config.specs.History.{HasSettingHistory};
+ghost use Rattle.papergrid_config.specs.declared.setting.Setting.{Setting};
 ghost use Rattle.papergrid_text.specs.Text.{width_of};
 ghost use Rattle.papergrid_tracks.specs.Fits.{Fits};
 ghost use Rattle.papergrid_walk.specs.Cells.{problem_of};
@@ -18,7 +20,7 @@ ghost use Rattle.papergrid_draw.specs.Drawn.{drawn_lines, has_horizontal, has_ve
 ghost use Rattle.papergrid_draw.specs.Faults.{AllHaveRoom, whole_height};
 ghost use Rattle.papergrid_draw.specs.Laws.{AreDrawnAt, AreLinesAt, AreMeasuredAt, columns_of, pieces_of, text_piece};
 ghost use Rattle.papergrid_draw.specs.Margins.{printed, printed_lines};
-ghost use Rattle.papergrid_draw.specs.Separated.{IsHonest, IsSeparated, text_of};
+ghost use Rattle.papergrid_draw.specs.Separated.{AreApart, HasSeparators, IsHonest, setting_separates, text_of};
 ghost use Rattle.papergrid_draw.specs.Tiles.{IsTiled};
 
 /// A picture has as many lines as its table is high, with both margins, and a line feed between two. That of a table
@@ -45,9 +47,15 @@ pub fn columns_of_lines()
 /// cells are as wide as is told and separators stand between them.
 pub fn lines_as_wide()
     ensures { (d : Drawing) → IsTiled (layout_of d) → AllHaveRoom d →
-        IsHonest d → IsSeparated d →
+        IsHonest d → HasSeparators d → AreApart d →
         All (λ line. width_of (text_of (pieces_of line)) ≡ total_along (layout_of d) Columns)
         (drawn_lines d) }
+{}
+
+/// All characters but those of texts are separators where settings set no others, but for margins.
+pub fn settings_with_separators()
+    ensures { (d : Drawing) (settings : List Setting) → HasSettingHistory settings d.config →
+        list_all setting_separates settings ≡ true → HasSeparators d }
 {}
 
 /// Each visible cell stands in its screen rectangle: line k of its content in line k of that, from its first column
