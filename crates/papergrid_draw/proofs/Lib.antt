@@ -6,6 +6,7 @@ pub mod DrawnLemmas
 pub mod EndLemmas
 pub mod EstimateLemmas
 pub mod HiddenLemmas
+pub mod HonestLemmas
 pub mod InPlaceLemmas
 pub mod KnownLemmas
 pub mod LineLemmas
