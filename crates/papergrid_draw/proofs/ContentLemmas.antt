@@ -62,7 +62,7 @@ stands-within line part pieces x y outside inside = (
 
 -- ---- the lines that are shown are lines of the text
 
-All-reverse : {X : Type 0} (P : X → Type 0) (xs : List X) → All P xs → All P (reverse xs)
+pub All-reverse : {X : Type 0} (P : X → Type 0) (xs : List X) → All P xs → All P (reverse xs)
 All-reverse P xs all = λ k d below.
     let there : k < length xs = subst (λ n. k < n) (length-reverse xs) below in
     subst P (sym (get_or-reverse xs k d there)) (all (length xs - 1 - k) d (omega arith))

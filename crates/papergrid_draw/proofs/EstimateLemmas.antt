@@ -87,7 +87,7 @@ range-told sizes s (suc n) =
 
 module _ {C : Type 0} where
   -- the rows have a cell there, or none
-  cell-or-none : (rows : List (List C)) (p : Position) → ((cell : C) × IsCellAt rows p cell) ⊎ ((cell : C) → IsCellAt rows p cell → ⊥)
+  pub cell-or-none : (rows : List (List C)) (p : Position) → ((cell : C) × IsCellAt rows p cell) ⊎ ((cell : C) → IsCellAt rows p cell → ⊥)
   cell-or-none rows p = elim (cases_lt p.row (length rows)) [
     | inl below ↦ in-row (slice_index_or rows p.row []) refl below
     | inr past ↦ inr (λ cell is. omega (arith, past, is.0))

@@ -7,6 +7,7 @@ pub mod DrawnLemmas
 pub mod EndLemmas
 pub mod EstimateLemmas
 pub mod HiddenLemmas
+pub mod HonestLemmas
 pub mod InPlaceLemmas
 pub mod KnownLemmas
 pub mod LineLemmas
@@ -22,6 +23,7 @@ pub mod RoomLemmas
 pub mod RuleLemmas
 pub mod SegmentLemmas
 pub mod SeparateLemmas
+pub mod SettingLemmas
 pub mod SheetLemmas
 pub mod SinkLemmas
 pub mod SlotLemmas

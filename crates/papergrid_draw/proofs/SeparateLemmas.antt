@@ -20,7 +20,7 @@ use Rattle.papergrid_draw.specs.Drawn.{DrawnLine, OnLine, RuleLine, TextLine, co
 use Rattle.papergrid_draw.specs.Faults.{AllHaveRoom}
 use Rattle.papergrid_draw.specs.Laws.{columns_of, pieces_of, stretch_pieces, text_piece}
 use Rattle.papergrid_draw.specs.Pieces.{Justification, Padding, Piece, fill}
-use Rattle.papergrid_draw.specs.Separated.{IsHonest, IsMeasured, IsSeparated, fills_of, text_of}
+use Rattle.papergrid_draw.specs.Separated.{AreApart, HasSeparators, IsHonest, IsMeasured, fills_of, text_of}
 use Rattle.papergrid_draw.specs.Tiles.{IsTiled}
 use Rattle.papergrid_draw.specs.ForProofs.Pages.{row_start, text_start}
 use Rattle.papergrid_draw.specs.ForProofs.Ranges.{first_of, rule_first}
@@ -110,7 +110,7 @@ module _ (b : contents.Block) (filled : All IsSeparator (fills_of b.look)) (hone
 
 -- ---- the lines of a table
 
-module _ (d : Drawing) (honest : IsHonest d) (separated : IsSeparated d) where
+module _ (d : Drawing) (honest : IsHonest d) (separated : HasSeparators d) (apart : AreApart d) where
   vertical-fills : (r j k : ℕ) → AreFills (vertical_pieces d r j k)
   vertical-fills r j k = in_case (has_vertical d j)
     where
@@ -183,7 +183,7 @@ module _ (d : Drawing) (honest : IsHonest d) (separated : IsSeparated d) where
       let measured = honest o cell in
       record {
         separate = fills-separate line (content (block_at d o) n) fills (content-separate (block_at d o) filled measured n);
-        begins = λ some. elim (separated.apart o cell (omega (arith, some, here))) [
+        begins = λ some. elim (apart o cell (omega (arith, some, here))) [
           | inl vertical ↦ in_case line fills (drawn (ap (has_vertical d) (sym here) ∙ vertical))
           | inr padded ↦ begin-append line (content (block_at d o) n) (fills-begin line fills) (content-begins (block_at d o) filled measured padded n)
         ];

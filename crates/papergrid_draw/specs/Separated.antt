@@ -1,8 +1,15 @@
 -- Where the texts of a drawn table are as wide as is told of them, and separators stand between.
-use Rattle.std.specs.Prelude.{◌≡◌, ◌<◌, ◌⊎◌, ℕ, All, IsUtf8, List, [], ◌∷◌, Some, flat_map, true}
+use Rattle.std.specs.Prelude.{◌≡◌, ◌<◌, ◌⊎◌, ℕ, All, Bool, IsUtf8, List, [], ◌∷◌, None, Option, Some, flat_map, true}
+use Rattle.std.specs.List.{list_all}
+use Rattle.papergrid_values.specs.Borders.{border_parts, frame_parts}
+use Rattle.papergrid_values.specs.Keys.{sides_parts}
+use Rattle.papergrid_values.specs.Lines.{horizontal_parts, vertical_parts}
+use Rattle.papergrid_values.specs.declared.indent.Indent.{Indent}
 use Rattle.papergrid_values.specs.declared.position.Position.{Position}
+use Rattle.papergrid_config.specs.declared.setting.Setting.{Setting}
+use Rattle.papergrid_config.specs.declared.setting.Setting.TheVariants.{InsertHorizontalLine, InsertVerticalLine, SetBorder, SetBorderDefault, SetBorders, SetBordersMissing, SetHorizontalChar, SetJustification, SetPadding, SetVerticalChar}
 use Rattle.papergrid_tables.specs.Overrides.{found_override, override_at}
-use Rattle.papergrid_text.specs.Separators.{IsSeparator}
+use Rattle.papergrid_text.specs.Separators.{IsSeparator, is_separator}
 use Rattle.papergrid_text.specs.Text.{width_of}
 use Rattle.papergrid_layout.specs.Places.{IsVisibleCell}
 use Rattle.papergrid_draw.specs.Characters.{crossing_character, segment_character, vertical_character}
@@ -30,9 +37,8 @@ module _ (d : Drawing) where
   abbrev pub IsHonest : Type 0
   IsHonest = (p : Position) → IsVisibleCell (layout_of d) p → All IsMeasured (d.lines p)
 
-  -- all characters but those of texts are separators, and one stands before each visible cell that
-  -- begins in no first column: that of a vertical line, or of a padding
-  pub record IsSeparated : Type 0 where
+  -- all characters but those of texts are separators
+  pub record HasSeparators : Type 0 where
     pub vertical : (p : Position) (k : ℕ) →
         IsSeparator (vertical_character d.config d.shape p (d.heights p.row) k)
     pub crossing : (p : Position) → IsSeparator (crossing_character d.config d.shape p)
@@ -42,5 +48,29 @@ module _ (d : Drawing) where
         IsSeparator c
     pub filled : (p : Position) → IsVisibleCell (layout_of d) p →
         All IsSeparator (fills_of (look_of d.config p))
-    pub apart : (p : Position) → IsVisibleCell (layout_of d) p → 0 < p.col →
-        (has_vertical d p.col ≡ true) ⊎ (0 < (look_of d.config p).padding.left.size)
+
+  -- before each visible cell but those of the first column stands a vertical line or a padding
+  abbrev pub AreApart : Type 0
+  AreApart =
+      (p : Position) → IsVisibleCell (layout_of d) p → 0 < p.col →
+      (has_vertical d p.col ≡ true) ⊎ (0 < (look_of d.config p).padding.left.size)
+
+-- a part of a border is not set, or a separator
+abbrev pub part_separates : Option ℕ → Bool
+part_separates None = true
+part_separates (Some c) = is_separator c
+
+-- each character that a setting sets is a separator, but for those of margins
+abbrev pub setting_separates : Setting → Bool
+setting_separates (SetBorders frame) = list_all part_separates (frame_parts frame)
+setting_separates (SetBorderDefault c) = is_separator c
+setting_separates (SetBordersMissing c) = is_separator c
+setting_separates (InsertHorizontalLine row line) = list_all part_separates (horizontal_parts line)
+setting_separates (InsertVerticalLine col line) = list_all part_separates (vertical_parts line)
+setting_separates (SetBorder p border) = list_all part_separates (border_parts border)
+setting_separates (SetHorizontalChar p offset c) = is_separator c
+setting_separates (SetVerticalChar p offset c) = is_separator c
+setting_separates (SetPadding entity sides) =
+    list_all (λ (indent : Indent). is_separator indent.fill) (sides_parts sides)
+setting_separates (SetJustification entity c) = is_separator c
+setting_separates _ = true

@@ -1,15 +1,18 @@
 //! Laws of the picture, each the contract of a function that does nothing.
 
-ghost use Rattle.std.specs.Prelude.{◌+◌, ◌-◌, ◌<◌, ◌==◌, ◌∷◌, ◌≡◌, ◌≢◌, ◌≤◌, ◌⊎◌, [], All, Contains, List, false, length, map, slice_index, slice_index_or, true, ℕ};
-ghost use Rattle.std.specs.List.{join_with_byte, slice_split};
+ghost use Rattle.std.specs.Prelude.{◌+◌, ◌-◌, ◌<◌, ◌==◌, ◌∷◌, ◌≡◌, ◌≢◌, ◌≤◌, ◌⊎◌, [], All, Contains, IsUtf8, List, false, length, map, slice_index, slice_index_or, true, ℕ};
+ghost use Rattle.std.specs.List.{join_with_byte, list_all, slice_split};
 ghost use Rattle.papergrid_values.specs.Positions.{position_of};
 ghost use Rattle.papergrid_values.specs.declared.direction.Direction.TheVariants.{Columns, Rows};
 ghost use Rattle.papergrid_values.specs.declared.position.Position.{Position};
 ghost use Rattle.papergrid_config.specs.Grids.{spanned_grid};
+ghost use Rattle.papergrid_config.specs.History.{HasSettingHistory};
+ghost use Rattle.papergrid_config.specs.declared.setting.Setting.{Setting};
 ghost use Rattle.papergrid_text.specs.Text.{width_of};
 ghost use Rattle.papergrid_tracks.specs.Fits.{Fits};
 ghost use Rattle.papergrid_walk.specs.Cells.{problem_of};
 ghost use Rattle.papergrid_walk.specs.Measures.{line_measure};
+ghost use Rattle.papergrid_layout.specs.Laws.{IsCellAt};
 ghost use Rattle.papergrid_layout.specs.Places.{IsVisibleCell, begin_along, length_along, line_offset, offset, total_along, track_line, track_size};
 ghost use Rattle.papergrid_draw.specs.Characters.{crossing, segment, vertical};
 ghost use Rattle.papergrid_draw.specs.Contents.{above, before, block_at, content, shown, shown_line};
@@ -18,7 +21,7 @@ ghost use Rattle.papergrid_draw.specs.Drawn.{drawn_lines, has_horizontal, has_ve
 ghost use Rattle.papergrid_draw.specs.Faults.{AllHaveRoom, whole_height};
 ghost use Rattle.papergrid_draw.specs.Laws.{AreDrawnAt, AreLinesAt, AreMeasuredAt, columns_of, pieces_of, text_piece};
 ghost use Rattle.papergrid_draw.specs.Margins.{printed, printed_lines};
-ghost use Rattle.papergrid_draw.specs.Separated.{IsHonest, IsSeparated, text_of};
+ghost use Rattle.papergrid_draw.specs.Separated.{AreApart, HasSeparators, IsHonest, setting_separates, text_of};
 ghost use Rattle.papergrid_draw.specs.Tiles.{IsTiled};
 
 /// A picture has as many lines as its table is high, with both margins, and a line feed between two. That of a table
@@ -45,9 +48,23 @@ pub fn columns_of_lines()
 /// cells are as wide as is told and separators stand between them.
 pub fn lines_as_wide()
     ensures { (d : Drawing) → IsTiled (layout_of d) → AllHaveRoom d →
-        IsHonest d → IsSeparated d →
+        IsHonest d → HasSeparators d → AreApart d →
         All (λ line. width_of (text_of (pieces_of line)) ≡ total_along (layout_of d) Columns)
         (drawn_lines d) }
+{}
+
+/// Lines are as wide as is told where each cell is drawn by the lines of its text, which is UTF-8.
+pub fn honest_texts<C>()
+    ensures { (d : Drawing) (text : C → List ℕ) (rows : List (List C)) →
+        ((p : Position) → IsVisibleCell (layout_of d) p →
+        AreLinesAt text rows p (d.lines p)) →
+        ((p : Position) (cell : C) → IsCellAt rows p cell → IsUtf8 (text cell)) → IsHonest d }
+{}
+
+/// All characters but those of texts are separators where settings set no others, but for margins.
+pub fn settings_with_separators()
+    ensures { (d : Drawing) (settings : List Setting) → HasSettingHistory settings d.config →
+        list_all setting_separates settings ≡ true → HasSeparators d }
 {}
 
 /// Each visible cell stands in its screen rectangle: line k of its content in line k of that, from its first column
