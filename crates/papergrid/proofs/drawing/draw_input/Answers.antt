@@ -1,4 +1,4 @@
-use Rattle.std.proofs.Common.{◌∙◌, ◌++◌, ◌∷◌, [], Err, Ok, ap, sym}
+use Rattle.std.proofs.Common.{◌∙◌, ◌++◌, ◌∷◌, [], Err, Ok, ap}
 use Rattle.std.specs.Prelude.{codes, decimal}
 use Rattle.papergrid.specs.Texts.{newline}
 use Rattle.papergrid.specs.Pictures.{IsPictureRun, IsTablePicture}
@@ -10,7 +10,7 @@ pub returns-in-Err-Bad : goal.returns-in-Err-Bad
 returns-in-Err-Bad g c =
     let is = rw (c.in-Err-Bad.is, c.in-Err-Bad.field-0-is) at c.read_script.ensures.told in
     runs-also g.W.Sink.contents g.W.Sink.has_failed g.W.Sink.has_stalled _ (IsPictureRun c.args.sizing c.args.input.now)
-    (λ end output p. picture-run-of c.args.sizing c.args.input.now (Err _) is end output (p.0, p.1 ∙ c.in_ok-bad_script_text-in-Err-Bad.ensures ∙ ap (λ n. codes "bad script at line " ++ decimal n ++ newline ∷ []) (sym c.in-Err-Bad.number-is)))
+    (λ end output p. picture-run-of c.args.sizing c.args.input.now (Err _) is end output (p.0, p.1 ∙ c.in_ok-bad_script_text-in-Err-Bad.ensures ∙ ap (λ n. codes "bad script at line " ++ decimal n ++ newline ∷ []) c.in-Err-Bad.number-is))
     c.args.writer.now c.say.new.writer c.say.result c.say.ensures
 
 pub returns : goal.returns
