@@ -1,1 +1,2 @@
+pub mod HeldLemmas
 pub mod LinedLemmas

@@ -1,12 +1,14 @@
--- The table of sizes that a dimension has.
-use Rattle.std.specs.Prelude.{◌≡◌, ◌<◌, ◌⊎◌, ℕ, map}
+-- The table of sizes that a dimension has, and its drawing.
+use Rattle.std.specs.Prelude.{◌≡◌, ◌<◌, ◌⊎◌, ℕ, List, Option, map}
 use Rattle.std.specs.List.{range_with_len}
+use Rattle.papergrid_values.specs.declared.position.Position.{Position}
 use Rattle.papergrid_config.specs.declared.spanned.SpannedConfig.{SpannedConfig}
 use Rattle.papergrid_layout.specs.Tables.{IsTotalTooLarge, TableParts, view_of}
-use Rattle.papergrid_draw.specs.Drawings.{Drawing}
+use Rattle.papergrid_draw.specs.Drawings.{Drawing, drawn_of}
 use Rattle.papergrid_draw.specs.Faults.{IsDrawFault}
 use Rattle.papergrid_draw.specs.declared.error.DrawError.{DrawError}
 use Rattle.papergrid_draw.specs.declared.error.DrawError.TheVariants.{TooLarge}
+use Rattle.papergrid_grid.specs.Cells.{lines_at}
 
 -- a table of so many rows and columns, by a configuration, with these widths and heights
 abbrev pub parts_of : SpannedConfig → (ℕ → ℕ) → (ℕ → ℕ) → ℕ × ℕ → TableParts
@@ -19,6 +21,10 @@ parts_of config widths heights shape = record {
 -- there is a size for each of so many tracks
 abbrev pub HasSizes : (ℕ → Type 0) → ℕ → Type 0
 HasSizes has count = (track : ℕ) → track < count → has track
+
+-- the drawing of a table with the cells of these rows, each with its lines, and the colours of their texts
+abbrev pub drawing_of_rows : {C : Type 0} → (C → List (List ℕ × ℕ)) → TableParts → List (List C) → (Position → Option (List ℕ × List ℕ)) → Drawing
+drawing_of_rows lines parts rows color = drawn_of (lines_at lines) (λ _. color) parts rows
 
 -- why a table with sizes of one's own is not drawn: a total without margins is too large, or as any table
 abbrev pub IsGridFault : TableParts → Drawing → DrawError → Type 0

@@ -3,7 +3,9 @@
 
 mod cells;
 mod color;
+mod held;
 mod lines;
+mod peekable;
 mod sized;
 
 pub use cells::{RecordCells, TextCells, TextRow};
