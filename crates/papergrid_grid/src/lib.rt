@@ -6,8 +6,10 @@ mod color;
 mod held;
 mod lines;
 mod peekable;
+mod printer;
 mod sized;
 
 pub use cells::{RecordCells, TextCells, TextRow};
 pub use color::AsANSIStr;
 pub use lines::draw_lines;
+pub use peekable::PeekableGrid;
