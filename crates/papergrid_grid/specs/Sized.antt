@@ -1,5 +1,5 @@
 -- The table of sizes that a dimension has, and its drawing.
-use Rattle.std.specs.Prelude.{◌≡◌, ◌<◌, ◌⊎◌, ℕ, List, Option, map, option_map}
+use Rattle.std.specs.Prelude.{◌≡◌, ◌<◌, ◌⊎◌, ⊤, ℕ, List, Option, map, option_map}
 use Rattle.std.specs.List.{range_with_len}
 use Rattle.papergrid_values.specs.declared.position.Position.{Position}
 use Rattle.papergrid_config.specs.declared.spanned.SpannedConfig.{SpannedConfig}
@@ -9,7 +9,7 @@ use Rattle.papergrid_layout.specs.Tables.{IsTotalTooLarge, TableParts, view_of}
 use Rattle.papergrid_draw.specs.Drawings.{Drawing, drawn_of}
 use Rattle.papergrid_draw.specs.Faults.{IsDrawFault}
 use Rattle.papergrid_draw.specs.declared.error.DrawError.{DrawError}
-use Rattle.papergrid_draw.specs.declared.error.DrawError.TheVariants.{TooLarge}
+use Rattle.papergrid_draw.specs.declared.error.DrawError.TheVariants.{Memory, NoRoom, NotTiled, OutOfTable, TooLarge, Write}
 use Rattle.papergrid_grid.specs.Cells.{lines_at}
 
 -- a table of so many rows and columns, by a configuration, with these widths and heights
@@ -43,3 +43,12 @@ drawing_of_rows lines parts rows color = drawn_of (lines_at lines) (λ _. color)
 -- why a table with sizes of one's own is not drawn: a total without margins is too large, or as any table
 abbrev pub IsGridFault : TableParts → Drawing → DrawError → Type 0
 IsGridFault parts d e = ((e ≡ TooLarge) × IsTotalTooLarge (view_of parts)) ⊎ IsDrawFault d e
+
+-- P, unless an allocation failed
+abbrev pub UnlessMemory : DrawError → Type 0 → Type 0
+UnlessMemory (Memory e) P = ⊤
+UnlessMemory (OutOfTable p) P = P
+UnlessMemory (NotTiled p) P = P
+UnlessMemory (NoRoom p) P = P
+UnlessMemory TooLarge P = P
+UnlessMemory Write P = P
