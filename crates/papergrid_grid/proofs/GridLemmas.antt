@@ -29,13 +29,13 @@ pub drawn_same : {T C K : Type 0} (lines : T → List (List ℕ × ℕ)) (texts 
     (shape other_shape : ℕ × ℕ) (rows others : List (Vec T Global)) (colors other_colors : C) →
     shape ≡ other_shape → rows ≡ others → colors ≡ other_colors →
     (let parts = parts_of config widths heights shape in
-      P parts (drawing_of_rows lines parts (map (λ row. row.items) rows) (texts_at texts color_at colors))) →
+    P parts (drawing_of_rows lines parts (map (λ row. row.items) rows) (texts_at texts color_at colors))) →
     (let parts = parts_of config widths heights other_shape in
-      P parts (drawing_of_rows lines parts (map (λ row. row.items) others) (texts_at texts color_at other_colors)))
+    P parts (drawing_of_rows lines parts (map (λ row. row.items) others) (texts_at texts color_at other_colors)))
 drawn_same {T = T} {C = C} lines texts color_at config widths heights P shape other_shape rows others colors other_colors s r c is =
     let drawn : ℕ × ℕ → List (Vec T Global) → C → Type 0 = λ n held k.
-      P (parts_of config widths heights n)
-      (drawing_of_rows lines (parts_of config widths heights n) (map (λ row. row.items) held) (texts_at texts color_at k)) in
+    P (parts_of config widths heights n)
+    (drawing_of_rows lines (parts_of config widths heights n) (map (λ row. row.items) held) (texts_at texts color_at k)) in
     subst (λ n. drawn n others other_colors) s (subst (λ held. drawn shape held other_colors) r (subst (λ k. drawn shape rows k) c is))
 
 -- what holds of a table of texts that are held and its drawing holds of the rows of cells
@@ -44,12 +44,12 @@ pub drawn_texts : {T C K : Type 0} (text : T → List ℕ) (texts : K → List �
     (count columns other_columns : ℕ) (rows others : List (Vec T Global)) (colors : C) →
     count ≡ length others → columns ≡ other_columns → rows ≡ others →
     (let parts = parts_of config widths heights (count, columns) in
-      P parts (drawn_of (λ held. lines_at text_lines (map (λ row. map text row.items) held)) (λ _. texts_at texts color_at colors) parts rows)) →
+    P parts (drawn_of (λ held. lines_at text_lines (map (λ row. map text row.items) held)) (λ _. texts_at texts color_at colors) parts rows)) →
     (let parts = parts_of config widths heights (length (map (λ row. row.items) others), other_columns) in
-      P parts (drawing_of_rows (λ cell. text_lines (text cell)) parts (map (λ row. row.items) others) (texts_at texts color_at colors)))
+    P parts (drawing_of_rows (λ cell. text_lines (text cell)) parts (map (λ row. row.items) others) (texts_at texts color_at colors)))
 drawn_texts {T = T} text texts color_at config widths heights P count columns other_columns rows others colors n k r is =
     let drawn : ℕ → ℕ → (Position → List (List ℕ × ℕ)) → Type 0 = λ i j lines.
-      P (parts_of config widths heights (i, j)) (drawn_of (λ _. lines) (λ _. texts_at texts color_at colors) (parts_of config widths heights (i, j)) others) in
+    P (parts_of config widths heights (i, j)) (drawn_of (λ _. lines) (λ _. texts_at texts color_at colors) (parts_of config widths heights (i, j)) others) in
     let items : Vec T Global → List T = λ row. row.items in
     let before : Position → List (List ℕ × ℕ) = lines_at text_lines (map (λ (row : Vec T Global). map text row.items) rows) in
     let after : Position → List (List ℕ × ℕ) = lines_at (λ cell. text_lines (text cell)) (map items others) in

@@ -167,7 +167,7 @@ where
             (length cells, R.columns self.entry.records) in
             (n : ℕ) × Appends (W.contents sink.old) (W.contents sink.new)
             (take n (printed (drawing_of_rows (λ cell. text_lines (R.Iter.Cell.text cell)) parts cells
-            (texts_at C.Color.texts C.color_at self.entry.colors.now)))))) ) }
+            (texts_at C.Color.texts C.color_at self.entry.colors.now))))))) }
         ensures write { IsErrOf result DrawError.Write → (W.has_failed sink.new ≡ true)
             ⊎ (W.has_stalled sink.old ≡ false → W.has_stalled sink.new ≡ true) }
     {

@@ -5,8 +5,7 @@ use Rattle.papergrid_grid.proofs.held.held_rows.Goals as goal
 
 pub loop-row-init : goal.loop-row-init
 loop-row-init g c =
-    let short = c.iter_rows-row-items.ensures.finite c.requires c.into_iter-row-iterator.result c.into_iter-row-iterator.ensures.into_iter_gives in
-    (
+    let short = c.iter_rows-row-items.ensures.finite c.requires c.into_iter-row-iterator.result c.into_iter-row-iterator.ensures.into_iter_gives in (
       short.may_start,
       short.ends,
       zip_none (Gives g.R.Iter.IterColumns.IntoIterator.into_iter_gives g.R.Iter.IterColumns.IntoIter.Iterator.next_gives)

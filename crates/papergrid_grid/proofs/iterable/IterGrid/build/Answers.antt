@@ -14,9 +14,9 @@ returns-clause-fault g c =
     let count : c.len.result ≡ length c.in_ok-rows.rows.items = omega arith in
     IfErr-weaker c.text_sized.result _ _ (λ e is. unless_memory e (_, c.in_ok-rows.ensures, is))
     (drawn_texts g.R.Iter.Cell.AsStr.text g.C.Color.AsANSIStr.texts g.C.Colors.color_at grid.config.now
-        (g.D.Dimension.width_of grid.dimension.now) (g.D.Dimension.height_of grid.dimension.now)
-        (λ parts d. IfErr c.text_sized.result (IsGridFault parts d))
-        _ _ _ _ _ grid.colors.now count c.count_columns-columns.ensures c.as_slice.ensures.value c.text_sized.ensures.fault)
+    (g.D.Dimension.width_of grid.dimension.now) (g.D.Dimension.height_of grid.dimension.now)
+    (λ parts d. IfErr c.text_sized.result (IsGridFault parts d))
+    _ _ _ _ _ grid.colors.now count c.count_columns-columns.ensures c.as_slice.ensures.value c.text_sized.ensures.fault)
 
 pub returns-clause-picture : goal.returns-clause-picture
 returns-clause-picture g c =
@@ -24,9 +24,9 @@ returns-clause-picture g c =
     let count : c.len.result ≡ length c.in_ok-rows.rows.items = omega arith in
     on_ok_weaker c.text_sized.result (λ is. (_, c.in_ok-rows.ensures, is))
     (drawn_texts g.R.Iter.Cell.AsStr.text g.C.Color.AsANSIStr.texts g.C.Colors.color_at grid.config.now
-        (g.D.Dimension.width_of grid.dimension.now) (g.D.Dimension.height_of grid.dimension.now)
-        (λ parts d. OnOk c.text_sized.result (WritesInCalls g.F.Write.write_str_gives c.args.writer.now (printed d) c.text_sized.new.writer))
-        _ _ _ _ _ grid.colors.now count c.count_columns-columns.ensures c.as_slice.ensures.value c.text_sized.ensures.picture)
+    (g.D.Dimension.width_of grid.dimension.now) (g.D.Dimension.height_of grid.dimension.now)
+    (λ parts d. OnOk c.text_sized.result (WritesInCalls g.F.Write.write_str_gives c.args.writer.now (printed d) c.text_sized.new.writer))
+    _ _ _ _ _ grid.colors.now count c.count_columns-columns.ensures c.as_slice.ensures.value c.text_sized.ensures.picture)
 
 pub returns-clause-left : goal.returns-clause-left
 returns-clause-left g c =
@@ -34,6 +34,6 @@ returns-clause-left g c =
     let count : c.len.result ≡ length c.in_ok-rows.rows.items = omega arith in
     IfErr-weaker c.text_sized.result _ _ (λ e is. inr (_, c.in_ok-rows.ensures, is))
     (drawn_texts g.R.Iter.Cell.AsStr.text g.C.Color.AsANSIStr.texts g.C.Colors.color_at grid.config.now
-        (g.D.Dimension.width_of grid.dimension.now) (g.D.Dimension.height_of grid.dimension.now)
-        (λ parts d. IfErr c.text_sized.result (IsLeftOff g.F.Write.write_str_gives (λ _ _ _. ⊤) c.args.writer.now (printed d) c.text_sized.new.writer))
-        _ _ _ _ _ grid.colors.now count c.count_columns-columns.ensures c.as_slice.ensures.value c.text_sized.ensures.left)
+    (g.D.Dimension.width_of grid.dimension.now) (g.D.Dimension.height_of grid.dimension.now)
+    (λ parts d. IfErr c.text_sized.result (IsLeftOff g.F.Write.write_str_gives (λ _ _ _. ⊤) c.args.writer.now (printed d) c.text_sized.new.writer))
+    _ _ _ _ _ grid.colors.now count c.count_columns-columns.ensures c.as_slice.ensures.value c.text_sized.ensures.left)

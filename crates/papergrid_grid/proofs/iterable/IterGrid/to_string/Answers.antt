@@ -11,9 +11,9 @@ returns-clause-fault g c =
     let count : c.len.result ≡ length c.in_ok-rows.rows.items = omega arith in
     IfErr-weaker c.string_sized.result _ _ (λ e is. unless_memory e (_, c.in_ok-rows.ensures, is))
     (drawn_texts g.R.Iter.Cell.AsStr.text g.C.Color.AsANSIStr.texts g.C.Colors.color_at grid.config.now
-        (g.D.Dimension.width_of grid.dimension.now) (g.D.Dimension.height_of grid.dimension.now)
-        (λ parts d. IfErr c.string_sized.result (IsGridFault parts d))
-        _ _ _ _ _ grid.colors.now count c.count_columns-columns.ensures c.as_slice.ensures.value c.string_sized.ensures.fault)
+    (g.D.Dimension.width_of grid.dimension.now) (g.D.Dimension.height_of grid.dimension.now)
+    (λ parts d. IfErr c.string_sized.result (IsGridFault parts d))
+    _ _ _ _ _ grid.colors.now count c.count_columns-columns.ensures c.as_slice.ensures.value c.string_sized.ensures.fault)
 
 pub returns-clause-picture : goal.returns-clause-picture
 returns-clause-picture g c =
@@ -21,6 +21,6 @@ returns-clause-picture g c =
     let count : c.len.result ≡ length c.in_ok-rows.rows.items = omega arith in
     IfOk-weaker c.string_sized.result _ _ (λ text is. (_, c.in_ok-rows.ensures, is))
     (drawn_texts g.R.Iter.Cell.AsStr.text g.C.Color.AsANSIStr.texts g.C.Colors.color_at grid.config.now
-        (g.D.Dimension.width_of grid.dimension.now) (g.D.Dimension.height_of grid.dimension.now)
-        (λ parts d. IfOk c.string_sized.result (λ text. string_bytes text ≡ printed d))
-        _ _ _ _ _ grid.colors.now count c.count_columns-columns.ensures c.as_slice.ensures.value c.string_sized.ensures.picture)
+    (g.D.Dimension.width_of grid.dimension.now) (g.D.Dimension.height_of grid.dimension.now)
+    (λ parts d. IfOk c.string_sized.result (λ text. string_bytes text ≡ printed d))
+    _ _ _ _ _ grid.colors.now count c.count_columns-columns.ensures c.as_slice.ensures.value c.string_sized.ensures.picture)

@@ -12,9 +12,9 @@ returns-clause-fault g c =
     let count : c.len.result ≡ length c.in_ok-rows.rows.items = omega arith in
     IfErr-weaker c.write_sized.result _ _ (λ e is. unless_memory e (_, c.in_ok-rows.ensures, is))
     (drawn_texts g.R.Iter.Cell.AsStr.text g.C.Color.AsANSIStr.texts g.C.Colors.color_at grid.config.now
-        (g.D.Dimension.width_of grid.dimension.now) (g.D.Dimension.height_of grid.dimension.now)
-        (λ parts d. IfErr c.write_sized.result (IsGridFault parts d))
-        _ _ _ _ _ grid.colors.now count c.count_columns-columns.ensures c.as_slice.ensures.value c.write_sized.ensures.fault)
+    (g.D.Dimension.width_of grid.dimension.now) (g.D.Dimension.height_of grid.dimension.now)
+    (λ parts d. IfErr c.write_sized.result (IsGridFault parts d))
+    _ _ _ _ _ grid.colors.now count c.count_columns-columns.ensures c.as_slice.ensures.value c.write_sized.ensures.fault)
 
 pub returns-clause-picture : goal.returns-clause-picture
 returns-clause-picture g c =
@@ -22,9 +22,9 @@ returns-clause-picture g c =
     let count : c.len.result ≡ length c.in_ok-rows.rows.items = omega arith in
     on_ok_weaker c.write_sized.result (λ is. (_, c.in_ok-rows.ensures, is))
     (drawn_texts g.R.Iter.Cell.AsStr.text g.C.Color.AsANSIStr.texts g.C.Colors.color_at grid.config.now
-        (g.D.Dimension.width_of grid.dimension.now) (g.D.Dimension.height_of grid.dimension.now)
-        (λ parts d. OnOk c.write_sized.result (Appends (g.W.Sink.contents c.args.sink.now) (g.W.Sink.contents c.write_sized.new.sink) (printed d)))
-        _ _ _ _ _ grid.colors.now count c.count_columns-columns.ensures c.as_slice.ensures.value c.write_sized.ensures.picture)
+    (g.D.Dimension.width_of grid.dimension.now) (g.D.Dimension.height_of grid.dimension.now)
+    (λ parts d. OnOk c.write_sized.result (Appends (g.W.Sink.contents c.args.sink.now) (g.W.Sink.contents c.write_sized.new.sink) (printed d)))
+    _ _ _ _ _ grid.colors.now count c.count_columns-columns.ensures c.as_slice.ensures.value c.write_sized.ensures.picture)
 
 pub returns-clause-beginning : goal.returns-clause-beginning
 returns-clause-beginning g c =
@@ -32,6 +32,6 @@ returns-clause-beginning g c =
     let count : c.len.result ≡ length c.in_ok-rows.rows.items = omega arith in
     on_err_weaker c.write_sized.result (λ is. inr (_, c.in_ok-rows.ensures, is))
     (drawn_texts g.R.Iter.Cell.AsStr.text g.C.Color.AsANSIStr.texts g.C.Colors.color_at grid.config.now
-        (g.D.Dimension.width_of grid.dimension.now) (g.D.Dimension.height_of grid.dimension.now)
-        (λ parts d. OnErr c.write_sized.result ((n : ℕ) × Appends (g.W.Sink.contents c.args.sink.now) (g.W.Sink.contents c.write_sized.new.sink) (take n (printed d))))
-        _ _ _ _ _ grid.colors.now count c.count_columns-columns.ensures c.as_slice.ensures.value c.write_sized.ensures.beginning)
+    (g.D.Dimension.width_of grid.dimension.now) (g.D.Dimension.height_of grid.dimension.now)
+    (λ parts d. OnErr c.write_sized.result ((n : ℕ) × Appends (g.W.Sink.contents c.args.sink.now) (g.W.Sink.contents c.write_sized.new.sink) (take n (printed d))))
+    _ _ _ _ _ grid.colors.now count c.count_columns-columns.ensures c.as_slice.ensures.value c.write_sized.ensures.beginning)
