@@ -93,6 +93,16 @@ pub mod grid {
     pub use papergrid_draw::printer::{draw_cells, draw_text, drawn_string};
     pub use papergrid_draw::source::Cells;
     pub use papergrid_grid::{AsANSIStr, RecordCells, TextCells, TextRow, draw_lines};
+
+    /// The printer over records whose cells are texts.
+    pub mod iterable {
+        pub use papergrid_grid::IterGrid;
+    }
+
+    /// The printer over records whose cells know their lines and widths.
+    pub mod peekable {
+        pub use papergrid_grid::PeekableGrid;
+    }
 }
 
 /// Rows of cells.

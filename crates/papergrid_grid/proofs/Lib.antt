@@ -1,1 +1,3 @@
+pub mod GridLemmas
+pub mod HeldLemmas
 pub mod LinedLemmas

@@ -1,5 +1,5 @@
 -- The lines of a picture, each ended by a line feed.
-use Rattle.std.proofs.Common.{◌≡◌, ◌≢◌, ◌⊎◌, ◌==◌, ◌∙◌, ◌≤◌, ◌+◌, ◌-◌, ℕ, List, [], ◌∷◌, ◌++◌, Option, Bool, true, false, ap, append-nil, append_assoc, arith, length, refl, subst, sym, take, inl, inr, min}
+use Rattle.std.proofs.Common.{◌≡◌, ◌≢◌, ◌⊎◌, ◌==◌, ◌∙◌, ◌+◌, ℕ, List, [], ◌∷◌, ◌++◌, Option, false, ap, append-nil, append_assoc, arith, length, refl, subst, sym, take, inl, inr, min}
 use Rattle.std.specs.Io.KnownBytes.{Appends}
 use Rattle.std.specs.List.{join_with_byte}
 use Rattle.std.proofs.lemmas.Bool.{cases_Bool}
@@ -37,15 +37,15 @@ unfolding lined
 lined-none d none = elim (cases_Bool (d.shape.0 == 0)) [
   | inl r ↦ printed-none d (inl r) ∙ rw r refl
   | inr r ↦ elim (cases_Bool (d.shape.1 == 0)) [
-      | inl c ↦ printed-none d (inr c) ∙ rw (r, c) refl
-      | inr c ↦
-          let rows : d.shape.0 ≢ 0 = grind (arith, nat_tests, r) in
-          let columns : d.shape.1 ≢ 0 = grind (arith, nat_tests, c) in
-          elim (cases_Bool (length (printed_lines d) == 0)) [
-            | inl l ↦ let empty : length (printed_lines d) ≡ 0 = grind (arith, nat_tests, l) in printed-some d r c ∙ ended-none (printed_lines d) empty ∙ rw (r, c) refl
-            | inr l ↦ let some : length (printed_lines d) ≢ 0 = grind (arith, nat_tests, l) in absurd (none (rows, columns, some))
-          ]
-    ]
+    | inl c ↦ printed-none d (inr c) ∙ rw (r, c) refl
+    | inr c ↦
+        let rows : d.shape.0 ≢ 0 = grind (arith, nat_tests, r) in
+        let columns : d.shape.1 ≢ 0 = grind (arith, nat_tests, c) in
+        elim (cases_Bool (length (printed_lines d) == 0)) [
+          | inl l ↦ let empty : length (printed_lines d) ≡ 0 = grind (arith, nat_tests, l) in printed-some d r c ∙ ended-none (printed_lines d) empty ∙ rw (r, c) refl
+          | inr l ↦ let some : length (printed_lines d) ≢ 0 = grind (arith, nat_tests, l) in absurd (none (rows, columns, some))
+        ]
+  ]
 ]
 
 -- what begins a picture begins its lines
@@ -66,16 +66,16 @@ lined-or : (d : Drawing) → (printed d ≡ lined d) ⊎ (printed d ++ 10 ∷ []
 lined-or d = elim (cases_Bool (d.shape.0 == 0)) [
   | inl r ↦ let zero_rows : d.shape.0 ≡ 0 = grind (arith, nat_tests, r) in inl (lined-none d (λ all. all.0 zero_rows))
   | inr r ↦ elim (cases_Bool (d.shape.1 == 0)) [
-      | inl c ↦ let zero_columns : d.shape.1 ≡ 0 = grind (arith, nat_tests, c) in inl (lined-none d (λ all. all.1 zero_columns))
-      | inr c ↦ elim (cases_Bool (length (printed_lines d) == 0)) [
-          | inl l ↦ let zero_lines : length (printed_lines d) ≡ 0 = grind (arith, nat_tests, l) in inl (lined-none d (λ all. all.2 zero_lines))
-          | inr l ↦
-              let rows : d.shape.0 ≢ 0 = grind (arith, nat_tests, r) in
-              let columns : d.shape.1 ≢ 0 = grind (arith, nat_tests, c) in
-              let some : length (printed_lines d) ≢ 0 = grind (arith, nat_tests, l) in
-              inr (lined-some d rows columns some)
-        ]
+    | inl c ↦ let zero_columns : d.shape.1 ≡ 0 = grind (arith, nat_tests, c) in inl (lined-none d (λ all. all.1 zero_columns))
+    | inr c ↦ elim (cases_Bool (length (printed_lines d) == 0)) [
+      | inl l ↦ let zero_lines : length (printed_lines d) ≡ 0 = grind (arith, nat_tests, l) in inl (lined-none d (λ all. all.2 zero_lines))
+      | inr l ↦
+          let rows : d.shape.0 ≢ 0 = grind (arith, nat_tests, r) in
+          let columns : d.shape.1 ≢ 0 = grind (arith, nat_tests, c) in
+          let some : length (printed_lines d) ≢ 0 = grind (arith, nat_tests, l) in
+          inr (lined-some d rows columns some)
     ]
+  ]
 ]
 
 pub lined-begun : (d : Drawing) (old new : Option (List ℕ)) (n : ℕ) → Appends old new (take n (printed d)) → (m : ℕ) × Appends old new (take m (lined d))

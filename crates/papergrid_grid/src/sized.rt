@@ -27,7 +27,11 @@ fn widths<D: Dimension>(
 }
 
 /// The heights of so many rows.
-fn heights<D: Dimension>(alloc: Global, dimension: &D, rows: usize) -> Result<Vec<usize>, AllocError>
+fn heights<D: Dimension>(
+    alloc: Global,
+    dimension: &D,
+    rows: usize,
+) -> Result<Vec<usize>, AllocError>
     requires { HasSizes (D.has_row dimension.now) rows }
     ensures { IfOk result (λ sizes. sizes.items
         ≡ map (D.height_of dimension.now) (range_with_len 0 rows)) }

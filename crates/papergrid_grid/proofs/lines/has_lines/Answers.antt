@@ -1,7 +1,5 @@
-use Rattle.std.proofs.Common.{◌≡◌, ◌+◌, ◌∙◌, ℕ, ap, sym}
+use Rattle.std.proofs.Common.{◌≡◌, ◌+◌, ◌∙◌, ap, sym}
 use Rattle.papergrid_values.specs.declared.direction.Direction.TheVariants.{Rows}
-use Rattle.papergrid_values.specs.declared.indent.Indent.{Indent}
-use Rattle.papergrid_values.specs.declared.sides.Sides.{Sides}
 use Rattle.papergrid_config.specs.declared.spanned.SpannedConfig.{SpannedConfig}
 use Rattle.papergrid_layout.specs.Places.{TableView, total_along}
 use Rattle.papergrid_draw.specs.Faults.{whole_height}

@@ -1,0 +1,68 @@
+-- Tables with the sizes of a dimension, and why they are not drawn.
+use Rattle.std.proofs.Common.{◌≡◌, ◌∙◌, ℕ, Err, Global, IfErr, List, Ok, Option, Result, Vec, inr, length, map, subst, sym, ap}
+use Rattle.std.proofs.lemmas.List.{length-map}
+use Rattle.papergrid_values.specs.declared.position.Position.{Position}
+use Rattle.papergrid_config.specs.declared.spanned.SpannedConfig.{SpannedConfig}
+use Rattle.papergrid_layout.specs.Tables.{TableParts}
+use Rattle.papergrid_draw.specs.Drawings.{Drawing, drawn_of}
+use Rattle.papergrid_draw.specs.Faults.{IsDrawFault}
+use Rattle.papergrid_draw.specs.declared.error.DrawError.{DrawError}
+use Rattle.papergrid_draw.specs.declared.error.DrawError.TheVariants.{Memory, NoRoom, NotTiled, OutOfTable, TooLarge, Write}
+use Rattle.papergrid_grid.specs.Cells.{lines_at, text_lines}
+use Rattle.papergrid_grid.specs.Sized.{IsGridFault, UnlessMemory, drawing_of_rows, parts_of, texts_at}
+use Rattle.papergrid_grid.proofs.HeldLemmas.{lines_of_texts}
+
+-- as any table
+as_any : {A : Type 0} (parts : TableParts) (d : Drawing) (r : Result A DrawError) → IfErr r (IsDrawFault d) → IfErr r (IsGridFault parts d)
+as_any parts d (Ok x) is = tt
+as_any parts d (Err e) is = inr is
+
+pub grid_fault : {A C : Type 0} (lines : C → Position → List (List ℕ × ℕ)) (color : C → Position → Option (List ℕ × List ℕ))
+    (table parts : TableParts) (cells : C) (r : Result A DrawError) →
+    table ≡ parts → IfErr r (IsDrawFault (drawn_of lines color table cells)) → IfErr r (IsGridFault parts (drawn_of lines color parts cells))
+grid_fault lines color table parts cells r same is =
+    as_any parts (drawn_of lines color parts cells) r (subst (λ (t : TableParts). IfErr r (IsDrawFault (drawn_of lines color t cells))) same is)
+
+-- what holds of a table and its drawing holds of those with equal counts, rows and colours
+pub drawn_same : {T C K : Type 0} (lines : T → List (List ℕ × ℕ)) (texts : K → List ℕ × List ℕ) (color_at : C → Position → Option K)
+    (config : SpannedConfig) (widths heights : ℕ → ℕ) (P : TableParts → Drawing → Type 0)
+    (shape other_shape : ℕ × ℕ) (rows others : List (Vec T Global)) (colors other_colors : C) →
+    shape ≡ other_shape → rows ≡ others → colors ≡ other_colors →
+    (let parts = parts_of config widths heights shape in
+    P parts (drawing_of_rows lines parts (map (λ row. row.items) rows) (texts_at texts color_at colors))) →
+    (let parts = parts_of config widths heights other_shape in
+    P parts (drawing_of_rows lines parts (map (λ row. row.items) others) (texts_at texts color_at other_colors)))
+drawn_same {T = T} {C = C} lines texts color_at config widths heights P shape other_shape rows others colors other_colors s r c is =
+    let drawn : ℕ × ℕ → List (Vec T Global) → C → Type 0 = λ n held k.
+    P (parts_of config widths heights n)
+    (drawing_of_rows lines (parts_of config widths heights n) (map (λ row. row.items) held) (texts_at texts color_at k)) in
+    subst (λ n. drawn n others other_colors) s (subst (λ held. drawn shape held other_colors) r (subst (λ k. drawn shape rows k) c is))
+
+-- what holds of a table of texts that are held and its drawing holds of the rows of cells
+pub drawn_texts : {T C K : Type 0} (text : T → List ℕ) (texts : K → List ℕ × List ℕ) (color_at : C → Position → Option K)
+    (config : SpannedConfig) (widths heights : ℕ → ℕ) (P : TableParts → Drawing → Type 0)
+    (count columns other_columns : ℕ) (rows others : List (Vec T Global)) (colors : C) →
+    count ≡ length others → columns ≡ other_columns → rows ≡ others →
+    (let parts = parts_of config widths heights (count, columns) in
+    P parts (drawn_of (λ held. lines_at text_lines (map (λ row. map text row.items) held)) (λ _. texts_at texts color_at colors) parts rows)) →
+    (let parts = parts_of config widths heights (length (map (λ row. row.items) others), other_columns) in
+    P parts (drawing_of_rows (λ cell. text_lines (text cell)) parts (map (λ row. row.items) others) (texts_at texts color_at colors)))
+drawn_texts {T = T} text texts color_at config widths heights P count columns other_columns rows others colors n k r is =
+    let drawn : ℕ → ℕ → (Position → List (List ℕ × ℕ)) → Type 0 = λ i j lines.
+    P (parts_of config widths heights (i, j)) (drawn_of (λ _. lines) (λ _. texts_at texts color_at colors) (parts_of config widths heights (i, j)) others) in
+    let items : Vec T Global → List T = λ row. row.items in
+    let before : Position → List (List ℕ × ℕ) = lines_at text_lines (map (λ (row : Vec T Global). map text row.items) rows) in
+    let after : Position → List (List ℕ × ℕ) = lines_at (λ cell. text_lines (text cell)) (map items others) in
+    let lines : before ≡ after =
+    λ i p. (ap (λ held. lines_at text_lines (map (λ (row : Vec T Global). map text row.items) held) p) r ∙ lines_of_texts text others p) i in
+    subst (λ i. drawn i other_columns after) (n ∙ sym (length-map others items))
+    (subst (λ j. drawn count j after) k (subst (λ l. drawn count columns l) lines is))
+
+-- what is so is so unless an allocation failed
+pub unless_memory : (e : DrawError) {P : Type 0} → P → UnlessMemory e P
+unless_memory (Memory e) is = tt
+unless_memory (OutOfTable p) is = is
+unless_memory (NotTiled p) is = is
+unless_memory (NoRoom p) is = is
+unless_memory TooLarge is = is
+unless_memory Write is = is

@@ -1,0 +1,204 @@
+//! The printer over records whose cells know their lines and widths. Source: `grid/peekable.rs`.
+
+ghost use Rattle.std.specs.Prelude.{◌≡◌, ◌≢◌, ◌⊎◌, ℕ, ⊤, IfErr, IfOk, IsErrOf, OnErr, OnOk, false, string_bytes, take, true};
+ghost use Rattle.std.specs.Fmt.{WritesInCalls};
+ghost use Rattle.std.specs.Io.KnownBytes.{Appends};
+ghost use Rattle.papergrid_text.specs.HeldRows.{rows_held};
+ghost use Rattle.papergrid_draw.specs.Deliveries.{IsLeftOff};
+ghost use Rattle.papergrid_draw.specs.Margins.{printed};
+ghost use Rattle.papergrid_draw.specs.declared.error.DrawError.TheVariants.{Memory, Write};
+ghost use Rattle.papergrid_grid.specs.Sized.{HasSizes, IsGridFault, cells_held, drawing_of_rows, parts_of, shape_told, texts_at};
+
+use crate::cells::RecordCells;
+use crate::color::AsANSIStr;
+use crate::printer::{string_sized, text_sized, write_sized};
+use papergrid_config::SpannedConfig;
+use papergrid_draw::DrawError;
+use papergrid_draw::transfer::Sink;
+use papergrid_layout::Dimension;
+use papergrid_maps::Colors;
+use papergrid_text::{Cell, ExactRecords, Records, VecRecords};
+use std::alloc::{AllocError, Global};
+use std::fmt;
+
+/// A table of records whose cells know their lines and widths. It has the numbers of rows and columns that the
+/// records tell, the sizes of the dimension, and of the rows that the records hold the cells that lie in it.
+#[derive(Clone, Copy, Debug)]
+pub struct PeekableGrid<'a, T, D, C> {
+    /// The cells.
+    pub records: &'a VecRecords<T>,
+    /// The spans, the lines and the margins.
+    pub config: &'a SpannedConfig,
+    /// The widths of the columns and the heights of the rows.
+    pub dimension: &'a D,
+    /// The colours of the texts.
+    pub colors: &'a C,
+}
+
+impl<'a, T, D, C> PeekableGrid<'a, T, D, C> {
+    /// The table of these records. It takes no allocation, and looks at nothing.
+    pub fn new(
+        records: &'a VecRecords<T>,
+        config: &'a SpannedConfig,
+        dimension: &'a D,
+        colors: &'a C,
+    ) -> PeekableGrid<'a, T, D, C>
+        ensures { result ≡ record {
+          records = records.entry;
+          config = config.entry;
+          dimension = dimension.entry;
+          colors = colors.entry;
+        } }
+    {
+        PeekableGrid {
+            records,
+            config,
+            dimension,
+            colors,
+        }
+    }
+
+    /// The number of rows, and that of columns.
+    fn shape(&self) -> (usize, usize)
+        ensures { result ≡ shape_told self.now.records.now }
+    {
+        (
+            self.records.count_rows(),
+            <&VecRecords<T> as Records>::count_columns(&self.records),
+        )
+    }
+
+    /// The cells.
+    fn cells(&self) -> RecordCells<'a, T, C>
+        ensures rows { result.rows.now ≡ (rows_held self.now.records.now).items }
+        ensures colors { result.colors.now ≡ self.now.colors.now }
+    {
+        RecordCells {
+            rows: self.records.as_slice(),
+            colors: self.colors,
+        }
+    }
+}
+
+impl<'a, T: Cell, D: Dimension, C: Colors> PeekableGrid<'a, T, D, C>
+where
+    <C as Colors>::Color: AsANSIStr,
+{
+    /// Writes the picture as text, one line at a time: nothing of a table without rows or columns. A writer of text
+    /// tells nothing of a text that it did not take.
+    ///
+    /// Condition: the dimension has a height for each row and a width for each column.
+    ///
+    /// # Errors
+    ///
+    /// `TooLarge` where the widths with the vertical lines, or the heights with the horizontal lines, come to more than
+    /// the greatest `usize`, and the errors of `draw_text`: `OutOfTable`, `NotTiled`, `NoRoom` and `TooLarge` before
+    /// anything is written; `Memory` and `Write` after a beginning of the picture.
+    pub fn build<F: fmt::Write>(&self, alloc: Global, writer: &mut F) -> Result<(), DrawError>
+        requires rows { HasSizes (D.has_row self.now.dimension.now)
+            (shape_told self.now.records.now).0 }
+        requires columns { HasSizes (D.has_column self.now.dimension.now)
+            (shape_told self.now.records.now).1 }
+        ensures picture { let parts = parts_of self.now.config.now (D.width_of self.now.dimension.now)
+            (D.height_of self.now.dimension.now) (shape_told self.now.records.now) in
+            OnOk result (WritesInCalls F.write_str_gives writer.old
+            (printed (drawing_of_rows T.lines parts (cells_held self.now.records.now)
+            (texts_at C.Color.texts C.color_at self.now.colors.now))) writer.new) }
+        ensures fault { let parts = parts_of self.now.config.now (D.width_of self.now.dimension.now)
+            (D.height_of self.now.dimension.now) (shape_told self.now.records.now) in
+            IfErr result (IsGridFault parts
+            (drawing_of_rows T.lines parts (cells_held self.now.records.now)
+            (texts_at C.Color.texts C.color_at self.now.colors.now))) }
+        ensures left { let parts = parts_of self.now.config.now (D.width_of self.now.dimension.now)
+            (D.height_of self.now.dimension.now) (shape_told self.now.records.now) in
+            IfErr result (IsLeftOff F.write_str_gives (λ _ _ _. ⊤) writer.old
+            (printed (drawing_of_rows T.lines parts (cells_held self.now.records.now)
+            (texts_at C.Color.texts C.color_at self.now.colors.now))) writer.new) }
+    {
+        text_sized(
+            alloc,
+            self.config,
+            self.dimension,
+            self.shape(),
+            &self.cells(),
+            writer,
+        )
+    }
+
+    /// Writes the picture to a sink, one line at a time: nothing of a table without rows or columns.
+    ///
+    /// Condition: the dimension has a height for each row and a width for each column.
+    ///
+    /// # Errors
+    ///
+    /// As those of `build`.
+    pub fn write_to<W: Sink>(&self, alloc: Global, sink: &mut W) -> Result<(), DrawError>
+        requires rows { HasSizes (D.has_row self.now.dimension.now)
+            (shape_told self.now.records.now).0 }
+        requires columns { HasSizes (D.has_column self.now.dimension.now)
+            (shape_told self.now.records.now).1 }
+        ensures picture { let parts = parts_of self.now.config.now (D.width_of self.now.dimension.now)
+            (D.height_of self.now.dimension.now) (shape_told self.now.records.now) in
+            OnOk result (Appends (W.contents sink.old) (W.contents sink.new)
+            (printed (drawing_of_rows T.lines parts (cells_held self.now.records.now)
+            (texts_at C.Color.texts C.color_at self.now.colors.now)))) }
+        ensures works { OnOk result (W.has_failed sink.new ≡ W.has_failed sink.old) }
+        ensures moves { OnOk result (W.has_stalled sink.new ≡ W.has_stalled sink.old) }
+        ensures fault { let parts = parts_of self.now.config.now (D.width_of self.now.dimension.now)
+            (D.height_of self.now.dimension.now) (shape_told self.now.records.now) in
+            IfErr result (IsGridFault parts
+            (drawing_of_rows T.lines parts (cells_held self.now.records.now)
+            (texts_at C.Color.texts C.color_at self.now.colors.now))) }
+        ensures nothing { IfErr result (λ e. (e ≡ Write) ⊎ ((error : AllocError) × (e ≡ Memory error))
+            ⊎ (sink.new ≡ sink.old)) }
+        ensures beginning { let parts = parts_of self.now.config.now (D.width_of self.now.dimension.now)
+            (D.height_of self.now.dimension.now) (shape_told self.now.records.now) in
+            OnErr result ((n : ℕ) × Appends (W.contents sink.old) (W.contents sink.new)
+            (take n (printed (drawing_of_rows T.lines parts (cells_held self.now.records.now)
+            (texts_at C.Color.texts C.color_at self.now.colors.now))))) }
+        ensures write { IsErrOf result DrawError.Write → (W.has_failed sink.new ≡ true)
+            ⊎ (W.has_stalled sink.old ≡ false → W.has_stalled sink.new ≡ true) }
+    {
+        write_sized(
+            alloc,
+            self.config,
+            self.dimension,
+            self.shape(),
+            &self.cells(),
+            sink,
+        )
+    }
+
+    /// The picture: empty for a table without rows or columns.
+    ///
+    /// Condition: the dimension has a height for each row and a width for each column.
+    ///
+    /// # Errors
+    ///
+    /// As those of `build`, but never `Write`.
+    pub fn to_string(&self, alloc: Global) -> Result<String, DrawError>
+        requires rows { HasSizes (D.has_row self.now.dimension.now)
+            (shape_told self.now.records.now).0 }
+        requires columns { HasSizes (D.has_column self.now.dimension.now)
+            (shape_told self.now.records.now).1 }
+        ensures picture { let parts = parts_of self.now.config.now (D.width_of self.now.dimension.now)
+            (D.height_of self.now.dimension.now) (shape_told self.now.records.now) in
+            IfOk result (λ text. string_bytes text
+            ≡ printed (drawing_of_rows T.lines parts (cells_held self.now.records.now)
+            (texts_at C.Color.texts C.color_at self.now.colors.now))) }
+        ensures fault { let parts = parts_of self.now.config.now (D.width_of self.now.dimension.now)
+            (D.height_of self.now.dimension.now) (shape_told self.now.records.now) in
+            IfErr result (IsGridFault parts
+            (drawing_of_rows T.lines parts (cells_held self.now.records.now)
+            (texts_at C.Color.texts C.color_at self.now.colors.now))) }
+        ensures works { IfErr result (λ e. e ≢ Write) }
+    {
+        string_sized(
+            alloc,
+            self.config,
+            self.dimension,
+            self.shape(),
+            &self.cells(),
+        )
+    }
+}
