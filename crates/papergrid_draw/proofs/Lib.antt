@@ -1,3 +1,5 @@
+pub mod AfterLemmas
+pub mod BeforeLemmas
 pub mod BlockLemmas
 pub mod ColumnLemmas
 pub mod ContentLemmas
@@ -29,3 +31,4 @@ pub mod StretchLemmas
 pub mod TileLemmas
 pub mod TilingLemmas
 pub mod WideLemmas
+pub mod WidthLemmas
