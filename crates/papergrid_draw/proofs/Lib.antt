@@ -1,3 +1,5 @@
+pub mod AfterLemmas
+pub mod BeforeLemmas
 pub mod BlockLemmas
 pub mod ColumnLemmas
 pub mod ContentLemmas
@@ -31,3 +33,4 @@ pub mod StretchLemmas
 pub mod TileLemmas
 pub mod TilingLemmas
 pub mod WideLemmas
+pub mod WidthLemmas

@@ -99,7 +99,7 @@ module _ (d : Drawing) (i : ℕ) where
   and-not true over is = ap (λ b. not b) is
   and-not false over is = refl
 
-  crossing-covered : (j : ℕ) → stands_over_crossing d i j ≡ true → crossing_stretch d i j ≡ []
+  pub crossing-covered : (j : ℕ) → stands_over_crossing d i j ≡ true → crossing_stretch d i j ≡ []
   crossing-covered j over = sym (crossing-none d i j (and-not (has_vertical d j) (stands_over_crossing d i j) over))
 
   columns-crossing : (j : ℕ) → stands_over_crossing d i j ≡ false → columns_of (crossing_pieces j) ≡ cond (has_vertical d j) 1 0
@@ -164,7 +164,7 @@ module _ (d : Drawing) (tiled : IsTiled (layout_of d)) (i : ℕ) where
 
   -- ---- over a crossing stands what begins further left
 
-  crossing-from : (j : ℕ) → j < d.shape.1 → rule_first d i j < j → stands_over_crossing d i j ≡ true
+  pub crossing-from : (j : ℕ) → j < d.shape.1 → rule_first d i j < j → stands_over_crossing d i j ≡ true
   crossing-from j col_in behind = in_case (stands_over d i j) refl behind
     where
       in_case : (s : Bool) → stands_over d i j ≡ s → (if s then first_of (owner_at d i j) j else j) < j → stands_over_crossing d i j ≡ true

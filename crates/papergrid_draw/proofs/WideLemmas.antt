@@ -34,6 +34,12 @@ abbrev pub Begins : List Piece → Type 0
 Begins [] = Unit {0}
 Begins (piece ∷ pieces) = IsFill piece
 
+-- nothing, or what ends with a separator
+abbrev pub Ends : List Piece → Type 0
+Ends [] = Unit {0}
+Ends (piece ∷ []) = IsFill piece
+Ends (piece ∷ next ∷ pieces) = Ends (next ∷ pieces)
+
 -- after each text comes a separator
 abbrev pub AreSeparate : List Piece → Type 0
 AreSeparate [] = Unit {0}
@@ -75,6 +81,31 @@ fills-append (piece ∷ a) b first second = (first.0, fills-append a b first.1 s
 pub separate-fills : (pieces : List Piece) → AreFills pieces → AreSeparate pieces
 separate-fills [] fills = tt
 separate-fills (piece ∷ pieces) fills = (inl fills.0, separate-fills pieces fills.1)
+
+pub fills-end : (pieces : List Piece) → AreFills pieces → Ends pieces
+fills-end [] fills = tt
+fills-end (piece ∷ []) fills = fills.0
+fills-end (piece ∷ next ∷ pieces) fills = fills-end (next ∷ pieces) fills.1
+
+end-cons : (piece : Piece) (pieces : List Piece) → (pieces ≡ [] → ⊥) → Ends pieces → Ends (piece ∷ pieces)
+end-cons piece [] some ends = absurd (some refl)
+end-cons piece (next ∷ pieces) some ends = ends
+
+pub end-after : (a b : List Piece) → (b ≡ [] → ⊥) → Ends b → Ends (a ++ b)
+end-after [] b some ends = ends
+end-after (piece ∷ []) b some ends = end-cons piece b some ends
+end-after (piece ∷ next ∷ a) b some ends = end-after (next ∷ a) b some ends
+
+pub end-append : (a b : List Piece) → Ends a → Ends b → Ends (a ++ b)
+end-append [] b first second = second
+end-append (piece ∷ []) [] first second = first
+end-append (piece ∷ []) (next ∷ b) first second = second
+end-append (piece ∷ next ∷ a) b first second = end-append (next ∷ a) b first second
+
+pub separate-after : (a b : List Piece) → AreSeparate a → Ends a → AreSeparate b → AreSeparate (a ++ b)
+separate-after [] b first ends second = second
+separate-after (piece ∷ []) b first ends second = (inl ends, second)
+separate-after (piece ∷ next ∷ a) b first ends second = (first.0, separate-after (next ∷ a) b first.1 ends second)
 
 -- what stands in column c of several, of which each but the first has to begin with a separator
 pub record IsColumn (c : ℕ) (pieces : List Piece) : Type 0 where

@@ -1,9 +1,10 @@
 -- Where the texts of a drawn table are as wide as is told of them, and separators stand between.
-use Rattle.std.specs.Prelude.{◌≡◌, ◌<◌, ◌⊎◌, ℕ, All, Bool, IsUtf8, List, [], ◌∷◌, None, Option, Some, flat_map, true}
+use Rattle.std.specs.Prelude.{◌≡◌, ◌+◌, ◌<◌, ◌⊎◌, ℕ, All, Bool, IsUtf8, List, [], ◌∷◌, None, Option, Some, flat_map, true}
 use Rattle.std.specs.List.{list_all}
 use Rattle.papergrid_values.specs.Borders.{border_parts, frame_parts}
 use Rattle.papergrid_values.specs.Keys.{sides_parts}
 use Rattle.papergrid_values.specs.Lines.{horizontal_parts, vertical_parts}
+use Rattle.papergrid_values.specs.declared.direction.Direction.TheVariants.{Columns}
 use Rattle.papergrid_values.specs.declared.indent.Indent.{Indent}
 use Rattle.papergrid_values.specs.declared.position.Position.{Position}
 use Rattle.papergrid_config.specs.declared.setting.Setting.{Setting}
@@ -50,10 +51,21 @@ module _ (d : Drawing) where
         All IsSeparator (fills_of (look_of d.config p))
 
   -- before each visible cell but those of the first column stands a vertical line or a padding
-  abbrev pub AreApart : Type 0
-  AreApart =
+  abbrev pub AreApartBefore : Type 0
+  AreApartBefore =
       (p : Position) → IsVisibleCell (layout_of d) p → 0 < p.col →
       (has_vertical d p.col ≡ true) ⊎ (0 < (look_of d.config p).padding.left.size)
+
+  -- after each visible cell but those that end with the last column does
+  abbrev pub AreApartAfter : Type 0
+  AreApartAfter =
+      (p : Position) → IsVisibleCell (layout_of d) p →
+      let end = p.col + (layout_of d).grid.span Columns p in
+      end < d.shape.1 → (has_vertical d end ≡ true) ⊎ (0 < (look_of d.config p).padding.right.size)
+
+  -- one or the other
+  abbrev pub AreApart : Type 0
+  AreApart = AreApartBefore ⊎ AreApartAfter
 
 -- a part of a border is not set, or a separator
 abbrev pub part_separates : Option ℕ → Bool
