@@ -100,6 +100,7 @@ module _ {W : Type 0} (contents : W → Option (List ℕ)) (has_failed has_stall
       named (layout_errors.OutOfTable p) are is = Unsized (layout_errors.OutOfTable p) refl are
       named layout_errors.TooLarge are is = Unsized layout_errors.TooLarge refl are
       named (layout_errors.Memory e) are is = absurd is
+
       never : (e : LayoutError) → draw_error_of e ≡ draw_errors.Write → ⊥
       never (layout_errors.OutOfTable p) is = cc
       never layout_errors.TooLarge is = cc

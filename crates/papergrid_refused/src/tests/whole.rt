@@ -113,7 +113,8 @@ fn each_run(rt: HostRuntime) -> Result<(), Fail> {
 }
 
 /// The lines of the picture, drawn.
-const DRAWN: &str = "+++++++++++++++++++++++++++++++++++++++++++++++++++\n+                 +is a library+for print tables+!+\n+    Papergrid    +++++++++++++++++++++++++++++++++\n+                 +Just like this                 +\n+++++++++++++++++++++++++++++++++++++++++++++++++++\n";
+const DRAWN: &str =
+    "+++++++++++++++++++++++++++++++++++++++++++++++++++\n+                 +is a library+for print tables+!+\n+    Papergrid    +++++++++++++++++++++++++++++++++\n+                 +Just like this                 +\n+++++++++++++++++++++++++++++++++++++++++++++++++++\n";
 
 /// The buffer has room for the lines: all of them are written, or a beginning where an allocation failed.
 #[test]

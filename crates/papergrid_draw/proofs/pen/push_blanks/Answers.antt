@@ -11,9 +11,11 @@ loop-left-init c =
     (omega arith, sym (ap (λ n. string_bytes c.args.line.now ++ replicate n 32) none ∙ append-nil _))
 
 pub loop-left-preserved : goal.loop-left-preserved
-loop-left-preserved c =
-    (omega arith, added_blanks _ _ _ (c.args.count - c.loop-left.left) 64 _ c.loop-left.invariant.1
-    (c.in_ok-push_str.ensures.bytes ∙ ap (λ blanks. string_bytes c.loop-left.line ++ blanks) c.blanks-blanks.ensures) (omega arith))
+loop-left-preserved c = (
+  omega arith,
+  added_blanks _ _ _ (c.args.count - c.loop-left.left) 64 _ c.loop-left.invariant.1
+      (c.in_ok-push_str.ensures.bytes ∙ ap (λ blanks. string_bytes c.loop-left.line ++ blanks) c.blanks-blanks.ensures) (omega arith),
+)
 
 pub range-requires-clause-end_boundary : goal.range-requires-clause-end_boundary
 range-requires-clause-end_boundary c =
