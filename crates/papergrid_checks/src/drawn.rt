@@ -3,6 +3,7 @@
 ghost use Rattle.std.specs.Prelude.{◌≢◌, IfErr};
 ghost use Rattle.papergrid_draw.specs.declared.error.DrawError.TheVariants.{Write};
 
+use anyhow::Result;
 use papergrid::colors::NoColors;
 use papergrid::config::spanned::{Setting, SpannedConfig};
 use papergrid::config::{Borders, Entity, Indent, Sides};
@@ -13,17 +14,14 @@ use papergrid::{Sink, Sizing, Table, draw};
 use std::alloc::Global;
 
 /// Writes a table of texts in a frame, with a blank on both sides of each text.
-pub fn framed<W: Sink>(
-    alloc: Global,
-    texts: &VecRecords<&str>,
-    sink: &mut W,
-) -> Result<(), DrawError> {
+pub fn framed<W: Sink>(alloc: Global, texts: &VecRecords<&str>, sink: &mut W) -> Result<()> {
     let (blank, none) = (Indent::spaced(1), Indent::zero());
     let settings = vec![in alloc;
         Setting::SetBorders(Borders::filled('+')),
         Setting::SetPadding(Entity::Global, Sides::new(blank, blank, none, none)),
     ]?;
-    draw(alloc, settings, texts, Sizing::ByShares, sink)
+    draw(alloc, settings, texts, Sizing::ByShares, sink)?;
+    Ok(())
 }
 
 /// The picture of rows of texts, of so many columns, by a configuration.
@@ -32,7 +30,7 @@ pub fn picture(
     config: &SpannedConfig,
     rows: &[Vec<&str>],
     columns: usize,
-) -> Result<String, DrawError>
+) -> std::result::Result<String, DrawError>
     ensures { IfErr result (λ e. e ≢ Write) }
 {
     let records = IterRecords::new(rows, columns, Some(rows.len()));
