@@ -1,4 +1,5 @@
-//! The printer over records whose cells are texts. Source: `grid/iterable.rs`.
+//! The printer over records whose cells are texts. Source: `grid/iterable.rs`. Each call takes an allocator first, for
+//! the rows that it holds, for some numbers of each row and column and for a line.
 
 ghost use Rattle.std.specs.Prelude.{◌≡◌, ◌≢◌, ◌⊎◌, ℕ, ⊤, IfErr, IfOk, IsErrOf, List, OnErr, OnOk, false, length, string_bytes, take, true};
 ghost use Rattle.std.specs.Fmt.{WritesInCalls};

@@ -1,4 +1,5 @@
-//! The printer over records whose cells know their lines and widths. Source: `grid/peekable.rs`.
+//! The printer over records whose cells know their lines and widths. Source: `grid/peekable.rs`. Each call takes an
+//! allocator first, for some numbers of each row and column and for a line.
 
 ghost use Rattle.std.specs.Prelude.{◌≡◌, ◌≢◌, ◌⊎◌, ℕ, ⊤, IfErr, IfOk, IsErrOf, OnErr, OnOk, false, string_bytes, take, true};
 ghost use Rattle.std.specs.Fmt.{WritesInCalls};

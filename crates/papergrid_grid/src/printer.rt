@@ -32,16 +32,19 @@ where
     S::Cell: Drop,
     requires rows { HasSizes (D.has_row dimension.now) shape.0 }
     requires columns { HasSizes (D.has_column dimension.now) shape.1 }
-    ensures picture { let parts = parts_of config.now (D.width_of dimension.now) (D.height_of dimension.now) shape in
+    ensures picture { let parts = parts_of config.now (D.width_of dimension.now)
+        (D.height_of dimension.now) shape in
         OnOk result (Appends (W.contents sink.old) (W.contents sink.new)
         (printed (drawn_of S.lines S.color parts cells.now))) }
     ensures works { OnOk result (W.has_failed sink.new ≡ W.has_failed sink.old) }
     ensures moves { OnOk result (W.has_stalled sink.new ≡ W.has_stalled sink.old) }
-    ensures fault { let parts = parts_of config.now (D.width_of dimension.now) (D.height_of dimension.now) shape in
+    ensures fault { let parts = parts_of config.now (D.width_of dimension.now)
+        (D.height_of dimension.now) shape in
         IfErr result (IsGridFault parts (drawn_of S.lines S.color parts cells.now)) }
     ensures nothing { IfErr result (λ e. (e ≡ Write) ⊎ ((error : AllocError) × (e ≡ Memory error))
         ⊎ (sink.new ≡ sink.old)) }
-    ensures beginning { let parts = parts_of config.now (D.width_of dimension.now) (D.height_of dimension.now) shape in
+    ensures beginning { let parts = parts_of config.now (D.width_of dimension.now)
+        (D.height_of dimension.now) shape in
         OnErr result ((n : ℕ) × Appends (W.contents sink.old) (W.contents sink.new)
         (take n (printed (drawn_of S.lines S.color parts cells.now)))) }
     ensures write { IsErrOf result DrawError.Write → (W.has_failed sink.new ≡ true)
@@ -64,12 +67,15 @@ where
     S::Cell: Drop,
     requires rows { HasSizes (D.has_row dimension.now) shape.0 }
     requires columns { HasSizes (D.has_column dimension.now) shape.1 }
-    ensures picture { let parts = parts_of config.now (D.width_of dimension.now) (D.height_of dimension.now) shape in
+    ensures picture { let parts = parts_of config.now (D.width_of dimension.now)
+        (D.height_of dimension.now) shape in
         OnOk result (WritesInCalls F.write_str_gives writer.old
         (printed (drawn_of S.lines S.color parts cells.now)) writer.new) }
-    ensures fault { let parts = parts_of config.now (D.width_of dimension.now) (D.height_of dimension.now) shape in
+    ensures fault { let parts = parts_of config.now (D.width_of dimension.now)
+        (D.height_of dimension.now) shape in
         IfErr result (IsGridFault parts (drawn_of S.lines S.color parts cells.now)) }
-    ensures left { let parts = parts_of config.now (D.width_of dimension.now) (D.height_of dimension.now) shape in
+    ensures left { let parts = parts_of config.now (D.width_of dimension.now)
+        (D.height_of dimension.now) shape in
         IfErr result (IsLeftOff F.write_str_gives (λ _ _ _. ⊤) writer.old
         (printed (drawn_of S.lines S.color parts cells.now)) writer.new) }
 {
@@ -89,10 +95,12 @@ where
     S::Cell: Drop,
     requires rows { HasSizes (D.has_row dimension.now) shape.0 }
     requires columns { HasSizes (D.has_column dimension.now) shape.1 }
-    ensures picture { let parts = parts_of config.now (D.width_of dimension.now) (D.height_of dimension.now) shape in
+    ensures picture { let parts = parts_of config.now (D.width_of dimension.now)
+        (D.height_of dimension.now) shape in
         IfOk result (λ text. string_bytes text
         ≡ printed (drawn_of S.lines S.color parts cells.now)) }
-    ensures fault { let parts = parts_of config.now (D.width_of dimension.now) (D.height_of dimension.now) shape in
+    ensures fault { let parts = parts_of config.now (D.width_of dimension.now)
+        (D.height_of dimension.now) shape in
         IfErr result (IsGridFault parts (drawn_of S.lines S.color parts cells.now)) }
     ensures works { IfErr result (λ e. e ≢ Write) }
 {
