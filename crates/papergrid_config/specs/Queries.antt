@@ -4,6 +4,7 @@ use Rattle.papergrid_values.specs.Keys.{sides_parts}
 use Rattle.papergrid_values.specs.Parts.{none_set}
 use Rattle.papergrid_values.specs.declared.ansi_buf.ANSIBuf.{ANSIBuf}
 use Rattle.papergrid_values.specs.declared.sides.Sides.{Sides}
+use Rattle.papergrid_tables.specs.BorderParts.{HasNoCellParts}
 use Rattle.papergrid_tables.specs.StoredBorders as lines
 use Rattle.papergrid_tables.specs.Overrides as overrides
 use Rattle.papergrid_maps.specs.StoredColors.{IsBlank}
@@ -33,3 +34,13 @@ module _ (config : SpannedConfig) where
   HasFormatting =
       HasNothing config.trim_horizontal
       × (HasNothing config.trim_vertical × HasNothing config.line_alignment) → ⊥
+
+  -- no edge, corner or colour of a line is stored, and no character or colour at an offset: what stands on a line is
+  -- that of the whole line
+  pub record HasCommonLines : Type 0 where
+    pub characters : HasNoCellParts (lines.parts_of_borders config.characters)
+    pub colors : lines.HasBorderHistory [] config.colors
+    pub horizontal_chars : overrides.HasOverrideHistory [] config.horizontal_chars
+    pub vertical_chars : overrides.HasOverrideHistory [] config.vertical_chars
+    pub horizontal_colors : overrides.HasOverrideHistory [] config.horizontal_colors
+    pub vertical_colors : overrides.HasOverrideHistory [] config.vertical_colors

@@ -4,7 +4,7 @@ ghost use Rattle.std.specs.Prelude.{◌≡◌, ◌↔◌, IsTrue, not};
 ghost use Rattle.papergrid_values.specs.Keys.{sides_parts};
 ghost use Rattle.papergrid_values.specs.Parts.{none_set};
 ghost use Rattle.papergrid_maps.specs.StoredMap.{HasNothing};
-ghost use Rattle.papergrid_config.specs.Queries.{HasBorderColors, HasFormatting, HasJustification, HasOffsetChars, HasSetSide};
+ghost use Rattle.papergrid_config.specs.Queries.{HasBorderColors, HasCommonLines, HasFormatting, HasJustification, HasOffsetChars, HasSetSide};
 
 use crate::spanned::SpannedConfig;
 use papergrid_values::{ANSIBuf, Sides};
@@ -24,6 +24,22 @@ impl SpannedConfig {
         let horizontal = self.horizontal_chars.is_empty();
         let vertical = self.vertical_chars.is_empty();
         !(horizontal && vertical)
+    }
+
+    /// Whether what stands on a line is that of the whole line: no edge or corner of a cell, no colour of a line, and no
+    /// character or colour at an offset is set.
+    pub fn has_common_lines(&self) -> bool
+        ensures { IsTrue result ↔ HasCommonLines self.now }
+    {
+        let characters = !self.characters.has_cell_parts();
+        let colors = self.colors.is_empty();
+        let horizontal_chars = self.horizontal_chars.is_empty();
+        let vertical_chars = self.vertical_chars.is_empty();
+        let horizontal_colors = self.horizontal_colors.is_empty();
+        let vertical_colors = self.vertical_colors.is_empty();
+        let chars = horizontal_chars & vertical_chars;
+        let offsets = chars & (horizontal_colors & vertical_colors);
+        characters & (colors & offsets)
     }
 
     /// Whether a justification or its colour is set for a column, a row or a cell, or the colour

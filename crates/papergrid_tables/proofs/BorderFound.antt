@@ -1,6 +1,6 @@
 -- What is found in a border table, and which lines it has, by the entries of its maps.
 use Rattle.std.proofs.Common.{◌≡◌, ℕ, Bor, Bool, true, false, ◌&&◌, List, [], length, eqb, Option, Some, None, refl, sym, ap, ◌∙◌, inl, inr, ⊎_elim}
-use Rattle.std.specs.Prelude.{◌||◌, ◌⊎◌, ◌↔◌, IsTrue, IsSome, is_some, is_none, not}
+use Rattle.std.specs.Prelude.{◌||◌, ◌⊎◌, ◌↔◌, IsFalse, IsTrue, IsSome, is_some, is_none, not}
 use Rattle.std.specs.Option.{option_or, option_copied}
 use Rattle.std.specs.List.{list_any, IsDistinct}
 use Rattle.std.specs.Cmp.{nat_eq_equiv}
@@ -14,10 +14,10 @@ use Rattle.papergrid_values.specs.declared.position.Position.{Position}
 use Rattle.papergrid_values.specs.declared.borders.Borders.{Borders}
 use Rattle.papergrid_values.specs.declared.horizontal_line.HorizontalLine.{HorizontalLine}
 use Rattle.papergrid_values.specs.declared.vertical_line.VerticalLine.{VerticalLine}
-use Rattle.papergrid_tables.specs.StoredBorders.{HasBorderHistory}
+use Rattle.papergrid_tables.specs.StoredBorders.{HasBorderHistory, parts_of_borders}
 use Rattle.papergrid_tables.specs.BorderScan.{has_end}
 use Rattle.papergrid_values.specs.MapKeys.{position_eq}
-use Rattle.papergrid_tables.specs.BorderParts.{HasEnd, BorderParts}
+use Rattle.papergrid_tables.specs.BorderParts.{HasEnd, HasNoCellParts, BorderParts}
 use Rattle.papergrid_values.proofs.AnyLemmas.{any_found, any_from_found}
 use Rattle.papergrid_tables.proofs.BorderHistory.{table_of}
 use Rattle.papergrid_values.proofs.KeyLemmas.{get_at_number, get_at_position, position_equiv}
@@ -164,4 +164,28 @@ bare {T} g f hl vl he ve ks a b c d e h k global frame horizontal_lines vertical
       (and_from _ _ (horizontal_edges.1 (no_entries position_eq position_equiv he (λ p. sym (get_at_position he p) ∙ ap (λ (s : BorderParts T). s.horizontal_edge p) none)))
       (and_from _ _ (vertical_edges.1 (no_entries position_eq position_equiv ve (λ p. sym (get_at_position ve p) ∙ ap (λ (s : BorderParts T). s.vertical_edge p) none)))
       (corners.1 (no_entries position_eq position_equiv ks (λ p. sym (get_at_position ks p) ∙ ap (λ (s : BorderParts T). s.corner p) none)))))))),
+)
+
+-- ---- a table without edges and corners of cells
+
+turned : (b : Bool) → IsFalse (not b) → IsTrue b
+turned true h = refl
+turned false h = absurd (false≢true (sym h))
+
+pub without_cells : {T : Type 0} (g : Option T) (f : Borders T) (hl : List (ℕ × HorizontalLine T)) (vl : List (ℕ × VerticalLine T)) (he ve ks : List (Position × T)) (e h k : Bool)
+    → (IsTrue e ↔ (length he ≡ 0)) → (IsTrue h ↔ (length ve ≡ 0)) → (IsTrue k ↔ (length ks ≡ 0))
+    → IsFalse (not (e && (h && k))) ↔ HasNoCellParts (parts_of_borders (table_of g f hl vl he ve ks))
+without_cells {T} g f hl vl he ve ks e h k horizontal_edges vertical_edges corners = (
+  (λ none.
+      let one = and_parts e _ (turned (e && (h && k)) none) in
+      let two = and_parts h k one.1 in
+      record {
+        horizontal_edges = λ p. get_at_position he p ∙ none_of_nothing position_eq he (horizontal_edges.0 one.0) p;
+        vertical_edges = λ p. get_at_position ve p ∙ none_of_nothing position_eq ve (vertical_edges.0 two.0) p;
+        corners = λ p. get_at_position ks p ∙ none_of_nothing position_eq ks (corners.0 two.1) p;
+      }),
+  (λ none. ap not
+      (and_from _ _ (horizontal_edges.1 (no_entries position_eq position_equiv he (λ p. sym (get_at_position he p) ∙ none.horizontal_edges p)))
+      (and_from _ _ (vertical_edges.1 (no_entries position_eq position_equiv ve (λ p. sym (get_at_position ve p) ∙ none.vertical_edges p)))
+      (corners.1 (no_entries position_eq position_equiv ks (λ p. sym (get_at_position ks p) ∙ none.corners p)))))),
 )

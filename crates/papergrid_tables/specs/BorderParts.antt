@@ -73,6 +73,12 @@ module _ {T : Type 0} where
   parts_from [] = no_parts
   parts_from (call ∷ older) = parts_after_call call (parts_from older)
 
+  -- no edge and no corner of a cell is set
+  pub record HasNoCellParts (places : BorderParts T) : Type 0 where
+    pub horizontal_edges : (p : Position) → places.horizontal_edge p ≡ None
+    pub vertical_edges : (p : Position) → places.vertical_edge p ≡ None
+    pub corners : (p : Position) → places.corner p ≡ None
+
   -- ---- what is found: the first that is set
 
   -- of the frame, at column c and at row r of count

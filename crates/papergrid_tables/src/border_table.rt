@@ -1,6 +1,6 @@
 //! Values for the edges, corners and lines of a table. Source: `config/spanned/borders_config.rs`.
 
-ghost use Rattle.std.specs.Prelude.{◌≡◌, ◌∷◌, [], ◌+◌, ◌<◌, ◌^◌, ◌↔◌, ◌++◌, List, ℕ, OnOk, OnErr, IfOk, IsTrue, nat_eq, option_copied};
+ghost use Rattle.std.specs.Prelude.{◌≡◌, ◌∷◌, [], ◌+◌, ◌<◌, ◌^◌, ◌↔◌, ◌++◌, List, ℕ, OnOk, OnErr, IfOk, IsFalse, IsTrue, nat_eq, option_copied};
 ghost use Rattle.std.specs.HashMap.{get as map_get};
 ghost use Rattle.std.specs.Option.{option_or};
 ghost use Rattle.std.specs.FinMap.{get as value_at};
@@ -11,7 +11,7 @@ ghost use Rattle.papergrid_tables.specs.BorderCalls.{BorderCall, Clear, InsertBo
 ghost use Rattle.papergrid_tables.specs.StoredBorders.{HasBorderHistory, parts_of_borders};
 ghost use Rattle.papergrid_values.specs.MapKeys.{position_eq};
 ghost use Rattle.papergrid_tables.specs.LineTests.{horizontal_line_at, vertical_line_at};
-ghost use Rattle.papergrid_tables.specs.BorderParts.{HasHorizontal, HasVertical, IsSet, found_border, found_horizontal, found_intersection, found_vertical};
+ghost use Rattle.papergrid_tables.specs.BorderParts.{HasHorizontal, HasNoCellParts, HasVertical, IsSet, found_border, found_horizontal, found_intersection, found_vertical};
 
 use crate::border_parts as parts;
 use crate::counted_lines::Lines;
@@ -93,6 +93,16 @@ impl<T> BorderTable<T> {
         let lines = horizontal_lines & vertical_lines;
         let edges = horizontal_edges & (vertical_edges & corners);
         global & (frame & (lines & edges))
+    }
+
+    /// Whether an edge or a corner of a cell is stored.
+    pub fn has_cell_parts(&self) -> bool
+        ensures { IsFalse result ↔ HasNoCellParts (parts_of_borders self.now) }
+    {
+        let horizontal_edges = self.horizontal_edges.values.is_empty();
+        let vertical_edges = self.vertical_edges.values.is_empty();
+        let corners = self.corners.values.is_empty();
+        !(horizontal_edges & (vertical_edges & corners))
     }
 
     /// The vertical line at a row and a column, where there are so many columns: the edge, the
