@@ -8,9 +8,9 @@ use Rattle.papergrid_values.specs.declared.alignment.AlignmentVertical.{Alignmen
 use Rattle.papergrid_values.specs.declared.alignment.AlignmentVertical.TheVariants as vertical
 use Rattle.papergrid_draw.specs.Bytes.{colored, piece_bytes, pieces_bytes}
 use Rattle.papergrid_draw.specs.Contents as contents
-use Rattle.papergrid_draw.specs.Contents.{HasRoom, above, before, block_width, content, free_above, from_text, inner, is_blank, line_pieces, shown, shown_line, shown_lines}
+use Rattle.papergrid_draw.specs.Contents.{HasRoom, above, aligned_width, before, block_width, content, free_above, from_text, inner, is_blank, line_pieces, shown, shown_line, shown_lines}
 use Rattle.papergrid_draw.specs.Pieces.{CellText, Justification, Padding, Piece, fill}
-use Rattle.papergrid_draw.specs.ForProofs.Blocks.{IsFound, IsShownRange, to_text}
+use Rattle.papergrid_draw.specs.ForProofs.Blocks.{IsFound, IsShownRange, filled_up, to_text}
 use Rattle.papergrid_draw.specs.ForProofs.Pens.{fill_bytes}
 use Rattle.papergrid_draw.proofs.PenLemmas.{fill_is, pieces-append}
 
@@ -263,8 +263,63 @@ module _ (b : contents.Block) (line : Line) where
       ++ (fill_is Justification b.look.justification (inner b - (before b line + line.1)) b.look.justification_color i
       ++ fill_is Padding b.look.padding.right.fill b.look.padding.right.size b.look.padding_color.right i))))
 
-  -- what is added to a line, one after another
-  pub added_line : (old l₁ l₂ l₃ l₄ new : List ℕ) → l₁ ≡ old ++ left_bytes → l₂ ≡ l₁ ++ before_bytes → l₃ ≡ l₂ ++ colored b.color line.0 → l₄ ≡ l₃ ++ after_bytes → new ≡ l₄ ++ right_bytes → new ≡ old ++ pieces_bytes (line_pieces b line)
-  added_line old l₁ l₂ l₃ l₄ new one two three four five =
-      added_five old l₁ l₂ l₃ l₄ new left_bytes before_bytes (colored b.color line.0) after_bytes right_bytes one two three four five
-      ∙ ap (λ text. old ++ text) (sym line_bytes_are)
+-- ---- a line of a text between its paddings
+
+filled_as : (l a t c d : List ℕ) → l ++ (a ++ (t ++ (c ++ d))) ≡ (((l ++ a) ++ t) ++ c) ++ d
+filled_as l a t c d = simp append_assoc
+
+-- what is added to a line, one after another
+pub added_filled : (l l₁ l₂ l₃ l₄ l₅ a b t c d : List ℕ) → l₁ ≡ l ++ a → l₂ ≡ l₁ ++ b → l₃ ≡ l₂ ++ t → l₄ ≡ l₃ ++ c → l₅ ≡ l₄ ++ d →
+    l₅ ≡ l ++ (a ++ b ++ t ++ c ++ d)
+added_filled l l₁ l₂ l₃ l₄ l₅ a b t c d one two three four five =
+    added_five l l₁ l₂ l₃ l₄ l₅ a b t c d one two three four five ∙ ap (λ text. l ++ text) (filled_as a b t c d)
+
+-- a line of a cell is one
+pub line-filled : (b : contents.Block) (line : Line) →
+    filled_up b.look b.color line.0 (before b line, inner b - (before b line + line.1)) ≡ pieces_bytes (line_pieces b line)
+line-filled b line =
+    sym (line_bytes_are b line ∙ filled_as (left_bytes b line) (before_bytes b line) (colored b.color line.0) (after_bytes b line) (right_bytes b line))
+
+-- ---- the only line of a cell in a place of one line
+
+widest-only : (trims : Bool) (lines : List Line) → length lines ≡ 1 → block_width trims lines ≡ (shown_line trims (get_or lines 0 ([], 0))).1
+widest-only trims [] one = absurd (omega (arith, one))
+widest-only trims (line ∷ []) one = omega arith
+widest-only trims (line ∷ other ∷ lines) one = absurd (omega (arith, one))
+
+-- it as it is shown
+abbrev pub only_line : contents.Block → Line
+only_line b = shown_line b.look.formatting.horizontal_trim (get_or b.lines 0 ([], 0))
+
+module _ (b : contents.Block) (single : length b.lines ≡ 1) where
+  -- it is aligned by its own width
+  pub aligned-only : aligned_width b (only_line b) ≡ (only_line b).1
+  aligned-only =
+      elim b.look.formatting.allow_lines_alignment as (λ own. (if own then (only_line b).1 else block_width b.look.formatting.horizontal_trim b.lines) ≡ (only_line b).1) [
+        | true ↦ refl
+        | false ↦ widest-only b.look.formatting.horizontal_trim b.lines single
+      ]
+
+  module _ (top : b.look.padding.top.size ≡ 0) (all : b.look.formatting.vertical_trim ≡ false) (low : b.height ≡ 1) where
+    shown-only : shown b ≡ b.lines
+    shown-only = ap (λ trims. shown_lines trims b.lines) all
+
+    many-only : length (shown b) ≡ 1
+    many-only = ap length shown-only ∙ single
+
+    above-only : above b ≡ 0
+    above-only =
+        let few = free_above-le b.look.vertical (b.height - (b.look.padding.top.size + length (shown b))) in
+        let many = many-only in
+        omega (arith, few, many, top, low)
+
+    -- and stands in the place
+    pub content-only : pieces_bytes (line_pieces b (only_line b)) ≡ pieces_bytes (content b 0)
+    content-only =
+        let many = many-only in
+        let none = above-only in
+        sym (second_of (nat_lt 0 (above b)) (nat_lt 0 (above b + length (shown b))) (fill Padding b.look.padding.top.fill b.width b.look.padding_color.top)
+        (line_pieces b (shown_line b.look.formatting.horizontal_trim (get_or (shown b) (0 - above b) ([], 0))))
+        (fill Padding b.look.padding.bottom.fill b.width b.look.padding_color.bottom)
+        (le-ltb 0 (above b) (omega (arith, none))) (lt-ltb 0 (above b + length (shown b)) (omega (arith, many)))
+        ∙ (λ i. pieces_bytes (line_pieces b (shown_line b.look.formatting.horizontal_trim (get_or (shown-only i) (0 - none i) ([], 0))))))

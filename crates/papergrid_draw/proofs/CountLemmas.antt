@@ -32,7 +32,7 @@ drawn-count d =
     let all : length (drawn_lines d) ≡ text_start d n = omega arith in
     all
 
-length-margined : (d : Drawing) → length (margined d 0 (drawn_lines d)) ≡ total_along (layout_of d) Rows
+pub length-margined : (d : Drawing) → length (margined d 0 (drawn_lines d)) ≡ total_along (layout_of d) Rows
 length-margined d =
     length-map (enumerate_from 0 (map line_bytes (drawn_lines d))) _
     ∙ length-enumerate_from 0 (map line_bytes (drawn_lines d)) ∙ length-map (drawn_lines d) line_bytes ∙ drawn-count d

@@ -22,12 +22,12 @@ use Rattle.papergrid_draw.proofs.RangeLemmas.{cut-at}
 
 -- ---- elements by their numbers
 
-get-left : {X : Type 0} (xs ys : List X) (k : ℕ) (x : X) → slice_get xs k ≡ Some x → slice_get (xs ++ ys) k ≡ Some x
+pub get-left : {X : Type 0} (xs ys : List X) (k : ℕ) (x : X) → slice_get xs k ≡ Some x → slice_get (xs ++ ys) k ≡ Some x
 get-left [] ys k x is = absurd (none-some x is)
 get-left (y ∷ xs) ys zero x is = is
 get-left (y ∷ xs) ys (suc k) x is = get-left xs ys k x is
 
-get-right : {X : Type 0} (xs ys : List X) (k n : ℕ) → k ≡ length xs + n → slice_get (xs ++ ys) k ≡ slice_get ys n
+pub get-right : {X : Type 0} (xs ys : List X) (k n : ℕ) → k ≡ length xs + n → slice_get (xs ++ ys) k ≡ slice_get ys n
 get-right [] ys k n at = ap (slice_get ys) (let e : k ≡ n = omega arith in e)
 get-right (x ∷ xs) ys zero n at = absurd (omega arith)
 get-right (x ∷ xs) ys (suc k) n at = get-right xs ys k n (omega arith)
@@ -91,28 +91,32 @@ module _ (d : Drawing) where
         ∙ ap (λ lines. slice_get lines 0) (rule-there i line)
   ]
 
-  -- ---- how wide each is
+  -- ---- what is so of all lines
 
-  module _ (tiled : IsTiled (layout_of d)) (room : AllHaveRoom d) where
-    abbrev IsWide : DrawnLine → Type 0
-    IsWide line = columns_of (pieces_of line) ≡ total_along (layout_of d) Columns
-
-    wide-rule : (i : ℕ) → All IsWide (rule_lines d i)
-    wide-rule i = in_case (has_horizontal d i)
+  module _ (P : DrawnLine → Type 0) (text : (r k : ℕ) → r < d.shape.0 → P (TextLine (text_line d r k))) (rule : (i : ℕ) → P (RuleLine (rule_line d i))) where
+    of-rules : (i : ℕ) → All P (rule_lines d i)
+    of-rules i = in_case (has_horizontal d i)
       where
-        in_case : (line : Bool) → All IsWide (if line then RuleLine (rule_line d i) ∷ [] else [])
-        in_case true = All-cons IsWide (RuleLine (rule_line d i)) [] (columns-rule_line d tiled i room) (All-nil IsWide)
-        in_case false = All-nil IsWide
+        in_case : (line : Bool) → All P (if line then RuleLine (rule_line d i) ∷ [] else [])
+        in_case true = All-cons P (RuleLine (rule_line d i)) [] (rule i) (All-nil P)
+        in_case false = All-nil P
 
-    wide-row : (r : ℕ) → r < d.shape.0 → All IsWide (row_lines d r)
-    wide-row r row_in =
-        All-append IsWide (rule_lines d r) (map (λ k. TextLine (text_line d r k)) (range_with_len 0 (d.heights r))) (wide-rule r)
-        (All-mapped IsWide (λ k. TextLine (text_line d r k)) 0 (d.heights r) (λ k below. columns-text_line d tiled room r k row_in))
+    of-row : (r : ℕ) → r < d.shape.0 → All P (row_lines d r)
+    of-row r row_in =
+        All-append P (rule_lines d r) (map (λ k. TextLine (text_line d r k)) (range_with_len 0 (d.heights r))) (of-rules r)
+        (All-mapped P (λ k. TextLine (text_line d r k)) 0 (d.heights r) (λ k below. text r k row_in))
 
-    pub all-wide : All (λ line. columns_of (pieces_of line) ≡ total_along (layout_of d) Columns) (drawn_lines d)
-    all-wide =
-        All-append IsWide (flat_map (row_lines d) (range_with_len 0 d.shape.0)) (rule_lines d d.shape.0)
-        (All-joined IsWide (row_lines d) 0 d.shape.0 (λ r below. wide-row r (omega (arith, below)))) (wide-rule d.shape.0)
+    -- what is so of each line of a row, and of each horizontal line
+    pub All-drawn : All P (drawn_lines d)
+    All-drawn =
+        All-append P (flat_map (row_lines d) (range_with_len 0 d.shape.0)) (rule_lines d d.shape.0)
+        (All-joined P (row_lines d) 0 d.shape.0 (λ r below. of-row r (omega (arith, below)))) (of-rules d.shape.0)
+
+  -- each is as wide as the table
+  pub all-wide : IsTiled (layout_of d) → AllHaveRoom d → All (λ line. columns_of (pieces_of line) ≡ total_along (layout_of d) Columns) (drawn_lines d)
+  all-wide tiled room =
+      All-drawn (λ line. columns_of (pieces_of line) ≡ total_along (layout_of d) Columns)
+      (λ r k row_in. columns-text_line d tiled room r k row_in) (λ i. columns-rule_line d tiled i room)
 
 -- ---- what stands in a range of rows
 

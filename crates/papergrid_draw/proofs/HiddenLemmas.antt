@@ -24,6 +24,22 @@ flat_map-within f g a (suc n) same =
     ap₂ (λ xs ys. xs ++ ys) (same a (omega arith) (omega arith))
     (flat_map-within f g (a + 1) n (λ k from below. same k (omega arith) (omega arith)))
 
+-- an owner of a position of the table is a visible cell
+pub owner-visible : (d : Drawing) (r c : ℕ) (o : Position) → r < d.shape.0 → c < d.shape.1 → owner_at d r c ≡ Some o → IsVisibleCell (layout_of d) o
+owner-visible d r c o row_in col_in is =
+    let behind = owner-behind (layout_of d) (position_of (r, c)) o is in record {
+      visible = owner-shown (layout_of d) (position_of (r, c)) o is;
+      row_in = omega (arith, behind.0, row_in);
+      col_in = omega (arith, behind.1, col_in);
+    }
+
+-- what one cell stands over is no line after the last row
+pub over-within : (d : Drawing) (i c : ℕ) → stands_over d i c ≡ true → i < d.shape.0
+over-within d i c over =
+    let inner = and_parts (nat_lt 0 i) _ over in
+    let within = and_parts (nat_lt i d.shape.0) _ inner.1 in
+    ltb-true i d.shape.0 within.0
+
 -- a drawing, and other texts and colours that are the same in each visible cell
 module _ (d : Drawing) (lines : Position → List (List ℕ × ℕ)) (color : Position → Option (List ℕ × List ℕ))
     (same : (p : Position) → IsVisibleCell (layout_of d) p → (d.lines p ≡ lines p) × (d.color p ≡ color p)) where
@@ -39,15 +55,6 @@ module _ (d : Drawing) (lines : Position → List (List ℕ × ℕ)) (color : Po
     height = length_along (layout_of d) Rows p;
   }
 
-  -- an owner of a position of the table is a visible cell
-  owner-visible : (r c : ℕ) (o : Position) → r < d.shape.0 → c < d.shape.1 → owner_at d r c ≡ Some o → IsVisibleCell (layout_of d) o
-  owner-visible r c o row_in col_in is =
-      let behind = owner-behind (layout_of d) (position_of (r, c)) o is in record {
-        visible = owner-shown (layout_of d) (position_of (r, c)) o is;
-        row_in = omega (arith, behind.0, row_in);
-        col_in = omega (arith, behind.1, col_in);
-      }
-
   same-content : (r c y : ℕ) → r < d.shape.0 → c < d.shape.1 →
       content_from d (owner_at d r c) c y ≡ content_from other (owner_at d r c) c y
   same-content r c y row_in col_in =
@@ -55,7 +62,7 @@ module _ (d : Drawing) (lines : Position → List (List ℕ × ℕ)) (color : Po
         | None ↦ λ is. refl
         | Some o ↦ λ is.
             ap (λ b. if o.col == c then Some (content b (y - begin_along (layout_of d) Rows o)) else None)
-            (same-block o (owner-visible r c o row_in col_in is))
+            (same-block o (owner-visible d r c o row_in col_in is))
       ] refl
 
   -- ---- lines of rows
@@ -73,12 +80,6 @@ module _ (d : Drawing) (lines : Position → List (List ℕ × ℕ)) (color : Po
 
   -- ---- horizontal lines
 
-  over-within : (i c : ℕ) → stands_over d i c ≡ true → i < d.shape.0
-  over-within i c over =
-      let inner = and_parts (nat_lt 0 i) _ over in
-      let within = and_parts (nat_lt i d.shape.0) _ inner.1 in
-      ltb-true i d.shape.0 within.0
-
   abbrev line_at : ℕ → ℕ
   line_at i = line_offset (track_size (layout_of d) Rows) (track_line (layout_of d) Rows) i
 
@@ -88,7 +89,7 @@ module _ (d : Drawing) (lines : Position → List (List ℕ × ℕ)) (color : Po
       elim (stands_over d i c) as (λ b. stands_over d i c ≡ b →
       (if b then over_line d (content_from d (owner_at d i c) c (line_at i)) else rest)
       ≡ (if b then over_line other (content_from other (owner_at d i c) c (line_at i)) else rest)) [
-        | true ↦ λ over. ap (over_line d) (same-content i c (line_at i) (over-within i c over) col_in)
+        | true ↦ λ over. ap (over_line d) (same-content i c (line_at i) (over-within d i c over) col_in)
         | false ↦ λ over. refl
       ] refl
 

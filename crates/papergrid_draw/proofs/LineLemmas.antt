@@ -31,7 +31,7 @@ added-two : (before between after a b : List ℕ) → between ≡ before ++ a �
 added-two before between after a b one two = two ∙ ap (λ line. line ++ b) one ∙ append_assoc before a b
 
 -- the pieces of two lists more
-added-pieces : (before between after : List ℕ) (a b : List Piece) → between ≡ before ++ pieces_bytes a → after ≡ between ++ pieces_bytes b →
+pub added-pieces : (before between after : List ℕ) (a b : List Piece) → between ≡ before ++ pieces_bytes a → after ≡ between ++ pieces_bytes b →
     after ≡ before ++ pieces_bytes (a ++ b)
 added-pieces before between after a b one two =
     added-two before between after (pieces_bytes a) (pieces_bytes b) one two ∙ ap (λ bytes. before ++ bytes) (sym (pieces-append a b))

@@ -37,7 +37,7 @@ flat_map-twice : {A B C : Type 0} (g : B → List C) (f : A → List B) (xs : Li
 flat_map-twice g f [] = refl
 flat_map-twice g f (x ∷ xs) = flat_map-append g (f x) (flat_map f xs) ∙ ap (λ more. flat_map g (f x) ++ more) (flat_map-twice g f xs)
 
-pieces-on_line : (marks : List Mark) → flat_map stretch_pieces (map OnLine marks) ≡ map (λ (mark : Mark). mark.piece) marks
+pub pieces-on_line : (marks : List Mark) → flat_map stretch_pieces (map OnLine marks) ≡ map (λ (mark : Mark). mark.piece) marks
 pieces-on_line [] = refl
 pieces-on_line (mark ∷ marks) = ap (λ more. mark.piece ∷ more) (pieces-on_line marks)
 

@@ -1,7 +1,8 @@
 -- The bytes of characters that are added one by one, and of the pieces that they fill.
-use Rattle.std.proofs.Common.{◌≡◌, ◌≤◌, ◌-◌, ℕ, ◌+◌, arith, take, List, [], ◌∷◌, ◌++◌, Bool, true, false, Option, replicate, zero, suc, refl, ap, sym, ◌∙◌, append_assoc}
+use Rattle.std.proofs.Common.{Result, Ok, Err, OnOk, ◌≡◌, ◌≤◌, ◌-◌, ℕ, ◌+◌, arith, take, List, [], ◌∷◌, ◌++◌, Bool, true, false, Option, replicate, zero, suc, refl, ap, sym, ◌∙◌, append_assoc}
 use Rattle.std.specs.Prelude.{◌==◌, if◌then◌else◌, encode_utf8, encode_utf8_all}
 use Rattle.std.specs.List.{slice_range}
+use Rattle.std.specs.Result.{is_ok}
 use Rattle.std.specs.Str.{IsAscii}
 use Rattle.std.proofs.lemmas.List.{append-nil, replicate-append-replicate, take-replicate}
 use Rattle.std.proofs.lemmas.List.Concat.{flat_map-append}
@@ -68,3 +69,8 @@ fill_is kind character n color =
 -- the bytes of pieces one after another
 pub pieces-append : (a b : List Piece) → pieces_bytes (a ++ b) ≡ pieces_bytes a ++ pieces_bytes b
 pieces-append a b = flat_map-append piece_bytes a b
+
+-- what was added, if it was
+pub on_ok_added : {A E : Type 0} (r : Result A E) (old more new : List ℕ) → new ≡ (if is_ok r then old ++ more else old) → OnOk r (new ≡ old ++ more)
+on_ok_added (Ok x) old more new is = is
+on_ok_added (Err e) old more new is = tt

@@ -112,3 +112,18 @@ module _ {W : Type 0} (contents : W → Option (List ℕ)) (has_failed has_stall
   pub sink-ended : {A : Type 0} (a b : W) (bytes : List ℕ) (r : Result A DrawError) → IfErr r (IsLeftOff took broke a bytes b) → IsErrOf r Write →
       HasEnded contents has_failed has_stalled a b
   sink-ended {A = A} a b bytes r p is = ended-broken a b bytes (subst (λ (s : Result A DrawError). IfErr s (IsLeftOff took broke a bytes b)) is p)
+
+  -- but for a write that failed, it failed and stalled no more than before
+  steady-left : (a b : W) (bytes : List ℕ) (error : DrawError) → IsLeftOff took broke a bytes b error →
+      (error ≡ Write) ⊎ ((has_failed b ≡ has_failed a) × (has_stalled b ≡ has_stalled a))
+  steady-left a b bytes (Memory e) p = let all = taken-calls a p.taken b p.calls in inr (all.works, all.moves)
+  steady-left a b bytes Write p = inl refl
+  steady-left a b bytes (OutOfTable q) p = inr (ap has_failed p, ap has_stalled p)
+  steady-left a b bytes (NotTiled q) p = inr (ap has_failed p, ap has_stalled p)
+  steady-left a b bytes (NoRoom q) p = inr (ap has_failed p, ap has_stalled p)
+  steady-left a b bytes TooLarge p = inr (ap has_failed p, ap has_stalled p)
+
+  pub sink-steady : {A : Type 0} (a b : W) (bytes : List ℕ) (r : Result A DrawError) → IfErr r (IsLeftOff took broke a bytes b) →
+      IfErr r (λ e. (e ≡ Write) ⊎ ((has_failed b ≡ has_failed a) × (has_stalled b ≡ has_stalled a)))
+  sink-steady a b bytes (Ok x) p = tt
+  sink-steady a b bytes (Err e) p = steady-left a b bytes e p

@@ -1,20 +1,19 @@
 -- The text of each line of a drawn table is as wide as the table.
-use Rattle.std.proofs.Common.{◌≡◌, ◌∙◌, inl, inr, ℕ, ◌<◌, Bool, true, false, [], ◌∷◌, get_or, map, arith}
-use Rattle.std.specs.Prelude.{All, if◌then◌else◌}
-use Rattle.std.specs.List.{flat_map, range_with_len}
-use Rattle.std.proofs.lemmas.List.Elements.{All-append, All-cons, All-nil}
+use Rattle.std.proofs.Common.{◌≡◌, ◌∙◌, inl, inr, ℕ, ◌<◌, get_or}
+use Rattle.std.specs.Prelude.{All}
+use Rattle.std.specs.List.{flat_map}
 use Rattle.papergrid_values.specs.declared.direction.Direction.TheVariants.{Columns}
 use Rattle.papergrid_text.specs.Text.{width_of}
 use Rattle.papergrid_layout.specs.Places.{total_along}
 use Rattle.papergrid_draw.specs.Drawings.{Drawing, layout_of}
-use Rattle.papergrid_draw.specs.Drawn.{DrawnLine, RuleLine, TextLine, drawn_lines, has_horizontal, row_lines, rule_line, rule_lines, text_line}
+use Rattle.papergrid_draw.specs.Drawn.{DrawnLine, drawn_lines, rule_line, text_line}
 use Rattle.papergrid_draw.specs.Faults.{AllHaveRoom}
 use Rattle.papergrid_draw.specs.Laws.{pieces_of, stretch_pieces}
 use Rattle.papergrid_draw.specs.Separated.{AreApart, HasSeparators, IsHonest, text_of}
 use Rattle.papergrid_draw.specs.Tiles.{IsTiled}
 use Rattle.papergrid_draw.proofs.AfterLemmas.{rule-after, text-after}
 use Rattle.papergrid_draw.proofs.BeforeLemmas.{rule-separate, text-separate}
-use Rattle.papergrid_draw.proofs.DrawnLemmas.{All-joined, All-mapped, all-wide}
+use Rattle.papergrid_draw.proofs.DrawnLemmas.{All-drawn, all-wide}
 use Rattle.papergrid_draw.proofs.WideLemmas.{AreSeparate, width-pieces}
 
 module _ (d : Drawing) (tiled : IsTiled (layout_of d)) (honest : IsHonest d) (separated : HasSeparators d) (apart : AreApart d) where
@@ -33,22 +32,8 @@ module _ (d : Drawing) (tiled : IsTiled (layout_of d)) (honest : IsHonest d) (se
   abbrev IsApart : DrawnLine → Type 0
   IsApart line = AreSeparate (pieces_of line)
 
-  apart-rule : (i : ℕ) → All IsApart (rule_lines d i)
-  apart-rule i = in_case (has_horizontal d i)
-    where
-      in_case : (line : Bool) → All IsApart (if line then RuleLine (rule_line d i) ∷ [] else [])
-      in_case true = All-cons IsApart (RuleLine (rule_line d i)) [] (line-apart i) (All-nil IsApart)
-      in_case false = All-nil IsApart
-
-  apart-row : (r : ℕ) → r < d.shape.0 → All IsApart (row_lines d r)
-  apart-row r row_in =
-      All-append IsApart (rule_lines d r) (map (λ k. TextLine (text_line d r k)) (range_with_len 0 (d.heights r))) (apart-rule r)
-      (All-mapped IsApart (λ k. TextLine (text_line d r k)) 0 (d.heights r) (λ k below. text-apart r k row_in))
-
   all-apart : All IsApart (drawn_lines d)
-  all-apart =
-      All-append IsApart (flat_map (row_lines d) (range_with_len 0 d.shape.0)) (rule_lines d d.shape.0)
-      (All-joined IsApart (row_lines d) 0 d.shape.0 (λ r below. apart-row r (omega (arith, below)))) (apart-rule d.shape.0)
+  all-apart = All-drawn d IsApart text-apart line-apart
 
   -- each takes the columns that its pieces tell
   pub lines-wide : AllHaveRoom d → All (λ line. width_of (text_of (pieces_of line)) ≡ total_along (layout_of d) Columns) (drawn_lines d)

@@ -1,8 +1,10 @@
 -- What only proofs and contracts of private functions speak of.
+pub mod Apart
 pub mod Blocks
 pub mod Looks
 pub mod Pages
 pub mod Pens
+pub mod Plain
 pub mod Ranges
 pub mod Sheets
 pub mod Sinks

@@ -1,6 +1,7 @@
 -- Definitions: the drawn table.
 pub mod Bytes
 pub mod Characters
+pub mod Colored
 pub mod Contents
 pub mod Deliveries
 pub mod Drawings
@@ -12,5 +13,6 @@ pub mod Laws
 pub mod Margins
 pub mod Pieces
 pub mod Separated
+pub mod Sources
 pub mod Tiles
 pub mod Transfer

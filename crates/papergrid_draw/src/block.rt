@@ -1,10 +1,10 @@
 //! A cell as it is drawn: what stands in its place, line by line.
 
-ghost use Rattle.std.specs.Prelude.{◌≡◌, ◌+◌, ◌-◌, ◌++◌, ◌<◌, ◌≤◌, ◌↔◌, ◌⊎◌, ℕ, List, [], IsTrue, OnOk, drop, length, option_map, slice_index_or, string_bytes, take};
+ghost use Rattle.std.specs.Prelude.{◌≡◌, ◌+◌, ◌-◌, ◌++◌, ◌<◌, ◌≤◌, ◌↔◌, ◌⊎◌, ℕ, List, [], IsTrue, OnOk, drop, false, length, option_map, slice_index_or, string_bytes, take};
 ghost use Rattle.papergrid_values.specs.Colors.{texts_of};
 ghost use Rattle.papergrid_draw.specs.Bytes.{pieces_bytes};
 ghost use Rattle.papergrid_draw.specs.Contents.{HasRoom, aligned_width, before, block_width, content, free_above, free_before, from_text, inner, is_blank, line_pieces, lines_of, shown_line};
-ghost use Rattle.papergrid_draw.specs.ForProofs.Blocks.{IsShownRange, to_text};
+ghost use Rattle.papergrid_draw.specs.ForProofs.Blocks.{IsShownRange, filled_up, to_text};
 ghost use Rattle.papergrid_draw.specs.ForProofs.Looks.{look_seen};
 
 use crate::look::Look;
@@ -191,6 +191,90 @@ fn measure<T: Cell>(cell: &Option<T>, formatting: Formatting) -> (usize, usize, 
     }
 }
 
+/// Adds a line of a text between its paddings, with so much justification on both sides.
+fn push_filled_up(
+    line: &mut String,
+    look: &Look<'_>,
+    color: Option<ANSIStr<'_>>,
+    text: &str,
+    beside: (usize, usize),
+) -> Result<(), AllocError>
+    ensures { OnOk result (string_bytes line.new ≡ string_bytes line.old
+        ++ filled_up (look_seen look.now) (option_map texts_of color.entry) text.now beside) }
+{
+    let (padding, colors) = (look.padding, look.padding_color);
+    push_colored_fill(
+        line,
+        colors.left.as_ref(),
+        padding.left.fill,
+        padding.left.size,
+    )?;
+    push_colored_fill(line, look.justification_color, look.justification, beside.0)?;
+    push_colored(line, color, text)?;
+    push_colored_fill(line, look.justification_color, look.justification, beside.1)?;
+    push_colored_fill(
+        line,
+        colors.right.as_ref(),
+        padding.right.fill,
+        padding.right.size,
+    )
+}
+
+/// Adds the one line of a text of one line, in a place that is so wide.
+fn push_single<T: Cell>(
+    line: &mut String,
+    look: &Look<'_>,
+    cell: &T,
+    color: Option<ANSIStr<'_>>,
+    width: usize,
+) -> Result<(), AllocError>
+    requires single { length (T.lines cell.now) ≡ 1 }
+    requires first { (look_seen look.now).padding.top.size ≡ 0 }
+    requires shown { (look_seen look.now).formatting.vertical_trim ≡ false }
+    ensures { OnOk result (string_bytes line.new ≡ string_bytes line.old
+        ++ pieces_bytes (content (record {
+          look = look_seen look.now;
+          lines = T.lines cell.now;
+          color = option_map texts_of color.entry;
+          width = width;
+          height = 1;
+        }) 0)) }
+{
+    let (text, own) = shown_line(cell, look.formatting.horizontal_trim, 0);
+    let inner = width
+        .saturating_sub(look.padding.left.size)
+        .saturating_sub(look.padding.right.size);
+    let before = free_before(look.horizontal, inner.saturating_sub(own));
+    let after = inner.saturating_sub(before).saturating_sub(own);
+    push_filled_up(line, look, color, text, (before, after))
+}
+
+/// Adds the first line of a cell in a place that is so wide, and one line high.
+pub fn push_only_line<'a, T: Cell + Drop>(
+    look: Look<'a>,
+    cell: Option<T>,
+    color: Option<ANSIStr<'a>>,
+    width: usize,
+    line: &mut String,
+) -> Result<(), AllocError>
+    ensures { OnOk result (string_bytes line.new ≡ string_bytes line.old
+        ++ pieces_bytes (content (record {
+          look = look_seen look.entry;
+          lines = lines_of T.lines cell;
+          color = option_map texts_of color.entry;
+          width = width;
+          height = 1;
+        }) 0)) }
+{
+    let is_whole = look.padding.top.size == 0 && !look.formatting.vertical_trim;
+    if let Some(cell) = &cell {
+        if is_whole && cell.count_lines() == 1 {
+            return push_single(line, &look, cell, color, width);
+        }
+    }
+    Block::new(look, cell, color, width, 1).push_line(0, line)
+}
+
 impl<'a, T: Cell> Block<'a, T> {
     /// The block of a cell.
     pub fn new(
@@ -267,27 +351,11 @@ impl<'a, T: Cell> Block<'a, T> {
             (shown_line self.now.look.formatting.horizontal_trim
             (slice_index_or self.now.lines index ([], 0))))) }
     {
-        let look = &self.look;
-        let (padding, colors) = (look.padding, look.padding_color);
-        let (text, width) = shown_line(cell, look.formatting.horizontal_trim, index);
+        let (text, width) = shown_line(cell, self.look.formatting.horizontal_trim, index);
         let inner = self.inner();
         let before = self.before(inner, width);
         let after = inner.saturating_sub(before).saturating_sub(width);
-        push_colored_fill(
-            line,
-            colors.left.as_ref(),
-            padding.left.fill,
-            padding.left.size,
-        )?;
-        push_colored_fill(line, look.justification_color, look.justification, before)?;
-        push_colored(line, self.color, text)?;
-        push_colored_fill(line, look.justification_color, look.justification, after)?;
-        push_colored_fill(
-            line,
-            colors.right.as_ref(),
-            padding.right.fill,
-            padding.right.size,
-        )
+        push_filled_up(line, &self.look, self.color, text, (before, after))
     }
 
     /// The columns between the paddings.

@@ -1,10 +1,13 @@
 //! Laws of the picture, each the contract of a function that does nothing.
 
-ghost use Rattle.std.specs.Prelude.{◌+◌, ◌-◌, ◌<◌, ◌==◌, ◌∷◌, ◌≡◌, ◌≢◌, ◌≤◌, ◌⊎◌, [], All, Contains, IsUtf8, List, false, length, map, slice_index, slice_index_or, true, ℕ};
+ghost use Rattle.std.specs.Prelude.{◌++◌, ◌+◌, ◌-◌, ◌<◌, ◌==◌, ◌∷◌, ◌≡◌, ◌≢◌, ◌≤◌, ◌⊎◌, [], All, Contains, IsUtf8, List, None, Some, false, length, map, slice_get, slice_index, slice_index_or, true, ℕ};
 ghost use Rattle.std.specs.List.{join_with_byte, list_all, slice_split};
 ghost use Rattle.papergrid_values.specs.Positions.{position_of};
 ghost use Rattle.papergrid_values.specs.declared.direction.Direction.TheVariants.{Columns, Rows};
+ghost use Rattle.papergrid_values.specs.declared.indent.Indent.{Indent};
+ghost use Rattle.papergrid_values.specs.declared.offset.Offset.{Offset};
 ghost use Rattle.papergrid_values.specs.declared.position.Position.{Position};
+ghost use Rattle.papergrid_config.specs.ConfigSame.{HoldTheSameSettings};
 ghost use Rattle.papergrid_config.specs.Grids.{spanned_grid};
 ghost use Rattle.papergrid_config.specs.History.{HasSettingHistory};
 ghost use Rattle.papergrid_config.specs.declared.setting.Setting.{Setting};
@@ -14,14 +17,18 @@ ghost use Rattle.papergrid_walk.specs.Cells.{problem_of};
 ghost use Rattle.papergrid_walk.specs.Measures.{line_measure};
 ghost use Rattle.papergrid_layout.specs.Laws.{IsCellAt};
 ghost use Rattle.papergrid_layout.specs.Places.{IsVisibleCell, begin_along, length_along, line_offset, offset, total_along, track_line, track_size};
+ghost use Rattle.papergrid_draw.specs.Bytes.{line_bytes};
 ghost use Rattle.papergrid_draw.specs.Characters.{crossing, segment, vertical};
-ghost use Rattle.papergrid_draw.specs.Contents.{above, before, block_at, content, shown, shown_line};
+ghost use Rattle.papergrid_draw.specs.Colored.{AreAlikeButColors, AreInBlocks, inks_of, uncolored};
+ghost use Rattle.papergrid_draw.specs.Contents.{Block, above, before, block_at, content, shown, shown_line};
 ghost use Rattle.papergrid_draw.specs.Drawings.{Drawing, layout_of};
-ghost use Rattle.papergrid_draw.specs.Drawn.{drawn_lines, has_horizontal, has_vertical, owner_at, stands_over, stands_over_crossing};
+ghost use Rattle.papergrid_draw.specs.Drawn.{DrawnLine, drawn_lines, has_horizontal, has_vertical, owner_at, stands_over, stands_over_crossing};
 ghost use Rattle.papergrid_draw.specs.Faults.{AllHaveRoom, whole_height};
 ghost use Rattle.papergrid_draw.specs.Laws.{AreDrawnAt, AreLinesAt, AreMeasuredAt, columns_of, pieces_of, text_piece};
-ghost use Rattle.papergrid_draw.specs.Margins.{printed, printed_lines};
+ghost use Rattle.papergrid_draw.specs.Margins.{margin_line, printed, printed_lines, whole_width, with_margins};
+ghost use Rattle.papergrid_draw.specs.Pieces.{fill_text};
 ghost use Rattle.papergrid_draw.specs.Separated.{AreApart, HasSeparators, IsHonest, setting_separates, text_of};
+ghost use Rattle.papergrid_draw.specs.Sources.{IsOfCell, IsOfTable};
 ghost use Rattle.papergrid_draw.specs.Tiles.{IsTiled};
 
 /// A picture has as many lines as its table is high, with both margins, and a line feed between two. That of a table
@@ -150,4 +157,57 @@ pub fn estimates_leave_room<C>()
         Fits (problem_of (spanned_grid d.config) (line_measure text) d.shape.1 rows Columns)
         widths → ((p : Position) → IsVisibleCell (layout_of d) p →
         AreLinesAt text rows p (d.lines p)) → AllHaveRoom d }
+{}
+
+/// Nothing else is drawn: each piece of each line is of the content of a visible cell, or of a line of the table. What
+/// stands in the place of a cell is a line of its text as it is shown, or one of the characters that fill it.
+pub fn nothing_else_is_drawn()
+    ensures pieces { (d : Drawing) → All (λ line. All (IsOfTable d) (pieces_of line)) (drawn_lines d) }
+    ensures cells { (b : Block) (k : ℕ) → All (IsOfCell b) (content b k) }
+{}
+
+/// Colours change no character, and end where they began. Pictures that differ in colours have the same pieces but for
+/// these. The bytes of each line are blocks of one colour each, with its beginning before and its end behind, in which the
+/// texts of the line stand in order, each in its colour. Where no text has a colour there are no bytes of any.
+pub fn colors_in_blocks()
+    ensures same { (d e : Drawing) → AreAlikeButColors d e →
+        map (λ line. map uncolored (pieces_of line)) (drawn_lines d)
+        ≡ map (λ line. map uncolored (pieces_of line)) (drawn_lines e) }
+    ensures blocks { (d : Drawing) →
+        All (λ line. AreInBlocks (inks_of line) (line_bytes line)) (drawn_lines d) }
+    ensures none { (d : Drawing) → All (λ line. All (λ ink. ink.0 ≡ None) (inks_of line) →
+        line_bytes line ≡ text_of (pieces_of line)) (drawn_lines d) }
+{}
+
+/// Margins stand round the lines of the table: as many lines above and below as the margins have, each of the columns
+/// of the whole; beside each line of the table what stands left and right of it. Without margins there are only these.
+pub fn margins_in_place()
+    ensures above { (d : Drawing) (k : ℕ) → k < d.config.margin.top.size →
+        slice_get (printed_lines d) k ≡ Some (margin_line d.config.margin.top
+        d.config.margin_color.top d.config.margin_offset.top (whole_width d)) }
+    ensures beside { (d : Drawing) (y : ℕ) (line : DrawnLine) →
+        slice_get (drawn_lines d) y ≡ Some line →
+        slice_get (printed_lines d) (d.config.margin.top.size + y)
+        ≡ Some (with_margins d (y, line_bytes line)) }
+    ensures below { (d : Drawing) (k : ℕ) → k < d.config.margin.bottom.size →
+        slice_get (printed_lines d) (d.config.margin.top.size
+        + (total_along (layout_of d) Rows + k)) ≡ Some (margin_line d.config.margin.bottom
+        d.config.margin_color.bottom d.config.margin_offset.bottom (whole_width d)) }
+    ensures columns { (indent : Indent) (offset : Offset) (columns : ℕ) →
+        (blanks : ℕ) × (rest : ℕ) × (blanks + rest ≡ columns)
+        × ((margin_line indent None offset columns
+        ≡ fill_text 32 blanks ++ fill_text indent.fill rest)
+        ⊎ (margin_line indent None offset columns
+        ≡ fill_text indent.fill rest ++ fill_text 32 blanks)) }
+    ensures none { (d : Drawing) → d.config.margin.top.size ≡ 0 → d.config.margin.bottom.size ≡ 0 →
+        d.config.margin.left.size ≡ 0 → d.config.margin.right.size ≡ 0 →
+        printed_lines d ≡ map line_bytes (drawn_lines d) }
+{}
+
+/// Tables that hold the same have the same picture: how their settings came about, and how they are kept, makes no
+/// difference.
+pub fn same_pictures()
+    ensures { (d e : Drawing) → HoldTheSameSettings d.config e.config → d.widths ≡ e.widths →
+        d.heights ≡ e.heights → d.shape ≡ e.shape → d.lines ≡ e.lines → d.color ≡ e.color →
+        printed d ≡ printed e }
 {}

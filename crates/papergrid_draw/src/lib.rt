@@ -10,10 +10,18 @@ mod look;
 mod margins;
 mod page;
 mod pen;
+mod plain;
+mod plain_rows;
 pub mod printer;
+mod room;
+mod rows;
+pub mod separated;
 mod sheet;
 pub mod source;
+mod spanned;
 mod tiles;
 pub mod transfer;
 
 pub use error::DrawError;
+pub use room::Room;
+pub use tiles::check_tiles;

@@ -1,5 +1,5 @@
 use Rattle.std.proofs.lemmas.Result.{on_ok_weaker}
-use Rattle.papergrid_draw.proofs.SinkLemmas.{sink-beginning, sink-ended, sink-nothing, sink-took}
+use Rattle.papergrid_draw.proofs.SinkLemmas.{sink-beginning, sink-ended, sink-nothing, sink-steady, sink-took}
 use Rattle.papergrid_draw.proofs.printer.draw_cells.Goals as goal
 
 pub returns-clause-picture : goal.returns-clause-picture
@@ -22,3 +22,6 @@ returns-clause-beginning g c = sink-beginning g.W.Sink.contents g.W.Sink.has_fai
 
 pub returns-clause-write : goal.returns-clause-write
 returns-clause-write g c = λ is. sink-ended g.W.Sink.contents g.W.Sink.has_failed g.W.Sink.has_stalled _ _ _ c.draw_by.result c.draw_by.ensures.left is
+
+pub returns-clause-steady : goal.returns-clause-steady
+returns-clause-steady g c = sink-steady g.W.Sink.contents g.W.Sink.has_failed g.W.Sink.has_stalled _ _ _ c.draw_by.result c.draw_by.ensures.left

@@ -15,25 +15,29 @@ returns-in_err-check_tiles-clause-err g c =
     let p = err_from_is_err_and c.from_residual.result c.from_residual.ensures.1 in
     rw (p.1, p.2) (tile-refusal d _ (c.in_err-check_tiles.ensures.err (view_of c.args.table.now) (ap spanned_grid (sym c.config-config.ensures)) (sym c.shape.ensures)))
 
-pub check_room-requires-clause-tiled : goal.check_room-requires-clause-tiled
-check_room-requires-clause-tiled g c =
+pub find_room-requires-clause-tiled : goal.find_room-requires-clause-tiled
+find_room-requires-clause-tiled g c =
     subst (λ (t : TableParts). IsTiled (view_of t)) (sym c.in_ok-frame.ensures.table)
     (c.in_ok-check_tiles.ensures.ok (view_of c.args.table.now) (ap spanned_grid (sym c.config-config.ensures)) (sym c.shape.ensures))
 
-pub returns-in_err-check_room-clause-err : goal.returns-in_err-check_room-clause-err
-returns-in_err-check_room-clause-err g c =
+pub find_room-requires-clause-known : goal.find_room-requires-clause-known
+find_room-requires-clause-known g c = λ known.
+    subst (λ (t : TableParts). AllHaveRoom (drawn_of g.S.Cells.lines g.S.Cells.color t c.args.cells.now)) (sym c.in_ok-frame.ensures.table) (c.requires known)
+
+pub returns-in_err-find_room-clause-err : goal.returns-in_err-find_room-clause-err
+returns-in_err-find_room-clause-err g c =
     let d = drawn_of g.S.Cells.lines g.S.Cells.color c.args.table.now c.args.cells.now in
     let tiled = c.in_ok-check_tiles.ensures.ok (view_of c.args.table.now) (ap spanned_grid (sym c.config-config.ensures)) (sym c.shape.ensures) in
-    let p = err_from_is_err_and c.from_residual-in_err-check_room.result c.from_residual-in_err-check_room.ensures.1 in
+    let p = err_from_is_err_and c.from_residual-in_err-find_room.result c.from_residual-in_err-find_room.ensures.1 in
     rw (p.1, p.2) (room-refusal d _ tiled
-    (subst (λ (t : TableParts). IsRoomFault (drawn_of g.S.Cells.lines g.S.Cells.color t c.args.cells.now) c.in_err-check_room.field-0.0) c.in_ok-frame.ensures.table
-    c.in_err-check_room.ensures.err))
+    (subst (λ (t : TableParts). IsRoomFault (drawn_of g.S.Cells.lines g.S.Cells.color t c.args.cells.now) c.in_err-find_room.field-0.0) c.in_ok-frame.ensures.table
+    c.in_err-find_room.ensures.err))
 
 pub returns-in_err-width-clause-err : goal.returns-in_err-width-clause-err
 returns-in_err-width-clause-err g c =
     let d = drawn_of g.S.Cells.lines g.S.Cells.color c.args.table.now c.args.cells.now in
     let tiled = c.in_ok-check_tiles.ensures.ok (view_of c.args.table.now) (ap spanned_grid (sym c.config-config.ensures)) (sym c.shape.ensures) in
-    let room : AllHaveRoom d = subst (λ (t : TableParts). AllHaveRoom (drawn_of g.S.Cells.lines g.S.Cells.color t c.args.cells.now)) c.in_ok-frame.ensures.table c.in_ok-check_room.ensures.ok in
+    let room : AllHaveRoom d = subst (λ (t : TableParts). AllHaveRoom (drawn_of g.S.Cells.lines g.S.Cells.color t c.args.cells.now)) c.in_ok-frame.ensures.table c.in_ok-find_room.ensures.ok in
     let p = err_from_is_err_and c.from_residual-in_err-width.result c.from_residual-in_err-width.ensures.1 in
     rw (p.1, p.2) (large-refusal d c.whole_width.result _ tiled room (c.whole_width.ensures (texts_of g.S.Cells.lines g.S.Cells.color c.args.cells.now)) c.in_err-width.ensures.value)
 

@@ -1,9 +1,8 @@
 use Rattle.std.proofs.Common.{◌≡◌, ◌-◌, ◌+◌, ◌∙◌, ◌++◌, ap, get_or, [], string_bytes}
 use Rattle.std.proofs.lemmas.Result.{on_ok_weaker}
-use Rattle.papergrid_draw.specs.Bytes.{colored}
 use Rattle.papergrid_draw.specs.Contents.{before, inner, shown_line}
-use Rattle.papergrid_draw.specs.ForProofs.Pens.{fill_bytes}
-use Rattle.papergrid_draw.proofs.BlockLemmas.{Line, added_line, after_is}
+use Rattle.papergrid_draw.specs.ForProofs.Blocks.{filled_up}
+use Rattle.papergrid_draw.proofs.BlockLemmas.{Line, after_is, line-filled}
 use Rattle.papergrid_draw.proofs.block.Block.push_text.Goals as goal
 
 pub returns : goal.returns
@@ -20,18 +19,6 @@ returns g c =
     let after : c.saturating_sub-after.result ≡ inner b - (before b line + line.1)
     = after_is _ _ _ _ _ _ _ _ c.saturating_sub-after.ensures c.saturating_sub.ensures c.inner-inner.ensures start width in
     let old = string_bytes c.args.line.now in
-    let l₁ = string_bytes c.push_colored_fill.new.line in
-    let l₂ = string_bytes c.push_colored_fill-2.new.line in
-    let l₃ = string_bytes c.push_colored.new.line in
-    let l₄ = string_bytes c.push_colored_fill-3.new.line in
-    let one = c.in_ok-push_colored_fill.ensures
-    ∙ ap (λ o. old ++ fill_bytes o look.padding.now.left.fill look.padding.now.left.size) c.as_ref.ensures.value
-    ∙ (λ i. old ++ fill_bytes ((is i).look.padding_color.left) ((is i).look.padding.left.fill) ((is i).look.padding.left.size)) in
-    let two = c.in_ok-push_colored_fill-2.ensures
-    ∙ (λ i. l₁ ++ fill_bytes ((is i).look.justification_color) ((is i).look.justification) (start i)) in
-    let three = c.in_ok-push_colored.ensures ∙ (λ i. l₂ ++ colored ((is i).color) (text i)) in
-    let four = c.in_ok-push_colored_fill-3.ensures
-    ∙ (λ i. l₃ ++ fill_bytes ((is i).look.justification_color) ((is i).look.justification) (after i)) in
-    let last = ap (λ o. l₄ ++ fill_bytes o look.padding.now.right.fill look.padding.now.right.size) c.as_ref-2.ensures.value
-    ∙ (λ i. l₄ ++ fill_bytes ((is i).look.padding_color.right) ((is i).look.padding.right.fill) ((is i).look.padding.right.size)) in
-    on_ok_weaker c.push_colored_fill-4.result (λ five. added_line b line old l₁ l₂ l₃ l₄ (string_bytes c.push_colored_fill-4.new.line) one two three four (five ∙ last)) c.push_colored_fill-4.ensures
+    on_ok_weaker c.push_filled_up.result (λ added. added
+    ∙ (λ i. old ++ filled_up ((is i).look) ((is i).color) (text i) (start i, after i))
+    ∙ ap (λ bytes. old ++ bytes) (line-filled b line)) c.push_filled_up.ensures

@@ -1,0 +1,24 @@
+use Rattle.std.proofs.Common.{◌≡◌, ◌++◌, ◌∙◌, ap, string_bytes, sym}
+use Rattle.std.proofs.lemmas.Result.{on_ok_weaker}
+use Rattle.papergrid_config.specs.declared.spanned.SpannedConfig.{SpannedConfig}
+use Rattle.papergrid_values.specs.declared.direction.Direction.TheVariants.{Columns, Rows}
+use Rattle.papergrid_layout.specs.Places.{length_along}
+use Rattle.papergrid_draw.specs.Bytes.{pieces_bytes}
+use Rattle.papergrid_draw.specs.Contents.{content, look_of}
+use Rattle.papergrid_draw.specs.Drawings.{drawn_of, layout_of}
+use Rattle.papergrid_draw.proofs.PlainLemmas.{plain-height, plain-width}
+use Rattle.papergrid_draw.proofs.plain.push_cell.Goals as goal
+
+pub returns : goal.returns
+returns g c =
+    let read = c.requires.frame in
+    let d = drawn_of g.S.Cells.lines g.S.Cells.color c.args.frame.now.table.now c.args.cells.now in
+    let p = c.args.position in
+    let look = c.get-look.ensures ∙ ap (λ (s : SpannedConfig). look_of s p) read.looks.is_of in
+    let lines = sym c.in_ok-cell.ensures in
+    let color = sym c.color.ensures in
+    let width : c.get_width-width.result ≡ length_along (layout_of d) Columns p = c.get_width-width.ensures ∙ sym (plain-width d c.requires.plain p) in
+    let height : 1 ≡ length_along (layout_of d) Rows p = sym (plain-height d c.requires.plain p ∙ c.requires.low) in
+    on_ok_weaker c.push_only_line.result (λ added. added
+    ∙ (λ i. string_bytes c.args.line.now ++ pieces_bytes (content (record { look = look i; lines = lines i; color = color i; width = width i; height = height i }) 0)))
+    c.push_only_line.ensures

@@ -1,0 +1,44 @@
+use Rattle.std.proofs.Common.{◌∷◌, [], ◌<◌, ◌+◌, subst, arith}
+use Rattle.std.proofs.lemmas.Result.{err_from_is_err_and}
+use Rattle.papergrid_layout.specs.Places.{total_along}
+use Rattle.papergrid_layout.specs.Tables.{view_of}
+use Rattle.papergrid_values.specs.declared.direction.Direction.TheVariants.{Rows}
+use Rattle.papergrid_draw.specs.Drawings.{drawn_of}
+use Rattle.papergrid_draw.specs.Drawn.{TextLine, text_line}
+use Rattle.papergrid_draw.specs.ForProofs.Pages.{text_start}
+use Rattle.papergrid_draw.specs.ForProofs.Sheets.{WritesLines, margined, texts_of}
+use Rattle.papergrid_draw.proofs.SheetLemmas.{lines-refused}
+use Rattle.papergrid_draw.proofs.PrinterLemmas.{one-margined, text-within}
+use Rattle.papergrid_draw.proofs.plain_rows.draw_low_row.Goals as goal
+
+pub returns-in_err-begin_beside-clause-lines : goal.returns-in_err-begin_beside-clause-lines
+returns-in_err-begin_beside-clause-lines g c =
+    let p = err_from_is_err_and c.from_residual.result c.from_residual.ensures.1 in
+    rw (p.1, p.2) (lines-refused g.D.Delivery.takes g.D.Delivery.breaks _ _ _ _ _)
+
+pub returns-in_err-push_text_line-clause-lines : goal.returns-in_err-push_text_line-clause-lines
+returns-in_err-push_text_line-clause-lines g c =
+    let p = err_from_is_err_and c.from_residual-in_err-push_text_line.result c.from_residual-in_err-push_text_line.ensures.1 in
+    rw (p.1, p.2) (lines-refused g.D.Delivery.takes g.D.Delivery.breaks _ _ _ _ _)
+
+pub end_beside-requires : goal.end_beside-requires
+end_beside-requires g c =
+    let parts = c.args.frame.now.table.now in
+    let d = drawn_of g.S.Cells.lines g.S.Cells.color parts c.args.cells.now in
+    let some : 0 < d.heights c.args.row = omega (arith, c.requires.low) in
+    let within : text_start d c.args.row + 0 < total_along (view_of parts) Rows = text-within d c.args.row 0 c.requires.row_in some in
+    omega (arith, within, c.requires.frame.fit, c.requires.start, c.in_ok-begin_beside.ensures.written)
+
+pub returns-clause-lines : goal.returns-clause-lines
+returns-clause-lines g c =
+    let parts = c.args.frame.now.table.now in
+    let texts = texts_of g.S.Cells.lines g.S.Cells.color c.args.cells.now in
+    let d = drawn_of g.S.Cells.lines g.S.Cells.color parts c.args.cells.now in
+    subst (λ y. WritesLines g.D.Delivery.takes g.D.Delivery.breaks c.args.writer.now c.end_beside.new.writer c.args.sheet.now.begun c.end_beside.new.sheet.begun
+    (margined d y (TextLine (text_line d c.args.row 0) ∷ [])) c.end_beside.result) c.requires.start
+    (one-margined d g.D.Delivery.takes g.D.Delivery.breaks _ _ _ _ c.args.sheet.now.written _ (TextLine (text_line d c.args.row 0)) _ _ _
+    c.in_ok-begin_beside.ensures.written
+    (c.in_ok-begin_beside.ensures.line parts texts c.requires.frame)
+    c.in_ok-push_text_line.ensures
+    (c.end_beside.ensures.bytes parts texts c.requires.frame)
+    c.end_beside.ensures.begun)

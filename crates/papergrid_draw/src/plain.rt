@@ -1,0 +1,250 @@
+//! Tables whose cells span nothing, and whose lines have no part, colour or character of a single cell: what stands on
+//! their lines is found once.
+
+ghost use Rattle.std.specs.Prelude.{◌≡◌, ◌↔◌, ◌+◌, ◌++◌, ◌<◌, ◌≤◌, ℕ, IfOk, IsTrue, OnOk, length, option_copied, slice_index, string_bytes};
+ghost use Rattle.papergrid_layout.specs.Tables.{TableParts};
+ghost use Rattle.papergrid_draw.specs.Bytes.{pieces_bytes, rule_bytes};
+ghost use Rattle.papergrid_draw.specs.Contents.{block_at, content};
+ghost use Rattle.papergrid_draw.specs.Drawings.{drawn_of};
+ghost use Rattle.papergrid_draw.specs.Drawn.{crossing_stretch, rule_line, text_line, vertical_pieces};
+ghost use Rattle.papergrid_draw.specs.ForProofs.Pages.{AreSlots, IsFrame, Texts, drawing_of, text_start};
+ghost use Rattle.papergrid_draw.specs.ForProofs.Pens.{AddsStretches};
+ghost use Rattle.papergrid_draw.specs.ForProofs.Plain.{ArePlainLines, IsCommonRule, IsPlain, character_bytes};
+
+use crate::block::push_only_line;
+use crate::characters::Rule;
+use crate::page::{Frame, Slot};
+use crate::source::Cells;
+use papergrid_config::SpannedConfig;
+use papergrid_layout::Dimension;
+use papergrid_values::Position;
+use std::alloc::{AllocError, Global};
+
+/// Whether cells span nothing, and lines have no part, colour or character of a single cell.
+pub fn is_plain(config: &SpannedConfig) -> bool
+    ensures { IsTrue result ↔ IsPlain config.now }
+{
+    let columns = config.has_column_spans();
+    let rows = config.has_row_spans();
+    let lines = config.has_common_lines();
+    !columns && (!rows && lines)
+}
+
+/// What stands on the lines of such a table: the character of the vertical line before each column, and after the last,
+/// where there is one; and the bytes of the horizontal lines between rows that have no line of their own, once one was drawn.
+#[derive(Drop)]
+pub struct PlainLines {
+    verticals: Vec<Option<char>>,
+    rule: Option<String>,
+}
+
+impl PlainLines {
+    /// That of a table.
+    pub fn new(alloc: Global, frame: &Frame<'_>) -> Result<PlainLines, AllocError>
+        requires frame { IsFrame frame.now.table.now frame.now }
+        requires plain { IsPlain frame.now.table.now.config }
+        ensures { IfOk result (ArePlainLines frame.now.table.now) }
+    {
+        let columns = frame.shape.1;
+        let mut verticals = Vec::new(alloc);
+        for col in 0..columns {
+            verticals.push(vertical_character(frame, col))?;
+        }
+        verticals.push(vertical_character(frame, columns))?;
+        Ok(PlainLines {
+            verticals,
+            rule: None,
+        })
+    }
+
+    /// Adds the character of the vertical line before a column, or after the last, if there is one.
+    fn push_vertical(&self, col: usize, line: &mut String) -> Result<(), AllocError>
+        requires { (parts : TableParts) × ArePlainLines parts self.now × (col ≤ length parts.widths) }
+        ensures { OnOk result ((parts : TableParts) (texts : Texts) (r k : ℕ) →
+            ArePlainLines parts self.now → col ≤ length parts.widths →
+            string_bytes line.new ≡ string_bytes line.old
+            ++ pieces_bytes (vertical_pieces (drawing_of parts texts) r col k)) }
+    {
+        match self.verticals[col] {
+            Some(character) => line.push(character),
+            None => Ok(()),
+        }
+    }
+
+    /// Adds the text line of a row that is one line high.
+    pub fn push_text_line<'a, S: Cells>(
+        &self,
+        frame: &Frame<'a>,
+        cells: &'a S,
+        row: usize,
+        line: &mut String,
+    ) -> Result<(), AllocError>
+    where
+        S::Cell: Drop,
+        requires frame { IsFrame frame.now.table.now frame.now }
+        requires plain { IsPlain frame.now.table.now.config }
+        requires own { ArePlainLines frame.now.table.now self.now }
+        requires row_in { row < length frame.now.table.now.heights }
+        requires low { slice_index frame.now.table.now.heights row ≡ 1 }
+        ensures { let d = drawn_of S.lines S.color frame.now.table.now cells.now in
+            OnOk result (string_bytes line.new
+            ≡ string_bytes line.old ++ pieces_bytes (text_line d row 0)) }
+    {
+        for col in 0..frame.shape.1 {
+            self.push_vertical(col, line)?;
+            push_cell(frame, cells, Position { row, col }, line)?;
+        }
+        self.push_vertical(frame.shape.1, line)
+    }
+
+    /// Adds the horizontal line before a row, or after the last.
+    pub fn push_rule_line(
+        &mut self,
+        alloc: Global,
+        frame: &Frame<'_>,
+        row: usize,
+        line: &mut String,
+    ) -> Result<(), AllocError>
+        requires frame { IsFrame frame.now.table.now frame.now }
+        requires plain { IsPlain frame.now.table.now.config }
+        requires own { ArePlainLines frame.now.table.now self.old }
+        requires row_in { row ≤ length frame.now.table.now.heights }
+        ensures bytes { OnOk result ((texts : Texts) →
+            string_bytes line.new ≡ string_bytes line.old
+            ++ rule_bytes (rule_line (drawing_of frame.now.table.now texts) row)) }
+        ensures own { OnOk result (ArePlainLines frame.now.table.now self.new) }
+    {
+        if !is_common_rule(frame, row) {
+            return push_own_rule(frame, row, line);
+        }
+        if let Some(rule) = &self.rule {
+            return line.push_str(rule.as_str());
+        }
+        let mut rule = String::new(alloc);
+        push_own_rule(frame, row, &mut rule)?;
+        line.push_str(rule.as_str())?;
+        self.rule = Some(rule);
+        Ok(())
+    }
+}
+
+/// The character of the vertical line before a column, or after the last, if there is one.
+fn vertical_character(frame: &Frame<'_>, col: usize) -> Option<char>
+    requires frame { IsFrame frame.now.table.now frame.now }
+    requires plain { IsPlain frame.now.table.now.config }
+    requires col_in { col ≤ length frame.now.table.now.widths }
+    ensures { (texts : Texts) (r k : ℕ) → pieces_bytes
+        (vertical_pieces (drawing_of frame.now.table.now texts) r col k)
+        ≡ character_bytes result }
+{
+    if !frame.verticals[col] {
+        return None;
+    }
+    let position = Position { row: 0, col };
+    let character = frame.config.get_vertical(position, frame.shape.1);
+    Some(character.unwrap_or(frame.config.get_borders_missing()))
+}
+
+/// Whether a row has a line before it that stands between two rows, and has none of its own set.
+fn is_common_rule(frame: &Frame<'_>, row: usize) -> bool
+    requires { IsFrame frame.now.table.now frame.now }
+    ensures { (texts : Texts) →
+        IsTrue result ↔ IsCommonRule (drawing_of frame.now.table.now texts) row }
+{
+    0 < row && row < frame.shape.0 && frame.config.get_horizontal_line(row).is_none()
+}
+
+/// Adds the horizontal line before a row, or after the last, as it is set.
+fn push_own_rule(frame: &Frame<'_>, row: usize, line: &mut String) -> Result<(), AllocError>
+    requires frame { IsFrame frame.now.table.now frame.now }
+    requires plain { IsPlain frame.now.table.now.config }
+    requires row_in { row ≤ length frame.now.table.now.heights }
+    ensures { OnOk result ((texts : Texts) →
+        string_bytes line.new ≡ string_bytes line.old
+        ++ rule_bytes (rule_line (drawing_of frame.now.table.now texts) row)) }
+{
+    let mut rule = Rule::new();
+    for col in 0..frame.shape.1 {
+        let position = Position { row, col };
+        push_plain_crossing(frame, &mut rule, position, line)?;
+        let width = frame.table.get_width(col);
+        rule.push_segment(frame.config, position, frame.shape, width, line)?;
+    }
+    let col = frame.shape.1;
+    push_plain_crossing(frame, &mut rule, Position { row, col }, line)?;
+    rule.end(line)
+}
+
+/// Adds the crossing at a position of the line before a row, if there is one.
+fn push_plain_crossing<'a>(
+    frame: &Frame<'a>,
+    rule: &mut Rule<'a>,
+    position: Position,
+    line: &mut String,
+) -> Result<(), AllocError>
+    requires frame { IsFrame frame.now.table.now frame.now }
+    requires plain { IsPlain frame.now.table.now.config }
+    requires col_in { position.col ≤ length frame.now.table.now.widths }
+    ensures { OnOk result ((texts : Texts) →
+        AddsStretches (option_copied rule.old.used) (option_copied rule.new.used)
+        (string_bytes line.old) (string_bytes line.new)
+        (crossing_stretch (drawing_of frame.now.table.now texts) position.row position.col)) }
+{
+    if !frame.verticals[position.col] {
+        return Ok(());
+    }
+    rule.push_crossing(frame.config, position, frame.shape, line)
+}
+
+/// Adds the cell at a position of a row that is one line high.
+fn push_cell<'a, S: Cells>(
+    frame: &Frame<'a>,
+    cells: &'a S,
+    position: Position,
+    line: &mut String,
+) -> Result<(), AllocError>
+where
+    S::Cell: Drop,
+    requires frame { IsFrame frame.now.table.now frame.now }
+    requires plain { IsPlain frame.now.table.now.config }
+    requires row_in { position.row < length frame.now.table.now.heights }
+    requires col_in { position.col < length frame.now.table.now.widths }
+    requires low { slice_index frame.now.table.now.heights position.row ≡ 1 }
+    ensures { let d = drawn_of S.lines S.color frame.now.table.now cells.now in
+        OnOk result (string_bytes line.new ≡ string_bytes line.old
+        ++ pieces_bytes (content (block_at d position) 0)) }
+{
+    let cell = cells.cell(position)?;
+    let width = frame.table.get_width(position.col);
+    let look = frame.looks.get(position);
+    push_only_line(look, cell, cells.color(position), width, line)
+}
+
+/// The cells of a row, before its first text line.
+pub fn plain_slots<'a, S: Cells>(
+    alloc: Global,
+    frame: &Frame<'a>,
+    cells: &'a S,
+    row: usize,
+) -> Result<Vec<Slot<'a, S::Cell>>, AllocError>
+where
+    S::Cell: Drop,
+    requires frame { IsFrame frame.now.table.now frame.now }
+    requires plain { IsPlain frame.now.table.now.config }
+    requires row_in { row < length frame.now.table.now.heights }
+    ensures { let d = drawn_of S.lines S.color frame.now.table.now cells.now in
+        IfOk result (λ slots. AreSlots d row (λ _. text_start d row) slots.items) }
+{
+    let mut slots = Vec::new(alloc);
+    for col in 0..frame.shape.1 {
+        let owner = Position { row, col };
+        let cell = cells.cell(owner)?;
+        let block = frame.block(owner, cell, cells.color(owner));
+        slots.push(Slot {
+            owner,
+            block,
+            drawn: 0,
+        })?;
+    }
+    Ok(slots)
+}
