@@ -39,6 +39,25 @@ drawn_same {T = T} {C = C} lines texts color_at config widths heights P shape ot
     subst (λ n. drawn n others other_colors) s (subst (λ held. drawn shape held other_colors) r (subst (λ k. drawn shape rows k) c is))
 
 -- what holds of a table of texts that are held and its drawing holds of the rows of cells
+module _ {T C K : Type 0} (lines_in : List ℕ → List (List ℕ × ℕ)) (text : T → List ℕ) (texts : K → List ℕ × List ℕ) (color_at : C → Position → Option K)
+    (config : SpannedConfig) (widths heights : ℕ → ℕ) (P : TableParts → Drawing → Type 0)
+    (count columns other_columns : ℕ) (rows others : List (Vec T Global)) (colors : C) where
+  pub drawn_rows : count ≡ length others → columns ≡ other_columns → rows ≡ others →
+      (let parts = parts_of config widths heights (count, columns) in
+      P parts (drawn_of (λ held. lines_at lines_in (map (λ row. map text row.items) held)) (λ _. texts_at texts color_at colors) parts rows)) →
+      (let parts = parts_of config widths heights (length (map (λ row. row.items) others), other_columns) in
+      P parts (drawing_of_rows (λ cell. lines_in (text cell)) parts (map (λ row. row.items) others) (texts_at texts color_at colors)))
+  drawn_rows n k r is =
+      let drawn : ℕ → ℕ → (Position → List (List ℕ × ℕ)) → Type 0 = λ i j lines.
+      P (parts_of config widths heights (i, j)) (drawn_of (λ _. lines) (λ _. texts_at texts color_at colors) (parts_of config widths heights (i, j)) others) in
+      let items : Vec T Global → List T = λ row. row.items in
+      let before : Position → List (List ℕ × ℕ) = lines_at lines_in (map (λ (row : Vec T Global). map text row.items) rows) in
+      let after : Position → List (List ℕ × ℕ) = lines_at (λ cell. lines_in (text cell)) (map items others) in
+      let lines : before ≡ after =
+      λ i p. (ap (λ held. lines_at lines_in (map (λ (row : Vec T Global). map text row.items) held) p) r ∙ lines_of_texts lines_in text others p) i in
+      subst (λ i. drawn i other_columns after) (n ∙ sym (length-map others items))
+      (subst (λ j. drawn count j after) k (subst (λ l. drawn count columns l) lines is))
+
 pub drawn_texts : {T C K : Type 0} (text : T → List ℕ) (texts : K → List ℕ × List ℕ) (color_at : C → Position → Option K)
     (config : SpannedConfig) (widths heights : ℕ → ℕ) (P : TableParts → Drawing → Type 0)
     (count columns other_columns : ℕ) (rows others : List (Vec T Global)) (colors : C) →
@@ -47,16 +66,7 @@ pub drawn_texts : {T C K : Type 0} (text : T → List ℕ) (texts : K → List �
     P parts (drawn_of (λ held. lines_at text_lines (map (λ row. map text row.items) held)) (λ _. texts_at texts color_at colors) parts rows)) →
     (let parts = parts_of config widths heights (length (map (λ row. row.items) others), other_columns) in
     P parts (drawing_of_rows (λ cell. text_lines (text cell)) parts (map (λ row. row.items) others) (texts_at texts color_at colors)))
-drawn_texts {T = T} text texts color_at config widths heights P count columns other_columns rows others colors n k r is =
-    let drawn : ℕ → ℕ → (Position → List (List ℕ × ℕ)) → Type 0 = λ i j lines.
-    P (parts_of config widths heights (i, j)) (drawn_of (λ _. lines) (λ _. texts_at texts color_at colors) (parts_of config widths heights (i, j)) others) in
-    let items : Vec T Global → List T = λ row. row.items in
-    let before : Position → List (List ℕ × ℕ) = lines_at text_lines (map (λ (row : Vec T Global). map text row.items) rows) in
-    let after : Position → List (List ℕ × ℕ) = lines_at (λ cell. text_lines (text cell)) (map items others) in
-    let lines : before ≡ after =
-    λ i p. (ap (λ held. lines_at text_lines (map (λ (row : Vec T Global). map text row.items) held) p) r ∙ lines_of_texts text others p) i in
-    subst (λ i. drawn i other_columns after) (n ∙ sym (length-map others items))
-    (subst (λ j. drawn count j after) k (subst (λ l. drawn count columns l) lines is))
+drawn_texts = drawn_rows text_lines
 
 -- what is so is so unless an allocation failed
 pub unless_memory : (e : DrawError) {P : Type 0} → P → UnlessMemory e P
@@ -66,3 +76,7 @@ unless_memory (NotTiled p) is = is
 unless_memory (NoRoom p) is = is
 unless_memory TooLarge is = is
 unless_memory Write is = is
+
+-- what holds of the error that a `?` returns holds of the result
+pub at_exit : {A E : Type 0} (r : Result A E) (x : E) (Q : E → Type 0) → (y : E) × (r ≡ Err y) × (y ≡ x) → Q x → IfErr r Q
+at_exit r x Q (y, is, same) holds = subst (λ s. IfErr s Q) (sym is) (subst Q (sym same) holds)

@@ -1,12 +1,14 @@
 //! The cells of rows that are held, with the colours of their texts.
 
-ghost use Rattle.std.specs.Prelude.{◌≡◌, ℕ, List, map, option_copied, option_map, slice_get};
+ghost use Rattle.std.specs.Prelude.{◌≡◌, ℕ, IfOk, List, map, option_copied, option_map, slice_get};
 ghost use Rattle.papergrid_values.specs.Colors.{texts_of};
+ghost use Rattle.papergrid_text.specs.LineCache.{answered_lines};
 ghost use Rattle.papergrid_grid.specs.Cells.{lines_at, text_lines};
 
 use crate::color::AsANSIStr;
 use papergrid_draw::source::Cells;
 use papergrid_maps::Colors;
+use papergrid_text::string::get_text_dimension;
 use papergrid_text::{Cell, Text};
 use papergrid_values::{ANSIStr, Position};
 use std::alloc::{AllocError, Global};
@@ -44,7 +46,7 @@ where
 }
 
 /// The texts of the colour at a position.
-fn color_of<C: Colors>(colors: &C, position: Position) -> Option<ANSIStr<'_>>
+pub fn color_of<C: Colors>(colors: &C, position: Position) -> Option<ANSIStr<'_>>
 where
     <C as Colors>::Color: AsANSIStr,
     ensures { option_map texts_of result ≡ option_map C.Color.texts (C.color_at colors.now position) }
@@ -87,6 +89,17 @@ impl<S: AsStr> TextRow for &[S] {
     }
 }
 
+/// A text, measured: where it has one line, by one look at its bytes.
+fn measured(alloc: Global, text: &str) -> Result<Text<&str>, AllocError>
+    ensures { IfOk result (λ t. answered_lines t.text.now t.width t.lines ≡ text_lines text.now) }
+{
+    let (count, width) = get_text_dimension(text);
+    if count == 1 {
+        return Ok(Text::exact(text, width, Vec::new(alloc)));
+    }
+    Text::new(alloc, text)
+}
+
 /// Rows of texts as cells. A text is measured each time that it is read. One of several lines allocates then.
 #[derive(Clone, Copy, Debug)]
 pub struct TextCells<'a, R, C> {
@@ -112,7 +125,7 @@ where
             return Ok(None);
         };
         match row.text(position.col) {
-            Some(text) => Ok(Some(Text::new(self.alloc, text)?)),
+            Some(text) => Ok(Some(measured(self.alloc, text)?)),
             None => Ok(None),
         }
     }

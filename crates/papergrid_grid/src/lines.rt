@@ -3,15 +3,15 @@
 ghost use Rattle.std.specs.Prelude.{◌≡◌, ◌≢◌, ◌+◌, ◌⊎◌, ◌↔◌, ℕ, IfErr, IsErrOf, IsTrue, OnErr, OnOk, false, take, true};
 ghost use Rattle.std.specs.Io.KnownBytes.{Appends};
 ghost use Rattle.papergrid_draw.specs.Drawings.{Drawing, drawn_of, layout_of};
-ghost use Rattle.papergrid_draw.specs.Faults.{IsDrawFault, whole_height};
+ghost use Rattle.papergrid_draw.specs.Faults.{AllHaveRoom, IsDrawFault, whole_height};
 ghost use Rattle.papergrid_draw.specs.declared.error.DrawError.TheVariants.{Memory, Write};
 ghost use Rattle.papergrid_layout.specs.Tables.{view_of};
 ghost use Rattle.papergrid_grid.specs.Lined.{lined};
 
-use papergrid_draw::DrawError;
 use papergrid_draw::printer::draw_cells;
 use papergrid_draw::source::Cells;
 use papergrid_draw::transfer::{Sink, write_all};
+use papergrid_draw::{DrawError, Room};
 use papergrid_layout::Table;
 use std::alloc::{AllocError, Global};
 
@@ -40,6 +40,8 @@ fn has_lines(table: &Table<'_>) -> bool
 
 /// Writes the picture of a table as `draw_cells` does, with a line feed after each line, the last one too.
 ///
+/// Condition: as that of `draw_cells`.
+///
 /// # Errors
 ///
 /// As `draw_cells`.
@@ -47,10 +49,12 @@ pub fn draw_lines<'a, S: Cells, W: Sink>(
     alloc: Global,
     table: &'a Table<'a>,
     cells: &'a S,
+    room: Room,
     sink: &mut W,
 ) -> Result<(), DrawError>
 where
     S::Cell: Drop,
+    requires { room ≡ Room.Known → AllHaveRoom (drawn_of S.lines S.color table.now cells.now) }
     ensures picture { OnOk result (Appends (W.contents sink.old) (W.contents sink.new)
         (lined (drawn_of S.lines S.color table.now cells.now))) }
     ensures works { OnOk result (W.has_failed sink.new ≡ W.has_failed sink.old) }
@@ -63,8 +67,11 @@ where
         (take n (lined (drawn_of S.lines S.color table.now cells.now)))) }
     ensures write { IsErrOf result DrawError.Write → (W.has_failed sink.new ≡ true)
         ⊎ (W.has_stalled sink.old ≡ false → W.has_stalled sink.new ≡ true) }
+    ensures steady { IfErr result (λ e. (e ≡ Write)
+        ⊎ ((W.has_failed sink.new ≡ W.has_failed sink.old)
+        × (W.has_stalled sink.new ≡ W.has_stalled sink.old))) }
 {
-    draw_cells(alloc, table, cells, sink)?;
+    draw_cells(alloc, table, cells, room, sink)?;
     if !has_lines(table) {
         return Ok(());
     }

@@ -11,10 +11,10 @@ ghost use Rattle.papergrid_grid.specs.Sized.{HasSizes, IsGridFault, parts_of};
 
 use crate::sized::sized_table;
 use papergrid_config::SpannedConfig;
-use papergrid_draw::DrawError;
 use papergrid_draw::printer::{draw_cells, draw_text, drawn_string};
 use papergrid_draw::source::Cells;
 use papergrid_draw::transfer::Sink;
+use papergrid_draw::{DrawError, Room};
 use papergrid_layout::Dimension;
 use std::alloc::{AllocError, Global};
 use std::fmt;
@@ -51,7 +51,7 @@ where
         ⊎ (W.has_stalled sink.old ≡ false → W.has_stalled sink.new ≡ true) }
 {
     let table = sized_table(alloc, config, dimension, shape)?;
-    draw_cells(alloc, &table, cells, sink)
+    draw_cells(alloc, &table, cells, Room::Unknown, sink)
 }
 
 /// Writes the picture of so many rows and columns as text.
