@@ -1,10 +1,13 @@
 -- The sizes of cells that are seen through a view, and what is drawn with them.
-use Rattle.std.proofs.Common.{◌≡◌, ◌≢◌, ◌∙◌, ◌⊎◌, ℕ, Bool, List, Option, None, Result, Ok, Err, OnErr, OnOk, IfErr, map, ap, inl, inr, refl, subst, sym, take}
+use Rattle.std.proofs.Common.{◌≡◌, ◌≢◌, ◌∙◌, ◌⊎◌, ℕ, Bool, List, [], Option, None, Some, Result, Ok, Err, OnErr, OnOk, IfErr, map, ap, inl, inr, refl, subst, sym, take}
 use Rattle.std.specs.Io.KnownBytes.{Appends}
-use Rattle.std.specs.Prelude.{IsErrOf}
+use Rattle.std.specs.Prelude.{◌↔◌, IsErrOf, option_and_then, slice_get, slice_index_or}
 use Rattle.std.specs.declared.alloc.AllocError.{AllocError}
+use Rattle.std.proofs.lemmas.Option.{get_or_from_slice_get, slice_get-get_or, slice_get_cases}
+use Rattle.papergrid_values.specs.declared.position.Position.{Position}
 use Rattle.papergrid_values.specs.declared.direction.Direction.TheVariants.{Columns, Rows}
 use Rattle.papergrid_tracks.specs.Answers.{AreSizes, NoneHolds}
+use Rattle.papergrid_tracks.specs.Fits.{Fits}
 use Rattle.papergrid_tracks.specs.LeastAnswers.{AreLeastSizes, NoneFits}
 use Rattle.papergrid_tracks.specs.Problem.{Problem}
 use Rattle.papergrid_tracks.specs.declared.error.LayoutError.{LayoutError}
@@ -12,15 +15,20 @@ use Rattle.papergrid_tracks.specs.declared.error.LayoutError.TheVariants as layo
 use Rattle.papergrid_config.specs.Grids.{spanned_grid}
 use Rattle.papergrid_config.specs.declared.setting.Setting.{Setting}
 use Rattle.papergrid_config.specs.declared.spanned.SpannedConfig.{SpannedConfig}
+use Rattle.papergrid_walk.specs.Cells.{problem_of}
 use Rattle.papergrid_layout.specs.Answers.{HoldAlong, IsBothRefusedWhere}
+use Rattle.papergrid_layout.specs.Laws.{RowHasCell}
 use Rattle.papergrid_layout.specs.declared.sizing.Sizing.{Sizing}
 use Rattle.papergrid_layout.specs.declared.sizing.Sizing.TheVariants.{ByShares, Least}
 use Rattle.papergrid_layout.proofs.Told.{first_told, problem_told}
 use Rattle.papergrid_layout.specs.Answers.{UnlessMemoryError}
 use Rattle.papergrid_layout.specs.Tables.{AreNoSizesBySizing, AreSizesBySizing, TableParts}
+use Rattle.papergrid_draw.specs.Contents.{lines_of}
 use Rattle.papergrid_draw.specs.Drawings.{Drawing, drawn_of}
 use Rattle.papergrid_draw.specs.Errors.{draw_error_of}
-use Rattle.papergrid_draw.specs.Faults.{IsDrawFault}
+use Rattle.papergrid_draw.specs.Faults.{AllHaveRoom, IsDrawFault}
+use Rattle.papergrid_draw.specs.Laws.{AreLinesAt}
+use Rattle.papergrid_draw.proofs.EstimateLemmas.{texts-leave-room}
 use Rattle.papergrid_draw.specs.declared.error.DrawError.{DrawError}
 use Rattle.papergrid_draw.specs.declared.error.DrawError.TheVariants as draw_errors
 use Rattle.papergrid.specs.Estimates.{text_measure}
@@ -33,7 +41,7 @@ use Rattle.papergrid.specs.declared.running.RunEnd.TheVariants.{Done, Refused}
 use Rattle.papergrid.specs.declared.running.RunFault.{RunFault}
 use Rattle.papergrid.specs.declared.running.RunFault.TheVariants as run_faults
 use Rattle.papergrid.specs.Pictures.{IsDrawingBy, IsDrawingWith, IsFaultWith, IsPictureFault, IsPictureOf, IsPictureRun, IsRefusal, IsTablePicture, Undrawn, Unsized, refusal_line, texts_drawing}
-use Rattle.papergrid.specs.ForProofs.Drawn.{Draws, HasEnded, IsBrokenOff, IsTaken, IsUndrawn, Runs}
+use Rattle.papergrid.specs.ForProofs.Drawn.{Draws, HasEnded, IsBrokenOff, IsSteady, IsTaken, IsUndrawn, Runs}
 
 module _ {A : Type 0} (view : A → List ℕ) (config : SpannedConfig) (columns : ℕ) (cells : List (List A)) (texts : List (List (List ℕ)))
     (same : map (map view) cells ≡ texts) where
@@ -68,6 +76,24 @@ module _ {A : Type 0} (view : A → List ℕ) (config : SpannedConfig) (columns 
   no-sizes-seen ByShares e is = refused-seen NoneHolds e is
   no-sizes-seen Least e is = refused-seen NoneFits e is
 
+-- the lines at a position are those of the text that the rows have there
+lines-of-rows : (texts : List (List (List ℕ))) (p : Position) → AreLinesAt (λ text. text) texts p (lines_at text_lines texts p)
+lines-of-rows texts p = record {
+  of_cell = λ cell is.
+      ap in-row (slice_get-get_or texts p.row [] is.0)
+      ∙ ap (lines_of text_lines) (slice_get-get_or (slice_index_or texts p.row []) p.col cell is.1.0 ∙ ap Some is.1.1);
+  of_none = λ none. elim (slice_get_cases texts p.row).1 [
+    | inl at ↦ ap in-row at.2 ∙ (elim (slice_get_cases at.0 p.col).1 [
+      | inl found ↦ absurd (none found.0 (at.1, subst (λ row. RowHasCell row p.col found.0) (sym (get_or_from_slice_get texts p.row at.0 [] at.2)) (found.1, found.3)))
+      | inr past ↦ ap (lines_of text_lines) past.1
+    ])
+    | inr past ↦ ap in-row past.1
+  ];
+}
+  where
+    in-row : Option (List (List ℕ)) → List (List ℕ × ℕ)
+    in-row row = lines_of text_lines (option_and_then (λ cells. slice_get cells p.col) row)
+
 -- what follows from what holds unless an allocation failed
 pub unless-also : (e : LayoutError) {P Q : Type 0} → (P → Q) → UnlessMemoryError e P → UnlessMemoryError e Q
 unless-also (layout_errors.OutOfTable p) follows is = follows is
@@ -85,6 +111,20 @@ drawing-with texts parts config columns sizing lent held same_config same_rows s
   is = λ i. texts_drawing (same_config i) (map texts (same_rows i)) parts.widths parts.heights;
 }
 
+-- sizes that are chosen so have room
+fits-by : (config : SpannedConfig) (columns : ℕ) (texts : List (List (List ℕ))) (sizing : Sizing) (widths heights : List ℕ) →
+    AreSizesBySizing config text_measure columns texts sizing widths heights → Fits (problem_of (spanned_grid config) text_measure columns texts Columns) widths
+fits-by config columns texts ByShares widths heights are = are.widths.fits
+fits-by config columns texts Least widths heights are = are.widths.least.fits
+
+-- so each visible cell has room in the drawing with them
+pub room-with : (columns : ℕ) (texts : List (List (List ℕ))) (sizing : Sizing) (config : SpannedConfig) (d : Drawing) → IsDrawingWith columns texts sizing config d → AllHaveRoom d
+room-with columns texts sizing config d is =
+    let fits = fits-by config columns texts sizing is.widths is.heights is.sized in
+    let counted = subst (λ n. Fits (problem_of (spanned_grid config) text_measure n texts Columns) is.widths) (sym fits.one_each) fits in
+    subst AllHaveRoom (sym is.is)
+    (texts-leave-room (texts_drawing config texts is.widths is.heights) (λ text. text) texts is.widths refl counted (λ p cell. lines-of-rows texts p))
+
 -- what is known of a call that draws by a configuration, with the sizes that are chosen so
 module _ {W : Type 0} (contents : W → Option (List ℕ)) (has_failed has_stalled : W → Bool) (config : SpannedConfig) (columns : ℕ) (texts : List (List (List ℕ)))
     (sizing : Sizing) (text_of : Drawing → List ℕ) where
@@ -94,7 +134,14 @@ module _ {W : Type 0} (contents : W → Option (List ℕ)) (has_failed has_stall
   -- there are no sizes
   pub unsized : (w : W) (e : LayoutError) → UnlessMemoryError e (AreNoSizesBySizing config text_measure columns texts sizing e) →
       IsUndrawn contents has_failed has_stalled (IsDrawingWith columns texts sizing config) (IsFaultWith columns texts sizing config) text_of w w (draw_error_of e)
-  unsized w e are = record { fault = named e are; nothing = λ _. refl; beginning = inl refl; write = λ is. absurd (never e is) }
+  unsized w e are = record {
+    fault = named e are;
+    nothing = λ _. refl;
+    beginning = inl refl;
+    write = λ is. absurd (never e is);
+    steady = inr (refl, refl);
+    room = λ p. has_room e p;
+  }
     where
       named : (e : LayoutError) → UnlessMemoryError e (AreNoSizesBySizing config text_measure columns texts sizing e) → IsRefusal (draw_error_of e) → IsFaultWith columns texts sizing config (draw_error_of e)
       named (layout_errors.OutOfTable p) are is = Unsized (layout_errors.OutOfTable p) refl are
@@ -106,23 +153,38 @@ module _ {W : Type 0} (contents : W → Option (List ℕ)) (has_failed has_stall
       never layout_errors.TooLarge is = cc
       never (layout_errors.Memory e) is = cc
 
+      has_room : (e : LayoutError) (p : Position) → draw_error_of e ≢ draw_errors.NoRoom p
+      has_room (layout_errors.OutOfTable q) p is = cc
+      has_room layout_errors.TooLarge p is = cc
+      has_room (layout_errors.Memory e) p is = cc
+
   -- memory failed before anything was written
   pub no-memory : (w : W) (e : AllocError) →
       IsUndrawn contents has_failed has_stalled (IsDrawingWith columns texts sizing config) (IsFaultWith columns texts sizing config) text_of w w (draw_errors.Memory e)
-  no-memory w e = record { fault = λ is. absurd is; nothing = λ is. absurd is; beginning = inl refl; write = λ is. absurd (let none : ⊥ = cc in none) }
+  no-memory w e = record {
+    fault = λ is. absurd is;
+    nothing = λ is. absurd is;
+    beginning = inl refl;
+    write = λ is. absurd (let none : ⊥ = cc in none);
+    steady = inr (refl, refl);
+    room = λ p is. cc;
+  }
 
   -- there are, and it was drawn with them, or not
   pub drawn-so : {A : Type 0} (d : Drawing) → IsDrawingWith columns texts sizing config d → (old new : W) (result : Result A DrawError) →
       OnOk result (Appends (contents old) (contents new) (text_of d)) → OnOk result (has_failed new ≡ has_failed old) → OnOk result (has_stalled new ≡ has_stalled old) →
       IfErr result (IsDrawFault d) → IfErr result (λ e. (e ≡ draw_errors.Write) ⊎ ((error : AllocError) × (e ≡ draw_errors.Memory error)) ⊎ (new ≡ old)) →
       OnErr result ((n : ℕ) × Appends (contents old) (contents new) (take n (text_of d))) →
-      (IsErrOf result draw_errors.Write → HasEnded contents has_failed has_stalled old new) → AnswersSo old new result
-  drawn-so d is old new (Ok x) taken works moves fault nothing begun write = (d, is, record { taken = taken; works = works; moves = moves })
-  drawn-so d is old new (Err e) taken works moves fault nothing begun write = record {
+      (IsErrOf result draw_errors.Write → HasEnded contents has_failed has_stalled old new) →
+      IfErr result (λ e. (e ≡ draw_errors.Write) ⊎ IsSteady contents has_failed has_stalled old new) → AnswersSo old new result
+  drawn-so d is old new (Ok x) taken works moves fault nothing begun write steady = (d, is, record { taken = taken; works = works; moves = moves })
+  drawn-so d is old new (Err e) taken works moves fault nothing begun write steady = record {
     fault = λ named. Undrawn d is fault;
     nothing = λ named. left e named nothing;
     beginning = inr (d, is, begun);
     write = λ same. write (ap Err same);
+    steady = steady;
+    room = λ p none. room-with columns texts sizing config d is p (subst (IsDrawFault d) none fault).1.it;
   }
     where
       left : (e : DrawError) → IsRefusal e → (e ≡ draw_errors.Write) ⊎ ((error : AllocError) × (e ≡ draw_errors.Memory error)) ⊎ (new ≡ old) → new ≡ old
@@ -181,6 +243,14 @@ module _ {W : Type 0} (contents : W → Option (List ℕ)) (has_failed has_stall
     draw-write (Ok x) so is = absurd (let none : ⊥ = cc in none)
     draw-write (Err e) so is = let same : e ≡ draw_errors.Write = cc in so.write same
 
+    pub draw-steady : (result : Result A DrawError) → So result → IfErr result (λ e. (e ≡ draw_errors.Write) ⊎ IsSteady contents has_failed has_stalled old new)
+    draw-steady (Ok x) so = tt
+    draw-steady (Err e) so = so.steady
+
+    pub draw-room : (result : Result A DrawError) → So result → IfErr result (λ e. (p : Position) → e ≢ draw_errors.NoRoom p)
+    draw-room (Ok x) so = tt
+    draw-room (Err e) so = so.room
+
 -- ---- runs
 
 module _ {W : Type 0} (contents : W → Option (List ℕ)) (has_failed has_stalled : W → Bool) where
@@ -195,7 +265,16 @@ module _ {W : Type 0} (contents : W → Option (List ℕ)) (has_failed has_stall
       | inr begun ↦ inr (begun.0, (begun.1.0, follows begun.0 begun.1.0 begun.1.1, begun.1.2))
     ];
     write = so.write;
+    steady = so.steady;
   }
+
+  -- where an allocation failed, no write did
+  pub runs-steady : (IsSo : RunEnd → List ℕ → Type 0) (old new : W) (result : Result RunEnd RunFault) → Runs contents has_failed has_stalled IsSo old new result →
+      IsErrOf result run_faults.Memory → IsSteady contents has_failed has_stalled old new
+  runs-steady IsSo old new (Ok end) so is = absurd (let none : ⊥ = cc in none)
+  runs-steady IsSo old new (Err fault) so is =
+      let memory : fault ≡ run_faults.Memory = cc in
+      elim so.steady [ inl write ↦ absurd (let none : ⊥ = cc in none) | inr steady ↦ steady ]
 
   module _ (sizing : Sizing) (table : Table) (config : SpannedConfig) (told : IsConfiguredBy table.settings config) where
     abbrev IsSoUndrawn : W → W → DrawError → Type 0
@@ -207,7 +286,7 @@ module _ {W : Type 0} (contents : W → Option (List ℕ)) (has_failed has_stall
     run-drawn old new so = (lined so.0, (so.0, (config, told, so.1), refl), so.2)
 
     -- it broke off
-    pub run-broken : (old new : W) (e : DrawError) (fault : RunFault) → fault ≢ run_faults.Read → (fault ≡ run_faults.Write → e ≡ draw_errors.Write) → IsSoUndrawn old new e →
+    pub run-broken : (old new : W) (e : DrawError) (fault : RunFault) → fault ≢ run_faults.Read → (fault ≡ run_faults.Write) ↔ (e ≡ draw_errors.Write) → IsSoUndrawn old new e →
         IsBrokenOff contents has_failed has_stalled (IsTablePicture sizing table) old new fault
     run-broken old new e fault not_read follows so = record {
       not_read = not_read;
@@ -215,7 +294,8 @@ module _ {W : Type 0} (contents : W → Option (List ℕ)) (has_failed has_stall
         | inl same ↦ inl same
         | inr begun ↦ inr (Done, (lined begun.0, (begun.0, (config, told, begun.1), refl), begun.2))
       ];
-      write = λ is. so.write (follows is);
+      write = λ is. so.write (follows.0 is);
+      steady = elim so.steady [ inl is ↦ inl (follows.1 is) | inr steady ↦ inr steady ];
     }
 
     -- it was refused, and the line that says so was written

@@ -1,7 +1,8 @@
 //! Tables drawn: of records by a list of settings, and of a script.
 
-ghost use Rattle.std.specs.Prelude.{◌≡◌, ◌≢◌, ◌⊎◌, ◌∷◌, ◌++◌, [], ℕ, All, IfErr, IfOk, IfSome, IsErrOf, List, OnErr, OnOk, codes, decimal, false, map, take, true};
+ghost use Rattle.std.specs.Prelude.{◌≡◌, ◌≢◌, ◌⊎◌, ◌↔◌, ◌∷◌, ◌++◌, [], ℕ, All, IfErr, IfOk, IfSome, IsErrOf, List, OnErr, OnOk, codes, decimal, false, map, take, true};
 ghost use Rattle.std.specs.Io.KnownBytes.{Appends, Consumes, IsAtEnd};
+ghost use Rattle.papergrid_values.specs.declared.position.Position.{Position};
 ghost use Rattle.papergrid_text.specs.HeldRows.{column_count};
 ghost use Rattle.papergrid_config.specs.Applied.{is_in_range};
 ghost use Rattle.papergrid_draw.specs.Drawings.{Drawing};
@@ -25,9 +26,9 @@ use crate::table_layout::configuration;
 use bumpalo::Bump;
 use papergrid_config::laws::history_decides;
 use papergrid_config::{NoColors, Setting, SpannedConfig};
-use papergrid_draw::DrawError;
 use papergrid_draw::printer::draw_cells;
 use papergrid_draw::transfer::{Sink, Source, write_all};
+use papergrid_draw::{DrawError, Room};
 use papergrid_grid::{TextCells, draw_lines};
 use papergrid_layout::{Sizing, Table};
 use papergrid_text::{IterRecords, VecRecords};
@@ -43,7 +44,7 @@ use std::convert::AsStr;
 /// # Errors
 ///
 /// `OutOfTable` with the first visible cell that overflows the table, `NotTiled` with the first position that no
-/// visible cell covers, or that two do, `NoRoom`, and `TooLarge`, before anything is written; `Memory` and `Write` after a
+/// visible cell covers, or that two do, and `TooLarge`, before anything is written; `Memory` and `Write` after a
 /// beginning of the picture.
 pub fn draw<T: AsStr, W: Sink>(
     alloc: Global,
@@ -67,6 +68,11 @@ pub fn draw<T: AsStr, W: Sink>(
         × Appends (W.contents sink.old) (W.contents sink.new) (take n (printed d))))) }
     ensures write { IsErrOf result DrawError.Write → (W.has_failed sink.new ≡ true)
         ⊎ (W.has_stalled sink.old ≡ false → W.has_stalled sink.new ≡ true) }
+    // A failed allocation fails no write, and no cell lacks room in sizes that are found for it.
+    ensures steady { IfErr result (λ e. (e ≡ Write)
+        ⊎ ((W.has_failed sink.new ≡ W.has_failed sink.old)
+        × (W.has_stalled sink.new ≡ W.has_stalled sink.old))) }
+    ensures room { IfErr result (λ e. (p : Position) → e ≢ NoRoom p) }
 {
     let config = configuration(alloc, settings)?;
     draw_records(alloc, &config, records, sizing, sink)
@@ -92,7 +98,7 @@ fn draw_records<T: AsStr, W: Sink>(
         rows: records.as_slice(),
         colors: &NoColors,
     };
-    draw_cells(alloc, &table, &cells, sink)
+    draw_cells(alloc, &table, &cells, Room::Known, sink)
 }
 
 /// Reads a script to its end, and writes the lines of the picture of its table, with sizes by shares or least ones, or why it
@@ -105,7 +111,8 @@ fn draw_records<T: AsStr, W: Sink>(
 ///
 /// `Read` where the reader fails, `Write` where the writer fails or takes no byte of a piece that isn't empty,
 /// `Memory` where a growth is refused. No failed call is tried again. After `Read` nothing was written and the vector is as
-/// it was. After `Write` and `Memory` a beginning of the output was written, which may be nothing.
+/// it was. After `Write` and `Memory` a beginning of the output was written, which may be nothing. After `Write` the vector
+/// has the whole input, after `Memory` it is as it was or has the whole input.
 pub fn run_table<S: Source, W: Sink>(
     alloc: Global,
     sizing: Sizing,
@@ -139,8 +146,17 @@ pub fn run_table<S: Source, W: Sink>(
     ensures write_alone { IsErrOf result RunFault.Write → S.has_failed reader.new ≡ false }
     ensures read_nothing { IsErrOf result RunFault.Read → writer.new ≡ writer.old }
     ensures read_kept { IsErrOf result RunFault.Read → input.new ≡ input.old }
-    ensures unread { OnErr result ((input.new ≡ input.old)
-        ⊎ IsWholeInput (S.remaining reader.old) (S.remaining reader.new) input.new.items) }
+    ensures memory_kept { IsErrOf result RunFault.Memory →
+        (input.new ≡ input.old) ⊎ IsWholeInput (S.remaining reader.old)
+        (S.remaining reader.new) input.new.items }
+    ensures memory_works { IsErrOf result RunFault.Memory → W.has_failed writer.new ≡ false }
+    ensures memory_moves { IsErrOf result RunFault.Memory →
+        W.has_stalled writer.new ≡ W.has_stalled writer.old }
+    ensures write_kept { IsErrOf result RunFault.Write →
+        Consumes (S.remaining reader.old) (S.remaining reader.new) input.new.items }
+    ensures write_all_kept { IsErrOf result RunFault.Write →
+        IfSome (S.remaining reader.old) (λ left. input.new.items ≡ left) }
+    ensures write_end { IsErrOf result RunFault.Write → IsAtEnd (S.remaining reader.new) }
     ensures beginning { OnErr result ((writer.new ≡ writer.old)
         ⊎ ((end : RunEnd) × ((output : List ℕ) × IsPictureRun sizing input.new.items end output
         × ((n : ℕ) × Appends (W.contents writer.old) (W.contents writer.new)
@@ -210,7 +226,8 @@ fn draw_script<W: Sink>(
 /// The line for a table that was refused.
 fn refusal_text(alloc: Global, error: DrawError) -> Result<Vec<u8>, RunFault>
     ensures ok { IfOk result (λ text. IsRefusal error × (text.items ≡ refusal_line error)) }
-    ensures err { IfErr result (λ fault. (fault ≢ Read) × (fault ≡ run_faults.Write → error ≡ Write)) }
+    ensures err { IfErr result (λ fault. (fault ≢ Read)
+        × ((fault ≡ run_faults.Write) ↔ (error ≡ Write))) }
 {
     match error {
         DrawError::OutOfTable(position) => Ok(out_of_table_text(alloc, position)?),
@@ -243,7 +260,7 @@ fn draw_rows<W: Sink>(
         rows,
         colors: &NoColors,
     };
-    draw_lines(alloc, &table, &cells, writer)
+    draw_lines(alloc, &table, &cells, Room::Known, writer)
 }
 
 /// The line for a table that its cells don't tile.

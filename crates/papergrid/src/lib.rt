@@ -22,7 +22,7 @@ pub use drawing::{draw, run_table};
 pub use explained::{Reason, explain};
 pub use papergrid_draw::transfer::{Failed, ReadSource, Sink, Source, WriteSink};
 pub use papergrid_layout::{Sizing, Table};
-pub use running::{RunEnd, RunFault, run, run_keeping, run_least};
+pub use running::{RunEnd, RunFault, read_all, run, run_keeping, run_least};
 pub use table_layout::{layout, layout_least};
 
 /// Colours as texts.
@@ -89,10 +89,18 @@ pub mod dimension {
 
 /// The table, drawn.
 pub mod grid {
-    pub use papergrid_draw::DrawError;
     pub use papergrid_draw::printer::{draw_cells, draw_text, drawn_string};
+    pub use papergrid_draw::separated::{settings_separate, texts_stand_apart};
     pub use papergrid_draw::source::Cells;
-    pub use papergrid_grid::{AsANSIStr, RecordCells, TextCells, TextRow, draw_lines};
+    pub use papergrid_draw::{DrawError, Room};
+    pub use papergrid_grid::{
+        AsANSIStr, Junctions, RecordCells, TextCells, TextRow, draw_lines, fitted_crossings,
+    };
+
+    /// The printer of tables whose cells all have the same settings.
+    pub mod compact {
+        pub use papergrid_grid::CompactGrid;
+    }
 
     /// The printer over records whose cells are texts.
     pub mod iterable {

@@ -55,7 +55,7 @@ impl From<AllocError> for RunFault {
 }
 
 /// All the bytes that are left.
-pub(crate) fn read_all<S: Source>(alloc: Global, reader: &mut S) -> Result<Vec<u8>, RunFault>
+pub fn read_all<S: Source>(alloc: Global, reader: &mut S) -> Result<Vec<u8>, RunFault>
     ensures bytes { IfOk result (λ input. IfSome (S.remaining reader.old) (λ left.
         input.items ≡ left)) }
     ensures given { IfOk result (λ input. Consumes (S.remaining reader.old)

@@ -1,6 +1,7 @@
 -- What calls that draw do to a writer.
 use Rattle.std.specs.Prelude.{◌≡◌, ◌≢◌, ◌⊎◌, ℕ, Bool, false, true, List, Option, Result, Ok, Err, take}
 use Rattle.std.specs.Io.KnownBytes.{Appends}
+use Rattle.papergrid_values.specs.declared.position.Position.{Position}
 use Rattle.papergrid_draw.specs.Drawings.{Drawing}
 use Rattle.papergrid_draw.specs.declared.error.DrawError.{DrawError}
 use Rattle.papergrid_draw.specs.declared.error.DrawError.TheVariants as draw_errors
@@ -25,6 +26,10 @@ module _ {W : Type 0} (contents : W → Option (List ℕ)) (has_failed has_stall
   abbrev pub HasEnded : W → W → Type 0
   HasEnded old new = (has_failed new ≡ true) ⊎ (has_stalled old ≡ false → has_stalled new ≡ true)
 
+  -- it neither failed nor stalled anew
+  abbrev pub IsSteady : W → W → Type 0
+  IsSteady old new = (has_failed new ≡ has_failed old) × (has_stalled new ≡ has_stalled old)
+
   module _ (IsDrawn : Drawing → Type 0) (IsFault : DrawError → Type 0) (text_of : Drawing → List ℕ) where
     -- why the text of a drawing was not written whole
     pub record IsUndrawn (old new : W) (e : DrawError) : Type 0 where
@@ -32,6 +37,8 @@ module _ {W : Type 0} (contents : W → Option (List ℕ)) (has_failed has_stall
       pub nothing : IsRefusal e → new ≡ old
       pub beginning : (new ≡ old) ⊎ ((d : Drawing) × IsDrawn d × HasBegun old new (text_of d))
       pub write : e ≡ draw_errors.Write → HasEnded old new
+      pub steady : (e ≡ draw_errors.Write) ⊎ IsSteady old new
+      pub room : (p : Position) → e ≢ draw_errors.NoRoom p
 
     -- the text of such a drawing was written, or why it was not
     abbrev pub Draws : {A : Type 0} → W → W → Result A DrawError → Type 0
@@ -44,6 +51,7 @@ module _ {W : Type 0} (contents : W → Option (List ℕ)) (has_failed has_stall
       pub not_read : fault ≢ run_faults.Read
       pub beginning : (new ≡ old) ⊎ ((end : RunEnd) × ((output : List ℕ) × IsOutput end output × HasBegun old new output))
       pub write : fault ≡ run_faults.Write → HasEnded old new
+      pub steady : (fault ≡ run_faults.Write) ⊎ IsSteady old new
 
     -- a run wrote an output, and ended accordingly, or it broke off
     abbrev pub Runs : W → W → Result RunEnd RunFault → Type 0

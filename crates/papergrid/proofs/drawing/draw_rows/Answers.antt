@@ -1,11 +1,11 @@
-use Rattle.std.proofs.Common.{◌≡◌, ◌∙◌, ap, map, refl, subst, sym}
+use Rattle.std.proofs.Common.{◌∙◌, ap, map, refl, subst}
 use Rattle.std.proofs.lemmas.Result.{err_from_is_err_and}
 use Rattle.papergrid_text.proofs.RowSteps.{told_by}
 use Rattle.papergrid_layout.specs.Tables.{AreNoSizesBySizing, AreSizesBySizing}
 use Rattle.papergrid_grid.specs.Lined.{lined}
 use Rattle.papergrid.specs.Estimates.{text_measure}
 use Rattle.papergrid.specs.ForProofs.ScriptSeen.{row_texts_of, rows_seen}
-use Rattle.papergrid.proofs.PictureLemmas.{drawing-with, drawn-so, no-sizes-seen, sizes-seen, unless-also, unsized}
+use Rattle.papergrid.proofs.PictureLemmas.{drawing-with, drawn-so, no-sizes-seen, room-with, sizes-seen, unless-also, unsized}
 use Rattle.papergrid.proofs.drawing.draw_rows.Goals as goal
 
 pub returns-in_err-table : goal.returns-in_err-table
@@ -21,6 +21,19 @@ returns-in_err-table g c =
     (no-sizes-seen (λ cell. cell.now.now) c.args.config.now _ told.0 texts
     (told_by (λ cell. cell.now) (λ text. text.now) (λ row. row.now) told.0 c.args.rows.now (told.1 ∙ ap (map (λ row. row.now)) rows)) c.args.sizing e told.2)) c.in_err-table.ensures))
 
+pub draw_lines-requires : goal.draw_lines-requires
+draw_lines-requires g c = λ known.
+    let texts = rows_seen c.args.rows.now in
+    let rows = ap (λ r. r.iter.items) c.new-records.ensures ∙ c.in_ok-from_slice.ensures.items in
+    let columns = ap (λ r. r.count_columns) c.new-records.ensures in
+    let told = c.in_ok-table.ensures in
+    let same = told_by (λ cell. cell.now) (λ text. text.now) (λ row. row.now) told.0 c.args.rows.now (told.1 ∙ ap (map (λ row. row.now)) rows) in
+    let sized = subst (λ n. AreSizesBySizing c.args.config.now text_measure n texts c.args.sizing c.in_ok-table.table.widths c.in_ok-table.table.heights) columns
+    (sizes-seen (λ cell. cell.now.now) c.args.config.now _ told.0 texts same c.args.sizing _ _ told.2.1) in
+    room-with c.args.columns texts c.args.sizing c.args.config.now _
+    (drawing-with (λ row. row_texts_of row.now) c.in_ok-table.table c.args.config.now c.args.columns c.args.sizing c.args.rows.now c.args.rows.now
+    told.2.0 refl sized)
+
 pub returns : goal.returns
 returns g c =
     let texts = rows_seen c.args.rows.now in
@@ -34,4 +47,4 @@ returns g c =
     (drawing-with (λ row. row_texts_of row.now) c.in_ok-table.table c.args.config.now c.args.columns c.args.sizing c.args.rows.now c.args.rows.now
     told.2.0 refl sized)
     c.args.writer.now c.draw_lines.new.sink c.draw_lines.result c.draw_lines.ensures.picture c.draw_lines.ensures.works c.draw_lines.ensures.moves c.draw_lines.ensures.fault
-    c.draw_lines.ensures.nothing c.draw_lines.ensures.beginning c.draw_lines.ensures.write
+    c.draw_lines.ensures.nothing c.draw_lines.ensures.beginning c.draw_lines.ensures.write c.draw_lines.ensures.steady
