@@ -1,0 +1,9 @@
+pub mod CsvLemmas
+pub mod DrawLemmas
+pub mod ReadLemmas
+pub mod RefusalLemmas
+pub mod RequestLemmas
+pub mod RowLemmas
+pub mod SpellingLemmas
+pub mod TableLemmas
+pub mod WideLemmas

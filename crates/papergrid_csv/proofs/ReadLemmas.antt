@@ -1,0 +1,144 @@
+-- What was read of a CSV text, and the rows of its table.
+use Rattle.std.proofs.Common.{◌≡◌, ◌∙◌, ◌<◌, ◌+◌, ℕ, zero, suc, List, [], ◌∷◌, ◌++◌, Bool, Option, Some, None, Vec, ap, append_assoc, arith, get_or, length, map, max, refl, replicate, subst, sym, take, true, false}
+use Rattle.std.specs.Borrow.{Bor}
+use Rattle.std.specs.declared.alloc.Global.{Global}
+use Rattle.std.specs.Ordering.{nat_cmp, ord_max}
+use Rattle.std.proofs.Math.Seq.{take-nil}
+use Rattle.std.proofs.lemmas.Bool.Decides.{nat_tests}
+use Rattle.std.proofs.lemmas.List.Elements.{All-push}
+use Rattle.std.proofs.lemmas.Simd.{map-map}
+use Rattle.std.proofs.lemmas.List.{length-map, map-append, replicate_more, take_more}
+use Rattle.csv.specs.Machine.{Read, next_record}
+use Rattle.csv.specs.Reading.{ExplainsRead, NextIs, ReadsNext, ReadRecord, pending_of, source_of, strip_bom}
+use Rattle.csv.specs.Records.{AllText, field_at}
+use Rattle.csv.specs.declared.error.ErrorKind.{ErrorKind}
+use Rattle.csv.specs.declared.error.ErrorKind.TheVariants as kinds
+use Rattle.csv.specs.declared.parser.Config.{Config}
+use Rattle.csv.specs.declared.parser.State.{State}
+use Rattle.csv.specs.declared.parser.State.TheVariants as states
+use Rattle.csv.specs.declared.reader.Reader.{Reader}
+use Rattle.csv.proofs.ReadFacts.{rows-end, rows-more}
+use Rattle.papergrid_csv.specs.Rows.{AreRowsOf, IsUnread, config_of, filled_up, greatest_length, row_texts}
+use Rattle.papergrid_csv.specs.Spelling.{spelled}
+use Rattle.papergrid_csv.specs.ForProofs.Read.{AreShown, AreShownFirst, unread_of}
+use Rattle.papergrid_csv.specs.declared.reading.Reading.{Reading}
+
+-- ---- fields
+
+pub field-more : (fields : List (List ℕ)) (i : ℕ) (field : List ℕ) → Some field ≡ field_at fields i → take (i + 1) fields ≡ take i fields ++ field ∷ []
+unfolding field_at
+field-more [] i field is = cc
+field-more (f ∷ fs) zero field is = let same : field ≡ f = cc in rw same refl
+field-more (f ∷ fs) (suc i) field is = let next : suc i + 1 ≡ suc (i + 1) = omega arith in rw next (ap (λ rest. f ∷ rest) (field-more fs i field is))
+
+pub field-end : (fields : List (List ℕ)) (i : ℕ) → None ≡ field_at fields i → take i fields ≡ fields
+unfolding field_at
+field-end [] i is = take-nil i
+field-end (f ∷ fs) zero is = cc
+field-end (f ∷ fs) (suc i) is = ap (λ rest. f ∷ rest) (field-end fs i is)
+
+-- ---- rows
+
+pub greatest-more : (rows : List (List (List ℕ))) (row : List (List ℕ)) → greatest_length (rows ++ row ∷ []) ≡ max (greatest_length rows) (length row)
+greatest-more [] row = omega arith
+greatest-more (r ∷ rows) row = let more = greatest-more rows row in omega (arith, more)
+
+-- so many fields more
+pub filled-more : (row texts more : List (List ℕ)) (n m : ℕ) → texts ≡ row ++ replicate n [] → more ≡ texts ++ [] ∷ [] → m ≡ n + 1 → more ≡ row ++ replicate m []
+filled-more row texts more n m so_far is next =
+    is ∙ ap (λ t. t ++ [] ∷ []) so_far ∙ append_assoc row (replicate n []) ([] ∷ []) ∙ ap (λ t. row ++ t) (replicate_more n [] ∙ ap (λ k. replicate k []) (sym next))
+
+-- ---- what a reader has read
+
+module _ {R : Type 0} (rem : R → Option (List ℕ)) (reading : Reading) (input : List ℕ) (shown : List (List (List ℕ))) (old new : Reader R) (y : List ℕ)
+    (config : old.config ≡ config_of reading) (source : source_of rem old ≡ Some y) (first : AreShownFirst reading input shown old.state y) where
+  -- one record more
+  pub shown-more : (fields : List (List ℕ)) (more : List (List (List ℕ))) → ReadRecord rem old new true fields → AllText fields → more ≡ shown ++ map (spelled reading.one_line) fields ∷ [] →
+      (z : List ℕ) × (source_of rem new ≡ Some z) × AreShownFirst reading input more new.state z
+  shown-more fields more read text is =
+      let m = rows-more rem old new fields (config_of reading) states.StartRecord (strip_bom input) y first.records config source first.read read in (
+        m.0,
+        m.1,
+        record {
+          records = first.records ++ fields ∷ [];
+          read = m.2;
+          texts = All-push AllText first.records fields first.texts text;
+          are = is ∙ ap (λ s. s ++ map (spelled reading.one_line) fields ∷ []) first.are ∙ sym (map-append (map (spelled reading.one_line)) first.records (fields ∷ []));
+        },
+      )
+
+  -- no record more
+  pub shown-end : (fields : List (List ℕ)) → ReadRecord rem old new false fields → AreShown reading input shown
+  shown-end fields read = record {
+    records = first.records;
+    read = (old.state, y, first.read, rows-end rem old new fields (config_of reading) y config source read);
+    texts = first.texts;
+    are = first.are;
+  }
+
+  -- no record, for this reason
+  pub shown-unread : (kind : ErrorKind) → ExplainsRead rem old new true kind → IsUnread reading input (unread_of kind (length shown))
+  shown-unread (kinds.Utf8 pos err) why =
+      let next = read-next (config_of reading) old.state new.state y (pending_of (rem new.rdr) new) why.1 (rw (config, source) at why.2) in
+      record {
+        before = first.records;
+        state = old.state;
+        rest = y;
+        bad = next.0;
+        counted = ap length first.are ∙ length-map first.records (map (spelled reading.one_line));
+        read = first.read;
+        texts = first.texts;
+        next = next.1;
+        is_bad = λ text. why.3 (subst AllText (sym next.2) text);
+      }
+    where
+      read-next : (cfg : Config) (s s2 : State) (xs : List ℕ) (after : Option (List ℕ)) (f : List (List ℕ)) → ReadsNext cfg s (Some xs) after true f s2 →
+          (p : Read) × (next_record cfg s [] [] xs ≡ Some p) × (f ≡ p.0)
+      read-next cfg s s2 xs None f h = absurd h
+      read-next cfg s s2 xs (Some ys) f h = by (next_record cfg s [] [] xs) refl h
+        where
+          by : (o : Option Read) → next_record cfg s [] [] xs ≡ o → NextIs o true f s2 ys → (p : Read) × (next_record cfg s [] [] xs ≡ Some p) × (f ≡ p.0)
+          by None e none = cc none
+          by (Some p) e some = (p, e, some.1)
+  shown-unread (kinds.Io e) why = tt
+  shown-unread (kinds.UnequalLengths pos expected len) why = tt
+  shown-unread kinds.OutOfMemory why = tt
+  shown-unread (kinds.Serialize text) why = tt
+  shown-unread (kinds.Deserialize pos err) why = tt
+
+-- ---- the greatest length so far
+
+pub greatest-next : (rows : List (Vec (Bor (List ℕ)) Global)) (i : ℕ) (row : Vec (Bor (List ℕ)) Global) (greatest next : ℕ) → i < length rows → row ≡ get_or rows i row →
+    greatest ≡ greatest_length (map row_texts (take i rows)) → next ≡ max greatest (length row.items) → next ≡ greatest_length (map row_texts (take (i + 1) rows))
+greatest-next rows i row greatest next within is so_far step =
+    let cut : take (i + 1) rows ≡ take i rows ++ row ∷ [] = take_more rows i row within ∙ ap (λ r. take i rows ++ r ∷ []) (sym is) in
+    let long : length (row_texts row) ≡ length row.items = length-map row.items (λ text. text.now) in
+    step ∙ (let both : max greatest (length row.items) ≡ max (greatest_length (map row_texts (take i rows))) (length (row_texts row)) = omega arith in both)
+    ∙ sym (ap (λ rs. greatest_length (map row_texts rs)) cut ∙ ap greatest_length (map-append row_texts (take i rows) (row ∷ [])) ∙ greatest-more (map row_texts (take i rows)) (row_texts row))
+
+-- ---- the fields of a record so far
+
+pub shown-field : (one_line : Bool) (fields : List (List ℕ)) (i j : ℕ) (field text : List ℕ) (texts more : List (List ℕ)) → texts ≡ map (spelled one_line) (take i fields) →
+    Some field ≡ field_at fields i → j ≡ i + 1 → text ≡ spelled one_line field → more ≡ texts ++ text ∷ [] → more ≡ map (spelled one_line) (take j fields)
+shown-field one_line fields i j field text texts more so_far at next same is =
+    is ∙ ap (λ t. texts ++ t ∷ []) same ∙ ap (λ t. t ++ spelled one_line field ∷ []) so_far ∙ sym (map-append (spelled one_line) (take i fields) (field ∷ []))
+    ∙ sym (ap (λ k. map (spelled one_line) (take k fields)) next ∙ ap (map (spelled one_line)) (field-more fields i field at))
+
+-- ---- all rows
+
+greatest-map : (f : List (List ℕ) → List (List ℕ)) (rows : List (List (List ℕ))) → ((row : List (List ℕ)) → length (f row) ≡ length row) → greatest_length (map f rows) ≡ greatest_length rows
+greatest-map f [] same = refl
+greatest-map f (row ∷ rows) same = let more = greatest-map f rows same in let one = same row in omega (arith, one, more)
+
+pub rows-are : (reading : Reading) (input : List ℕ) (columns : ℕ) (shown rows : List (List (List ℕ))) → AreShown reading input shown → columns ≡ greatest_length shown →
+    rows ≡ map (filled_up columns) shown → AreRowsOf reading input columns rows
+rows-are reading input columns shown rows so widest filled = record {
+  records = so.records;
+  read = so.read;
+  texts = so.texts;
+  widest = widest ∙ ap greatest_length so.are ∙ greatest-map (map (spelled reading.one_line)) so.records (λ row. length-map row (spelled reading.one_line));
+  shown = filled ∙ ap (map (filled_up columns)) so.are ∙ map-map (filled_up columns) (map (spelled reading.one_line)) so.records;
+}
+
+pub max-of : (a b c : ℕ) → b ≡ c → ord_max nat_cmp a b ≡ max a c
+max-of a b c same = grind (arith, nat_tests)

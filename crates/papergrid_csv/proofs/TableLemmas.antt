@@ -1,0 +1,123 @@
+-- Tables whose cells span one row and one column each.
+use Rattle.std.proofs.Common.{◌≡◌, ◌∙◌, ◌<◌, ℕ, zero, suc, Bool, true, false, List, [], ◌∷◌, Option, Some, None, ap, arith, length, refl, subst, sym}
+use Rattle.std.specs.Prelude.{◌||◌, IsSome, flat_map, nat_lt, option_and_then, slice_get, slice_index_or, unwrap_or}
+use Rattle.std.proofs.lemmas.Bool.Decides.{nat_tests}
+use Rattle.std.specs.FinMap.{get-empty}
+use Rattle.papergrid_values.specs.MapKeys.{position_cmp}
+use Rattle.papergrid_values.specs.declared.borders.Borders.{Borders}
+use Rattle.papergrid_values.specs.declared.direction.Direction.{Direction}
+use Rattle.papergrid_values.specs.declared.direction.Direction.TheVariants.{Columns, Rows}
+use Rattle.papergrid_values.specs.declared.position.Position.{Position}
+use Rattle.papergrid_tables.specs.StoredBorders.{StoredBorders}
+use Rattle.papergrid_tables.specs.LineTests.{vertical_line_at}
+use Rattle.papergrid_config.specs.Grids.{spanned_grid}
+use Rattle.papergrid_config.specs.Made.{spans_of}
+use Rattle.papergrid_config.specs.Parts.{span_calls}
+use Rattle.papergrid_config.specs.declared.setting.Setting.{Setting}
+use Rattle.papergrid_config.specs.declared.spanned.SpannedConfig.{SpannedConfig}
+use Rattle.papergrid_maps.specs.Made.{spans_made}
+use Rattle.papergrid_maps.specs.Spans.{is_visible, span_along}
+use Rattle.papergrid_maps.proofs.SpanVisible.{visible_test}
+use Rattle.papergrid_maps.specs.Grids.{Grid}
+use Rattle.papergrid_layout.specs.Laws.{IsCellAt}
+use Rattle.papergrid_layout.specs.Places.{TableView}
+use Rattle.papergrid_draw.specs.Contents.{lines_of}
+use Rattle.papergrid_draw.specs.Laws.{AreLinesAt}
+use Rattle.papergrid_draw.specs.Tiles.{EndsOutside, IsTiled, Owns}
+use Rattle.papergrid_grid.specs.Cells.{lines_at, text_lines}
+
+-- each position is visible, and spans one row and one column
+pub record HasNoSpans (grid : Grid) : Type 0 where
+  pub shown : (p : Position) → grid.shows p ≡ true
+  pub single : (direction : Direction) (p : Position) → grid.span direction p ≡ 1
+
+-- positions are the same by row and column
+same-place : (p q : Position) → p.row ≡ q.row → p.col ≡ q.col → p ≡ q
+same-place p q row col = λ i. record { row = row i; col = col i }
+
+pub none-spanned : (settings : List Setting) (config : SpannedConfig) → flat_map span_calls settings ≡ [] → config.spans ≡ spans_of settings → HasNoSpans (spanned_grid config)
+none-spanned settings config none is =
+    let empty = is ∙ ap spans_made none in
+    record {
+      shown = λ p. ap (λ spans. is_visible spans p) empty ∙ seen p;
+      single = λ direction p. ap (λ spans. span_along spans direction p) empty ∙ one direction p;
+    }
+  where
+    one : (direction : Direction) (p : Position) → span_along (spans_made []) direction p ≡ 1
+    one Columns p = ap (λ o. unwrap_or o 1) (get-empty position_cmp p)
+    one Rows p = ap (λ o. unwrap_or o 1) (get-empty position_cmp p)
+
+    seen : (p : Position) → is_visible (spans_made []) p ≡ true
+    seen p = (visible_test (spans_made []) p).1 (λ anchor other covers.
+        let across = one Columns anchor in
+        let down = one Rows anchor in
+        other (same-place anchor p (omega (arith, covers.below_top, covers.above_bottom)) (omega (arith, covers.after_left, covers.before_right))))
+
+module _ (table : TableView) (spans : HasNoSpans table.grid) where
+  within : (p : Position) → EndsOutside table p → ⊥
+  within p (is, Columns, over) = let one = spans.single Columns p in let inside = is.col_in in absurd (omega (arith, over))
+  within p (is, Rows, over) = let one = spans.single Rows p in let inside = is.row_in in absurd (omega (arith, over))
+
+  owns-itself : (q : Position) → Owns table q q
+  owns-itself q =
+      let across = spans.single Columns q in
+      let down = spans.single Rows q in
+      record { visible = spans.shown q; covers = record { below_top = omega arith; above_bottom = omega arith; after_left = omega arith; before_right = omega arith } }
+
+  only-itself : (q other : Position) → Owns table other q → other ≡ q
+  only-itself q other owns =
+      let across = spans.single Columns other in
+      let down = spans.single Rows other in
+      let covers = owns.covers in
+      same-place other q (omega arith) (omega arith)
+
+  pub tiled : IsTiled table
+  tiled = record { within = within; once = λ q inside. (q, owns-itself q, only-itself q) }
+
+-- ---- the lines of texts
+
+got-at : {X : Type 0} (xs : List X) (i : ℕ) (x d : X) → i < length xs → slice_index_or xs i d ≡ x → slice_get xs i ≡ Some x
+got-at [] i x d within is = absurd (omega arith)
+got-at (y ∷ ys) zero x d within is = ap Some is
+got-at (y ∷ ys) (suc i) x d within is = got-at ys i x d (omega arith) is
+
+found-at : {X : Type 0} (xs : List X) (i : ℕ) (x d : X) → slice_get xs i ≡ Some x → (i < length xs) × (slice_index_or xs i d ≡ x)
+found-at [] i x d is = cc
+found-at (y ∷ ys) zero x d is = (omega arith, cc)
+found-at (y ∷ ys) (suc i) x d is = let more = found-at ys i x d is in (omega arith, more.1)
+
+pub lines-are : (rows : List (List (List ℕ))) (p : Position) → AreLinesAt (λ text. text) rows p (lines_at text_lines rows p)
+lines-are rows p = record {
+  of_cell = λ cell is.
+      let row = got-at rows p.row (slice_index_or rows p.row []) [] is.0 refl in
+      let found = got-at (slice_index_or rows p.row []) p.col cell cell is.1.0 is.1.1 in
+      rw (row, found) refl;
+  of_none = λ none. by-row none (slice_get rows p.row) refl;
+}
+  where
+    by-cell : ((cell : List ℕ) → IsCellAt rows p cell → ⊥) → (row : List (List ℕ)) → slice_get rows p.row ≡ Some row → (found : Option (List ℕ)) → slice_get row p.col ≡ found →
+        lines_of text_lines found ≡ []
+    by-cell none row is None at = refl
+    by-cell none row is (Some cell) at =
+        let there = found-at rows p.row row [] is in
+        let here = found-at row p.col cell cell at in
+        absurd (none cell (there.0, subst (λ r. (p.col < length r) × (slice_index_or r p.col cell ≡ cell)) (sym there.1) here))
+
+    by-row : ((cell : List ℕ) → IsCellAt rows p cell → ⊥) → (found : Option (List (List ℕ))) → slice_get rows p.row ≡ found →
+        lines_of text_lines (option_and_then (λ row. slice_get row p.col) found) ≡ []
+    by-row none None is = refl
+    by-row none (Some row) is = by-cell none row is (slice_get row p.col) refl
+
+-- ---- vertical lines
+
+or-true : (g x y r : Bool) → (g || ((x || (y || true)) || r)) ≡ true
+or-true true x y r = refl
+or-true false true y r = refl
+or-true false false true r = refl
+or-true false false false r = refl
+
+pub line-between : (stored : StoredBorders ℕ) (frame : Borders ℕ) (j count : ℕ) → stored.frame ≡ frame → IsSome frame.vertical → 0 < j → j < count → vertical_line_at stored j count ≡ true
+line-between stored frame j count is some above below =
+    let first : nat_lt 0 j ≡ true = grind (arith, nat_tests) in
+    let second : nat_lt j count ≡ true = grind (arith, nat_tests) in
+    rw (is, first, second, some) (or-true _ _ _ _)

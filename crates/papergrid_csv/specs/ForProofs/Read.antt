@@ -1,0 +1,36 @@
+-- What was read of a CSV text so far.
+use Rattle.std.specs.Prelude.{◌≡◌, ℕ, All, List, map}
+use Rattle.csv.specs.Reading.{AreRecords, Reached, strip_bom}
+use Rattle.csv.specs.Records.{AllText}
+use Rattle.csv.specs.declared.error.ErrorKind.{ErrorKind}
+use Rattle.csv.specs.declared.error.ErrorKind.TheVariants as kinds
+use Rattle.csv.specs.declared.parser.State.{State}
+use Rattle.csv.specs.declared.parser.State.TheVariants as states
+use Rattle.papergrid_csv.specs.Rows.{config_of}
+use Rattle.papergrid_csv.specs.Spelling.{spelled}
+use Rattle.papergrid_csv.specs.declared.reading.Reading.{Reading}
+use Rattle.papergrid_csv.specs.declared.reading.RowsError.{RowsError}
+use Rattle.papergrid_csv.specs.declared.reading.RowsError.TheVariants.{Memory, NotText}
+
+-- these are the fields of the records of a text, as they are shown
+pub record AreShown (reading : Reading) (input : List ℕ) (shown : List (List (List ℕ))) : Type 0 where
+  pub records : List (List (List ℕ))
+  pub read : AreRecords (config_of reading) states.StartRecord (strip_bom input) records
+  pub texts : All AllText records
+  pub are : shown ≡ map (map (spelled reading.one_line)) records
+
+-- these are those of the first records, after which this is left to read, in this state
+pub record AreShownFirst (reading : Reading) (input : List ℕ) (shown : List (List (List ℕ))) (state : State) (rest : List ℕ) : Type 0 where
+  pub records : List (List (List ℕ))
+  pub read : Reached (config_of reading) states.StartRecord (strip_bom input) records state rest
+  pub texts : All AllText records
+  pub are : shown ≡ map (map (spelled reading.one_line)) records
+
+-- what an error after so many records means
+abbrev pub unread_of : ErrorKind → ℕ → RowsError
+unread_of (kinds.Utf8 pos err) before = NotText before
+unread_of (kinds.Io e) before = Memory
+unread_of (kinds.UnequalLengths pos expected len) before = Memory
+unread_of kinds.OutOfMemory before = Memory
+unread_of (kinds.Serialize text) before = Memory
+unread_of (kinds.Deserialize pos err) before = Memory

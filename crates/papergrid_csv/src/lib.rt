@@ -1,0 +1,15 @@
+//! Tables of CSV texts: their rows, each field spelled so that no control character is left, and their pictures.
+#![tactic(auto)]
+
+pub mod laws;
+mod reading;
+mod request;
+mod run;
+mod spelling;
+
+pub use reading::{Reading, Rows, RowsError, read_rows};
+pub use request::Request;
+pub use run::{CsvEnd, run_csv};
+
+#[cfg(test)]
+mod tests;
