@@ -8,7 +8,7 @@ use crate::reading::Words;
 use crate::running::Subject;
 use crate::size_questions::Sizes;
 use crate::table_cases::numbers_to;
-use papergrid::grid::{DrawError, RecordCells, draw_cells};
+use papergrid::grid::{DrawError, RecordCells, Room, draw_cells};
 use papergrid::{Sizing, Table, WriteSink};
 use papergrid_layout::LayoutError;
 use papergrid_text::{Cell, IterRecords, Text};
@@ -114,7 +114,13 @@ impl DrawingCases {
         let table = self.table()?;
         let colors = &self.colors;
         let cells = RecordCells { rows, colors };
-        draw_cells(self.alloc, &table, &cells, &mut WriteSink::new(written))
+        draw_cells(
+            self.alloc,
+            &table,
+            &cells,
+            Room::Unknown,
+            &mut WriteSink::new(written),
+        )
     }
 
     /// The table of the sizes that are told, or else of those that the texts ask for.
@@ -132,7 +138,7 @@ impl DrawingCases {
 }
 
 /// Answers how many lines the picture has, or one of them.
-fn ask_picture(text: &str, word: &str, words: &mut Words<'_>, answer: &mut Answer) {
+pub fn ask_picture(text: &str, word: &str, words: &mut Words<'_>, answer: &mut Answer) {
     match word {
         "picture" => show_count(text, answer),
         "line" => match text.split('\n').nth(words.number()) {
@@ -152,7 +158,8 @@ fn show_count(text: &str, answer: &mut Answer) {
     answer.word(if count == 1 { "line" } else { "lines" });
 }
 
-fn show_refusal(error: DrawError, answer: &mut Answer) {
+/// Answers why there is no picture.
+pub fn show_refusal(error: DrawError, answer: &mut Answer) {
     match error {
         DrawError::OutOfTable(cell) => show_place("out of table", cell, answer),
         DrawError::NotTiled(cell) => show_place("not tiled", cell, answer),

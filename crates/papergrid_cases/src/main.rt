@@ -5,6 +5,7 @@
 mod answer;
 mod certificate_questions;
 mod compact_cases;
+mod compact_drawings;
 mod config_cases;
 mod config_questions;
 mod drawing_cases;
@@ -27,6 +28,7 @@ mod table_cases;
 mod text_questions;
 
 use compact_cases::CompactCases;
+use compact_drawings::CompactDrawings;
 use config_cases::Config;
 use drawing_cases::DrawingCases;
 use map_cases::Map;
@@ -75,6 +77,7 @@ fn report_of(rt: &HostRuntime, name: &str, text: &str) -> Report {
         "drawings.txt" | "drawings_of_cells.txt" | "drawings_of_spans.txt" => {
             run::<DrawingCases>(rt, name, text)
         }
+        "drawings_of_compact.txt" => run::<CompactDrawings>(rt, name, text),
         "tables.txt" | "scripts.txt" => run::<TableCases>(rt, name, text),
         "texts.txt" | "values.txt" | "widths.txt" => run::<PlainCases>(rt, name, text),
         "maps.txt" => run::<Pair<Map>>(rt, name, text),

@@ -7,7 +7,7 @@ use anyhow::Result;
 use papergrid::colors::NoColors;
 use papergrid::config::spanned::{Setting, SpannedConfig};
 use papergrid::config::{Borders, Entity, Indent, Sides};
-use papergrid::grid::{DrawError, TextCells, drawn_string};
+use papergrid::grid::{DrawError, Junctions, TextCells, drawn_string, fitted_crossings};
 use papergrid::records::IterRecords;
 use papergrid::records::vec_records::VecRecords;
 use papergrid::{Sink, Sizing, Table, draw};
@@ -42,4 +42,15 @@ pub fn picture(
         colors: &colors,
     };
     drawn_string(alloc, &table, &cells)
+}
+
+/// Fits the crossings of a table of so many rows and columns to its spans, with the characters of its frame; nothing where
+/// that lacks some.
+pub fn fit(alloc: Global, config: &mut SpannedConfig, shape: (usize, usize)) -> Result<()> {
+    let Some(junctions) = Junctions::of_frame(config.get_borders()) else {
+        return Ok(());
+    };
+    let settings = fitted_crossings(alloc, config, shape, &junctions)?;
+    config.apply_all(settings)?;
+    Ok(())
 }

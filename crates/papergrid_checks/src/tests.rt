@@ -5,6 +5,7 @@
 mod clones;
 mod colors;
 mod consumer;
+mod crossings;
 mod cuts;
 mod ends;
 mod exact_sizes;
@@ -22,6 +23,7 @@ mod size_callers;
 mod texts;
 mod types_of_laws;
 mod values;
+mod writers;
 
 use crate::certificates::{is_certified, is_right};
 use crate::own::{Flat, of_flat};

@@ -1,0 +1,124 @@
+//! Tables whose crossings fit their spans, each by a picture that was drawn by hand.
+
+use crate::drawn::{fit, picture};
+use anyhow::Result;
+use papergrid::config::spanned::SpannedConfig;
+use papergrid::config::{Borders, Position};
+use std::alloc::Global;
+
+/// A frame of box characters.
+fn box_frame() -> Borders<char> {
+    Borders {
+        top: Some('─'),
+        top_left: Some('┌'),
+        top_right: Some('┐'),
+        top_intersection: Some('┬'),
+        bottom: Some('─'),
+        bottom_left: Some('└'),
+        bottom_right: Some('┘'),
+        bottom_intersection: Some('┴'),
+        horizontal: Some('─'),
+        vertical: Some('│'),
+        intersection: Some('┼'),
+        left: Some('│'),
+        left_intersection: Some('├'),
+        right: Some('│'),
+        right_intersection: Some('┤'),
+    }
+}
+
+/// A configuration with that frame.
+fn boxed(alloc: Global) -> SpannedConfig {
+    let mut config = SpannedConfig::new(alloc);
+    config.set_borders(box_frame());
+    config
+}
+
+/// Whether rows of texts, of so many columns, have this picture once their crossings are fitted.
+fn is_fitted(
+    alloc: Global,
+    mut config: SpannedConfig,
+    rows: &[Vec<&str>],
+    columns: usize,
+    expected: &str,
+) -> Result<bool> {
+    fit(alloc, &mut config, (rows.len(), columns))?;
+    let picture = picture(alloc, &config, rows, columns)?;
+    Ok(picture.as_str() == expected)
+}
+
+/// A head over two of three columns.
+fn has_head(alloc: Global) -> Result<bool> {
+    let rows = [
+        vec![in alloc; "a", "", "b"]?,
+        vec![in alloc; "c", "d", "e"]?,
+    ];
+    let mut config = boxed(alloc);
+    config.set_column_span(Position::new(0, 0), 2)?;
+    let expected = "\
+┌───┬─┐
+│a  │b│
+├─┬─┼─┤
+│c│d│e│
+└─┴─┴─┘";
+    is_fitted(alloc, config, &rows, 3, expected)
+}
+
+/// A cell of two rows at the left edge.
+fn has_side(alloc: Global) -> Result<bool> {
+    let rows = [
+        vec![in alloc; "a", "b"]?,
+        vec![in alloc; "", "c"]?,
+        vec![in alloc; "d", "e"]?,
+    ];
+    let mut config = boxed(alloc);
+    config.set_row_span(Position::new(0, 0), 2)?;
+    let expected = "\
+┌─┬─┐
+│a│b│
+│ ├─┤
+│ │c│
+├─┼─┤
+│d│e│
+└─┴─┘";
+    is_fitted(alloc, config, &rows, 2, expected)
+}
+
+/// A cell of two rows and two columns, with cells on all sides.
+fn has_middle(alloc: Global) -> Result<bool> {
+    let rows = [
+        vec![in alloc; "a", "b", "c", "d"]?,
+        vec![in alloc; "e", "f", "", "g"]?,
+        vec![in alloc; "h", "", "", "i"]?,
+        vec![in alloc; "j", "k", "l", "m"]?,
+    ];
+    let mut config = boxed(alloc);
+    config.set_column_span(Position::new(1, 1), 2)?;
+    config.set_row_span(Position::new(1, 1), 2)?;
+    let expected = "\
+┌─┬─┬─┬─┐
+│a│b│c│d│
+├─┼─┴─┼─┤
+│e│f  │g│
+├─┤   ├─┤
+│h│   │i│
+├─┼─┬─┼─┤
+│j│k│l│m│
+└─┴─┴─┴─┘";
+    is_fitted(alloc, config, &rows, 4, expected)
+}
+
+#[test]
+fn heads(rt: HostRuntime) {
+    assert!(rt; matches!(has_head(rt.alloc()), Ok(true)));
+}
+
+#[test]
+fn sides(rt: HostRuntime) {
+    assert!(rt; matches!(has_side(rt.alloc()), Ok(true)));
+}
+
+#[test]
+fn middles(rt: HostRuntime) {
+    assert!(rt; matches!(has_middle(rt.alloc()), Ok(true)));
+}
