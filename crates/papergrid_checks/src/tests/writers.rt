@@ -1,5 +1,7 @@
 //! Writers that fail, of the printers over records: what they took is a beginning of the picture.
 
+ghost use Rattle.std.specs.Prelude.{◌≤◌, IfOk, length};
+
 use papergrid::WriteSink;
 use papergrid::colors::NoColors;
 use papergrid::config::Borders;
@@ -26,7 +28,9 @@ struct Limited {
 
 impl Limited {
     /// How many bytes of a piece it takes.
-    fn take(&mut self, piece: &[u8]) -> Result<usize, AllocError> {
+    fn take(&mut self, piece: &[u8]) -> Result<usize, AllocError>
+        ensures { IfOk result (λ count. count ≤ length piece.now) }
+    {
         let count = self.left.min(piece.len());
         self.written.extend_from_slice(&piece[..count])?;
         self.left -= count;
