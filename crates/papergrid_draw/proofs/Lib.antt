@@ -1,6 +1,7 @@
 pub mod AfterLemmas
 pub mod ApartLemmas
 pub mod BeforeLemmas
+pub mod BlankLemmas
 pub mod BlockLemmas
 pub mod ColoredLemmas
 pub mod ColumnLemmas

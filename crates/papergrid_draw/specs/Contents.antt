@@ -49,6 +49,12 @@ abbrev pub lines_of : {T : Type 0} → (T → List (List ℕ × ℕ)) → Option
 lines_of lines None = []
 lines_of lines (Some cell) = lines cell
 
+-- the line of a text that has one line and no more
+abbrev pub single_line : List (List ℕ × ℕ) → Option (List ℕ × ℕ)
+single_line [] = None
+single_line (line ∷ []) = Some line
+single_line (line ∷ next ∷ more) = None
+
 -- how much of some free columns is left of a text
 abbrev pub free_before : AlignmentHorizontal → ℕ → ℕ
 free_before horizontal.Left free = 0

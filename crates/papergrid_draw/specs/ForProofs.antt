@@ -1,5 +1,6 @@
 -- What only proofs and contracts of private functions speak of.
 pub mod Apart
+pub mod Blanks
 pub mod Blocks
 pub mod Looks
 pub mod Pages

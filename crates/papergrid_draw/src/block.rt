@@ -59,7 +59,7 @@ impl<'a, T: Cell> Model for Block<'a, T> {
 }
 
 /// How much of some free room is before a text.
-fn free_before(alignment: AlignmentHorizontal, free: usize) -> usize
+pub fn free_before(alignment: AlignmentHorizontal, free: usize) -> usize
     ensures { result ≡ free_before alignment free }
 {
     match alignment {

@@ -120,7 +120,8 @@ pub fn texts_in_place()
         (p : Position) → IsVisibleCell (layout_of d) p → let b = block_at d p in
         b.look.padding.top.size + length (shown b) ≤ b.height →
         (i : ℕ) → i < length (shown b) →
-        let line = shown_line b.look.formatting.horizontal_trim (slice_index_or (shown b) i ([], 0)) in
+        let line = shown_line b.look.formatting.horizontal_trim
+        (slice_index_or (shown b) i ([], 0)) in
         AreDrawnAt d
         (begin_along (layout_of d) Columns p + (b.look.padding.left.size + before b line))
         (begin_along (layout_of d) Rows p + (above b + i))
@@ -129,7 +130,8 @@ pub fn texts_in_place()
         (p : Position) → IsVisibleCell (layout_of d) p → let b = block_at d p in
         b.look.padding.top.size + length (shown b) ≤ b.height →
         (i : ℕ) → i < length (shown b) →
-        let line = shown_line b.look.formatting.horizontal_trim (slice_index_or (shown b) i ([], 0)) in
+        let line = shown_line b.look.formatting.horizontal_trim
+        (slice_index_or (shown b) i ([], 0)) in
         ((b.look.padding.left.size + before b line) + line.1 + b.look.padding.right.size ≤ b.width)
         × (above b + i < b.height) }
 {}
@@ -162,7 +164,8 @@ pub fn estimates_leave_room<C>()
 /// Nothing else is drawn: each piece of each line is of the content of a visible cell, or of a line of the table. What
 /// stands in the place of a cell is a line of its text as it is shown, or one of the characters that fill it.
 pub fn nothing_else_is_drawn()
-    ensures pieces { (d : Drawing) → All (λ line. All (IsOfTable d) (pieces_of line)) (drawn_lines d) }
+    ensures pieces { (d : Drawing) →
+        All (λ line. All (IsOfTable d) (pieces_of line)) (drawn_lines d) }
     ensures cells { (b : Block) (k : ℕ) → All (IsOfCell b) (content b k) }
 {}
 

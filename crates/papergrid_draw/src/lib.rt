@@ -1,6 +1,7 @@
 //! The table, drawn: line by line.
 #![tactic(auto)]
 
+mod blanks;
 mod block;
 mod characters;
 mod delivery;

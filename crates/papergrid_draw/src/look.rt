@@ -4,6 +4,7 @@ ghost use Rattle.std.specs.Prelude.{◌≡◌, ◌↔◌, IsFalse};
 ghost use Rattle.papergrid_draw.specs.Contents.{look_of};
 ghost use Rattle.papergrid_draw.specs.ForProofs.Looks.{IsCommonLook, IsLookedUp, look_seen};
 
+use crate::blanks::Blanks;
 use papergrid_config::SpannedConfig;
 use papergrid_values::{
     ANSIBuf, AlignmentHorizontal, AlignmentVertical, Formatting, Indent, Position, Sides,
@@ -38,11 +39,13 @@ impl<'a> Look<'a> {
     }
 }
 
-/// The settings of all cells: where none is set for a column, a row or a cell, those of the whole table.
+/// The settings of all cells: where none is set for a column, a row or a cell, those of the whole table, and how
+/// texts stand between blanks by these.
 #[derive(Drop)]
 pub struct Looks<'a> {
     config: &'a SpannedConfig,
     common: Option<Look<'a>>,
+    pub blanks: Option<Blanks>,
 }
 
 /// Whether a setting of a text is set for a column, a row or a cell, or the colour of a padding or
@@ -68,12 +71,14 @@ impl<'a> Looks<'a> {
             return Looks {
                 config,
                 common: None,
+                blanks: None,
             };
         }
         let look = Look::of(config, Position { row: 0, col: 0 });
         Looks {
             config,
             common: Some(look),
+            blanks: Blanks::of(&look),
         }
     }
 

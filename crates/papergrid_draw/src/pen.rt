@@ -17,7 +17,7 @@ fn blanks() -> &'static str
 }
 
 /// Adds so many blanks.
-fn push_blanks(line: &mut String, count: usize) -> Result<(), AllocError>
+pub fn push_blanks(line: &mut String, count: usize) -> Result<(), AllocError>
     ensures { OnOk result (string_bytes line.new
         ≡ string_bytes line.old ++ replicate count 32) }
 {

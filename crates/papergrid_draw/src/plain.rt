@@ -59,7 +59,8 @@ impl PlainLines {
 
     /// Adds the character of the vertical line before a column, or after the last, if there is one.
     fn push_vertical(&self, col: usize, line: &mut String) -> Result<(), AllocError>
-        requires { (parts : TableParts) × ArePlainLines parts self.now × (col ≤ length parts.widths) }
+        requires { (parts : TableParts) × ArePlainLines parts self.now
+            × (col ≤ length parts.widths) }
         ensures { OnOk result ((parts : TableParts) (texts : Texts) (r k : ℕ) →
             ArePlainLines parts self.now → col ≤ length parts.widths →
             string_bytes line.new ≡ string_bytes line.old
@@ -214,8 +215,13 @@ where
         OnOk result (string_bytes line.new ≡ string_bytes line.old
         ++ pieces_bytes (content (block_at d position) 0)) }
 {
-    let cell = cells.cell(position)?;
     let width = frame.table.get_width(position.col);
+    if let Some(blanks) = &frame.looks.blanks {
+        if let (None, Some((text, own))) = (cells.color(position), cells.line(position)) {
+            return blanks.push(text, own, width, line);
+        }
+    }
+    let cell = cells.cell(position)?;
     let look = frame.looks.get(position);
     push_only_line(look, cell, cells.color(position), width, line)
 }

@@ -3,6 +3,7 @@
 ghost use Rattle.std.specs.Prelude.{◌≡◌, ℕ, IfOk, List, map, option_copied, option_map, slice_get};
 ghost use Rattle.papergrid_values.specs.Colors.{texts_of};
 ghost use Rattle.papergrid_text.specs.LineCache.{answered_lines};
+ghost use Rattle.papergrid_draw.specs.Contents.{single_line};
 ghost use Rattle.papergrid_grid.specs.Cells.{lines_at, text_lines};
 
 use crate::color::AsANSIStr;
@@ -40,6 +41,14 @@ where
         }
     }
 
+    fn line(&self, position: Position) -> Option<(&str, usize)> {
+        let cell = self.rows.get(position.row)?.get(position.col)?;
+        if cell.count_lines() != 1 {
+            return None;
+        }
+        Some((cell.line(0), cell.line_width(0)))
+    }
+
     fn color(&self, position: Position) -> Option<ANSIStr<'_>> {
         color_of(self.colors, position)
     }
@@ -49,7 +58,8 @@ where
 pub fn color_of<C: Colors>(colors: &C, position: Position) -> Option<ANSIStr<'_>>
 where
     <C as Colors>::Color: AsANSIStr,
-    ensures { option_map texts_of result ≡ option_map C.Color.texts (C.color_at colors.now position) }
+    ensures { option_map texts_of result
+        ≡ option_map C.Color.texts (C.color_at colors.now position) }
 {
     match colors.get_color(position) {
         Some(color) => Some(color.as_ansi_str()),
@@ -89,15 +99,26 @@ impl<S: AsStr> TextRow for &[S] {
     }
 }
 
+/// The line of a text, with its width, where it has one line and no more.
+fn single_line(text: &str) -> Option<(&str, usize)>
+    ensures { option_map (λ line. (line.0.now, line.1)) result
+        ≡ single_line (text_lines text.now) }
+{
+    let (count, width) = get_text_dimension(text);
+    if count != 1 {
+        return None;
+    }
+    Some((text, width))
+}
+
 /// A text, measured: where it has one line, by one look at its bytes.
 fn measured(alloc: Global, text: &str) -> Result<Text<&str>, AllocError>
     ensures { IfOk result (λ t. answered_lines t.text.now t.width t.lines ≡ text_lines text.now) }
 {
-    let (count, width) = get_text_dimension(text);
-    if count == 1 {
-        return Ok(Text::exact(text, width, Vec::new(alloc)));
+    match single_line(text) {
+        Some((line, width)) => Ok(Text::exact(line, width, Vec::new(alloc))),
+        None => Text::new(alloc, text),
     }
-    Text::new(alloc, text)
 }
 
 /// Rows of texts as cells. A text is measured each time that it is read. One of several lines allocates then.
@@ -128,6 +149,10 @@ where
             Some(text) => Ok(Some(measured(self.alloc, text)?)),
             None => Ok(None),
         }
+    }
+
+    fn line(&self, position: Position) -> Option<(&str, usize)> {
+        single_line(self.rows.get(position.row)?.text(position.col)?)
     }
 
     fn color(&self, position: Position) -> Option<ANSIStr<'_>> {

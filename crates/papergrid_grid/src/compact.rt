@@ -162,14 +162,15 @@ where
             (R.tells self.entry.records) (R.columns self.entry.records) self.entry.config
             (D.width_of self.entry.dimension.now)
             (texts_at C.Color.texts C.color_at self.entry.colors.now) d × IsCompactFault d e)) }
-        ensures nothing { IfErr result (λ e. (e ≡ Write) ⊎ ((error : AllocError) × (e ≡ Memory error))
-            ⊎ (sink.new ≡ sink.old)) }
+        ensures nothing { IfErr result (λ e. (e ≡ Write)
+            ⊎ ((error : AllocError) × (e ≡ Memory error)) ⊎ (sink.new ≡ sink.old)) }
         ensures beginning { OnErr result ((sink.new ≡ sink.old) ⊎ ((d : Drawing)
             × IsCompactDrawing R.Iter.Cell.text
             (R.tells self.entry.records) (R.columns self.entry.records) self.entry.config
             (D.width_of self.entry.dimension.now)
             (texts_at C.Color.texts C.color_at self.entry.colors.now) d
-            × ((n : ℕ) × Appends (W.contents sink.old) (W.contents sink.new) (take n (printed d))))) }
+            × ((n : ℕ) × Appends (W.contents sink.old) (W.contents sink.new)
+            (take n (printed d))))) }
         ensures write { IsErrOf result DrawError.Write → (W.has_failed sink.new ≡ true)
             ⊎ (W.has_stalled sink.old ≡ false → W.has_stalled sink.new ≡ true) }
     {

@@ -62,6 +62,12 @@ where
         Ok(Some(Text::exact(line, width, Vec::new(self.alloc))))
     }
 
+    fn line(&self, position: Position) -> Option<(&str, usize)> {
+        let text = self.rows.get(position.row)?.text(position.col)?;
+        let line = first_std_line(text);
+        Some((line, get_line_width(line)))
+    }
+
     fn color(&self, position: Position) -> Option<ANSIStr<'_>> {
         color_of(self.colors, position)
     }

@@ -159,16 +159,16 @@ where
             IsGridFault parts
             (drawing_of_rows (λ cell. text_lines (R.Iter.Cell.text cell)) parts cells
             (texts_at C.Color.texts C.color_at self.entry.colors.now)) e))) }
-        ensures nothing { IfErr result (λ e. (e ≡ Write) ⊎ ((error : AllocError) × (e ≡ Memory error))
-            ⊎ (sink.new ≡ sink.old)) }
+        ensures nothing { IfErr result (λ e. (e ≡ Write)
+            ⊎ ((error : AllocError) × (e ≡ Memory error)) ⊎ (sink.new ≡ sink.old)) }
         ensures beginning { OnErr result ((sink.new ≡ sink.old) ⊎ ((cells : List (List R.Iter.Cell))
             × R.tells self.entry.records cells × (
             let parts = parts_of self.entry.config.now (D.width_of self.entry.dimension.now)
             (D.height_of self.entry.dimension.now)
             (length cells, R.columns self.entry.records) in
             (n : ℕ) × Appends (W.contents sink.old) (W.contents sink.new)
-            (take n (printed (drawing_of_rows (λ cell. text_lines (R.Iter.Cell.text cell)) parts cells
-            (texts_at C.Color.texts C.color_at self.entry.colors.now))))))) }
+            (take n (printed (drawing_of_rows (λ cell. text_lines (R.Iter.Cell.text cell))
+            parts cells (texts_at C.Color.texts C.color_at self.entry.colors.now))))))) }
         ensures write { IsErrOf result DrawError.Write → (W.has_failed sink.new ≡ true)
             ⊎ (W.has_stalled sink.old ≡ false → W.has_stalled sink.new ≡ true) }
     {
@@ -207,7 +207,8 @@ where
             let parts = parts_of self.entry.config.now (D.width_of self.entry.dimension.now)
             (D.height_of self.entry.dimension.now)
             (length cells, R.columns self.entry.records) in
-            string_bytes string ≡ printed (drawing_of_rows (λ cell. text_lines (R.Iter.Cell.text cell)) parts cells
+            string_bytes string ≡ printed (drawing_of_rows
+            (λ cell. text_lines (R.Iter.Cell.text cell)) parts cells
             (texts_at C.Color.texts C.color_at self.entry.colors.now))))) }
         ensures fault { IfErr result (λ e. UnlessMemory e ((cells : List (List R.Iter.Cell))
             × R.tells self.entry.records cells × (

@@ -22,7 +22,8 @@ where
     <<R as Records>::Iter as IntoRecords>::Cell: AsStr,
     ensures measured { (texts : List (List S)) (parts : TableParts)
         (color : Position → Option (List ℕ × List ℕ)) →
-        drawing_of_rows ⟦<Text<S> as Cell>⟧.lines parts (map (map (measured_text S.text)) texts) color
+        drawing_of_rows ⟦<Text<S> as Cell>⟧.lines parts
+        (map (map (measured_text S.text)) texts) color
         ≡ drawing_of_rows (λ text. text_lines (S.text text)) parts texts color }
     ensures compact { (records : R) (compact : CompactConfig) (widths : ℕ → ℕ)
         (color : Position → Option (List ℕ × List ℕ)) (d : Drawing)

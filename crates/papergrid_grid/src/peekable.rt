@@ -100,18 +100,21 @@ where
             (shape_told self.now.records.now).0 }
         requires columns { HasSizes (D.has_column self.now.dimension.now)
             (shape_told self.now.records.now).1 }
-        ensures picture { let parts = parts_of self.now.config.now (D.width_of self.now.dimension.now)
-            (D.height_of self.now.dimension.now) (shape_told self.now.records.now) in
+        ensures picture { let parts = parts_of self.now.config.now
+            (D.width_of self.now.dimension.now) (D.height_of self.now.dimension.now)
+            (shape_told self.now.records.now) in
             OnOk result (WritesInCalls F.write_str_gives writer.old
             (printed (drawing_of_rows T.lines parts (cells_held self.now.records.now)
             (texts_at C.Color.texts C.color_at self.now.colors.now))) writer.new) }
-        ensures fault { let parts = parts_of self.now.config.now (D.width_of self.now.dimension.now)
-            (D.height_of self.now.dimension.now) (shape_told self.now.records.now) in
+        ensures fault { let parts = parts_of self.now.config.now
+            (D.width_of self.now.dimension.now) (D.height_of self.now.dimension.now)
+            (shape_told self.now.records.now) in
             IfErr result (IsGridFault parts
             (drawing_of_rows T.lines parts (cells_held self.now.records.now)
             (texts_at C.Color.texts C.color_at self.now.colors.now))) }
-        ensures left { let parts = parts_of self.now.config.now (D.width_of self.now.dimension.now)
-            (D.height_of self.now.dimension.now) (shape_told self.now.records.now) in
+        ensures left { let parts = parts_of self.now.config.now
+            (D.width_of self.now.dimension.now) (D.height_of self.now.dimension.now)
+            (shape_told self.now.records.now) in
             IfErr result (IsLeftOff F.write_str_gives (λ _ _ _. ⊤) writer.old
             (printed (drawing_of_rows T.lines parts (cells_held self.now.records.now)
             (texts_at C.Color.texts C.color_at self.now.colors.now))) writer.new) }
@@ -138,22 +141,25 @@ where
             (shape_told self.now.records.now).0 }
         requires columns { HasSizes (D.has_column self.now.dimension.now)
             (shape_told self.now.records.now).1 }
-        ensures picture { let parts = parts_of self.now.config.now (D.width_of self.now.dimension.now)
-            (D.height_of self.now.dimension.now) (shape_told self.now.records.now) in
+        ensures picture { let parts = parts_of self.now.config.now
+            (D.width_of self.now.dimension.now) (D.height_of self.now.dimension.now)
+            (shape_told self.now.records.now) in
             OnOk result (Appends (W.contents sink.old) (W.contents sink.new)
             (printed (drawing_of_rows T.lines parts (cells_held self.now.records.now)
             (texts_at C.Color.texts C.color_at self.now.colors.now)))) }
         ensures works { OnOk result (W.has_failed sink.new ≡ W.has_failed sink.old) }
         ensures moves { OnOk result (W.has_stalled sink.new ≡ W.has_stalled sink.old) }
-        ensures fault { let parts = parts_of self.now.config.now (D.width_of self.now.dimension.now)
-            (D.height_of self.now.dimension.now) (shape_told self.now.records.now) in
+        ensures fault { let parts = parts_of self.now.config.now
+            (D.width_of self.now.dimension.now) (D.height_of self.now.dimension.now)
+            (shape_told self.now.records.now) in
             IfErr result (IsGridFault parts
             (drawing_of_rows T.lines parts (cells_held self.now.records.now)
             (texts_at C.Color.texts C.color_at self.now.colors.now))) }
-        ensures nothing { IfErr result (λ e. (e ≡ Write) ⊎ ((error : AllocError) × (e ≡ Memory error))
-            ⊎ (sink.new ≡ sink.old)) }
-        ensures beginning { let parts = parts_of self.now.config.now (D.width_of self.now.dimension.now)
-            (D.height_of self.now.dimension.now) (shape_told self.now.records.now) in
+        ensures nothing { IfErr result (λ e. (e ≡ Write)
+            ⊎ ((error : AllocError) × (e ≡ Memory error)) ⊎ (sink.new ≡ sink.old)) }
+        ensures beginning { let parts = parts_of self.now.config.now
+            (D.width_of self.now.dimension.now) (D.height_of self.now.dimension.now)
+            (shape_told self.now.records.now) in
             OnErr result ((n : ℕ) × Appends (W.contents sink.old) (W.contents sink.new)
             (take n (printed (drawing_of_rows T.lines parts (cells_held self.now.records.now)
             (texts_at C.Color.texts C.color_at self.now.colors.now))))) }
@@ -182,13 +188,15 @@ where
             (shape_told self.now.records.now).0 }
         requires columns { HasSizes (D.has_column self.now.dimension.now)
             (shape_told self.now.records.now).1 }
-        ensures picture { let parts = parts_of self.now.config.now (D.width_of self.now.dimension.now)
-            (D.height_of self.now.dimension.now) (shape_told self.now.records.now) in
+        ensures picture { let parts = parts_of self.now.config.now
+            (D.width_of self.now.dimension.now) (D.height_of self.now.dimension.now)
+            (shape_told self.now.records.now) in
             IfOk result (λ text. string_bytes text
             ≡ printed (drawing_of_rows T.lines parts (cells_held self.now.records.now)
             (texts_at C.Color.texts C.color_at self.now.colors.now))) }
-        ensures fault { let parts = parts_of self.now.config.now (D.width_of self.now.dimension.now)
-            (D.height_of self.now.dimension.now) (shape_told self.now.records.now) in
+        ensures fault { let parts = parts_of self.now.config.now
+            (D.width_of self.now.dimension.now) (D.height_of self.now.dimension.now)
+            (shape_told self.now.records.now) in
             IfErr result (IsGridFault parts
             (drawing_of_rows T.lines parts (cells_held self.now.records.now)
             (texts_at C.Color.texts C.color_at self.now.colors.now))) }

@@ -7,6 +7,8 @@ use Rattle.papergrid_config.specs.Queries.{HasSetSide}
 use Rattle.papergrid_config.specs.declared.spanned.SpannedConfig.{SpannedConfig}
 use Rattle.papergrid_draw.specs.Contents as contents
 use Rattle.papergrid_draw.specs.Contents.{look_of}
+use Rattle.papergrid_draw.specs.ForProofs.Blanks.{IsBetweenBlanks}
+use Rattle.papergrid_draw.specs.declared.blanks.Blanks.{Blanks}
 use Rattle.papergrid_draw.specs.declared.look.Look.{Look}
 use Rattle.papergrid_draw.specs.declared.look.Looks.{Looks}
 
@@ -38,3 +40,4 @@ pub record IsCommonLook (config : SpannedConfig) : Type 0 where
 pub record IsLookedUp (config : SpannedConfig) (looks : Looks) : Type 0 where
   pub is_of : looks.config.now ≡ config
   pub alike : (look : Look) → looks.common ≡ Some look → (p : Position) → look_seen look ≡ look_of config p
+  pub blanks : (blanks : Blanks) → looks.blanks ≡ Some blanks → (p : Position) → IsBetweenBlanks (look_of config p) blanks
