@@ -1,7 +1,8 @@
 -- Texts of one line that stand between blanks alone.
 use Rattle.std.proofs.Common.{◌≡◌, ℕ, ◌+◌, ◌-◌, ◌≤◌, List, [], ◌∷◌, ◌++◌, None, Some, length, zero, suc, refl, ap, arith, sym, ◌∙◌, append_assoc, replicate}
 use Rattle.std.proofs.lemmas.List.{append-nil, replicate-append-replicate}
-use Rattle.std.specs.Prelude.{◌/◌}
+use Rattle.std.specs.Prelude.{◌/◌, if◌then◌else◌}
+use Rattle.std.proofs.lemmas.Bool.{ne_eqb}
 use Rattle.papergrid_values.specs.declared.alignment.AlignmentHorizontal.{AlignmentHorizontal}
 use Rattle.papergrid_values.specs.declared.alignment.AlignmentHorizontal.TheVariants as horizontal
 use Rattle.papergrid_draw.specs.Bytes.{colored, pieces_bytes}
@@ -24,7 +25,9 @@ free_before-le horizontal.Right free = omega arith
 -- blanks without a colour
 pub blank_bytes : (n : ℕ) → fill_bytes None 32 n ≡ replicate n 32
 blank_bytes zero = refl
-blank_bytes (suc n) = append-nil (fill_text 32 (suc n)) ∙ blanks-are (suc n)
+blank_bytes (suc n) =
+    ap (λ none. if none then [] else colored None (fill_text 32 (suc n))) (ne_eqb (suc n) 0 (λ e. omega (arith, e)))
+    ∙ append-nil (fill_text 32 (suc n)) ∙ blanks-are (suc n)
 
 grouped : (a b t c d : List ℕ) → a ++ b ++ t ++ c ++ d ≡ (a ++ b) ++ t ++ (c ++ d)
 grouped a b t c d = simp append_assoc

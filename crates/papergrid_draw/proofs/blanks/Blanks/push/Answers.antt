@@ -9,7 +9,8 @@ pub returns : goal.returns
 returns c =
     let s = c.args.self.now in
     let columns : c.saturating_sub-inner.result ≡ c.args.width - (s.left + s.right) = omega arith in
-    let start = c.free_before-before.ensures ∙ ap (λ n. free_before s.horizontal (n - c.args.own)) columns in
+    let free : c.saturating_sub-2.result ≡ (c.args.width - (s.left + s.right)) - c.args.own = omega (arith, columns) in
+    let start = c.free_before-before.ensures ∙ ap (free_before s.horizontal) free in
     let rest : c.saturating_sub-after.result ≡ (c.args.width - (s.left + s.right)) - (c.free_before-before.result + c.args.own) = omega (arith, columns) in
     on_ok_weaker c.push_blanks-2.result (λ added look between.
     added_three (string_bytes c.args.line.now) _ _ _ _ _ _ c.in_ok-push_blanks.ensures c.in_ok-push_str.ensures.bytes added

@@ -1,5 +1,6 @@
-use Rattle.std.proofs.Common.{◌≡◌, ◌∙◌, Some, ap, absurd, refl, subst, sym}
+use Rattle.std.proofs.Common.{◌≡◌, ◌∙◌, Some, ap, refl, subst, sym}
 use Rattle.std.specs.Prelude.{IfSome}
+use Rattle.papergrid_values.specs.declared.position.Position.{Position}
 use Rattle.papergrid_draw.specs.Contents.{look_of}
 use Rattle.papergrid_draw.specs.ForProofs.Blanks.{IsBetweenBlanks}
 use Rattle.papergrid_draw.specs.ForProofs.Looks.{look_seen}
@@ -16,7 +17,7 @@ returns-then-has_own_look c = record {
 pub returns : goal.returns
 returns c =
     let common = c.has_own_look.ensures.0 c.if-has_own_look.false in
-    let seen = λ p. c.of-look.ensures ∙ common_look c.args.config.now common _ p in
+    let seen : (p : Position) → look_seen c.of-look.result ≡ look_of c.args.config.now p = λ p. c.of-look.ensures ∙ common_look c.args.config.now common _ p in
     record {
       is_of = refl;
       alike = λ look same p. let e : c.of-look.result ≡ look = cc in ap look_seen (sym e) ∙ seen p;
