@@ -1,6 +1,6 @@
 -- Why a table is not drawn.
-use Rattle.std.specs.Prelude.{◌≡◌, ◌^◌, ◌+◌, ◌≤◌, ◌⊎◌, ⊤, ℕ}
-use Rattle.papergrid_values.specs.declared.direction.Direction.TheVariants.{Columns, Rows}
+use Rattle.std.specs.Prelude.{◌^◌, ◌+◌, ◌≤◌, ◌⊎◌, ⊤, ℕ}
+use Rattle.papergrid_values.specs.declared.direction.Direction.TheVariants.{Rows}
 use Rattle.papergrid_values.specs.declared.position.Position.{Position}
 use Rattle.papergrid_layout.specs.Places.{IsVisibleCell, total_along}
 use Rattle.papergrid_draw.specs.Contents.{HasRoom, block_at}

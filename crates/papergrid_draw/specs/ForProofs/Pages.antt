@@ -1,7 +1,6 @@
 -- A table while it is drawn: what stands in each column of a row.
-use Rattle.std.specs.Prelude.{◌≡◌, ◌+◌, ◌-◌, ◌==◌, ◌^◌, ◌<◌, ◌≤◌, ℕ, Bool, true, List, Option, Some, None, if◌then◌else◌, length, slice_index, slice_index_or}
-use Rattle.papergrid_values.specs.Positions.{position_of}
-use Rattle.papergrid_values.specs.declared.direction.Direction.TheVariants.{Columns, Rows}
+use Rattle.std.specs.Prelude.{◌≡◌, ◌+◌, ◌-◌, ◌==◌, ◌^◌, ◌<◌, ◌≤◌, ℕ, Bool, List, Option, Some, None, if◌then◌else◌, length, slice_index, slice_index_or}
+use Rattle.papergrid_values.specs.declared.direction.Direction.TheVariants.{Rows}
 use Rattle.papergrid_values.specs.declared.position.Position.{Position}
 use Rattle.papergrid_layout.specs.Places.{begin_along, line_offset, offset, total_along, track_line, track_size}
 use Rattle.papergrid_layout.specs.Tables.{TableParts, view_of}

@@ -1,7 +1,7 @@
-use Rattle.std.proofs.Common.{◌≡◌, ◌-◌, ◌+◌, ◌∙◌, ◌++◌, ap, arith, replicate, string_bytes}
+use Rattle.std.proofs.Common.{◌≡◌, ◌-◌, ◌+◌, ◌∙◌, ◌++◌, ap, arith, string_bytes}
 use Rattle.std.proofs.lemmas.Result.{on_ok_weaker}
 use Rattle.papergrid_draw.specs.Contents.{free_before}
-use Rattle.papergrid_draw.proofs.BlankLemmas.{free_before-le, stands_between}
+use Rattle.papergrid_draw.proofs.BlankLemmas.{stands_between}
 use Rattle.papergrid_draw.proofs.PenLemmas.{added_three}
 use Rattle.papergrid_draw.proofs.blanks.Blanks.push.Goals as goal
 
