@@ -194,27 +194,28 @@ fn has_none<C: Colors>(colors: &C) -> bool {
     is_empty && color.is_none()
 }
 
-// Whether colours have this one at this position, and none at another one.
-fn has_red<C: Colors<Color = ANSIStr<'static>>>(colors: &C) -> bool {
-    seen(colors, at(0, 1)) == (false, Some(&red())) && seen(colors, at(1, 0)) == (false, None)
-}
-
 fn is_red_hashed(alloc: Global) -> bool {
-    let mut colors = HashMap::new(alloc);
-    has_none(&colors) && colors.insert(at(0, 1), red()).is_ok() && has_red(&colors)
+    let (mut colors, red) = (HashMap::new(alloc), red());
+    has_none(&colors)
+        && colors.insert(at(0, 1), red).is_ok()
+        && seen(&colors, at(0, 1)) == (false, Some(&red))
+        && seen(&colors, at(1, 0)) == (false, None)
 }
 
 fn is_red_ordered(alloc: Global) -> bool {
-    let mut colors = BTreeMap::new(alloc);
-    has_none(&colors) && colors.insert(at(0, 1), red()).is_ok() && has_red(&&colors)
+    let (mut colors, red) = (BTreeMap::new(alloc), red());
+    has_none(&colors)
+        && colors.insert(at(0, 1), red).is_ok()
+        && seen(&&colors, at(0, 1)) == (false, Some(&red))
+        && seen(&&colors, at(1, 0)) == (false, None)
 }
 
 #[test]
 fn colours_by_position(rt: HostRuntime) {
-    let everywhere = Everywhere { color: red() };
+    let (everywhere, red) = (Everywhere { color: red() }, red());
     assert!(rt; is_red_hashed(rt.alloc()));
     assert!(rt; is_red_ordered(rt.alloc()));
-    assert!(rt; seen(&&everywhere, at(7, 8)) == (false, Some(&red())));
+    assert!(rt; seen(&&everywhere, at(7, 8)) == (false, Some(&red)));
 }
 
 #[test]
