@@ -141,5 +141,5 @@ fn records_of_ones_own(rt: HostRuntime) {
 
 #[test]
 fn measured(rt: HostRuntime) {
-    assert_eq!(rt; measures("a 👍\nbc"), (2, 4));
+    assert!(rt; measures("a 👍\nbc") == (2, 4));
 }
