@@ -53,7 +53,7 @@ pub fn given_lines(alloc: Global) -> Result<Vec<StrWithWidth<'static>>, AllocErr
 }
 
 fn is_moved_and_cloned(alloc: Global) -> Result<bool, AllocError> {
-    let first = measured(alloc)?;
+    let first = Text::new(alloc, String::from_str(alloc, "a\nbc")?)?;
     let moved = first;
     let copy = moved.clone()?;
     Ok(
