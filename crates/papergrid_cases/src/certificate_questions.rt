@@ -3,6 +3,7 @@
 use crate::answer::Answer;
 use crate::hidden_questions::ask_hidden;
 use crate::reading::Words;
+use crate::running::Outcome;
 use crate::size_questions::show;
 use crate::table::Told;
 use crate::table_cases::numbers_to;
@@ -21,7 +22,7 @@ pub fn ask_certificates(
     word: &str,
     words: &mut Words<'_>,
     answer: &mut Answer,
-) -> Result<(), AllocError> {
+) -> Outcome {
     let Told {
         alloc,
         table,
@@ -64,12 +65,7 @@ fn ask_height_certificate(told: Told<'_>, answer: &mut Answer) {
 }
 
 /// Answers what a checker says of sizes, the word `by` and cells.
-fn ask_checker(
-    told: Told<'_>,
-    word: &str,
-    words: &mut Words<'_>,
-    answer: &mut Answer,
-) -> Result<(), AllocError> {
+fn ask_checker(told: Told<'_>, word: &str, words: &mut Words<'_>, answer: &mut Answer) -> Outcome {
     let sizes = numbers_to(words, "by")?;
     let cells = cells(words)?;
     answer.flag(if word == "check_widths" {

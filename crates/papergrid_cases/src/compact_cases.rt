@@ -3,11 +3,11 @@
 use crate::answer::Answer;
 use crate::marks::frame;
 use crate::reading::Words;
-use crate::running::Subject;
+use crate::running::{Outcome, Subject};
 use crate::sides::{alignment_horizontal, sides};
 use papergrid_config::CompactConfig;
 use papergrid_values::{ANSIStr, Sides};
-use std::alloc::{AllocError, Global};
+use std::alloc::Global;
 use std::mem;
 
 /// A compact configuration, and another one that it is compared with.
@@ -25,7 +25,7 @@ impl Subject for CompactCases {
         }
     }
 
-    fn tell(&mut self, word: &str, words: &mut Words<'_>) -> Result<(), AllocError> {
+    fn tell(&mut self, word: &str, words: &mut Words<'_>) -> Outcome {
         match word {
             "new" => self.config = CompactConfig::new(),
             "copy" => self.other = self.config,
@@ -35,12 +35,7 @@ impl Subject for CompactCases {
         Ok(())
     }
 
-    fn ask(
-        &mut self,
-        word: &str,
-        words: &mut Words<'_>,
-        answer: &mut Answer,
-    ) -> Result<(), AllocError> {
+    fn ask(&mut self, word: &str, words: &mut Words<'_>, answer: &mut Answer) -> Outcome {
         match word {
             "compared_to_other" => answer.ordering(self.config.cmp(&self.other)),
             "is_below_other" => answer.flag(self.config < self.other),

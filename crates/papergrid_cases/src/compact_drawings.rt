@@ -2,10 +2,9 @@
 
 use crate::answer::Answer;
 use crate::compact_cases::with_setting;
-use crate::drawing_cases::{ask_picture, show_refusal};
-use crate::marks::color;
+use crate::drawing_cases::{add_color, ask_picture, show_refusal};
 use crate::reading::Words;
-use crate::running::Subject;
+use crate::running::{Outcome, Subject};
 use crate::table_cases::numbers_to;
 use papergrid::dimension::Dimension;
 use papergrid::dimension::compact::CompactGridDimension;
@@ -14,7 +13,7 @@ use papergrid::grid::compact::CompactGrid;
 use papergrid_config::CompactConfig;
 use papergrid_text::IterRecords;
 use papergrid_values::{ANSIBuf, Position};
-use std::alloc::{AllocError, Global};
+use std::alloc::Global;
 use std::collections::HashMap;
 
 /// Settings, texts and their colours, and the widths of columns where they are told.
@@ -40,28 +39,18 @@ impl Subject for CompactDrawings {
         }
     }
 
-    fn tell(&mut self, word: &str, words: &mut Words<'_>) -> Result<(), AllocError> {
+    fn tell(&mut self, word: &str, words: &mut Words<'_>) -> Outcome {
         match word {
-            "|" => self.add_row(words)?,
+            "|" => self.texts.push(words.cells()?)?,
             "columns" => self.columns = Some(words.number()),
             "widths" => self.widths = Some(numbers_to(words, "")?),
-            "color" => {
-                let position = words.position();
-                if let Some(color) = color(words) {
-                    let _ = self.colors.insert(position, color)?;
-                }
-            }
+            "color" => add_color(&mut self.colors, words)?,
             _ => self.config = with_setting(self.config, word, words),
         }
         Ok(())
     }
 
-    fn ask(
-        &mut self,
-        word: &str,
-        words: &mut Words<'_>,
-        answer: &mut Answer,
-    ) -> Result<(), AllocError> {
+    fn ask(&mut self, word: &str, words: &mut Words<'_>, answer: &mut Answer) -> Outcome {
         match self.picture() {
             Ok(picture) => ask_picture(picture.as_str(), word, words, answer),
             Err(error) => show_refusal(error, answer),
@@ -71,19 +60,6 @@ impl Subject for CompactDrawings {
 }
 
 impl CompactDrawings {
-    /// Adds a row of cells between bars.
-    fn add_row(&mut self, words: &mut Words<'_>) -> Result<(), AllocError> {
-        let mut texts = Vec::new(self.alloc);
-        for _ in 0..usize::MAX {
-            if words.is_empty() {
-                break;
-            }
-            texts.push(words.cell()?)?;
-        }
-        self.texts.push(texts)?;
-        Ok(())
-    }
-
     /// Draws the table.
     fn picture(&self) -> Result<String, DrawError> {
         let columns = self

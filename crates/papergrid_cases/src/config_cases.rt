@@ -5,6 +5,7 @@ use crate::compact_cases::with_setting;
 use crate::config_questions;
 use crate::pair::Kind;
 use crate::reading::Words;
+use crate::running::Outcome;
 use crate::settings::setting;
 use papergrid_config::{CompactConfig, Setting, SpannedConfig};
 use std::alloc::{AllocError, Global};
@@ -37,7 +38,7 @@ impl Kind for Config {
         }
     }
 
-    fn tell(&mut self, word: &str, words: &mut Words<'_>) -> Result<(), AllocError> {
+    fn tell(&mut self, word: &str, words: &mut Words<'_>) -> Outcome {
         match word {
             "compact" => {
                 let word = words.word();
@@ -55,7 +56,7 @@ impl Kind for Config {
         Ok(())
     }
 
-    fn settle(&mut self, words: &mut Words<'_>) -> Result<(), AllocError> {
+    fn settle(&mut self, words: &mut Words<'_>) -> Outcome {
         let settings = mem::replace(&mut self.settings, Vec::new(self.alloc));
         if !settings.iter().all(|setting| setting.is_in_range()) {
             words.lacks("settings in range above");
@@ -68,12 +69,7 @@ impl Kind for Config {
         }
     }
 
-    fn ask(
-        &self,
-        word: &str,
-        words: &mut Words<'_>,
-        answer: &mut Answer,
-    ) -> Result<(), AllocError> {
+    fn ask(&self, word: &str, words: &mut Words<'_>, answer: &mut Answer) -> Outcome {
         if word == "is_in_range" {
             let word = words.word();
             let setting = setting(word, words);

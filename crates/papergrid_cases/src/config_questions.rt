@@ -3,9 +3,9 @@
 
 use crate::answer::Answer;
 use crate::reading::Words;
+use crate::running::Outcome;
 use papergrid_config::SpannedConfig;
 use papergrid_values::{Direction, Position};
-use std::alloc::AllocError;
 
 /// Answers a question about a configuration.
 pub fn ask(
@@ -13,7 +13,7 @@ pub fn ask(
     word: &str,
     words: &mut Words<'_>,
     answer: &mut Answer,
-) -> Result<(), AllocError> {
+) -> Outcome {
     match word {
         "get_column_spans" => answer.spans(&config.get_column_spans()?, words),
         "get_row_spans" => answer.spans(&config.get_row_spans()?, words),

@@ -5,7 +5,7 @@ use crate::config_cases::Config;
 use crate::marks::color;
 use crate::pair::Kind;
 use crate::reading::Words;
-use crate::running::Subject;
+use crate::running::{Outcome, Subject};
 use crate::size_questions::Sizes;
 use crate::table_cases::numbers_to;
 use papergrid::grid::{DrawError, RecordCells, Room, draw_cells};
@@ -13,7 +13,7 @@ use papergrid::{Sizing, Table, WriteSink};
 use papergrid_layout::LayoutError;
 use papergrid_text::{Cell, IterRecords, Text};
 use papergrid_values::{ANSIBuf, Position};
-use std::alloc::{AllocError, Global};
+use std::alloc::Global;
 use std::collections::HashMap;
 
 /// Settings, cells as texts and as measured texts, colours of cells, and sizes where they are told.
@@ -45,30 +45,20 @@ impl Subject for DrawingCases {
         }
     }
 
-    fn tell(&mut self, word: &str, words: &mut Words<'_>) -> Result<(), AllocError> {
+    fn tell(&mut self, word: &str, words: &mut Words<'_>) -> Outcome {
         match word {
             "|" => self.add_row(words)?,
             "columns" => self.columns = Some(words.number()),
             "rows" => self.count_rows = Some(words.number()),
             "plain" => self.is_plain = true,
             "sizes" => self.sizes = Some((numbers_to(words, "|")?, numbers_to(words, "")?)),
-            "color" => {
-                let position = words.position();
-                if let Some(color) = color(words) {
-                    let _ = self.colors.insert(position, color)?;
-                }
-            }
+            "color" => add_color(&mut self.colors, words)?,
             _ => self.config.tell(word, words)?,
         }
         Ok(())
     }
 
-    fn ask(
-        &mut self,
-        word: &str,
-        words: &mut Words<'_>,
-        answer: &mut Answer,
-    ) -> Result<(), AllocError> {
+    fn ask(&mut self, word: &str, words: &mut Words<'_>, answer: &mut Answer) -> Outcome {
         self.config.settle(words)?;
         match self.picture() {
             Ok(picture) => {
@@ -83,15 +73,10 @@ impl Subject for DrawingCases {
 
 impl DrawingCases {
     /// Adds a row of cells between bars.
-    fn add_row(&mut self, words: &mut Words<'_>) -> Result<(), AllocError> {
-        let (mut texts, mut measured) = (Vec::new(self.alloc), Vec::new(self.alloc));
-        for _ in 0..usize::MAX {
-            if words.is_empty() {
-                break;
-            }
-            let text = words.cell()?;
+    fn add_row(&mut self, words: &mut Words<'_>) -> Outcome {
+        let (texts, mut measured) = (words.cells()?, Vec::new(self.alloc));
+        for text in &texts {
             measured.push(Text::new(self.alloc, text.clone()?)?)?;
-            texts.push(text)?;
         }
         self.texts.push(texts)?;
         self.measured.push(measured)?;
@@ -135,6 +120,15 @@ impl DrawingCases {
         let records = IterRecords::new(self.texts.as_slice(), columns, self.count_rows);
         Table::new(self.alloc, config, records, Sizing::ByShares)
     }
+}
+
+/// Gives the cell at the position that is told next the colour that is told after it.
+pub fn add_color(colors: &mut HashMap<Position, ANSIBuf>, words: &mut Words<'_>) -> Outcome {
+    let position = words.position();
+    if let Some(color) = color(words) {
+        let _ = colors.insert(position, color)?;
+    }
+    Ok(())
 }
 
 /// Answers how many lines the picture has, or one of them.

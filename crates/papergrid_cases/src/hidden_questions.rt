@@ -8,12 +8,12 @@ ghost use Rattle.papergrid_walk.specs.ForProofs.Swept.{IsAhead};
 use crate::answer::Answer;
 use crate::place_questions::ask_places;
 use crate::reading::Words;
+use crate::running::Outcome;
 use crate::table::Told;
 use papergrid_config::SpannedConfig;
 use papergrid_maps::Anchor;
 use papergrid_values::Position;
 use papergrid_walk::Sweep;
-use std::alloc::AllocError;
 
 /// Answers which cells of a table of so many rows and columns are hidden, or which anchors there are: each one's
 /// position, and how many rows and columns it spans. Or another question.
@@ -22,7 +22,7 @@ pub fn ask_hidden(
     word: &str,
     words: &mut Words<'_>,
     answer: &mut Answer,
-) -> Result<(), AllocError> {
+) -> Outcome {
     match word {
         "hidden" => {
             let anchors = told.config.anchors()?;
@@ -48,7 +48,7 @@ fn show_hidden(
     rows: usize,
     columns: usize,
     answer: &mut Answer,
-) -> Result<(), AllocError>
+) -> Outcome
     requires { IsSorted anchors.items }
 {
     let mut walk = Sweep::new(told.alloc, anchors, 1)?;

@@ -4,6 +4,7 @@ use crate::answer::Answer;
 use crate::marks::{border, frame, horizontal_line, vertical_line};
 use crate::pair::Kind;
 use crate::reading::Words;
+use crate::running::Outcome;
 use crate::sides::Side;
 use papergrid_maps::SpanTable;
 use papergrid_tables::{BorderTable, OffsetTable};
@@ -15,7 +16,7 @@ impl Kind for BorderTable<char> {
         BorderTable::new(alloc)
     }
 
-    fn tell(&mut self, word: &str, words: &mut Words<'_>) -> Result<(), AllocError> {
+    fn tell(&mut self, word: &str, words: &mut Words<'_>) -> Outcome {
         match word {
             "insert_border" => return self.insert_border(words.inner_position(), border(words)),
             "insert_horizontal_line" => {
@@ -34,12 +35,7 @@ impl Kind for BorderTable<char> {
         Ok(())
     }
 
-    fn ask(
-        &self,
-        word: &str,
-        words: &mut Words<'_>,
-        answer: &mut Answer,
-    ) -> Result<(), AllocError> {
+    fn ask(&self, word: &str, words: &mut Words<'_>, answer: &mut Answer) -> Outcome {
         match word {
             "get_horizontal_lines" => answer.horizontal_lines(&self.get_horizontal_lines()?, words),
             "get_vertical_lines" => answer.vertical_lines(&self.get_vertical_lines()?, words),
@@ -89,7 +85,7 @@ impl Kind for OffsetTable<char> {
         OffsetTable::new(alloc)
     }
 
-    fn tell(&mut self, word: &str, words: &mut Words<'_>) -> Result<(), AllocError> {
+    fn tell(&mut self, word: &str, words: &mut Words<'_>) -> Outcome {
         match word {
             "set" => return self.set(words.position(), Offset::next(words), words.character()),
             "remove" => self.remove(words.position()),
@@ -99,12 +95,7 @@ impl Kind for OffsetTable<char> {
         Ok(())
     }
 
-    fn ask(
-        &self,
-        word: &str,
-        words: &mut Words<'_>,
-        answer: &mut Answer,
-    ) -> Result<(), AllocError> {
+    fn ask(&self, word: &str, words: &mut Words<'_>, answer: &mut Answer) -> Outcome {
         match word {
             "lookup" => {
                 answer.mark(self.lookup(words.position(), words.number(), words.number()))
@@ -130,7 +121,7 @@ impl Kind for SpanTable {
         SpanTable::new(alloc)
     }
 
-    fn tell(&mut self, word: &str, words: &mut Words<'_>) -> Result<(), AllocError> {
+    fn tell(&mut self, word: &str, words: &mut Words<'_>) -> Outcome {
         match word {
             "set_column" => return self.set_column(words.position(), words.number()),
             "set_row" => return self.set_row(words.position(), words.number()),
@@ -141,12 +132,7 @@ impl Kind for SpanTable {
         Ok(())
     }
 
-    fn ask(
-        &self,
-        word: &str,
-        words: &mut Words<'_>,
-        answer: &mut Answer,
-    ) -> Result<(), AllocError> {
+    fn ask(&self, word: &str, words: &mut Words<'_>, answer: &mut Answer) -> Outcome {
         match word {
             "columns" => answer.spans(&self.columns()?, words),
             "rows" => answer.spans(&self.rows()?, words),

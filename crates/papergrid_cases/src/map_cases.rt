@@ -3,6 +3,7 @@
 use crate::answer::Answer;
 use crate::pair::Kind;
 use crate::reading::Words;
+use crate::running::Outcome;
 use papergrid_maps::{EntityMap, MapCall};
 use std::alloc::{AllocError, Global};
 use std::mem;
@@ -24,7 +25,7 @@ impl Kind for Map {
         }
     }
 
-    fn tell(&mut self, word: &str, words: &mut Words<'_>) -> Result<(), AllocError> {
+    fn tell(&mut self, word: &str, words: &mut Words<'_>) -> Outcome {
         let call = match word {
             "insert" => MapCall::Insert(words.entity(), words.character()),
             "remove" => MapCall::Remove(words.entity()),
@@ -37,7 +38,7 @@ impl Kind for Map {
         Ok(())
     }
 
-    fn settle(&mut self, _words: &mut Words<'_>) -> Result<(), AllocError> {
+    fn settle(&mut self, _words: &mut Words<'_>) -> Outcome {
         let calls = mem::replace(&mut self.calls, Vec::new(self.alloc));
         match self.map.apply_all(calls) {
             Ok(()) => Ok(()),
@@ -45,12 +46,7 @@ impl Kind for Map {
         }
     }
 
-    fn ask(
-        &self,
-        word: &str,
-        words: &mut Words<'_>,
-        answer: &mut Answer,
-    ) -> Result<(), AllocError> {
+    fn ask(&self, word: &str, words: &mut Words<'_>, answer: &mut Answer) -> Outcome {
         match word {
             "get" => answer.mark(Some(self.map.get(words.position()))),
             "as_ref" => answer.mark(Some(self.map.as_ref())),
@@ -79,11 +75,7 @@ impl Kind for Map {
 }
 
 /// How many values the map holds, and that of the entity that the line names, if it names one.
-fn in_map(
-    map: EntityMap<char>,
-    words: &mut Words<'_>,
-    answer: &mut Answer,
-) -> Result<(), AllocError> {
+fn in_map(map: EntityMap<char>, words: &mut Words<'_>, answer: &mut Answer) -> Outcome {
     let all = map.into_map()?;
     answer.number(all.len());
     if !words.is_empty() {

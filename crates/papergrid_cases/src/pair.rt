@@ -2,7 +2,7 @@
 
 use crate::answer::Answer;
 use crate::reading::Words;
-use crate::running::Subject;
+use crate::running::{Outcome, Subject};
 use std::alloc::{AllocError, Global};
 use std::mem;
 
@@ -12,15 +12,15 @@ pub trait Kind: Sized + Drop {
     fn new_one(alloc: Global) -> Self;
 
     /// Makes the call that the word names.
-    fn tell(&mut self, word: &str, words: &mut Words<'_>) -> Result<(), AllocError>;
+    fn tell(&mut self, word: &str, words: &mut Words<'_>) -> Outcome;
 
     /// Makes the calls that were told, where they are kept to be made as a list.
-    fn settle(&mut self, _words: &mut Words<'_>) -> Result<(), AllocError> {
+    fn settle(&mut self, _words: &mut Words<'_>) -> Outcome {
         Ok(())
     }
 
     /// Answers the question that begins with the word.
-    fn ask(&self, word: &str, words: &mut Words<'_>, answer: &mut Answer) -> Result<(), AllocError>;
+    fn ask(&self, word: &str, words: &mut Words<'_>, answer: &mut Answer) -> Outcome;
 
     /// Whether both were left the same.
     fn is_like(&self, other: &Self) -> bool;
@@ -44,7 +44,7 @@ impl<T: Kind> Subject for Pair<T> {
         }
     }
 
-    fn tell(&mut self, word: &str, words: &mut Words<'_>) -> Result<(), AllocError> {
+    fn tell(&mut self, word: &str, words: &mut Words<'_>) -> Outcome {
         match word {
             "swap" => {
                 self.one.settle(words)?;
@@ -60,12 +60,7 @@ impl<T: Kind> Subject for Pair<T> {
         }
     }
 
-    fn ask(
-        &mut self,
-        word: &str,
-        words: &mut Words<'_>,
-        answer: &mut Answer,
-    ) -> Result<(), AllocError> {
+    fn ask(&mut self, word: &str, words: &mut Words<'_>, answer: &mut Answer) -> Outcome {
         self.one.settle(words)?;
         if word == "equals_other" {
             answer.flag(self.one.is_like(&self.other));

@@ -3,10 +3,10 @@
 use crate::answer::Answer;
 use crate::marks::{border, frame};
 use crate::reading::Words;
-use crate::running::Subject;
+use crate::running::{Outcome, Subject};
 use crate::text_questions::ask_text;
 use papergrid_values::{Border, Borders, Offset};
-use std::alloc::{AllocError, Global};
+use std::alloc::Global;
 
 /// Nothing is told.
 #[derive(Drop)]
@@ -19,17 +19,12 @@ impl Subject for PlainCases {
         PlainCases { alloc }
     }
 
-    fn tell(&mut self, _word: &str, words: &mut Words<'_>) -> Result<(), AllocError> {
+    fn tell(&mut self, _word: &str, words: &mut Words<'_>) -> Outcome {
         words.lacks("a question");
         Ok(())
     }
 
-    fn ask(
-        &mut self,
-        word: &str,
-        words: &mut Words<'_>,
-        answer: &mut Answer,
-    ) -> Result<(), AllocError> {
+    fn ask(&mut self, word: &str, words: &mut Words<'_>, answer: &mut Answer) -> Outcome {
         match word {
             "walk" => walk(words, answer),
             "has_intersection" => {

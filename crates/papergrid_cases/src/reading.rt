@@ -199,7 +199,7 @@ impl<'a> Words<'a> {
     }
 
     /// The text of a cell, up to the bar that ends it: in quotes, with escapes, or as it stands.
-    pub fn cell(&mut self) -> Result<String, AllocError> {
+    fn cell(&mut self) -> Result<String, AllocError> {
         if self.rest.starts_with('"') {
             let text = self.text();
             if self.word() != "|" {
@@ -210,6 +210,18 @@ impl<'a> Words<'a> {
         let (text, rest) = self.rest.split_once('|').unwrap_or((self.rest, ""));
         self.rest = rest.trim_start();
         String::from_str(self.alloc, text.trim_end())
+    }
+
+    /// The texts of the cells of a row, up to the end of the line.
+    pub fn cells(&mut self) -> Result<Vec<String>, AllocError> {
+        let mut texts = Vec::new(self.alloc);
+        for _ in 0..usize::MAX {
+            if self.is_empty() {
+                break;
+            }
+            texts.push(self.cell()?)?;
+        }
+        Ok(texts)
     }
 
     /// The next character, where a backslash begins an escape.

@@ -2,8 +2,9 @@
 
 use crate::answer::Answer;
 use crate::reading::Words;
+use crate::running::Outcome;
 use papergrid::{ReadSource, RunEnd, RunFault, Sizing, WriteSink, run, run_least};
-use std::alloc::{AllocError, Global};
+use std::alloc::Global;
 
 /// Answers what a run writes, its lines with ` / ` between them, and how it ends. `run` asks for both kinds of sizes,
 /// which have to come to the same. `bad_line "…"` asks so of a script of three lines, the second of which is told.
@@ -13,7 +14,7 @@ pub fn ask_run(
     word: &str,
     words: &mut Words<'_>,
     answer: &mut Answer,
-) -> Result<(), AllocError> {
+) -> Outcome {
     match word {
         "run_by_shares" => show_run(alloc, script, Sizing::ByShares, answer),
         "run_least" => show_run(alloc, script, Sizing::Least, answer),

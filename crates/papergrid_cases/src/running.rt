@@ -4,21 +4,19 @@ use crate::answer::Answer;
 use crate::reading::Words;
 use std::alloc::{AllocError, Global};
 
+/// How what a line says ends: it is done, or an allocation failed.
+pub type Outcome = Result<(), AllocError>;
+
 /// What the lines of a case speak of.
 pub trait Subject: Sized + Drop {
     /// What a case begins with.
     fn start(alloc: Global) -> Self;
 
     /// Does what the line says that begins with the word.
-    fn tell(&mut self, word: &str, words: &mut Words<'_>) -> Result<(), AllocError>;
+    fn tell(&mut self, word: &str, words: &mut Words<'_>) -> Outcome;
 
     /// Answers the question that begins with the word.
-    fn ask(
-        &mut self,
-        word: &str,
-        words: &mut Words<'_>,
-        answer: &mut Answer,
-    ) -> Result<(), AllocError>;
+    fn ask(&mut self, word: &str, words: &mut Words<'_>, answer: &mut Answer) -> Outcome;
 }
 
 /// What came of a file.

@@ -4,7 +4,7 @@ use crate::answer::Answer;
 use crate::certificate_questions::ask_certificates;
 use crate::reading::Words;
 use crate::run_questions::ask_run;
-use crate::running::Subject;
+use crate::running::{Outcome, Subject};
 use crate::table::{Table, Told, add_line};
 use bumpalo::Bump;
 use papergrid::script::{Script, ScriptError, read_script};
@@ -33,7 +33,7 @@ impl Subject for TableCases {
 
     /// `rows N` tells the records' count, `sizes 3 4 | 1 1` the sizes, `text "…"` a part of the script, `times N
     /// LINE` a line so many times. Any other line is one of the script, or a row of cells between bars.
-    fn tell(&mut self, word: &str, words: &mut Words<'_>) -> Result<(), AllocError> {
+    fn tell(&mut self, word: &str, words: &mut Words<'_>) -> Outcome {
         match word {
             "rows" => self.count_rows = words.number(),
             "sizes" => self.sizes = Some((numbers_to(words, "|")?, numbers_to(words, "")?)),
@@ -49,12 +49,7 @@ impl Subject for TableCases {
         Ok(())
     }
 
-    fn ask(
-        &mut self,
-        word: &str,
-        words: &mut Words<'_>,
-        answer: &mut Answer,
-    ) -> Result<(), AllocError> {
+    fn ask(&mut self, word: &str, words: &mut Words<'_>, answer: &mut Answer) -> Outcome {
         match word {
             "run" | "run_by_shares" | "run_least" | "bad_line" => {
                 ask_run(self.alloc, self.script.as_bytes(), word, words, answer)
@@ -66,12 +61,7 @@ impl Subject for TableCases {
 
 impl TableCases {
     /// Answers a question on the table that the script tells.
-    fn ask_table(
-        &self,
-        word: &str,
-        words: &mut Words<'_>,
-        answer: &mut Answer,
-    ) -> Result<(), AllocError> {
+    fn ask_table(&self, word: &str, words: &mut Words<'_>, answer: &mut Answer) -> Outcome {
         let arena = Bump::new(self.alloc);
         match read_script(self.alloc, &arena, self.script.as_bytes()) {
             Ok(
@@ -103,7 +93,7 @@ impl TableCases {
         word: &str,
         words: &mut Words<'_>,
         answer: &mut Answer,
-    ) -> Result<(), AllocError> {
+    ) -> Outcome {
         let table = Table::new(self.alloc, rows, self.count_rows, columns)?;
         let told = Told {
             alloc: self.alloc,

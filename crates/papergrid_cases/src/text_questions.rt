@@ -2,6 +2,7 @@
 
 use crate::answer::Answer;
 use crate::reading::Words;
+use crate::running::Outcome;
 use papergrid_text::string::{
     count_lines, count_tabs, get_char_width, get_line_width, get_lines, get_string_width,
     get_text_dimension, get_text_width, replace_tab,
@@ -13,12 +14,7 @@ use std::borrow::CowStr;
 use std::convert::AsStr;
 
 /// Answers a question on the text that stands next.
-pub fn ask_text(
-    alloc: Global,
-    word: &str,
-    words: &mut Words<'_>,
-    answer: &mut Answer,
-) -> Result<(), AllocError> {
+pub fn ask_text(alloc: Global, word: &str, words: &mut Words<'_>, answer: &mut Answer) -> Outcome {
     let text = words.text();
     match word {
         "text_cell" => return ask_measured(alloc, text, answer),
@@ -97,7 +93,7 @@ fn ask_tab(alloc: Global, text: &str, count: usize, answer: &mut Answer) {
     }
 }
 
-fn ask_measured(alloc: Global, text: String, answer: &mut Answer) -> Result<(), AllocError> {
+fn ask_measured(alloc: Global, text: String, answer: &mut Answer) -> Outcome {
     let cell = Text::new(alloc, text)?;
     show_cell(answer, &cell);
     drop(cell);
@@ -105,12 +101,7 @@ fn ask_measured(alloc: Global, text: String, answer: &mut Answer) -> Result<(), 
 }
 
 /// Shows a text with a width and lines that are told, each with its width.
-fn ask_exact(
-    alloc: Global,
-    text: String,
-    words: &mut Words<'_>,
-    answer: &mut Answer,
-) -> Result<(), AllocError> {
+fn ask_exact(alloc: Global, text: String, words: &mut Words<'_>, answer: &mut Answer) -> Outcome {
     let width = words.number();
     let mut lines = Vec::new(alloc);
     for _ in 0..usize::MAX {

@@ -1,5 +1,4 @@
 pub mod AnswerLemmas
 pub mod CertificateLemmas
-pub mod ColumnWidths
 pub mod RowLemmas
 pub mod WrittenLemmas

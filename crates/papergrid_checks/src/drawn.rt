@@ -7,10 +7,12 @@ use anyhow::Result;
 use papergrid::colors::NoColors;
 use papergrid::config::spanned::{Setting, SpannedConfig};
 use papergrid::config::{Borders, Entity, Indent, Sides};
+use papergrid::grid::peekable::PeekableGrid;
 use papergrid::grid::{DrawError, Junctions, TextCells, drawn_string, fitted_crossings};
 use papergrid::records::IterRecords;
-use papergrid::records::vec_records::VecRecords;
+use papergrid::records::vec_records::{Text, VecRecords};
 use papergrid::{Sink, Sizing, Table, draw};
+use papergrid_layout::PerDirection;
 use std::alloc::Global;
 
 /// Writes a table of texts in a frame, with a blank on both sides of each text.
@@ -53,4 +55,19 @@ pub fn fit(alloc: Global, config: &mut SpannedConfig, shape: (usize, usize)) -> 
     let settings = fitted_crossings(alloc, config, shape, &junctions)?;
     config.apply_all(settings)?;
     Ok(())
+}
+
+/// The picture of two rows of one text each by sizes of one's own: three columns of a terminal, and a line for each row.
+pub fn two_rows(
+    alloc: Global,
+    config: &SpannedConfig,
+    rows: Vec<Vec<Text<&str>>>,
+) -> Result<String> {
+    let records = VecRecords::with_size(rows, 2, 1);
+    let sizes = PerDirection {
+        columns: vec![in alloc; 3]?,
+        rows: vec![in alloc; 1, 1]?,
+    };
+    let grid = PeekableGrid::new(&records, config, &sizes, &NoColors);
+    Ok(grid.to_string(alloc)?)
 }

@@ -13,24 +13,24 @@ use std::alloc::{AllocError, Global};
 /// The settings of the picture.
 fn picture_settings(alloc: Global) -> Result<Vec<Setting>, AllocError> {
     let (four, one) = (Indent::spaced(4), Indent::spaced(1));
-    let mut settings = Vec::new(alloc);
-    settings.push(Setting::SetBorders(Borders::filled('+')))?;
-    settings.push(Setting::SetColumnSpan(Position::new(1, 1), 3))?;
-    settings.push(Setting::SetRowSpan(Position::new(0, 0), 2))?;
-    settings.push(Setting::SetPadding(Entity::Cell(0, 0), Sides::new(four, four, one, one)))?;
-    Ok(settings)
+    Ok(vec![in alloc;
+        Setting::SetBorders(Borders::filled('+')),
+        Setting::SetColumnSpan(Position::new(1, 1), 3),
+        Setting::SetRowSpan(Position::new(0, 0), 2),
+        Setting::SetPadding(Entity::Cell(0, 0), Sides::new(four, four, one, one)),
+    ]?)
 }
 
 /// Two column spans that cross, each of a cell with so much padding on its left.
 fn crossing_settings(alloc: Global, padding: usize) -> Result<Vec<Setting>, AllocError> {
     let none = Indent::zero();
     let sides = Sides::new(Indent::spaced(padding), none, none, none);
-    let mut settings = Vec::new(alloc);
-    settings.push(Setting::SetColumnSpan(Position::new(0, 0), 2))?;
-    settings.push(Setting::SetColumnSpan(Position::new(1, 1), 2))?;
-    settings.push(Setting::SetPadding(Entity::Cell(0, 0), sides))?;
-    settings.push(Setting::SetPadding(Entity::Cell(1, 1), sides))?;
-    Ok(settings)
+    Ok(vec![in alloc;
+        Setting::SetColumnSpan(Position::new(0, 0), 2),
+        Setting::SetColumnSpan(Position::new(1, 1), 2),
+        Setting::SetPadding(Entity::Cell(0, 0), sides),
+        Setting::SetPadding(Entity::Cell(1, 1), sides),
+    ]?)
 }
 
 fn are_in_range(settings: &[Setting]) -> bool
@@ -84,32 +84,40 @@ const PICTURE: [&[&str]; 2] = [
     &["", "Just like this", "", ""],
 ];
 
-#[test]
-fn readme_picture(rt: HostRuntime) -> Result<(), AllocError> {
-    let settings = picture_settings(rt.alloc())?;
-    let found = widths_of(rt.alloc(), Sizing::ByShares, settings, 4, &PICTURE);
-    assert!(rt; are(found, &[17, 12, 16, 1]));
-    Ok(())
+fn is_picture(alloc: Global) -> Result<bool, AllocError> {
+    let settings = picture_settings(alloc)?;
+    let found = widths_of(alloc, Sizing::ByShares, settings, 4, &PICTURE);
+    Ok(are(found, &[17, 12, 16, 1]))
 }
 
 #[test]
-fn crossing_column_spans(rt: HostRuntime) -> Result<(), AllocError> {
-    let settings = crossing_settings(rt.alloc(), 0)?;
+fn readme_picture(rt: HostRuntime) {
+    assert!(rt; is_picture(rt.alloc()) == Ok(true));
+}
+
+fn are_crossing(alloc: Global) -> Result<bool, AllocError> {
+    let settings = crossing_settings(alloc, 0)?;
     let letters: [&[&str]; 2] = [&["0123456789"], &["", "0123456789"]];
-    let found = widths_of(rt.alloc(), Sizing::Least, settings, 3, &letters);
-    assert!(rt; are(found, &[0, 10, 0]));
-    Ok(())
+    let found = widths_of(alloc, Sizing::Least, settings, 3, &letters);
+    Ok(are(found, &[0, 10, 0]))
 }
 
 #[test]
-fn shares_too_large_and_least_not(rt: HostRuntime) -> Result<(), AllocError> {
-    let alloc = rt.alloc();
+fn crossing_column_spans(rt: HostRuntime) {
+    assert!(rt; are_crossing(rt.alloc()) == Ok(true));
+}
+
+/// What two crossing spans without a letter have, whose paddings are as large as can be.
+fn widest_of(alloc: Global, sizing: Sizing) -> Result<Option<Vec<usize>>, LayoutError> {
     let no_letters: [&[&str]; 2] = [&[""], &["", ""]];
     let settings = crossing_settings(alloc, usize::MAX)?;
-    let shares = widths_of(alloc, Sizing::ByShares, settings, 3, &no_letters);
+    widths_of(alloc, sizing, settings, 3, &no_letters)
+}
+
+#[test]
+fn shares_too_large_and_least_not(rt: HostRuntime) {
+    let shares = widest_of(rt.alloc(), Sizing::ByShares);
     assert!(rt; shares.err() == Some(LayoutError::TooLarge));
-    let settings = crossing_settings(alloc, usize::MAX)?;
-    let least = widths_of(alloc, Sizing::Least, settings, 3, &no_letters);
+    let least = widest_of(rt.alloc(), Sizing::Least);
     assert!(rt; are(least, &[0, usize::MAX, 0]));
-    Ok(())
 }

@@ -8,53 +8,59 @@ use papergrid::dimension::{LayoutError, PlaceError};
 use std::alloc::{AllocError, Global};
 use std::fmt::Display;
 
-/// Whether each error has the words beside it.
-fn have_words<E: Display>(alloc: Global, cases: &[(E, &str)]) -> bool {
-    cases.iter().all(|(error, words)| match format!(in alloc; "{error}") {
-        Ok(text) => text.as_str() == *words,
+/// Whether an error has these words.
+fn says<E: Display + Drop>(alloc: Global, error: E, words: &str) -> bool {
+    match format!(in alloc; "{error}") {
+        Ok(text) => text.as_str() == words,
         Err(_) => false,
-    })
+    }
 }
 
 #[test]
 fn of_sizes(rt: HostRuntime) {
-    let out = LayoutError::OutOfTable(Position::new(1, 0));
-    let cases = [
-        (out, "the cell at row 1, column 0 reaches out of the table"),
-        (LayoutError::TooLarge, "the table is too large for 64 bits"),
-        (LayoutError::Memory(AllocError), "out of memory"),
-    ];
-    assert!(rt; have_words(rt.alloc(), &cases));
+    let (alloc, out) = (rt.alloc(), LayoutError::OutOfTable(Position::new(1, 0)));
+    assert!(rt;
+        says(
+            alloc,
+            out,
+            "the cell at row 1, column 0 reaches out of the table"
+        ) && says(
+            alloc,
+            LayoutError::TooLarge,
+            "the table is too large for 64 bits"
+        ) && says(alloc, LayoutError::Memory(AllocError), "out of memory")
+    );
 }
 
 #[test]
 fn of_places(rt: HostRuntime) {
-    let cases = [
-        (
+    let alloc = rt.alloc();
+    assert!(rt;
+        says(
+            alloc,
             PlaceError::Hidden,
-            "the cell is hidden by the span of another one",
-        ),
-        (PlaceError::OutOfTable, "the cell reaches out of the table"),
-        (PlaceError::TooLarge, "the table is too large for 64 bits"),
-    ];
-    assert!(rt; have_words(rt.alloc(), &cases));
+            "the cell is hidden by the span of another one"
+        ) && says(
+            alloc,
+            PlaceError::OutOfTable,
+            "the cell reaches out of the table"
+        ) && says(
+            alloc,
+            PlaceError::TooLarge,
+            "the table is too large for 64 bits"
+        )
+    );
 }
 
 #[test]
 fn of_lists_and_runs(rt: HostRuntime) {
-    let stopped = Stopped { done: 2 };
+    let (alloc, stopped) = (rt.alloc(), Stopped { done: 2 });
     assert!(rt;
-        have_words(
-            rt.alloc(),
-            &[(stopped, "out of memory after 2 of the calls")]
-        )
+        says(alloc, stopped, "out of memory after 2 of the calls")
+            && says(alloc, RunFault::Memory, "out of memory")
+            && says(alloc, RunFault::Read, "the input can't be read")
+            && says(alloc, RunFault::Write, "the output can't be written")
     );
-    let faults = [
-        (RunFault::Memory, "out of memory"),
-        (RunFault::Read, "the input can't be read"),
-        (RunFault::Write, "the output can't be written"),
-    ];
-    assert!(rt; have_words(rt.alloc(), &faults));
 }
 
 /// What is said of a row of two texts where the cell at a position spans so many columns.

@@ -41,18 +41,6 @@ const SIZES: Even = Even {
     height: 1,
 };
 
-/// Columns of a terminal in lines, and the cells there: the first one spans two columns.
-const POINTS: [((usize, usize), Option<Position>); 8] = [
-    ((1, 1), Some(Position { row: 0, col: 0 })),
-    ((4, 1), Some(Position { row: 0, col: 0 })),
-    ((7, 1), Some(Position { row: 0, col: 0 })),
-    ((8, 1), None),
-    ((9, 1), Some(Position { row: 0, col: 2 })),
-    ((4, 3), None),
-    ((5, 3), Some(Position { row: 1, col: 1 })),
-    ((13, 3), None),
-];
-
 /// The same sizes of three columns and two rows.
 fn even_sizes(alloc: Global) -> Result<(Vec<usize>, Vec<usize>), AllocError> {
     Ok((vec![in alloc; 3, 3, 3]?, vec![in alloc; 1, 1]?))
@@ -64,12 +52,31 @@ fn even_table<'a>(alloc: Global, config: &'a SpannedConfig) -> Result<Table<'a>,
     Table::from_sizes(alloc, config, widths, heights)
 }
 
+/// Whether this cell is at a column of a terminal in a line, by any sizes and by a table.
+fn is_clicked(
+    config: &SpannedConfig,
+    table: &Table<'_>,
+    (column, line): (usize, usize),
+    cell: Option<Position>,
+) -> bool {
+    let found = match clicked(table, column, line) {
+        Some((position, _place)) => Some(position),
+        None => None,
+    };
+    cell_at(&SIZES, config, (2, 3), column, line) == cell && found == cell
+}
+
+/// The first cell spans two columns.
 fn are_clicked(config: &SpannedConfig, table: &Table<'_>) -> bool {
-    POINTS.iter().all(|(point, cell)| {
-        let (column, line) = *point;
-        let found = clicked(table, column, line).map(|found: (Position, Place)| found.0);
-        cell_at(&SIZES, config, (2, 3), column, line) == *cell && found == *cell
-    })
+    let first = Some(Position::new(0, 0));
+    is_clicked(config, table, (1, 1), first)
+        && is_clicked(config, table, (4, 1), first)
+        && is_clicked(config, table, (7, 1), first)
+        && is_clicked(config, table, (8, 1), None)
+        && is_clicked(config, table, (9, 1), Some(Position::new(0, 2)))
+        && is_clicked(config, table, (4, 3), None)
+        && is_clicked(config, table, (5, 3), Some(Position::new(1, 1)))
+        && is_clicked(config, table, (13, 3), None)
 }
 
 /// The first cell goes over two columns and the line between them, and hides the second one.

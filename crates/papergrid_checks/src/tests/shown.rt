@@ -3,12 +3,13 @@
 use crate::colored::{bold_head, paint};
 use crate::compact::tight;
 use crate::dimensions::{of_compact, of_crossing, of_measured};
+use crate::drawn::two_rows;
 use crate::entities::marks;
 use crate::picture::second_cell;
 use papergrid::ansi::ANSIBuf;
 use papergrid::colors::Colors;
-use papergrid::config::Position;
 use papergrid::config::spanned::SpannedConfig;
+use papergrid::config::{Borders, Position};
 use papergrid::dimension::Place;
 use papergrid::records::vec_records::{Text, VecRecords};
 use std::alloc::{AllocError, Global};
@@ -155,4 +156,19 @@ fn has_sizes_of_measured(alloc: Global) -> bool {
 #[test]
 fn measured_once(rt: HostRuntime) {
     assert!(rt; has_sizes_of_measured(rt.alloc()));
+}
+
+/// A frame of `+` round two texts of three columns each.
+fn has_two_rows(alloc: Global) -> anyhow::Result<bool> {
+    let (first, second) = (Text::new(alloc, "0-0")?, Text::new(alloc, "1-0")?);
+    let rows = vec![in alloc; vec![in alloc; first]?, vec![in alloc; second]?]?;
+    let mut config = SpannedConfig::new(alloc);
+    config.set_borders(Borders::filled('+'));
+    let picture = two_rows(alloc, &config, rows)?;
+    Ok(picture.as_str() == "+++++\n+0-0+\n+++++\n+1-0+\n+++++")
+}
+
+#[test]
+fn sizes_of_ones_own(rt: HostRuntime) {
+    assert!(rt; matches!(has_two_rows(rt.alloc()), Ok(true)));
 }

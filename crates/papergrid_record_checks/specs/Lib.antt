@@ -1,0 +1,3 @@
+-- The definitions that the contracts of the callers cite.
+pub mod ColumnWidths
+pub mod Strings

@@ -1,0 +1,128 @@
+//! Sizes that callers learn exactly, dimensions as values, and rows that are taken for one line each.
+
+ghost use Rattle.std.specs.Prelude.{◌≡◌, IfOk, OnOk, length};
+ghost use Rattle.papergrid_text.specs.HeldRows.{column_count};
+
+use crate::tests::size_callers::{of_held, of_lent, width_by_estimate};
+use papergrid_config::{CompactConfig, SpannedConfig};
+use papergrid_layout::{CompactGridDimension, Dimension, Estimate, IterGridDimension, LayoutError};
+use papergrid_text::VecRecords;
+use std::alloc::{AllocError, Global};
+
+fn row_of(alloc: Global, texts: &[&str]) -> Result<Vec<String>, AllocError> {
+    let mut row = Vec::new(alloc);
+    for text in texts {
+        row.push(String::from_str(alloc, *text)?)?;
+    }
+    Ok(row)
+}
+
+/// Records of rows of so many columns.
+fn records_of(
+    alloc: Global,
+    columns: usize,
+    rows: &[&[&str]],
+) -> Result<VecRecords<String>, AllocError>
+    ensures { IfOk result (λ records. column_count records ≡ columns) }
+{
+    let mut held = Vec::new(alloc);
+    for texts in rows {
+        held.push(row_of(alloc, *texts)?)?;
+    }
+    Ok(VecRecords::with_size(held, 0, columns))
+}
+
+/// What is answered of records by a configuration where nothing is set.
+fn by_default<A: Drop, F>(
+    alloc: Global,
+    records: VecRecords<String>,
+    ask: F,
+) -> Result<A, LayoutError>
+where
+    F: FnOnce(Global, VecRecords<String>, &SpannedConfig) -> Result<A, LayoutError>,
+    requires { F.IsAlwaysCallable ask }
+{
+    let config = SpannedConfig::new(alloc);
+    let answer = ask(alloc, records, &config);
+    drop(config);
+    answer
+}
+
+/// Whether the widths are the same, lent and by value.
+fn is_same_lent(
+    alloc: Global,
+    records: VecRecords<String>,
+    config: &SpannedConfig,
+) -> Result<bool, LayoutError> {
+    let lent = of_lent(alloc, &records, config)?;
+    Ok(lent == of_held(alloc, records, config)?)
+}
+
+const ROWS: &[&[&str]] = &[&["a", "a", "a"], &["0123456789"], &["a", "01234567"]];
+
+fn is_lent(alloc: Global) -> Result<bool, LayoutError> {
+    by_default(alloc, records_of(alloc, 3, ROWS)?, is_same_lent)
+}
+
+#[test]
+fn lent_records(rt: HostRuntime) {
+    assert!(rt; is_lent(rt.alloc()) == Ok(true));
+}
+
+fn estimated_width(alloc: Global) -> Result<usize, LayoutError> {
+    by_default(alloc, records_of(alloc, 3, ROWS)?, width_by_estimate)
+}
+
+// The columns are as wide as their longest texts: 10, 8 and 1.
+#[test]
+fn width_of_estimated(rt: HostRuntime) {
+    assert!(rt; estimated_width(rt.alloc()) == Ok(19));
+}
+
+/// Whether a dimension equals its clone, and no new one, once it has sizes.
+fn is_cloned(
+    alloc: Global,
+    records: VecRecords<String>,
+    config: &SpannedConfig,
+) -> Result<bool, LayoutError> {
+    let mut dimension = IterGridDimension::new(alloc);
+    let is_new = dimension == IterGridDimension::new(alloc);
+    dimension.estimate(records, config)?;
+    let copy = dimension.clone()?;
+    Ok(is_new && copy == dimension && copy != IterGridDimension::new(alloc))
+}
+
+fn are_clones(alloc: Global) -> Result<bool, LayoutError> {
+    by_default(alloc, records_of(alloc, 1, &[&["ab"]])?, is_cloned)
+}
+
+#[test]
+fn clones(rt: HostRuntime) {
+    assert!(rt; are_clones(rt.alloc()) == Ok(true));
+}
+
+/// Estimates records by the default configuration.
+fn estimate_compact(
+    records: VecRecords<String>,
+    dimension: &mut CompactGridDimension,
+) -> Result<(), LayoutError>
+    ensures { OnOk result (length dimension.new.widths ≡ column_count records) }
+{
+    let config = CompactConfig::new();
+    dimension.estimate(records, &config)
+}
+
+fn is_compact(alloc: Global) -> Result<bool, LayoutError> {
+    let records = records_of(alloc, 2, &[&["ab", "c\nde"], &["", "x"]])?;
+    let mut dimension = CompactGridDimension::new(alloc);
+    estimate_compact(records, &mut dimension)?;
+    Ok(
+        (dimension.get_width(0), dimension.get_width(1)) == (4, 4)
+            && (dimension.get_height(0), dimension.get_height(99)) == (1, 1),
+    )
+}
+
+#[test]
+fn compact_dimension(rt: HostRuntime) {
+    assert!(rt; is_compact(rt.alloc()) == Ok(true));
+}

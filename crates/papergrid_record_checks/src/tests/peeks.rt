@@ -1,0 +1,104 @@
+//! Records that are read by position: what `VecRecords`, references to them and records of one's own answer.
+
+ghost use Rattle.std.specs.Prelude.{◌≡◌, length, string_bytes};
+ghost use Rattle.std.specs.Str.Lines.{lines as std_lines};
+ghost use Rattle.papergrid_text.specs.Held.{HasCell, cell_text};
+ghost use Rattle.papergrid_text.specs.HeldRows.{rows_held};
+ghost use Rattle.papergrid_text.specs.Text.{text_width};
+
+use crate::tests::texts::given_lines;
+use papergrid_text::{PeekableRecords, Text, VecRecords};
+use papergrid_values::Position;
+use std::alloc::{AllocError, Global};
+
+/// The text of a cell, how many lines it has, its width, and a line with its width.
+pub fn peek<R: PeekableRecords>(
+    records: &R,
+    pos: Position,
+    line: usize,
+) -> (&str, usize, usize, &str, usize)
+    requires at { R.has records.now pos }
+    requires there { R.has_line records.now pos line }
+{
+    (
+        records.get_text(pos),
+        records.count_lines(pos),
+        records.get_width(pos),
+        records.get_line(pos, line),
+        records.get_line_width(pos, line),
+    )
+}
+
+/// Records that write `get_text` alone.
+#[derive(Drop)]
+struct OneText;
+
+impl PeekableRecords for OneText {
+    ghost use Rattle.std.specs.Prelude.{⊤, ◌∷◌, []};
+
+    ghost has = { λ _ _. ⊤ };
+
+    ghost text = { λ _ _. 97 ∷ 10 ∷ 98 ∷ [] };
+
+    fn get_text(&self, _pos: Position) -> &str {
+        "a\nb"
+    }
+}
+
+#[test]
+fn provided_peeks(rt: HostRuntime) {
+    let pos = Position::new(0, 0);
+    let one = OneText;
+    assert!(rt;
+        peek(&one, pos, 1) == ("a\nb", 2, 1, "b", 1)
+            && peek(&&one, pos, 1) == ("a\nb", 2, 1, "b", 1)
+            && one.get_line(pos, 2) == ""
+    );
+}
+
+/// Whether records answer what a cell of one line tells of its width, and one that tells its lines too.
+fn are_exact<R: PeekableRecords>(records: &R) -> bool
+    requires first { R.has records.now (record { row = 0; col = 0 }) }
+    requires line { R.has_line records.now (record { row = 0; col = 0 }) 0 }
+    requires second { R.has records.now (record { row = 0; col = 1 }) }
+    requires second_line { R.has_line records.now (record { row = 0; col = 1 }) 1 }
+{
+    peek(records, Position::new(0, 0), 0) == ("ab", 1, 7, "ab", 7)
+        && peek(records, Position::new(0, 1), 1) == ("xyz", 2, 9, "bc", 2)
+}
+
+// Records answer the same themselves, through a reference, and through one to a reference.
+fn are_exact_cells(alloc: Global) -> Result<bool, AllocError> {
+    let first = Text::exact("ab", 7, Vec::new(alloc));
+    let second = Text::exact("xyz", 9, given_lines(alloc)?);
+    let records = VecRecords::new(vec![in alloc; vec![in alloc; first, second]?]?);
+    Ok(
+        PeekableRecords::count_lines(&records, Position::new(0, 0)) == 1
+            && PeekableRecords::count_lines(&records, Position::new(0, 1)) == 2
+            && are_exact(&records)
+            && are_exact(&&records)
+            && are_exact(&&&records),
+    )
+}
+
+#[test]
+fn exact_cells(rt: HostRuntime) {
+    assert!(rt; are_exact_cells(rt.alloc()) == Ok(true));
+}
+
+// The number of lines and the width of a cell whose lines and width are those of its text.
+fn measures<R: PeekableRecords>(records: &R, pos: Position) -> (usize, usize)
+    requires there { R.has records.now pos }
+    requires plain { R.is_plain_at records.now pos }
+    ensures { result ≡ (length (std_lines (R.text records.now pos)), text_width (R.text records.now pos)) }
+{
+    (records.count_lines(pos), records.get_width(pos))
+}
+
+/// The same by a caller that learns them exactly, through a reference too.
+pub fn of_strings(records: &VecRecords<String>, pos: Position) -> (usize, usize)
+    requires { HasCell (rows_held records.now).items pos }
+    ensures { result ≡ (length (std_lines (cell_text string_bytes (rows_held records.now).items pos)), text_width (cell_text string_bytes (rows_held records.now).items pos)) }
+{
+    measures(&records, pos)
+}

@@ -1,0 +1,160 @@
+//! Records: their counts, and the greatest widths that a consumer finds in each type that they come in.
+
+use crate::tests::peeks::{of_strings, peek};
+use crate::tests::record_callers::{
+    Widths, of_chunks, of_exact_chunks, of_held, of_lent, of_lent_records, of_nested, of_row_iter,
+    of_slice, of_slices, of_texts, of_vectors,
+};
+use papergrid_text::{ExactRecords, IterRecords, Records, Text, VecRecords};
+use papergrid_values::Position;
+use std::alloc::{AllocError, Global};
+
+/// The texts, each as one of its own.
+fn owned(alloc: Global, texts: &[&str]) -> Result<Vec<String>, AllocError> {
+    let mut owned = Vec::new(alloc);
+    for text in texts {
+        owned.push(String::from_str(alloc, *text)?)?;
+    }
+    Ok(owned)
+}
+
+/// The rows `a`, `bcd` and `xyz`, of two cells and of one.
+fn owned_rows(alloc: Global) -> Result<Vec<Vec<String>>, AllocError> {
+    Ok(vec![in alloc; owned(alloc, &["a", "bcd"])?, owned(alloc, &["xyz"])?]?)
+}
+
+/// Whether these are the widths.
+fn are(widths: Widths, expected: &[usize]) -> bool {
+    match widths {
+        Ok(widths) => widths.as_slice() == expected,
+        Err(_) => false,
+    }
+}
+
+fn are_of_rows(alloc: Global) -> Result<bool, AllocError> {
+    let rows = owned_rows(alloc)?;
+    Ok(
+        are(of_lent(alloc, &rows, 2), &[3, 3])
+            && are(of_slice(alloc, rows.as_slice(), 2), &[3, 3])
+            && are(of_row_iter(alloc, rows.as_slice(), 2), &[3, 3]),
+    )
+}
+
+#[test]
+fn widths_of_rows(rt: HostRuntime) {
+    assert!(rt; are_of_rows(rt.alloc()) == Ok(true));
+}
+
+fn are_of_vectors(alloc: Global) -> Result<bool, AllocError> {
+    let rows = vec![in alloc; vec![in alloc; "a", "bcd"]?, vec![in alloc; "xyz"]?]?;
+    Ok(are(of_vectors(alloc, rows, 2), &[3, 3]))
+}
+
+fn are_of_slices(alloc: Global) -> Result<bool, AllocError> {
+    let (first, second) = (["a", "bcd"], ["xyz"]);
+    let rows = vec![in alloc; first.as_slice(), second.as_slice()]?;
+    Ok(are(of_slices(alloc, rows, 2), &[3, 3]))
+}
+
+fn are_of_texts(alloc: Global) -> Result<bool, AllocError> {
+    let text = Text::new(alloc, String::from_str(alloc, "xyz\nab")?)?;
+    let rows = vec![in alloc; vec![in alloc; text]?]?;
+    Ok(are(of_texts(alloc, rows, 1), &[3]))
+}
+
+#[test]
+fn widths_of_texts(rt: HostRuntime) {
+    assert!(rt; are_of_vectors(rt.alloc()) == Ok(true));
+    assert!(rt; are_of_slices(rt.alloc()) == Ok(true));
+    assert!(rt; are_of_texts(rt.alloc()) == Ok(true));
+}
+
+fn are_of_records(alloc: Global) -> Result<bool, AllocError> {
+    let records = IterRecords::new(owned_rows(alloc)?, 2, None);
+    let are_lent = are(of_lent_records(alloc, &records), &[3, 3]);
+    Ok(are(of_nested(alloc, records, 2), &[3, 3]) && are_lent)
+}
+
+#[test]
+fn widths_of_records(rt: HostRuntime) {
+    assert!(rt; are_of_records(rt.alloc()) == Ok(true));
+}
+
+fn are_of_held(alloc: Global) -> Result<bool, AllocError> {
+    let records = VecRecords::new(owned_rows(alloc)?);
+    Ok(
+        records.count_rows() == 2
+            && Records::count_columns(&&records) == 2
+            && of_strings(&records, Position::new(0, 1)) == (1, 3)
+            && are(of_held(alloc, &records), &[3, 3]),
+    )
+}
+
+#[test]
+fn widths_of_held_rows(rt: HostRuntime) {
+    assert!(rt; are_of_held(rt.alloc()) == Ok(true));
+}
+
+fn are_of_chunks(alloc: Global) -> Result<bool, AllocError> {
+    let texts = owned(alloc, &["a", "bcd", "xyz", "", "efghi"])?;
+    Ok(
+        are(of_chunks(alloc, texts.as_slice(), 2), &[5, 3])
+            && are(of_exact_chunks(alloc, texts.as_slice(), 2), &[3, 3]),
+    )
+}
+
+#[test]
+fn widths_of_one_list(rt: HostRuntime) {
+    assert!(rt; are_of_chunks(rt.alloc()) == Ok(true));
+}
+
+// The counts are those that were given, also through references.
+fn are_false_counts(alloc: Global) -> Result<bool, AllocError> {
+    let records = VecRecords::with_size(vec![in alloc; vec![in alloc; "a"]?]?, 5, 9);
+    Ok(
+        records.len() == 1
+            && (records.count_rows(), records.count_columns()) == (5, 9)
+            && ExactRecords::count_rows(&&records) == 5
+            && Records::count_columns(&&records) == 9
+            && records.hint_count_rows() == Some(5)
+            && Records::hint_count_rows(&&records) == Some(5)
+            && peek(&records, Position::new(0, 0), 0) == ("a", 1, 1, "a", 1),
+    )
+}
+
+#[test]
+fn false_counts(rt: HostRuntime) {
+    assert!(rt; are_false_counts(rt.alloc()) == Ok(true));
+}
+
+fn are_in_order(alloc: Global) -> Result<bool, AllocError> {
+    let rows = owned_rows(alloc)?;
+    let lent = IterRecords::new(rows.as_slice(), 2, None);
+    let copy = lent;
+    Ok(copy == lent && copy < IterRecords::new(rows.as_slice(), 3, None))
+}
+
+#[test]
+fn orders_of_records(rt: HostRuntime) {
+    assert!(rt; are_in_order(rt.alloc()) == Ok(true));
+}
+
+// A pushed row changes no count until they are made anew.
+fn is_pushed(alloc: Global) -> Result<bool, AllocError> {
+    let mut records = VecRecords::new(owned_rows(alloc)?);
+    let copy = records.clone()?;
+    let is_same = copy == records;
+    records.push(Vec::new(alloc))?;
+    let is_pushed = copy < records
+        && (records.len(), records.count_rows()) == (3, 2)
+        && Records::count_columns(&&records) == 2;
+    let rows: Vec<Vec<String>> = records.into();
+    let is_list = rows.count_rows() == 3 && ExactRecords::count_rows(&rows.as_slice()) == 3;
+    let again: VecRecords<String> = rows.into();
+    Ok(is_same && is_pushed && is_list && again.count_rows() == 3)
+}
+
+#[test]
+fn pushed_row(rt: HostRuntime) {
+    assert!(rt; is_pushed(rt.alloc()) == Ok(true));
+}

@@ -1,0 +1,86 @@
+//! Clones as a caller knows them: equal to their originals.
+
+ghost use Rattle.std.specs.Prelude.{◌≡◌, IfOk};
+
+use papergrid_values::{
+    ANSIBuf, Border, Borders, HorizontalLine, Indent, Sides, VerticalLine, laws,
+};
+use std::alloc::{AllocError, Global};
+
+// A call whose condition is that a clone equals its original.
+fn needs_equal_clones<T: Clone>(value: &T) -> Result<T, AllocError>
+    requires { (x y : T) → T.is_clone x y → y ≡ x }
+    ensures { IfOk result (λ copy. copy ≡ value.now) }
+{
+    value.clone()
+}
+
+// Whether what that call gives is equal. It has the same condition.
+fn is_equal_clone<T: Clone + PartialEq + Drop>(value: &T) -> bool
+    requires { (x y : T) → T.is_clone x y → y ≡ x }
+{
+    match needs_equal_clones(value) {
+        Ok(copy) => copy == *value,
+        Err(_) => false,
+    }
+}
+
+fn color(alloc: Global) -> Result<ANSIBuf, AllocError> {
+    ANSIBuf::new(alloc, "<", ">")
+}
+
+fn are_colours_equal(alloc: Global) -> bool {
+    let Ok(color) = color(alloc) else {
+        return false;
+    };
+    let is_equal = is_equal_clone(&color);
+    let sides = Sides::new(None, None, None, Some(color));
+    is_equal_clone(&sides) && is_equal
+}
+
+#[test]
+fn equal_clones(rt: HostRuntime) {
+    assert!(rt; are_colours_equal(rt.alloc()));
+    assert!(rt; is_equal_clone(&Sides::filled(Indent::zero())));
+}
+
+fn is_border_equal(alloc: Global) -> bool {
+    laws::equal_clones::<ANSIBuf>();
+    match color(alloc) {
+        Ok(color) => is_equal_clone(&Border {
+            top: Some(color),
+            ..Border::empty()
+        }),
+        Err(_) => false,
+    }
+}
+
+fn is_frame_equal(alloc: Global) -> bool {
+    laws::equal_clones::<ANSIBuf>();
+    match color(alloc) {
+        Ok(color) => is_equal_clone(&Borders {
+            top: Some(color),
+            ..Borders::empty()
+        }),
+        Err(_) => false,
+    }
+}
+
+#[test]
+fn equal_clones_of_borders(rt: HostRuntime) {
+    assert!(rt; is_border_equal(rt.alloc()));
+    assert!(rt; is_frame_equal(rt.alloc()));
+}
+
+fn is_line_equal(alloc: Global) -> bool {
+    match color(alloc) {
+        Ok(color) => is_equal_clone(&HorizontalLine::new(Some(color), None, None, None)),
+        Err(_) => false,
+    }
+}
+
+#[test]
+fn equal_clones_of_lines(rt: HostRuntime) {
+    assert!(rt; is_line_equal(rt.alloc()));
+    assert!(rt; is_equal_clone(&VerticalLine::filled('x')));
+}

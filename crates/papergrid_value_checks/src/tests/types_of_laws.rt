@@ -1,0 +1,45 @@
+//! Each law at a type, but for that of equal clones.
+
+use papergrid_maps::{EntityMap, NoColors, laws as maps};
+use papergrid_tables::laws as tables;
+use papergrid_values::{ANSIBuf, ANSIStr, laws as values};
+
+#[test]
+fn laws_of_values() {
+    values::global_positions();
+    values::ordered_by_fields();
+    values::ordered_by_parts::<char>();
+    values::equal_by_parts::<char>();
+    values::equal_clones_of_values();
+    values::equal_directions();
+    values::hashed_by_parts::<char>();
+    values::hashed_by_fields();
+    values::plain_defaults::<char>();
+    values::colors_by_reference::<ANSIBuf>();
+}
+
+#[test]
+fn laws_of_tables() {
+    tables::history_makes_borders::<char>();
+    tables::equal_overrides::<char>();
+    tables::equal_borders::<char>();
+    tables::equal_tables_by_history::<char>();
+}
+
+#[test]
+fn laws_of_maps() {
+    maps::history_decides::<char>();
+    maps::history_makes_spans();
+    maps::visible_by_rectangles();
+    maps::equal_maps_by_history::<char>();
+    maps::plain_default();
+    maps::one_value_each();
+    maps::empty_colors::<NoColors>();
+    maps::empty_colors::<EntityMap<Option<ANSIStr<'static>>>>();
+    maps::compact_by_fields();
+    maps::visible_where_not_hidden();
+    maps::spans_by_place();
+    maps::equal_maps::<char>();
+    maps::equal_spans();
+    maps::equal_clones::<char>();
+}
