@@ -10,7 +10,6 @@ ghost use Rattle.papergrid_csv.specs.Requests.{first_row};
 ghost use Rattle.papergrid_csv.specs.Rows.{row_texts};
 ghost use Rattle.papergrid_csv.specs.ForProofs.Judging.{IsFirstUnder, IsUnderIn};
 
-use crate::aligned::first_row;
 use crate::request::{Alignment, ColumnName, Span};
 use papergrid_values::Position;
 
@@ -18,9 +17,8 @@ use papergrid_values::Position;
 pub fn first_missing(rows: &[Vec<&str>], entries: &[(ColumnName, Alignment)]) -> Option<usize>
     ensures { result ≡ first_missing (first_row (map row_texts rows.now)) entries.now }
 {
-    let head = first_row(rows);
     for index in 0..entries.len() {
-        if !is_found(head, &entries[index].0) {
+        if !is_found(rows, &entries[index].0) {
             return Some(index);
         }
     }
@@ -28,12 +26,15 @@ pub fn first_missing(rows: &[Vec<&str>], entries: &[(ColumnName, Alignment)]) ->
 }
 
 /// Whether the first row has a field with the text of a name, if it is by a text.
-fn is_found(head: &[&str], name: &ColumnName) -> bool
-    ensures { result ≡ is_found (map (λ text. text.now) head.now) name.now }
+fn is_found(rows: &[Vec<&str>], name: &ColumnName) -> bool
+    ensures { result ≡ is_found (first_row (map row_texts rows.now)) name.now }
 {
     match name {
         ColumnName::Number(_) => true,
-        ColumnName::Head(text) => has_field(head, text.as_str()),
+        ColumnName::Head(text) => match rows.get(0) {
+            Some(row) => has_field(row, text.as_str()),
+            None => false,
+        },
     }
 }
 
