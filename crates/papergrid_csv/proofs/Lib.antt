@@ -1,3 +1,4 @@
+pub mod AlignedLemmas
 pub mod CsvLemmas
 pub mod DrawLemmas
 pub mod ReadLemmas
