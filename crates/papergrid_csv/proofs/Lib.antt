@@ -1,6 +1,7 @@
 pub mod AlignedLemmas
 pub mod CsvLemmas
 pub mod DrawLemmas
+pub mod JudgingLemmas
 pub mod ReadLemmas
 pub mod RefusalLemmas
 pub mod RequestLemmas

@@ -1,6 +1,5 @@
 -- The picture of a CSV text.
 use Rattle.std.specs.Prelude.{◌≡◌, ◌<◌, ◌≤◌, ◌++◌, ⊤, ℕ, false, List, [], length, IsSome, Option, None, Some}
-use Rattle.std.specs.List.{AllZip}
 use Rattle.papergrid_values.specs.declared.direction.Direction.TheVariants.{Columns}
 use Rattle.papergrid_values.specs.declared.position.Position.{Position}
 use Rattle.papergrid_config.specs.declared.setting.Setting.{Setting}
@@ -14,19 +13,14 @@ use Rattle.papergrid_grid.specs.Lined.{lined}
 use Rattle.papergrid_grid.specs.declared.crossings.Junctions.{Junctions}
 use Rattle.papergrid.specs.Layouts.{IsConfiguredBy}
 use Rattle.papergrid.specs.Pictures.{IsDrawingWith, IsFaultWith, IsRefusal}
-use Rattle.papergrid_csv.specs.Cutting.{IsCut}
 use Rattle.papergrid_csv.specs.Judging.{IsHidden, first_missing}
 use Rattle.papergrid_csv.specs.Requests.{first_row, settings_of}
 use Rattle.papergrid_csv.specs.Rows.{AreRowsOf, IsUnread}
+use Rattle.papergrid_csv.specs.Shown.{AreCut}
 use Rattle.papergrid_csv.specs.declared.reading.RowsError.TheVariants as rows_errors
 use Rattle.papergrid_csv.specs.declared.request.Request.{Request}
 use Rattle.papergrid_csv.specs.declared.run.CsvEnd.{CsvEnd}
 use Rattle.papergrid_csv.specs.declared.run.CsvEnd.TheVariants.{Drawn, Hides, NoColumn, NotText, Ragged, Refused, TooWide, Unclosed}
-
--- the fields of rows as they are drawn: each one cut to so many columns, or as it is
-abbrev pub AreCut : Option ℕ → List (List (List ℕ)) → List (List (List ℕ)) → Type 0
-AreCut None rows shown = shown ≡ rows
-AreCut (Some columns) rows shown = AllZip (AllZip (IsCut columns)) rows shown
 
 -- the rows of an input, and as they are drawn: each name of the request is of a column, and no field is hidden, unless
 -- fields may be

@@ -3,7 +3,7 @@
 ghost use Rattle.std.specs.Prelude.{IfOk};
 ghost use Rattle.std.specs.List.{AllZip};
 ghost use Rattle.papergrid_csv.specs.Cutting.{IsCut};
-ghost use Rattle.papergrid_csv.specs.Pictures.{AreCut};
+ghost use Rattle.papergrid_csv.specs.Shown.{AreCut};
 ghost use Rattle.papergrid_csv.specs.Rows.{row_texts, texts_of};
 
 use crate::cutting::cut;
