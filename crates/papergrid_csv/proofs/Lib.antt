@@ -6,6 +6,7 @@ pub mod ReadLemmas
 pub mod RefusalLemmas
 pub mod RequestLemmas
 pub mod RowLemmas
+pub mod ShownLemmas
 pub mod SpellingLemmas
 pub mod TableLemmas
 pub mod WideLemmas

@@ -127,9 +127,7 @@ fn push_entry(
             let alignment = column_alignment(below, *column, alignment);
             push_aligned(*column, alignment, settings)
         }
-        ColumnName::Head(text) => {
-            push_named(rows, below, text.as_str(), alignment, settings)
-        }
+        ColumnName::Head(text) => { push_named(rows, below, text.as_str(), alignment, settings) }
     }
 }
 

@@ -37,22 +37,23 @@ fn cut_rows<'t>(
 {
     let mut shown = Vec::with_capacity(alloc, rows.len())?;
     for row in rows {
-        shown.push(cut_row(texts, columns, row)?)?;
+        shown.push(cut_row(alloc, texts, columns, row)?)?;
     }
     Ok(shown)
 }
 
 /// A row with each field cut.
 fn cut_row<'t>(
+    alloc: Global,
     texts: &'t Bump,
     columns: usize,
     row: Vec<&'t str>,
 ) -> Result<Vec<&'t str>, AllocError>
     ensures { IfOk result (λ shown. AllZip (IsCut columns) (row_texts row.entry) (row_texts shown)) }
 {
-    let mut shown = row;
-    for at in 0..shown.len() {
-        shown[at] = cut(texts, columns, shown[at])?;
+    let mut shown = Vec::with_capacity(alloc, row.len())?;
+    for field in row {
+        shown.push(cut(texts, columns, field)?)?;
     }
     Ok(shown)
 }
