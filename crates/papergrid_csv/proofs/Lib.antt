@@ -1,7 +1,9 @@
 pub mod AlignedLemmas
 pub mod CsvLemmas
 pub mod DrawLemmas
+pub mod EscapeLemmas
 pub mod JudgingLemmas
+pub mod QuoteLemmas
 pub mod ReadLemmas
 pub mod RefusalLemmas
 pub mod RequestLemmas
