@@ -1,5 +1,7 @@
 pub mod AlignedLemmas
+pub mod ApartLemmas
 pub mod CsvLemmas
+pub mod CutLemmas
 pub mod DrawLemmas
 pub mod EscapeLemmas
 pub mod JudgingLemmas
