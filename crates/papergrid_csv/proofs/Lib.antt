@@ -10,7 +10,9 @@ pub mod ReadLemmas
 pub mod RefusalLemmas
 pub mod RequestLemmas
 pub mod RowLemmas
+pub mod RunLemmas
 pub mod ShownLemmas
+pub mod SizedLemmas
 pub mod SpellingLemmas
 pub mod TableLemmas
 pub mod WideLemmas
