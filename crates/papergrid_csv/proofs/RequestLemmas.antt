@@ -33,8 +33,7 @@ module _ (P : Setting → Type 0) where
   all-of f each (x ∷ xs) = All-append P (f x) (flat_map f xs) (each x) (all-of f each xs)
 
   module _ (aligned : (entity : Entity) (alignment : AlignmentHorizontal) → P (SetAlignmentHorizontal entity alignment))
-      (vertical : (entity : Entity) (alignment : AlignmentVertical) → P (SetAlignmentVertical entity alignment))
-      (across : (p : Position) (n : ℕ) → P (SetColumnSpan p n)) (down : (p : Position) (n : ℕ) → P (SetRowSpan p n)) where
+      (vertical : (entity : Entity) (alignment : AlignmentVertical) → P (SetAlignmentVertical entity alignment)) where
     numbers-all : (below : List (List (List ℕ))) (columns : ℕ) (alignment : Alignment) → All P (number_settings below columns alignment)
     numbers-all below columns (Fixed alignment) = All-nil P
     numbers-all below columns Auto =
@@ -48,33 +47,35 @@ module _ (P : Setting → Type 0) where
           All-map P (λ column. SetAlignmentHorizontal (Column column) (column_alignment (rows_below request.has_head rows) column entry.1)) named
           (λ k d within. aligned (Column (get_or named k d)) (column_alignment (rows_below request.has_head rows) (get_or named k d) entry.1))
 
-      span-all : (span : Span) → All P (span_settings span)
-      span-all span = All-cons P (SetColumnSpan span.position span.columns) (SetRowSpan span.position span.rows ∷ []) (across span.position span.columns)
-      (All-cons P (SetRowSpan span.position span.rows) [] (down span.position span.rows) (All-nil P))
-
-      abbrev others : List Setting
+      abbrev pub others : List Setting
       others =
           SetAlignmentHorizontal Global (common_alignment request.alignment)
           ∷ (number_settings (rows_below request.has_head rows) columns request.alignment ++ (SetAlignmentVertical Global request.vertical
           ∷ (flat_map (entry_settings request columns rows) request.columns.items ++ flat_map span_settings request.spans.items)))
 
-      others-all : All P others
-      others-all =
+      -- those of alignments and spans
+      pub others-all : All P (flat_map span_settings request.spans.items) → All P others
+      others-all spans =
           All-cons P (SetAlignmentHorizontal Global (common_alignment request.alignment)) _ (aligned Global (common_alignment request.alignment))
           (All-append P (number_settings (rows_below request.has_head rows) columns request.alignment) _ (numbers-all (rows_below request.has_head rows) columns request.alignment)
           (All-cons P (SetAlignmentVertical Global request.vertical) _ (vertical Global request.vertical)
           (All-append P (flat_map (entry_settings request columns rows) request.columns.items) (flat_map span_settings request.spans.items)
-          (all-of (entry_settings request columns rows) entry-all request.columns.items) (all-of span_settings span-all request.spans.items))))
+          (all-of (entry_settings request columns rows) entry-all request.columns.items) spans)))
 
-      pub settings-all : P (SetBorders request.frame) → All P (head_line request.head (length rows)) → P (SetPadding Global request.padding) → All P (settings_of request columns rows)
-      settings-all frame head padding =
-          All-cons P (SetBorders request.frame) (head_line request.head (length rows) ++ (SetPadding Global request.padding ∷ others)) frame
-          (All-append P (head_line request.head (length rows)) (SetPadding Global request.padding ∷ others) head (All-cons P (SetPadding Global request.padding) others padding others-all))
+  pub spans-all : ((p : Position) (n : ℕ) → P (SetColumnSpan p n)) → ((p : Position) (n : ℕ) → P (SetRowSpan p n)) → (spans : List Span) → All P (flat_map span_settings spans)
+  spans-all across down spans = all-of span_settings each spans
+    where
+      each : (span : Span) → All P (span_settings span)
+      each span = All-cons P (SetColumnSpan span.position span.columns) (SetRowSpan span.position span.rows ∷ []) (across span.position span.columns)
+      (All-cons P (SetRowSpan span.position span.rows) [] (down span.position span.rows) (All-nil P))
 
 -- each may be applied
 pub all-in-range : (request : Request) (columns : ℕ) (rows : List (List (List ℕ))) → All (λ setting. is_in_range setting ≡ true) (settings_of request columns rows)
 all-in-range request columns rows =
-    settings-all P (λ _ _. refl) (λ _ _. refl) (λ _ _. refl) (λ _ _. refl) request columns rows refl (head request.head) refl
+    All-cons P (SetBorders request.frame) _ refl
+    (All-append P (head_line request.head (length rows)) _ (head request.head)
+    (All-cons P (SetPadding Global request.padding) _ refl
+    (others-all P (λ _ _. refl) (λ _ _. refl) request columns rows (spans-all P (λ _ _. refl) (λ _ _. refl) request.spans.items))))
   where
     P : Setting → Type 0
     P setting = is_in_range setting ≡ true
