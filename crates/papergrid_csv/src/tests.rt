@@ -1,5 +1,8 @@
 //! The pictures of small texts.
 
+mod cuts;
+mod rows;
+
 use crate::{CsvEnd, Format, Reading, Request, run_csv};
 use papergrid::{ReadSource, RunFault, Sizing, WriteSink};
 use papergrid_values::{AlignmentHorizontal, Borders, HorizontalLine, Indent, Sides};

@@ -20,8 +20,8 @@ loop-init c =
       rw (quoted, delimited, flexible, headless) at fr.trim ∙ c.new.ensures.trim,
       inr (inr (rw (quoted, delimited, flexible, headless) at fr.has_headers, fr.headers)),
       rw (quoted, delimited, flexible, headless) at fr.config
-      ∙ ap (λ (config : Config). record config { delimiter = c.delimiter_of.result; quoting = c.has_quotes.result }) c.new.ensures.config
-      ∙ config-known c.args.reading.format c.delimiter_of.result c.has_quotes.result c.delimiter_of.ensures c.has_quotes.ensures,
+          ∙ ap (λ (config : Config). record config { delimiter = c.delimiter_of.result; quoting = c.has_quotes.result }) c.new.ensures.config
+          ∙ config-known c.args.reading.format c.delimiter_of.result c.has_quotes.result c.delimiter_of.ensures c.has_quotes.ensures,
       strip_bom c.args.input.now,
       fr.source,
       record {
