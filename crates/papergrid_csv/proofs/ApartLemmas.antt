@@ -1,8 +1,7 @@
 -- Characters that stand apart from what follows them.
-use Rattle.std.proofs.Common.{◌≡◌, ◌∙◌, ◌⊎◌, inl, inr, ℕ, ◌+◌, ◌<◌, Bool, List, [], ◌∷◌, ◌++◌, Option, None, Some, true, false, not, ap, arith, refl, sym}
-use Rattle.std.specs.Prelude.{◌==◌, ◌&&◌, ◌||◌}
-use Rattle.std.specs.Int.{is_in_range}
-use Rattle.std.proofs.lemmas.Bool.{and_parts, not-true, or_cases}
+use Rattle.std.proofs.Common.{◌≡◌, ◌∙◌, inl, inr, ℕ, ◌+◌, ◌<◌, List, [], ◌∷◌, ◌++◌, None, true, false, not, ap, arith, refl}
+use Rattle.std.specs.Prelude.{◌||◌}
+use Rattle.std.proofs.lemmas.Bool.{not-true, or_cases}
 use Rattle.std.proofs.lemmas.Bool.Decides.{nat_tests}
 use Rattle.ucd_bidi.specs.JoiningGroup.{joining_group, joining_group_eq}
 use Rattle.ucd_bidi.specs.declared.JoiningGroup.TheVariants.{Lam}
@@ -12,16 +11,15 @@ use Rattle.ucd_emoji.specs.Binary.{is_emoji_modifier_base, is_emoji_variation_ba
 use Rattle.ucd_table.specs.Rows.{Range, in_ranges}
 use Rattle.ucd_table.proofs.Stepped.{map_stepped}
 use Rattle.unicode_width.specs.declared.kind.Kind.{Kind}
-use Rattle.unicode_width.specs.declared.kind.Kind.TheVariants as kinds
 use Rattle.unicode_width.specs.declared.state.After.{After}
 use Rattle.unicode_width.specs.declared.state.After.TheVariants.{Nothing, LineFeed, EmojiModifier, RegionalIndicator, RegionalIndicators, Emoji, ZwjEmoji, KeycapZwjEmoji, IndicatorZwj, EvenIndicatorsZwj, OddIndicatorsZwj, TagEnd, TagDigit1, TagDigit2, TagDigit3, TagLetter1, TagLetter2, TagLetter3, TagLetter4, TagLetter5, TagLetter6, KiratE, KiratAi, Alef, Solidus, SolidusAlef, Lamed, ZwjLamed, Ya, ZwjYa, VowelZwjYa, Tifinagh, ZwjTifinagh, JoinerTifinagh, LisuTone, OrkhonI, ZwjOrkhonI, KhmerLetter}
 use Rattle.unicode_width.specs.declared.state.State.{State}
 use Rattle.unicode_width.specs.Kind.{is_ligature_transparent, is_text_presentation_base, kind}
-use Rattle.unicode_width.specs.Width.{Reading, added, alone, before_alef, if_kept, in_context, is_emoji, is_lam, joins, past_emoji, past_selectors, plain, read_before, step, str_width}
+use Rattle.unicode_width.specs.Width.{Reading, alone, before_alef, if_kept, in_context, is_emoji, is_lam, joins, past_emoji, past_selectors, plain, read_before, step, str_width}
 use Rattle.unicode_width.proofs.Computing.{unicode_width}
 use Rattle.unicode_width.proofs.KindLemmas.{is_ligature_transparent_stepped}
-use Rattle.papergrid_width.proofs.RangeLemmas.{AllPass, Group, Ones, Twos, all_pass, has_kind, kind_in, own, own_of, passes, ranges_of}
-use Rattle.papergrid_text.specs.Separators.{IsSeparator, is_separator}
+use Rattle.papergrid_width.proofs.RangeLemmas.{AllPass, Ones, Twos, all_pass, has_kind, kind_in, own, passes, ranges_of}
+use Rattle.papergrid_text.specs.Separators.{is_separator}
 use Rattle.papergrid_text.proofs.SeparatorLemmas.{separates}
 use Rattle.papergrid_text.proofs.TrimLemmas.{read-append, read-shifted}
 use Rattle.papergrid_text.proofs.Widths.{str_width-nil}

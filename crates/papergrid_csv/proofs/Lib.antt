@@ -1,5 +1,9 @@
+pub mod ApartLemmas
 pub mod CsvLemmas
+pub mod CutLemmas
 pub mod DrawLemmas
+pub mod EscapeLemmas
+pub mod QuoteLemmas
 pub mod ReadLemmas
 pub mod RefusalLemmas
 pub mod RequestLemmas
