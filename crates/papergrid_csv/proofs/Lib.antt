@@ -2,9 +2,11 @@ pub mod AlignedLemmas
 pub mod ApartLemmas
 pub mod CsvLemmas
 pub mod CutLemmas
+pub mod CutTextLemmas
 pub mod DrawLemmas
 pub mod EscapeLemmas
 pub mod JudgingLemmas
+pub mod PartLemmas
 pub mod QuoteLemmas
 pub mod ReadLemmas
 pub mod RefusalLemmas

@@ -25,6 +25,13 @@ use Rattle.papergrid_csv.specs.declared.request.ColumnName.{ColumnName}
 use Rattle.papergrid_csv.specs.declared.request.Request.{Request}
 use Rattle.papergrid_csv.specs.declared.request.Span.{Span}
 
+-- those of alignments and spans
+abbrev pub others : Request → ℕ → List (List (List ℕ)) → List Setting
+others request columns rows =
+    SetAlignmentHorizontal Global (common_alignment request.alignment)
+    ∷ (number_settings (rows_below request.has_head rows) columns request.alignment ++ (SetAlignmentVertical Global request.vertical
+    ∷ (flat_map (entry_settings request columns rows) request.columns.items ++ flat_map span_settings request.spans.items)))
+
 -- ---- what holds of all of them
 
 module _ (P : Setting → Type 0) where
@@ -47,14 +54,8 @@ module _ (P : Setting → Type 0) where
           All-map P (λ column. SetAlignmentHorizontal (Column column) (column_alignment (rows_below request.has_head rows) column entry.1)) named
           (λ k d within. aligned (Column (get_or named k d)) (column_alignment (rows_below request.has_head rows) (get_or named k d) entry.1))
 
-      abbrev pub others : List Setting
-      others =
-          SetAlignmentHorizontal Global (common_alignment request.alignment)
-          ∷ (number_settings (rows_below request.has_head rows) columns request.alignment ++ (SetAlignmentVertical Global request.vertical
-          ∷ (flat_map (entry_settings request columns rows) request.columns.items ++ flat_map span_settings request.spans.items)))
-
       -- those of alignments and spans
-      pub others-all : All P (flat_map span_settings request.spans.items) → All P others
+      pub others-all : All P (flat_map span_settings request.spans.items) → All P (others request columns rows)
       others-all spans =
           All-cons P (SetAlignmentHorizontal Global (common_alignment request.alignment)) _ (aligned Global (common_alignment request.alignment))
           (All-append P (number_settings (rows_below request.has_head rows) columns request.alignment) _ (numbers-all (rows_below request.has_head rows) columns request.alignment)
