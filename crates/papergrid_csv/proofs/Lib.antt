@@ -1,6 +1,5 @@
 pub mod AlignedLemmas
 pub mod ApartLemmas
-pub mod CsvLemmas
 pub mod CutLemmas
 pub mod CutTextLemmas
 pub mod DrawLemmas

@@ -67,8 +67,9 @@ module _ (P : Setting → Type 0) where
   spans-all across down spans = all-of span_settings each spans
     where
       each : (span : Span) → All P (span_settings span)
-      each span = All-cons P (SetColumnSpan span.position span.columns) (SetRowSpan span.position span.rows ∷ []) (across span.position span.columns)
-      (All-cons P (SetRowSpan span.position span.rows) [] (down span.position span.rows) (All-nil P))
+      each span =
+          All-cons P (SetColumnSpan span.position span.columns) (SetRowSpan span.position span.rows ∷ []) (across span.position span.columns)
+          (All-cons P (SetRowSpan span.position span.rows) [] (down span.position span.rows) (All-nil P))
 
 -- each may be applied
 pub all-in-range : (request : Request) (columns : ℕ) (rows : List (List (List ℕ))) → All (λ setting. is_in_range setting ≡ true) (settings_of request columns rows)
