@@ -1,6 +1,10 @@
--- Definitions: the table of a CSV text.
+-- Definitions: the table of a CSV or TSV text.
+pub mod Cutting
+pub mod Judging
+pub mod Numbers
 pub mod Pictures
 pub mod Requests
 pub mod Rows
+pub mod Shown
 pub mod Spelling
 pub mod ForProofs

@@ -2,7 +2,7 @@
 
 use crate::styles::Style;
 use papergrid::Sizing;
-use papergrid_csv::{Reading, Request};
+use papergrid_csv::{Format, Reading, Request};
 use papergrid_program::Request as Asked;
 use papergrid_values::{AlignmentHorizontal, Indent, Sides};
 use std::alloc::{AllocError, Global};
@@ -205,8 +205,11 @@ impl Draft {
         let indent = Indent::spaced(pad.unwrap_or(style.padding()));
         let csv = Request {
             reading: Reading {
-                delimiter,
+                format: Format::Csv(delimiter),
+                tab: None,
                 one_line,
+                raw: false,
+                strict: false,
             },
             frame: style.frame(),
             head: style.head(is_head),
