@@ -109,6 +109,7 @@ fn draw_input<W: Sink>(
     match read_rows(alloc, &texts, request.reading, input) {
         Err(RowsError::Memory) => Err(RunFault::Memory),
         Err(RowsError::NotText(before)) => Ok(CsvEnd::NotText(before)),
+        Err(RowsError::Unclosed | RowsError::Ragged(_, _)) => Err(RunFault::Memory),
         Ok(rows) => {
             let drawn = draw_rows(alloc, request, rows, writer);
             end_after(drawn)

@@ -1,6 +1,6 @@
 //! The pictures of small texts.
 
-use crate::{CsvEnd, Reading, Request, run_csv};
+use crate::{CsvEnd, Format, Reading, Request, run_csv};
 use papergrid::{ReadSource, RunFault, Sizing, WriteSink};
 use papergrid_values::{AlignmentHorizontal, Borders, HorizontalLine, Indent, Sides};
 use std::alloc::Global;
@@ -23,8 +23,11 @@ fn rounded(alloc: Global, one_line: bool) -> Request {
     frame.vertical = Some('│');
     Request {
         reading: Reading {
-            delimiter: b',',
+            format: Format::Csv(b','),
+            tab: None,
             one_line,
+            raw: false,
+            strict: false,
         },
         frame,
         head: Some(HorizontalLine::full('─', '┼', '├', '┤')),
