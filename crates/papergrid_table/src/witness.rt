@@ -6,7 +6,7 @@ use papergrid_csv::Request;
 use papergrid_values::Position;
 use std::alloc::{AllocError, Global};
 
-/// The lines `witness widths` and `witness heights` of the table of a text, if it has any.
+/// The lines `witness widths` and `witness heights` of the table of a text, if it has any; no line feed after the last.
 pub fn witness_of_text(
     alloc: Global,
     request: &Request,
@@ -15,6 +15,7 @@ pub fn witness_of_text(
     let mut lines = String::new(alloc);
     if let Some(found) = certified(alloc, request, input)? {
         push_witness(&mut lines, "widths", &found.width_witness)?;
+        lines.push('\n')?;
         push_witness(&mut lines, "heights", &found.height_witness)?;
     }
     Ok(lines)
@@ -36,7 +37,7 @@ fn push_witness(
         }
         None => lines.push_str(" none")?,
     }
-    lines.push('\n')
+    Ok(())
 }
 
 /// The same of the table of a script.
@@ -56,8 +57,10 @@ pub fn witness_of_script(
     for line in written.split(|byte| *byte == b'\n') {
         if line.starts_with(b"witness") {
             if let Ok(text) = std::str::from_utf8(line) {
+                if !lines.is_empty() {
+                    lines.push('\n')?;
+                }
                 lines.push_str(text)?;
-                lines.push('\n')?;
             }
         }
     }
