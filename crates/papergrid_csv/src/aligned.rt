@@ -159,11 +159,7 @@ fn push_named(
 }
 
 /// The alignment of the cells of a column.
-fn column_alignment(
-    below: &[Vec<&str>],
-    column: usize,
-    alignment: Alignment,
-) -> AlignmentHorizontal
+fn column_alignment(below: &[Vec<&str>], column: usize, alignment: Alignment) -> AlignmentHorizontal
     ensures { result ≡ column_alignment (map row_texts below.now) column alignment }
 {
     match alignment {

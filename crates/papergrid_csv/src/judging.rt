@@ -15,10 +15,7 @@ use crate::request::{Alignment, ColumnName, Span};
 use papergrid_values::Position;
 
 /// The number of the first entry whose name no field of the first row has.
-pub fn first_missing(
-    rows: &[Vec<&str>],
-    entries: &[(ColumnName, Alignment)],
-) -> Option<usize>
+pub fn first_missing(rows: &[Vec<&str>], entries: &[(ColumnName, Alignment)]) -> Option<usize>
     ensures { result ≡ first_missing (first_row (map row_texts rows.now)) entries.now }
 {
     let head = first_row(rows);
@@ -68,16 +65,19 @@ pub fn first_hidden(rows: &[Vec<&str>], spans: &[Span]) -> Option<Position>
 /// The earlier of two positions.
 fn earlier(first: Option<Position>, other: Option<Position>) -> Option<Position> {
     match (first, other) {
-        (Some(one), Some(two)) if two.is_before(one) => Some(two),
+        (Some(one), Some(two)) if two < one => Some(two),
         (Some(one), _) => Some(one),
         (None, other) => other,
     }
 }
 
 /// The first one that a span hides.
-fn first_under(rows: &[Vec<&str>], span: Span) -> Option<Position>
-{
-    let end = span.position.row.saturating_add(span.rows.max(1)).min(rows.len());
+fn first_under(rows: &[Vec<&str>], span: Span) -> Option<Position> {
+    let end = span
+        .position
+        .row
+        .saturating_add(span.rows.max(1))
+        .min(rows.len());
     for row in span.position.row..end {
         if let Some(col) = first_in_row(&rows[row], span, row) {
             return Some(Position { row, col });
@@ -87,12 +87,14 @@ fn first_under(rows: &[Vec<&str>], span: Span) -> Option<Position>
 }
 
 /// The column of the first one in a row.
-fn first_in_row(fields: &[&str], span: Span, row: usize) -> Option<usize>
-{
-    let end = span.position.col.saturating_add(span.columns.max(1)).min(fields.len());
+fn first_in_row(fields: &[&str], span: Span, row: usize) -> Option<usize> {
+    let end = span
+        .position
+        .col
+        .saturating_add(span.columns.max(1))
+        .min(fields.len());
     for col in span.position.col..end {
-        let own = row == span.position.row && col == span.position.col;
-        if !own && !fields[col].is_empty() {
+        if (Position { row, col }) != span.position && !fields[col].is_empty() {
             return Some(col);
         }
     }

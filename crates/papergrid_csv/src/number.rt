@@ -46,8 +46,7 @@ fn after_digits(text: &[u8]) -> &[u8]
 }
 
 /// Whether a comma and three digits stand at the front.
-fn begins_with_group(text: &[u8]) -> bool
-{
+fn begins_with_group(text: &[u8]) -> bool {
     match text {
         [b',', a, b, c, ..] => a.is_ascii_digit() && b.is_ascii_digit() && c.is_ascii_digit(),
         _ => false,

@@ -12,7 +12,8 @@ use papergrid_config::Setting;
 use papergrid_grid::Junctions;
 use papergrid_layout::Sizing;
 use papergrid_values::{
-    AlignmentHorizontal, AlignmentVertical, Borders, Entity, HorizontalLine, Indent, Position, Sides,
+    AlignmentHorizontal, AlignmentVertical, Borders, Entity, HorizontalLine, Indent, Position,
+    Sides,
 };
 use std::alloc::{AllocError, Global};
 

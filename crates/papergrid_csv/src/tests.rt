@@ -1,8 +1,10 @@
 //! The pictures of small texts.
 
-use crate::{CsvEnd, Format, Reading, Request, run_csv};
+use crate::{Alignment, CsvEnd, Format, Reading, Request, run_csv};
 use papergrid::{ReadSource, RunFault, Sizing, WriteSink};
-use papergrid_values::{AlignmentHorizontal, Borders, HorizontalLine, Indent, Sides};
+use papergrid_values::{
+    AlignmentHorizontal, AlignmentVertical, Borders, HorizontalLine, Indent, Sides,
+};
 use std::alloc::Global;
 use std::process::Abort;
 use std::test::Fail;
@@ -37,8 +39,15 @@ fn rounded(alloc: Global, one_line: bool) -> Request {
             Indent::zero(),
             Indent::zero(),
         ),
-        alignment: AlignmentHorizontal::Left,
+        has_head: true,
+        alignment: Alignment::Fixed(AlignmentHorizontal::Left),
+        vertical: AlignmentVertical::Top,
         columns: Vec::new(alloc),
+        spans: Vec::new(alloc),
+        hides: false,
+        junctions: None,
+        cut: None,
+        max_width: None,
         sizing: Sizing::ByShares,
     }
 }
