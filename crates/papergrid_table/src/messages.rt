@@ -1,7 +1,7 @@
 //! What is said of a text that has no picture.
 
 use crate::places::{first_bad_byte, record_after, unclosed_line};
-use crate::sizes::shown_rows;
+use crate::sizes::whole_rows;
 use crate::values::{alignment_name, span_text};
 use crate::wide::too_wide;
 use bumpalo::Bump;
@@ -83,7 +83,7 @@ fn out_of_table(
     position: Position,
 ) -> Result<String, AllocError> {
     let texts = Bump::new(alloc);
-    let (rows, columns) = match shown_rows(alloc, &texts, request, input)? {
+    let (rows, columns) = match whole_rows(alloc, &texts, request, input)? {
         Some(found) => (found.rows.len(), found.columns),
         None => (0, 0),
     };
@@ -141,7 +141,7 @@ fn hides(
     position: Position,
 ) -> Result<String, AllocError> {
     let texts = Bump::new(alloc);
-    let rows = shown_rows(alloc, &texts, request, input)?;
+    let rows = whole_rows(alloc, &texts, request, input)?;
     let Position { row, col } = position;
     let mut field = "";
     if let Some(found) = &rows {
@@ -173,7 +173,7 @@ fn no_column(
     let value = alignment_name(*alignment);
     let written = shown(alloc, head.as_str())?;
     let texts = Bump::new(alloc);
-    let rows = shown_rows(alloc, &texts, request, input)?;
+    let rows = whole_rows(alloc, &texts, request, input)?;
     let mut like = None;
     if let Some(found) = &rows {
         if let Some(heads) = found.rows.first() {

@@ -41,10 +41,8 @@ pub fn shown_rows<'t>(
     request: &Request,
     input: &[u8],
 ) -> Result<Option<Rows<'t>>, AllocError> {
-    let mut rows = match read_rows(alloc, texts, request.reading, input) {
-        Ok(rows) => rows,
-        Err(RowsError::Memory) => return Err(AllocError),
-        Err(_) => return Ok(None),
+    let Some(mut rows) = whole_rows(alloc, texts, request, input)? else {
+        return Ok(None);
     };
     if let Some(columns) = request.cut {
         for row in rows.rows.iter_mut() {
@@ -54,6 +52,20 @@ pub fn shown_rows<'t>(
         }
     }
     Ok(Some(rows))
+}
+
+/// The rows of a text, each field whole, if it has any.
+pub fn whole_rows<'t>(
+    alloc: Global,
+    texts: &'t Bump,
+    request: &Request,
+    input: &[u8],
+) -> Result<Option<Rows<'t>>, AllocError> {
+    match read_rows(alloc, texts, request.reading, input) {
+        Ok(rows) => Ok(Some(rows)),
+        Err(RowsError::Memory) => Err(AllocError),
+        Err(_) => Ok(None),
+    }
 }
 
 /// What decides the sizes of a table of so many rows: its lines, its padding and its spans.
