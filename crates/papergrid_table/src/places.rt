@@ -64,7 +64,7 @@ pub fn record_after(
     let mut record = ByteRecord::new(alloc);
     for number in 0..=count {
         match reader.read_byte_record(&mut record) {
-            Ok(true) if number == count => return Ok(Some(found(text, &record))),
+            Ok(true) if number == count => return Ok(Some(found_at(text, &record))),
             Ok(true) => {}
             Ok(false) => return Ok(None),
             Err(_) => return Err(AllocError),
@@ -74,7 +74,7 @@ pub fn record_after(
 }
 
 /// Where a record of the text stands. What ends the one before it, and empty lines, come before its first byte.
-fn found(text: &[u8], record: &ByteRecord) -> Found {
+fn found_at(text: &[u8], record: &ByteRecord) -> Found {
     let begin = match record.position() {
         Some(position) => usize::try_from(position.byte()).unwrap_or(text.len()),
         None => 0,

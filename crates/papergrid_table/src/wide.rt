@@ -60,7 +60,7 @@ fn name_cells(
     };
     let mut cells = Vec::with_capacity(alloc, witness.len())?;
     for position in witness {
-        cells.push(asking(request, &rows, *position))?;
+        cells.push(asked_of(request, &rows, *position))?;
     }
     cells.sort_by_key(|cell| usize::MAX.saturating_sub(cell.width))?;
     let mut rest = width;
@@ -76,7 +76,7 @@ fn name_cells(
 }
 
 /// What a cell asks for: the width of its text and of its padding.
-fn asking(request: &Request, rows: &Rows<'_>, position: Position) -> Asking {
+fn asked_of(request: &Request, rows: &Rows<'_>, position: Position) -> Asking {
     let text = match rows.rows.get(position.row).and_then(|row| row.get(position.col)) {
         Some(text) => get_text_width(text),
         None => 0,
