@@ -64,15 +64,20 @@ fn name_cells(
     }
     cells.sort_by_key(|cell| usize::MAX.saturating_sub(cell.width))?;
     let mut rest = width;
-    let mut before = ": ";
+    let mut is_first = true;
     for cell in cells.iter().take(NAMED) {
         let (head, line) = cell_name(alloc, request, &rows, input, cell.position)?;
-        let takes = cell.width;
-        write!(text, "{before}{head} (line {line}) takes {takes}")?;
-        rest = rest.saturating_sub(takes);
-        before = ", ";
+        text.push_str(if is_first { ": " } else { ", " })?;
+        add_cell(text, head.as_str(), line, cell.width)?;
+        rest = rest.saturating_sub(cell.width);
+        is_first = false;
     }
     write!(text, ", lines and the rest {rest}")
+}
+
+/// Adds what a cell of this name takes.
+fn add_cell(text: &mut String, name: &str, line: usize, takes: usize) -> Result<(), AllocError> {
+    write!(text, "{name} (line {line}) takes {takes}")
 }
 
 /// What a cell asks for: the width of its text and of its padding.
