@@ -302,7 +302,9 @@ impl Draft {
             request.junctions = style.junctions();
             if request.junctions.is_none() {
                 let name = style.name();
-                let text = format!(in alloc; "--fit-crossings: the style {name} has no crossings to fit")?;
+                let text = format!(in alloc;
+                    "--fit-crossings: the style {name} has no crossings to fit"
+                )?;
                 return Err(Misuse::Said(text));
             }
         }
@@ -325,7 +327,9 @@ fn format_of(
 ) -> Result<Format, Misuse> {
     match (kind, delimiter, of_fields) {
         (Kind::Script, _, Some(name)) => {
-            let text = format!(in alloc; "{name}: for CSV and TSV alone, and the input is a script")?;
+            let text = format!(in alloc;
+                "{name}: for CSV and TSV alone, and the input is a script"
+            )?;
             Err(Misuse::Said(text))
         }
         (Kind::Tsv, Some(_), _) => {

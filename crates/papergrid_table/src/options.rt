@@ -68,7 +68,11 @@ fn options() -> [Listed; 24] {
         switch(Choice::Csv, "--csv", false),
         switch(Choice::Tsv, "--tsv", false),
         switch(Choice::Script, "--script", false),
-        valued(Choice::Delimiter, "--delimiter", "one character of ASCII, or tab"),
+        valued(
+            Choice::Delimiter,
+            "--delimiter",
+            "one character of ASCII, or tab",
+        ),
         valued(Choice::Style, "--style", "a style"),
         switch(Choice::Header, "--header", true),
         switch(Choice::NoHeader, "--no-header", true),
@@ -116,7 +120,7 @@ pub fn option_of(word: &str) -> Option<(Listed, Option<&str>)> {
     None
 }
 
-/// The names that the value of an option is one of, and what else may stand before it.
+/// The names that the value of an option is one of, if there are such.
 pub fn values_of(choice: Choice) -> &'static [&'static str] {
     match choice {
         Choice::Style => &STYLES,

@@ -53,7 +53,9 @@ pub fn record_after(
     text: &[u8],
     count: usize,
 ) -> Result<Option<Found>, AllocError> {
-    let text = text.strip_prefix(b"\xef\xbb\xbf".as_slice()).unwrap_or(text);
+    let text = text
+        .strip_prefix(b"\xef\xbb\xbf".as_slice())
+        .unwrap_or(text);
     let mut builder = ReaderBuilder::new();
     builder.has_headers(false).flexible(true);
     match reading.format {
@@ -80,7 +82,9 @@ fn found_at(text: &[u8], record: &ByteRecord) -> Found {
         None => 0,
     };
     let rest = text.get(begin..).unwrap_or(&[]);
-    let ends = rest.iter().position(|byte| *byte != b'\n' && *byte != b'\r');
+    let ends = rest
+        .iter()
+        .position(|byte| *byte != b'\n' && *byte != b'\r');
     let first = begin.saturating_add(ends.unwrap_or(rest.len()));
     Found {
         line: line_after(text, first),
@@ -103,7 +107,9 @@ enum Amid {
 
 /// The line of the quote that begins a field and is not closed, if there is one.
 pub fn unclosed_line(delimiter: u8, text: &[u8]) -> Option<usize> {
-    let text = text.strip_prefix(b"\xef\xbb\xbf".as_slice()).unwrap_or(text);
+    let text = text
+        .strip_prefix(b"\xef\xbb\xbf".as_slice())
+        .unwrap_or(text);
     let mut amid = Amid::Start;
     let mut opened = 0;
     for (at, byte) in text.iter().enumerate() {

@@ -88,8 +88,7 @@ fn compared<R: Read + Drop>(
     }
     match comparing.difference() {
         None => code,
-        Some(spot) => {
-            let (line, column) = (spot.line, spot.byte);
+        Some((line, column)) => {
             let _ = eprintln!(rt;
                 "{picture_name}: line {line}, column {column}: differs from the table of {name} (--check)"
             );
@@ -119,7 +118,10 @@ fn run<R: Read + Drop, W: Write>(
 
 /// Whether a picture was written.
 fn is_drawn(end: End) -> bool {
-    matches!(end, End::OfText(CsvEnd::Drawn) | End::OfScript(RunEnd::Done))
+    matches!(
+        end,
+        End::OfText(CsvEnd::Drawn) | End::OfScript(RunEnd::Done)
+    )
 }
 
 /// Says what kept the table from being drawn, or which cells show that it is no smaller, where that is asked.
