@@ -16,7 +16,7 @@ use std::collections::BTreeMap;
 
 /// The sizes of a table that are one's own.
 #[derive(Debug, Drop)]
-pub struct Sizes {
+pub struct OwnSizes {
     /// In columns of a terminal.
     pub widths: Vec<usize>,
     /// In lines.
@@ -31,7 +31,7 @@ pub struct Document {
     /// The texts of each row. A row may have fewer than there are columns; what it has more is not drawn.
     pub rows: Vec<Vec<String>>,
     /// A width for each column and a height for each row, where these are not to be found.
-    pub sizes: Option<Sizes>,
+    pub sizes: Option<OwnSizes>,
     /// The colours of texts, by position.
     pub colors: BTreeMap<Position, ANSIBuf>,
 }
@@ -133,13 +133,13 @@ fn count<'v>(spot: &Spot<'v>, wanted: &'static str) -> Result<usize, Fault<'v>> 
 }
 
 /// The sizes that stand at a place, if something does.
-fn sizes<'v>(alloc: Global, spot: &Spot<'v>) -> Result<Option<Sizes>, Fault<'v>> {
+fn sizes<'v>(alloc: Global, spot: &Spot<'v>) -> Result<Option<OwnSizes>, Fault<'v>> {
     if spot.is_empty() {
         return Ok(None);
     }
     let widths = spot.field("widths").numbers(alloc)?;
     let heights = spot.field("heights").numbers(alloc)?;
-    Ok(Some(Sizes { widths, heights }))
+    Ok(Some(OwnSizes { widths, heights }))
 }
 
 /// The colours of texts that stand at a place, none where nothing does.
@@ -215,7 +215,7 @@ fn finished(
     columns: Option<usize>,
     rows: Vec<Vec<String>>,
 ) -> Result<Document, Fault<'static>>
-    ensures { IfOk result (λ document. document.settings.items ≡ draft.entry.settings.items) }
+    ensures { IfOk result (λ document. document.settings.items ≡ draft.settings.items) }
 {
     let columns = match columns {
         Some(columns) => columns,

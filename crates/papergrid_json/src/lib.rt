@@ -11,7 +11,7 @@ mod setting;
 mod spot;
 mod values;
 
-pub use document::{Document, Sizes, read_document};
+pub use document::{Document, OwnSizes, read_document};
 pub use error::DocumentError;
 pub use forms::{Form, SETTINGS};
 

@@ -7,7 +7,7 @@ use papergrid_values::{ANSIBuf, Border, Borders, HorizontalLine, Sides, Vertical
 use std::alloc::Global;
 
 /// A value by parts that have names.
-pub trait Parts: Drop {
+pub trait Named: Drop {
     type Part: Told;
 
     /// The names of the parts, in words.
@@ -18,7 +18,11 @@ pub trait Parts: Drop {
 }
 
 /// The value with the parts that an object tells. A part that is missing, or is `null`, stays.
-pub fn parts<'v, P: Parts>(alloc: Global, spot: &Spot<'v>, mut parts: P) -> Result<P, Fault<'v>> {
+pub fn with_parts<'v, P: Named>(
+    alloc: Global,
+    spot: &Spot<'v>,
+    mut parts: P,
+) -> Result<P, Fault<'v>> {
     let Some(members) = spot.members() else {
         return Err(spot.unexpected(P::NAMES));
     };
@@ -35,7 +39,7 @@ pub fn parts<'v, P: Parts>(alloc: Global, spot: &Spot<'v>, mut parts: P) -> Resu
     Ok(parts)
 }
 
-impl<T: Told> Parts for Borders<T> {
+impl<T: Told> Named for Borders<T> {
     type Part = T;
 
     const NAMES: &'static str =
@@ -66,7 +70,7 @@ impl<T: Told> Parts for Borders<T> {
     }
 }
 
-impl<T: Told> Parts for Border<T> {
+impl<T: Told> Named for Border<T> {
     type Part = T;
 
     const NAMES: &'static str =
@@ -89,7 +93,7 @@ impl<T: Told> Parts for Border<T> {
     }
 }
 
-impl<T: Told> Parts for HorizontalLine<T> {
+impl<T: Told> Named for HorizontalLine<T> {
     type Part = T;
 
     const NAMES: &'static str = "an object of main, intersection, left, right";
@@ -106,7 +110,7 @@ impl<T: Told> Parts for HorizontalLine<T> {
     }
 }
 
-impl<T: Told> Parts for VerticalLine<T> {
+impl<T: Told> Named for VerticalLine<T> {
     type Part = T;
 
     const NAMES: &'static str = "an object of main, intersection, top, bottom";
@@ -123,7 +127,7 @@ impl<T: Told> Parts for VerticalLine<T> {
     }
 }
 
-impl<T: Told> Parts for Sides<T> {
+impl<T: Told> Named for Sides<T> {
     type Part = T;
 
     const NAMES: &'static str = "an object of top, bottom, left, right";

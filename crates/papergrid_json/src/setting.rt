@@ -2,7 +2,7 @@
 
 use crate::error::Fault;
 use crate::forms::form_named;
-use crate::parts::parts;
+use crate::parts::with_parts;
 use crate::spot::Spot;
 use crate::values::{Told, color, entity, horizontal, position, shape, vertical};
 use papergrid_config::Setting;
@@ -43,15 +43,15 @@ fn told<'v>(alloc: Global, name: &str, spot: &Spot<'v>) -> Result<Setting, Fault
 fn of_table<'v>(alloc: Global, name: &str, spot: &Spot<'v>) -> Result<Setting, Fault<'v>> {
     let first = spot.at(1);
     Ok(match name {
-        "SetMargin" => Setting::SetMargin(parts(alloc, &first, no_indents())?),
-        "SetMarginColor" => Setting::SetMarginColor(parts(alloc, &first, no_colors())?),
+        "SetMargin" => Setting::SetMargin(with_parts(alloc, &first, no_indents())?),
+        "SetMarginColor" => Setting::SetMarginColor(with_parts(alloc, &first, no_colors())?),
         "SetMarginOffset" => {
             let starts = Sides::filled(Offset::Start(0));
-            Setting::SetMarginOffset(parts(alloc, &first, starts)?)
+            Setting::SetMarginOffset(with_parts(alloc, &first, starts)?)
         }
-        "SetBorders" => Setting::SetBorders(parts(alloc, &first, Borders::empty())?),
+        "SetBorders" => Setting::SetBorders(with_parts(alloc, &first, Borders::empty())?),
         "SetBorderDefault" => Setting::SetBorderDefault(first.character()?),
-        "SetBordersColor" => Setting::SetBordersColor(parts(alloc, &first, Borders::empty())?),
+        "SetBordersColor" => Setting::SetBordersColor(with_parts(alloc, &first, Borders::empty())?),
         "SetBorderColorDefault" => { Setting::SetBorderColorDefault(ANSIBuf::told(alloc, &first)?) }
         "SetBordersMissing" => Setting::SetBordersMissing(first.character()?),
         _ => return of_line(alloc, name, spot),
@@ -64,14 +64,14 @@ fn of_line<'v>(alloc: Global, name: &str, spot: &Spot<'v>) -> Result<Setting, Fa
     Ok(match name {
         "InsertHorizontalLine" => Setting::InsertHorizontalLine(
             first.number()?,
-            parts(alloc, &second, HorizontalLine::empty())?,
+            with_parts(alloc, &second, HorizontalLine::empty())?,
         ),
         "RemoveHorizontalLine" => {
             Setting::RemoveHorizontalLine(first.number()?, second.number()?)
         }
         "InsertVerticalLine" => Setting::InsertVerticalLine(
             first.number()?,
-            parts(alloc, &second, VerticalLine::empty())?,
+            with_parts(alloc, &second, VerticalLine::empty())?,
         ),
         "RemoveVerticalLine" => Setting::RemoveVerticalLine(first.number()?, second.number()?),
         _ => return of_entity(alloc, name, spot),
@@ -83,10 +83,10 @@ fn of_entity<'v>(alloc: Global, name: &str, spot: &Spot<'v>) -> Result<Setting, 
     let (first, second) = (spot.at(1), spot.at(2));
     Ok(match name {
         "SetPadding" => {
-            Setting::SetPadding(entity(&first)?, parts(alloc, &second, no_indents())?)
+            Setting::SetPadding(entity(&first)?, with_parts(alloc, &second, no_indents())?)
         }
         "SetPaddingColor" => {
-            Setting::SetPaddingColor(entity(&first)?, parts(alloc, &second, no_colors())?)
+            Setting::SetPaddingColor(entity(&first)?, with_parts(alloc, &second, no_colors())?)
         }
         "SetTrimHorizontal" => Setting::SetTrimHorizontal(entity(&first)?, second.flag()?),
         "SetTrimVertical" => Setting::SetTrimVertical(entity(&first)?, second.flag()?),
@@ -110,9 +110,9 @@ fn of_cell<'v>(alloc: Global, name: &str, spot: &Spot<'v>) -> Result<Setting, Fa
     let first = position(&spot.at(1))?;
     let second = spot.at(2);
     Ok(match name {
-        "SetBorder" => Setting::SetBorder(first, parts(alloc, &second, Border::empty())?),
+        "SetBorder" => Setting::SetBorder(first, with_parts(alloc, &second, Border::empty())?),
         "SetBorderColor" => {
-            Setting::SetBorderColor(first, parts(alloc, &second, Border::empty())?)
+            Setting::SetBorderColor(first, with_parts(alloc, &second, Border::empty())?)
         }
         "RemoveBorder" => Setting::RemoveBorder(first, shape(&second)?),
         "RemoveBorderColor" => Setting::RemoveBorderColor(first, shape(&second)?),
