@@ -1,3 +1,4 @@
 -- What no contract of a public call reaches, and no law: only contracts of functions below them and proofs speak of it.
 pub mod Drawn
+pub mod Places
 pub mod Read

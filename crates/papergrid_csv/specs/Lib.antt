@@ -1,4 +1,7 @@
--- Definitions: the table of a CSV text.
+-- Definitions: the table of a CSV or TSV text.
+pub mod Cutting
+pub mod Judging
+pub mod Numbers
 pub mod Pictures
 pub mod Requests
 pub mod Rows

@@ -1,33 +1,131 @@
 -- The picture of a CSV text.
-use Rattle.std.specs.Prelude.{◌≡◌, ℕ, List, [], length}
-use Rattle.papergrid_draw.specs.Drawings.{Drawing}
+use Rattle.std.specs.Prelude.{◌≡◌, ◌<◌, ◌≤◌, ◌++◌, ⊤, ℕ, false, List, [], length, IsSome, Option, None, Some}
+use Rattle.std.specs.List.{AllZip}
+use Rattle.papergrid_values.specs.declared.direction.Direction.TheVariants.{Columns}
+use Rattle.papergrid_values.specs.declared.position.Position.{Position}
+use Rattle.papergrid_config.specs.declared.setting.Setting.{Setting}
+use Rattle.papergrid_config.specs.declared.spanned.SpannedConfig.{SpannedConfig}
+use Rattle.papergrid_layout.specs.Places.{total_along}
+use Rattle.papergrid_draw.specs.Drawings.{Drawing, layout_of}
+use Rattle.papergrid_draw.specs.Tiles.{IsFirstPosition, IsTiled}
 use Rattle.papergrid_draw.specs.declared.error.DrawError.{DrawError}
+use Rattle.papergrid_grid.specs.Crossings.{FitCrossings, IsFitFault}
 use Rattle.papergrid_grid.specs.Lined.{lined}
-use Rattle.papergrid.specs.Pictures.{IsDrawingBy, IsPictureFault, IsRefusal}
-use Rattle.papergrid_csv.specs.Requests.{settings_of}
-use Rattle.papergrid_csv.specs.Rows.{AreRowsOf, HasBadRecord}
+use Rattle.papergrid_grid.specs.declared.crossings.Junctions.{Junctions}
+use Rattle.papergrid.specs.Layouts.{IsConfiguredBy}
+use Rattle.papergrid.specs.Pictures.{IsDrawingWith, IsFaultWith, IsRefusal}
+use Rattle.papergrid_csv.specs.Cutting.{IsCut}
+use Rattle.papergrid_csv.specs.Judging.{IsHidden, first_missing}
+use Rattle.papergrid_csv.specs.Requests.{first_row, settings_of}
+use Rattle.papergrid_csv.specs.Rows.{AreRowsOf, IsUnread}
+use Rattle.papergrid_csv.specs.declared.reading.RowsError.TheVariants as rows_errors
 use Rattle.papergrid_csv.specs.declared.request.Request.{Request}
 use Rattle.papergrid_csv.specs.declared.run.CsvEnd.{CsvEnd}
-use Rattle.papergrid_csv.specs.declared.run.CsvEnd.TheVariants.{Drawn, Refused, NotText}
+use Rattle.papergrid_csv.specs.declared.run.CsvEnd.TheVariants.{Drawn, Hides, NoColumn, NotText, Ragged, Refused, TooWide, Unclosed}
 
--- the drawing of the rows of an input, by the settings of a request
+-- the fields of rows as they are drawn: each one cut to so many columns, or as it is
+abbrev pub AreCut : Option ℕ → List (List (List ℕ)) → List (List (List ℕ)) → Type 0
+AreCut None rows shown = shown ≡ rows
+AreCut (Some columns) rows shown = AllZip (AllZip (IsCut columns)) rows shown
+
+-- the rows of an input, and as they are drawn: each name of the request is of a column, and no field is hidden, unless
+-- fields may be
+pub record IsCsvTable (request : Request) (input : List ℕ) : Type 0 where
+  pub columns : ℕ
+  pub rows : List (List (List ℕ))
+  pub shown : List (List (List ℕ))
+  pub are : AreRowsOf request.reading input columns rows
+  pub named : first_missing (first_row rows) request.columns.items ≡ None
+  pub seen : request.hides ≡ false → (p : Position) → IsHidden request.spans.items rows p → ⊥
+  pub cut : AreCut request.cut rows shown
+
+-- the settings by which crossings fit the spans, in a table with these settings and of so many rows and columns; none
+-- where they need not fit
+abbrev pub AreFitted : Option Junctions → List Setting → ℕ × ℕ → List Setting → Type 0
+AreFitted None settings shape fitted = fitted ≡ []
+AreFitted (Some junctions) settings shape fitted =
+    (plain : SpannedConfig) × IsConfiguredBy settings plain × FitCrossings plain shape junctions fitted
+
+-- why there are none
+abbrev pub IsUnfitted : Option Junctions → List Setting → ℕ × ℕ → DrawError → Type 0
+IsUnfitted None settings shape e = ⊥
+IsUnfitted (Some junctions) settings shape e =
+    (plain : SpannedConfig) × IsConfiguredBy settings plain × IsFitFault plain shape e
+
+module _ {request : Request} {input : List ℕ} (table : IsCsvTable request input) where
+  -- its settings
+  abbrev pub table_settings : List Setting
+  table_settings = settings_of request table.columns table.rows
+
+  -- how many rows and columns it has
+  abbrev pub table_shape : ℕ × ℕ
+  table_shape = (length table.rows, table.columns)
+
+  -- a configuration that was told them, and the settings by which its crossings fit the spans
+  pub record IsConfigured (config : SpannedConfig) : Type 0 where
+    pub fitted : List Setting
+    pub fit : AreFitted request.junctions table_settings table_shape fitted
+    pub told : IsConfiguredBy (table_settings ++ fitted) config
+
+  -- why it has no picture: its crossings can't be fitted, or it has no drawing, or can't be drawn
+  pub data IsTableFault (e : DrawError) : Type 0 where
+    Unfitted : IsUnfitted request.junctions table_settings table_shape e → IsTableFault e
+    Unpictured : (config : SpannedConfig) → IsConfigured config → IsFaultWith table.columns table.shown request.sizing config e → IsTableFault e
+
+-- the drawing of the rows of an input, by the settings of a request; its spans tile it
 pub record IsCsvDrawing (request : Request) (input : List ℕ) (d : Drawing) : Type 0 where
-  pub columns : ℕ
-  pub rows : List (List (List ℕ))
-  pub are : AreRowsOf request.reading input columns rows
-  pub drawn : IsDrawingBy columns rows request.sizing (settings_of request (length rows)) d
+  pub table : IsCsvTable request input
+  pub config : SpannedConfig
+  pub configured : IsConfigured table config
+  pub drawn : IsDrawingWith table.columns table.shown request.sizing config d
+  pub tiled : IsTiled (layout_of d)
 
--- why the rows of an input have none
-pub record IsCsvRefused (request : Request) (input : List ℕ) : Type 0 where
+-- why there is none
+pub record IsCsvRefused (request : Request) (input : List ℕ) (e : DrawError) : Type 0 where
+  pub table : IsCsvTable request input
+  pub refuses : IsRefusal e
+  pub fault : IsTableFault table e
+
+-- a width is at most the greatest that there may be
+abbrev pub IsNarrow : Option ℕ → ℕ → Type 0
+IsNarrow None width = ⊤
+IsNarrow (Some greatest) width = width ≤ greatest
+
+-- it is more
+abbrev pub IsWide : Option ℕ → ℕ → Type 0
+IsWide None width = ⊥
+IsWide (Some greatest) width = greatest < width
+
+-- the first field of an input, by row and then by column, that is hidden and may not be
+pub record HidesAt (request : Request) (input : List ℕ) (p : Position) : Type 0 where
   pub columns : ℕ
   pub rows : List (List (List ℕ))
   pub are : AreRowsOf request.reading input columns rows
-  pub error : DrawError
-  pub refuses : IsRefusal error
-  pub fault : IsPictureFault columns rows request.sizing (settings_of request (length rows)) error
+  pub named : first_missing (first_row rows) request.columns.items ≡ None
+  pub forbidden : request.hides ≡ false
+  pub first : IsFirstPosition (IsHidden request.spans.items rows) p
+
+-- the first name of a request, in the entry with this number, that is of no column of an input
+pub record HasNoColumn (request : Request) (input : List ℕ) (entry : ℕ) : Type 0 where
+  pub columns : ℕ
+  pub rows : List (List (List ℕ))
+  pub are : AreRowsOf request.reading input columns rows
+  pub missing : first_missing (first_row rows) request.columns.items ≡ Some entry
+
+-- a run ends so, and nothing is written
+abbrev pub IsUnwritten : Request → List ℕ → CsvEnd → Type 0
+IsUnwritten request input Drawn = ⊥
+IsUnwritten request input (Refused e) = IsCsvRefused request input e
+IsUnwritten request input (TooWide width) =
+    (d : Drawing) × IsCsvDrawing request input d × (width ≡ total_along (layout_of d) Columns) × IsWide request.max_width width
+IsUnwritten request input (Hides p) = HidesAt request input p
+IsUnwritten request input (NoColumn entry) = HasNoColumn request input entry
+IsUnwritten request input (NotText count) = IsUnread request.reading input (rows_errors.NotText count)
+IsUnwritten request input Unclosed = IsUnread request.reading input rows_errors.Unclosed
+IsUnwritten request input (Ragged count fields) = IsUnread request.reading input (rows_errors.Ragged count fields)
 
 -- how the run of an input ends, and what is written: the lines of its picture, or nothing
 abbrev pub IsCsvRun : Request → List ℕ → CsvEnd → List ℕ → Type 0
-IsCsvRun request input Drawn output = (d : Drawing) × IsCsvDrawing request input d × (output ≡ lined d)
-IsCsvRun request input Refused output = IsCsvRefused request input × (output ≡ [])
-IsCsvRun request input (NotText count) output = HasBadRecord request.reading input count × (output ≡ [])
+IsCsvRun request input Drawn output =
+    (d : Drawing) × IsCsvDrawing request input d × IsNarrow request.max_width (total_along (layout_of d) Columns) × (output ≡ lined d)
+IsCsvRun request input end output = IsUnwritten request input end × (output ≡ [])

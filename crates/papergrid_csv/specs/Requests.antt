@@ -1,20 +1,73 @@
 -- The settings of a table of a CSV text.
-use Rattle.std.specs.Prelude.{ℕ, ◌++◌, nat_lt, if◌then◌else◌, List, [], ◌∷◌, Option, None, Some, map}
+use Rattle.std.specs.Prelude.{ℕ, ◌++◌, nat_lt, if◌then◌else◌, Bool, true, false, List, [], ◌∷◌, Option, None, Some, drop, flat_map, get_or, length, map}
+use Rattle.std.specs.List.{filter, list_any, range_with_len}
+use Rattle.std.specs.Str.{bytes_eq}
+use Rattle.std_alloc.specs.String.{string_bytes}
+use Rattle.papergrid_values.specs.declared.alignment.AlignmentHorizontal.{AlignmentHorizontal}
+use Rattle.papergrid_values.specs.declared.alignment.AlignmentHorizontal.TheVariants.{Left, Right}
 use Rattle.papergrid_values.specs.declared.entity.Entity.TheVariants.{Column, Global}
 use Rattle.papergrid_values.specs.declared.horizontal_line.HorizontalLine.{HorizontalLine}
 use Rattle.papergrid_config.specs.declared.setting.Setting.{Setting}
-use Rattle.papergrid_config.specs.declared.setting.Setting.TheVariants.{InsertHorizontalLine, SetAlignmentHorizontal, SetBorders, SetPadding}
+use Rattle.papergrid_config.specs.declared.setting.Setting.TheVariants.{InsertHorizontalLine, SetAlignmentHorizontal, SetAlignmentVertical, SetBorders, SetColumnSpan, SetPadding, SetRowSpan}
+use Rattle.papergrid_csv.specs.Numbers.{field_in, is_numeric}
+use Rattle.papergrid_csv.specs.declared.request.Alignment.{Alignment}
+use Rattle.papergrid_csv.specs.declared.request.Alignment.TheVariants.{Auto, Fixed}
+use Rattle.papergrid_csv.specs.declared.request.ColumnName.{ColumnName}
+use Rattle.papergrid_csv.specs.declared.request.ColumnName.TheVariants.{Head, Number}
 use Rattle.papergrid_csv.specs.declared.request.Request.{Request}
+use Rattle.papergrid_csv.specs.declared.request.Span.{Span}
 
 -- the line below the head, where there is a row below it
 abbrev pub head_line : Option (HorizontalLine ℕ) → ℕ → List Setting
 head_line None rows = []
 head_line (Some line) rows = if nat_lt 1 rows then InsertHorizontalLine 1 line ∷ [] else []
 
--- the settings of a table of so many rows: the frame, the line below the head, the padding and the alignment of all
--- cells, and the alignments of single columns
-abbrev pub settings_of : Request → ℕ → List Setting
-settings_of request rows =
-    SetBorders request.frame ∷ (head_line request.head rows
-    ++ (SetPadding Global request.padding ∷ SetAlignmentHorizontal Global request.alignment
-    ∷ map (λ column. SetAlignmentHorizontal (Column column.0) column.1) request.columns.items))
+-- the alignment of all cells; where each column has its own, that of those without numbers
+abbrev pub common_alignment : Alignment → AlignmentHorizontal
+common_alignment (Fixed alignment) = alignment
+common_alignment Auto = Left
+
+-- that of the cells of a column with these rows below its head
+abbrev pub column_alignment : List (List (List ℕ)) → ℕ → Alignment → AlignmentHorizontal
+column_alignment below column (Fixed alignment) = alignment
+column_alignment below column Auto = if is_numeric below column then Right else Left
+
+-- the settings of the columns of numbers, where the alignment of all cells is by what their columns are
+abbrev pub number_settings : List (List (List ℕ)) → ℕ → Alignment → List Setting
+number_settings below columns (Fixed alignment) = []
+number_settings below columns Auto =
+    map (λ column. SetAlignmentHorizontal (Column column) Right) (filter (is_numeric below) (range_with_len 0 columns))
+
+-- the first of some rows, an empty one where there is none
+abbrev pub first_row : List (List (List ℕ)) → List (List ℕ)
+first_row rows = get_or rows 0 []
+
+-- the columns of a table of so many that a name is of: each one whose first row has the text
+abbrev pub columns_of : List (List ℕ) → ℕ → ColumnName → List ℕ
+columns_of head columns (Number column) = column ∷ []
+columns_of head columns (Head text) =
+    filter (λ column. bytes_eq (field_in column head) (string_bytes text)) (range_with_len 0 columns)
+
+-- the settings of a span
+abbrev pub span_settings : Span → List Setting
+span_settings span = SetColumnSpan span.position span.columns ∷ SetRowSpan span.position span.rows ∷ []
+
+module _ (request : Request) (columns : ℕ) (rows : List (List (List ℕ))) where
+  -- the rows that have no head
+  abbrev pub rows_below : List (List (List ℕ))
+  rows_below = if request.has_head then drop 1 rows else rows
+
+  -- the settings of the columns that an entry names
+  abbrev pub entry_settings : ColumnName × Alignment → List Setting
+  entry_settings entry =
+      map (λ column. SetAlignmentHorizontal (Column column) (column_alignment rows_below column entry.1))
+      (columns_of (first_row rows) columns entry.0)
+
+  -- the settings of a table of these rows: the frame, the line below the head, the padding and the alignments of all cells,
+  -- those of single columns, and the spans
+  abbrev pub settings_of : List Setting
+  settings_of =
+      SetBorders request.frame ∷ (head_line request.head (length rows)
+      ++ (SetPadding Global request.padding ∷ SetAlignmentHorizontal Global (common_alignment request.alignment)
+      ∷ (number_settings rows_below columns request.alignment ++ (SetAlignmentVertical Global request.vertical
+      ∷ (flat_map entry_settings request.columns.items ++ flat_map span_settings request.spans.items)))))

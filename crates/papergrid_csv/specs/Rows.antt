@@ -1,21 +1,47 @@
--- The rows of a CSV text.
-use Rattle.std.specs.Prelude.{◌≡◌, ◌-◌, ◌++◌, ℕ, All, List, [], ◌∷◌, Some, Vec, length, map, max, replicate, ⊤}
+-- The rows of a CSV or TSV text.
+use Rattle.std.specs.Prelude.{◌≡◌, ◌-◌, ◌++◌, ℕ, All, List, [], ◌∷◌, Some, Vec, false, length, map, max, replicate, true, ⊤}
 use Rattle.std.specs.Borrow.{Bor}
 use Rattle.std.specs.declared.alloc.Global.{Global}
-use Rattle.csv.specs.Machine.{Read, next_record}
+use Rattle.csv.specs.Machine.{Read, next_record, step}
 use Rattle.csv.specs.Reading.{AreRecords, Reached, default_config, strip_bom}
 use Rattle.csv.specs.Records.{AllText}
 use Rattle.csv.specs.declared.parser.Config.{Config}
 use Rattle.csv.specs.declared.parser.State.{State}
 use Rattle.csv.specs.declared.parser.State.TheVariants as states
+use Rattle.papergrid_csv.specs.declared.reading.Format.{Format}
+use Rattle.papergrid_csv.specs.declared.reading.Format.TheVariants.{Csv, Tsv}
 use Rattle.papergrid_csv.specs.declared.reading.Reading.{Reading}
 use Rattle.papergrid_csv.specs.declared.reading.RowsError.{RowsError}
-use Rattle.papergrid_csv.specs.declared.reading.RowsError.TheVariants.{Memory, NotText}
+use Rattle.papergrid_csv.specs.declared.reading.RowsError.TheVariants.{Memory, NotText, Ragged, Unclosed}
 use Rattle.papergrid_csv.specs.Spelling.{spelled}
 
--- how a text is read: RFC 4180, with this byte between fields
+-- how a text of a format is read: by RFC 4180 with this byte between fields, or with tabs between them and no quotes
+abbrev pub config_by : Format → Config
+config_by (Csv delimiter) = record default_config { delimiter = delimiter }
+config_by Tsv = record default_config { delimiter = 9; quoting = false }
+
+-- the same by a reading
 abbrev pub config_of : Reading → Config
-config_of reading = record default_config { delimiter = reading.delimiter }
+config_of reading = config_by reading.format
+
+-- the state after these bytes
+unfoldable pub state_after : Config → State → List ℕ → State
+state_after config state [] = state
+state_after config state (byte ∷ bytes) = state_after config (step config state byte).0 bytes
+
+-- a quote that begins a field is not closed before the end of the text
+abbrev pub IsUnclosed : Reading → List ℕ → Type 0
+IsUnclosed reading input = state_after (config_of reading) states.StartRecord (strip_bom input) ≡ states.InQuoted
+
+-- each record has as many fields as the first
+abbrev pub AllAsLong : List (List (List ℕ)) → Type 0
+AllAsLong [] = ⊤
+AllAsLong (first ∷ records) = All (λ fields. length fields ≡ length first) records
+
+-- records that may be shown: each field is a text, and, where the reading is strict, all are as long as the first
+pub record MayBeShown (reading : Reading) (records : List (List (List ℕ))) : Type 0 where
+  pub texts : All AllText records
+  pub long : reading.strict ≡ true → AllAsLong records
 
 -- the greatest number of fields
 abbrev pub greatest_length : List (List (List ℕ)) → ℕ
@@ -30,26 +56,47 @@ filled_up columns row = row ++ replicate (columns - length row) []
 -- fields where a record has fewer than the longest
 pub record AreRowsOf (reading : Reading) (input : List ℕ) (columns : ℕ) (rows : List (List (List ℕ))) : Type 0 where
   pub records : List (List (List ℕ))
+  pub closed : IsUnclosed reading input → ⊥
   pub read : AreRecords (config_of reading) states.StartRecord (strip_bom input) records
-  pub texts : All AllText records
+  pub may : MayBeShown reading records
   pub widest : columns ≡ greatest_length records
-  pub shown : rows ≡ map (λ record_fields. filled_up columns (map (spelled reading.one_line) record_fields)) records
+  pub shown : rows ≡ map (λ record_fields. filled_up columns (map (spelled reading) record_fields)) records
+
+-- the record of a text after these, which may be shown
+pub record IsNextRecord (reading : Reading) (input : List ℕ) (before : List (List (List ℕ))) (fields : List (List ℕ)) : Type 0 where
+  pub closed : IsUnclosed reading input → ⊥
+  pub may : MayBeShown reading before
+  pub state : State
+  pub rest : List ℕ
+  pub next : Read
+  pub read : Reached (config_of reading) states.StartRecord (strip_bom input) before state rest
+  pub found : next_record (config_of reading) state [] [] rest ≡ Some next
+  pub fields_are : fields ≡ next.0
 
 -- the first record of it that has a field that is no text comes after so many
 pub record HasBadRecord (reading : Reading) (input : List ℕ) (count : ℕ) : Type 0 where
   pub before : List (List (List ℕ))
-  pub state : State
-  pub rest : List ℕ
-  pub bad : Read
+  pub fields : List (List ℕ)
   pub counted : count ≡ length before
-  pub read : Reached (config_of reading) states.StartRecord (strip_bom input) before state rest
-  pub texts : All AllText before
-  pub next : next_record (config_of reading) state [] [] rest ≡ Some bad
-  pub is_bad : AllText bad.0 → ⊥
+  pub next : IsNextRecord reading input before fields
+  pub is_bad : AllText fields → ⊥
+
+-- the first record of it that has another number of fields than the first comes after so many, and has so many
+pub record HasRaggedRecord (reading : Reading) (input : List ℕ) (count field_count : ℕ) : Type 0 where
+  pub strict : reading.strict ≡ true
+  pub before : List (List (List ℕ))
+  pub fields : List (List ℕ)
+  pub counted : count ≡ length before
+  pub fields_counted : field_count ≡ length fields
+  pub next : IsNextRecord reading input before fields
+  pub is_text : AllText fields
+  pub is_ragged : AllAsLong (before ++ fields ∷ []) → ⊥
 
 -- why a text has no rows; out of memory says nothing
 abbrev pub IsUnread : Reading → List ℕ → RowsError → Type 0
 IsUnread reading input (NotText count) = HasBadRecord reading input count
+IsUnread reading input Unclosed = IsUnclosed reading input
+IsUnread reading input (Ragged count field_count) = HasRaggedRecord reading input count field_count
 IsUnread reading input Memory = ⊤
 
 -- the texts of the fields of a row

@@ -1,14 +1,21 @@
 //! Tables of CSV texts: their rows, each field spelled so that no control character is left, and their pictures.
 #![tactic(auto)]
 
+mod aligned;
+mod cutting;
+mod judging;
 pub mod laws;
+mod number;
+mod quotes;
 mod reading;
 mod request;
 mod run;
+mod shown;
 mod spelling;
 
-pub use reading::{Reading, Rows, RowsError, read_rows};
-pub use request::Request;
+pub use cutting::cut;
+pub use reading::{Format, Reading, Rows, RowsError, read_rows};
+pub use request::{Alignment, ColumnName, Request, Span};
 pub use run::{CsvEnd, run_csv};
 
 #[cfg(test)]

@@ -1,24 +1,40 @@
-//! The rows of a CSV text.
+//! The rows of a CSV or TSV text.
 
-ghost use Rattle.std.specs.Prelude.{◌≡◌, ◌++◌, ◌∷◌, [], IfErr, IfOk, OnOk, map};
-ghost use Rattle.csv.specs.Reading.{error_kind};
+ghost use Rattle.std.specs.Prelude.{◌≡◌, ◌≢◌, ◌↔◌, ◌++◌, ◌∷◌, [], IfErr, IfOk, IsTrue, OnOk, length, map, true};
+ghost use Rattle.csv.specs.Reading.{builder_config, builder_is_flexible, builder_names_headers, builder_trim, error_kind};
 ghost use Rattle.csv.specs.Records.{fields_of};
-ghost use Rattle.papergrid_csv.specs.Rows.{AreRowsOf, IsUnread, filled_up, greatest_length, row_texts, texts_of};
+ghost use Rattle.csv.specs.declared.reader.Trim.TheVariants as trims;
+ghost use Rattle.papergrid_csv.specs.Rows.{AreRowsOf, IsUnclosed, IsUnread, config_of, filled_up, greatest_length, row_texts, texts_of};
 ghost use Rattle.papergrid_csv.specs.Spelling.{spelled};
-ghost use Rattle.papergrid_csv.specs.ForProofs.Read.{AreShown, unread_of};
+ghost use Rattle.papergrid_csv.specs.ForProofs.Read.{AreShown, has_other_length, unread_of};
 
+use crate::quotes::is_unclosed;
 use crate::spelling::spell;
 use bumpalo::Bump;
 use csv::{Error, ErrorKind, ReaderBuilder, StringRecord};
 use std::alloc::{AllocError, Global};
 
-/// How a CSV text is read.
+/// Between which bytes the fields of a text stand, and how they are quoted.
+#[derive(Clone, Copy, Debug, PartialEq, Eq)]
+pub enum Format {
+    /// RFC 4180 with this byte between fields, as `b','`.
+    Csv(u8),
+    /// Fields between tabs, without quotes; `\t`, `\n` and `\\` in a field stand for a tab, a line feed and a backslash.
+    Tsv,
+}
+
+/// How a text is read, and how its fields are shown.
 #[derive(Clone, Copy, Debug, PartialEq, Eq)]
 pub struct Reading {
-    /// The byte between fields, as `b','`.
-    pub delimiter: u8,
+    pub format: Format,
+    /// Blanks in place of a tab; where there are none it is spelled `\t`.
+    pub tab: Option<usize>,
     /// Whether a line feed in a field is spelled `\n`, and begins no new line of its cell.
     pub one_line: bool,
+    /// Whether control characters, and those that turn the direction of a text, stay as they are.
+    pub raw: bool,
+    /// Whether each record has to have as many fields as the first.
+    pub strict: bool,
 }
 
 /// The rows of a table, which have equally many fields.
@@ -34,6 +50,12 @@ pub enum RowsError {
     /// After so many records comes one with a field that is no text.
     #[error("a field is no text, after {0} records")]
     NotText(usize),
+    /// A quote that begins a field is not closed before the end of the text.
+    #[error("a quoted field does not end")]
+    Unclosed,
+    /// After so many records comes one with so many fields, where the first has another number.
+    #[error("a record has {1} fields, unlike the first, after {0} records")]
+    Ragged(usize, usize),
     /// A growth was refused.
     #[error("out of memory")]
     Memory,
@@ -49,12 +71,14 @@ impl From<AllocError> for RowsError {
     }
 }
 
-/// The rows of a CSV text: of each record its fields as they are shown, in the arena, and empty ones where
+/// The rows of a text: of each record its fields as they are shown, in the arena, and empty ones where
 /// the longest record has more.
 ///
 /// # Errors
 ///
-/// `NotText` with the number of records before the first one that has a field that is no text, and `Memory`.
+/// `Unclosed` where a quoted field does not end. Else, by the first record that has a field that is no text, or, where
+/// the reading is strict, another number of fields than the first: `NotText` with the number of records before it, or
+/// `Ragged` with that number and its own of fields. And `Memory`.
 pub fn read_rows<'t>(
     alloc: Global,
     texts: &'t Bump,
@@ -65,6 +89,9 @@ pub fn read_rows<'t>(
         (texts_of rows.rows)) }
     ensures unread { IfErr result (IsUnread reading input.now) }
 {
+    if is_unclosed(reading, input) {
+        return Err(RowsError::Unclosed);
+    }
     let shown = shown_records(alloc, texts, reading, input)?;
     let columns = greatest_length(&shown);
     let rows = filled_rows(alloc, shown, columns)?;
@@ -78,24 +105,53 @@ fn shown_records<'t>(
     reading: Reading,
     input: &[u8],
 ) -> Result<Vec<Vec<&'t str>>, RowsError>
+    requires { IsUnclosed reading input.now → ⊥ }
     ensures shown { IfOk result (λ shown. AreShown reading input.now (texts_of shown)) }
     ensures unread { IfErr result (IsUnread reading input.now) }
 {
-    let mut reader = ReaderBuilder::new()
-        .has_headers(false)
-        .flexible(true)
-        .delimiter(reading.delimiter)
-        .from_reader(alloc, input);
+    let mut reader = builder_of(reading).from_reader(alloc, input);
     let mut record = StringRecord::new(alloc);
     let mut shown = Vec::new(alloc);
     for _ in 0..u64::MAX {
         match reader.read_record(&mut record) {
-            Ok(true) => show_record(alloc, texts, reading.one_line, &record, &mut shown)?,
+            Ok(true) => {
+                if reading.strict && has_other_length(&shown, &record) {
+                    return Err(RowsError::Ragged(shown.len(), record.len()));
+                }
+                show_record(alloc, texts, reading, &record, &mut shown)?;
+            }
             Ok(false) => return Ok(shown),
             Err(error) => return Err(unread(&error, shown.len())),
         }
     }
     Err(RowsError::Memory)
+}
+
+/// What reads the records of a text.
+fn builder_of(reading: Reading) -> ReaderBuilder
+    ensures config { builder_config result ≡ config_of reading }
+    ensures headers { builder_names_headers result ≡ false }
+    ensures flexible { builder_is_flexible result ≡ true }
+    ensures trim { builder_trim result ≡ trims.None }
+{
+    let (delimiter, quoting) = match reading.format {
+        Format::Csv(delimiter) => (delimiter, true),
+        Format::Tsv => (b'\t', false),
+    };
+    let mut builder = ReaderBuilder::new();
+    builder.has_headers(false).flexible(true);
+    builder.delimiter(delimiter).quoting(quoting);
+    builder
+}
+
+/// Whether a record has another number of fields than the first before it.
+fn has_other_length(shown: &[Vec<&str>], fields: &StringRecord) -> bool
+    ensures { result ≡ has_other_length (map row_texts shown.now) (fields_of fields.now) }
+{
+    match shown.first() {
+        Some(first) => first.len() != fields.len(),
+        None => false,
+    }
 }
 
 /// Why a record after so many was not read.
@@ -112,14 +168,14 @@ fn unread(error: &Error, before: usize) -> RowsError
 fn show_record<'t>(
     alloc: Global,
     texts: &'t Bump,
-    one_line: bool,
+    reading: Reading,
     fields: &StringRecord,
     shown: &mut Vec<Vec<&'t str>>,
 ) -> Result<(), AllocError>
     ensures { OnOk result (texts_of shown.new
-        ≡ texts_of shown.old ++ map (spelled one_line) (fields_of fields.now) ∷ []) }
+        ≡ texts_of shown.old ++ map (spelled reading) (fields_of fields.now) ∷ []) }
 {
-    let row = shown_record(alloc, texts, one_line, fields)?;
+    let row = shown_record(alloc, texts, reading, fields)?;
     shown.push(row)?;
     Ok(())
 }
@@ -128,14 +184,14 @@ fn show_record<'t>(
 fn shown_record<'t>(
     alloc: Global,
     texts: &'t Bump,
-    one_line: bool,
+    reading: Reading,
     fields: &StringRecord,
 ) -> Result<Vec<&'t str>, AllocError>
-    ensures { IfOk result (λ row. row_texts row ≡ map (spelled one_line) (fields_of fields.now)) }
+    ensures { IfOk result (λ row. row_texts row ≡ map (spelled reading) (fields_of fields.now)) }
 {
     let mut row = Vec::with_capacity(alloc, fields.len())?;
     for field in fields {
-        row.push(spell(texts, one_line, field)?)?;
+        row.push(spell(texts, reading, field)?)?;
     }
     Ok(row)
 }

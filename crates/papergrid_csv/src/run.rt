@@ -10,24 +10,41 @@ ghost use Rattle.papergrid_csv.specs.Pictures.{IsCsvRun};
 ghost use Rattle.papergrid_csv.specs.Rows.{texts_of};
 ghost use Rattle.papergrid_csv.specs.ForProofs.Drawn.{IsRequestDrawing, IsRequestFault, Runs, end_after};
 
+use crate::judging::{first_hidden, first_missing};
 use crate::reading::{Rows, RowsError, read_rows};
 use crate::request::{Request, settings};
+use crate::shown::shown_rows;
 use bumpalo::Bump;
-use papergrid::{RunFault, draw, read_all};
-use papergrid_draw::DrawError;
-use papergrid_draw::transfer::{Sink, Source, write_all};
+use papergrid::{RunFault, read_all};
+use papergrid_config::laws::history_decides;
+use papergrid_config::{NoColors, Setting, SpannedConfig};
+use papergrid_draw::transfer::{Sink, Source};
+use papergrid_draw::{DrawError, Room, check_tiles};
+use papergrid_grid::{Junctions, TextCells, draw_lines, fitted_crossings};
+use papergrid_layout::Table;
 use papergrid_text::VecRecords;
-use std::alloc::Global;
+use papergrid_values::Position;
+use std::alloc::{AllocError, Global};
 
 /// How a run ended that read its whole input, and wrote the whole picture of its table if it has one.
 #[derive(Clone, Copy, Debug, PartialEq, Eq)]
 pub enum CsvEnd {
     /// The picture was written.
     Drawn,
-    /// The table has no picture.
-    Refused,
+    /// The table has no picture: `OutOfTable`, `NotTiled` or `TooLarge`.
+    Refused(DrawError),
+    /// The table is so many columns wide, which is more than it may be.
+    TooWide(usize),
+    /// The field at this position, which is not empty, is under a span.
+    Hides(Position),
+    /// No column has the head that the entry with this number, of `columns`, names.
+    NoColumn(usize),
     /// After so many records comes one with a field that is no text.
     NotText(usize),
+    /// A quote that begins a field is not closed before the end of the text.
+    Unclosed,
+    /// After so many records comes one with so many fields, where the first has another number.
+    Ragged(usize, usize),
 }
 
 /// Reads a CSV text to its end, and writes the lines of the picture of its table, or nothing where it has none. Each line
@@ -107,73 +124,188 @@ fn draw_input<W: Sink>(
 {
     let texts = Bump::new(alloc);
     match read_rows(alloc, &texts, request.reading, input) {
-        Err(RowsError::Memory) => Err(RunFault::Memory),
-        Err(RowsError::NotText(before)) => Ok(CsvEnd::NotText(before)),
-        Ok(rows) => {
-            let drawn = draw_rows(alloc, request, rows, writer);
-            end_after(drawn)
-        }
+        Ok(rows) => draw_rows(alloc, &texts, request, rows, writer),
+        Err(error) => end_unread(error),
     }
 }
 
-/// How a run ends whose table was drawn, or not.
-fn end_after(drawn: Result<(), DrawError>) -> Result<CsvEnd, RunFault>
-    ensures { result ≡ end_after drawn }
+/// How a run ends whose input was not read.
+fn end_unread(error: RowsError) -> Result<CsvEnd, RunFault>
+    ensures { result ≡ end_unread error }
 {
-    match drawn {
-        Ok(()) => Ok(CsvEnd::Drawn),
-        Err(DrawError::Memory(_)) => Err(RunFault::Memory),
-        Err(DrawError::Write) => Err(RunFault::Write),
-        Err(_) => Ok(CsvEnd::Refused),
+    match error {
+        RowsError::NotText(before) => Ok(CsvEnd::NotText(before)),
+        RowsError::Unclosed => Ok(CsvEnd::Unclosed),
+        RowsError::Ragged(before, fields) => Ok(CsvEnd::Ragged(before, fields)),
+        RowsError::Memory => Err(RunFault::Memory),
     }
 }
 
-/// Writes the lines of the picture of these rows, each with a line feed.
-fn draw_rows<W: Sink>(
+/// Writes the picture of these rows, if they have one.
+fn draw_rows<'t, W: Sink>(
     alloc: Global,
+    texts: &'t Bump,
     request: &Request,
-    rows: Rows<'_>,
+    rows: Rows<'t>,
     writer: &mut W,
-) -> Result<(), DrawError>
-    requires { All (λ row. length row ≡ rows.columns) (texts_of rows.rows) }
-    ensures { Draws W.contents W.has_failed W.has_stalled
-        (IsRequestDrawing request.now rows.entry.columns (texts_of rows.entry.rows))
-        (IsRequestFault request.now rows.entry.columns (texts_of rows.entry.rows))
-        lined writer.old writer.new result }
+) -> Result<CsvEnd, RunFault>
+    ensures { Runs W.contents W.has_failed W.has_stalled
+        (IsRowsRun request.now rows.entry.columns (texts_of rows.entry.rows))
+        writer.old writer.new result }
 {
-    let has_fields = has_fields(&rows);
-    draw_picture(alloc, request, rows, writer)?;
-    if !has_fields {
-        return Ok(());
+    if let Some(end) = judged(request, &rows) {
+        return Ok(end);
     }
-    match write_all(writer, b"\n") {
-        Ok(()) => Ok(()),
-        Err(_) => Err(DrawError::Write),
-    }
-}
-
-/// Whether there are rows and columns.
-fn has_fields(rows: &Rows<'_>) -> bool
-    ensures { IsTrue result ↔ ((length rows.now.rows.items ≢ 0) × (rows.now.columns ≢ 0)) }
-{
-    !rows.rows.is_empty() && rows.columns != 0
-}
-
-/// Writes the picture of these rows.
-fn draw_picture<W: Sink>(
-    alloc: Global,
-    request: &Request,
-    rows: Rows<'_>,
-    writer: &mut W,
-) -> Result<(), DrawError>
-    ensures { Draws W.contents W.has_failed W.has_stalled
-        (IsRequestDrawing request.now rows.entry.columns (texts_of rows.entry.rows))
-        (IsRequestFault request.now rows.entry.columns (texts_of rows.entry.rows))
-        printed writer.old writer.new result }
-{
+    let settings = settings(alloc, request, &rows)?;
     let Rows { columns, rows } = rows;
-    let count = rows.len();
-    let settings = settings(alloc, request, count)?;
-    let records = VecRecords::with_size(rows, count, columns);
-    draw(alloc, settings, &records, request.sizing, writer)
+    let shape = (rows.len(), columns);
+    let shown = shown_rows(alloc, texts, request.cut, rows)?;
+    let records = VecRecords::with_size(shown, shape.0, columns);
+    draw_records(alloc, request, settings, shape, &records, writer)
+}
+
+/// How a run ends that rows keep from their picture.
+fn judged(request: &Request, rows: &Rows<'_>) -> Option<CsvEnd>
+    ensures { MatchOption result (IsFree request.now (texts_of rows.now.rows))
+        (IsKeptBy request.now (texts_of rows.now.rows)) }
+{
+    if let Some(entry) = first_missing(&rows.rows, &request.columns) {
+        return Some(CsvEnd::NoColumn(entry));
+    }
+    if request.hides {
+        return None;
+    }
+    match first_hidden(&rows.rows, &request.spans) {
+        Some(position) => Some(CsvEnd::Hides(position)),
+        None => None,
+    }
+}
+
+/// Writes the picture of records by settings, if they have one.
+fn draw_records<W: Sink>(
+    alloc: Global,
+    request: &Request,
+    settings: Vec<Setting>,
+    shape: (usize, usize),
+    records: &VecRecords<&str>,
+    writer: &mut W,
+) -> Result<CsvEnd, RunFault>
+    requires { All (λ setting. is_in_range setting ≡ true) settings.items }
+    ensures { Runs W.contents W.has_failed W.has_stalled
+        (IsSettingsRun request.now settings.items shape (column_count records.now)
+        (texts_held (λ text. text.now) records.now)) writer.old writer.new result }
+{
+    history_decides();
+    let mut config = SpannedConfig::new(alloc);
+    if config.apply_all(settings).is_err() {
+        return Err(RunFault::Memory);
+    }
+    match fit(alloc, &mut config, shape, request.junctions) {
+        Ok(()) => draw_configured(alloc, request, &config, records, writer),
+        Err(error) => end_refused(error),
+    }
+}
+
+/// How a run ends whose table was not drawn.
+fn end_refused(error: DrawError) -> Result<CsvEnd, RunFault>
+    ensures { result ≡ end_refused error }
+{
+    match error {
+        DrawError::Memory(_) => Err(RunFault::Memory),
+        DrawError::Write => Err(RunFault::Write),
+        error => Ok(CsvEnd::Refused(error)),
+    }
+}
+
+/// Fits the crossings of a configuration to its spans, if they are to fit.
+fn fit(
+    alloc: Global,
+    config: &mut SpannedConfig,
+    shape: (usize, usize),
+    junctions: Option<Junctions>,
+) -> Result<(), DrawError>
+    ensures ok { OnOk result ((fitted : List Setting)
+        × IsFittingOf junctions config.old shape fitted
+        × AppendsSettings config.old config.new fitted) }
+    ensures err { IfErr result (λ e. IsRefusal e → IsFitFaultOf junctions config.old shape e) }
+    ensures works { IfErr result (λ e. e ≢ Write) }
+{
+    match junctions {
+        None => Ok(()),
+        Some(junctions) => fit_crossings(alloc, config, shape, &junctions),
+    }
+}
+
+/// Fits the crossings of a configuration to its spans.
+fn fit_crossings(
+    alloc: Global,
+    config: &mut SpannedConfig,
+    shape: (usize, usize),
+    junctions: &Junctions,
+) -> Result<(), DrawError>
+    ensures ok { OnOk result ((fitted : List Setting)
+        × FitCrossings config.old shape junctions.now fitted
+        × AppendsSettings config.old config.new fitted) }
+    ensures err { IfErr result (λ e. IsRefusal e → IsFitFault config.old shape e) }
+    ensures works { IfErr result (λ e. e ≢ Write) }
+{
+    let fitted = fitted_crossings(alloc, config, shape, junctions)?;
+    match config.apply_all(fitted) {
+        Ok(()) => Ok(()),
+        Err(_) => Err(DrawError::Memory(AllocError)),
+    }
+}
+
+/// Writes the picture of records by a configuration, if they have one.
+fn draw_configured<W: Sink>(
+    alloc: Global,
+    request: &Request,
+    config: &SpannedConfig,
+    records: &VecRecords<&str>,
+    writer: &mut W,
+) -> Result<CsvEnd, RunFault>
+    ensures { Runs W.contents W.has_failed W.has_stalled
+        (IsConfigRun request.now (column_count records.now)
+        (texts_held (λ text. text.now) records.now) config.now) writer.old writer.new result }
+{
+    match Table::new(alloc, config, records, request.sizing) {
+        Ok(table) => draw_table(alloc, request, &table, records.as_slice(), writer),
+        Err(error) => end_refused(DrawError::from(error)),
+    }
+}
+
+/// Writes the picture of a table, if it can be drawn and is not too wide.
+fn draw_table<W: Sink>(
+    alloc: Global,
+    request: &Request,
+    table: &Table<'_>,
+    rows: &[Vec<&str>],
+    writer: &mut W,
+) -> Result<CsvEnd, RunFault> {
+    if let Err(error) = check_tiles(alloc, table.config(), table.shape()) {
+        return end_refused(error);
+    }
+    let width = table.width();
+    if is_wide(request.max_width, width) {
+        return Ok(CsvEnd::TooWide(width));
+    }
+    let cells = TextCells {
+        alloc,
+        rows,
+        colors: &NoColors,
+    };
+    match draw_lines(alloc, table, &cells, Room::Known, writer) {
+        Ok(()) => Ok(CsvEnd::Drawn),
+        Err(error) => end_refused(error),
+    }
+}
+
+/// Whether a width is more than it may be.
+fn is_wide(greatest: Option<usize>, width: usize) -> bool
+    ensures { MatchBool result (IsWide greatest width) (IsNarrow greatest width) }
+{
+    match greatest {
+        Some(greatest) => greatest < width,
+        None => false,
+    }
 }

@@ -1,40 +1,125 @@
-//! How the characters of a field are spelled.
+//! What the fields of a text stand for, and how their characters are spelled.
 
-ghost use Rattle.std.specs.Prelude.{◌≡◌, ◌++◌, IfOk, OnOk, encode_utf8_all, string_bytes};
-ghost use Rattle.papergrid_csv.specs.Spelling.{is_ascii_control, is_other_control, spelled, spelled_character, spelled_other};
+ghost use Rattle.std.specs.Prelude.{◌≡◌, ◌++◌, IfOk, OnOk, encode_utf8_all, flat_map, replicate, string_bytes};
+ghost use Rattle.papergrid_csv.specs.Spelling.{is_ascii_control, is_other_control, spelled, spelled_character, spelled_other, spelled_tab};
 
+use crate::reading::{Format, Reading};
 use bumpalo::Bump;
 use bumpalo::collections::into_bump_str;
 use papergrid_width::is_printable;
 use std::alloc::AllocError;
 
-/// A field as it is shown, in the arena: a copy of it, in which control characters and those that turn the
+/// A field as it is shown, in the arena: what it stands for, in which control characters and those that turn the
 /// direction of a text are spelled.
-pub fn spell<'t>(texts: &'t Bump, one_line: bool, field: &str) -> Result<&'t str, AllocError>
-    ensures { IfOk result (λ text. text.now ≡ spelled one_line field.now) }
+pub fn spell<'t>(texts: &'t Bump, reading: Reading, field: &str) -> Result<&'t str, AllocError>
+    ensures { IfOk result (λ text. text.now ≡ spelled reading field.now) }
 {
-    if is_printable(field) {
+    if is_printable(field) && !may_escape(reading.format, field) {
         return texts.try_alloc_str(field);
     }
+    match reading.format {
+        Format::Csv(_) => spell_characters(texts, reading, field),
+        Format::Tsv => spell_meant(texts, reading, field),
+    }
+}
+
+/// Whether a backslash of the field may begin an escape.
+fn may_escape(format: Format, field: &str) -> bool {
+    match format {
+        Format::Csv(_) => false,
+        Format::Tsv => field.as_bytes().contains(&b'\\'),
+    }
+}
+
+/// The field with each character spelled.
+fn spell_characters<'t>(
+    texts: &'t Bump,
+    reading: Reading,
+    field: &str,
+) -> Result<&'t str, AllocError> {
     let mut text = String::with_capacity(texts, field.len())?;
     for c in field.chars() {
-        push_spelled(&mut text, one_line, c)?;
+        push_spelled(&mut text, reading, c)?;
     }
     Ok(into_bump_str(text))
 }
 
+/// The same of the characters that it stands for, where a backslash may begin an escape.
+fn spell_meant<'t>(texts: &'t Bump, reading: Reading, field: &str) -> Result<&'t str, AllocError> {
+    let mut text = String::with_capacity(texts, field.len())?;
+    let mut escapes = false;
+    for c in field.chars() {
+        escapes = push_meant(&mut text, reading, escapes, c)?;
+    }
+    if escapes {
+        push_spelled(&mut text, reading, '\\')?;
+    }
+    Ok(into_bump_str(text))
+}
+
+/// Adds what a character stands for, before which there may be a backslash that has not been added. Answers
+/// whether it is such a backslash itself.
+fn push_meant(
+    text: &mut String<&Bump>,
+    reading: Reading,
+    escapes: bool,
+    c: char,
+) -> Result<bool, AllocError> {
+    if !escapes {
+        if c == '\\' {
+            return Ok(true);
+        }
+        push_spelled(text, reading, c)?;
+        return Ok(false);
+    }
+    push_escaped(text, reading, c)?;
+    Ok(false)
+}
+
+/// Adds what a backslash and this character stand for.
+fn push_escaped(text: &mut String<&Bump>, reading: Reading, c: char) -> Result<(), AllocError> {
+    match c {
+        't' => push_spelled(text, reading, '\t'),
+        'n' => push_spelled(text, reading, '\n'),
+        '\\' => push_spelled(text, reading, '\\'),
+        _ => {
+            push_spelled(text, reading, '\\')?;
+            push_spelled(text, reading, c)
+        }
+    }
+}
+
 /// Adds what stands for a character.
-fn push_spelled(text: &mut String<&Bump>, one_line: bool, c: char) -> Result<(), AllocError>
+fn push_spelled(text: &mut String<&Bump>, reading: Reading, c: char) -> Result<(), AllocError>
     ensures { OnOk result (string_bytes text.new
-        ≡ string_bytes text.old ++ encode_utf8_all (spelled_character one_line c)) }
+        ≡ string_bytes text.old ++ encode_utf8_all (spelled_character reading c)) }
 {
     match c {
-        '\n' if !one_line => text.push(c),
-        '\n' => text.push_str("\\n"),
-        '\t' => text.push_str("\\t"),
+        '\n' if reading.one_line => text.push_str("\\n"),
+        '\n' => text.push(c),
+        '\t' => push_tab(text, reading),
+        _ if reading.raw => text.push(c),
         '\r' => text.push_str("\\r"),
         _ => push_other(text, c),
     }
+}
+
+/// The same of a tab.
+fn push_tab(text: &mut String<&Bump>, reading: Reading) -> Result<(), AllocError> {
+    match reading.tab {
+        Some(blanks) => push_blanks(text, blanks),
+        None if reading.raw => text.push('\t'),
+        None => text.push_str("\\t"),
+    }
+}
+
+/// Adds so many blanks.
+fn push_blanks(text: &mut String<&Bump>, blanks: usize) -> Result<(), AllocError> {
+    text.reserve(blanks)?;
+    for _ in 0..blanks {
+        text.push(' ')?;
+    }
+    Ok(())
 }
 
 /// The same of a character that is neither a line feed, a tab nor a carriage return.

@@ -1,8 +1,10 @@
 //! The pictures of small texts.
 
-use crate::{CsvEnd, Reading, Request, run_csv};
+use crate::{Alignment, CsvEnd, Format, Reading, Request, run_csv};
 use papergrid::{ReadSource, RunFault, Sizing, WriteSink};
-use papergrid_values::{AlignmentHorizontal, Borders, HorizontalLine, Indent, Sides};
+use papergrid_values::{
+    AlignmentHorizontal, AlignmentVertical, Borders, HorizontalLine, Indent, Sides,
+};
 use std::alloc::Global;
 use std::process::Abort;
 use std::test::Fail;
@@ -23,8 +25,11 @@ fn rounded(alloc: Global, one_line: bool) -> Request {
     frame.vertical = Some('│');
     Request {
         reading: Reading {
-            delimiter: b',',
+            format: Format::Csv(b','),
+            tab: None,
             one_line,
+            raw: false,
+            strict: false,
         },
         frame,
         head: Some(HorizontalLine::full('─', '┼', '├', '┤')),
@@ -34,8 +39,15 @@ fn rounded(alloc: Global, one_line: bool) -> Request {
             Indent::zero(),
             Indent::zero(),
         ),
-        alignment: AlignmentHorizontal::Left,
+        has_head: true,
+        alignment: Alignment::Fixed(AlignmentHorizontal::Left),
+        vertical: AlignmentVertical::Top,
         columns: Vec::new(alloc),
+        spans: Vec::new(alloc),
+        hides: false,
+        junctions: None,
+        cut: None,
+        max_width: None,
         sizing: Sizing::ByShares,
     }
 }

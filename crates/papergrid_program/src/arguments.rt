@@ -25,9 +25,14 @@ pub struct Wanted {
     pub only_totals: bool,
 }
 
-/// The first argument that the program does not take.
+/// A word that a program does not take.
 #[derive(Drop)]
-pub struct Unexpected(pub String);
+pub enum Unexpected {
+    /// An option that there is not.
+    NoOption(String),
+    /// A word after the one that tells the input.
+    Another(String),
+}
 
 /// What the words after the program's name ask for: options in any order, and one other word at most. After `--`
 /// no word is an option. `--total` is one where it is taken.
@@ -43,20 +48,21 @@ pub fn asked_for(words: Args, takes_total: bool) -> Result<(Request, Wanted), Un
             "--" if takes_options => takes_options = false,
             "--least" if takes_options => wanted.sizing = Sizing::Least,
             "--total" if takes_options && takes_total => wanted.only_totals = true,
-            _ if asked.is_some() => return Err(Unexpected(word)),
-            _ => asked = Some(asked_by(word, takes_options)?),
+            _ => asked = Some(asked_by(asked.is_some(), word, takes_options)?),
         }
     }
     Ok((asked.unwrap_or(Request::OfInput), wanted))
 }
 
-/// What one word asks for, which may be an option or not.
-fn asked_by(word: String, takes_options: bool) -> Result<Request, Unexpected> {
+/// What one word asks for that is no option of a table. A word before it may have asked already.
+pub fn asked_by(is_asked: bool, word: String, takes_options: bool) -> Result<Request, Unexpected> {
     match word.as_str() {
+        "--help" | "-h" if takes_options && !is_asked => Ok(Request::Help),
+        "--version" | "-V" if takes_options && !is_asked => Ok(Request::Version),
+        "--help" | "-h" | "--version" | "-V" | "-" if is_asked => Err(Unexpected::Another(word)),
         "-" => Ok(Request::OfInput),
-        "--help" | "-h" if takes_options => Ok(Request::Help),
-        "--version" | "-V" if takes_options => Ok(Request::Version),
-        text if takes_options && text.starts_with('-') => Err(Unexpected(word)),
+        text if takes_options && text.starts_with('-') => Err(Unexpected::NoOption(word)),
+        _ if is_asked => Err(Unexpected::Another(word)),
         _ => Ok(Request::OfFile(word)),
     }
 }

@@ -1,52 +1,102 @@
 //! How a program ends.
 
+use crate::arguments::Unexpected;
+use crate::names::{not_an_option, shown};
+use crate::output::Output;
 use papergrid::{RunEnd, RunFault};
+use std::alloc::{AllocError, Global};
 use std::io;
 use std::io::{ErrorKind, Write};
 use std::process::ExitCode;
 
-/// The status of a run that ended so. A fault is named.
-pub fn status(rt: &HostRuntime, end: Result<RunEnd, RunFault>) -> ExitCode {
+/// The status of a run over the named input that ended so. A fault is named, unless nobody reads the output any more.
+pub fn status(
+    rt: &HostRuntime,
+    input: &str,
+    end: Result<RunEnd, RunFault>,
+    is_closed: bool,
+) -> ExitCode {
     match end {
         Ok(RunEnd::Done) => ExitCode::from(0),
         Ok(RunEnd::Refused) => ExitCode::from(1),
         Ok(RunEnd::BadScript) => ExitCode::from(2),
-        Err(reason) => fault(rt, reason),
+        Err(reason) => fault(rt, input, reason, is_closed),
     }
 }
 
 /// Writes a text on standard output.
 pub fn told(rt: &HostRuntime, text: &str) -> ExitCode {
-    let mut stdout = rt.stdout();
-    if stdout.write_all(text.as_bytes()).is_err() || stdout.flush().is_err() {
-        return fault(rt, RunFault::Write);
+    let mut output = Output::new(rt.stdout());
+    let is_written = output.write_all(text.as_bytes()).is_ok() && output.flush().is_ok();
+    if is_written {
+        return ExitCode::from(0);
     }
-    ExitCode::from(0)
+    fault(rt, "", RunFault::Write, output.is_closed())
 }
 
 // Where even a line on standard error cannot be written, the status still tells.
 
-/// Names the fault.
-pub fn fault(rt: &impl Eprint, reason: RunFault) -> ExitCode {
-    let word = match reason {
-        RunFault::Memory => "memory",
-        RunFault::Read => "read",
-        RunFault::Write => "write",
-    };
-    let _ = eprintln!(rt; "fault: {word}");
+/// Names the fault of a run over the named input, unless nobody reads the output any more.
+pub fn fault(rt: &impl Eprint, input: &str, reason: RunFault, is_closed: bool) -> ExitCode {
+    match reason {
+        RunFault::Memory => {
+            let _ = eprintln!(rt; "fault: memory");
+        }
+        RunFault::Read => {
+            let _ = eprintln!(rt; "{input}: can't be read");
+        }
+        RunFault::Write if is_closed => {}
+        RunFault::Write => {
+            let _ = eprintln!(rt; "fault: write");
+        }
+    }
     ExitCode::from(3)
 }
 
 /// Names the file that can't be opened.
-pub fn unopened(rt: &impl Eprint, path: &str, error: &io::Error) -> ExitCode {
-    let _ = eprintln!(rt; "fault: read: {path:?}: {error}");
+pub fn unopened(rt: &impl Eprint, alloc: Global, path: &str, error: &io::Error) -> ExitCode {
+    match shown(alloc, path) {
+        Ok(name) if error.kind() == ErrorKind::NotFound => {
+            let _ = eprintln!(rt; "{name}: no such file");
+        }
+        Ok(name) => {
+            let _ = eprintln!(rt; "{name}: {error}");
+        }
+        Err(_) => return fault(rt, path, RunFault::Memory, false),
+    }
     ExitCode::from(3)
 }
 
-/// Names the argument that isn't taken, and says what is.
-pub fn unexpected(rt: &impl Eprint, word: &str, takes: &str) -> ExitCode {
-    let _ = eprintln!(rt; "unexpected argument {word:?}; {takes}");
-    ExitCode::from(2)
+/// Names the argument that isn't taken, and says what is, by the names of the options or in words.
+pub fn unexpected(
+    rt: &impl Eprint,
+    alloc: Global,
+    argument: Unexpected,
+    names: &[&str],
+    takes: &str,
+) -> ExitCode {
+    match unexpected_text(alloc, argument, names, takes) {
+        Ok(text) => {
+            let _ = eprintln!(rt; "{text}");
+            ExitCode::from(2)
+        }
+        Err(_) => fault(rt, "", RunFault::Memory, false),
+    }
+}
+
+fn unexpected_text(
+    alloc: Global,
+    argument: Unexpected,
+    names: &[&str],
+    takes: &str,
+) -> Result<String, AllocError> {
+    match argument {
+        Unexpected::NoOption(word) => not_an_option(alloc, word.as_str(), names),
+        Unexpected::Another(word) => {
+            let word = word.as_str();
+            format!(in alloc; "unexpected argument {word:?}; {takes}")
+        }
+    }
 }
 
 /// Says why the arguments can't be read: one is no text, or an allocation failed.
@@ -55,5 +105,5 @@ pub fn unread_words(rt: &impl Eprint, error: &io::Error, takes: &str) -> ExitCod
         let _ = eprintln!(rt; "an argument is not UTF-8; {takes}");
         return ExitCode::from(2);
     }
-    fault(rt, RunFault::Memory)
+    fault(rt, "", RunFault::Memory, false)
 }

@@ -1,7 +1,7 @@
 //! The forms that a line of a script may have.
 
+use crate::names::name_like;
 use std::alloc::{AllocError, Global};
-use strsim::levenshtein;
 
 /// A form of lines, and what a line of it does.
 #[derive(Clone, Copy)]
@@ -76,23 +76,11 @@ pub fn form_of(keyword: &str) -> Option<Form> {
     FORMS.iter().copied().find(|form| form.keyword == keyword)
 }
 
-/// The bytes of two letters, at most.
-const TWO_LETTERS: usize = 8;
-
-/// The form whose keyword is most like the word, if two letters at most differ and not all of them. A word that is too
-/// long for that is not compared, since a comparison goes over all of it for each letter of the keyword.
+/// The form whose keyword is most like the word, if two letters at most differ and not all of them.
 pub fn form_like(alloc: Global, word: &str) -> Result<Option<Form>, AllocError> {
-    let mut nearest = None;
-    let mut least = word.len().min(3);
-    for form in FORMS {
-        if word.len() > form.keyword.len() + TWO_LETTERS {
-            continue;
-        }
-        let distance = levenshtein(alloc, word, form.keyword)?;
-        if distance < least {
-            least = distance;
-            nearest = Some(form);
-        }
+    let keywords = FORMS.map(|form| form.keyword);
+    match name_like(alloc, word, &keywords)? {
+        Some(keyword) => Ok(form_of(keyword)),
+        None => Ok(None),
     }
-    Ok(nearest)
 }

@@ -1,12 +1,17 @@
-//! What the programs share: their arguments, the words for what keeps a script from its answer, and how they end.
+//! What the programs share: their arguments, the names that messages speak of, the words for what keeps a script from
+//! its answer, and how they end.
 #![tactic(auto)]
 
 mod arguments;
 mod endings;
 mod forms;
 mod message;
+mod names;
+mod output;
 
-pub use arguments::{Request, Unexpected, Wanted, asked_for};
+pub use arguments::{Request, Unexpected, Wanted, asked_by, asked_for};
 pub use endings::{fault, status, told, unexpected, unopened, unread_words};
 pub use forms::FORMS;
 pub use message::message_of;
+pub use names::{STANDARD_INPUT, name_like, not_an_option, shown};
+pub use output::Output;

@@ -7,8 +7,8 @@ mod totals;
 use help::help_text;
 use papergrid::{ReadSource, RunEnd, RunFault, Sizing, WriteSink, run_keeping};
 use papergrid_program::{
-    Request, Unexpected, Wanted, asked_for, fault, message_of, status, told, unexpected, unopened,
-    unread_words,
+    Output, Request, STANDARD_INPUT, Wanted, asked_for, fault, message_of, shown, status, told,
+    unexpected, unopened, unread_words,
 };
 use std::env;
 use std::fs::File;
@@ -18,6 +18,9 @@ use totals::TotalsSink;
 
 /// What the arguments may be.
 const TAKES: &str = "papergrid_sizes takes --least, --total and one FILE, or --help, or --version";
+
+/// The options.
+const OPTIONS: [&str; 4] = ["--least", "--total", "--help", "--version"];
 
 /// Ends with status 0 where the sizes were written, 1 where the table has none, 2 where the script has a
 /// bad line or an argument is not taken, and 3 at a fault. What went wrong is told on standard error.
@@ -30,50 +33,56 @@ fn main(rt: HostRuntime) -> ExitCode {
     let _ = words.next();
     match asked_for(words, true) {
         Ok((request, wanted)) => answered(&rt, request, wanted),
-        Err(Unexpected(word)) => unexpected(&rt, word.as_str(), TAKES),
+        Err(argument) => unexpected(&rt, rt.alloc(), argument, &OPTIONS, TAKES),
     }
 }
 
 /// Does what is asked for.
 fn answered(rt: &HostRuntime, request: Request, wanted: Wanted) -> ExitCode {
     match request {
-        Request::OfInput => answered_from(rt, wanted, rt.stdin()),
+        Request::OfInput => answered_from(rt, wanted, STANDARD_INPUT, rt.stdin()),
         Request::OfFile(path) => sizes_of_file(rt, wanted, path.as_str()),
         Request::Help => match help_text(rt.alloc()) {
             Ok(text) => told(rt, text.as_str()),
-            Err(_) => fault(rt, RunFault::Memory),
+            Err(_) => fault(rt, "", RunFault::Memory, false),
         },
         Request::Version => told(rt, "papergrid_sizes 0.18.0\n"),
     }
 }
 
-/// Answers the script that is read, and says what keeps it from having sizes.
-fn answered_from<R: Read + Drop>(rt: &HostRuntime, wanted: Wanted, reader: R) -> ExitCode {
+/// Answers the script that is read from the named input, and says what keeps it from having sizes.
+fn answered_from<R: Read + Drop>(
+    rt: &HostRuntime,
+    wanted: Wanted,
+    name: &str,
+    reader: R,
+) -> ExitCode {
     let mut script = Vec::new(rt.alloc());
-    let end = sizes(rt, wanted, reader, &mut script);
+    let mut output = Output::new(rt.stdout());
+    let end = sizes(rt, wanted, reader, &mut output, &mut script);
     if end == Ok(RunEnd::Refused) || end == Ok(RunEnd::BadScript) {
         say_why(rt, wanted.sizing, &script);
     }
-    status(rt, end)
+    status(rt, name, end, output.is_closed())
 }
 
 /// Writes the sizes of the script that is read, keeps the script, and tells how that ended.
-fn sizes<R: Read + Drop>(
+fn sizes<R: Read + Drop, W: Write + Drop>(
     rt: &HostRuntime,
     wanted: Wanted,
     reader: R,
+    output: &mut W,
     script: &mut Vec<u8>,
 ) -> Result<RunEnd, RunFault> {
     let mut source = ReadSource::new(reader);
-    let mut stdout = rt.stdout();
-    let mut writer = WriteSink::new(&mut stdout);
+    let mut writer = WriteSink::new(&mut *output);
     let end = if wanted.only_totals {
         let mut totals = TotalsSink { sink: writer };
         run_keeping(rt.alloc(), wanted.sizing, &mut source, &mut totals, script)?
     } else {
         run_keeping(rt.alloc(), wanted.sizing, &mut source, &mut writer, script)?
     };
-    match stdout.flush() {
+    match output.flush() {
         Ok(()) => Ok(end),
         Err(_) => Err(RunFault::Write),
     }
@@ -81,9 +90,10 @@ fn sizes<R: Read + Drop>(
 
 /// Answers the script in a file.
 fn sizes_of_file(rt: &HostRuntime, wanted: Wanted, path: &str) -> ExitCode {
-    match File::open(rt, path) {
-        Ok(file) => answered_from(rt, wanted, file),
-        Err(error) => unopened(rt, path, &error),
+    match (shown(rt.alloc(), path), File::open(rt, path)) {
+        (Ok(name), Ok(file)) => answered_from(rt, wanted, name.as_str(), file),
+        (_, Err(error)) => unopened(rt, rt.alloc(), path, &error),
+        (Err(_), _) => fault(rt, path, RunFault::Memory, false),
     }
 }
 

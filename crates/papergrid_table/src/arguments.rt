@@ -1,10 +1,15 @@
 //! What the arguments ask for.
 
+use crate::options::{Choice, Listed, option_of, values_of};
 use crate::styles::Style;
+use crate::values::{
+    alignment_of, column_alignment, delimiter_of, number_of, padding, padding_of, span_of,
+    vertical_of,
+};
 use papergrid::Sizing;
-use papergrid_csv::{Reading, Request};
-use papergrid_program::Request as Asked;
-use papergrid_values::{AlignmentHorizontal, Indent, Sides};
+use papergrid_csv::{Alignment, Format, Reading, Request};
+use papergrid_program::{Request as Asked, Unexpected, asked_by, name_like, shown};
+use papergrid_values::{AlignmentHorizontal, AlignmentVertical, Indent, Sides};
 use std::alloc::{AllocError, Global};
 use std::env::Args;
 
@@ -13,21 +18,23 @@ use std::env::Args;
 pub struct Wanted {
     /// Of which input, or what the program says of itself.
     pub asked: Asked,
-    /// Whether the input is a CSV text, and not a script.
-    pub is_csv: bool,
-    /// What is asked of the table of a CSV text. Its sizing is that of a script too.
-    pub csv: Request,
+    /// Whether the input is a script, and not a CSV or TSV text.
+    pub is_script: bool,
+    /// What is asked of the table of a text. Its sizing is that of a script too.
+    pub request: Request,
+    /// Whether the cells are named that show why the table is no smaller.
+    pub witness: bool,
+    /// The file that is compared with what would be written.
+    pub check: Option<String>,
 }
 
 /// Why arguments are not taken.
 #[derive(Drop)]
 pub enum Misuse {
+    /// This is said of them.
+    Said(String),
     /// The program does not take this word.
-    Unexpected(String),
-    /// This option is not followed by a value.
-    Without(&'static str),
-    /// This option does not take this value.
-    Value(&'static str, String),
+    Unexpected(Unexpected),
     /// A growth was refused.
     Memory,
 }
@@ -38,147 +45,230 @@ impl From<AllocError> for Misuse {
     }
 }
 
-/// An option that is followed by its value.
-#[derive(Clone, Copy)]
-enum Valued {
-    Style,
-    Align,
-    Pad,
-    Delimiter,
-}
-
-impl Valued {
-    fn named(word: &str) -> Option<Valued> {
-        match word {
-            "--style" => Some(Valued::Style),
-            "--align" => Some(Valued::Align),
-            "--pad" => Some(Valued::Pad),
-            "--delimiter" => Some(Valued::Delimiter),
-            _ => None,
-        }
-    }
-
-    fn name(self) -> &'static str {
-        match self {
-            Valued::Style => "--style",
-            Valued::Align => "--align",
-            Valued::Pad => "--pad",
-            Valued::Delimiter => "--delimiter",
-        }
-    }
+/// What an input is.
+#[derive(Clone, Copy, Debug, PartialEq, Eq)]
+enum Kind {
+    Csv,
+    Tsv,
+    Script,
 }
 
 /// What the words so far tell.
 #[derive(Drop)]
 struct Draft {
+    alloc: Global,
     asked: Option<Asked>,
     takes_options: bool,
-    is_csv: bool,
-    is_head: bool,
-    one_line: bool,
-    sizing: Sizing,
+    kind: Option<Kind>,
+    delimiter: Option<u8>,
     style: Style,
-    pad: Option<usize>,
-    delimiter: u8,
-    alignment: AlignmentHorizontal,
-    columns: Vec<(usize, AlignmentHorizontal)>,
+    pad: Option<Sides<Indent>>,
+    fits: bool,
+    /// An option that a script does not take.
+    of_fields: Option<&'static str>,
+    request: Request,
+    witness: bool,
+    check: Option<String>,
 }
 
 /// What the words after the program's name ask for: options in any order, and one other word at most. After `--`
 /// no word is an option.
 pub fn asked_for(alloc: Global, words: Args) -> Result<Wanted, Misuse> {
     let mut draft = Draft {
+        alloc,
         asked: None,
         takes_options: true,
-        is_csv: false,
-        is_head: true,
-        one_line: false,
-        sizing: Sizing::ByShares,
+        kind: None,
+        delimiter: None,
         style: Style::Rounded,
         pad: None,
-        delimiter: b',',
-        alignment: AlignmentHorizontal::Left,
-        columns: Vec::new(alloc),
+        fits: false,
+        of_fields: None,
+        request: plain_request(alloc),
+        witness: false,
+        check: None,
     };
     let mut before = None;
     for word in words {
         before = draft.take(before, word)?;
     }
     match before {
-        Some(option) => Err(Misuse::Without(option.name())),
-        None => Ok(draft.finish()),
+        Some(option) => Err(lacks_value(alloc, &option)?),
+        None => draft.finish(),
     }
+}
+
+/// What is asked where no option is given, but for what the style decides.
+fn plain_request(alloc: Global) -> Request {
+    Request {
+        reading: Reading {
+            format: Format::Csv(b','),
+            tab: None,
+            one_line: false,
+            raw: false,
+            strict: false,
+        },
+        frame: Style::Rounded.frame(),
+        head: None,
+        has_head: true,
+        padding: padding(1, 1, 0, 0),
+        alignment: Alignment::Fixed(AlignmentHorizontal::Left),
+        vertical: AlignmentVertical::Top,
+        columns: Vec::new(alloc),
+        spans: Vec::new(alloc),
+        hides: false,
+        junctions: None,
+        cut: None,
+        max_width: None,
+        sizing: Sizing::ByShares,
+    }
+}
+
+/// What is said of an option that is the last word, and has no value.
+fn lacks_value(alloc: Global, option: &Listed) -> Result<Misuse, AllocError> {
+    let name = option.name;
+    let value = option.value.unwrap_or("a value");
+    Ok(Misuse::Said(format!(in alloc; "{name}: no value follows; it takes {value}")?))
 }
 
 impl Draft {
     /// Takes a word, which is the value of the option before it, if one stands there; and tells the option that
     /// wants a value now.
-    fn take(&mut self, before: Option<Valued>, word: String) -> Result<Option<Valued>, Misuse> {
+    fn take(&mut self, before: Option<Listed>, word: String) -> Result<Option<Listed>, Misuse> {
         if let Some(option) = before {
-            if !self.set(option, word.as_str())? {
-                return Err(Misuse::Value(option.name(), word));
-            }
+            self.set(&option, word.as_str())?;
+            return Ok(None);
+        }
+        if self.takes_options && word.as_str() == "--" {
+            self.takes_options = false;
             return Ok(None);
         }
         if self.takes_options {
-            let option = Valued::named(word.as_str());
-            if option.is_some() {
-                return Ok(option);
-            }
-            if self.switch(word.as_str()) {
-                return Ok(None);
+            if let Some((option, value)) = option_of(word.as_str()) {
+                if option.choice != Choice::Help && option.choice != Choice::Version {
+                    return self.begin(option, value);
+                }
             }
         }
-        if self.asked.is_some() {
-            return Err(Misuse::Unexpected(word));
+        match asked_by(self.asked.is_some(), word, self.takes_options) {
+            Ok(asked) => {
+                self.asked = Some(asked);
+                Ok(None)
+            }
+            Err(unexpected) => Err(Misuse::Unexpected(unexpected)),
         }
-        self.asked = Some(asked_by(word, self.takes_options)?);
+    }
+
+    /// Takes an option, and its value where it stands in the same word; and tells the option if it wants one.
+    fn begin(&mut self, option: Listed, value: Option<&str>) -> Result<Option<Listed>, Misuse> {
+        if option.is_of_fields {
+            self.of_fields = Some(option.name);
+        }
+        match (option.value, value) {
+            (Some(_), None) => return Ok(Some(option)),
+            (Some(_), Some(value)) => self.set(&option, value)?,
+            (None, None) => self.switch(option.choice),
+            (None, Some(_)) => {
+                let name = option.name;
+                let text = format!(in self.alloc; "{name}: takes no value")?;
+                return Err(Misuse::Said(text));
+            }
+        }
         Ok(None)
     }
 
-    /// Takes an option without a value; false where the word is none.
-    fn switch(&mut self, word: &str) -> bool {
-        match word {
-            "--" => self.takes_options = false,
-            "--csv" => self.is_csv = true,
-            "--no-header" => self.is_head = false,
-            "--one-line" => self.one_line = true,
-            "--least" => self.sizing = Sizing::Least,
-            _ => return false,
+    /// Takes an option without a value.
+    fn switch(&mut self, choice: Choice) {
+        let request = &mut self.request;
+        match choice {
+            Choice::Csv => self.kind = Some(Kind::Csv),
+            Choice::Tsv => self.kind = Some(Kind::Tsv),
+            Choice::Script => self.kind = Some(Kind::Script),
+            Choice::Header => request.has_head = true,
+            Choice::NoHeader => request.has_head = false,
+            Choice::Hide => request.hides = true,
+            Choice::OneLine => request.reading.one_line = true,
+            Choice::Raw => request.reading.raw = true,
+            Choice::Strict => request.reading.strict = true,
+            Choice::Least => request.sizing = Sizing::Least,
+            Choice::Witness => self.witness = true,
+            Choice::FitCrossings => self.fits = true,
+            _ => {}
         }
-        true
+    }
+
+    /// Takes the value of an option, or says why it is none.
+    fn set(&mut self, option: &Listed, value: &str) -> Result<(), Misuse> {
+        if self.takes(option.choice, value)? {
+            return Ok(());
+        }
+        let alloc = self.alloc;
+        let name = option.name;
+        let takes = option.value.unwrap_or("a value");
+        let written = shown(alloc, value)?;
+        let last = match value.rsplit_once('=') {
+            Some((_, last)) => last,
+            None => value,
+        };
+        let names = values_of(option.choice);
+        let text = match name_like(alloc, last, names)? {
+            Some(like) => format!(in alloc; "{name} {written}: not {takes}; did you mean {like}?")?,
+            None => format!(in alloc; "{name} {written}: not {takes}")?,
+        };
+        Err(Misuse::Said(text))
     }
 
     /// Takes the value of an option; false where it has another form.
-    fn set(&mut self, option: Valued, value: &str) -> Result<bool, AllocError> {
-        match option {
-            Valued::Style => match Style::named(value) {
+    fn takes(&mut self, choice: Choice, value: &str) -> Result<bool, AllocError> {
+        match choice {
+            Choice::Align => return self.align(value),
+            Choice::Span => match span_of(value) {
+                Some(span) => self.request.spans.push(span)?,
+                None => return Ok(false),
+            },
+            Choice::Check => self.check = Some(String::from_str(self.alloc, value)?),
+            Choice::Style => match Style::named(value) {
                 Some(style) => self.style = style,
                 None => return Ok(false),
             },
-            Valued::Align => return self.align(value),
-            Valued::Pad => match value.parse::<usize>() {
-                Ok(pad) => self.pad = Some(pad),
-                Err(_) => return Ok(false),
+            Choice::Valign => match vertical_of(value) {
+                Some(vertical) => self.request.vertical = vertical,
+                None => return Ok(false),
             },
-            Valued::Delimiter => match value.as_bytes() {
-                b"tab" => self.delimiter = b'\t',
-                [byte] => self.delimiter = *byte,
-                _ => return Ok(false),
-            },
+            Choice::Pad => {
+                self.pad = padding_of(value);
+                return Ok(self.pad.is_some());
+            }
+            Choice::Delimiter => {
+                self.delimiter = delimiter_of(value);
+                return Ok(self.delimiter.is_some());
+            }
+            _ => return Ok(self.takes_number(choice, number_of(value))),
         }
         Ok(true)
     }
 
+    /// Takes the number of an option, if it is one.
+    fn takes_number(&mut self, choice: Choice, number: Option<usize>) -> bool {
+        let request = &mut self.request;
+        match choice {
+            Choice::MaxWidth => request.max_width = number,
+            Choice::Cut => request.cut = number,
+            Choice::Tab => request.reading.tab = number,
+            _ => return false,
+        }
+        number.is_some()
+    }
+
     /// Takes an alignment, of all cells or of a column.
     fn align(&mut self, value: &str) -> Result<bool, AllocError> {
-        if let Some(alignment) = alignment_named(value) {
-            self.alignment = alignment;
+        if let Some(alignment) = alignment_of(value) {
+            self.request.alignment = alignment;
             return Ok(true);
         }
-        match column_alignment(value) {
+        match column_alignment(self.alloc, value)? {
             Some(column) => {
-                self.columns.push(column)?;
+                self.request.columns.push(column)?;
                 Ok(true)
             }
             None => Ok(false),
@@ -186,72 +276,72 @@ impl Draft {
     }
 
     /// What all words tell.
-    fn finish(self) -> Wanted {
+    fn finish(self) -> Result<Wanted, Misuse> {
         let Draft {
+            alloc,
             asked,
             takes_options: _,
-            is_csv,
-            is_head,
-            one_line,
-            sizing,
+            kind,
+            delimiter,
             style,
             pad,
-            delimiter,
-            alignment,
-            columns,
+            fits,
+            of_fields,
+            mut request,
+            witness,
+            check,
         } = self;
         let asked = asked.unwrap_or(Asked::OfInput);
-        let is_csv = is_csv || names_csv(&asked);
-        let indent = Indent::spaced(pad.unwrap_or(style.padding()));
-        let csv = Request {
-            reading: Reading {
-                delimiter,
-                one_line,
-            },
-            frame: style.frame(),
-            head: style.head(is_head),
-            padding: Sides::new(indent, indent, Indent::zero(), Indent::zero()),
-            alignment,
-            columns,
-            sizing,
-        };
-        Wanted { asked, is_csv, csv }
+        let kind = kind.unwrap_or(kind_named(&asked));
+        request.reading.format = format_of(alloc, kind, delimiter, of_fields)?;
+        request.frame = style.frame();
+        request.head = style.head(request.has_head);
+        let side = style.padding();
+        request.padding = pad.unwrap_or(padding(side, side, 0, 0));
+        if fits {
+            request.junctions = style.junctions();
+            if request.junctions.is_none() {
+                let name = style.name();
+                let text = format!(in alloc; "--fit-crossings: the style {name} has no crossings to fit")?;
+                return Err(Misuse::Said(text));
+            }
+        }
+        Ok(Wanted {
+            asked,
+            is_script: kind == Kind::Script,
+            request,
+            witness,
+            check,
+        })
     }
 }
 
-/// What one word asks for that is no option of a table.
-fn asked_by(word: String, takes_options: bool) -> Result<Asked, Misuse> {
-    match word.as_str() {
-        "-" => Ok(Asked::OfInput),
-        "--help" | "-h" if takes_options => Ok(Asked::Help),
-        "--version" | "-V" if takes_options => Ok(Asked::Version),
-        text if takes_options && text.starts_with('-') => Err(Misuse::Unexpected(word)),
-        _ => Ok(Asked::OfFile(word)),
+/// How a text is read. Some options are not for each kind of input.
+fn format_of(
+    alloc: Global,
+    kind: Kind,
+    delimiter: Option<u8>,
+    of_fields: Option<&'static str>,
+) -> Result<Format, Misuse> {
+    match (kind, delimiter, of_fields) {
+        (Kind::Script, _, Some(name)) => {
+            let text = format!(in alloc; "{name}: for CSV and TSV alone, and the input is a script")?;
+            Err(Misuse::Said(text))
+        }
+        (Kind::Tsv, Some(_), _) => {
+            let text = "--delimiter: for CSV alone, and the input is TSV";
+            Err(Misuse::Said(String::from_str(alloc, text)?))
+        }
+        (Kind::Tsv, None, _) => Ok(Format::Tsv),
+        _ => Ok(Format::Csv(delimiter.unwrap_or(b','))),
     }
 }
 
-/// Whether a file's name ends so that it has a CSV text.
-fn names_csv(asked: &Asked) -> bool {
+/// What a file has by the end of its name.
+fn kind_named(asked: &Asked) -> Kind {
     match asked {
-        Asked::OfFile(path) => path.as_str().ends_with(".csv"),
-        _ => false,
-    }
-}
-
-fn alignment_named(name: &str) -> Option<AlignmentHorizontal> {
-    match name {
-        "left" => Some(AlignmentHorizontal::Left),
-        "center" => Some(AlignmentHorizontal::Center),
-        "right" => Some(AlignmentHorizontal::Right),
-        _ => None,
-    }
-}
-
-/// A column and its alignment, as `c2=right`. Columns are counted from 0.
-fn column_alignment(value: &str) -> Option<(usize, AlignmentHorizontal)> {
-    let (column, alignment) = value.strip_prefix("c")?.split_once("=")?;
-    match column.parse::<usize>() {
-        Ok(number) => Some((number, alignment_named(alignment)?)),
-        Err(_) => None,
+        Asked::OfFile(path) if path.as_str().ends_with(".tsv") => Kind::Tsv,
+        Asked::OfFile(path) if path.as_str().ends_with(".txt") => Kind::Script,
+        _ => Kind::Csv,
     }
 }

@@ -1,6 +1,13 @@
 //! The styles of a table: its lines and its padding.
 
+use papergrid::grid::Junctions;
 use papergrid_values::{Borders, HorizontalLine};
+
+/// The names of all styles.
+pub const STYLES: [&str; 11] = [
+    "rounded", "ascii", "modern", "sharp", "extended", "psql", "markdown", "rst", "dots", "blank",
+    "none",
+];
 
 /// A style by name.
 #[derive(Clone, Copy, Debug, PartialEq, Eq)]
@@ -34,6 +41,23 @@ impl Style {
             "blank" => Some(Style::Blank),
             "none" => Some(Style::Plain),
             _ => None,
+        }
+    }
+
+    /// Its name.
+    pub fn name(self) -> &'static str {
+        match self {
+            Style::Rounded => "rounded",
+            Style::Ascii => "ascii",
+            Style::Modern => "modern",
+            Style::Sharp => "sharp",
+            Style::Extended => "extended",
+            Style::Psql => "psql",
+            Style::Markdown => "markdown",
+            Style::Rst => "rst",
+            Style::Dots => "dots",
+            Style::Blank => "blank",
+            Style::Plain => "none",
         }
     }
 
@@ -77,6 +101,15 @@ impl Style {
             Style::Rst => Some(inner_line('=', ' ')),
             _ => None,
         }
+    }
+
+    /// The characters of its crossings, if it has all of them.
+    pub fn junctions(self) -> Option<Junctions> {
+        let frame = match self {
+            Style::Rounded | Style::Sharp => ruled(self.frame(), ['─', '├', '┼', '┤']),
+            _ => self.frame(),
+        };
+        Junctions::of_frame(&frame)
     }
 
     /// How many spaces stand on both sides of a text.

@@ -1,12 +1,11 @@
--- What was read of a CSV text so far.
-use Rattle.std.specs.Prelude.{◌≡◌, ℕ, All, List, map}
+-- What was read of a text so far.
+use Rattle.std.specs.Prelude.{◌≡◌, ℕ, ◌==◌, Bool, false, not, List, [], ◌∷◌, length, map}
 use Rattle.csv.specs.Reading.{AreRecords, Reached, strip_bom}
-use Rattle.csv.specs.Records.{AllText}
 use Rattle.csv.specs.declared.error.ErrorKind.{ErrorKind}
 use Rattle.csv.specs.declared.error.ErrorKind.TheVariants as kinds
 use Rattle.csv.specs.declared.parser.State.{State}
 use Rattle.csv.specs.declared.parser.State.TheVariants as states
-use Rattle.papergrid_csv.specs.Rows.{config_of}
+use Rattle.papergrid_csv.specs.Rows.{MayBeShown, config_of}
 use Rattle.papergrid_csv.specs.Spelling.{spelled}
 use Rattle.papergrid_csv.specs.declared.reading.Reading.{Reading}
 use Rattle.papergrid_csv.specs.declared.reading.RowsError.{RowsError}
@@ -16,15 +15,20 @@ use Rattle.papergrid_csv.specs.declared.reading.RowsError.TheVariants.{Memory, N
 pub record AreShown (reading : Reading) (input : List ℕ) (shown : List (List (List ℕ))) : Type 0 where
   pub records : List (List (List ℕ))
   pub read : AreRecords (config_of reading) states.StartRecord (strip_bom input) records
-  pub texts : All AllText records
-  pub are : shown ≡ map (map (spelled reading.one_line)) records
+  pub may : MayBeShown reading records
+  pub are : shown ≡ map (map (spelled reading)) records
 
 -- these are those of the first records, after which this is left to read, in this state
 pub record AreShownFirst (reading : Reading) (input : List ℕ) (shown : List (List (List ℕ))) (state : State) (rest : List ℕ) : Type 0 where
   pub records : List (List (List ℕ))
   pub read : Reached (config_of reading) states.StartRecord (strip_bom input) records state rest
-  pub texts : All AllText records
-  pub are : shown ≡ map (map (spelled reading.one_line)) records
+  pub may : MayBeShown reading records
+  pub are : shown ≡ map (map (spelled reading)) records
+
+-- whether a record has another number of fields than the first of these
+abbrev pub has_other_length : List (List (List ℕ)) → List (List ℕ) → Bool
+has_other_length [] fields = false
+has_other_length (first ∷ records) fields = not (length first == length fields)
 
 -- what an error after so many records means
 abbrev pub unread_of : ErrorKind → ℕ → RowsError

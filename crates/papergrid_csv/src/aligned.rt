@@ -1,0 +1,170 @@
+//! The settings of alignments.
+
+ghost use Rattle.std.specs.Prelude.{◌≡◌, ◌∷◌, ◌++◌, [], IfOk, OnOk, drop, filter, flat_map, if◌then◌else◌, map, true};
+ghost use Rattle.std.specs.List.{filter, range_with_len};
+ghost use Rattle.std.specs.Str.{bytes_eq};
+ghost use Rattle.papergrid_values.specs.declared.entity.Entity.TheVariants.{Column, Global};
+ghost use Rattle.papergrid_config.specs.declared.setting.Setting.TheVariants.{SetAlignmentHorizontal};
+ghost use Rattle.papergrid_csv.specs.Numbers.{field_in, is_numeric};
+ghost use Rattle.papergrid_csv.specs.Requests.{column_alignment, columns_of, common_alignment, entry_settings, first_row, number_settings, rows_below};
+ghost use Rattle.papergrid_csv.specs.Rows.{row_texts, texts_of};
+
+use crate::number::{field_in, is_numeric};
+use crate::reading::Rows;
+use crate::request::{Alignment, ColumnName, Request};
+use papergrid_config::Setting;
+use papergrid_values::{AlignmentHorizontal, Entity};
+use std::alloc::AllocError;
+
+/// The rows that have no head.
+pub fn rows_below<'a, 't>(has_head: bool, rows: &'a [Vec<&'t str>]) -> &'a [Vec<&'t str>]
+    ensures { result.now ≡ if has_head then drop 1 rows.now else rows.now }
+{
+    if has_head && !rows.is_empty() {
+        &rows[1..]
+    } else {
+        rows
+    }
+}
+
+/// Adds the alignment of all cells, and of the columns of numbers where it is by what a column is.
+pub fn push_alignments(
+    below: &[Vec<&str>],
+    columns: usize,
+    alignment: Alignment,
+    settings: &mut Vec<Setting>,
+) -> Result<(), AllocError>
+    ensures { OnOk result (settings.new.items ≡ settings.old.items
+        ++ SetAlignmentHorizontal Global (common_alignment alignment)
+        ∷ number_settings (map row_texts below.now) columns alignment) }
+{
+    match alignment {
+        Alignment::Fixed(alignment) => {
+            settings.push(Setting::SetAlignmentHorizontal(Entity::Global, alignment))?;
+            Ok(())
+        }
+        Alignment::Auto => {
+            let left = AlignmentHorizontal::Left;
+            settings.push(Setting::SetAlignmentHorizontal(Entity::Global, left))?;
+            push_numbers(below, columns, settings)
+        }
+    }
+}
+
+/// Adds the alignment of the columns of numbers.
+fn push_numbers(
+    below: &[Vec<&str>],
+    columns: usize,
+    settings: &mut Vec<Setting>,
+) -> Result<(), AllocError>
+    ensures { OnOk result (settings.new.items ≡ settings.old.items
+        ++ number_settings (map row_texts below.now) columns Alignment.Auto) }
+{
+    for column in 0..columns {
+        if is_numeric(below, column) {
+            push_aligned(column, AlignmentHorizontal::Right, settings)?;
+        }
+    }
+    Ok(())
+}
+
+/// Adds the alignment of a column.
+fn push_aligned(
+    column: usize,
+    alignment: AlignmentHorizontal,
+    settings: &mut Vec<Setting>,
+) -> Result<(), AllocError>
+    ensures { OnOk result (settings.new.items
+        ≡ settings.old.items ++ SetAlignmentHorizontal (Column column) alignment ∷ []) }
+{
+    settings.push(Setting::SetAlignmentHorizontal(Entity::Column(column), alignment))?;
+    Ok(())
+}
+
+/// Adds the alignments of single columns, by the rows that have no head.
+pub fn push_entries(
+    request: &Request,
+    rows: &Rows<'_>,
+    below: &[Vec<&str>],
+    settings: &mut Vec<Setting>,
+) -> Result<(), AllocError>
+    requires { map row_texts below.now ≡ rows_below request.now (texts_of rows.now.rows) }
+    ensures { OnOk result (settings.new.items ≡ settings.old.items
+        ++ flat_map (entry_settings request.now rows.now.columns (texts_of rows.now.rows))
+        request.now.columns.items) }
+{
+    let head = first_row(&rows.rows);
+    for (name, alignment) in &request.columns {
+        push_entry(head, rows.columns, below, name, *alignment, settings)?;
+    }
+    Ok(())
+}
+
+/// The first row, an empty one where there is none.
+pub fn first_row<'a, 't>(rows: &'a [Vec<&'t str>]) -> &'a [&'t str]
+    ensures { map (λ text. text.now) result.now ≡ first_row (map row_texts rows.now) }
+{
+    match rows.get(0) {
+        Some(row) => row.as_slice(),
+        None => &[],
+    }
+}
+
+/// Adds the alignment of the columns of a name.
+fn push_entry(
+    head: &[&str],
+    columns: usize,
+    below: &[Vec<&str>],
+    name: &ColumnName,
+    alignment: Alignment,
+    settings: &mut Vec<Setting>,
+) -> Result<(), AllocError>
+    ensures { OnOk result (settings.new.items ≡ settings.old.items
+        ++ map (λ column. SetAlignmentHorizontal (Column column)
+        (column_alignment (map row_texts below.now) column alignment))
+        (columns_of (map (λ text. text.now) head.now) columns name.now)) }
+{
+    match name {
+        ColumnName::Number(column) => {
+            let alignment = column_alignment(below, *column, alignment);
+            push_aligned(*column, alignment, settings)
+        }
+        ColumnName::Head(text) => {
+            push_named(head, columns, below, text.as_str(), alignment, settings)
+        }
+    }
+}
+
+/// Adds the alignment of the columns whose first row has a text.
+fn push_named(
+    head: &[&str],
+    columns: usize,
+    below: &[Vec<&str>],
+    text: &str,
+    alignment: Alignment,
+    settings: &mut Vec<Setting>,
+) -> Result<(), AllocError>
+    ensures { OnOk result (settings.new.items ≡ settings.old.items
+        ++ map (λ column. SetAlignmentHorizontal (Column column)
+        (column_alignment (map row_texts below.now) column alignment))
+        (filter (λ column. bytes_eq (field_in column (map (λ text. text.now) head.now)) text.now)
+        (range_with_len 0 columns))) }
+{
+    for column in 0..columns {
+        if field_in(column, head) == text {
+            push_aligned(column, column_alignment(below, column, alignment), settings)?;
+        }
+    }
+    Ok(())
+}
+
+/// The alignment of the cells of a column.
+fn column_alignment(below: &[Vec<&str>], column: usize, alignment: Alignment) -> AlignmentHorizontal
+    ensures { result ≡ column_alignment (map row_texts below.now) column alignment }
+{
+    match alignment {
+        Alignment::Fixed(alignment) => alignment,
+        Alignment::Auto if is_numeric(below, column) => AlignmentHorizontal::Right,
+        Alignment::Auto => AlignmentHorizontal::Left,
+    }
+}

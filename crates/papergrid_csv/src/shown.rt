@@ -1,0 +1,58 @@
+//! Rows as they are drawn.
+
+ghost use Rattle.std.specs.Prelude.{IfOk};
+ghost use Rattle.std.specs.List.{AllZip};
+ghost use Rattle.papergrid_csv.specs.Cutting.{IsCut};
+ghost use Rattle.papergrid_csv.specs.Pictures.{AreCut};
+ghost use Rattle.papergrid_csv.specs.Rows.{row_texts, texts_of};
+
+use crate::cutting::cut;
+use bumpalo::Bump;
+use std::alloc::{AllocError, Global};
+
+/// The rows with each field cut to so many columns, or as they are.
+pub fn shown_rows<'t>(
+    alloc: Global,
+    texts: &'t Bump,
+    columns: Option<usize>,
+    rows: Vec<Vec<&'t str>>,
+) -> Result<Vec<Vec<&'t str>>, AllocError>
+    ensures { IfOk result (λ shown. AreCut columns (texts_of rows.entry) (texts_of shown)) }
+{
+    match columns {
+        None => Ok(rows),
+        Some(columns) => cut_rows(alloc, texts, columns, rows),
+    }
+}
+
+/// The rows with each field cut.
+fn cut_rows<'t>(
+    alloc: Global,
+    texts: &'t Bump,
+    columns: usize,
+    rows: Vec<Vec<&'t str>>,
+) -> Result<Vec<Vec<&'t str>>, AllocError>
+    ensures { IfOk result (λ shown. AllZip (AllZip (IsCut columns))
+        (texts_of rows.entry) (texts_of shown)) }
+{
+    let mut shown = Vec::with_capacity(alloc, rows.len())?;
+    for row in rows {
+        shown.push(cut_row(texts, columns, row)?)?;
+    }
+    Ok(shown)
+}
+
+/// A row with each field cut.
+fn cut_row<'t>(
+    texts: &'t Bump,
+    columns: usize,
+    row: Vec<&'t str>,
+) -> Result<Vec<&'t str>, AllocError>
+    ensures { IfOk result (λ shown. AllZip (IsCut columns) (row_texts row.entry) (row_texts shown)) }
+{
+    let mut shown = row;
+    for at in 0..shown.len() {
+        shown[at] = cut(texts, columns, shown[at])?;
+    }
+    Ok(shown)
+}

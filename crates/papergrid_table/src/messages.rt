@@ -1,0 +1,192 @@
+//! What is said of a text that has no picture.
+
+use crate::places::{first_bad_byte, record_after, unclosed_line};
+use crate::sizes::whole_rows;
+use crate::values::{alignment_name, span_text};
+use crate::wide::too_wide;
+use bumpalo::Bump;
+use papergrid::grid::DrawError;
+use papergrid_csv::{ColumnName, CsvEnd, Format, Request, Span};
+use papergrid_program::{name_like, shown};
+use papergrid_values::Position;
+use std::alloc::{AllocError, Global};
+
+/// What is said of the text, of this name, whose run ended so.
+pub fn message_of(
+    alloc: Global,
+    request: &Request,
+    name: &str,
+    input: &[u8],
+    end: CsvEnd,
+) -> Result<String, AllocError> {
+    match end {
+        CsvEnd::Drawn => String::from_str(alloc, ""),
+        CsvEnd::Refused(error) => refused(alloc, request, name, input, error),
+        CsvEnd::TooWide(width) => too_wide(alloc, request, name, input, width),
+        CsvEnd::Hides(position) => hides(alloc, request, input, position),
+        CsvEnd::NoColumn(number) => no_column(alloc, request, input, number),
+        CsvEnd::NotText(_) => {
+            let spot = first_bad_byte(input);
+            let (line, byte) = (spot.line, spot.byte);
+            format!(in alloc; "{name}: line {line}, byte {byte}: not UTF-8")
+        }
+        CsvEnd::Unclosed => {
+            let line = unclosed_line(delimiter_of(request.reading.format), input).unwrap_or(1);
+            format!(in alloc; "{name}: line {line}: a quote that begins here is not closed")
+        }
+        CsvEnd::Ragged(count, fields) => ragged(alloc, request, name, input, (count, fields)),
+    }
+}
+
+/// The byte between fields.
+fn delimiter_of(format: Format) -> u8 {
+    match format {
+        Format::Csv(delimiter) => delimiter,
+        Format::Tsv => b'\t',
+    }
+}
+
+/// What is said of the record after so many, which has so many fields.
+fn ragged(
+    alloc: Global,
+    request: &Request,
+    name: &str,
+    input: &[u8],
+    (count, fields): (usize, usize),
+) -> Result<String, AllocError> {
+    let line = record_after(alloc, request.reading, input, count)?.map_or(1, |found| found.line);
+    let first = record_after(alloc, request.reading, input, 0)?.map_or(0, |found| found.fields);
+    let what = if fields == 1 { "field" } else { "fields" };
+    format!(in alloc; "{name}: line {line}: {fields} {what}, and the first row has {first} (--strict)")
+}
+
+/// What is said of a table that has no picture.
+fn refused(
+    alloc: Global,
+    request: &Request,
+    name: &str,
+    input: &[u8],
+    error: DrawError,
+) -> Result<String, AllocError> {
+    match error {
+        DrawError::OutOfTable(position) => out_of_table(alloc, request, input, position),
+        DrawError::NotTiled(position) => not_tiled(alloc, request, position),
+        _ => format!(in alloc; "{name}: the table is wider or higher than 64 bits tell"),
+    }
+}
+
+/// What is said of a span that goes over the edge of the table.
+fn out_of_table(
+    alloc: Global,
+    request: &Request,
+    input: &[u8],
+    position: Position,
+) -> Result<String, AllocError> {
+    let texts = Bump::new(alloc);
+    let (rows, columns) = match whole_rows(alloc, &texts, request, input)? {
+        Some(found) => (found.rows.len(), found.columns),
+        None => (0, 0),
+    };
+    let Position { row, col } = position;
+    let Some(span) = request.spans.iter().rev().find(|span| span.position == position) else {
+        return format!(in alloc; "the cell at row {row}, column {col} is out of the table");
+    };
+    let option = span_text(alloc, span)?;
+    let across = col as u128 + span.columns as u128;
+    let down = row as u128 + span.rows as u128;
+    if across > columns as u128 {
+        return format!(in alloc;
+            "{option}: the cell at row {row}, column {col} needs {across} columns, and the table has {columns}"
+        );
+    }
+    format!(in alloc;
+        "{option}: the cell at row {row}, column {col} needs {down} rows, and the table has {rows}"
+    )
+}
+
+/// What is said of a position that two spans cover.
+fn not_tiled(alloc: Global, request: &Request, position: Position) -> Result<String, AllocError> {
+    let Position { row, col } = position;
+    let mut first = None;
+    for span in &request.spans {
+        if !covers(span, position) {
+            continue;
+        }
+        let Some(before) = first else {
+            first = Some(span);
+            continue;
+        };
+        if span.position != before.position {
+            let (later, earlier) = (span_text(alloc, span)?, span_text(alloc, before)?);
+            return format!(in alloc; "{later}: overlaps {earlier} at row {row}, column {col}");
+        }
+    }
+    format!(in alloc; "spans overlap at row {row}, column {col}, or leave it to no cell")
+}
+
+/// Whether a position is in the rectangle of a span.
+fn covers(span: &Span, position: Position) -> bool {
+    let Position { row, col } = span.position;
+    row <= position.row
+        && col <= position.col
+        && position.row.saturating_sub(row) < span.rows
+        && position.col.saturating_sub(col) < span.columns
+}
+
+/// What is said of a field that a span hides.
+fn hides(
+    alloc: Global,
+    request: &Request,
+    input: &[u8],
+    position: Position,
+) -> Result<String, AllocError> {
+    let texts = Bump::new(alloc);
+    let rows = whole_rows(alloc, &texts, request, input)?;
+    let Position { row, col } = position;
+    let mut field = "";
+    if let Some(found) = &rows {
+        if let Some(text) = found.rows.get(row).and_then(|fields| fields.get(col)) {
+            field = text;
+        }
+    }
+    for span in &request.spans {
+        if covers(span, position) && span.position != position {
+            let option = span_text(alloc, span)?;
+            return format!(in alloc;
+                "{option}: hides the field {field:?} at row {row}, column {col} (--hide)"
+            );
+        }
+    }
+    format!(in alloc; "a span hides the field {field:?} at row {row}, column {col} (--hide)")
+}
+
+/// What is said of an alignment of a column that there is not.
+fn no_column(
+    alloc: Global,
+    request: &Request,
+    input: &[u8],
+    number: usize,
+) -> Result<String, AllocError> {
+    let Some((ColumnName::Head(head), alignment)) = request.columns.get(number) else {
+        return String::from_str(alloc, "--align: no column has that head");
+    };
+    let value = alignment_name(*alignment);
+    let written = shown(alloc, head.as_str())?;
+    let texts = Bump::new(alloc);
+    let rows = whole_rows(alloc, &texts, request, input)?;
+    let mut like = None;
+    if let Some(found) = &rows {
+        if let Some(heads) = found.rows.first() {
+            like = name_like(alloc, head.as_str(), heads.as_slice())?;
+        }
+    }
+    match like {
+        Some(like) => {
+            let like = shown(alloc, like)?;
+            format!(in alloc;
+                "--align {written}={value}: no column has that head; did you mean {like}?"
+            )
+        }
+        None => format!(in alloc; "--align {written}={value}: no column has that head"),
+    }
+}

@@ -1,0 +1,165 @@
+//! A run: the table of an input drawn, or compared, and what keeps it from being drawn.
+
+use crate::arguments::Wanted;
+use crate::compared::Compared;
+use crate::messages;
+use crate::witness::{witness_of_script, witness_of_text};
+use papergrid::{ReadSource, RunEnd, RunFault, WriteSink, read_all, run_table};
+use papergrid_csv::{CsvEnd, run_csv};
+use papergrid_program::{Output, fault, message_of, shown, status, unopened};
+use std::alloc::{AllocError, Global};
+use std::fs::File;
+use std::io::{BufWriter, Read, Write};
+use std::process::ExitCode;
+
+/// What is said of spans that don't tile a table.
+const UNTILED: &str = "spans overlap there, or leave the position to no visible cell";
+
+/// How many bytes go out at a time.
+const PIECE: usize = 65536;
+
+/// How a run ended, of a text or of a script.
+#[derive(Clone, Copy, Debug, PartialEq, Eq)]
+enum End {
+    OfText(CsvEnd),
+    OfScript(RunEnd),
+}
+
+/// Draws the table of the input that is read, of this name, or compares it.
+pub fn answered_from<R: Read + Drop>(
+    rt: &HostRuntime,
+    wanted: &Wanted,
+    name: &str,
+    reader: R,
+) -> ExitCode {
+    match &wanted.check {
+        None => drawn(rt, wanted, name, reader),
+        Some(path) => match File::open(rt, path.as_str()) {
+            Ok(file) => compared(rt, wanted, (name, path.as_str()), reader, file),
+            Err(error) => unopened(rt, rt.alloc(), path.as_str(), &error),
+        },
+    }
+}
+
+/// Draws the table on standard output, in pieces.
+fn drawn<R: Read + Drop>(rt: &HostRuntime, wanted: &Wanted, name: &str, reader: R) -> ExitCode {
+    let output = Output::new(rt.stdout());
+    let Ok(mut out) = BufWriter::with_capacity(rt.alloc(), PIECE, output) else {
+        return fault(rt, name, RunFault::Memory, false);
+    };
+    let mut input = Vec::new(rt.alloc());
+    let mut end = run(rt.alloc(), wanted, reader, &mut out, &mut input);
+    if end.is_ok() && out.flush().is_err() {
+        end = Err(RunFault::Write);
+    }
+    // After a fault nothing more is written.
+    let (output, _) = out.into_parts();
+    match end {
+        Ok(end) => ended(rt, wanted, name, &input, end),
+        Err(reason) => fault(rt, name, reason, output.is_closed()),
+    }
+}
+
+/// Compares the table with a file, of these names.
+fn compared<R: Read + Drop>(
+    rt: &HostRuntime,
+    wanted: &Wanted,
+    (name, path): (&str, &str),
+    reader: R,
+    file: File,
+) -> ExitCode {
+    let Ok(picture_name) = shown(rt.alloc(), path) else {
+        return fault(rt, name, RunFault::Memory, false);
+    };
+    let mut source = ReadSource::new(file);
+    let picture = match read_all(rt.alloc(), &mut source) {
+        Ok(picture) => picture,
+        Err(reason) => return fault(rt, picture_name.as_str(), reason, false),
+    };
+    let mut comparing = Compared::new(&picture);
+    let mut input = Vec::new(rt.alloc());
+    let end = match run(rt.alloc(), wanted, reader, &mut comparing, &mut input) {
+        Ok(end) => end,
+        Err(reason) => return fault(rt, name, reason, false),
+    };
+    let code = ended(rt, wanted, name, &input, end);
+    if !is_drawn(end) {
+        return code;
+    }
+    match comparing.difference() {
+        None => code,
+        Some(spot) => {
+            let (line, column) = (spot.line, spot.byte);
+            let _ = eprintln!(rt;
+                "{picture_name}: line {line}, column {column}: differs from the table of {name} (--check)"
+            );
+            ExitCode::from(1)
+        }
+    }
+}
+
+/// Writes the table of the input that is read, keeps the input, and tells how that ended.
+fn run<R: Read + Drop, W: Write>(
+    alloc: Global,
+    wanted: &Wanted,
+    reader: R,
+    out: &mut W,
+    input: &mut Vec<u8>,
+) -> Result<End, RunFault> {
+    let mut source = ReadSource::new(reader);
+    let mut writer = WriteSink::new(out);
+    let request = &wanted.request;
+    if wanted.is_script {
+        let end = run_table(alloc, request.sizing, &mut source, &mut writer, input)?;
+        return Ok(End::OfScript(end));
+    }
+    let end = run_csv(alloc, request, &mut source, &mut writer, input)?;
+    Ok(End::OfText(end))
+}
+
+/// Whether a picture was written.
+fn is_drawn(end: End) -> bool {
+    matches!(end, End::OfText(CsvEnd::Drawn) | End::OfScript(RunEnd::Done))
+}
+
+/// Says what kept the table from being drawn, or which cells show that it is no smaller, where that is asked.
+fn ended(rt: &HostRuntime, wanted: &Wanted, name: &str, input: &[u8], end: End) -> ExitCode {
+    let request = &wanted.request;
+    if is_drawn(end) && !wanted.witness {
+        return ExitCode::from(0);
+    }
+    let said = match end {
+        End::OfText(CsvEnd::Drawn) => witness_of_text(rt.alloc(), request, input),
+        End::OfText(end) => messages::message_of(rt.alloc(), request, name, input, end),
+        End::OfScript(RunEnd::Done) => witness_of_script(rt.alloc(), request.sizing, input),
+        End::OfScript(_) => said_of_script(rt.alloc(), wanted, input),
+    };
+    match said {
+        Ok(text) => {
+            let text = text.as_str();
+            let _ = eprintln!(rt; "{text}");
+            code_of(rt, name, end)
+        }
+        Err(_) => fault(rt, name, RunFault::Memory, false),
+    }
+}
+
+/// What keeps a script from its picture. Where it has sizes, it's the spans.
+fn said_of_script(alloc: Global, wanted: &Wanted, script: &[u8]) -> Result<String, AllocError> {
+    match message_of(alloc, wanted.request.sizing, script)? {
+        Some(text) => Ok(text),
+        None => String::from_str(alloc, UNTILED),
+    }
+}
+
+/// The status of a run that ended so.
+fn code_of(rt: &HostRuntime, name: &str, end: End) -> ExitCode {
+    match end {
+        End::OfScript(end) => status(rt, name, Ok(end), false),
+        End::OfText(CsvEnd::Drawn) => ExitCode::from(0),
+        End::OfText(CsvEnd::Refused(_) | CsvEnd::TooWide(_) | CsvEnd::Hides(_)) => {
+            ExitCode::from(1)
+        }
+        End::OfText(_) => ExitCode::from(2),
+    }
+}

@@ -1,0 +1,140 @@
+//! What is said of a table that is wider than it may be.
+
+use crate::places::record_after;
+use crate::sizes::{certified, shown_rows};
+use bumpalo::Bump;
+use papergrid::util::string::get_text_width;
+use papergrid_csv::{Request, Rows};
+use papergrid_program::shown;
+use papergrid_values::Position;
+use std::alloc::{AllocError, Global};
+
+/// How many cells are named at most.
+const NAMED: usize = 3;
+
+/// A cell that asks for so many columns of a terminal.
+#[derive(Clone, Copy)]
+struct Asking {
+    position: Position,
+    width: usize,
+}
+
+/// What is said of a table of this width, which is more than it may have: the widest of the cells that show that
+/// no table with room for all texts is narrower, if there are such cells, and where to cut.
+pub fn too_wide(
+    alloc: Global,
+    request: &Request,
+    name: &str,
+    input: &[u8],
+    width: usize,
+) -> Result<String, AllocError> {
+    let most = request.max_width.unwrap_or(0);
+    let mut text = format!(in alloc;
+        "{name}: the table is {width} columns wide, and --max-width allows {most}"
+    )?;
+    let Some(found) = certified(alloc, request, input)? else {
+        return Ok(text);
+    };
+    if let Some(witness) = &found.width_witness {
+        name_cells(alloc, &mut text, request, input, (witness.as_slice(), width))?;
+    }
+    if request.spans.is_empty() {
+        if let Some(columns) = cut_for(request, found.widths.as_slice(), width, most) {
+            write!(text, "; --cut {columns} would fit")?;
+        }
+    }
+    Ok(text)
+}
+
+/// Adds the widest of the cells, and what the others and the lines take.
+fn name_cells(
+    alloc: Global,
+    text: &mut String,
+    request: &Request,
+    input: &[u8],
+    (witness, width): (&[Position], usize),
+) -> Result<(), AllocError> {
+    let texts = Bump::new(alloc);
+    let Some(rows) = shown_rows(alloc, &texts, request, input)? else {
+        return Ok(());
+    };
+    let mut cells = Vec::with_capacity(alloc, witness.len())?;
+    for position in witness {
+        cells.push(asking(request, &rows, *position))?;
+    }
+    cells.sort_by_key(|cell| usize::MAX.saturating_sub(cell.width))?;
+    let mut rest = width;
+    let mut before = ": ";
+    for cell in cells.iter().take(NAMED) {
+        let (head, line) = cell_name(alloc, request, &rows, input, cell.position)?;
+        let takes = cell.width;
+        write!(text, "{before}{head} (line {line}) takes {takes}")?;
+        rest = rest.saturating_sub(takes);
+        before = ", ";
+    }
+    write!(text, ", lines and the rest {rest}")
+}
+
+/// What a cell asks for: the width of its text and of its padding.
+fn asking(request: &Request, rows: &Rows<'_>, position: Position) -> Asking {
+    let text = match rows.rows.get(position.row).and_then(|row| row.get(position.col)) {
+        Some(text) => get_text_width(text),
+        None => 0,
+    };
+    let sides = request.padding.left.size.saturating_add(request.padding.right.size);
+    Asking {
+        position,
+        width: text.saturating_add(sides),
+    }
+}
+
+/// The head of the column of a cell, or its number, and the line of its record.
+fn cell_name(
+    alloc: Global,
+    request: &Request,
+    rows: &Rows<'_>,
+    input: &[u8],
+    position: Position,
+) -> Result<(String, usize), AllocError> {
+    let line = record_after(alloc, request.reading, input, position.row)?.map_or(1, |found| found.line);
+    let head = match rows.rows.first().and_then(|heads| heads.get(position.col)) {
+        Some(head) if request.has_head && !head.is_empty() => shown(alloc, head)?,
+        _ => {
+            let column = position.col;
+            format!(in alloc; "column {column}")?
+        }
+    };
+    Ok((head, line))
+}
+
+/// The greatest number of columns at which fields may be cut, so that a table without spans has no more than it may.
+fn cut_for(request: &Request, widths: &[usize], width: usize, most: usize) -> Option<usize> {
+    let sides = request.padding.left.size.saturating_add(request.padding.right.size);
+    let mut taken = 0usize;
+    for size in widths {
+        taken = taken.saturating_add(*size);
+    }
+    let lines = width.saturating_sub(taken);
+    let (mut low, mut high) = (0, most);
+    // So many halvings leave one number.
+    for _ in 0..64 {
+        if low < high {
+            let middle = high - (high - low) / 2;
+            if cut_width(widths, lines, sides, middle) <= most {
+                low = middle;
+            } else {
+                high = middle - 1;
+            }
+        }
+    }
+    if low == 0 { None } else { Some(low) }
+}
+
+/// How wide a table is at most whose fields are cut.
+fn cut_width(widths: &[usize], lines: usize, sides: usize, columns: usize) -> usize {
+    let mut total = lines;
+    for size in widths {
+        total = total.saturating_add((*size).min(columns.saturating_add(sides)));
+    }
+    total
+}

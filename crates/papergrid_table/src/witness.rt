@@ -1,0 +1,68 @@
+//! The cells that show why a table is no smaller.
+
+use crate::sizes::certified;
+use papergrid::{ReadSource, Sizing, WriteSink, run_keeping};
+use papergrid_csv::Request;
+use papergrid_values::Position;
+use std::alloc::{AllocError, Global};
+
+/// The lines `witness widths` and `witness heights` of the table of a text, if it has any; no line feed after the last.
+pub fn witness_of_text(
+    alloc: Global,
+    request: &Request,
+    input: &[u8],
+) -> Result<String, AllocError> {
+    let mut lines = String::new(alloc);
+    if let Some(found) = certified(alloc, request, input)? {
+        push_witness(&mut lines, "widths", &found.width_witness)?;
+        lines.push('\n')?;
+        push_witness(&mut lines, "heights", &found.height_witness)?;
+    }
+    Ok(lines)
+}
+
+/// Adds a line with the positions, or `none`.
+fn push_witness(
+    lines: &mut String,
+    what: &str,
+    witness: &Option<Vec<Position>>,
+) -> Result<(), AllocError> {
+    write!(lines, "witness {what}")?;
+    match witness {
+        Some(positions) => {
+            for position in positions {
+                let Position { row, col } = *position;
+                write!(lines, " {row},{col}")?;
+            }
+        }
+        None => lines.push_str(" none")?,
+    }
+    Ok(())
+}
+
+/// The same of the table of a script.
+pub fn witness_of_script(
+    alloc: Global,
+    sizing: Sizing,
+    script: &[u8],
+) -> Result<String, AllocError> {
+    let mut written = Vec::new(alloc);
+    let mut kept = Vec::new(alloc);
+    let mut source = ReadSource::new(script);
+    let mut sink = WriteSink::new(&mut written);
+    if run_keeping(alloc, sizing, &mut source, &mut sink, &mut kept).is_err() {
+        return Err(AllocError);
+    }
+    let mut lines = String::new(alloc);
+    for line in written.split(|byte| *byte == b'\n') {
+        if line.starts_with(b"witness") {
+            if let Ok(text) = std::str::from_utf8(line) {
+                if !lines.is_empty() {
+                    lines.push('\n')?;
+                }
+                lines.push_str(text)?;
+            }
+        }
+    }
+    Ok(lines)
+}
