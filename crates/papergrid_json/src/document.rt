@@ -28,7 +28,8 @@ pub struct OwnSizes {
 pub struct Document {
     pub columns: usize,
     pub settings: Vec<Setting>,
-    /// The texts of each row. A row may have fewer than there are columns; what it has more is not drawn.
+    /// The texts of each row. A row may have fewer than there are columns. Where one has more, sizes for all are not found
+    /// (`OutOfTable`), and by sizes of one's own what it has more is not drawn.
     pub rows: Vec<Vec<String>>,
     /// A width for each column and a height for each row, where these are not to be found.
     pub sizes: Option<OwnSizes>,

@@ -1,8 +1,9 @@
-//! Tables as JSON documents: their rows, settings, colours and sizes read, and their pictures. What is read of a document is tested,
-//! and no contract says it.
+//! Tables as JSON documents: their rows, settings, colours and sizes read, and their pictures. What is drawn of a document is proved.
+//! What is read of JSON is tested, and no contract says it: only that reading is safe, and that each setting is in range.
 #![tactic(auto)]
 
 mod document;
+mod drawing;
 mod error;
 mod forms;
 mod parts;
@@ -12,8 +13,6 @@ mod spot;
 mod values;
 
 pub use document::{Document, OwnSizes, read_document};
+pub use drawing::draw_document;
 pub use error::DocumentError;
 pub use forms::{Form, SETTINGS};
-
-#[cfg(test)]
-mod tests;
