@@ -1,7 +1,7 @@
 -- The table of a document, and what is drawn with it.
-use Rattle.std.proofs.Common.{◌≡◌, ◌∙◌, ◌⊎◌, ℕ, Bool, List, Option, None, Some, Result, Ok, Err, OnErr, OnOk, IfErr, map, ap, inl, inr, refl, subst, sym, take}
+use Rattle.std.proofs.Common.{Global, String, Vec, ◌≡◌, ◌∙◌, ◌⊎◌, ℕ, Bool, List, Option, None, Some, Result, Ok, Err, OnErr, OnOk, IfErr, map, ap, inl, inr, refl, subst, sym, take}
 use Rattle.std.specs.Io.KnownBytes.{Appends}
-use Rattle.std.specs.Prelude.{IsErrOf, string_bytes}
+use Rattle.std.specs.Prelude.{IsErrOf, length, option_map, slice_index, string_bytes}
 use Rattle.std.specs.BTreeMap.{get}
 use Rattle.std.specs.declared.alloc.AllocError.{AllocError}
 use Rattle.papergrid_values.specs.MapKeys.{position_cmp}
@@ -18,18 +18,20 @@ use Rattle.papergrid_draw.specs.declared.error.DrawError.{DrawError}
 use Rattle.papergrid_draw.specs.declared.error.DrawError.TheVariants as draw_errors
 use Rattle.papergrid_grid.specs.Cells.{lines_at, text_lines}
 use Rattle.papergrid_grid.specs.Lined.{lined}
+use Rattle.papergrid_text.proofs.RowSteps.{told_by}
 use Rattle.papergrid.specs.Estimates.{text_measure}
 use Rattle.papergrid.specs.Layouts.{IsConfiguredBy}
-use Rattle.papergrid.specs.Pictures.{IsRefusal, texts_drawing}
+use Rattle.papergrid.specs.Pictures.{IsRefusal}
 use Rattle.papergrid.specs.ForProofs.Drawn.{HasEnded, IsSteady}
-use Rattle.papergrid.proofs.PictureLemmas.{no-sizes-seen, room-with, sizes-seen}
+use Rattle.papergrid_json.proofs.SizeLemmas.{no-sizes-seen, room-with, sizes-seen}
 use Rattle.papergrid_json.specs.Pictures.{AreNoSizesOf, AreSizesOf, IsDocumentDrawing, IsDocumentFault, IsDrawingWith, IsFaultWith, Undrawn, Unsized, document_drawing, texts_of}
 use Rattle.papergrid_json.specs.ForProofs.Drawn.{Draws, IsDocumentTable, IsUndrawn}
 use Rattle.papergrid_json.specs.declared.document.Document.{Document}
 use Rattle.papergrid_json.specs.declared.document.OwnSizes.{OwnSizes}
 
-pair-same : {A B : Type 0} {a b : A} {x y : B} → a ≡ b → x ≡ y → (a, x) ≡ (b, y)
-pair-same p q = λ i. (p i, q i)
+same-color : {A : Type 0} (color : Option A) → option_map (λ x. x) color ≡ color
+same-color None = refl
+same-color (Some x) = refl
 
 module _ (document : Document) (sizing : Sizing) (config : SpannedConfig) where
   -- these sizes come to too much
@@ -49,41 +51,66 @@ module _ (document : Document) (sizing : Sizing) (config : SpannedConfig) where
   table-own own widths heights (Ok table) is across down so =
       (ap (λ t. t.config) so.0, subst (λ s. AreSizesOf document sizing config s table.widths table.heights) (sym is) (ap (λ t. t.widths) so.0 ∙ across, ap (λ t. t.heights) so.0 ∙ down))
   table-own own widths heights (Err e) is across down so =
-      own-error own e is (subst (λ ws. UnlessMemoryError e (IsTooLarge e ws.0 ws.1)) (pair-same across down) so)
+      own-error own e is (subst (λ w. UnlessMemoryError e (IsTooLarge e w own.heights.items)) across (subst (λ h. UnlessMemoryError e (IsTooLarge e widths h)) down so))
 
   -- the table of sizes that are chosen so, of cells that are seen through a view
-  pub table-found : {A : Type 0} (view : A → List ℕ) (cells : List (List A)) (result : Result TableParts LayoutError) → document.sizes ≡ None → map (map view) cells ≡ texts_of document →
-      UnlessMemory result (IsTableOf config (λ x. text_measure (view x)) document.columns cells sizing result) → UnlessMemory result (IsDocumentTable document sizing config result)
-  table-found view cells (Ok table) none same so = (
-    so.0,
-    subst (λ s. AreSizesOf document sizing config s table.widths table.heights) (sym none)
-        (sizes-seen view config document.columns cells (texts_of document) same sizing table.widths table.heights so.1),
-  )
-  table-found view cells (Err (layout_errors.OutOfTable p)) none same so =
-      subst (λ s. AreNoSizesOf document sizing config s (layout_errors.OutOfTable p)) (sym none) (no-sizes-seen view config document.columns cells (texts_of document) same sizing _ so)
-  table-found view cells (Err layout_errors.TooLarge) none same so =
-      subst (λ s. AreNoSizesOf document sizing config s layout_errors.TooLarge) (sym none) (no-sizes-seen view config document.columns cells (texts_of document) same sizing _ so)
-  table-found view cells (Err (layout_errors.Memory e)) none same so = tt
+  pub table-found : {A : Type 0} (view : A → String Global) (rows : List (Vec (String Global) Global)) (columns : ℕ) (result : Result TableParts LayoutError) → document.sizes ≡ None →
+      rows ≡ document.rows.items → columns ≡ document.columns →
+      UnlessMemory result ((cells : List (List A)) × (map (map view) cells ≡ map (λ row. row.items) rows)
+      × IsTableOf config (λ x. text_measure (string_bytes (view x))) columns cells sizing result) → UnlessMemory result (IsDocumentTable document sizing config result)
+  table-found view rows columns (Ok table) none same counted so =
+      let texts = told_by view string_bytes (λ row. row.items) so.0 rows so.1 ∙ ap (map (λ row. map string_bytes row.items)) same in
+      let sized = sizes-seen (λ x. string_bytes (view x)) config columns so.0 (texts_of document) texts sizing table.widths table.heights so.2.1 in
+      (so.2.0, subst (λ s. AreSizesOf document sizing config s table.widths table.heights) (sym none)
+      (subst (λ n. AreSizesBySizing config text_measure n (texts_of document) sizing table.widths table.heights) counted sized))
+  table-found view rows columns (Err (layout_errors.OutOfTable p)) none same counted so =
+      let texts = told_by view string_bytes (λ row. row.items) so.0 rows so.1 ∙ ap (map (λ row. map string_bytes row.items)) same in
+      let unsized = no-sizes-seen (λ x. string_bytes (view x)) config columns so.0 (texts_of document) texts sizing (layout_errors.OutOfTable p) so.2 in
+      subst (λ s. AreNoSizesOf document sizing config s (layout_errors.OutOfTable p)) (sym none)
+      (subst (λ n. AreNoSizesBySizing config text_measure n (texts_of document) sizing (layout_errors.OutOfTable p)) counted unsized)
+  table-found view rows columns (Err layout_errors.TooLarge) none same counted so =
+      let texts = told_by view string_bytes (λ row. row.items) so.0 rows so.1 ∙ ap (map (λ row. map string_bytes row.items)) same in
+      let unsized = no-sizes-seen (λ x. string_bytes (view x)) config columns so.0 (texts_of document) texts sizing layout_errors.TooLarge so.2 in
+      subst (λ s. AreNoSizesOf document sizing config s layout_errors.TooLarge) (sym none)
+      (subst (λ n. AreNoSizesBySizing config text_measure n (texts_of document) sizing layout_errors.TooLarge) counted unsized)
+  table-found view rows columns (Err (layout_errors.Memory e)) none same counted so = tt
 
-  -- the drawing by such a table
-  pub drawing-by : (parts : TableParts) → IsDocumentTable document sizing config (Ok parts) →
-      IsDrawingWith document sizing config (document_drawing parts.config document parts.widths parts.heights)
-  drawing-by parts so = record {
+  -- what is drawn of rows that are lent, by a table
+  abbrev pub rows_drawn : List (Vec (String Global) Global) → TableParts → Drawing
+  rows_drawn rows parts = record {
+    config = parts.config;
+    widths = slice_index parts.widths;
+    heights = slice_index parts.heights;
+    shape = (length parts.heights, length parts.widths);
+    lines = lines_at text_lines (map (λ row. map string_bytes row.items) rows);
+    color = λ p. option_map (λ color. color) (get position_cmp document.colors p);
+  }
+
+  -- it is the drawing with the sizes of the table
+  pub drawing-by : (rows : List (Vec (String Global) Global)) (parts : TableParts) → rows ≡ document.rows.items → IsDocumentTable document sizing config (Ok parts) →
+      IsDrawingWith document sizing config (rows_drawn rows parts)
+  drawing-by rows parts same so = record {
     widths = parts.widths;
     heights = parts.heights;
     sized = so.1;
-    is = λ i. document_drawing (so.0 i) document parts.widths parts.heights;
+    is = λ i. record {
+      config = so.0 i;
+      widths = slice_index parts.widths;
+      heights = slice_index parts.heights;
+      shape = (length parts.heights, length parts.widths);
+      lines = lines_at text_lines (map (λ row. map string_bytes row.items) (same i));
+      color = λ p. same-color (get position_cmp document.colors p) i;
+    };
   }
 
-  -- sizes that are chosen so have room
-  pub room-found : (parts : TableParts) → IsDocumentTable document sizing config (Ok parts) → document.sizes ≡ None →
-      AllHaveRoom (document_drawing parts.config document parts.widths parts.heights)
-  room-found parts so none = room-with document.columns (texts_of document) sizing config (texts_drawing parts.config (texts_of document) parts.widths parts.heights) (record {
-    widths = parts.widths;
-    heights = parts.heights;
-    sized = subst (λ s. AreSizesOf document sizing config s parts.widths parts.heights) none so.1;
-    is = λ i. texts_drawing (so.0 i) (texts_of document) parts.widths parts.heights;
-  })
+  -- in sizes that are chosen so there is room
+  pub room-found : (rows : List (Vec (String Global) Global)) (parts : TableParts) → rows ≡ document.rows.items → IsDocumentTable document sizing config (Ok parts) → document.sizes ≡ None →
+      AllHaveRoom (rows_drawn rows parts)
+  room-found rows parts same so none =
+      let sized = subst (λ s. AreSizesOf document sizing config s parts.widths parts.heights) none so.1 in
+      let by_parts = subst (λ c. AreSizesBySizing c text_measure document.columns (texts_of document) sizing parts.widths parts.heights) (sym so.0) sized in
+      room-with parts.config document.columns (map (λ row. map string_bytes row.items) rows) sizing parts.widths parts.heights _
+      (subst (λ held. AreSizesBySizing parts.config text_measure document.columns (map (λ row. map string_bytes row.items) held) sizing parts.widths parts.heights) (sym same) by_parts)
 
   -- what is known of a call that draws it
   module _ {W : Type 0} (contents : W → Option (List ℕ)) (has_failed has_stalled : W → Bool) where

@@ -7,14 +7,14 @@ use thiserror::Error;
 /// What keeps a document from its table.
 #[derive(Debug, Drop, Error)]
 pub enum DocumentError {
-    /// It is not JSON, at this line and this column. Both are counted from 1, the column in bytes.
-    #[error("not JSON at line {0}, column {1}")]
+    /// It is not JSON, at this line and this byte of it. Both are counted from 1.
+    #[error("line {0}, byte {1}: not JSON")]
     Syntax(usize, usize),
     /// At this place, as `settings[3][1].left`, stands something else than what is wanted there.
-    #[error("{path} has to be {wanted}")]
+    #[error("{path}: not {wanted}")]
     Unexpected { path: String, wanted: &'static str },
     /// No setting has the name of this one.
-    #[error("settings[{index}]: no setting has the name {name:?}")]
+    #[error("settings[{index}]: {name:?} is not a setting")]
     UnknownSetting { index: usize, name: String },
     /// An allocation failed.
     #[error("out of memory")]
