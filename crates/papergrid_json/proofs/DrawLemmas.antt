@@ -11,7 +11,7 @@ use Rattle.papergrid_layout.specs.Tables.{AreNoSizesBySizing, AreSizesBySizing, 
 use Rattle.papergrid_layout.specs.declared.sizing.Sizing.{Sizing}
 use Rattle.papergrid_tracks.specs.declared.error.LayoutError.{LayoutError}
 use Rattle.papergrid_tracks.specs.declared.error.LayoutError.TheVariants as layout_errors
-use Rattle.papergrid_draw.specs.Drawings.{Drawing, drawn_of}
+use Rattle.papergrid_draw.specs.Drawings.{Drawing}
 use Rattle.papergrid_draw.specs.Errors.{draw_error_of}
 use Rattle.papergrid_draw.specs.Faults.{AllHaveRoom, IsDrawFault}
 use Rattle.papergrid_draw.specs.declared.error.DrawError.{DrawError}
@@ -24,7 +24,7 @@ use Rattle.papergrid.specs.Layouts.{IsConfiguredBy}
 use Rattle.papergrid.specs.Pictures.{IsRefusal}
 use Rattle.papergrid.specs.ForProofs.Drawn.{HasEnded, IsSteady}
 use Rattle.papergrid_json.proofs.SizeLemmas.{no-sizes-seen, room-with, sizes-seen}
-use Rattle.papergrid_json.specs.Pictures.{AreNoSizesOf, AreSizesOf, IsDocumentDrawing, IsDocumentFault, IsDrawingWith, IsFaultWith, Undrawn, Unsized, document_drawing, texts_of}
+use Rattle.papergrid_json.specs.Pictures.{AreNoSizesOf, AreSizesOf, IsDocumentDrawing, IsDocumentFault, IsDrawingWith, IsFaultWith, Undrawn, Unsized, texts_of}
 use Rattle.papergrid_json.specs.ForProofs.Drawn.{Draws, IsDocumentTable, IsUndrawn}
 use Rattle.papergrid_json.specs.declared.document.Document.{Document}
 use Rattle.papergrid_json.specs.declared.document.OwnSizes.{OwnSizes}
@@ -60,9 +60,11 @@ module _ (document : Document) (sizing : Sizing) (config : SpannedConfig) where
       × IsTableOf config (λ x. text_measure (string_bytes (view x))) columns cells sizing result) → UnlessMemory result (IsDocumentTable document sizing config result)
   table-found view rows columns (Ok table) none same counted so =
       let texts = told_by view string_bytes (λ row. row.items) so.0 rows so.1 ∙ ap (map (λ row. map string_bytes row.items)) same in
-      let sized = sizes-seen (λ x. string_bytes (view x)) config columns so.0 (texts_of document) texts sizing table.widths table.heights so.2.1 in
-      (so.2.0, subst (λ s. AreSizesOf document sizing config s table.widths table.heights) (sym none)
-      (subst (λ n. AreSizesBySizing config text_measure n (texts_of document) sizing table.widths table.heights) counted sized))
+      let sized = sizes-seen (λ x. string_bytes (view x)) config columns so.0 (texts_of document) texts sizing table.widths table.heights so.2.1 in (
+        so.2.0,
+        subst (λ s. AreSizesOf document sizing config s table.widths table.heights) (sym none)
+            (subst (λ n. AreSizesBySizing config text_measure n (texts_of document) sizing table.widths table.heights) counted sized),
+      )
   table-found view rows columns (Err (layout_errors.OutOfTable p)) none same counted so =
       let texts = told_by view string_bytes (λ row. row.items) so.0 rows so.1 ∙ ap (map (λ row. map string_bytes row.items)) same in
       let unsized = no-sizes-seen (λ x. string_bytes (view x)) config columns so.0 (texts_of document) texts sizing (layout_errors.OutOfTable p) so.2 in

@@ -1,5 +1,5 @@
 -- The sizes of cells that are seen through a view, and the room that they leave.
-use Rattle.std.proofs.Common.{◌≡◌, ◌∙◌, ℕ, List, [], Option, None, Some, map, ap, inl, inr, refl, subst, sym}
+use Rattle.std.proofs.Common.{◌≡◌, ◌∙◌, ℕ, List, [], Option, Some, map, ap, inl, inr, refl, subst, sym}
 use Rattle.std.specs.Prelude.{length, option_and_then, slice_get, slice_index, slice_index_or}
 use Rattle.std.proofs.lemmas.Option.{get_or_from_slice_get, slice_get-get_or, slice_get_cases}
 use Rattle.papergrid_values.specs.declared.position.Position.{Position}
@@ -20,7 +20,6 @@ use Rattle.papergrid_layout.specs.declared.sizing.Sizing.TheVariants.{ByShares, 
 use Rattle.papergrid_layout.proofs.Told.{first_told, problem_told}
 use Rattle.papergrid_layout.specs.Tables.{AreNoSizesBySizing, AreSizesBySizing}
 use Rattle.papergrid_draw.specs.Contents.{lines_of}
-use Rattle.papergrid_draw.specs.Drawings.{Drawing}
 use Rattle.papergrid_draw.specs.Faults.{AllHaveRoom}
 use Rattle.papergrid_draw.specs.Laws.{AreLinesAt}
 use Rattle.papergrid_draw.proofs.EstimateLemmas.{texts-leave-room}

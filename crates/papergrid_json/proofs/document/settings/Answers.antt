@@ -1,4 +1,4 @@
-use Rattle.std.proofs.Common.{All, subst, sym, true, ◌≡◌, ◌++◌, ◌∷◌, []}
+use Rattle.std.proofs.Common.{subst, sym, true, ◌≡◌, []}
 use Rattle.std.proofs.lemmas.List.Elements.{All-append, All-cons, All-nil}
 use Rattle.papergrid_config.specs.Applied.{is_in_range}
 use Rattle.papergrid_config.specs.declared.setting.Setting.{Setting}
