@@ -1,9 +1,16 @@
+pub mod AlignedLemmas
+pub mod ApartLemmas
 pub mod CsvLemmas
+pub mod CutLemmas
 pub mod DrawLemmas
+pub mod EscapeLemmas
+pub mod JudgingLemmas
+pub mod QuoteLemmas
 pub mod ReadLemmas
 pub mod RefusalLemmas
 pub mod RequestLemmas
 pub mod RowLemmas
+pub mod ShownLemmas
 pub mod SpellingLemmas
 pub mod TableLemmas
 pub mod WideLemmas

@@ -1,6 +1,6 @@
 -- How the characters of a field are spelled.
-use Rattle.std.proofs.Common.{◌≡◌, ◌≢◌, ◌∙◌, ◌<◌, ◌≤◌, ◌-◌, ◌/◌, ◌%◌, ℕ, zero, suc, List, [], ◌∷◌, ◌++◌, Bool, true, false, cond, Option, Some, Result, Ok, Err, append-nil, ap, arith, refl, subst, sym}
-use Rattle.std.specs.Prelude.{OnOk, IfOk, ◌==◌, nat_lt, codes, encode_utf8_all, flat_map}
+use Rattle.std.proofs.Common.{◌≡◌, ◌≢◌, ◌∙◌, ◌<◌, ◌≤◌, ◌-◌, ◌/◌, ◌%◌, ℕ, zero, suc, List, [], ◌∷◌, ◌++◌, Bool, true, false, cond, Option, None, Some, Result, Ok, Err, append-nil, ap, arith, refl, replicate, subst, sym}
+use Rattle.std.specs.Prelude.{OnOk, IfOk, ◌==◌, nat_lt, chars, codes, encode_utf8_all, flat_map}
 use Rattle.std.specs.Fmt.{AppendsText, digit_glyph, digits}
 use Rattle.std.specs.Int.{is_in_range}
 use Rattle.std.specs.Borrow.{Bor}
@@ -13,7 +13,10 @@ use Rattle.std.specs.Str.Parse.{AllDigits}
 use Rattle.std.proofs.lemmas.Bool.Decides.{nat_tests}
 use Rattle.std.proofs.lemmas.Fmt.{digits_is_IsNumeral}
 use Rattle.std.proofs.lemmas.Str.{chars-IsAscii, encode_ascii, encodes-append}
-use Rattle.papergrid_csv.specs.Spelling.{is_ascii_control, is_other_control, spelled, spelled_character, spelled_other, two_digits}
+use Rattle.papergrid_csv.specs.Spelling.{is_ascii_control, is_other_control, meant, spelled, spelled_character, spelled_in_line, spelled_other, spelled_tab, two_digits, unescaped}
+use Rattle.papergrid_csv.specs.declared.reading.Format.{Format}
+use Rattle.papergrid_csv.specs.declared.reading.Format.TheVariants.{Csv, Tsv}
+use Rattle.papergrid_csv.specs.declared.reading.Reading.{Reading}
 
 -- what was appended, where it is known
 pub appended : {E : Type 0} (r : Result (Unit {0}) E) (old new text wanted : List ℕ) (o : Option (List ℕ)) → OnOk r (AppendsText old new o) → o ≡ Some text → text ≡ wanted →
@@ -87,52 +90,79 @@ pushed (Err e) old new text wanted is same = tt
 pub same-on_ok : {E : Type 0} (r : Result (Unit {0}) E) (old new text wanted : List ℕ) → OnOk r (new ≡ old ++ text) → text ≡ wanted → OnOk r (new ≡ old ++ wanted)
 same-on_ok r old new text wanted wrote same = subst (λ (t : List ℕ). OnOk r (new ≡ old ++ t)) same wrote
 
-pub feed-kept : (one_line : Bool) (c : ℕ) → c ≡ 10 → one_line ≡ false → encode c ≡ encode_utf8_all (spelled_character one_line c)
+pub feed-kept : (reading : Reading) (c : ℕ) → c ≡ 10 → reading.one_line ≡ false → encode c ≡ encode_utf8_all (spelled_character reading c)
 unfolding spelled_character
-feed-kept one_line c is many = rw (is, many) (sym (append-nil (encode 10)))
+feed-kept reading c is many = rw (is, many) (sym (append-nil (encode 10)))
 
-pub feed-spelled : (one_line : Bool) (c : ℕ) → c ≡ 10 → one_line ≡ true → codes "\\n" ≡ encode_utf8_all (spelled_character one_line c)
+pub feed-spelled : (reading : Reading) (c : ℕ) → c ≡ 10 → reading.one_line ≡ true → codes "\\n" ≡ encode_utf8_all (spelled_character reading c)
 unfolding spelled_character
-feed-spelled one_line c is one = rw (is, one) (sym (encodes-ascii (codes "\\n") (omega arith, (omega arith, tt))))
+feed-spelled reading c is one = rw (is, one) (sym (encodes-ascii (codes "\\n") (omega arith, (omega arith, tt))))
 
-pub tab-spelled : (one_line : Bool) (c : ℕ) → c ≡ 9 → codes "\\t" ≡ encode_utf8_all (spelled_character one_line c)
+pub tab-spelled : (reading : Reading) (c : ℕ) → c ≡ 9 → encode_utf8_all (spelled_tab reading.tab reading.raw) ≡ encode_utf8_all (spelled_character reading c)
 unfolding spelled_character
-tab-spelled one_line c is = rw is (sym (encodes-ascii (codes "\\t") (omega arith, (omega arith, tt))))
+tab-spelled reading c is = rw is refl
 
-pub return-spelled : (one_line : Bool) (c : ℕ) → c ≡ 13 → codes "\\r" ≡ encode_utf8_all (spelled_character one_line c)
+pub others-spelled : (reading : Reading) (c : ℕ) → c ≢ 10 → c ≢ 9 → encode_utf8_all (spelled_in_line reading.raw c) ≡ encode_utf8_all (spelled_character reading c)
 unfolding spelled_character
-return-spelled one_line c is = rw is (sym (encodes-ascii (codes "\\r") (omega arith, (omega arith, tt))))
-
-pub others-spelled : (one_line : Bool) (c : ℕ) → c ≢ 10 → c ≢ 9 → c ≢ 13 → encode_utf8_all (spelled_other c) ≡ encode_utf8_all (spelled_character one_line c)
-unfolding spelled_character
-others-spelled one_line c not_feed not_tab not_return =
+others-spelled reading c not_feed not_tab =
     let feed : (c == 10) ≡ false = grind (arith, nat_tests) in
     let tab : (c == 9) ≡ false = grind (arith, nat_tests) in
+    rw (feed, tab) refl
+
+-- ---- a character in a line
+
+pub raw-kept : (raw : Bool) (c : ℕ) → raw ≡ true → encode c ≡ encode_utf8_all (spelled_in_line raw c)
+raw-kept raw c is = rw is (sym (append-nil (encode c)))
+
+pub return-spelled : (raw : Bool) (c : ℕ) → raw ≡ false → c ≡ 13 → codes "\\r" ≡ encode_utf8_all (spelled_in_line raw c)
+return-spelled raw c not_raw is = rw (is, not_raw) (sym (encodes-ascii (codes "\\r") (omega arith, (omega arith, tt))))
+
+pub other-in-line : (raw : Bool) (c : ℕ) → raw ≡ false → c ≢ 13 → encode_utf8_all (spelled_other c) ≡ encode_utf8_all (spelled_in_line raw c)
+other-in-line raw c not_raw not_return =
     let back : (c == 13) ≡ false = grind (arith, nat_tests) in
-    rw (feed, tab, back) refl
+    rw (not_raw, back) refl
+
+-- ---- a tab
+
+pub blanks-ascii : (n : ℕ) → AllAscii (replicate n 32)
+blanks-ascii zero = tt
+blanks-ascii (suc n) = (omega arith, blanks-ascii n)
+
+pub blanks-spelled : (tab : Option ℕ) (n : ℕ) (raw : Bool) → tab ≡ Some n → replicate n 32 ≡ encode_utf8_all (spelled_tab tab raw)
+blanks-spelled tab n raw is = rw is (sym (encodes-ascii (replicate n 32) (blanks-ascii n)))
+
+pub tab-kept : (tab : Option ℕ) (raw : Bool) → tab ≡ None → raw ≡ true → encode 9 ≡ encode_utf8_all (spelled_tab tab raw)
+tab-kept tab raw none is = rw (none, is) (sym (append-nil (encode 9)))
+
+pub tab-named : (tab : Option ℕ) (raw : Bool) → tab ≡ None → raw ≡ false → codes "\\t" ≡ encode_utf8_all (spelled_tab tab raw)
+tab-named tab raw none is = rw (none, is) (sym (encodes-ascii (codes "\\t") (omega arith, (omega arith, tt))))
 
 -- ---- a whole field
 
-printable-spelled : (one_line : Bool) (c : ℕ) → is_in_range 0x20 0x7E c ≡ true → (spelled_character one_line c ≡ c ∷ []) × (c < 128)
+same-either : (b : Bool) (x : List ℕ) → cond b x x ≡ x
+same-either true x = refl
+same-either false x = refl
+
+printable-spelled : (reading : Reading) (c : ℕ) → is_in_range 0x20 0x7E c ≡ true → (spelled_character reading c ≡ c ∷ []) × (c < 128)
 unfolding spelled_character spelled_other
-printable-spelled one_line c is =
+printable-spelled reading c is =
     let small : (32 ≤ c) × (c ≤ 126) = grind (arith, nat_tests) in
     let feed : (c == 10) ≡ false = grind (arith, nat_tests) in
     let tab : (c == 9) ≡ false = grind (arith, nat_tests) in
     let back : (c == 13) ≡ false = grind (arith, nat_tests) in
     let ascii : is_ascii_control c ≡ false = grind (arith, nat_tests) in
     let other : is_other_control c ≡ false = grind (arith, nat_tests) in
-    (rw (feed, tab, back, ascii, other) refl, omega arith)
+    (rw (feed, tab, back, ascii, other) (same-either reading.raw (c ∷ [])), omega arith)
 
 list-true : (p : ℕ → Bool) (b : ℕ) (bs : List ℕ) → list_all p (b ∷ bs) ≡ true → (p b ≡ true) × (list_all p bs ≡ true)
 list-true p b bs all = grind (arith, nat_tests)
 
-printable-all : (one_line : Bool) (bs : List ℕ) → list_all (is_in_range 0x20 0x7E) bs ≡ true → (flat_map (spelled_character one_line) bs ≡ bs) × AllAscii bs
-printable-all one_line [] all = (refl, tt)
-printable-all one_line (b ∷ bs) all =
+printable-all : (reading : Reading) (bs : List ℕ) → list_all (is_in_range 0x20 0x7E) bs ≡ true → (flat_map (spelled_character reading) bs ≡ bs) × AllAscii bs
+printable-all reading [] all = (refl, tt)
+printable-all reading (b ∷ bs) all =
     let both = list-true (is_in_range 0x20 0x7E) b bs all in
-    let one = printable-spelled one_line b both.0 in
-    let more = printable-all one_line bs both.1 in
+    let one = printable-spelled reading b both.0 in
+    let more = printable-all reading bs both.1 in
     (rw (one.0, more.0) refl, (one.1, more.1))
 
 pub is-ascii : (bs : List ℕ) → AllAscii bs → IsAscii bs
@@ -140,22 +170,32 @@ is-ascii [] all i = omega arith
 is-ascii (b ∷ bs) all zero = all.0
 is-ascii (b ∷ bs) all (suc i) = is-ascii bs all.1 i
 
--- printable ASCII stays
-pub spelled-printable : (one_line : Bool) (bs : List ℕ) → list_all (is_in_range 0x20 0x7E) bs ≡ true → bs ≡ spelled one_line bs
+-- printable ASCII that stands for itself stays
+pub spelled-printable : (reading : Reading) (bs : List ℕ) → list_all (is_in_range 0x20 0x7E) bs ≡ true → meant reading.format bs ≡ bs → bs ≡ spelled reading bs
 unfolding spelled
-spelled-printable one_line bs all =
-    let both = printable-all one_line bs all in
+spelled-printable reading bs all itself =
+    let both = printable-all reading bs all in
     let characters = chars-IsAscii bs (is-ascii bs both.1) in
-    rw (characters, both.0) (sym (encodes-ascii bs both.1))
+    rw (characters, itself, both.0) (sym (encodes-ascii bs both.1))
 
 -- one character more
-pub spelled-more : (one_line : Bool) (old new : List ℕ) (yielded : List ℕ) (c : ℕ) → old ≡ encode_utf8_all (flat_map (spelled_character one_line) yielded) →
-    new ≡ old ++ encode_utf8_all (spelled_character one_line c) → new ≡ encode_utf8_all (flat_map (spelled_character one_line) (yielded ++ c ∷ []))
-spelled-more one_line old new yielded c before is =
-    is ∙ ap (λ t. t ++ encode_utf8_all (spelled_character one_line c)) before ∙ sym (encodes-append (flat_map (spelled_character one_line) yielded) (spelled_character one_line c))
-    ∙ ap encode_utf8_all (flat_map_more (spelled_character one_line) [] yielded c)
+pub spelled-more : (reading : Reading) (old new : List ℕ) (yielded : List ℕ) (c : ℕ) → old ≡ encode_utf8_all (flat_map (spelled_character reading) yielded) →
+    new ≡ old ++ encode_utf8_all (spelled_character reading c) → new ≡ encode_utf8_all (flat_map (spelled_character reading) (yielded ++ c ∷ []))
+spelled-more reading old new yielded c before is =
+    is ∙ ap (λ t. t ++ encode_utf8_all (spelled_character reading c)) before ∙ sym (encodes-append (flat_map (spelled_character reading) yielded) (spelled_character reading c))
+    ∙ ap encode_utf8_all (flat_map_more (spelled_character reading) [] yielded c)
 
 -- a text that was kept, where it is the one that is wanted
 pub kept-same : {E : Type 0} (r : Result (Bor (List ℕ)) E) (text wanted : List ℕ) → IfOk r (λ s. s.now ≡ text) → text ≡ wanted → IfOk r (λ s. s.now ≡ wanted)
 kept-same (Ok s) text wanted kept same = kept ∙ same
 kept-same (Err e) text wanted kept same = tt
+
+-- ---- by the format
+
+pub spelled-csv : (reading : Reading) (delimiter : ℕ) (field : List ℕ) → reading.format ≡ Csv delimiter → encode_utf8_all (flat_map (spelled_character reading) (chars field)) ≡ spelled reading field
+unfolding spelled
+spelled-csv reading delimiter field is = ap (λ (format : Format). encode_utf8_all (flat_map (spelled_character reading) (meant format (chars field)))) (sym is)
+
+pub spelled-tsv : (reading : Reading) (field : List ℕ) → reading.format ≡ Tsv → encode_utf8_all (flat_map (spelled_character reading) (unescaped (chars field))) ≡ spelled reading field
+unfolding spelled
+spelled-tsv reading field is = ap (λ (format : Format). encode_utf8_all (flat_map (spelled_character reading) (meant format (chars field)))) (sym is)

@@ -1,4 +1,7 @@
 -- What no contract of a public call reaches, and no law: only contracts of functions below them and proofs speak of it.
+pub mod Cuts
 pub mod Drawn
+pub mod Escapes
+pub mod Judging
 pub mod Places
 pub mod Read

@@ -5,5 +5,6 @@ pub mod Numbers
 pub mod Pictures
 pub mod Requests
 pub mod Rows
+pub mod Shown
 pub mod Spelling
 pub mod ForProofs

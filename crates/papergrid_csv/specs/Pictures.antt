@@ -1,6 +1,5 @@
 -- The picture of a CSV text.
 use Rattle.std.specs.Prelude.{◌≡◌, ◌<◌, ◌≤◌, ◌++◌, ⊤, ℕ, false, List, [], length, IsSome, Option, None, Some}
-use Rattle.std.specs.List.{AllZip}
 use Rattle.papergrid_values.specs.declared.direction.Direction.TheVariants.{Columns}
 use Rattle.papergrid_values.specs.declared.position.Position.{Position}
 use Rattle.papergrid_config.specs.declared.setting.Setting.{Setting}
@@ -14,19 +13,14 @@ use Rattle.papergrid_grid.specs.Lined.{lined}
 use Rattle.papergrid_grid.specs.declared.crossings.Junctions.{Junctions}
 use Rattle.papergrid.specs.Layouts.{IsConfiguredBy}
 use Rattle.papergrid.specs.Pictures.{IsDrawingWith, IsFaultWith, IsRefusal}
-use Rattle.papergrid_csv.specs.Cutting.{IsCut}
 use Rattle.papergrid_csv.specs.Judging.{IsHidden, first_missing}
 use Rattle.papergrid_csv.specs.Requests.{first_row, settings_of}
 use Rattle.papergrid_csv.specs.Rows.{AreRowsOf, IsUnread}
+use Rattle.papergrid_csv.specs.Shown.{AreCut}
 use Rattle.papergrid_csv.specs.declared.reading.RowsError.TheVariants as rows_errors
 use Rattle.papergrid_csv.specs.declared.request.Request.{Request}
 use Rattle.papergrid_csv.specs.declared.run.CsvEnd.{CsvEnd}
 use Rattle.papergrid_csv.specs.declared.run.CsvEnd.TheVariants.{Drawn, Hides, NoColumn, NotText, Ragged, Refused, TooWide, Unclosed}
-
--- the fields of rows as they are drawn: each one cut to so many columns, or as it is
-abbrev pub AreCut : Option ℕ → List (List (List ℕ)) → List (List (List ℕ)) → Type 0
-AreCut None rows shown = shown ≡ rows
-AreCut (Some columns) rows shown = AllZip (AllZip (IsCut columns)) rows shown
 
 -- the rows of an input, and as they are drawn: each name of the request is of a column, and no field is hidden, unless
 -- fields may be
@@ -52,8 +46,20 @@ IsUnfitted None settings shape e = ⊥
 IsUnfitted (Some junctions) settings shape e =
     (plain : SpannedConfig) × IsConfiguredBy settings plain × IsFitFault plain shape e
 
+module _ (request : Request) (settings : List Setting) (shape : ℕ × ℕ) where
+  -- a configuration that was told these settings, and those by which its crossings fit the spans
+  pub record IsConfigured (config : SpannedConfig) : Type 0 where
+    pub fitted : List Setting
+    pub fit : AreFitted request.junctions settings shape fitted
+    pub told : IsConfiguredBy (settings ++ fitted) config
+
+  -- why rows have no picture: their crossings can't be fitted, or they have no sizes, or can't be drawn with them
+  pub data IsUnpictured (columns : ℕ) (shown : List (List (List ℕ))) (e : DrawError) : Type 0 where
+    Unfitted : IsUnfitted request.junctions settings shape e → IsUnpictured columns shown e
+    Faulty : (config : SpannedConfig) → IsConfigured config → IsFaultWith columns shown request.sizing config e → IsUnpictured columns shown e
+
 module _ {request : Request} {input : List ℕ} (table : IsCsvTable request input) where
-  -- its settings
+  -- the settings of a table
   abbrev pub table_settings : List Setting
   table_settings = settings_of request table.columns table.rows
 
@@ -61,22 +67,11 @@ module _ {request : Request} {input : List ℕ} (table : IsCsvTable request inpu
   abbrev pub table_shape : ℕ × ℕ
   table_shape = (length table.rows, table.columns)
 
-  -- a configuration that was told them, and the settings by which its crossings fit the spans
-  pub record IsConfigured (config : SpannedConfig) : Type 0 where
-    pub fitted : List Setting
-    pub fit : AreFitted request.junctions table_settings table_shape fitted
-    pub told : IsConfiguredBy (table_settings ++ fitted) config
-
-  -- why it has no picture: its crossings can't be fitted, or it has no drawing, or can't be drawn
-  pub data IsTableFault (e : DrawError) : Type 0 where
-    Unfitted : IsUnfitted request.junctions table_settings table_shape e → IsTableFault e
-    Unpictured : (config : SpannedConfig) → IsConfigured config → IsFaultWith table.columns table.shown request.sizing config e → IsTableFault e
-
 -- the drawing of the rows of an input, by the settings of a request; its spans tile it
 pub record IsCsvDrawing (request : Request) (input : List ℕ) (d : Drawing) : Type 0 where
   pub table : IsCsvTable request input
   pub config : SpannedConfig
-  pub configured : IsConfigured table config
+  pub configured : IsConfigured request (table_settings table) (table_shape table) config
   pub drawn : IsDrawingWith table.columns table.shown request.sizing config d
   pub tiled : IsTiled (layout_of d)
 
@@ -84,7 +79,7 @@ pub record IsCsvDrawing (request : Request) (input : List ℕ) (d : Drawing) : T
 pub record IsCsvRefused (request : Request) (input : List ℕ) (e : DrawError) : Type 0 where
   pub table : IsCsvTable request input
   pub refuses : IsRefusal e
-  pub fault : IsTableFault table e
+  pub fault : IsUnpictured request (table_settings table) (table_shape table) table.columns table.shown e
 
 -- a width is at most the greatest that there may be
 abbrev pub IsNarrow : Option ℕ → ℕ → Type 0

@@ -1,8 +1,7 @@
 -- The settings of a table of a CSV text.
-use Rattle.std.specs.Prelude.{ℕ, ◌++◌, nat_lt, if◌then◌else◌, Bool, true, false, List, [], ◌∷◌, Option, None, Some, drop, flat_map, get_or, length, map}
+use Rattle.std.specs.Prelude.{ℕ, ◌++◌, nat_lt, if◌then◌else◌, Bool, true, false, List, [], ◌∷◌, Option, None, Some, drop, flat_map, get_or, length, map, string_bytes}
 use Rattle.std.specs.List.{filter, list_any, range_with_len}
 use Rattle.std.specs.Str.{bytes_eq}
-use Rattle.std_alloc.specs.String.{string_bytes}
 use Rattle.papergrid_values.specs.declared.alignment.AlignmentHorizontal.{AlignmentHorizontal}
 use Rattle.papergrid_values.specs.declared.alignment.AlignmentHorizontal.TheVariants.{Left, Right}
 use Rattle.papergrid_values.specs.declared.entity.Entity.TheVariants.{Column, Global}
@@ -52,15 +51,15 @@ columns_of head columns (Head text) =
 abbrev pub span_settings : Span → List Setting
 span_settings span = SetColumnSpan span.position span.columns ∷ SetRowSpan span.position span.rows ∷ []
 
-module _ (request : Request) (columns : ℕ) (rows : List (List (List ℕ))) where
-  -- the rows that have no head
-  abbrev pub rows_below : List (List (List ℕ))
-  rows_below = if request.has_head then drop 1 rows else rows
+-- the rows of a table that have no head
+abbrev pub rows_below : Bool → List (List (List ℕ)) → List (List (List ℕ))
+rows_below has_head rows = if has_head then drop 1 rows else rows
 
+module _ (request : Request) (columns : ℕ) (rows : List (List (List ℕ))) where
   -- the settings of the columns that an entry names
   abbrev pub entry_settings : ColumnName × Alignment → List Setting
   entry_settings entry =
-      map (λ column. SetAlignmentHorizontal (Column column) (column_alignment rows_below column entry.1))
+      map (λ column. SetAlignmentHorizontal (Column column) (column_alignment (rows_below request.has_head rows) column entry.1))
       (columns_of (first_row rows) columns entry.0)
 
   -- the settings of a table of these rows: the frame, the line below the head, the padding and the alignments of all cells,
@@ -69,5 +68,5 @@ module _ (request : Request) (columns : ℕ) (rows : List (List (List ℕ))) whe
   settings_of =
       SetBorders request.frame ∷ (head_line request.head (length rows)
       ++ (SetPadding Global request.padding ∷ SetAlignmentHorizontal Global (common_alignment request.alignment)
-      ∷ (number_settings rows_below columns request.alignment ++ (SetAlignmentVertical Global request.vertical
+      ∷ (number_settings (rows_below request.has_head rows) columns request.alignment ++ (SetAlignmentVertical Global request.vertical
       ∷ (flat_map entry_settings request.columns.items ++ flat_map span_settings request.spans.items)))))

@@ -54,13 +54,15 @@ abbrev pub spelled_tab : Option ℕ → Bool → List ℕ
 spelled_tab (Some blanks) raw = replicate blanks 0x20
 spelled_tab None raw = if raw then 0x09 ∷ [] else codes "\\t"
 
+-- what stands for a character that is neither a line feed nor a tab: itself where characters stay as they are
+abbrev pub spelled_in_line : Bool → ℕ → List ℕ
+spelled_in_line raw c = if raw then c ∷ [] else (if c == 0x0D then codes "\\r" else spelled_other c)
+
 -- what stands for a character: a line feed begins a new line in its cell, unless a field is to have one line
 unfoldable pub spelled_character : Reading → ℕ → List ℕ
 spelled_character reading c =
     if c == 0x0A then (if reading.one_line then codes "\\n" else 0x0A ∷ []) else
-    (if c == 0x09 then spelled_tab reading.tab reading.raw else
-    (if reading.raw then c ∷ [] else
-    (if c == 0x0D then codes "\\r" else spelled_other c)))
+    (if c == 0x09 then spelled_tab reading.tab reading.raw else spelled_in_line reading.raw c)
 
 -- a field as it is shown: the characters for which it stands, each spelled
 unfoldable pub spelled : Reading → List ℕ → List ℕ

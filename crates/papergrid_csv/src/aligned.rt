@@ -18,7 +18,7 @@ use std::alloc::AllocError;
 
 /// The rows that have no head.
 pub fn rows_below<'a, 't>(has_head: bool, rows: &'a [Vec<&'t str>]) -> &'a [Vec<&'t str>]
-    ensures { result.now ≡ if has_head then drop 1 rows.now else rows.now }
+    ensures { map row_texts result.now ≡ rows_below has_head (map row_texts rows.now) }
 {
     if has_head && !rows.is_empty() {
         &rows[1..]
@@ -88,32 +88,30 @@ pub fn push_entries(
     below: &[Vec<&str>],
     settings: &mut Vec<Setting>,
 ) -> Result<(), AllocError>
-    requires { map row_texts below.now ≡ rows_below request.now (texts_of rows.now.rows) }
+    requires { map row_texts below.now ≡ rows_below request.now.has_head (texts_of rows.now.rows) }
     ensures { OnOk result (settings.new.items ≡ settings.old.items
         ++ flat_map (entry_settings request.now rows.now.columns (texts_of rows.now.rows))
         request.now.columns.items) }
 {
-    let head = first_row(&rows.rows);
     for (name, alignment) in &request.columns {
-        push_entry(head, rows.columns, below, name, *alignment, settings)?;
+        push_entry(rows, below, name, *alignment, settings)?;
     }
     Ok(())
 }
 
-/// The first row, an empty one where there is none.
-pub fn first_row<'a, 't>(rows: &'a [Vec<&'t str>]) -> &'a [&'t str]
-    ensures { map (λ text. text.now) result.now ≡ first_row (map row_texts rows.now) }
+/// The field of the first row in a column, an empty one where there is none.
+fn head_field<'t>(rows: &[Vec<&'t str>], column: usize) -> &'t str
+    ensures { result.now ≡ field_in column (first_row (map row_texts rows.now)) }
 {
     match rows.get(0) {
-        Some(row) => row.as_slice(),
-        None => &[],
+        Some(row) => field_in(column, row),
+        None => "",
     }
 }
 
 /// Adds the alignment of the columns of a name.
 fn push_entry(
-    head: &[&str],
-    columns: usize,
+    rows: &Rows<'_>,
     below: &[Vec<&str>],
     name: &ColumnName,
     alignment: Alignment,
@@ -122,23 +120,20 @@ fn push_entry(
     ensures { OnOk result (settings.new.items ≡ settings.old.items
         ++ map (λ column. SetAlignmentHorizontal (Column column)
         (column_alignment (map row_texts below.now) column alignment))
-        (columns_of (map (λ text. text.now) head.now) columns name.now)) }
+        (columns_of (first_row (texts_of rows.now.rows)) rows.now.columns name.now)) }
 {
     match name {
         ColumnName::Number(column) => {
             let alignment = column_alignment(below, *column, alignment);
             push_aligned(*column, alignment, settings)
         }
-        ColumnName::Head(text) => {
-            push_named(head, columns, below, text.as_str(), alignment, settings)
-        }
+        ColumnName::Head(text) => { push_named(rows, below, text.as_str(), alignment, settings) }
     }
 }
 
 /// Adds the alignment of the columns whose first row has a text.
 fn push_named(
-    head: &[&str],
-    columns: usize,
+    rows: &Rows<'_>,
     below: &[Vec<&str>],
     text: &str,
     alignment: Alignment,
@@ -147,11 +142,11 @@ fn push_named(
     ensures { OnOk result (settings.new.items ≡ settings.old.items
         ++ map (λ column. SetAlignmentHorizontal (Column column)
         (column_alignment (map row_texts below.now) column alignment))
-        (filter (λ column. bytes_eq (field_in column (map (λ text. text.now) head.now)) text.now)
-        (range_with_len 0 columns))) }
+        (filter (λ column. bytes_eq (field_in column (first_row (texts_of rows.now.rows))) text.now)
+        (range_with_len 0 rows.now.columns))) }
 {
-    for column in 0..columns {
-        if field_in(column, head) == text {
+    for column in 0..rows.columns {
+        if head_field(&rows.rows, column) == text {
             push_aligned(column, column_alignment(below, column, alignment), settings)?;
         }
     }

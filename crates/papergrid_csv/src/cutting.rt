@@ -1,7 +1,12 @@
 //! Texts whose lines are cut.
 
-ghost use Rattle.std.specs.Prelude.{◌≡◌, IfOk};
+ghost use Rattle.std.specs.Prelude.{◌≡◌, ◌<◌, ◌≤◌, All, IfOk, OnOk, false, string_bytes, true};
+ghost use Rattle.std.specs.Int.{is_in_range};
+ghost use Rattle.std.specs.List.{prefix_len};
+ghost use Rattle.papergrid_text.specs.Separators.{begins_keycap};
+ghost use Rattle.papergrid_text.specs.Text.{split_lines, width_of};
 ghost use Rattle.papergrid_csv.specs.Cutting.{IsCut};
+ghost use Rattle.papergrid_csv.specs.ForProofs.Cuts.{AddsLine, IsCutAt, is_apart};
 
 use bumpalo::Bump;
 use bumpalo::collections::into_bump_str;
@@ -11,6 +16,9 @@ use std::alloc::AllocError;
 
 /// A text of which each line that is wider than so many columns is cut: its first characters stay, and an ellipsis
 /// stands in place of the others. A text that has no such line is answered itself.
+///
+/// It takes time by the length of the text, and for each line that is cut by the number of columns, times how many
+/// characters stand between two letters, blanks or ideographs there.
 pub fn cut<'t>(texts: &'t Bump, columns: usize, text: &'t str) -> Result<&'t str, AllocError>
     ensures { IfOk result (λ shown. IsCut columns text.now shown.now) }
 {
@@ -24,7 +32,9 @@ pub fn cut<'t>(texts: &'t Bump, columns: usize, text: &'t str) -> Result<&'t str
 }
 
 /// Whether a line is wider than so many columns.
-fn has_wide_line(columns: usize, text: &str) -> bool {
+fn has_wide_line(columns: usize, text: &str) -> bool
+    ensures { result ≡ false → All (λ line. width_of line ≤ columns) (split_lines text.now) }
+{
     for line in get_lines(text) {
         if width(line) > columns {
             return true;
@@ -34,57 +44,104 @@ fn has_wide_line(columns: usize, text: &str) -> bool {
 }
 
 /// The text with each line that is wider cut.
-fn cut_lines<'t>(texts: &'t Bump, columns: usize, text: &str) -> Result<&'t str, AllocError> {
+fn cut_lines<'t>(texts: &'t Bump, columns: usize, text: &str) -> Result<&'t str, AllocError>
+    ensures { IfOk result (λ shown. IsCut columns text.now shown.now) }
+{
     let mut shown = String::with_capacity(texts, text.len().min(columns.saturating_add(3)))?;
     let mut begins = true;
     for line in get_lines(text) {
-        if !begins {
-            shown.push('\n')?;
-        }
+        push_line(&mut shown, begins, columns, line)?;
         begins = false;
-        push_cut(&mut shown, columns, line)?;
     }
     Ok(into_bump_str(shown))
 }
 
+/// Adds a line, cut where it is wider than so many columns, after a line feed where it is not the first.
+fn push_line(
+    shown: &mut String<&Bump>,
+    begins: bool,
+    columns: usize,
+    line: &str,
+) -> Result<(), AllocError>
+    ensures { OnOk result (AddsLine columns line.now begins
+        (string_bytes shown.old) (string_bytes shown.new)) }
+{
+    if !begins {
+        shown.push('\n')?;
+    }
+    push_cut(shown, columns, line)
+}
+
 /// Adds a line, cut where it is wider than so many columns.
-fn push_cut(shown: &mut String<&Bump>, columns: usize, line: &str) -> Result<(), AllocError> {
+fn push_cut(shown: &mut String<&Bump>, columns: usize, line: &str) -> Result<(), AllocError>
+    ensures { OnOk result (AddsLine columns line.now true
+        (string_bytes shown.old) (string_bytes shown.new)) }
+{
     if width(line) <= columns {
         return shown.push_str(line);
     }
-    shown.push_str(&line[..cut_place(columns, line)])?;
+    let place = cut_place(columns, line);
+    shown.push_str(&line[..place])?;
     shown.push('…')
 }
 
 /// How many bytes of a wide line stay.
-fn cut_place(columns: usize, line: &str) -> usize {
+fn cut_place(columns: usize, line: &str) -> usize
+    requires { columns < width_of line.now }
+    ensures { IsCutAt columns line.now result }
+{
     let printable = count_printable(line);
     if columns <= printable {
         return columns.saturating_sub(1);
     }
+    place_after(columns, line, printable)
+}
+
+/// The same of a line that begins with so many bytes of printable ASCII, which stay.
+fn place_after(columns: usize, line: &str, printable: usize) -> usize
+    requires wide { columns < width_of line.now }
+    requires printable { printable ≡ prefix_len (is_in_range 0x20 0x7E) line.now }
+    requires narrow { printable < columns }
+    ensures { IsCutAt columns line.now result }
+{
+    // What stands after the last character that stands apart, how many bytes of it stay, and the width of what stands
+    // before it.
+    let (mut segment, mut taken, mut before) = (line, printable, 0usize);
     let mut end = printable;
-    let mut from = 0;
-    let mut before = 0usize;
     for c in line[printable..].chars() {
-        let next = end + c.len_utf8();
-        let width = before.saturating_add(width(&line[from..next]));
+        let next = taken + c.len_utf8();
+        let width = before.saturating_add(width(&segment[..next]));
         if columns <= width {
             return end;
         }
-        end = next;
+        end += c.len_utf8();
+        taken = next;
         if stands_apart(c) {
-            from = next;
+            segment = &segment[next..];
+            taken = 0;
             before = width;
         }
     }
     end
 }
 
-/// Whether the widths of what stands before the character with it, and of what stands after it, add up.
-fn stands_apart(c: char) -> bool {
-    match c {
-        '#' | '*' | '0'..='9' => false,
-        ' '..='~' => true,
-        _ => false,
-    }
+/// Whether the character stands apart: the widths of a text up to it and of what stands after it add up.
+fn stands_apart(c: char) -> bool
+    ensures { result ≡ is_apart c }
+{
+    (is_within(' ', '~', c) && !begins_keycap(c)) || is_within('\u{2500}', '\u{257F}', c)
+}
+
+/// Whether a keycap may begin with the character.
+fn begins_keycap(c: char) -> bool
+    ensures { result ≡ begins_keycap c }
+{
+    c == '#' || c == '*' || is_within('0', '9', c)
+}
+
+/// Whether the character is one of those from `first` to `last`.
+fn is_within(first: char, last: char, c: char) -> bool
+    ensures { result ≡ is_in_range first last c }
+{
+    first <= c && c <= last
 }

@@ -1,13 +1,14 @@
 //! Texts that are numbers, and columns of them.
 
-ghost use Rattle.std.specs.Prelude.{◌≡◌, ◌==◌, ◌&&◌, [], drop, get_or, map};
+ghost use Rattle.std.specs.Prelude.{◌≡◌, ◌≤◌, false, true, drop, length, map};
 ghost use Rattle.std.specs.Char.{is_ascii_digit};
 ghost use Rattle.std.specs.List.{prefix_len};
-ghost use Rattle.papergrid_csv.specs.Numbers.{after_digits, after_exponent, after_fraction, after_groups, after_point, after_sign, after_whole, begins_with_digit, field_in, is_empty, is_number, is_numeric};
+ghost use Rattle.papergrid_csv.specs.Numbers.{after_digits, after_exponent, after_fraction, after_groups, after_point, after_sign, after_whole, begins_with_digit, field_in, is_number, is_numeric};
 ghost use Rattle.papergrid_csv.specs.Rows.{row_texts};
 
 /// Whether a text is a number: a sign or none; digits, or one to three digits and then groups of a comma and three digits; a
 /// point or none, with digits behind it or none; an exponent or none. One digit at least stands before or behind the point.
+#[tactic(auto, unfolding(crate::specs::Numbers::is_number))]
 pub fn is_number(text: &str) -> bool
     ensures { result ≡ is_number text.now }
 {
@@ -27,7 +28,8 @@ fn after_sign(text: &[u8]) -> &[u8]
 
 /// How many digits stand at the front.
 fn count_digits(text: &[u8]) -> usize
-    ensures { result ≡ prefix_len is_ascii_digit text.now }
+    ensures count { result ≡ prefix_len is_ascii_digit text.now }
+    ensures within { result ≤ length text.now }
 {
     let mut count = 0;
     for byte in text {
@@ -46,7 +48,11 @@ fn after_digits(text: &[u8]) -> &[u8]
 }
 
 /// Whether a comma and three digits stand at the front.
-fn begins_with_group(text: &[u8]) -> bool {
+fn begins_with_group(text: &[u8]) -> bool
+    ensures long { result ≡ true → 4 ≤ length text.now }
+    ensures group { result ≡ true → after_groups text.now ≡ after_groups (drop 4 text.now) }
+    ensures none { result ≡ false → after_groups text.now ≡ text.now }
+{
     match text {
         [b',', a, b, c, ..] => a.is_ascii_digit() && b.is_ascii_digit() && c.is_ascii_digit(),
         _ => false,

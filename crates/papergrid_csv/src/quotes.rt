@@ -36,9 +36,9 @@ pub fn is_unclosed(reading: Reading, input: &[u8]) -> bool
 fn without_bom(input: &[u8]) -> &[u8]
     ensures { result.now ≡ strip_bom input.now }
 {
-    match input {
-        [0xEF, 0xBB, 0xBF, rest @ ..] => rest,
-        _ => input,
+    match input.strip_prefix(b"\xef\xbb\xbf") {
+        Some(rest) => rest,
+        None => input,
     }
 }
 

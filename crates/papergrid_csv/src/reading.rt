@@ -1,10 +1,9 @@
 //! The rows of a CSV or TSV text.
 
-ghost use Rattle.std.specs.Prelude.{◌≡◌, ◌≢◌, ◌↔◌, ◌++◌, ◌∷◌, [], IfErr, IfOk, IsTrue, OnOk, length, map, true};
-ghost use Rattle.csv.specs.Reading.{builder_config, builder_is_flexible, builder_names_headers, builder_trim, error_kind};
+ghost use Rattle.std.specs.Prelude.{◌≡◌, ◌&&◌, ◌++◌, ◌∷◌, [], IfErr, IfOk, OnOk, map};
+ghost use Rattle.csv.specs.Reading.{error_kind};
 ghost use Rattle.csv.specs.Records.{fields_of};
-ghost use Rattle.csv.specs.declared.reader.Trim.TheVariants as trims;
-ghost use Rattle.papergrid_csv.specs.Rows.{AreRowsOf, IsUnclosed, IsUnread, config_of, filled_up, greatest_length, row_texts, texts_of};
+ghost use Rattle.papergrid_csv.specs.Rows.{AreRowsOf, IsUnclosed, IsUnread, config_by, filled_up, greatest_length, row_texts, texts_of};
 ghost use Rattle.papergrid_csv.specs.Spelling.{spelled};
 ghost use Rattle.papergrid_csv.specs.ForProofs.Read.{AreShown, has_other_length, unread_of};
 
@@ -109,13 +108,18 @@ fn shown_records<'t>(
     ensures shown { IfOk result (λ shown. AreShown reading input.now (texts_of shown)) }
     ensures unread { IfErr result (IsUnread reading input.now) }
 {
-    let mut reader = builder_of(reading).from_reader(alloc, input);
+    let mut reader = ReaderBuilder::new()
+        .has_headers(false)
+        .flexible(true)
+        .delimiter(delimiter_of(reading.format))
+        .quoting(has_quotes(reading.format))
+        .from_reader(alloc, input);
     let mut record = StringRecord::new(alloc);
     let mut shown = Vec::new(alloc);
     for _ in 0..u64::MAX {
         match reader.read_record(&mut record) {
             Ok(true) => {
-                if reading.strict && has_other_length(&shown, &record) {
+                if is_ragged(reading.strict, &shown, &record) {
                     return Err(RowsError::Ragged(shown.len(), record.len()));
                 }
                 show_record(alloc, texts, reading, &record, &mut shown)?;
@@ -127,27 +131,34 @@ fn shown_records<'t>(
     Err(RowsError::Memory)
 }
 
-/// What reads the records of a text.
-fn builder_of(reading: Reading) -> ReaderBuilder
-    ensures config { builder_config result ≡ config_of reading }
-    ensures headers { builder_names_headers result ≡ false }
-    ensures flexible { builder_is_flexible result ≡ true }
-    ensures trim { builder_trim result ≡ trims.None }
+/// The byte between fields.
+fn delimiter_of(format: Format) -> u8
+    ensures { result ≡ (config_by format).delimiter }
 {
-    let (delimiter, quoting) = match reading.format {
-        Format::Csv(delimiter) => (delimiter, true),
-        Format::Tsv => (b'\t', false),
-    };
-    let mut builder = ReaderBuilder::new();
-    builder.has_headers(false).flexible(true);
-    builder.delimiter(delimiter).quoting(quoting);
-    builder
+    match format {
+        Format::Csv(delimiter) => delimiter,
+        Format::Tsv => b'\t',
+    }
 }
 
-/// Whether a record has another number of fields than the first before it.
-fn has_other_length(shown: &[Vec<&str>], fields: &StringRecord) -> bool
-    ensures { result ≡ has_other_length (map row_texts shown.now) (fields_of fields.now) }
+/// Whether fields may be quoted.
+fn has_quotes(format: Format) -> bool
+    ensures { result ≡ (config_by format).quoting }
 {
+    match format {
+        Format::Csv(_) => true,
+        Format::Tsv => false,
+    }
+}
+
+/// Whether all records have to be equally long, and this one has another number of fields than the first before it.
+fn is_ragged(strict: bool, shown: &[Vec<&str>], fields: &StringRecord) -> bool
+    ensures { result ≡ (strict && has_other_length (map row_texts shown.now)
+        (fields_of fields.now)) }
+{
+    if !strict {
+        return false;
+    }
     match shown.first() {
         Some(first) => first.len() != fields.len(),
         None => false,

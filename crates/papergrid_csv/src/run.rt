@@ -1,14 +1,19 @@
 //! The run of a CSV text: read to the end, judge, draw.
 
-ghost use Rattle.std.specs.Prelude.{◌≡◌, ◌≢◌, ◌⊎◌, ◌↔◌, ℕ, All, IfOk, IfSome, IsErrOf, IsTrue, List, OnErr, OnOk, false, length, take, true};
+ghost use Rattle.std.specs.Prelude.{◌≡◌, ◌≢◌, ◌⊎◌, ℕ, All, IfErr, IfOk, IfSome, IsErrOf, List, MatchBool, MatchOption, OnErr, OnOk, false, map, take, true};
 ghost use Rattle.std.specs.Io.KnownBytes.{Appends, Consumes, IsAtEnd};
-ghost use Rattle.papergrid_draw.specs.Margins.{printed};
-ghost use Rattle.papergrid_grid.specs.Lined.{lined};
+ghost use Rattle.papergrid_text.specs.HeldRows.{column_count};
+ghost use Rattle.papergrid_config.specs.Applied.{is_in_range};
+ghost use Rattle.papergrid_config.specs.History.{AppendsSettings};
+ghost use Rattle.papergrid_config.specs.declared.setting.Setting.{Setting};
+ghost use Rattle.papergrid_draw.specs.Faults.{AllHaveRoom};
+ghost use Rattle.papergrid_draw.specs.declared.error.DrawError.TheVariants.{Write};
+ghost use Rattle.papergrid_grid.specs.Crossings.{FitCrossings, IsFitFault};
+ghost use Rattle.papergrid.specs.Pictures.{IsRefusal, texts_drawing, texts_held};
 ghost use Rattle.papergrid.specs.Runs.{IsWholeInput};
-ghost use Rattle.papergrid.specs.ForProofs.Drawn.{Draws};
-ghost use Rattle.papergrid_csv.specs.Pictures.{IsCsvRun};
-ghost use Rattle.papergrid_csv.specs.Rows.{texts_of};
-ghost use Rattle.papergrid_csv.specs.ForProofs.Drawn.{IsRequestDrawing, IsRequestFault, Runs, end_after};
+ghost use Rattle.papergrid_csv.specs.Pictures.{IsCsvRun, IsNarrow, IsWide};
+ghost use Rattle.papergrid_csv.specs.Rows.{row_texts, texts_of};
+ghost use Rattle.papergrid_csv.specs.ForProofs.Drawn.{AreFittingOf, IsConfigRun, IsFitFaultOf, IsFree, IsKeptBy, IsRowsRun, IsSettingsRun, IsTableRun, Runs, end_refused, end_unread};
 
 use crate::judging::{first_hidden, first_missing};
 use crate::reading::{Rows, RowsError, read_rows};
@@ -225,7 +230,7 @@ fn fit(
     junctions: Option<Junctions>,
 ) -> Result<(), DrawError>
     ensures ok { OnOk result ((fitted : List Setting)
-        × IsFittingOf junctions config.old shape fitted
+        × AreFittingOf junctions config.old shape fitted
         × AppendsSettings config.old config.new fitted) }
     ensures err { IfErr result (λ e. IsRefusal e → IsFitFaultOf junctions config.old shape e) }
     ensures works { IfErr result (λ e. e ≢ Write) }
@@ -281,7 +286,13 @@ fn draw_table<W: Sink>(
     table: &Table<'_>,
     rows: &[Vec<&str>],
     writer: &mut W,
-) -> Result<CsvEnd, RunFault> {
+) -> Result<CsvEnd, RunFault>
+    requires { AllHaveRoom (texts_drawing table.now.config (map row_texts rows.now)
+        table.now.widths table.now.heights) }
+    ensures { Runs W.contents W.has_failed W.has_stalled (IsTableRun request.now.max_width
+        (texts_drawing table.now.config (map row_texts rows.now)
+        table.now.widths table.now.heights)) writer.old writer.new result }
+{
     if let Err(error) = check_tiles(alloc, table.config(), table.shape()) {
         return end_refused(error);
     }

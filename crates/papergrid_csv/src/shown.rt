@@ -3,7 +3,7 @@
 ghost use Rattle.std.specs.Prelude.{IfOk};
 ghost use Rattle.std.specs.List.{AllZip};
 ghost use Rattle.papergrid_csv.specs.Cutting.{IsCut};
-ghost use Rattle.papergrid_csv.specs.Pictures.{AreCut};
+ghost use Rattle.papergrid_csv.specs.Shown.{AreCut};
 ghost use Rattle.papergrid_csv.specs.Rows.{row_texts, texts_of};
 
 use crate::cutting::cut;
@@ -37,22 +37,23 @@ fn cut_rows<'t>(
 {
     let mut shown = Vec::with_capacity(alloc, rows.len())?;
     for row in rows {
-        shown.push(cut_row(texts, columns, row)?)?;
+        shown.push(cut_row(alloc, texts, columns, row)?)?;
     }
     Ok(shown)
 }
 
 /// A row with each field cut.
 fn cut_row<'t>(
+    alloc: Global,
     texts: &'t Bump,
     columns: usize,
     row: Vec<&'t str>,
 ) -> Result<Vec<&'t str>, AllocError>
     ensures { IfOk result (λ shown. AllZip (IsCut columns) (row_texts row.entry) (row_texts shown)) }
 {
-    let mut shown = row;
-    for at in 0..shown.len() {
-        shown[at] = cut(texts, columns, shown[at])?;
+    let mut shown = Vec::with_capacity(alloc, row.len())?;
+    for field in row {
+        shown.push(cut(texts, columns, field)?)?;
     }
     Ok(shown)
 }

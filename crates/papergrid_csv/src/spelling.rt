@@ -1,7 +1,8 @@
 //! What the fields of a text stand for, and how their characters are spelled.
 
-ghost use Rattle.std.specs.Prelude.{◌≡◌, ◌++◌, IfOk, OnOk, encode_utf8_all, flat_map, replicate, string_bytes};
-ghost use Rattle.papergrid_csv.specs.Spelling.{is_ascii_control, is_other_control, spelled, spelled_character, spelled_other, spelled_tab};
+ghost use Rattle.std.specs.Prelude.{◌≡◌, ◌++◌, IfOk, OnOk, chars, encode_utf8_all, false, flat_map, replicate, string_bytes};
+ghost use Rattle.papergrid_csv.specs.Spelling.{is_ascii_control, is_other_control, meant, spelled, spelled_character, spelled_in_line, spelled_other, spelled_tab, unescaped};
+ghost use Rattle.papergrid_csv.specs.ForProofs.Escapes.{after_backslash};
 
 use crate::reading::{Format, Reading};
 use bumpalo::Bump;
@@ -24,19 +25,24 @@ pub fn spell<'t>(texts: &'t Bump, reading: Reading, field: &str) -> Result<&'t s
 }
 
 /// Whether a backslash of the field may begin an escape.
-fn may_escape(format: Format, field: &str) -> bool {
+fn may_escape(format: Format, field: &str) -> bool
+    ensures { result ≡ false → meant format field.now ≡ field.now }
+{
     match format {
         Format::Csv(_) => false,
         Format::Tsv => field.as_bytes().contains(&b'\\'),
     }
 }
 
-/// The field with each character spelled.
+/// The field with each character spelled, in the arena.
 fn spell_characters<'t>(
     texts: &'t Bump,
     reading: Reading,
     field: &str,
-) -> Result<&'t str, AllocError> {
+) -> Result<&'t str, AllocError>
+    ensures { IfOk result (λ text. text.now
+        ≡ encode_utf8_all (flat_map (spelled_character reading) (chars field.now))) }
+{
     let mut text = String::with_capacity(texts, field.len())?;
     for c in field.chars() {
         push_spelled(&mut text, reading, c)?;
@@ -44,40 +50,35 @@ fn spell_characters<'t>(
     Ok(into_bump_str(text))
 }
 
-/// The same of the characters that it stands for, where a backslash may begin an escape.
-fn spell_meant<'t>(texts: &'t Bump, reading: Reading, field: &str) -> Result<&'t str, AllocError> {
+/// The same of the characters that it stands for, where a backslash may begin an escape. One that is not added yet is
+/// held until the next character comes.
+fn spell_meant<'t>(texts: &'t Bump, reading: Reading, field: &str) -> Result<&'t str, AllocError>
+    ensures { IfOk result (λ text. text.now
+        ≡ encode_utf8_all (flat_map (spelled_character reading) (unescaped (chars field.now)))) }
+{
     let mut text = String::with_capacity(texts, field.len())?;
-    let mut escapes = false;
+    let mut held = false;
     for c in field.chars() {
-        escapes = push_meant(&mut text, reading, escapes, c)?;
+        if held {
+            push_escaped(&mut text, reading, c)?;
+            held = false;
+        } else if c == '\\' {
+            held = true;
+        } else {
+            push_spelled(&mut text, reading, c)?;
+        }
     }
-    if escapes {
+    if held {
         push_spelled(&mut text, reading, '\\')?;
     }
     Ok(into_bump_str(text))
 }
 
-/// Adds what a character stands for, before which there may be a backslash that has not been added. Answers
-/// whether it is such a backslash itself.
-fn push_meant(
-    text: &mut String<&Bump>,
-    reading: Reading,
-    escapes: bool,
-    c: char,
-) -> Result<bool, AllocError> {
-    if !escapes {
-        if c == '\\' {
-            return Ok(true);
-        }
-        push_spelled(text, reading, c)?;
-        return Ok(false);
-    }
-    push_escaped(text, reading, c)?;
-    Ok(false)
-}
-
 /// Adds what a backslash and this character stand for.
-fn push_escaped(text: &mut String<&Bump>, reading: Reading, c: char) -> Result<(), AllocError> {
+fn push_escaped(text: &mut String<&Bump>, reading: Reading, c: char) -> Result<(), AllocError>
+    ensures { OnOk result (string_bytes text.new ≡ string_bytes text.old
+        ++ encode_utf8_all (flat_map (spelled_character reading) (after_backslash c))) }
+{
     match c {
         't' => push_spelled(text, reading, '\t'),
         'n' => push_spelled(text, reading, '\n'),
@@ -98,14 +99,15 @@ fn push_spelled(text: &mut String<&Bump>, reading: Reading, c: char) -> Result<(
         '\n' if reading.one_line => text.push_str("\\n"),
         '\n' => text.push(c),
         '\t' => push_tab(text, reading),
-        _ if reading.raw => text.push(c),
-        '\r' => text.push_str("\\r"),
-        _ => push_other(text, c),
+        _ => push_in_line(text, reading.raw, c),
     }
 }
 
 /// The same of a tab.
-fn push_tab(text: &mut String<&Bump>, reading: Reading) -> Result<(), AllocError> {
+fn push_tab(text: &mut String<&Bump>, reading: Reading) -> Result<(), AllocError>
+    ensures { OnOk result (string_bytes text.new
+        ≡ string_bytes text.old ++ encode_utf8_all (spelled_tab reading.tab reading.raw)) }
+{
     match reading.tab {
         Some(blanks) => push_blanks(text, blanks),
         None if reading.raw => text.push('\t'),
@@ -114,7 +116,10 @@ fn push_tab(text: &mut String<&Bump>, reading: Reading) -> Result<(), AllocError
 }
 
 /// Adds so many blanks.
-fn push_blanks(text: &mut String<&Bump>, blanks: usize) -> Result<(), AllocError> {
+fn push_blanks(text: &mut String<&Bump>, blanks: usize) -> Result<(), AllocError>
+    ensures { OnOk result (string_bytes text.new
+        ≡ string_bytes text.old ++ replicate blanks 0x20) }
+{
     text.reserve(blanks)?;
     for _ in 0..blanks {
         text.push(' ')?;
@@ -122,7 +127,21 @@ fn push_blanks(text: &mut String<&Bump>, blanks: usize) -> Result<(), AllocError
     Ok(())
 }
 
-/// The same of a character that is neither a line feed, a tab nor a carriage return.
+/// The same of a character that is neither a line feed nor a tab.
+fn push_in_line(text: &mut String<&Bump>, raw: bool, c: char) -> Result<(), AllocError>
+    ensures { OnOk result (string_bytes text.new
+        ≡ string_bytes text.old ++ encode_utf8_all (spelled_in_line raw c)) }
+{
+    if raw {
+        return text.push(c);
+    }
+    if c == '\r' {
+        return text.push_str("\\r");
+    }
+    push_other(text, c)
+}
+
+/// The same of a character that is neither a line feed, a tab nor a carriage return, where none stays as it is.
 fn push_other(text: &mut String<&Bump>, c: char) -> Result<(), AllocError>
     ensures { OnOk result (string_bytes text.new
         ≡ string_bytes text.old ++ encode_utf8_all (spelled_other c)) }

@@ -1,12 +1,10 @@
 //! What is said of a script that has no sizes.
 
 use crate::forms::{form_like, form_of};
+use crate::names::quoted;
 use papergrid::config::Position;
 use papergrid::{Reason, Sizing, explain};
 use std::alloc::{AllocError, Global};
-
-/// How many characters of a bad line are shown.
-const SHOWN: usize = 60;
 
 /// Why the script that the input spells has no sizes that are chosen so, in one line; none where it has.
 pub fn message_of(
@@ -38,13 +36,8 @@ fn bad_line(alloc: Global, input: &[u8], number: usize) -> Result<String, AllocE
     let word = line.split(' ').next().unwrap_or("").trim_end();
     let has_row = word != "cell" || has_row(input, number);
     let expected = expected(alloc, word, has_row)?;
-    match line.char_indices().nth(SHOWN) {
-        None => format!(in alloc; "line {number}: {line:?}: {expected}"),
-        Some((end, _)) => {
-            let start = line.get(..end).unwrap_or(line);
-            format!(in alloc; "line {number}: {start:?}..: {expected}")
-        }
-    }
+    let line = quoted(alloc, line)?;
+    format!(in alloc; "line {number}: {line}: {expected}")
 }
 
 /// What was expected of a line that begins with this word.

@@ -19,6 +19,20 @@ pub fn shown(alloc: Global, name: &str) -> Result<String, AllocError> {
     Ok(quoted)
 }
 
+/// How many characters of a text are quoted.
+const QUOTED: usize = 60;
+
+/// A text in quotes, or its beginning with two points behind it.
+pub fn quoted(alloc: Global, text: &str) -> Result<String, AllocError> {
+    match text.char_indices().nth(QUOTED) {
+        None => format!(in alloc; "{text:?}"),
+        Some((end, _)) => {
+            let start = text.get(..end).unwrap_or(text);
+            format!(in alloc; "{start:?}..")
+        }
+    }
+}
+
 /// The first of the names that are most like the word, if two letters at most differ and not all of them. A word that is
 /// too long for that is not compared, since a comparison goes over all of it for each letter of the name.
 pub fn name_like<'n>(

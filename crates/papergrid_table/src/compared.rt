@@ -1,6 +1,6 @@
 //! A picture that is compared with what would be written.
 
-use crate::places::{Spot, spot_after};
+use crate::places::spot_after;
 use std::io;
 use std::io::Write;
 
@@ -24,19 +24,31 @@ impl<'p> Compared<'p> {
         }
     }
 
-    /// Where the first byte is that differs, if one does. Its `byte` counts characters.
-    pub fn difference(&self) -> Option<Spot> {
+    /// The line and the character of the line, both counted from 1, where the picture differs first, if it does.
+    pub fn difference(&self) -> Option<(usize, usize)> {
         if !self.differs && self.same >= self.picture.len() {
             return None;
         }
         let spot = spot_after(self.picture, self.same);
         let begun = self.picture.get(..self.same).unwrap_or(self.picture);
         let line = begun.len().saturating_sub(spot.byte.saturating_sub(1));
-        let heads = begun.get(line..).unwrap_or(&[]).iter().filter(|byte| !is_inner(**byte)).count();
+        let heads = begun
+            .get(line..)
+            .unwrap_or(&[])
+            .iter()
+            .filter(|byte| !is_inner(**byte))
+            .count();
         // Amid a character the one that differs has begun.
-        let is_amid = self.picture.get(self.same).is_some_and(|byte| is_inner(*byte));
-        let column = if is_amid { heads } else { heads.saturating_add(1) };
-        Some(Spot { line: spot.line, byte: column })
+        let is_amid = self
+            .picture
+            .get(self.same)
+            .is_some_and(|byte| is_inner(*byte));
+        let column = if is_amid {
+            heads
+        } else {
+            heads.saturating_add(1)
+        };
+        Some((spot.line, column))
     }
 }
 

@@ -43,7 +43,13 @@ What is checked, and said:
   --witness               names the cells that show why the table is no narrower and no lower
   --check PICTURE         writes nothing, and says whether the file PICTURE is what would be
                           written, or where it differs first
-  --help, --version       write this, or the name and the version
+  --help, -h              writes this
+  --help-json             writes how a JSON document tells a table
+  --version, -V           writes the name and the version
+  --                      ends the options, so that FILE may begin with -
+
+A value may stand in the same word: --style=ascii. Of an option that is given twice the last one
+counts; --span and --align COLUMN=A add up.
 
 A script has lines of these forms, and empty lines. Rows and columns are counted from 0.
 ";

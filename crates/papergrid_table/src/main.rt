@@ -78,9 +78,12 @@ fn explained(rt: &HostRuntime, text: Result<String, AllocError>) -> ExitCode {
 
 /// Answers the input in a file.
 fn table_of_file(rt: &HostRuntime, wanted: &Wanted, path: &str) -> ExitCode {
-    match (shown(rt.alloc(), path), File::open(rt, path)) {
-        (Ok(name), Ok(file)) => answered_from(rt, wanted, name.as_str(), file),
-        (_, Err(error)) => unopened(rt, rt.alloc(), path, &error),
-        (Err(_), _) => fault(rt, path, RunFault::Memory, false),
+    let file = match File::open(rt, path) {
+        Ok(file) => file,
+        Err(error) => return unopened(rt, rt.alloc(), path, &error),
+    };
+    match shown(rt.alloc(), path) {
+        Ok(name) => answered_from(rt, wanted, name.as_str(), file),
+        Err(_) => fault(rt, path, RunFault::Memory, false),
     }
 }

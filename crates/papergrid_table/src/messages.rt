@@ -7,7 +7,7 @@ use crate::wide::too_wide;
 use bumpalo::Bump;
 use papergrid::grid::DrawError;
 use papergrid_csv::{ColumnName, CsvEnd, Format, Request, Span};
-use papergrid_program::{name_like, shown};
+use papergrid_program::{name_like, quoted, shown};
 use papergrid_values::Position;
 use std::alloc::{AllocError, Global};
 
@@ -57,7 +57,9 @@ fn ragged(
     let line = record_after(alloc, request.reading, input, count)?.map_or(1, |found| found.line);
     let first = record_after(alloc, request.reading, input, 0)?.map_or(0, |found| found.fields);
     let what = if fields == 1 { "field" } else { "fields" };
-    format!(in alloc; "{name}: line {line}: {fields} {what}, and the first row has {first} (--strict)")
+    format!(in alloc;
+        "{name}: line {line}: {fields} {what}, and the first row has {first} (--strict)"
+    )
 }
 
 /// What is said of a table that has no picture.
@@ -88,7 +90,12 @@ fn out_of_table(
         None => (0, 0),
     };
     let Position { row, col } = position;
-    let Some(span) = request.spans.iter().rev().find(|span| span.position == position) else {
+    let Some(span) = request
+        .spans
+        .iter()
+        .rev()
+        .find(|span| span.position == position)
+    else {
         return format!(in alloc; "the cell at row {row}, column {col} is out of the table");
     };
     let option = span_text(alloc, span)?;
@@ -149,15 +156,16 @@ fn hides(
             field = text;
         }
     }
+    let field = quoted(alloc, field)?;
     for span in &request.spans {
         if covers(span, position) && span.position != position {
             let option = span_text(alloc, span)?;
             return format!(in alloc;
-                "{option}: hides the field {field:?} at row {row}, column {col} (--hide)"
+                "{option}: hides the field {field} at row {row}, column {col} (--hide)"
             );
         }
     }
-    format!(in alloc; "a span hides the field {field:?} at row {row}, column {col} (--hide)")
+    format!(in alloc; "a span hides the field {field} at row {row}, column {col} (--hide)")
 }
 
 /// What is said of an alignment of a column that there is not.

@@ -124,7 +124,7 @@ pub fn option_of(word: &str) -> Option<(Listed, Option<&str>)> {
     None
 }
 
-/// The names that the value of an option is one of, and what else may stand before it.
+/// The names that the value of an option is one of, if there are such.
 pub fn values_of(choice: Choice) -> &'static [&'static str] {
     match choice {
         Choice::Style => &STYLES,

@@ -53,7 +53,9 @@ pub fn record_after(
     text: &[u8],
     count: usize,
 ) -> Result<Option<Found>, AllocError> {
-    let text = text.strip_prefix(b"\xef\xbb\xbf".as_slice()).unwrap_or(text);
+    let text = text
+        .strip_prefix(b"\xef\xbb\xbf".as_slice())
+        .unwrap_or(text);
     let mut builder = ReaderBuilder::new();
     builder.has_headers(false).flexible(true);
     match reading.format {
@@ -64,7 +66,7 @@ pub fn record_after(
     let mut record = ByteRecord::new(alloc);
     for number in 0..=count {
         match reader.read_byte_record(&mut record) {
-            Ok(true) if number == count => return Ok(Some(found(text, &record))),
+            Ok(true) if number == count => return Ok(Some(found_at(text, &record))),
             Ok(true) => {}
             Ok(false) => return Ok(None),
             Err(_) => return Err(AllocError),
@@ -74,13 +76,15 @@ pub fn record_after(
 }
 
 /// Where a record of the text stands. What ends the one before it, and empty lines, come before its first byte.
-fn found(text: &[u8], record: &ByteRecord) -> Found {
+fn found_at(text: &[u8], record: &ByteRecord) -> Found {
     let begin = match record.position() {
         Some(position) => usize::try_from(position.byte()).unwrap_or(text.len()),
         None => 0,
     };
     let rest = text.get(begin..).unwrap_or(&[]);
-    let ends = rest.iter().position(|byte| *byte != b'\n' && *byte != b'\r');
+    let ends = rest
+        .iter()
+        .position(|byte| *byte != b'\n' && *byte != b'\r');
     let first = begin.saturating_add(ends.unwrap_or(rest.len()));
     Found {
         line: line_after(text, first),
@@ -103,7 +107,9 @@ enum Amid {
 
 /// The line of the quote that begins a field and is not closed, if there is one.
 pub fn unclosed_line(delimiter: u8, text: &[u8]) -> Option<usize> {
-    let text = text.strip_prefix(b"\xef\xbb\xbf".as_slice()).unwrap_or(text);
+    let text = text
+        .strip_prefix(b"\xef\xbb\xbf".as_slice())
+        .unwrap_or(text);
     let mut amid = Amid::Start;
     let mut opened = 0;
     for (at, byte) in text.iter().enumerate() {

@@ -90,8 +90,7 @@ fn compared<R: Read + Drop>(
     }
     match comparing.difference() {
         None => code,
-        Some(spot) => {
-            let (line, column) = (spot.line, spot.byte);
+        Some((line, column)) => {
             let _ = eprintln!(rt;
                 "{picture_name}: line {line}, column {column}: differs from the table of {name} (--check)"
             );

@@ -36,7 +36,13 @@ pub fn too_wide(
         return Ok(text);
     };
     if let Some(witness) = &found.width_witness {
-        name_cells(alloc, &mut text, request, input, (witness.as_slice(), width))?;
+        name_cells(
+            alloc,
+            &mut text,
+            request,
+            input,
+            (witness.as_slice(), width),
+        )?;
     }
     if request.spans.is_empty() {
         if let Some(columns) = cut_for(request, found.widths.as_slice(), width, most) {
@@ -60,28 +66,41 @@ fn name_cells(
     };
     let mut cells = Vec::with_capacity(alloc, witness.len())?;
     for position in witness {
-        cells.push(asking(request, &rows, *position))?;
+        cells.push(asked_of(request, &rows, *position))?;
     }
     cells.sort_by_key(|cell| usize::MAX.saturating_sub(cell.width))?;
     let mut rest = width;
-    let mut before = ": ";
+    let mut is_first = true;
     for cell in cells.iter().take(NAMED) {
         let (head, line) = cell_name(alloc, request, &rows, input, cell.position)?;
-        let takes = cell.width;
-        write!(text, "{before}{head} (line {line}) takes {takes}")?;
-        rest = rest.saturating_sub(takes);
-        before = ", ";
+        text.push_str(if is_first { ": " } else { ", " })?;
+        add_cell(text, head.as_str(), line, cell.width)?;
+        rest = rest.saturating_sub(cell.width);
+        is_first = false;
     }
     write!(text, ", lines and the rest {rest}")
 }
 
+/// Adds what a cell of this name takes.
+fn add_cell(text: &mut String, name: &str, line: usize, takes: usize) -> Result<(), AllocError> {
+    write!(text, "{name} (line {line}) takes {takes}")
+}
+
 /// What a cell asks for: the width of its text and of its padding.
-fn asking(request: &Request, rows: &Rows<'_>, position: Position) -> Asking {
-    let text = match rows.rows.get(position.row).and_then(|row| row.get(position.col)) {
+fn asked_of(request: &Request, rows: &Rows<'_>, position: Position) -> Asking {
+    let text = match rows
+        .rows
+        .get(position.row)
+        .and_then(|row| row.get(position.col))
+    {
         Some(text) => get_text_width(text),
         None => 0,
     };
-    let sides = request.padding.left.size.saturating_add(request.padding.right.size);
+    let sides = request
+        .padding
+        .left
+        .size
+        .saturating_add(request.padding.right.size);
     Asking {
         position,
         width: text.saturating_add(sides),
@@ -96,7 +115,10 @@ fn cell_name(
     input: &[u8],
     position: Position,
 ) -> Result<(String, usize), AllocError> {
-    let line = record_after(alloc, request.reading, input, position.row)?.map_or(1, |found| found.line);
+    let line = record_after(alloc, request.reading, input, position.row)?.map_or(
+        1,
+        |found| found.line,
+    );
     let head = match rows.rows.first().and_then(|heads| heads.get(position.col)) {
         Some(head) if request.has_head && !head.is_empty() => shown(alloc, head)?,
         _ => {
@@ -109,7 +131,11 @@ fn cell_name(
 
 /// The greatest number of columns at which fields may be cut, so that a table without spans has no more than it may.
 fn cut_for(request: &Request, widths: &[usize], width: usize, most: usize) -> Option<usize> {
-    let sides = request.padding.left.size.saturating_add(request.padding.right.size);
+    let sides = request
+        .padding
+        .left
+        .size
+        .saturating_add(request.padding.right.size);
     let mut taken = 0usize;
     for size in widths {
         taken = taken.saturating_add(*size);

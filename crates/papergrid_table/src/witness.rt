@@ -31,13 +31,18 @@ fn push_witness(
     match witness {
         Some(positions) => {
             for position in positions {
-                let Position { row, col } = *position;
-                write!(lines, " {row},{col}")?;
+                push_position(lines, *position)?;
             }
         }
         None => lines.push_str(" none")?,
     }
     Ok(())
+}
+
+/// Adds a row and a column.
+fn push_position(lines: &mut String, position: Position) -> Result<(), AllocError> {
+    let Position { row, col } = position;
+    write!(lines, " {row},{col}")
 }
 
 /// The same of the table of a script.

@@ -1,44 +1,129 @@
 -- What calls that draw the table of a CSV text do to a writer.
-use Rattle.std.specs.Prelude.{◌≡◌, ◌≢◌, ◌⊎◌, ℕ, Bool, List, Option, Result, Ok, Err, length}
-use Rattle.papergrid.specs.ForProofs.Drawn.{HasBegun, HasEnded, IsSteady, IsTaken}
-use Rattle.papergrid.specs.declared.running.RunFault.{RunFault}
-use Rattle.papergrid.specs.declared.running.RunFault.TheVariants as run_faults
-use Rattle.papergrid_draw.specs.Drawings.{Drawing}
+use Rattle.std.specs.Prelude.{◌≡◌, ◌≢◌, ◌⊎◌, ⊤, ℕ, Bool, false, true, List, [], Option, None, Some, Result, Ok, Err, length, take}
+use Rattle.std.specs.Io.KnownBytes.{Appends}
+use Rattle.papergrid_values.specs.declared.direction.Direction.TheVariants.{Columns}
+use Rattle.papergrid_values.specs.declared.position.Position.{Position}
+use Rattle.papergrid_config.specs.declared.setting.Setting.{Setting}
+use Rattle.papergrid_config.specs.declared.spanned.SpannedConfig.{SpannedConfig}
+use Rattle.papergrid_layout.specs.Places.{total_along}
+use Rattle.papergrid_draw.specs.Drawings.{Drawing, layout_of}
+use Rattle.papergrid_draw.specs.Faults.{IsDrawFault}
+use Rattle.papergrid_draw.specs.Tiles.{IsFirstPosition, IsTiled}
 use Rattle.papergrid_draw.specs.declared.error.DrawError.{DrawError}
 use Rattle.papergrid_draw.specs.declared.error.DrawError.TheVariants as draw_errors
-use Rattle.papergrid.specs.Pictures.{IsDrawingBy, IsPictureFault}
-use Rattle.papergrid_csv.specs.Requests.{settings_of}
+use Rattle.papergrid_grid.specs.Crossings.{FitCrossings, IsFitFault}
+use Rattle.papergrid_grid.specs.Lined.{lined}
+use Rattle.papergrid_grid.specs.declared.crossings.Junctions.{Junctions}
+use Rattle.papergrid.specs.Pictures.{IsDrawingWith, IsFaultWith, IsRefusal}
+use Rattle.papergrid.specs.declared.running.RunFault.{RunFault}
+use Rattle.papergrid.specs.declared.running.RunFault.TheVariants as run_faults
+use Rattle.papergrid_csv.specs.Judging.{IsHidden, first_missing}
+use Rattle.papergrid_csv.specs.Pictures.{IsConfigured, IsNarrow, IsUnfitted, IsWide}
+use Rattle.papergrid_csv.specs.Requests.{first_row, settings_of}
+use Rattle.papergrid_csv.specs.Shown.{AreCut}
+use Rattle.papergrid_csv.specs.declared.reading.RowsError.{RowsError}
+use Rattle.papergrid_csv.specs.declared.reading.RowsError.TheVariants as rows_errors
 use Rattle.papergrid_csv.specs.declared.request.Request.{Request}
 use Rattle.papergrid_csv.specs.declared.run.CsvEnd.{CsvEnd}
-use Rattle.papergrid_csv.specs.declared.run.CsvEnd.TheVariants.{Drawn, Refused}
+use Rattle.papergrid_csv.specs.declared.run.CsvEnd.TheVariants.{Drawn, Hides, NoColumn, NotText, Ragged, Refused, TooWide, Unclosed}
 
--- the drawing of rows by a request, and why there is none
-abbrev pub IsRequestDrawing : Request → ℕ → List (List (List ℕ)) → Drawing → Type 0
-IsRequestDrawing request columns rows d = IsDrawingBy columns rows request.sizing (settings_of request (length rows)) d
+-- ---- ends
 
-abbrev pub IsRequestFault : Request → ℕ → List (List (List ℕ)) → DrawError → Type 0
-IsRequestFault request columns rows e = IsPictureFault columns rows request.sizing (settings_of request (length rows)) e
+-- how a run ends whose input was not read
+abbrev pub end_unread : RowsError → Result CsvEnd RunFault
+end_unread (rows_errors.NotText before) = Ok (NotText before)
+end_unread rows_errors.Unclosed = Ok Unclosed
+end_unread (rows_errors.Ragged before fields) = Ok (Ragged before fields)
+end_unread rows_errors.Memory = Err run_faults.Memory
 
--- how a run ends after its table was drawn, or not
-abbrev pub end_after : {A : Type 0} → Result A DrawError → Result CsvEnd RunFault
-end_after (Ok x) = Ok Drawn
-end_after (Err (draw_errors.Memory e)) = Err run_faults.Memory
-end_after (Err draw_errors.Write) = Err run_faults.Write
-end_after (Err (draw_errors.OutOfTable p)) = Ok Refused
-end_after (Err (draw_errors.NotTiled p)) = Ok Refused
-end_after (Err (draw_errors.NoRoom p)) = Ok Refused
-end_after (Err draw_errors.TooLarge) = Ok Refused
+-- how a run ends whose table was not drawn
+abbrev pub end_refused : DrawError → Result CsvEnd RunFault
+end_refused (draw_errors.Memory e) = Err run_faults.Memory
+end_refused draw_errors.Write = Err run_faults.Write
+end_refused e = Ok (Refused e)
+
+-- ---- what is written at an end, by layers
+
+-- of a drawing whose cells have room
+abbrev pub IsTableRun : Option ℕ → Drawing → CsvEnd → List ℕ → Type 0
+IsTableRun greatest d Drawn output =
+    IsTiled (layout_of d) × IsNarrow greatest (total_along (layout_of d) Columns) × (output ≡ lined d)
+IsTableRun greatest d (TooWide width) output =
+    IsTiled (layout_of d) × (width ≡ total_along (layout_of d) Columns) × IsWide greatest width × (output ≡ [])
+IsTableRun greatest d (Refused e) output = IsRefusal e × IsDrawFault d e × (output ≡ [])
+IsTableRun greatest d _ output = ⊥
+
+-- of rows of texts by a configuration
+pub data IsConfigRun (request : Request) (columns : ℕ) (texts : List (List (List ℕ))) (config : SpannedConfig) (end : CsvEnd) (output : List ℕ) : Type 0 where
+  Sized : (d : Drawing) → IsDrawingWith columns texts request.sizing config d → IsTableRun request.max_width d end output → IsConfigRun request columns texts config end output
+  Faulted : (e : DrawError) → end ≡ Refused e → IsRefusal e → IsFaultWith columns texts request.sizing config e → output ≡ [] → IsConfigRun request columns texts config end output
+
+-- of rows of texts by settings
+pub data IsSettingsRun (request : Request) (settings : List Setting) (shape : ℕ × ℕ) (columns : ℕ) (texts : List (List (List ℕ))) (end : CsvEnd) (output : List ℕ) : Type 0 where
+  Configured : (config : SpannedConfig) → IsConfigured request settings shape config → IsConfigRun request columns texts config end output → IsSettingsRun request settings shape columns texts end output
+  Crossed : (e : DrawError) → end ≡ Refused e → IsRefusal e → IsUnfitted request.junctions settings shape e → output ≡ [] → IsSettingsRun request settings shape columns texts end output
+
+-- nothing keeps rows from their picture
+pub record IsFree (request : Request) (rows : List (List (List ℕ))) : Type 0 where
+  pub named : first_missing (first_row rows) request.columns.items ≡ None
+  pub seen : request.hides ≡ false → (p : Position) → IsHidden request.spans.items rows p → ⊥
+
+-- a name or a span does
+abbrev pub IsKeptBy : Request → List (List (List ℕ)) → CsvEnd → Type 0
+IsKeptBy request rows (NoColumn entry) = first_missing (first_row rows) request.columns.items ≡ Some entry
+IsKeptBy request rows (Hides p) =
+    (first_missing (first_row rows) request.columns.items ≡ None) × (request.hides ≡ false) × IsFirstPosition (IsHidden request.spans.items rows) p
+IsKeptBy request rows _ = ⊥
+
+-- of rows
+pub data IsRowsRun (request : Request) (columns : ℕ) (rows : List (List (List ℕ))) (end : CsvEnd) (output : List ℕ) : Type 0 where
+  Free : (shown : List (List (List ℕ))) → IsFree request rows → AreCut request.cut rows shown →
+      IsSettingsRun request (settings_of request columns rows) (length rows, columns) columns shown end output → IsRowsRun request columns rows end output
+  Kept : IsKeptBy request rows end → output ≡ [] → IsRowsRun request columns rows end output
+
+-- ---- crossings
+
+-- settings that fit the crossings of a configuration, none where they need not fit
+abbrev pub AreFittingOf : Option Junctions → SpannedConfig → ℕ × ℕ → List Setting → Type 0
+AreFittingOf None config shape fitted = fitted ≡ []
+AreFittingOf (Some junctions) config shape fitted = FitCrossings config shape junctions fitted
+
+-- why there are none
+abbrev pub IsFitFaultOf : Option Junctions → SpannedConfig → ℕ × ℕ → DrawError → Type 0
+IsFitFaultOf None config shape e = ⊥
+IsFitFaultOf (Some junctions) config shape e = IsFitFault config shape e
+
+-- ---- writers
 
 -- a writer, by what it tells
-module _ {W : Type 0} (contents : W → Option (List ℕ)) (has_failed has_stalled : W → Bool) (IsOutput : CsvEnd → List ℕ → Type 0) where
-  -- a run that broke off
-  pub record IsBrokenOff (old new : W) (fault : RunFault) : Type 0 where
-    pub not_read : fault ≢ run_faults.Read
-    pub beginning : (new ≡ old) ⊎ ((end : CsvEnd) × ((output : List ℕ) × IsOutput end output × HasBegun contents has_failed has_stalled old new output))
-    pub write : fault ≡ run_faults.Write → HasEnded contents has_failed has_stalled old new
-    pub steady : (fault ≡ run_faults.Write) ⊎ IsSteady contents has_failed has_stalled old new
+module _ {W : Type 0} (contents : W → Option (List ℕ)) (has_failed has_stalled : W → Bool) where
+  -- all of a text was taken
+  pub record IsTaken (old new : W) (text : List ℕ) : Type 0 where
+    pub taken : Appends (contents old) (contents new) text
+    pub works : has_failed new ≡ has_failed old
+    pub moves : has_stalled new ≡ has_stalled old
 
-  -- a run wrote an output, and ended accordingly, or it broke off
-  abbrev pub Runs : W → W → Result CsvEnd RunFault → Type 0
-  Runs old new (Ok end) = (output : List ℕ) × IsOutput end output × IsTaken contents has_failed has_stalled old new output
-  Runs old new (Err fault) = IsBrokenOff old new fault
+  -- a beginning of it was
+  abbrev pub HasBegun : W → W → List ℕ → Type 0
+  HasBegun old new text = (n : ℕ) × Appends (contents old) (contents new) (take n text)
+
+  -- what is known of a writer that did not take all
+  abbrev pub HasEnded : W → W → Type 0
+  HasEnded old new = (has_failed new ≡ true) ⊎ (has_stalled old ≡ false → has_stalled new ≡ true)
+
+  -- it neither failed nor stalled anew
+  abbrev pub IsSteady : W → W → Type 0
+  IsSteady old new = (has_failed new ≡ has_failed old) × (has_stalled new ≡ has_stalled old)
+
+  module _ (IsOutput : CsvEnd → List ℕ → Type 0) where
+    -- a run that broke off
+    pub record IsBrokenOff (old new : W) (fault : RunFault) : Type 0 where
+      pub not_read : fault ≢ run_faults.Read
+      pub beginning : (new ≡ old) ⊎ ((end : CsvEnd) × ((output : List ℕ) × IsOutput end output × HasBegun old new output))
+      pub write : fault ≡ run_faults.Write → HasEnded old new
+      pub steady : (fault ≡ run_faults.Write) ⊎ IsSteady old new
+
+    -- a run wrote an output, and ended accordingly, or it broke off
+    abbrev pub Runs : W → W → Result CsvEnd RunFault → Type 0
+    Runs old new (Ok end) = (output : List ℕ) × IsOutput end output × IsTaken old new output
+    Runs old new (Err fault) = IsBrokenOff old new fault

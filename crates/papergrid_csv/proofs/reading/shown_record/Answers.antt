@@ -11,7 +11,7 @@ loop-field-preserved c =
     let inv = c.loop-field.invariant in
     let s = c.in-Some.ensures.steps in (
       rw s.0 inv.0,
-      shown-field c.args.one_line (fields_of c.args.fields.now) c.loop-field.field-iterator.at c.next.new.self.at c.in-Some.field.now c.in_ok-spell.field-0.now (row_texts c.loop-field.row) (row_texts c.push.new.self)
+      shown-field c.args.reading (fields_of c.args.fields.now) c.loop-field.field-iterator.at c.next.new.self.at c.in-Some.field.now c.in_ok-spell.field-0.now (row_texts c.loop-field.row) (row_texts c.push.new.self)
           inv.1 (rw inv.0 at s.1) s.2 c.in_ok-spell.ensures
           (ap (map (λ text. text.now)) c.in_ok-push.ensures.items ∙ map-append (λ text. text.now) c.loop-field.row.items _),
     )
@@ -20,4 +20,4 @@ pub returns : goal.returns
 returns c =
     let inv = c.loop-field.invariant in
     let s = c.in-None.ensures.steps in
-    inv.1 ∙ ap (map (spelled c.args.one_line)) (field-end (fields_of c.args.fields.now) c.loop-field.field-iterator.at (rw inv.0 at s.1))
+    inv.1 ∙ ap (map (spelled c.args.reading)) (field-end (fields_of c.args.fields.now) c.loop-field.field-iterator.at (rw inv.0 at s.1))

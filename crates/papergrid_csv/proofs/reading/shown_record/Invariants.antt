@@ -6,4 +6,4 @@ use Rattle.papergrid_csv.proofs.reading.shown_record.Given as goal
 
 abbrev pub invariant-loop-field : goal.invariant-loop-field
 invariant-loop-field l =
-    (l.field-iterator.row.now ≡ l.fields) × (row_texts l.row ≡ map (spelled l.one_line) (take l.field-iterator.at (fields_of l.fields)))
+    (l.field-iterator.row.now ≡ l.fields) × (row_texts l.row ≡ map (spelled l.reading) (take l.field-iterator.at (fields_of l.fields)))

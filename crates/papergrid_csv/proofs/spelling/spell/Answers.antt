@@ -1,21 +1,16 @@
-use Rattle.std.proofs.Common.{◌∙◌, ap, flat_map, map-id, sym}
-use Rattle.std.specs.Prelude.{encode_utf8_all}
-use Rattle.std.proofs.lemmas.Iterator.{YieldsList-from_chars}
-use Rattle.std.proofs.lemmas.Iterator.Consumers.{YieldsList-end}
-use Rattle.papergrid_csv.specs.Spelling.{spelled, spelled_character}
-use Rattle.papergrid_csv.proofs.SpellingLemmas.{kept-same, spelled-more, spelled-printable}
+use Rattle.std.proofs.Common.{◌∙◌, ap, false, sym}
+use Rattle.papergrid_csv.specs.Spelling.{spelled}
+use Rattle.papergrid_csv.proofs.SpellingLemmas.{kept-same, spelled-csv, spelled-printable, spelled-tsv}
 use Rattle.papergrid_csv.proofs.spelling.spell.Goals as goal
 
-pub returns-then-is_printable : goal.returns-then-is_printable
-returns-then-is_printable c =
+pub returns-then-not-may_escape : goal.returns-then-not-may_escape
+returns-then-not-may_escape c =
     let printable = sym c.is_printable.ensures ∙ c.if-is_printable.true in
-    kept-same c.try_alloc_str.result _ _ c.try_alloc_str.ensures (spelled-printable c.args.one_line c.args.field.now printable)
+    kept-same c.try_alloc_str.result _ _ c.try_alloc_str.ensures
+    (spelled-printable c.args.reading c.args.field.now printable (c.may_escape.ensures c.if-not-may_escape.true))
 
-pub loop-c-preserved : goal.loop-c-preserved
-loop-c-preserved c = spelled-more c.args.one_line _ _ c.loop-c.yielded c.in-Some.c c.loop-c.invariant c.in_ok-push_spelled.ensures
+pub returns-in-Csv : goal.returns-in-Csv
+returns-in-Csv c = kept-same c.spell_characters.result _ _ c.spell_characters.ensures (spelled-csv c.args.reading c.in-Csv.field-0 c.args.field.now c.in-Csv.is)
 
-pub returns : goal.returns
-unfolding spelled
-returns c =
-    let end = YieldsList-end (YieldsList-from_chars c.args.field.now c.utf8.field cc) c.loop-c.yielded _ c.loop-c.yielded_by _ _ c.in-None.is c.next.ensures.steps in
-    c.into_bump_str.ensures ∙ c.loop-c.invariant ∙ ap (λ cs. encode_utf8_all (flat_map (spelled_character c.args.one_line) cs)) (sym (map-id c.loop-c.yielded) ∙ end.0)
+pub returns-in-Tsv : goal.returns-in-Tsv
+returns-in-Tsv c = kept-same c.spell_meant.result _ _ c.spell_meant.ensures (spelled-tsv c.args.reading c.args.field.now c.in-Tsv.is)

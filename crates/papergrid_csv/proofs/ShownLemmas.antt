@@ -1,0 +1,19 @@
+-- Lists that are related place by place.
+use Rattle.std.proofs.Common.{◌≡◌, ◌++◌, ◌∷◌, [], List, map, subst, sym}
+use Rattle.std.specs.List.{AllZip}
+use Rattle.std.proofs.lemmas.List.{map-append}
+
+-- one place more
+zip-push : {A B : Type 0} (R : A → B → Type 0) (xs : List A) (ys : List B) (x : A) (y : B) → AllZip R xs ys → R x y → AllZip R (xs ++ x ∷ []) (ys ++ y ∷ [])
+zip-push R [] [] x y all last = (last, tt)
+zip-push R [] (b ∷ ys) x y all last = absurd all
+zip-push R (a ∷ xs) [] x y all last = absurd all
+zip-push R (a ∷ xs) (b ∷ ys) x y all last = (all.0, zip-push R xs ys x y all.1 last)
+
+-- of what two lists stand for
+pub zip-more : {A B C D : Type 0} (R : C → D → Type 0) (f : A → C) (g : B → D) (xs : List A) (ys zs : List B) (x : A) (y : B) → AllZip R (map f xs) (map g ys) → R (f x) (g y) → zs ≡ ys ++ y ∷ [] →
+    AllZip R (map f (xs ++ x ∷ [])) (map g zs)
+zip-more R f g xs ys zs x y all last is =
+    subst (λ l. AllZip R (map f (xs ++ x ∷ [])) (map g l)) (sym is)
+    (subst (λ l. AllZip R l (map g (ys ++ y ∷ []))) (sym (map-append f xs (x ∷ [])))
+    (subst (AllZip R (map f xs ++ f x ∷ [])) (sym (map-append g ys (y ∷ []))) (zip-push R (map f xs) (map g ys) (f x) (g y) all last)))

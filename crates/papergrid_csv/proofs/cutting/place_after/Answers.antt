@@ -1,0 +1,58 @@
+use Rattle.std.proofs.Common.{◌≡◌, ◌∙◌, ◌+◌, ℕ, ap, arith, refl, subst, sym}
+use Rattle.std.specs.Prelude.{IsUtf8}
+use Rattle.std.proofs.lemmas.List.{nil_from_length}
+use Rattle.std.specs.Str.Iter.{chars_rest}
+use Rattle.papergrid_width.proofs.SimpleLemmas.{cut_past}
+use Rattle.papergrid_csv.proofs.ApartLemmas.{apart}
+use Rattle.papergrid_csv.proofs.CutLemmas.{IsSoFar, goes-apart, goes-on, is-front, never-ends, next-boundary, so-far-front, stops}
+use Rattle.papergrid_csv.proofs.cutting.place_after.Goals as goal
+
+pub range_from-requires : goal.range_from-requires
+range_from-requires c =
+    let front = is-front c.args.line.now c.args.printable c.requires.printable in
+    λ some. cut_past c.args.line.now c.args.printable c.utf8.line front.within front.all
+
+pub loop-c-init : goal.loop-c-init
+loop-c-init c =
+    let front = is-front c.args.line.now c.args.printable c.requires.printable in
+    let rest = ap chars_rest c.into_iter-c-iterator.ensures.into_iter_gives ∙ c.chars-c-items.ensures.rest in
+    so-far-front c.args.columns c.args.line.now (chars_rest c.into_iter-c-iterator.result) c.args.printable c.utf8.line (subst IsUtf8 (sym rest) c.range_from.utf8) front c.requires.narrow
+    (rest ∙ c.range_from.ensures.value)
+
+pub range-requires-clause-end_boundary : goal.range-requires-clause-end_boundary
+range-requires-clause-end_boundary c =
+    next-boundary c.args.columns c.args.line.now c.loop-c.segment.now (chars_rest c.loop-c.c-iterator) c.loop-c.taken c.loop-c.before c.loop-c.end c.loop-c.invariant c.in-Some.c _ c.in-Some.ensures.steps.0
+    (c.loop-c.taken + c.len_utf8.result) c.len_utf8.result refl c.len_utf8.ensures.len
+
+pub returns-then-columns-width : goal.returns-then-columns-width
+returns-then-columns-width c =
+    stops c.args.columns c.args.line.now c.loop-c.segment.now (chars_rest c.loop-c.c-iterator) c.loop-c.taken c.loop-c.before c.loop-c.end c.loop-c.invariant c.in-Some.c _ c.in-Some.ensures.steps.0
+    (c.loop-c.taken + c.len_utf8.result) c.len_utf8.result refl c.len_utf8.ensures.len
+    c.range.result.now c.width.result c.saturating_add-width.result _ c.range.ensures.value c.width.ensures c.saturating_add-width.ensures c.if-columns-width.true
+
+pub range_from-segment-requires : goal.range_from-segment-requires
+range_from-segment-requires c =
+    λ some. next-boundary c.args.columns c.args.line.now c.loop-c.segment.now (chars_rest c.loop-c.c-iterator) c.loop-c.taken c.loop-c.before c.loop-c.end c.loop-c.invariant c.in-Some.c _ c.in-Some.ensures.steps.0
+    (c.loop-c.taken + c.len_utf8.result) c.len_utf8.result refl c.len_utf8.ensures.len
+
+pub loop-c-preserved-then-stands_apart : goal.loop-c-preserved-then-stands_apart
+loop-c-preserved-then-stands_apart c =
+    let again : c.len_utf8-end.result ≡ c.len_utf8.result = c.len_utf8-end.ensures.len ∙ sym c.len_utf8.ensures.len in
+    subst (λ (size : ℕ). IsSoFar c.args.columns c.args.line.now c.range_from-segment.result.now (chars_rest c.next.new.self) 0 c.saturating_add-width.result (c.loop-c.end + size)) (sym again)
+    (goes-apart c.args.columns c.args.line.now c.loop-c.segment.now (chars_rest c.loop-c.c-iterator) c.loop-c.taken c.loop-c.before c.loop-c.end c.loop-c.invariant c.in-Some.c _ c.in-Some.ensures.steps.0
+    (c.loop-c.taken + c.len_utf8.result) c.len_utf8.result refl c.len_utf8.ensures.len
+    c.range.result.now c.range_from-segment.result.now c.width.result c.saturating_add-width.result _ c.range.ensures.value c.width.ensures c.saturating_add-width.ensures (omega arith) (omega arith)
+    c.range_from-segment.ensures.value (apart c.in-Some.c (sym c.stands_apart.ensures ∙ c.if-stands_apart.true)))
+
+pub loop-c-preserved : goal.loop-c-preserved
+loop-c-preserved c =
+    let again : c.len_utf8-end.result ≡ c.len_utf8.result = c.len_utf8-end.ensures.len ∙ sym c.len_utf8.ensures.len in
+    subst (λ (size : ℕ). IsSoFar c.args.columns c.args.line.now c.loop-c.segment.now (chars_rest c.next.new.self) (c.loop-c.taken + c.len_utf8.result) c.loop-c.before (c.loop-c.end + size)) (sym again)
+    (goes-on c.args.columns c.args.line.now c.loop-c.segment.now (chars_rest c.loop-c.c-iterator) c.loop-c.taken c.loop-c.before c.loop-c.end c.loop-c.invariant c.in-Some.c _ c.in-Some.ensures.steps.0
+    (c.loop-c.taken + c.len_utf8.result) c.len_utf8.result refl c.len_utf8.ensures.len
+    c.range.result.now c.width.result c.saturating_add-width.result _ c.range.ensures.value c.width.ensures c.saturating_add-width.ensures (omega arith) (omega arith))
+
+pub returns : goal.returns
+returns c =
+    absurd (never-ends c.args.columns c.args.line.now c.loop-c.segment.now (chars_rest c.loop-c.c-iterator) c.loop-c.taken c.loop-c.before c.loop-c.end c.loop-c.invariant
+    (nil_from_length (chars_rest c.loop-c.c-iterator) c.in-None.ensures.steps.0.0) c.requires.wide)

@@ -1,0 +1,11 @@
+use Rattle.std.proofs.Common.{arith, refl}
+use Rattle.std.specs.Prelude.{string_bytes}
+use Rattle.std.proofs.Math.Utf8.{encode}
+use Rattle.papergrid_csv.proofs.CutLemmas.{adds-cut, adds-whole}
+use Rattle.papergrid_csv.proofs.SpellingLemmas.{pushed}
+use Rattle.papergrid_csv.proofs.cutting.push_cut.Goals as goal
+
+pub returns : goal.returns
+returns c =
+    adds-cut c.push.result c.args.columns c.cut_place-place.result c.args.line.now c.range.result.now _ _ _ (omega arith) c.cut_place-place.ensures c.range.ensures.value
+    c.in_ok-push_str.ensures.bytes (pushed c.push.result (string_bytes c.push_str-2.new.self) _ (encode 0x2026) _ c.push.ensures.bytes refl)

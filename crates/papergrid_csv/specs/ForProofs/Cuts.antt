@@ -1,0 +1,34 @@
+-- Where a line is cut, by its characters.
+use Rattle.std.specs.Prelude.{◌≡◌, ◌<◌, ◌≤◌, ◌+◌, ◌++◌, ◌||◌, ℕ, Bool, List, [], ◌∷◌, chars, encode_utf8_all, if◌then◌else◌, length, take, false}
+use Rattle.std.specs.Str.{IsCharBoundary}
+use Rattle.unicode_width.specs.Width.{str_width}
+use Rattle.papergrid_text.specs.Separators.{is_separator}
+use Rattle.papergrid_csv.specs.Cutting.{IsCutLine}
+
+-- a separator
+abbrev pub is_apart : ℕ → Bool
+is_apart c = is_separator c
+
+-- the widths of a text up to this character and of what stands after it add up
+abbrev pub StandsApart : ℕ → Type 0
+StandsApart c = (front back : List ℕ) → str_width false (front ++ c ∷ back) ≡ str_width false (front ++ c ∷ []) + str_width false back
+
+-- each beginning of these characters is less than so many columns wide, so that an ellipsis fits after it
+abbrev pub AllNarrow : ℕ → List ℕ → Type 0
+AllNarrow columns characters = (m : ℕ) → 1 ≤ m → m ≤ length characters → str_width false (take m characters) < columns
+
+-- the characters of a line up to this byte are narrow so, and with the next one they are not
+pub record IsCutAt (columns : ℕ) (line : List ℕ) (place : ℕ) : Type 0 where
+  pub kept : List ℕ
+  pub next : ℕ
+  pub left : List ℕ
+  pub characters : chars line ≡ kept ++ next ∷ left
+  pub taken : take place line ≡ encode_utf8_all kept
+  pub boundary : IsCharBoundary line place
+  pub narrow : AllNarrow columns kept
+  pub wide : columns ≤ str_width false (kept ++ next ∷ [])
+
+-- a line was added as it is cut, after a line feed where it is not the first
+abbrev pub AddsLine : ℕ → List ℕ → Bool → List ℕ → List ℕ → Type 0
+AddsLine columns line begins old new =
+    (cut : List ℕ) × IsCutLine columns line cut × (new ≡ old ++ (if begins then cut else 10 ∷ cut))
