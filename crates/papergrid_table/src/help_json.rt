@@ -36,6 +36,7 @@ const VALUES: &str = "
   SHAPE           [ROWS, COLUMNS]
   OFFSET          [\"Start\", N] or [\"End\", N]
   CHARACTER       a text of one character
+  BOOLEAN         true or false
   COLOUR          [text before what is coloured, text after it]
   ALIGNMENT       \"Left\", \"Center\" or \"Right\"; \"Top\", \"Center\" or \"Bottom\"
   INDENTS         sides of [SIZE, CHARACTER]
