@@ -18,14 +18,15 @@ use std::env::Args;
 pub struct Wanted {
     /// Of which input, or what the program says of itself.
     pub asked: Asked,
-    /// Whether the input is a script, and not a CSV or TSV text.
-    pub is_script: bool,
-    /// What is asked of the table of a text. Its sizing is that of a script too.
+    pub kind: Kind,
+    /// What is asked of the table of a text. Its sizing is that of a script or document too.
     pub request: Request,
     /// Whether the cells are named that show why the table is no smaller.
     pub witness: bool,
     /// The file that is compared with what would be written.
     pub check: Option<String>,
+    /// Whether the form of documents is told, and nothing else is done.
+    pub explains_json: bool,
 }
 
 /// Why arguments are not taken.
@@ -47,9 +48,10 @@ impl From<AllocError> for Misuse {
 
 /// What an input is.
 #[derive(Clone, Copy, Debug, PartialEq, Eq)]
-enum Kind {
+pub enum Kind {
     Csv,
     Tsv,
+    Json,
     Script,
 }
 
@@ -64,11 +66,12 @@ struct Draft {
     style: Style,
     pad: Option<Sides<Indent>>,
     fits: bool,
-    /// An option that a script does not take.
+    /// An option that a script or a document does not take.
     of_fields: Option<&'static str>,
     request: Request,
     witness: bool,
     check: Option<String>,
+    explains_json: bool,
 }
 
 /// What the words after the program's name ask for: options in any order, and one other word at most. After `--`
@@ -87,6 +90,7 @@ pub fn asked_for(alloc: Global, words: Args) -> Result<Wanted, Misuse> {
         request: plain_request(alloc),
         witness: false,
         check: None,
+        explains_json: false,
     };
     let mut before = None;
     for word in words {
@@ -183,6 +187,7 @@ impl Draft {
         match choice {
             Choice::Csv => self.kind = Some(Kind::Csv),
             Choice::Tsv => self.kind = Some(Kind::Tsv),
+            Choice::Json => self.kind = Some(Kind::Json),
             Choice::Script => self.kind = Some(Kind::Script),
             Choice::Header => request.has_head = true,
             Choice::NoHeader => request.has_head = false,
@@ -192,6 +197,7 @@ impl Draft {
             Choice::Strict => request.reading.strict = true,
             Choice::Least => request.sizing = Sizing::Least,
             Choice::Witness => self.witness = true,
+            Choice::HelpJson => self.explains_json = true,
             Choice::FitCrossings => self.fits = true,
             _ => {}
         }
@@ -290,10 +296,15 @@ impl Draft {
             mut request,
             witness,
             check,
+            explains_json,
         } = self;
         let asked = asked.unwrap_or(Asked::OfInput);
         let kind = kind.unwrap_or(kind_named(&asked));
         request.reading.format = format_of(alloc, kind, delimiter, of_fields)?;
+        if witness && kind == Kind::Json {
+            let text = "--witness: not for JSON, and the input is JSON";
+            return Err(Misuse::Said(String::from_str(alloc, text)?));
+        }
         request.frame = style.frame();
         request.head = style.head(request.has_head);
         let side = style.padding();
@@ -310,10 +321,11 @@ impl Draft {
         }
         Ok(Wanted {
             asked,
-            is_script: kind == Kind::Script,
+            kind,
             request,
             witness,
             check,
+            explains_json,
         })
     }
 }
@@ -332,6 +344,10 @@ fn format_of(
             )?;
             Err(Misuse::Said(text))
         }
+        (Kind::Json, _, Some(name)) => {
+            let text = format!(in alloc; "{name}: for CSV and TSV alone, and the input is JSON")?;
+            Err(Misuse::Said(text))
+        }
         (Kind::Tsv, Some(_), _) => {
             let text = "--delimiter: for CSV alone, and the input is TSV";
             Err(Misuse::Said(String::from_str(alloc, text)?))
@@ -345,6 +361,7 @@ fn format_of(
 fn kind_named(asked: &Asked) -> Kind {
     match asked {
         Asked::OfFile(path) if path.as_str().ends_with(".tsv") => Kind::Tsv,
+        Asked::OfFile(path) if path.as_str().ends_with(".json") => Kind::Json,
         Asked::OfFile(path) if path.as_str().ends_with(".txt") => Kind::Script,
         _ => Kind::Csv,
     }

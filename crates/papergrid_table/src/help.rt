@@ -6,12 +6,13 @@ use std::alloc::{AllocError, Global};
 const TAKEN: &str = "\
 papergrid_table [OPTION].. [--] [FILE]
 
-Reads a CSV file, a TSV file or a script from FILE, or from standard input where there is none
-or it is -, and writes the table. For example: papergrid_table --style markdown pets.csv
+Reads a CSV file, a TSV file, JSON or a script from FILE, or from standard input where there is
+none or it is -, and writes the table. For example: papergrid_table --style markdown pets.csv
 
-What FILE is (else by its name: .tsv is TSV, .txt is a script, all else is CSV):
+What FILE is (else by its name: .tsv is TSV, .json is JSON, .txt is a script, all else is CSV):
   --csv                   fields between commas, with quotes, as RFC 4180 has them
   --tsv                   fields between tabs; \\t, \\n and \\\\ stand for a tab, a line feed and \\
+  --json                  a document of rows and all settings, which --help-json explains
   --script                lines that tell a table (below)
   --delimiter C           of CSV: the byte between fields in place of a comma, or the word tab
   --strict                refuses a row with another number of fields than the first
@@ -43,6 +44,7 @@ What is checked, and said:
   --check PICTURE         writes nothing, and says whether the file PICTURE is what would be
                           written, or where it differs first
   --help, -h              writes this
+  --help-json             writes how a JSON document tells a table
   --version, -V           writes the name and the version
   --                      ends the options, so that FILE may begin with -
 

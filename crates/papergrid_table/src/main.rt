@@ -1,9 +1,11 @@
-//! Reads a CSV text, a TSV text or a script from a file or on standard input, and draws its table on standard output.
+//! Reads a CSV text, a TSV text, a JSON document or a script from a file or on standard input, and draws its table on standard output.
 #![tactic(auto)]
 
 mod arguments;
 mod compared;
+mod document;
 mod help;
+mod help_json;
 mod messages;
 mod options;
 mod places;
@@ -16,12 +18,14 @@ mod witness;
 
 use arguments::{Misuse, Wanted, asked_for};
 use help::help_text;
+use help_json::json_help_text;
 use options::option_names;
 use papergrid::RunFault;
 use papergrid_program::{
     Request as Asked, STANDARD_INPUT, fault, shown, told, unexpected, unopened, unread_words,
 };
 use run::answered_from;
+use std::alloc::AllocError;
 use std::env;
 use std::fs::File;
 use std::process::ExitCode;
@@ -53,14 +57,22 @@ fn main(rt: HostRuntime) -> ExitCode {
 
 /// Does what is asked for.
 fn answered(rt: &HostRuntime, wanted: &Wanted) -> ExitCode {
+    if wanted.explains_json {
+        return explained(rt, json_help_text(rt.alloc()));
+    }
     match &wanted.asked {
         Asked::OfInput => answered_from(rt, wanted, STANDARD_INPUT, rt.stdin()),
         Asked::OfFile(path) => table_of_file(rt, wanted, path.as_str()),
-        Asked::Help => match help_text(rt.alloc()) {
-            Ok(text) => told(rt, text.as_str()),
-            Err(_) => fault(rt, "", RunFault::Memory, false),
-        },
+        Asked::Help => explained(rt, help_text(rt.alloc())),
         Asked::Version => told(rt, "papergrid_table 0.18.0\n"),
+    }
+}
+
+/// Writes what the program says of itself.
+fn explained(rt: &HostRuntime, text: Result<String, AllocError>) -> ExitCode {
+    match text {
+        Ok(text) => told(rt, text.as_str()),
+        Err(_) => fault(rt, "", RunFault::Memory, false),
     }
 }
 

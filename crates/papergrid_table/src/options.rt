@@ -7,6 +7,7 @@ use crate::styles::STYLES;
 pub enum Choice {
     Csv,
     Tsv,
+    Json,
     Script,
     Delimiter,
     Style,
@@ -28,6 +29,7 @@ pub enum Choice {
     Strict,
     FitCrossings,
     Help,
+    HelpJson,
     Version,
 }
 
@@ -63,10 +65,11 @@ const fn switch(choice: Choice, name: &'static str, is_of_fields: bool) -> Liste
 }
 
 /// All options.
-fn options() -> [Listed; 24] {
+fn options() -> [Listed; 26] {
     [
         switch(Choice::Csv, "--csv", false),
         switch(Choice::Tsv, "--tsv", false),
+        switch(Choice::Json, "--json", false),
         switch(Choice::Script, "--script", false),
         valued(
             Choice::Delimiter,
@@ -97,12 +100,13 @@ fn options() -> [Listed; 24] {
         switch(Choice::Strict, "--strict", true),
         switch(Choice::FitCrossings, "--fit-crossings", true),
         switch(Choice::Help, "--help", false),
+        switch(Choice::HelpJson, "--help-json", false),
         switch(Choice::Version, "--version", false),
     ]
 }
 
 /// The names of all options.
-pub fn option_names() -> [&'static str; 24] {
+pub fn option_names() -> [&'static str; 26] {
     options().map(|option| option.name)
 }
 

@@ -1,7 +1,8 @@
 //! A run: the table of an input drawn, or compared, and what keeps it from being drawn.
 
-use crate::arguments::Wanted;
+use crate::arguments::{Kind, Wanted};
 use crate::compared::Compared;
+use crate::document::{DocumentEnd, run_document, said_of_document};
 use crate::messages;
 use crate::witness::{witness_of_script, witness_of_text};
 use papergrid::{ReadSource, RunEnd, RunFault, WriteSink, read_all, run_table};
@@ -18,11 +19,12 @@ const UNTILED: &str = "spans overlap there, or leave the position to no visible 
 /// How many bytes go out at a time.
 const PIECE: usize = 65536;
 
-/// How a run ended, of a text or of a script.
+/// How a run ended, of a text, of a script or of a document.
 #[derive(Clone, Copy, Debug, PartialEq, Eq)]
 enum End {
     OfText(CsvEnd),
     OfScript(RunEnd),
+    OfDocument(DocumentEnd),
 }
 
 /// Draws the table of the input that is read, of this name, or compares it.
@@ -108,19 +110,29 @@ fn run<R: Read + Drop, W: Write>(
     let mut source = ReadSource::new(reader);
     let mut writer = WriteSink::new(out);
     let request = &wanted.request;
-    if wanted.is_script {
-        let end = run_table(alloc, request.sizing, &mut source, &mut writer, input)?;
-        return Ok(End::OfScript(end));
+    match wanted.kind {
+        Kind::Script => {
+            let end = run_table(alloc, request.sizing, &mut source, &mut writer, input)?;
+            Ok(End::OfScript(end))
+        }
+        Kind::Json => {
+            let end = run_document(alloc, request.sizing, &mut source, &mut writer, input)?;
+            Ok(End::OfDocument(end))
+        }
+        _ => {
+            let end = run_csv(alloc, request, &mut source, &mut writer, input)?;
+            Ok(End::OfText(end))
+        }
     }
-    let end = run_csv(alloc, request, &mut source, &mut writer, input)?;
-    Ok(End::OfText(end))
 }
 
 /// Whether a picture was written.
 fn is_drawn(end: End) -> bool {
     matches!(
         end,
-        End::OfText(CsvEnd::Drawn) | End::OfScript(RunEnd::Done)
+        End::OfText(CsvEnd::Drawn)
+            | End::OfScript(RunEnd::Done)
+            | End::OfDocument(DocumentEnd::Drawn)
     )
 }
 
@@ -135,6 +147,7 @@ fn ended(rt: &HostRuntime, wanted: &Wanted, name: &str, input: &[u8], end: End) 
         End::OfText(end) => messages::message_of(rt.alloc(), request, name, input, end),
         End::OfScript(RunEnd::Done) => witness_of_script(rt.alloc(), request.sizing, input),
         End::OfScript(_) => said_of_script(rt.alloc(), wanted, input),
+        End::OfDocument(end) => said_of_document(rt.alloc(), name, input, end),
     };
     match said {
         Ok(text) => {
@@ -158,10 +171,11 @@ fn said_of_script(alloc: Global, wanted: &Wanted, script: &[u8]) -> Result<Strin
 fn code_of(rt: &HostRuntime, name: &str, end: End) -> ExitCode {
     match end {
         End::OfScript(end) => status(rt, name, Ok(end), false),
-        End::OfText(CsvEnd::Drawn) => ExitCode::from(0),
+        End::OfText(CsvEnd::Drawn) | End::OfDocument(DocumentEnd::Drawn) => ExitCode::from(0),
+        End::OfDocument(DocumentEnd::Refused(_)) => ExitCode::from(1),
         End::OfText(CsvEnd::Refused(_) | CsvEnd::TooWide(_) | CsvEnd::Hides(_)) => {
             ExitCode::from(1)
         }
-        End::OfText(_) => ExitCode::from(2),
+        End::OfText(_) | End::OfDocument(DocumentEnd::Bad) => ExitCode::from(2),
     }
 }

@@ -1,0 +1,215 @@
+-- The table of a document, and what is drawn with it.
+use Rattle.std.proofs.Common.{Global, String, Vec, ◌≡◌, ◌∙◌, ◌⊎◌, ℕ, Bool, List, Option, None, Some, Result, Ok, Err, OnErr, OnOk, IfErr, map, ap, inl, inr, refl, subst, sym, take}
+use Rattle.std.specs.Io.KnownBytes.{Appends}
+use Rattle.std.specs.Prelude.{IsErrOf, length, option_map, slice_index, string_bytes}
+use Rattle.std.specs.BTreeMap.{get}
+use Rattle.std.specs.declared.alloc.AllocError.{AllocError}
+use Rattle.papergrid_values.specs.MapKeys.{position_cmp}
+use Rattle.papergrid_config.specs.declared.spanned.SpannedConfig.{SpannedConfig}
+use Rattle.papergrid_layout.specs.Answers.{UnlessMemory, UnlessMemoryError}
+use Rattle.papergrid_layout.specs.Tables.{AreNoSizesBySizing, AreSizesBySizing, IsTable, IsTableOf, IsTotalTooLarge, TableParts, view_of}
+use Rattle.papergrid_layout.specs.declared.sizing.Sizing.{Sizing}
+use Rattle.papergrid_tracks.specs.declared.error.LayoutError.{LayoutError}
+use Rattle.papergrid_tracks.specs.declared.error.LayoutError.TheVariants as layout_errors
+use Rattle.papergrid_draw.specs.Drawings.{Drawing}
+use Rattle.papergrid_draw.specs.Errors.{draw_error_of}
+use Rattle.papergrid_draw.specs.Faults.{AllHaveRoom, IsDrawFault}
+use Rattle.papergrid_draw.specs.declared.error.DrawError.{DrawError}
+use Rattle.papergrid_draw.specs.declared.error.DrawError.TheVariants as draw_errors
+use Rattle.papergrid_grid.specs.Cells.{lines_at, text_lines}
+use Rattle.papergrid_grid.specs.Lined.{lined}
+use Rattle.papergrid_text.proofs.RowSteps.{told_by}
+use Rattle.papergrid.specs.Estimates.{text_measure}
+use Rattle.papergrid.specs.Layouts.{IsConfiguredBy}
+use Rattle.papergrid.specs.Pictures.{IsRefusal}
+use Rattle.papergrid.specs.ForProofs.Drawn.{HasEnded, IsSteady}
+use Rattle.papergrid_json.proofs.SizeLemmas.{no-sizes-seen, room-with, sizes-seen}
+use Rattle.papergrid_json.specs.Pictures.{AreNoSizesOf, AreSizesOf, IsDocumentDrawing, IsDocumentFault, IsDrawingWith, IsFaultWith, Undrawn, Unsized, texts_of}
+use Rattle.papergrid_json.specs.ForProofs.Drawn.{Draws, IsDocumentTable, IsUndrawn}
+use Rattle.papergrid_json.specs.declared.document.Document.{Document}
+use Rattle.papergrid_json.specs.declared.document.OwnSizes.{OwnSizes}
+
+same-color : {A : Type 0} (color : Option A) → option_map (λ x. x) color ≡ color
+same-color None = refl
+same-color (Some x) = refl
+
+module _ (document : Document) (sizing : Sizing) (config : SpannedConfig) where
+  -- these sizes come to too much
+  abbrev IsTooLarge : LayoutError → List ℕ → List ℕ → Type 0
+  IsTooLarge e widths heights = (e ≡ layout_errors.TooLarge) × IsTotalTooLarge (view_of (record { config = config; widths = widths; heights = heights }))
+
+  -- what is so unless memory failed, where sizes are told
+  own-error : (own : OwnSizes) (e : LayoutError) → document.sizes ≡ Some own → UnlessMemoryError e (AreNoSizesOf document sizing config (Some own) e) →
+      UnlessMemoryError e (AreNoSizesOf document sizing config document.sizes e)
+  own-error own (layout_errors.OutOfTable p) is are = subst (λ s. AreNoSizesOf document sizing config s (layout_errors.OutOfTable p)) (sym is) are
+  own-error own layout_errors.TooLarge is are = subst (λ s. AreNoSizesOf document sizing config s layout_errors.TooLarge) (sym is) are
+  own-error own (layout_errors.Memory e) is are = tt
+
+  -- the table of sizes that are told
+  pub table-own : (own : OwnSizes) (widths heights : List ℕ) (result : Result TableParts LayoutError) → document.sizes ≡ Some own → widths ≡ own.widths.items → heights ≡ own.heights.items →
+      IsTable (record { config = config; widths = widths; heights = heights }) result → UnlessMemory result (IsDocumentTable document sizing config result)
+  table-own own widths heights (Ok table) is across down so =
+      (ap (λ t. t.config) so.0, subst (λ s. AreSizesOf document sizing config s table.widths table.heights) (sym is) (ap (λ t. t.widths) so.0 ∙ across, ap (λ t. t.heights) so.0 ∙ down))
+  table-own own widths heights (Err e) is across down so =
+      own-error own e is (subst (λ w. UnlessMemoryError e (IsTooLarge e w own.heights.items)) across (subst (λ h. UnlessMemoryError e (IsTooLarge e widths h)) down so))
+
+  -- the table of sizes that are chosen so, of cells that are seen through a view
+  pub table-found : {A : Type 0} (view : A → String Global) (rows : List (Vec (String Global) Global)) (columns : ℕ) (result : Result TableParts LayoutError) → document.sizes ≡ None →
+      rows ≡ document.rows.items → columns ≡ document.columns →
+      UnlessMemory result ((cells : List (List A)) × (map (map view) cells ≡ map (λ row. row.items) rows)
+      × IsTableOf config (λ x. text_measure (string_bytes (view x))) columns cells sizing result) → UnlessMemory result (IsDocumentTable document sizing config result)
+  table-found view rows columns (Ok table) none same counted so =
+      let texts = told_by view string_bytes (λ row. row.items) so.0 rows so.1 ∙ ap (map (λ row. map string_bytes row.items)) same in
+      let sized = sizes-seen (λ x. string_bytes (view x)) config columns so.0 (texts_of document) texts sizing table.widths table.heights so.2.1 in (
+        so.2.0,
+        subst (λ s. AreSizesOf document sizing config s table.widths table.heights) (sym none)
+            (subst (λ n. AreSizesBySizing config text_measure n (texts_of document) sizing table.widths table.heights) counted sized),
+      )
+  table-found view rows columns (Err (layout_errors.OutOfTable p)) none same counted so =
+      let texts = told_by view string_bytes (λ row. row.items) so.0 rows so.1 ∙ ap (map (λ row. map string_bytes row.items)) same in
+      let unsized = no-sizes-seen (λ x. string_bytes (view x)) config columns so.0 (texts_of document) texts sizing (layout_errors.OutOfTable p) so.2 in
+      subst (λ s. AreNoSizesOf document sizing config s (layout_errors.OutOfTable p)) (sym none)
+      (subst (λ n. AreNoSizesBySizing config text_measure n (texts_of document) sizing (layout_errors.OutOfTable p)) counted unsized)
+  table-found view rows columns (Err layout_errors.TooLarge) none same counted so =
+      let texts = told_by view string_bytes (λ row. row.items) so.0 rows so.1 ∙ ap (map (λ row. map string_bytes row.items)) same in
+      let unsized = no-sizes-seen (λ x. string_bytes (view x)) config columns so.0 (texts_of document) texts sizing layout_errors.TooLarge so.2 in
+      subst (λ s. AreNoSizesOf document sizing config s layout_errors.TooLarge) (sym none)
+      (subst (λ n. AreNoSizesBySizing config text_measure n (texts_of document) sizing layout_errors.TooLarge) counted unsized)
+  table-found view rows columns (Err (layout_errors.Memory e)) none same counted so = tt
+
+  -- what is drawn of rows that are lent, by a table
+  abbrev pub rows_drawn : List (Vec (String Global) Global) → TableParts → Drawing
+  rows_drawn rows parts = record {
+    config = parts.config;
+    widths = slice_index parts.widths;
+    heights = slice_index parts.heights;
+    shape = (length parts.heights, length parts.widths);
+    lines = lines_at text_lines (map (λ row. map string_bytes row.items) rows);
+    color = λ p. option_map (λ color. color) (get position_cmp document.colors p);
+  }
+
+  -- it is the drawing with the sizes of the table
+  pub drawing-by : (rows : List (Vec (String Global) Global)) (parts : TableParts) → rows ≡ document.rows.items → IsDocumentTable document sizing config (Ok parts) →
+      IsDrawingWith document sizing config (rows_drawn rows parts)
+  drawing-by rows parts same so = record {
+    widths = parts.widths;
+    heights = parts.heights;
+    sized = so.1;
+    is = λ i. record {
+      config = so.0 i;
+      widths = slice_index parts.widths;
+      heights = slice_index parts.heights;
+      shape = (length parts.heights, length parts.widths);
+      lines = lines_at text_lines (map (λ row. map string_bytes row.items) (same i));
+      color = λ p. same-color (get position_cmp document.colors p) i;
+    };
+  }
+
+  -- in sizes that are chosen so there is room
+  pub room-found : (rows : List (Vec (String Global) Global)) (parts : TableParts) → rows ≡ document.rows.items → IsDocumentTable document sizing config (Ok parts) → document.sizes ≡ None →
+      AllHaveRoom (rows_drawn rows parts)
+  room-found rows parts same so none =
+      let sized = subst (λ s. AreSizesOf document sizing config s parts.widths parts.heights) none so.1 in
+      let by_parts = subst (λ c. AreSizesBySizing c text_measure document.columns (texts_of document) sizing parts.widths parts.heights) (sym so.0) sized in
+      room-with parts.config document.columns (map (λ row. map string_bytes row.items) rows) sizing parts.widths parts.heights _
+      (subst (λ held. AreSizesBySizing parts.config text_measure document.columns (map (λ row. map string_bytes row.items) held) sizing parts.widths parts.heights) (sym same) by_parts)
+
+  -- what is known of a call that draws it
+  module _ {W : Type 0} (contents : W → Option (List ℕ)) (has_failed has_stalled : W → Bool) where
+    abbrev IsSoUndrawn : W → W → DrawError → Type 0
+    IsSoUndrawn old new e = IsUndrawn contents has_failed has_stalled (IsDrawingWith document sizing config) (IsFaultWith document sizing config) old new e
+
+    -- there are no sizes
+    pub unsized : (w : W) (e : LayoutError) → UnlessMemoryError e (AreNoSizesOf document sizing config document.sizes e) → IsSoUndrawn w w (draw_error_of e)
+    unsized w e are = record {
+      fault = named e are;
+      nothing = λ _. refl;
+      beginning = inl refl;
+      write = λ is. absurd (never e is);
+      steady = inr (refl, refl);
+    }
+      where
+        named : (e : LayoutError) → UnlessMemoryError e (AreNoSizesOf document sizing config document.sizes e) → IsRefusal (draw_error_of e) → IsFaultWith document sizing config (draw_error_of e)
+        named (layout_errors.OutOfTable p) are is = Unsized (layout_errors.OutOfTable p) refl are
+        named layout_errors.TooLarge are is = Unsized layout_errors.TooLarge refl are
+        named (layout_errors.Memory e) are is = absurd is
+
+        never : (e : LayoutError) → draw_error_of e ≡ draw_errors.Write → ⊥
+        never (layout_errors.OutOfTable p) is = cc
+        never layout_errors.TooLarge is = cc
+        never (layout_errors.Memory e) is = cc
+
+    -- there are, and it was drawn with them, or not
+    pub drawn-so : {A : Type 0} (d : Drawing) → IsDrawingWith document sizing config d → (old new : W) (result : Result A DrawError) →
+        OnOk result (Appends (contents old) (contents new) (lined d)) → OnOk result (has_failed new ≡ has_failed old) → OnOk result (has_stalled new ≡ has_stalled old) →
+        IfErr result (IsDrawFault d) → IfErr result (λ e. (e ≡ draw_errors.Write) ⊎ ((error : AllocError) × (e ≡ draw_errors.Memory error)) ⊎ (new ≡ old)) →
+        OnErr result ((n : ℕ) × Appends (contents old) (contents new) (take n (lined d))) →
+        (IsErrOf result draw_errors.Write → HasEnded contents has_failed has_stalled old new) →
+        IfErr result (λ e. (e ≡ draw_errors.Write) ⊎ IsSteady contents has_failed has_stalled old new) →
+        Draws contents has_failed has_stalled (IsDrawingWith document sizing config) (IsFaultWith document sizing config) old new result
+    drawn-so d is old new (Ok x) taken works moves fault nothing begun write steady = (d, is, record { taken = taken; works = works; moves = moves })
+    drawn-so d is old new (Err e) taken works moves fault nothing begun write steady = record {
+      fault = λ named. Undrawn d is fault;
+      nothing = λ named. left e named nothing;
+      beginning = inr (d, is, begun);
+      write = λ same. write (ap Err same);
+      steady = steady;
+    }
+      where
+        left : (e : DrawError) → IsRefusal e → (e ≡ draw_errors.Write) ⊎ ((error : AllocError) × (e ≡ draw_errors.Memory error)) ⊎ (new ≡ old) → new ≡ old
+        left (draw_errors.Memory error) named how = absurd named
+        left draw_errors.Write named how = absurd named
+        left (draw_errors.OutOfTable p) named (inl same) = absurd (let none : ⊥ = cc in none)
+        left (draw_errors.OutOfTable p) named (inr (inl same)) = absurd (let none : ⊥ = (let is = same.1 in cc) in none)
+        left (draw_errors.OutOfTable p) named (inr (inr same)) = same
+        left (draw_errors.NotTiled p) named (inl same) = absurd (let none : ⊥ = cc in none)
+        left (draw_errors.NotTiled p) named (inr (inl same)) = absurd (let none : ⊥ = (let is = same.1 in cc) in none)
+        left (draw_errors.NotTiled p) named (inr (inr same)) = same
+        left (draw_errors.NoRoom p) named (inl same) = absurd (let none : ⊥ = cc in none)
+        left (draw_errors.NoRoom p) named (inr (inl same)) = absurd (let none : ⊥ = (let is = same.1 in cc) in none)
+        left (draw_errors.NoRoom p) named (inr (inr same)) = same
+        left draw_errors.TooLarge named (inl same) = absurd (let none : ⊥ = cc in none)
+        left draw_errors.TooLarge named (inr (inl same)) = absurd (let none : ⊥ = (let is = same.1 in cc) in none)
+        left draw_errors.TooLarge named (inr (inr same)) = same
+
+    -- by a configuration that the settings tell
+    module _ (told : IsConfiguredBy document.settings.items config) {A : Type 0} (old new : W) where
+      abbrev So : Result A DrawError → Type 0
+      So result = Draws contents has_failed has_stalled (IsDrawingWith document sizing config) (IsFaultWith document sizing config) old new result
+
+      pub draw-picture : (result : Result A DrawError) → So result →
+          OnOk result ((d : Drawing) × IsDocumentDrawing document sizing d × Appends (contents old) (contents new) (lined d))
+      draw-picture (Ok x) so = (so.0, (config, told, so.1), so.2.taken)
+      draw-picture (Err e) so = tt
+
+      pub draw-works : (result : Result A DrawError) → So result → OnOk result (has_failed new ≡ has_failed old)
+      draw-works (Ok x) so = so.2.works
+      draw-works (Err e) so = tt
+
+      pub draw-moves : (result : Result A DrawError) → So result → OnOk result (has_stalled new ≡ has_stalled old)
+      draw-moves (Ok x) so = so.2.moves
+      draw-moves (Err e) so = tt
+
+      pub draw-fault : (result : Result A DrawError) → So result → IfErr result (λ e. IsRefusal e → IsDocumentFault document sizing e)
+      draw-fault (Ok x) so = tt
+      draw-fault (Err e) so = λ named. (config, told, so.fault named)
+
+      pub draw-nothing : (result : Result A DrawError) → So result → IfErr result (λ e. IsRefusal e → new ≡ old)
+      draw-nothing (Ok x) so = tt
+      draw-nothing (Err e) so = so.nothing
+
+      pub draw-beginning : (result : Result A DrawError) → So result →
+          OnErr result ((new ≡ old) ⊎ ((d : Drawing) × IsDocumentDrawing document sizing d × ((n : ℕ) × Appends (contents old) (contents new) (take n (lined d)))))
+      draw-beginning (Ok x) so = tt
+      draw-beginning (Err e) so = elim so.beginning [
+        | inl same ↦ inl same
+        | inr begun ↦ inr (begun.0, (config, told, begun.1), begun.2)
+      ]
+
+      pub draw-write : (result : Result A DrawError) → So result → IsErrOf result draw_errors.Write → HasEnded contents has_failed has_stalled old new
+      draw-write (Ok x) so is = absurd (let none : ⊥ = cc in none)
+      draw-write (Err e) so is = let same : e ≡ draw_errors.Write = cc in so.write same
+
+      pub draw-steady : (result : Result A DrawError) → So result → IfErr result (λ e. (e ≡ draw_errors.Write) ⊎ IsSteady contents has_failed has_stalled old new)
+      draw-steady (Ok x) so = tt
+      draw-steady (Err e) so = so.steady

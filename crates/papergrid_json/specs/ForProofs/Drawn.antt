@@ -1,0 +1,34 @@
+-- What calls that draw a document do to a writer.
+use Rattle.std.specs.Prelude.{◌≡◌, ◌⊎◌, ℕ, Bool, List, Option, Result, Ok, Err}
+use Rattle.papergrid_draw.specs.Drawings.{Drawing}
+use Rattle.papergrid_draw.specs.declared.error.DrawError.{DrawError}
+use Rattle.papergrid_draw.specs.declared.error.DrawError.TheVariants as draw_errors
+use Rattle.papergrid_grid.specs.Lined.{lined}
+use Rattle.papergrid_layout.specs.Tables.{TableParts}
+use Rattle.papergrid_layout.specs.declared.sizing.Sizing.{Sizing}
+use Rattle.papergrid_config.specs.declared.spanned.SpannedConfig.{SpannedConfig}
+use Rattle.papergrid_tracks.specs.declared.error.LayoutError.{LayoutError}
+use Rattle.papergrid.specs.Pictures.{IsRefusal}
+use Rattle.papergrid.specs.ForProofs.Drawn.{HasBegun, HasEnded, IsSteady, IsTaken}
+use Rattle.papergrid_json.specs.Pictures.{AreNoSizesOf, AreSizesOf}
+use Rattle.papergrid_json.specs.declared.document.Document.{Document}
+
+-- the table of a document by a configuration, or why there is none
+abbrev pub IsDocumentTable : Document → Sizing → SpannedConfig → Result TableParts LayoutError → Type 0
+IsDocumentTable document sizing config (Ok table) = (table.config ≡ config) × AreSizesOf document sizing config document.sizes table.widths table.heights
+IsDocumentTable document sizing config (Err e) = AreNoSizesOf document sizing config document.sizes e
+
+-- a writer, by what it tells
+module _ {W : Type 0} (contents : W → Option (List ℕ)) (has_failed has_stalled : W → Bool) (IsDrawn : Drawing → Type 0) (IsFault : DrawError → Type 0) where
+  -- why the lines of a drawing were not all written
+  pub record IsUndrawn (old new : W) (e : DrawError) : Type 0 where
+    pub fault : IsRefusal e → IsFault e
+    pub nothing : IsRefusal e → new ≡ old
+    pub beginning : (new ≡ old) ⊎ ((d : Drawing) × IsDrawn d × HasBegun contents has_failed has_stalled old new (lined d))
+    pub write : e ≡ draw_errors.Write → HasEnded contents has_failed has_stalled old new
+    pub steady : (e ≡ draw_errors.Write) ⊎ IsSteady contents has_failed has_stalled old new
+
+  -- the lines of such a drawing were written, or why they were not
+  abbrev pub Draws : {A : Type 0} → W → W → Result A DrawError → Type 0
+  Draws old new (Ok x) = (d : Drawing) × IsDrawn d × IsTaken contents has_failed has_stalled old new (lined d)
+  Draws old new (Err e) = IsUndrawn old new e

@@ -1,0 +1,66 @@
+-- The picture of a document.
+use Rattle.std.specs.Prelude.{◌≡◌, ℕ, List, Option, None, Some, length, map, slice_index, string_bytes}
+use Rattle.std.specs.BTreeMap.{get}
+use Rattle.papergrid_values.specs.MapKeys.{position_cmp}
+use Rattle.papergrid_config.specs.declared.spanned.SpannedConfig.{SpannedConfig}
+use Rattle.papergrid_layout.specs.Tables.{AreNoSizesBySizing, AreSizesBySizing, IsTotalTooLarge, view_of}
+use Rattle.papergrid_layout.specs.declared.sizing.Sizing.{Sizing}
+use Rattle.papergrid_tracks.specs.declared.error.LayoutError.{LayoutError}
+use Rattle.papergrid_tracks.specs.declared.error.LayoutError.TheVariants.{TooLarge}
+use Rattle.papergrid_draw.specs.Drawings.{Drawing}
+use Rattle.papergrid_draw.specs.Errors.{draw_error_of}
+use Rattle.papergrid_draw.specs.Faults.{IsDrawFault}
+use Rattle.papergrid_draw.specs.declared.error.DrawError.{DrawError}
+use Rattle.papergrid_grid.specs.Cells.{lines_at, text_lines}
+use Rattle.papergrid.specs.Estimates.{text_measure}
+use Rattle.papergrid.specs.Layouts.{IsConfiguredBy}
+use Rattle.papergrid_json.specs.declared.document.Document.{Document}
+use Rattle.papergrid_json.specs.declared.document.OwnSizes.{OwnSizes}
+
+-- the texts of a document, row by row
+abbrev pub texts_of : Document → List (List (List ℕ))
+texts_of document = map (λ row. map string_bytes row.items) document.rows.items
+
+-- its drawing by a configuration, with these widths and heights: its texts, in its colours
+abbrev pub document_drawing : SpannedConfig → Document → List ℕ → List ℕ → Drawing
+document_drawing config document widths heights = record {
+  config = config;
+  widths = slice_index widths;
+  heights = slice_index heights;
+  shape = (length heights, length widths);
+  lines = lines_at text_lines (texts_of document);
+  color = get position_cmp document.colors;
+}
+
+module _ (document : Document) (sizing : Sizing) where
+  module _ (config : SpannedConfig) where
+    -- its widths and heights: those of its own, else those that are chosen so
+    abbrev pub AreSizesOf : Option OwnSizes → List ℕ → List ℕ → Type 0
+    AreSizesOf None widths heights = AreSizesBySizing config text_measure document.columns (texts_of document) sizing widths heights
+    AreSizesOf (Some own) widths heights = (widths ≡ own.widths.items) × (heights ≡ own.heights.items)
+
+    -- why it has none: there are none that are chosen so, or those of its own come to too much
+    abbrev pub AreNoSizesOf : Option OwnSizes → LayoutError → Type 0
+    AreNoSizesOf None e = AreNoSizesBySizing config text_measure document.columns (texts_of document) sizing e
+    AreNoSizesOf (Some own) e =
+        (e ≡ TooLarge) × IsTotalTooLarge (view_of (record { config = config; widths = own.widths.items; heights = own.heights.items }))
+
+    -- its drawing with such sizes
+    pub record IsDrawingWith (d : Drawing) : Type 0 where
+      pub widths : List ℕ
+      pub heights : List ℕ
+      pub sized : AreSizesOf document.sizes widths heights
+      pub is : d ≡ document_drawing config document widths heights
+
+    -- why it has none: there are no sizes, or it can't be drawn with them
+    pub data IsFaultWith (e : DrawError) : Type 0 where
+      Unsized : (error : LayoutError) → e ≡ draw_error_of error → AreNoSizesOf document.sizes error → IsFaultWith e
+      Undrawn : (d : Drawing) → IsDrawingWith d → IsDrawFault d e → IsFaultWith e
+
+  -- its drawing by a configuration that its settings tell
+  abbrev pub IsDocumentDrawing : Drawing → Type 0
+  IsDocumentDrawing d = (config : SpannedConfig) × IsConfiguredBy document.settings.items config × IsDrawingWith config d
+
+  -- why it has none
+  abbrev pub IsDocumentFault : DrawError → Type 0
+  IsDocumentFault e = (config : SpannedConfig) × IsConfiguredBy document.settings.items config × IsFaultWith config e

@@ -1,0 +1,130 @@
+//! Documents, drawn.
+
+ghost use Rattle.std.specs.Prelude.{◌≡◌, ◌⊎◌, ℕ, IfErr, IfOk, IsErrOf, None, OnErr, OnOk, false, take, true};
+ghost use Rattle.std.specs.Io.KnownBytes.{Appends};
+ghost use Rattle.papergrid_draw.specs.Drawings.{Drawing};
+ghost use Rattle.papergrid_draw.specs.declared.error.DrawError.TheVariants.{Write};
+ghost use Rattle.papergrid_draw.specs.declared.room.Room.TheVariants.{Known};
+ghost use Rattle.papergrid_grid.specs.Lined.{lined};
+ghost use Rattle.papergrid_layout.specs.Answers.{UnlessMemory};
+ghost use Rattle.papergrid.specs.Layouts.{IsConfiguredBy};
+ghost use Rattle.papergrid.specs.Pictures.{IsRefusal};
+ghost use Rattle.papergrid_json.specs.Documents.{AreInRange};
+ghost use Rattle.papergrid_json.specs.Pictures.{IsDocumentDrawing, IsDocumentFault, IsDrawingWith, IsFaultWith};
+ghost use Rattle.papergrid_json.specs.ForProofs.Drawn.{Draws, IsDocumentTable};
+
+use crate::document::Document;
+use papergrid_config::laws::history_decides;
+use papergrid_config::{Setting, SpannedConfig};
+use papergrid_draw::transfer::Sink;
+use papergrid_draw::{DrawError, Room};
+use papergrid_grid::{TextCells, draw_lines};
+use papergrid_layout::{LayoutError, Sizing, Table};
+use papergrid_text::IterRecords;
+use std::alloc::{AllocError, Global};
+
+/// Writes the picture of a document, each line with a line feed: nothing where there are no rows or columns. The widths and heights
+/// are those that it tells, else those that are chosen so. It has as many columns and rows as there are of them.
+///
+/// Condition: each setting is in range, as those of a document that was read are.
+///
+/// # Errors
+///
+/// `OutOfTable` with the first visible cell that overflows the table, `NotTiled` with the first position that no
+/// visible cell covers, or that two do, `NoRoom` with the first visible cell that is wider than its place, where sizes are told, and
+/// `TooLarge`, before anything is written; `Memory` and `Write` after a beginning of the picture.
+pub fn draw_document<W: Sink>(
+    alloc: Global,
+    document: &Document,
+    sizing: Sizing,
+    sink: &mut W,
+) -> Result<(), DrawError>
+    requires { AreInRange document.now.settings.items }
+    ensures picture { OnOk result ((d : Drawing) × IsDocumentDrawing document.now sizing d
+        × Appends (W.contents sink.old) (W.contents sink.new) (lined d)) }
+    ensures works { OnOk result (W.has_failed sink.new ≡ W.has_failed sink.old) }
+    ensures moves { OnOk result (W.has_stalled sink.new ≡ W.has_stalled sink.old) }
+    ensures fault { IfErr result (λ e. IsRefusal e → IsDocumentFault document.now sizing e) }
+    ensures nothing { IfErr result (λ e. IsRefusal e → sink.new ≡ sink.old) }
+    ensures beginning { OnErr result ((sink.new ≡ sink.old)
+        ⊎ ((d : Drawing) × IsDocumentDrawing document.now sizing d × ((n : ℕ)
+        × Appends (W.contents sink.old) (W.contents sink.new) (take n (lined d))))) }
+    ensures write { IsErrOf result DrawError.Write → (W.has_failed sink.new ≡ true)
+        ⊎ (W.has_stalled sink.old ≡ false → W.has_stalled sink.new ≡ true) }
+    // A failed allocation fails no write.
+    ensures steady { IfErr result (λ e. (e ≡ Write)
+        ⊎ ((W.has_failed sink.new ≡ W.has_failed sink.old)
+        × (W.has_stalled sink.new ≡ W.has_stalled sink.old))) }
+{
+    let config = configuration(alloc, &document.settings)?;
+    draw_by(alloc, &config, document, sizing, sink)
+}
+
+/// The configuration that settings tell.
+// It is made where its caller keeps it: it is large, and is not moved.
+#[inline(always)]
+fn configuration(alloc: Global, settings: &Vec<Setting>) -> Result<SpannedConfig, AllocError>
+    requires { AreInRange settings.now.items }
+    ensures { IfOk result (IsConfiguredBy settings.now.items) }
+{
+    history_decides();
+    let copies = settings.clone()?;
+    let mut config = SpannedConfig::new(alloc);
+    match config.apply_all(copies) {
+        Ok(()) => Ok(config),
+        Err(_) => Err(AllocError),
+    }
+}
+
+/// Writes the picture of a document by a configuration.
+fn draw_by<W: Sink>(
+    alloc: Global,
+    config: &SpannedConfig,
+    document: &Document,
+    sizing: Sizing,
+    sink: &mut W,
+) -> Result<(), DrawError>
+    ensures { Draws W.contents W.has_failed W.has_stalled
+        (IsDrawingWith document.now sizing config.now)
+        (IsFaultWith document.now sizing config.now) sink.old sink.new result }
+{
+    let table = table_of(alloc, config, document, sizing)?;
+    let cells = TextCells {
+        alloc,
+        rows: document.rows.as_slice(),
+        colors: &document.colors,
+    };
+    draw_lines(alloc, &table, &cells, room_of(document), sink)
+}
+
+/// The table of a document by a configuration.
+fn table_of<'a>(
+    alloc: Global,
+    config: &'a SpannedConfig,
+    document: &Document,
+    sizing: Sizing,
+) -> Result<Table<'a>, LayoutError>
+    ensures { UnlessMemory result (IsDocumentTable document.now sizing config.now result) }
+{
+    match &document.sizes {
+        Some(own) => {
+            let (widths, heights) = (own.widths.clone()?, own.heights.clone()?);
+            Table::from_sizes(alloc, config, widths, heights)
+        }
+        None => {
+            let count = Some(document.rows.len());
+            let records = IterRecords::new(document.rows.as_slice(), document.columns, count);
+            Table::new(alloc, config, records, sizing)
+        }
+    }
+}
+
+/// Whether each cell is known to have room: where sizes were found for them.
+fn room_of(document: &Document) -> Room
+    ensures { result ≡ Known → document.now.sizes ≡ None }
+{
+    match &document.sizes {
+        Some(_) => Room::Unknown,
+        None => Room::Known,
+    }
+}

@@ -1,0 +1,70 @@
+//! What keeps a document from its table.
+
+use crate::place::Place;
+use std::alloc::{AllocError, AllocFailed, Global};
+use thiserror::Error;
+
+/// What keeps a document from its table.
+#[derive(Debug, Drop, Error)]
+pub enum DocumentError {
+    /// It is not JSON, at this line and this byte of it. Both are counted from 1.
+    #[error("line {0}, byte {1}: not JSON")]
+    Syntax(usize, usize),
+    /// At this place, as `settings[3][1].left`, stands something else than what is wanted there.
+    #[error("{path}: not {wanted}")]
+    Unexpected { path: String, wanted: &'static str },
+    /// No setting has the name of this one.
+    #[error("settings[{index}]: {name:?} is not a setting")]
+    UnknownSetting { index: usize, name: String },
+    /// An allocation failed.
+    #[error("out of memory")]
+    Memory,
+}
+
+impl From<AllocError> for DocumentError {
+    fn from(_error: AllocError) -> DocumentError {
+        DocumentError::Memory
+    }
+}
+
+/// The same, while the document is read.
+#[derive(Clone, Copy, Debug)]
+pub enum Fault<'v> {
+    Unexpected(Place<'v>, &'static str),
+    UnknownSetting(usize, &'v str),
+    Memory,
+}
+
+impl<'v> From<AllocError> for Fault<'v> {
+    fn from(_error: AllocError) -> Fault<'v> {
+        Fault::Memory
+    }
+}
+
+impl<'v, T: Drop> From<AllocFailed<T>> for Fault<'v> {
+    fn from(_error: AllocFailed<T>) -> Fault<'v> {
+        Fault::Memory
+    }
+}
+
+/// The fault in words of its own.
+pub fn told(alloc: Global, fault: Fault<'_>) -> DocumentError {
+    match owned(alloc, fault) {
+        Ok(error) => error,
+        Err(_) => DocumentError::Memory,
+    }
+}
+
+fn owned(alloc: Global, fault: Fault<'_>) -> Result<DocumentError, AllocError> {
+    Ok(match fault {
+        Fault::Unexpected(place, wanted) => DocumentError::Unexpected {
+            path: format!(in alloc; "{place}")?,
+            wanted,
+        },
+        Fault::UnknownSetting(index, name) => DocumentError::UnknownSetting {
+            index,
+            name: String::from_str(alloc, name)?,
+        },
+        Fault::Memory => DocumentError::Memory,
+    })
+}

@@ -1,0 +1,101 @@
+//! The values that settings are made of.
+
+use crate::error::Fault;
+use crate::spot::Spot;
+use papergrid_values::{
+    ANSIBuf, AlignmentHorizontal, AlignmentVertical, Entity, Indent, Offset, Position,
+};
+use std::alloc::Global;
+
+/// A value that a document tells.
+pub trait Told: Drop {
+    /// The value that stands at a place.
+    fn told<'v>(alloc: Global, spot: &Spot<'v>) -> Result<Self, Fault<'v>>;
+}
+
+impl Told for char {
+    fn told<'v>(_alloc: Global, spot: &Spot<'v>) -> Result<char, Fault<'v>> {
+        spot.character()
+    }
+}
+
+impl Told for Indent {
+    fn told<'v>(_alloc: Global, spot: &Spot<'v>) -> Result<Indent, Fault<'v>> {
+        let (size, fill) = spot.pair("a size and a character, as [1, \" \"]")?;
+        Ok(Indent::new(size.number()?, fill.character()?))
+    }
+}
+
+impl Told for Offset {
+    fn told<'v>(_alloc: Global, spot: &Spot<'v>) -> Result<Offset, Fault<'v>> {
+        match spot.word() {
+            ("Start", 1) => Ok(Offset::Start(spot.at(1).number()?)),
+            ("End", 1) => Ok(Offset::End(spot.at(1).number()?)),
+            _ => Err(spot.unexpected("[\"Start\", number] or [\"End\", number]")),
+        }
+    }
+}
+
+impl Told for ANSIBuf {
+    fn told<'v>(alloc: Global, spot: &Spot<'v>) -> Result<ANSIBuf, Fault<'v>> {
+        let wanted = "the text before what is coloured and the one after it";
+        let (prefix, suffix) = spot.pair(wanted)?;
+        match (prefix.text(), suffix.text()) {
+            (Some(prefix), Some(suffix)) => Ok(ANSIBuf::new(alloc, prefix, suffix)?),
+            _ => Err(spot.unexpected(wanted)),
+        }
+    }
+}
+
+/// The colour that stands at a place, none where nothing does.
+pub fn color<'v>(alloc: Global, spot: &Spot<'v>) -> Result<Option<ANSIBuf>, Fault<'v>> {
+    if spot.is_empty() {
+        return Ok(None);
+    }
+    Ok(Some(ANSIBuf::told(alloc, spot)?))
+}
+
+/// The entity that stands at a place.
+pub fn entity<'v>(spot: &Spot<'v>) -> Result<Entity, Fault<'v>> {
+    match spot.word() {
+        ("Global", 0) => Ok(Entity::Global),
+        ("Column", 1) => Ok(Entity::Column(spot.at(1).number()?)),
+        ("Row", 1) => Ok(Entity::Row(spot.at(1).number()?)),
+        ("Cell", 2) => Ok(Entity::Cell(spot.at(1).number()?, spot.at(2).number()?)),
+        _ => Err(spot.unexpected(
+            "\"Global\", [\"Column\", number], [\"Row\", number] or [\"Cell\", row, column]",
+        )),
+    }
+}
+
+/// The position that stands at a place.
+pub fn position<'v>(spot: &Spot<'v>) -> Result<Position, Fault<'v>> {
+    let (row, column) = spot.pair("[row, column]")?;
+    Ok(Position::new(row.number()?, column.number()?))
+}
+
+/// The numbers of rows and columns that stand at a place.
+pub fn shape<'v>(spot: &Spot<'v>) -> Result<(usize, usize), Fault<'v>> {
+    let (rows, columns) = spot.pair("the numbers of rows and columns")?;
+    Ok((rows.number()?, columns.number()?))
+}
+
+/// The horizontal alignment that stands at a place.
+pub fn horizontal<'v>(spot: &Spot<'v>) -> Result<AlignmentHorizontal, Fault<'v>> {
+    match spot.text().unwrap_or("") {
+        "Left" => Ok(AlignmentHorizontal::Left),
+        "Center" => Ok(AlignmentHorizontal::Center),
+        "Right" => Ok(AlignmentHorizontal::Right),
+        _ => Err(spot.unexpected("\"Left\", \"Center\" or \"Right\"")),
+    }
+}
+
+/// The vertical alignment that stands at a place.
+pub fn vertical<'v>(spot: &Spot<'v>) -> Result<AlignmentVertical, Fault<'v>> {
+    match spot.text().unwrap_or("") {
+        "Top" => Ok(AlignmentVertical::Top),
+        "Center" => Ok(AlignmentVertical::Center),
+        "Bottom" => Ok(AlignmentVertical::Bottom),
+        _ => Err(spot.unexpected("\"Top\", \"Center\" or \"Bottom\"")),
+    }
+}

@@ -1,0 +1,68 @@
+//! The table of a JSON document: drawn, and what keeps it from being drawn.
+
+use papergrid::grid::DrawError;
+use papergrid::{RunFault, Sink, Sizing, Source, read_all};
+use papergrid_json::{DocumentError, SETTINGS, draw_document, read_document};
+use papergrid_program::name_like;
+use std::alloc::{AllocError, Global};
+
+/// How the run of a document ended that read its whole input.
+#[derive(Clone, Copy, Debug, PartialEq, Eq)]
+pub enum DocumentEnd {
+    Drawn,
+    /// Its table has no picture.
+    Refused(DrawError),
+    /// It tells no table.
+    Bad,
+}
+
+/// Draws the table of the document that is read, keeps the document, and tells how that ended.
+pub fn run_document<S: Source, W: Sink>(
+    alloc: Global,
+    sizing: Sizing,
+    reader: &mut S,
+    writer: &mut W,
+    input: &mut Vec<u8>,
+) -> Result<DocumentEnd, RunFault>
+    requires { S.has_failed reader.old ≡ false }
+{
+    *input = read_all(alloc, reader)?;
+    let document = match read_document(alloc, input) {
+        Ok(document) => document,
+        Err(DocumentError::Memory) => return Err(RunFault::Memory),
+        Err(_) => return Ok(DocumentEnd::Bad),
+    };
+    match draw_document(alloc, &document, sizing, writer) {
+        Ok(()) => Ok(DocumentEnd::Drawn),
+        Err(DrawError::Memory(_)) => Err(RunFault::Memory),
+        Err(DrawError::Write) => Err(RunFault::Write),
+        Err(error) => Ok(DocumentEnd::Refused(error)),
+    }
+}
+
+/// What is said of the document, of this name, whose run ended so.
+pub fn said_of_document(
+    alloc: Global,
+    name: &str,
+    input: &[u8],
+    end: DocumentEnd,
+) -> Result<String, AllocError> {
+    match end {
+        DocumentEnd::Drawn => String::from_str(alloc, ""),
+        DocumentEnd::Refused(error) => format!(in alloc; "{name}: {error}"),
+        DocumentEnd::Bad => match read_document(alloc, input) {
+            Ok(_) => String::from_str(alloc, ""),
+            Err(error) => said_of_error(alloc, name, &error),
+        },
+    }
+}
+
+/// What is said of a document that tells no table.
+fn said_of_error(alloc: Global, name: &str, error: &DocumentError) -> Result<String, AllocError> {
+    if let DocumentError::UnknownSetting { name: word, .. } = error {
+        if let Some(like) = name_like(alloc, word.as_str(), &SETTINGS.map(|form| form.0))? {
+            return format!(in alloc; "{name}: {error}; did you mean {like}?");
+        }
+    }
+    format!(in alloc; "{name}: {error}")
+}
