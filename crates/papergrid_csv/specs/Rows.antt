@@ -1,5 +1,5 @@
 -- The rows of a CSV or TSV text.
-use Rattle.std.specs.Prelude.{◌≡◌, ◌-◌, ◌++◌, ℕ, All, List, [], ◌∷◌, Some, Vec, length, map, max, replicate, true, ⊤}
+use Rattle.std.specs.Prelude.{◌≡◌, ◌-◌, ◌++◌, ℕ, All, List, [], ◌∷◌, Some, Vec, false, length, map, max, replicate, true, ⊤}
 use Rattle.std.specs.Borrow.{Bor}
 use Rattle.std.specs.declared.alloc.Global.{Global}
 use Rattle.csv.specs.Machine.{Read, next_record, step}
