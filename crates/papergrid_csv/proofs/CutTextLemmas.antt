@@ -12,6 +12,7 @@ use Rattle.std.proofs.lemmas.Str.{IsCharBoundary-after_ascii, IsCharBoundary-bef
 use Rattle.papergrid_text.specs.Text.{split_lines}
 use Rattle.papergrid_csv.specs.Cutting.{IsCut, IsCutLine}
 use Rattle.papergrid_csv.specs.Shown.{AreCut}
+use Rattle.papergrid_csv.proofs.SpellingLemmas.{is-ascii}
 
 -- ---- lines
 
@@ -47,7 +48,7 @@ joined-utf8 [] all = IsUtf8-nil
 joined-utf8 (part ∷ []) all = All-head IsUtf8 part [] all
 joined-utf8 (part ∷ next ∷ more) all =
     IsUtf8-append part (10 ∷ join_with_byte 10 (next ∷ more)) (All-head IsUtf8 part (next ∷ more) all)
-    (IsUtf8-append (10 ∷ []) (join_with_byte 10 (next ∷ more)) (IsUtf8-from_ascii (10 ∷ []) (omega arith, tt)) (joined-utf8 (next ∷ more) (All-tail IsUtf8 part (next ∷ more) all)))
+    (IsUtf8-append (10 ∷ []) (join_with_byte 10 (next ∷ more)) (IsUtf8-from_ascii (10 ∷ []) (is-ascii (10 ∷ []) (omega arith, tt))) (joined-utf8 (next ∷ more) (All-tail IsUtf8 part (next ∷ more) all)))
 
 -- ---- cut lines
 

@@ -74,9 +74,9 @@ module _ (P : Setting → Type 0) where
 -- each may be applied
 pub all-in-range : (request : Request) (columns : ℕ) (rows : List (List (List ℕ))) → All (λ setting. is_in_range setting ≡ true) (settings_of request columns rows)
 all-in-range request columns rows =
-    All-cons P (SetBorders request.frame) _ refl
-    (All-append P (head_line request.head (length rows)) _ (head request.head)
-    (All-cons P (SetPadding Global request.padding) _ refl
+    All-cons P (SetBorders request.frame) (head_line request.head (length rows) ++ (SetPadding Global request.padding ∷ others request columns rows)) refl
+    (All-append P (head_line request.head (length rows)) (SetPadding Global request.padding ∷ others request columns rows) (head request.head)
+    (All-cons P (SetPadding Global request.padding) (others request columns rows) refl
     (others-all P (λ _ _. refl) (λ _ _. refl) request columns rows (spans-all P (λ _ _. refl) (λ _ _. refl) request.spans.items))))
   where
     P : Setting → Type 0
