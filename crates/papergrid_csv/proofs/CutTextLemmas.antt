@@ -1,8 +1,7 @@
 -- Cut texts are texts.
 use Rattle.std.proofs.Common.{◌≡◌, ◌∙◌, ◌+◌, ◌<◌, ℕ, zero, suc, true, List, [], ◌∷◌, ◌++◌, All, Option, Some, None, append_assoc, ap, arith, drop, get_or, inl, inr, length, length-append, lit<, refl, subst, sym, take}
-use Rattle.std.specs.Prelude.{IsUtf8, chars, encode_utf8_all}
+use Rattle.std.specs.Prelude.{IsUtf8, chars}
 use Rattle.std.specs.List.{AllZip, join_with_byte}
-use Rattle.std.proofs.Math.Bool.{and-true}
 use Rattle.std.proofs.Math.Seq.{drop-append_seam, get_or-append_seam, take-append_seam}
 use Rattle.std.proofs.Math.Utf8.{scalar, scalars}
 use Rattle.std.proofs.lemmas.Bool.{and_parts}

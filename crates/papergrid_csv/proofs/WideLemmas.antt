@@ -28,8 +28,8 @@ use Rattle.papergrid_draw.proofs.WidthLemmas.{lines-wide}
 use Rattle.papergrid_grid.specs.declared.crossings.Junctions.{Junctions}
 use Rattle.papergrid.specs.Estimates.{text_measure}
 use Rattle.papergrid.specs.Layouts.{IsConfiguredBy}
-use Rattle.papergrid.specs.Pictures.{IsDrawingWith, texts_drawing}
-use Rattle.papergrid_csv.specs.Pictures.{AreFitted, IsConfigured, IsCsvDrawing, table_settings, table_shape}
+use Rattle.papergrid.specs.Pictures.{texts_drawing}
+use Rattle.papergrid_csv.specs.Pictures.{AreFitted, IsCsvDrawing, table_settings, table_shape}
 use Rattle.papergrid_csv.specs.Requests.{settings_of}
 use Rattle.papergrid_csv.specs.declared.request.Request.{Request}
 use Rattle.papergrid_csv.proofs.CutTextLemmas.{shown-length, shown-utf8}
