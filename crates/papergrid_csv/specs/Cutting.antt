@@ -7,8 +7,8 @@ use Rattle.papergrid_text.specs.Text.{split_lines, width_of}
 abbrev pub shortened : ℕ → List ℕ → List ℕ
 shortened count line = encode_utf8_all (take count (chars line) ++ 0x2026 ∷ [])
 
--- of a wide line this is shown: its first characters and an ellipsis. With the ellipsis each of its beginnings up to there takes
--- at most so many columns, and that with the next character takes more
+-- of a wide line this is shown: so many of its characters and an ellipsis. With the ellipsis each of its beginnings up to
+-- there takes at most so many columns, and the one with the next character takes more
 pub record IsShortened (columns : ℕ) (line shown : List ℕ) : Type 0 where
   pub count : ℕ
   pub wide : columns < width_of line

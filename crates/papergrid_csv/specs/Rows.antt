@@ -62,7 +62,7 @@ pub record AreRowsOf (reading : Reading) (input : List ℕ) (columns : ℕ) (row
   pub widest : columns ≡ greatest_length records
   pub shown : rows ≡ map (λ record_fields. filled_up columns (map (spelled reading) record_fields)) records
 
--- the record of a text after these, which may be shown
+-- these are the fields of the record of a text right after some that may be shown
 pub record IsNextRecord (reading : Reading) (input : List ℕ) (before : List (List (List ℕ))) (fields : List (List ℕ)) : Type 0 where
   pub closed : IsUnclosed reading input → ⊥
   pub may : MayBeShown reading before

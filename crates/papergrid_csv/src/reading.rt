@@ -18,7 +18,8 @@ use std::alloc::{AllocError, Global};
 pub enum Format {
     /// RFC 4180 with this byte between fields, as `b','`.
     Csv(u8),
-    /// Fields between tabs, without quotes; `\t`, `\n` and `\\` in a field stand for a tab, a line feed and a backslash.
+    /// Fields between tabs, without quotes. In a field `\t`, `\n` and `\\` stand for a tab, a line feed and a
+    /// backslash, and any other backslash for itself.
     Tsv,
 }
 
