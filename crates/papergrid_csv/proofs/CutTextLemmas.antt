@@ -1,8 +1,7 @@
 -- Cut texts are texts.
 use Rattle.std.proofs.Common.{◌≡◌, ◌∙◌, ◌+◌, ◌<◌, ℕ, zero, suc, true, List, [], ◌∷◌, ◌++◌, All, Option, Some, None, append_assoc, ap, arith, drop, get_or, inl, inr, length, length-append, lit<, refl, subst, sym, take}
-use Rattle.std.specs.Prelude.{IsUtf8, chars, encode_utf8_all}
+use Rattle.std.specs.Prelude.{IsUtf8, chars}
 use Rattle.std.specs.List.{AllZip, join_with_byte}
-use Rattle.std.proofs.Math.Bool.{and-true}
 use Rattle.std.proofs.Math.Seq.{drop-append_seam, get_or-append_seam, take-append_seam}
 use Rattle.std.proofs.Math.Utf8.{scalar, scalars}
 use Rattle.std.proofs.lemmas.Bool.{and_parts}
@@ -12,6 +11,7 @@ use Rattle.std.proofs.lemmas.Str.{IsCharBoundary-after_ascii, IsCharBoundary-bef
 use Rattle.papergrid_text.specs.Text.{split_lines}
 use Rattle.papergrid_csv.specs.Cutting.{IsCut, IsCutLine}
 use Rattle.papergrid_csv.specs.Shown.{AreCut}
+use Rattle.papergrid_csv.proofs.SpellingLemmas.{is-ascii}
 
 -- ---- lines
 
@@ -47,7 +47,7 @@ joined-utf8 [] all = IsUtf8-nil
 joined-utf8 (part ∷ []) all = All-head IsUtf8 part [] all
 joined-utf8 (part ∷ next ∷ more) all =
     IsUtf8-append part (10 ∷ join_with_byte 10 (next ∷ more)) (All-head IsUtf8 part (next ∷ more) all)
-    (IsUtf8-append (10 ∷ []) (join_with_byte 10 (next ∷ more)) (IsUtf8-from_ascii (10 ∷ []) (omega arith, tt)) (joined-utf8 (next ∷ more) (All-tail IsUtf8 part (next ∷ more) all)))
+    (IsUtf8-append (10 ∷ []) (join_with_byte 10 (next ∷ more)) (IsUtf8-from_ascii (10 ∷ []) (is-ascii (10 ∷ []) (omega arith, tt))) (joined-utf8 (next ∷ more) (All-tail IsUtf8 part (next ∷ more) all)))
 
 -- ---- cut lines
 

@@ -1,15 +1,14 @@
 -- What runs do to a writer, by layers.
-use Rattle.std.proofs.Common.{◌≡◌, ◌≢◌, ◌⊎◌, ℕ, Bool, false, true, List, [], Option, None, Some, Result, Ok, Err, ap, append-nil, inl, inr, refl, subst, sym, take}
+use Rattle.std.proofs.Common.{◌≡◌, ◌≢◌, ◌⊎◌, ℕ, Bool, List, [], Option, None, Some, Result, Ok, Err, append-nil, inl, inr, refl, subst, sym}
 use Rattle.std.specs.Io.KnownBytes.{Appends}
-use Rattle.std.specs.Prelude.{IsErrOf, length}
+use Rattle.std.specs.Prelude.{IsErrOf}
 use Rattle.std.specs.declared.alloc.AllocError.{AllocError}
-use Rattle.papergrid_values.specs.declared.position.Position.{Position}
 use Rattle.papergrid_draw.specs.declared.error.DrawError.{DrawError}
 use Rattle.papergrid_draw.specs.declared.error.DrawError.TheVariants as draw_errors
 use Rattle.papergrid.specs.Pictures.{IsRefusal}
 use Rattle.papergrid.specs.declared.running.RunFault.{RunFault}
 use Rattle.papergrid.specs.declared.running.RunFault.TheVariants as run_faults
-use Rattle.papergrid_csv.specs.ForProofs.Drawn.{HasBegun, HasEnded, IsBrokenOff, IsSteady, IsTaken, Runs, end_refused}
+use Rattle.papergrid_csv.specs.ForProofs.Drawn.{HasBegun, HasEnded, IsBrokenOff, IsSteady, Runs, end_refused}
 use Rattle.papergrid_csv.specs.declared.run.CsvEnd.{CsvEnd}
 use Rattle.papergrid_csv.specs.declared.run.CsvEnd.TheVariants.{Drawn, Refused}
 

@@ -1,7 +1,7 @@
 -- The first names that are missing, and the first fields that are hidden.
 use Rattle.std.proofs.Common.{◌≡◌, ◌≢◌, ◌∙◌, ◌⊎◌, ◌+◌, ◌<◌, ◌≤◌, ◌++◌, ◌∷◌, [], ℕ, Bool, true, false, not, List, Option, None, Some, ap, arith, cond, get_or, inl, inr, length, map, refl, subst, sym, take, ⊎_elim}
 use Rattle.std.specs.Prelude.{MatchOption, Vec, nat_lt}
-use Rattle.std.specs.List.{Contains, position, position_or_len}
+use Rattle.std.specs.List.{Contains, position_or_len}
 use Rattle.std.proofs.lemmas.Bool.{cases_lt}
 use Rattle.std.proofs.lemmas.Bool.Decides.{nat_tests}
 use Rattle.std.specs.Borrow.{Bor}
@@ -9,7 +9,7 @@ use Rattle.std.specs.declared.alloc.Global.{Global}
 use Rattle.std.proofs.lemmas.List.{get_or-map, take_more}
 use Rattle.std.proofs.lemmas.List.Elements.{Contains-append_left, Contains-push, Contains-push_cases}
 use Rattle.std.proofs.lemmas.List.Sums.{position_or_len_is}
-use Rattle.papergrid_values.specs.Positions.{IsBefore, position_of}
+use Rattle.papergrid_values.specs.Positions.{IsBefore}
 use Rattle.papergrid_values.specs.declared.position.Position.{Position}
 use Rattle.papergrid_draw.specs.Tiles.{IsFirstPosition}
 use Rattle.papergrid_csv.specs.Numbers.{field_in}

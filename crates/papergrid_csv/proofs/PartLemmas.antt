@@ -40,7 +40,7 @@ pub crossings-none : {X : Type 0} (part : Setting → List X) → ((p : Position
 crossings-none part none config shape [] all = refl
 crossings-none part none config shape (s ∷ fitted) all =
     let sets = All-head (SetsCrossing config shape) s fitted all in
-    let first : part s ≡ [] = ap part sets.2.0 ∙ none sets.0 (corner_border sets.1) in
+    let first : part s ≡ [] = ap part sets.2 ∙ none sets.0 (corner_border sets.1) in
     rw first (crossings-none part none config shape fitted (All-tail (SetsCrossing config shape) s fitted all))
 
 module _ {X : Type 0} (part : Setting → List X) (request : Request) (columns : ℕ) (rows : List (List (List ℕ)))

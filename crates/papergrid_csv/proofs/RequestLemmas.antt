@@ -1,12 +1,8 @@
 -- What the settings of a request are.
-use Rattle.std.proofs.Common.{◌≡◌, ◌∙◌, get_or, ℕ, Bool, true, false, List, [], ◌∷◌, ◌++◌, All, Option, Some, None, ap, append-nil, flat_map, length, map, refl, sym, cond}
+use Rattle.std.proofs.Common.{◌≡◌, get_or, ℕ, Bool, true, false, List, [], ◌∷◌, ◌++◌, All, Option, Some, None, flat_map, length, refl, cond}
 use Rattle.std.specs.Prelude.{nat_lt}
-use Rattle.std.specs.List.{filter, list_all, range_with_len}
-use Rattle.std.proofs.lemmas.Bool.{and_parts}
-use Rattle.std.proofs.lemmas.Grind.{flat_map-append}
-use Rattle.std.proofs.lemmas.List.Elements.{All-append, All-cons, All-head, All-map, All-nil, All-tail}
-use Rattle.std.proofs.lemmas.List.Folds.{list_all-append}
-use Rattle.std.proofs.lemmas.List.Sums.{list_all-from_AllPass}
+use Rattle.std.specs.List.{filter, range_with_len}
+use Rattle.std.proofs.lemmas.List.Elements.{All-append, All-cons, All-map, All-nil}
 use Rattle.papergrid_values.specs.declared.alignment.AlignmentHorizontal.{AlignmentHorizontal}
 use Rattle.papergrid_values.specs.declared.alignment.AlignmentHorizontal.TheVariants.{Right}
 use Rattle.papergrid_values.specs.declared.alignment.AlignmentVertical.{AlignmentVertical}
@@ -74,9 +70,9 @@ module _ (P : Setting → Type 0) where
 -- each may be applied
 pub all-in-range : (request : Request) (columns : ℕ) (rows : List (List (List ℕ))) → All (λ setting. is_in_range setting ≡ true) (settings_of request columns rows)
 all-in-range request columns rows =
-    All-cons P (SetBorders request.frame) _ refl
-    (All-append P (head_line request.head (length rows)) _ (head request.head)
-    (All-cons P (SetPadding Global request.padding) _ refl
+    All-cons P (SetBorders request.frame) (head_line request.head (length rows) ++ (SetPadding Global request.padding ∷ others request columns rows)) refl
+    (All-append P (head_line request.head (length rows)) (SetPadding Global request.padding ∷ others request columns rows) (head request.head)
+    (All-cons P (SetPadding Global request.padding) (others request columns rows) refl
     (others-all P (λ _ _. refl) (λ _ _. refl) request columns rows (spans-all P (λ _ _. refl) (λ _ _. refl) request.spans.items))))
   where
     P : Setting → Type 0

@@ -1,7 +1,6 @@
 -- What a run writes of a table, of records, of rows and of an input.
-use Rattle.std.proofs.Common.{◌≡◌, ◌≢◌, ◌++◌, ℕ, Bool, false, List, [], Option, None, Some, Result, refl, subst, sym}
+use Rattle.std.proofs.Common.{◌≡◌, ℕ, Bool, List, [], Option, None, Some, refl, subst, sym}
 use Rattle.std.specs.Prelude.{length}
-use Rattle.papergrid_values.specs.declared.position.Position.{Position}
 use Rattle.papergrid_tracks.specs.declared.error.LayoutError.{LayoutError}
 use Rattle.papergrid_tracks.specs.declared.error.LayoutError.TheVariants as layout_errors
 use Rattle.papergrid_config.specs.History.{AppendsSettings}
@@ -19,8 +18,7 @@ use Rattle.papergrid_grid.specs.declared.crossings.Junctions.{Junctions}
 use Rattle.papergrid.specs.Estimates.{text_measure}
 use Rattle.papergrid.specs.Layouts.{IsConfiguredBy}
 use Rattle.papergrid.specs.Pictures.{IsDrawingWith, IsRefusal, Undrawn, Unsized}
-use Rattle.papergrid.specs.declared.running.RunFault.{RunFault}
-use Rattle.papergrid_csv.specs.Pictures.{AreFitted, Faulty, IsCsvDrawing, IsCsvRun, IsCsvTable, IsConfigured, IsUnfitted, Unfitted}
+use Rattle.papergrid_csv.specs.Pictures.{AreFitted, Faulty, IsCsvRun, IsCsvTable, IsConfigured, IsUnfitted, Unfitted}
 use Rattle.papergrid_csv.specs.Requests.{settings_of}
 use Rattle.papergrid_csv.specs.Rows.{AreRowsOf, IsUnread}
 use Rattle.papergrid_csv.specs.Shown.{AreCut}

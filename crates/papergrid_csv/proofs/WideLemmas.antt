@@ -28,8 +28,8 @@ use Rattle.papergrid_draw.proofs.WidthLemmas.{lines-wide}
 use Rattle.papergrid_grid.specs.declared.crossings.Junctions.{Junctions}
 use Rattle.papergrid.specs.Estimates.{text_measure}
 use Rattle.papergrid.specs.Layouts.{IsConfiguredBy}
-use Rattle.papergrid.specs.Pictures.{IsDrawingWith, texts_drawing}
-use Rattle.papergrid_csv.specs.Pictures.{AreFitted, IsConfigured, IsCsvDrawing, table_settings, table_shape}
+use Rattle.papergrid.specs.Pictures.{texts_drawing}
+use Rattle.papergrid_csv.specs.Pictures.{AreFitted, IsCsvDrawing, table_settings, table_shape}
 use Rattle.papergrid_csv.specs.Requests.{settings_of}
 use Rattle.papergrid_csv.specs.declared.request.Request.{Request}
 use Rattle.papergrid_csv.proofs.CutTextLemmas.{shown-length, shown-utf8}
@@ -57,7 +57,7 @@ at-position rows all p cell is = subst IsUtf8 is.1.1 (all p.row [] is.0 p.col ce
 fitted-no-paddings : (junctions : Option Junctions) (settings : List Setting) (shape : ℕ × ℕ) (config : SpannedConfig) (fitted : List Setting) → AreFitted junctions settings shape config fitted →
     flat_map padding_calls fitted ≡ []
 fitted-no-paddings None settings shape config fitted are = ap (flat_map padding_calls) are
-fitted-no-paddings (Some junctions) settings shape config fitted are = crossings-none padding_calls (λ _ _. refl) are.0 shape fitted are.2.0.corners
+fitted-no-paddings (Some junctions) settings shape config fitted are = crossings-none padding_calls (λ _ _. refl) are.0 shape fitted are.2.corners
 
 -- a vertical line of the frame stands between columns, whatever crossings were fitted
 vertical-stays : (request : Request) (columns : ℕ) (rows : List (List (List ℕ))) (junctions : Option Junctions) (shape : ℕ × ℕ) (config : SpannedConfig) (fitted : List Setting) →

@@ -1,5 +1,5 @@
 -- What keeps the rows of a text from their picture: a head that no column has, and fields under spans.
-use Rattle.std.specs.Prelude.{◌≡◌, ◌≢◌, ℕ, Bool, true, not, List, [], get_or, max, Option, string_bytes}
+use Rattle.std.specs.Prelude.{◌≢◌, ℕ, Bool, true, not, List, [], get_or, max, Option, string_bytes}
 use Rattle.std.specs.List.{Contains, list_any, position}
 use Rattle.std.specs.Str.{bytes_eq}
 use Rattle.papergrid_values.specs.declared.position.Position.{Position}

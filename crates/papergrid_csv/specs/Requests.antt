@@ -1,6 +1,6 @@
 -- The settings of a table of a CSV text.
-use Rattle.std.specs.Prelude.{ℕ, ◌++◌, nat_lt, if◌then◌else◌, Bool, true, false, List, [], ◌∷◌, Option, None, Some, drop, flat_map, get_or, length, map, string_bytes}
-use Rattle.std.specs.List.{filter, list_any, range_with_len}
+use Rattle.std.specs.Prelude.{ℕ, ◌++◌, nat_lt, if◌then◌else◌, Bool, List, [], ◌∷◌, Option, None, Some, drop, flat_map, get_or, length, map, string_bytes}
+use Rattle.std.specs.List.{filter, range_with_len}
 use Rattle.std.specs.Str.{bytes_eq}
 use Rattle.papergrid_values.specs.declared.alignment.AlignmentHorizontal.{AlignmentHorizontal}
 use Rattle.papergrid_values.specs.declared.alignment.AlignmentHorizontal.TheVariants.{Left, Right}

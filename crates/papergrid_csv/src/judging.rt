@@ -38,7 +38,8 @@ fn is_found(rows: &[Vec<&str>], name: &ColumnName) -> bool
 
 /// Whether the first row has a field with this text.
 fn has_head(rows: &[Vec<&str>], text: &str) -> bool
-    ensures { result ≡ list_any (λ field. bytes_eq field text.now) (first_row (map row_texts rows.now)) }
+    ensures { result ≡ list_any (λ field. bytes_eq field text.now)
+        (first_row (map row_texts rows.now)) }
 {
     match rows.get(0) {
         Some(row) => has_field(row, text),
@@ -48,7 +49,8 @@ fn has_head(rows: &[Vec<&str>], text: &str) -> bool
 
 /// Whether a row has a field with this text.
 fn has_field(row: &[&str], text: &str) -> bool
-    ensures { result ≡ list_any (λ field. bytes_eq field text.now) (map (λ field. field.now) row.now) }
+    ensures { result ≡ list_any (λ field. bytes_eq field text.now)
+        (map (λ field. field.now) row.now) }
 {
     for field in row {
         if *field == text {
@@ -58,7 +60,8 @@ fn has_field(row: &[&str], text: &str) -> bool
     false
 }
 
-/// The first position, by row and then by column, of a field that is not empty and that a span hides.
+/// The first position, by row and then by column, of a field that is not empty and that a span hides. Takes time that grows
+/// with the fields under each span.
 pub fn first_hidden(rows: &[Vec<&str>], spans: &[Span]) -> Option<Position>
     ensures { MatchOption result
         ((p : Position) → IsHidden spans.now (map row_texts rows.now) p → ⊥)

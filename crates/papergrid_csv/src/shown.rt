@@ -49,7 +49,8 @@ fn cut_row<'t>(
     columns: usize,
     row: Vec<&'t str>,
 ) -> Result<Vec<&'t str>, AllocError>
-    ensures { IfOk result (λ shown. AllZip (IsCut columns) (row_texts row.entry) (row_texts shown)) }
+    ensures { IfOk result (λ shown. AllZip (IsCut columns)
+        (row_texts row.entry) (row_texts shown)) }
 {
     let mut shown = Vec::with_capacity(alloc, row.len())?;
     for field in row {

@@ -54,10 +54,14 @@ fn aligned(rt: HostRuntime) -> Result<(), Fail> {
     request.columns.push((ColumnName::Head(name), center))?;
     let named = "╭───┬─────╮\n│ n │ abc │\n├───┼─────┤\n│ x │  1  │\n│ y │ 23  │\n╰───┴─────╯\n";
     ends(&rt, &request, text, CsvEnd::Drawn, named)?;
-    request.columns.push((ColumnName::Number(1), Alignment::Auto))?;
+    request
+        .columns
+        .push((ColumnName::Number(1), Alignment::Auto))?;
     ends(&rt, &request, text, CsvEnd::Drawn, right)?;
     let name = String::from_str(rt.alloc(), "ab")?;
-    request.columns.push((ColumnName::Head(name), Alignment::Auto))?;
+    request
+        .columns
+        .push((ColumnName::Head(name), Alignment::Auto))?;
     ends(&rt, &request, text, CsvEnd::NoColumn(2), "")
 }
 

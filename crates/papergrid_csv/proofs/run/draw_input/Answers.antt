@@ -11,6 +11,6 @@ returns-in-Ok g c =
     runs-also g.W.Sink.contents g.W.Sink.has_failed g.W.Sink.has_stalled (IsRowsRun c.args.request.now rows.columns (texts_of rows.rows)) (IsCsvRun c.args.request.now c.args.input.now)
     (csv-run-of c.args.request.now c.args.input.now rows.columns (texts_of rows.rows) c.in-Ok.ensures.rows) c.args.writer.now c.draw_rows.new.writer c.draw_rows.result c.draw_rows.ensures
 
-pub returns-in-Err : goal.returns-in-Err
-returns-in-Err g c =
+pub returns : goal.returns
+returns g c =
     rw c.end_unread.ensures (unread-run g.W.Sink.contents g.W.Sink.has_failed g.W.Sink.has_stalled c.args.request.now c.args.input.now c.args.writer.now c.in-Err.error c.in-Err.ensures.unread)

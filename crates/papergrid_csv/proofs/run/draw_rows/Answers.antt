@@ -38,6 +38,6 @@ returns g c =
     runs-also g.W.Sink.contents g.W.Sink.has_failed g.W.Sink.has_stalled
     (IsSettingsRun c.args.request.now c.in_ok-settings.settings.items (c.len.result, c.args.rows.columns) (column_count records) (texts_held (λ text. text.now) records))
     (IsRowsRun c.args.request.now c.args.rows.columns rows)
-    (rows-run-of c.args.request.now c.args.rows.columns rows (texts_of c.in_ok-shown.shown) c.in-None.ensures c.in_ok-shown.ensures c.in_ok-settings.settings.items (c.len.result, c.args.rows.columns)
+    (rows-run-of c.args.request.now c.args.rows.columns rows (texts_of c.in_ok-shown.shown) c.in_default.ensures c.in_ok-shown.ensures c.in_ok-settings.settings.items (c.len.result, c.args.rows.columns)
     (column_count records) (texts_held (λ text. text.now) records) c.in_ok-settings.ensures (ap (λ n. (n, c.args.rows.columns)) counted) (ap column_count c.with_size-records.ensures)
     (ap (texts_held (λ t. t.now)) c.with_size-records.ensures)) c.args.writer.now c.draw_records.new.writer c.draw_records.result c.draw_records.ensures

@@ -1,4 +1,4 @@
-use Rattle.std.proofs.Common.{◌≡◌, Err, ap, map, refl, subst, sym}
+use Rattle.std.proofs.Common.{Err, ap, map, refl, subst, sym}
 use Rattle.papergrid_config.specs.Grids.{spanned_grid}
 use Rattle.papergrid_draw.specs.Drawings.{Drawing, layout_of}
 use Rattle.papergrid_draw.specs.Tiles.{IsTileFault, IsTiled}

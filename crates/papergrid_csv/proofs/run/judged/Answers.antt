@@ -19,7 +19,7 @@ returns-in-Some-first_hidden c = (
       ∙ ap (first_missing (first_row (map row_texts c.deref.result.now))) (sym c.deref-2.ensures.value) ∙ sym c.first_missing.ensures ∙ c.in_default.is,
   c.if-request.false,
   subst (λ rows. IsFirstPosition (IsHidden c.args.request.now.spans.items (map row_texts rows)) c.in-Some-first_hidden.position) c.deref-3.ensures.value
-  (subst (λ spans. IsFirstPosition (IsHidden spans (map row_texts c.deref-3.result.now)) c.in-Some-first_hidden.position) c.deref-4.ensures.value c.in-Some-first_hidden.ensures),
+      (subst (λ spans. IsFirstPosition (IsHidden spans (map row_texts c.deref-3.result.now)) c.in-Some-first_hidden.position) c.deref-4.ensures.value c.in-Some-first_hidden.ensures),
 )
 
 pub returns-in-None : goal.returns-in-None
