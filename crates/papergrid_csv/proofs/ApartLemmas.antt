@@ -47,7 +47,6 @@ separator-apart c is front back =
 abbrev letters : List Range
 letters = (0xC0, 0x2FF) ∷ (0x370, 0x47F) ∷ (0x3041, 0x3096) ∷ (0x30A0, 0x30FF) ∷ (0x3400, 0x9FFF) ∷ (0xAC00, 0xD77F) ∷ []
 
-
 none-selected : AllPass letters (λ c. not (is_emoji_variation_base c))
 unfolding unicode_width
 none-selected = all_pass letters (λ c. not (is_emoji_variation_base c)) (map_stepped not is_emoji_variation_base is_emoji_variation_base_stepped) refl refl

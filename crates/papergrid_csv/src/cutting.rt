@@ -94,11 +94,11 @@ fn cut_place(columns: usize, line: &str) -> usize
     if columns <= printable {
         return columns.saturating_sub(1);
     }
-    place_after(columns, line, printable)
+    place_past_printable(columns, line, printable)
 }
 
 /// The same of a line that begins with so many bytes of printable ASCII, which stay.
-fn place_after(columns: usize, line: &str, printable: usize) -> usize
+fn place_past_printable(columns: usize, line: &str, printable: usize) -> usize
     requires wide { columns < width_of line.now }
     requires printable { printable ≡ prefix_len (is_in_range 0x20 0x7E) line.now }
     requires narrow { printable < columns }
