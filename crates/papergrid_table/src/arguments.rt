@@ -7,6 +7,7 @@ use crate::values::{
     vertical_of,
 };
 use papergrid::Sizing;
+use papergrid::grid::Junctions;
 use papergrid_csv::{Alignment, Format, Reading, Request};
 use papergrid_program::{Request as Asked, Unexpected, asked_by, name_like, shown};
 use papergrid_values::{AlignmentHorizontal, AlignmentVertical, Indent, Sides};
@@ -310,14 +311,7 @@ impl Draft {
         let side = style.padding();
         request.padding = pad.unwrap_or(padding(side, side, 0, 0));
         if fits {
-            request.junctions = style.junctions();
-            if request.junctions.is_none() {
-                let name = style.name();
-                let text = format!(in alloc;
-                    "--fit-crossings: the style {name} has no crossings to fit"
-                )?;
-                return Err(Misuse::Said(text));
-            }
+            request.junctions = Some(junctions_of(alloc, style)?);
         }
         Ok(Wanted {
             asked,
@@ -327,6 +321,18 @@ impl Draft {
             check,
             explains_json,
         })
+    }
+}
+
+/// The characters that fit crossings to spans. Not each style has all of them.
+fn junctions_of(alloc: Global, style: Style) -> Result<Junctions, Misuse> {
+    match style.junctions() {
+        Some(junctions) => Ok(junctions),
+        None => {
+            let name = style.name();
+            let text = "has no crossings to fit";
+            Err(Misuse::Said(format!(in alloc; "--fit-crossings: the style {name} {text}")?))
+        }
     }
 }
 
