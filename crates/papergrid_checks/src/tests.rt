@@ -96,19 +96,15 @@ fn small_table(rt: HostRuntime) {
     assert!(rt; is_as_told(rt.alloc()));
 }
 
-fn is_laid_out(alloc: Global) -> bool {
-    let (Ok(rows), Ok(settings)) = (rows(alloc), as_a_list(alloc)) else {
-        return false;
-    };
-    match laid_out(alloc, settings, &rows) {
-        Ok(dimension) => are_right(Ok(dimension.get_values())),
-        Err(_) => false,
-    }
+fn is_laid_out(alloc: Global) -> Result<bool, LayoutError> {
+    let rows = rows(alloc)?;
+    let dimension = laid_out(alloc, as_a_list(alloc)?, &rows)?;
+    Ok(are_right(Ok(dimension.get_values())))
 }
 
 #[test]
 fn by_a_list(rt: HostRuntime) {
-    assert!(rt; is_laid_out(rt.alloc()));
+    assert!(rt; is_laid_out(rt.alloc()) == Ok(true));
 }
 
 /// The texts of a table one after the other.

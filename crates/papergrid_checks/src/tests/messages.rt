@@ -63,20 +63,18 @@ fn of_lists_and_runs(rt: HostRuntime) {
     );
 }
 
-/// What is said of a row of two texts where the cell at a position spans so many columns.
-fn says_of_span(alloc: Global, position: Position, span: usize, words: &str) -> bool {
-    let Ok(settings) = vec![in alloc; Setting::SetColumnSpan(position, span)] else {
-        return false;
-    };
-    let Ok(row) = vec![in alloc; "one", "two"] else {
-        return false;
-    };
+/// Whether these are the words that are said of a row of two texts where the cell at a position spans so many columns.
+fn says_of_span(
+    alloc: Global,
+    position: Position,
+    span: usize,
+    words: &str,
+) -> Result<bool, AllocError> {
+    let settings = vec![in alloc; Setting::SetColumnSpan(position, span)]?;
+    let row = vec![in alloc; "one", "two"]?;
     match first_place(alloc, settings, &[row]) {
-        Ok(_) => false,
-        Err(error) => match format!(in alloc; "{error:#}") {
-            Ok(text) => text.as_str() == words,
-            Err(_) => false,
-        },
+        Ok(_) => Ok(false),
+        Err(error) => Ok(format!(in alloc; "{error:#}")?.as_str() == words),
     }
 }
 
@@ -84,5 +82,5 @@ fn says_of_span(alloc: Global, position: Position, span: usize, words: &str) -> 
 fn with_context(rt: HostRuntime) {
     let second = Position::new(0, 1);
     let words = "no sizes: the cell at row 0, column 1 reaches out of the table";
-    assert!(rt; says_of_span(rt.alloc(), second, 3, words));
+    assert!(rt; says_of_span(rt.alloc(), second, 3, words) == Ok(true));
 }

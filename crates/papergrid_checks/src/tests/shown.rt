@@ -88,19 +88,14 @@ fn entities(rt: HostRuntime) {
 }
 
 /// Texts without padding are as wide as the widest of a column.
-fn is_tight(alloc: Global) -> bool {
-    let Ok(text) = String::from_str(alloc, "four") else {
-        return false;
-    };
-    match vec![in alloc; text] {
-        Ok(row) => of_compact(alloc, &[row], &tight()) == Ok(4),
-        Err(_) => false,
-    }
+fn is_tight(alloc: Global) -> Result<bool, AllocError> {
+    let row = vec![in alloc; String::from_str(alloc, "four")?]?;
+    Ok(of_compact(alloc, &[row], &tight()) == Ok(4))
 }
 
 #[test]
 fn compact(rt: HostRuntime) {
-    assert!(rt; is_tight(rt.alloc()));
+    assert!(rt; is_tight(rt.alloc()) == Ok(true));
 }
 
 /// Two texts of ten columns each, over the first two columns and over the last two.

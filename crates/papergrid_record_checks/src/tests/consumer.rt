@@ -15,7 +15,9 @@ pub fn widest<R: Records + Drop>(alloc: Global, records: R) -> Result<Vec<usize>
 where
     <<R as Records>::Iter as IntoRecords>::Cell: AsStr + Drop,
     requires { R.is_lawful records }
-    ensures { IfOk result (λ widths. (cells : List (List R.Iter.Cell)) × R.tells records cells × (widths.items ≡ greatest_widths (R.columns records) (map (map (λ cell. text_width (R.Iter.Cell.text cell))) cells))) }
+    ensures { IfOk result (λ widths. (cells : List (List R.Iter.Cell)) × R.tells records cells
+        × (widths.items ≡ greatest_widths (R.columns records)
+        (map (map (λ cell. text_width (R.Iter.Cell.text cell))) cells))) }
 {
     let columns = records.count_columns();
     let mut widths = vec![in alloc; 0usize; columns]?;

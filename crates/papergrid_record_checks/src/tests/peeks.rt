@@ -90,7 +90,8 @@ fn exact_cells(rt: HostRuntime) {
 fn measures<R: PeekableRecords>(records: &R, pos: Position) -> (usize, usize)
     requires there { R.has records.now pos }
     requires plain { R.is_plain_at records.now pos }
-    ensures { result ≡ (length (std_lines (R.text records.now pos)), text_width (R.text records.now pos)) }
+    ensures { let text = R.text records.now pos in
+        result ≡ (length (std_lines text), text_width text) }
 {
     (records.count_lines(pos), records.get_width(pos))
 }
@@ -98,7 +99,8 @@ fn measures<R: PeekableRecords>(records: &R, pos: Position) -> (usize, usize)
 /// The same by a caller that learns them exactly, through a reference too.
 pub fn of_strings(records: &VecRecords<String>, pos: Position) -> (usize, usize)
     requires { HasCell (rows_held records.now).items pos }
-    ensures { result ≡ (length (std_lines (cell_text string_bytes (rows_held records.now).items pos)), text_width (cell_text string_bytes (rows_held records.now).items pos)) }
+    ensures { let text = cell_text string_bytes (rows_held records.now).items pos in
+        result ≡ (length (std_lines text), text_width text) }
 {
     measures(&records, pos)
 }

@@ -26,63 +26,76 @@ fn iterated<I>(rows: I, columns: usize) -> IterRecords<RowIter<I>>
 }
 
 pub fn of_vectors(alloc: Global, rows: Vec<Vec<&str>>, columns: usize) -> Widths
-    ensures { IfOk result (λ widths. widths.items ≡ greatest_widths columns (map (λ row. map (λ cell. text_width cell.now) row.items) rows.entry.items)) }
+    ensures { IfOk result (λ widths. widths.items ≡ greatest_widths columns
+        (map (λ row. map (λ cell. text_width cell.now) row.items) rows.entry.items)) }
 {
     widest(alloc, IterRecords::new(rows, columns, None))
 }
 
 pub fn of_lent(alloc: Global, rows: &Vec<Vec<String>>, columns: usize) -> Widths
-    ensures { IfOk result (λ widths. widths.items ≡ greatest_widths columns (map (λ row. map (λ cell. text_width (string_bytes cell)) row.items) rows.now.items)) }
+    ensures { IfOk result (λ widths. widths.items ≡ greatest_widths columns
+        (map (λ row. map (λ cell. text_width (string_bytes cell)) row.items) rows.now.items)) }
 {
     widest(alloc, IterRecords::new(rows, columns, None))
 }
 
 pub fn of_slice(alloc: Global, rows: &[Vec<String>], columns: usize) -> Widths
-    ensures { IfOk result (λ widths. widths.items ≡ greatest_widths columns (map (λ row. map (λ cell. text_width (string_bytes cell)) row.items) rows.now)) }
+    ensures { IfOk result (λ widths. widths.items ≡ greatest_widths columns
+        (map (λ row. map (λ cell. text_width (string_bytes cell)) row.items) rows.now)) }
 {
     widest(alloc, IterRecords::new(rows, columns, None))
 }
 
 pub fn of_slices(alloc: Global, rows: Vec<&[&str]>, columns: usize) -> Widths
-    ensures { IfOk result (λ widths. widths.items ≡ greatest_widths columns (map (λ row. map (λ cell. text_width cell.now) row.now) rows.entry.items)) }
+    ensures { IfOk result (λ widths. widths.items ≡ greatest_widths columns
+        (map (λ row. map (λ cell. text_width cell.now) row.now) rows.entry.items)) }
 {
     widest(alloc, IterRecords::new(rows, columns, None))
 }
 
 pub fn of_row_iter(alloc: Global, rows: &[Vec<String>], columns: usize) -> Widths
-    ensures { IfOk result (λ widths. widths.items ≡ greatest_widths columns (map (λ row. map (λ cell. text_width (string_bytes cell)) row.items) rows.now)) }
+    ensures { IfOk result (λ widths. widths.items ≡ greatest_widths columns
+        (map (λ row. map (λ cell. text_width (string_bytes cell)) row.items) rows.now)) }
 {
     vectors_tell_rows::<String>();
     widest(alloc, iterated(rows.iter(), columns))
 }
 
 pub fn of_nested(alloc: Global, records: IterRecords<Vec<Vec<String>>>, columns: usize) -> Widths
-    ensures { IfOk result (λ widths. widths.items ≡ greatest_widths columns (map (λ row. map (λ cell. text_width (string_bytes cell)) row.items) (counted_rows records).items)) }
+    ensures { IfOk result (λ widths. widths.items ≡ greatest_widths columns
+        (map (λ row. map (λ cell. text_width (string_bytes cell)) row.items)
+        (counted_rows records).items)) }
 {
     widest(alloc, IterRecords::new(records, columns, None))
 }
 
 pub fn of_lent_records(alloc: Global, records: &IterRecords<Vec<Vec<String>>>) -> Widths
-    ensures { IfOk result (λ widths. widths.items ≡ greatest_widths (counted_columns records.now) (map (λ row. map (λ cell. text_width (string_bytes cell)) row.items) (counted_rows records.now).items)) }
+    ensures { IfOk result (λ widths. widths.items ≡ greatest_widths (counted_columns records.now)
+        (map (λ row. map (λ cell. text_width (string_bytes cell)) row.items)
+        (counted_rows records.now).items)) }
 {
     widest(alloc, records)
 }
 
 pub fn of_held(alloc: Global, records: &VecRecords<String>) -> Widths
-    ensures { IfOk result (λ widths. widths.items ≡ greatest_widths (column_count records.now) (map (λ row. map (λ cell. text_width (string_bytes cell)) row.items) (rows_held records.now).items)) }
+    ensures { IfOk result (λ widths. widths.items ≡ greatest_widths (column_count records.now)
+        (map (λ row. map (λ cell. text_width (string_bytes cell)) row.items)
+        (rows_held records.now).items)) }
 {
     widest(alloc, records)
 }
 
 pub fn of_texts(alloc: Global, rows: Vec<Vec<Text<String>>>, columns: usize) -> Widths
-    ensures { IfOk result (λ widths. widths.items ≡ greatest_widths columns (map (λ row. map (λ cell. text_width (string_bytes cell.text)) row.items) rows.items)) }
+    ensures { IfOk result (λ widths. widths.items ≡ greatest_widths columns
+        (map (λ row. map (λ cell. text_width (string_bytes cell.text)) row.items) rows.items)) }
 {
     widest(alloc, VecRecords::with_size(rows, 0, columns))
 }
 
 pub fn of_chunks(alloc: Global, texts: &[String], columns: usize) -> Widths
     requires { 0 < columns }
-    ensures { IfOk result (λ widths. widths.items ≡ greatest_widths columns (map (map (λ cell. text_width (string_bytes cell))) (cut_rows columns texts.now))) }
+    ensures { IfOk result (λ widths. widths.items ≡ greatest_widths columns
+        (map (map (λ cell. text_width (string_bytes cell))) (cut_rows columns texts.now))) }
 {
     chunks_tell_rows::<String>();
     widest(alloc, iterated(texts.chunks(columns), columns))
@@ -90,7 +103,8 @@ pub fn of_chunks(alloc: Global, texts: &[String], columns: usize) -> Widths
 
 pub fn of_exact_chunks(alloc: Global, texts: &[String], columns: usize) -> Widths
     requires { 0 < columns }
-    ensures { IfOk result (λ widths. widths.items ≡ greatest_widths columns (map (map (λ cell. text_width (string_bytes cell))) (cut_whole_rows columns texts.now))) }
+    ensures { IfOk result (λ widths. widths.items ≡ greatest_widths columns
+        (map (map (λ cell. text_width (string_bytes cell))) (cut_whole_rows columns texts.now))) }
 {
     exact_chunks_tell_rows::<String>();
     widest(alloc, iterated(texts.chunks_exact(columns), columns))
