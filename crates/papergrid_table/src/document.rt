@@ -1,5 +1,7 @@
 //! The table of a JSON document: drawn, and what keeps it from being drawn.
 
+ghost use Rattle.std.specs.Prelude.{◌≡◌, false};
+
 use papergrid::grid::DrawError;
 use papergrid::{RunFault, Sink, Sizing, Source, read_all};
 use papergrid_json::{DocumentError, SETTINGS, draw_document, read_document};
