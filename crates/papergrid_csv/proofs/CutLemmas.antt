@@ -1,6 +1,6 @@
 -- Where a line is cut, and what is shown of it.
-use Rattle.std.proofs.Common.{◌≡◌, ◌≢◌, ◌∙◌, ◌⊎◌, inl, inr, ◌<◌, ◌≤◌, ◌+◌, ◌-◌, ℕ, zero, suc, List, [], ◌∷◌, ◌++◌, Bool, true, false, cond, not, Result, Ok, Err, OnOk, All, append-nil, append_assoc, ap, arith, drop, get_or, length, length-append, map, max, min, refl, subst, sym, take}
-use Rattle.std.specs.Prelude.{◌==◌, ◌&&◌, ◌||◌, IsUtf8, chars, encode_utf8, encode_utf8_all}
+use Rattle.std.proofs.Common.{◌≡◌, ◌∙◌, inl, inr, ◌<◌, ◌≤◌, ◌+◌, ◌-◌, ℕ, zero, suc, List, [], ◌∷◌, ◌++◌, Bool, true, false, cond, Result, Ok, Err, OnOk, All, append-nil, append_assoc, ap, arith, drop, get_or, length, length-append, min, refl, subst, sym, take}
+use Rattle.std.specs.Prelude.{◌&&◌, IsUtf8, chars, encode_utf8_all}
 use Rattle.std.specs.Int.{is_in_range}
 use Rattle.std.specs.List.{AllZip, join_with_byte, list_all, prefix_len}
 use Rattle.std.specs.Str.{IsCharBoundary}
@@ -8,10 +8,10 @@ use Rattle.std.proofs.Math.Seq.{drop-append_seam, take-append-add, take-append_s
 use Rattle.std.proofs.Math.Utf8.{encode}
 use Rattle.std.proofs.lemmas.Bool.{cases_lt}
 use Rattle.std.proofs.lemmas.Bool.Decides.{nat_tests}
-use Rattle.std.proofs.lemmas.List.{length-take-le, length_push, nil_from_length, take-append-drop, take-append-le, take-take, take_all, take_more}
+use Rattle.std.proofs.lemmas.List.{length-take-le, length_push, take-append-drop, take-append-le, take-take, take_all, take_more}
 use Rattle.std.proofs.lemmas.List.Elements.{All-cons, All-head, All-nil, All-tail, AllZip-push}
 use Rattle.std.proofs.lemmas.List.Sums.{prefix_len-le-length}
-use Rattle.std.proofs.lemmas.Str.{IsCharBoundary-at_seam, IsCharBoundary-start, IsUtf8-from_ascii, IsUtf8-nil, IsUtf8-past_char, chars-IsAscii, chars-append, chars_from_encodes, chars_past_char, encode_ascii, encodes-IsAscii, encodes-append, encodes-chars}
+use Rattle.std.proofs.lemmas.Str.{IsCharBoundary-at_seam, IsCharBoundary-start, IsUtf8-from_ascii, IsUtf8-past_char, chars-IsAscii, chars-append, encodes-IsAscii, encodes-append, encodes-chars}
 use Rattle.unicode_width.specs.Width.{str_width}
 use Rattle.unicode_width.proofs.Rules.{str_width-printable}
 use Rattle.papergrid_width.proofs.PrintableLemmas.{ascii, front_printable, width-printable}

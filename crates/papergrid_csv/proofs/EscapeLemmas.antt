@@ -1,6 +1,6 @@
 -- What the characters of a field between tabs stand for, one character after another.
-use Rattle.std.proofs.Common.{◌≡◌, ◌≢◌, ◌∙◌, ℕ, List, [], ◌∷◌, ◌++◌, Bool, true, false, not, cond, Result, Ok, Err, append-nil, append_assoc, ap, arith, refl, subst, sym}
-use Rattle.std.specs.Prelude.{◌==◌, ◌&&◌, OnOk, encode_utf8_all, flat_map}
+use Rattle.std.proofs.Common.{◌≡◌, ◌≢◌, ◌∙◌, ℕ, List, [], ◌∷◌, ◌++◌, Bool, true, false, cond, Result, Ok, Err, append-nil, append_assoc, ap, arith, refl, subst, sym}
+use Rattle.std.specs.Prelude.{◌==◌, OnOk, encode_utf8_all, flat_map}
 use Rattle.std.specs.List.{list_any}
 use Rattle.std.proofs.lemmas.Bool.Decides.{nat_tests}
 use Rattle.std.proofs.lemmas.Grind.{flat_map-append}
@@ -8,7 +8,7 @@ use Rattle.std.proofs.lemmas.Str.{encodes-append}
 use Rattle.papergrid_csv.specs.Spelling.{escaped, is_escaped, meant, spelled_character, unescaped}
 use Rattle.papergrid_csv.specs.ForProofs.Escapes.{after_backslash}
 use Rattle.papergrid_csv.specs.declared.reading.Format.{Format}
-use Rattle.papergrid_csv.specs.declared.reading.Format.TheVariants.{Csv, Tsv}
+use Rattle.papergrid_csv.specs.declared.reading.Format.TheVariants.{Tsv}
 use Rattle.papergrid_csv.specs.declared.reading.Reading.{Reading}
 
 -- ---- what stands for what

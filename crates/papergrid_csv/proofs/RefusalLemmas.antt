@@ -1,7 +1,8 @@
 -- The table of a CSV text is refused only where it is too large.
-use Rattle.std.proofs.Common.{◌≡◌, ◌+◌, ◌<◌, ◌≤◌, ℕ, Bool, false, List, [], ◌∷◌, All, None, arith, length, refl, subst, sym}
+use Rattle.std.proofs.Common.{◌≡◌, ◌∙◌, ◌+◌, ◌<◌, ◌≤◌, ◌++◌, ℕ, Bool, false, List, [], ◌∷◌, All, Option, None, Some, ap, append-nil, arith, flat_map, length, refl, subst, sym}
 use Rattle.std.specs.Prelude.{◌||◌, nat_lt}
 use Rattle.std.specs.List.{find}
+use Rattle.std.proofs.lemmas.Grind.{flat_map-append}
 use Rattle.std.proofs.lemmas.Bool.Decides.{nat_tests}
 use Rattle.std.proofs.lemmas.List.Elements.{All-append, All-cons, All-filter, All-head, All-map, All-nil, All-tail}
 use Rattle.papergrid_values.specs.declared.direction.Direction.TheVariants.{Columns, Rows}
@@ -10,6 +11,8 @@ use Rattle.papergrid_maps.specs.Grids.{Grid}
 use Rattle.papergrid_tracks.specs.declared.error.LayoutError.{LayoutError}
 use Rattle.papergrid_tracks.specs.declared.error.LayoutError.TheVariants as layout_errors
 use Rattle.papergrid_walk.specs.Cells.{placed_from, placed_row, positioned_cells, visible_cells}
+use Rattle.papergrid_config.specs.Parts.{span_calls}
+use Rattle.papergrid_config.specs.declared.setting.Setting.{Setting}
 use Rattle.papergrid_config.specs.Grids.{spanned_grid}
 use Rattle.papergrid_config.specs.declared.spanned.SpannedConfig.{SpannedConfig}
 use Rattle.papergrid_layout.specs.Answers.{first_out_of_table, overflows}
@@ -22,16 +25,18 @@ use Rattle.papergrid_draw.specs.Faults.{AllHaveRoom, IsDrawFault}
 use Rattle.papergrid_draw.specs.Tiles.{IsTiled}
 use Rattle.papergrid_draw.specs.declared.error.DrawError.{DrawError}
 use Rattle.papergrid_draw.specs.declared.error.DrawError.TheVariants as draw_errors
+use Rattle.papergrid_grid.specs.Crossings.{IsFitFault, bare_drawing}
+use Rattle.papergrid_grid.specs.declared.crossings.Junctions.{Junctions}
 use Rattle.papergrid.specs.Estimates.{text_measure}
-use Rattle.papergrid.specs.Pictures.{IsRefusal, Undrawn, Unsized}
-use Rattle.papergrid_csv.specs.Pictures.{IsCsvRefused}
+use Rattle.papergrid.specs.Pictures.{IsFaultWith, IsRefusal, Undrawn, Unsized, texts_drawing}
+use Rattle.papergrid_csv.specs.Pictures.{AreFitted, Faulty, IsCsvRefused, IsUnfitted, IsUnpictured, Unfitted}
 use Rattle.papergrid_csv.specs.Requests.{settings_of}
 use Rattle.papergrid_csv.specs.declared.request.Request.{Request}
-use Rattle.papergrid_csv.proofs.CsvLemmas.{both-fit}
-use Rattle.papergrid_csv.proofs.RequestLemmas.{no-spans}
+use Rattle.papergrid_csv.proofs.CutTextLemmas.{shown-full}
+use Rattle.papergrid_csv.proofs.PartLemmas.{crossings-none, no-spans}
 use Rattle.papergrid_csv.proofs.RowLemmas.{rows-full}
-use Rattle.papergrid_csv.proofs.TableLemmas.{HasNoSpans, none-spanned}
-use Rattle.papergrid_csv.proofs.WideLemmas.{table-room, table-tiled}
+use Rattle.papergrid_csv.proofs.TableLemmas.{HasNoSpans, none-spanned, tiled}
+use Rattle.papergrid_csv.proofs.SizedLemmas.{room-with}
 
 -- ---- no cell overflows the table
 
@@ -87,23 +92,52 @@ undrawn-large d tiled room draw_errors.TooLarge fault named = refl
 undrawn-large d tiled room (draw_errors.Memory error) fault named = absurd named
 undrawn-large d tiled room draw_errors.Write fault named = absurd named
 
-pub refused-large : (request : Request) (input : List ℕ) (so : IsCsvRefused request input) → so.error ≡ draw_errors.TooLarge
-refused-large request input so =
-    let (config, told, fault) = so.fault in
-    let full = rows-full request.reading input so.columns so.rows so.are in
-    let spans = none-spanned (settings_of request (length so.rows)) config (no-spans request (length so.rows)) told.effective.spans in
-    elim fault [
-      | Unsized error is none ↦ by config spans full error is none
-      | Undrawn d drawn why ↦
-          let fit = both-fit config so.columns so.rows request.sizing drawn.widths drawn.heights drawn.sized in
-          undrawn-large d
-          (subst (λ (e : Drawing). IsTiled (layout_of e)) (sym drawn.is) (table-tiled so.columns so.rows config drawn.widths drawn.heights request told.told told.effective))
-          (subst AllHaveRoom (sym drawn.is) (table-room so.columns so.rows config drawn.widths drawn.heights request told.told told.effective fit.across)) so.error why so.refuses
-    ]
-  where
-    by : (config : SpannedConfig) → HasNoSpans (spanned_grid config) → All (λ row. length row ≡ so.columns) so.rows → (error : LayoutError) → so.error ≡ draw_error_of error →
-        AreNoSizesBySizing config text_measure so.columns so.rows request.sizing error → so.error ≡ draw_errors.TooLarge
-    by config spans full (layout_errors.OutOfTable p) is none =
-        absurd (no-overflow config so.columns so.rows request.sizing p (none-out (spanned_grid config) spans so.columns so.rows full) none)
-    by config spans full layout_errors.TooLarge is none = is
-    by config spans full (layout_errors.Memory error) is none = absurd (subst IsRefusal is so.refuses)
+-- the spans do not keep a table from having crossings that fit
+unfitted-large : (plain : SpannedConfig) (shape : ℕ × ℕ) → HasNoSpans (spanned_grid plain) → (e : DrawError) → IsFitFault plain shape e → IsRefusal e → e ≡ draw_errors.TooLarge
+unfitted-large plain shape spans (draw_errors.OutOfTable p) fault named = absurd ((tiled (layout_of (bare_drawing plain shape)) spans).within p fault.it)
+unfitted-large plain shape spans (draw_errors.NotTiled p) fault named = absurd (fault.1.it.1 ((tiled (layout_of (bare_drawing plain shape)) spans).once p fault.1.it.0))
+unfitted-large plain shape spans (draw_errors.NoRoom p) fault named = absurd fault
+unfitted-large plain shape spans draw_errors.TooLarge fault named = refl
+unfitted-large plain shape spans (draw_errors.Memory error) fault named = absurd named
+unfitted-large plain shape spans draw_errors.Write fault named = absurd fault
+
+-- settings that fit crossings make no spans
+fitted-no-spans : (junctions : Option Junctions) (settings : List Setting) (shape : ℕ × ℕ) (config : SpannedConfig) (fitted : List Setting) → AreFitted junctions settings shape config fitted → flat_map span_calls fitted ≡ []
+fitted-no-spans None settings shape config fitted are = ap (flat_map span_calls) are
+fitted-no-spans (Some junctions) settings shape config fitted are = crossings-none span_calls (λ _ _. refl) are.0 shape fitted are.2.corners
+
+module _ (request : Request) (empty : request.spans.items ≡ []) (columns : ℕ) (rows shown : List (List (List ℕ))) (full : All (λ row. length row ≡ columns) shown) where
+  unsized-large : (config : SpannedConfig) → HasNoSpans (spanned_grid config) → (e : DrawError) → IsRefusal e → (error : LayoutError) → e ≡ draw_error_of error →
+      AreNoSizesBySizing config text_measure columns shown request.sizing error → e ≡ draw_errors.TooLarge
+  unsized-large config spans e named (layout_errors.OutOfTable p) is none =
+      absurd (no-overflow config columns shown request.sizing p (none-out (spanned_grid config) spans columns shown full) none)
+  unsized-large config spans e named layout_errors.TooLarge is none = is
+  unsized-large config spans e named (layout_errors.Memory error) is none = absurd (subst IsRefusal is named)
+
+  faulty-large : (config : SpannedConfig) → HasNoSpans (spanned_grid config) → (e : DrawError) → IsRefusal e → IsFaultWith columns shown request.sizing config e → e ≡ draw_errors.TooLarge
+  faulty-large config spans e named (Unsized error is none) = unsized-large config spans e named error is none
+  faulty-large config spans e named (Undrawn d drawn why) =
+      undrawn-large d
+      (subst (λ (x : Drawing). IsTiled (layout_of x)) (sym drawn.is) (tiled (layout_of (texts_drawing config shown drawn.widths drawn.heights)) spans))
+      (room-with columns shown request.sizing config d drawn) e why named
+
+  unfitted-so : (junctions : Option Junctions) (shape : ℕ × ℕ) (e : DrawError) → IsRefusal e → IsUnfitted junctions (settings_of request columns rows) shape e → e ≡ draw_errors.TooLarge
+  unfitted-so None shape e named is = absurd is
+  unfitted-so (Some junctions) shape e named is =
+      unfitted-large is.0 shape (none-spanned (settings_of request columns rows) is.0 (no-spans request columns rows empty) is.1.effective.spans) e is.2 named
+
+  fault-large : (shape : ℕ × ℕ) (e : DrawError) → IsRefusal e → IsUnpictured request (settings_of request columns rows) shape columns shown e → e ≡ draw_errors.TooLarge
+  fault-large shape e named (Unfitted is) = unfitted-so request.junctions shape e named is
+  fault-large shape e named (Faulty config configured fault) =
+      let settings = settings_of request columns rows in
+      let none : flat_map span_calls (settings ++ configured.fitted) ≡ [] =
+      flat_map-append span_calls settings configured.fitted
+      ∙ ap (λ l. flat_map span_calls settings ++ l) (fitted-no-spans request.junctions settings shape config configured.fitted configured.fit)
+      ∙ append-nil (flat_map span_calls settings) ∙ no-spans request columns rows empty in
+      faulty-large config (none-spanned (settings ++ configured.fitted) config none configured.told.effective.spans) e named fault
+
+pub refused-large : (request : Request) (input : List ℕ) (e : DrawError) → request.spans.items ≡ [] → IsCsvRefused request input e → e ≡ draw_errors.TooLarge
+refused-large request input e empty so =
+    let table = so.table in
+    fault-large request empty table.columns table.rows table.shown
+    (shown-full request.cut table.columns table.rows table.shown (rows-full request.reading input table.columns table.rows table.are) table.cut) (length table.rows, table.columns) e so.refuses so.fault

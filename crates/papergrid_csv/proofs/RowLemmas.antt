@@ -9,8 +9,6 @@ use Rattle.std.proofs.lemmas.List.{length-map, length-replicate}
 use Rattle.std.proofs.lemmas.List.Elements.{All-append, All-cons, All-head, All-nil, All-tail}
 use Rattle.std.proofs.lemmas.Str.{IsUtf8-append, IsUtf8-from_ascii, IsUtf8-nil, encodes-append, scalars-chars}
 use Rattle.csv.specs.Records.{AllText}
-use Rattle.papergrid_values.specs.declared.position.Position.{Position}
-use Rattle.papergrid_layout.specs.Laws.{IsCellAt}
 use Rattle.papergrid_csv.specs.Rows.{AreRowsOf, filled_up, greatest_length}
 use Rattle.papergrid_csv.specs.Spelling.{escaped, is_ascii_control, is_escaped, is_other_control, meant, spelled, spelled_character, spelled_in_line, spelled_other, spelled_tab, two_digits, unescaped}
 use Rattle.papergrid_csv.specs.declared.reading.Format.{Format}
@@ -115,11 +113,9 @@ rows-utf8 reading columns (fields ∷ records) all =
     (All-append IsUtf8 (map (spelled reading) fields) _ (fields-utf8 reading fields (All-head AllText fields records all)) (empty-utf8 _))
     (rows-utf8 reading columns records (All-tail AllText fields records all))
 
-pub cells-utf8 : (reading : Reading) (input : List ℕ) (columns : ℕ) (rows : List (List (List ℕ))) → AreRowsOf reading input columns rows →
-    (p : Position) (cell : List ℕ) → IsCellAt rows p cell → IsUtf8 cell
-cells-utf8 reading input columns rows are p cell is =
-    let all : All (All IsUtf8) rows = subst (All (All IsUtf8)) (sym are.shown) (rows-utf8 reading columns are.records are.may.texts) in
-    subst IsUtf8 is.1.1 (all p.row [] is.0 p.col cell is.1.0)
+-- each field is a text
+pub all-utf8 : (reading : Reading) (input : List ℕ) (columns : ℕ) (rows : List (List (List ℕ))) → AreRowsOf reading input columns rows → All (All IsUtf8) rows
+all-utf8 reading input columns rows are = subst (All (All IsUtf8)) (sym are.shown) (rows-utf8 reading columns are.records are.may.texts)
 
 rows-filled : (reading : Reading) (columns : ℕ) (records : List (List (List ℕ))) → greatest_length records ≤ columns →
     All (λ row. length row ≡ columns) (map (λ fields. filled_up columns (map (spelled reading) fields)) records)

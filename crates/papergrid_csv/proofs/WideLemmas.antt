@@ -1,112 +1,113 @@
--- The table of a request: its spans, its lines and its room.
-use Rattle.std.proofs.Common.{◌≡◌, ◌∙◌, ◌⊎◌, ◌+◌, ◌<◌, ◌≤◌, ℕ, Bool, true, List, [], ◌∷◌, All, ap, arith, inl, inr, length, refl, subst, sym, slice_index, take}
-use Rattle.std.specs.Prelude.{◌==◌, IsSome, IsUtf8, None, sum}
-use Rattle.std.specs.List.{list_all, range_with_len}
-use Rattle.std.proofs.lemmas.List.Splits.{length-slice_split}
-use Rattle.std.proofs.lemmas.List.Sums.{sum_by-cons}
+-- Each line of the picture of a CSV text is as wide as its table.
+use Rattle.std.proofs.Common.{◌≡◌, ◌∙◌, ◌⊎◌, ◌<◌, ◌++◌, ℕ, true, List, [], ◌∷◌, All, Option, None, Some, ap, append-nil, flat_map, inl, inr, length, refl, subst, sym}
+use Rattle.std.specs.Prelude.{IsSome, IsUtf8}
+use Rattle.std.specs.List.{list_all}
+use Rattle.std.proofs.lemmas.List.Folds.{list_all-append}
 use Rattle.papergrid_values.specs.declared.direction.Direction.TheVariants.{Columns, Rows}
 use Rattle.papergrid_values.specs.declared.position.Position.{Position}
 use Rattle.papergrid_text.specs.Text.{width_of}
 use Rattle.papergrid_tracks.specs.Fits.{Fits}
-use Rattle.papergrid_tracks.specs.declared.demand.Demand.{Demand}
-use Rattle.papergrid_maps.specs.Grids.{Grid}
 use Rattle.papergrid_walk.specs.Cells.{problem_of}
-use Rattle.papergrid_walk.specs.Measures.{line_measure}
 use Rattle.papergrid_config.specs.Grids.{spanned_grid}
-use Rattle.papergrid_config.specs.History.{HasSettingHistory}
-use Rattle.papergrid_config.specs.Laws.{HoldsEffectiveValues}
+use Rattle.papergrid_config.specs.Parts.{padding_calls}
+use Rattle.papergrid_config.specs.declared.setting.Setting.{Setting}
 use Rattle.papergrid_config.specs.declared.spanned.SpannedConfig.{SpannedConfig}
 use Rattle.papergrid_layout.specs.Laws.{IsCellAt}
-use Rattle.papergrid_layout.specs.Places.{sum_from, total, total_along}
+use Rattle.papergrid_layout.specs.Places.{total_along}
+use Rattle.papergrid_layout.specs.Tables.{AreSizesBySizing}
+use Rattle.papergrid_layout.specs.declared.sizing.Sizing.{Sizing}
+use Rattle.papergrid_layout.specs.declared.sizing.Sizing.TheVariants.{ByShares, Least}
 use Rattle.papergrid_draw.specs.Drawings.{Drawing, layout_of}
-use Rattle.papergrid_draw.specs.Drawn.{drawn_lines}
-use Rattle.papergrid_draw.specs.Faults.{AllHaveRoom, whole_height}
+use Rattle.papergrid_draw.specs.Drawn.{drawn_lines, has_vertical}
 use Rattle.papergrid_draw.specs.Laws.{pieces_of}
 use Rattle.papergrid_draw.specs.Separated.{AreApart, setting_separates, text_of}
 use Rattle.papergrid_draw.specs.Tiles.{IsTiled}
-use Rattle.papergrid_draw.proofs.EstimateLemmas.{texts-leave-room}
 use Rattle.papergrid_draw.proofs.HonestLemmas.{texts-honest}
 use Rattle.papergrid_draw.proofs.SettingLemmas.{with-separators}
 use Rattle.papergrid_draw.proofs.WidthLemmas.{lines-wide}
-use Rattle.papergrid_grid.specs.Cells.{lines_at, text_lines}
+use Rattle.papergrid_grid.specs.declared.crossings.Junctions.{Junctions}
+use Rattle.papergrid.specs.Estimates.{text_measure}
+use Rattle.papergrid.specs.Layouts.{IsConfiguredBy}
+use Rattle.papergrid.specs.Pictures.{IsDrawingWith, texts_drawing}
+use Rattle.papergrid_csv.specs.Pictures.{AreFitted, IsConfigured, IsCsvDrawing, table_settings, table_shape}
 use Rattle.papergrid_csv.specs.Requests.{settings_of}
 use Rattle.papergrid_csv.specs.declared.request.Request.{Request}
-use Rattle.papergrid_csv.proofs.RequestLemmas.{frame-of, no-spans, padding-of, tested-all}
-use Rattle.papergrid_csv.proofs.TableLemmas.{HasNoSpans, line-between, lines-are, none-spanned, tiled}
+use Rattle.papergrid_csv.proofs.CutTextLemmas.{shown-length, shown-utf8}
+use Rattle.papergrid_csv.proofs.PartLemmas.{crossings-none, frame-of, padding-of, tested-all}
+use Rattle.papergrid_csv.proofs.RequestLemmas.{spans-all}
+use Rattle.papergrid_csv.proofs.RowLemmas.{all-utf8}
+use Rattle.papergrid_csv.proofs.SizedLemmas.{room-with}
+use Rattle.papergrid_csv.proofs.TableLemmas.{line-between, lines-are}
 
-abbrev pub same_text : List ℕ → List ℕ
-same_text text = text
+-- sizes that are chosen by either way fit
+pub record FitBoth (config : SpannedConfig) (columns : ℕ) (rows : List (List (List ℕ))) (widths heights : List ℕ) : Type 0 where
+  pub across : Fits (problem_of (spanned_grid config) text_measure columns rows Columns) widths
+  pub down : Fits (problem_of (spanned_grid config) text_measure columns rows Rows) heights
 
-module _ (columns : ℕ) (rows : List (List (List ℕ))) (config : SpannedConfig) (widths heights : List ℕ) where
-  abbrev pub table_drawing : Drawing
-  table_drawing = record {
-    config = config;
-    widths = slice_index widths;
-    heights = slice_index heights;
-    shape = (length heights, length widths);
-    lines = lines_at text_lines rows;
-    color = λ _. None;
-  }
+pub both-fit : (config : SpannedConfig) (columns : ℕ) (rows : List (List (List ℕ))) (sizing : Sizing) (widths heights : List ℕ) →
+    AreSizesBySizing config text_measure columns rows sizing widths heights → FitBoth config columns rows widths heights
+both-fit config columns rows ByShares widths heights are = record { across = are.widths.fits; down = are.heights.fits }
+both-fit config columns rows Least widths heights are = record { across = are.widths.least.fits; down = are.heights.least.fits }
 
-  module _ (request : Request) (told : HasSettingHistory (settings_of request (length rows)) config) (effective : HoldsEffectiveValues (settings_of request (length rows)) config) where
-    pub spans : HasNoSpans (spanned_grid config)
-    spans = none-spanned (settings_of request (length rows)) config (no-spans request (length rows)) effective.spans
+-- fields at positions are texts where all are
+at-position : (rows : List (List (List ℕ))) → All (All IsUtf8) rows → (p : Position) (cell : List ℕ) → IsCellAt rows p cell → IsUtf8 cell
+at-position rows all p cell is = subst IsUtf8 is.1.1 (all p.row [] is.0 p.col cell is.1.0)
 
-    pub table-tiled : IsTiled (layout_of table_drawing)
-    table-tiled = tiled (layout_of table_drawing) spans
+-- settings that fit crossings make no paddings
+fitted-no-paddings : (junctions : Option Junctions) (settings : List Setting) (shape : ℕ × ℕ) (config : SpannedConfig) (fitted : List Setting) → AreFitted junctions settings shape config fitted →
+    flat_map padding_calls fitted ≡ []
+fitted-no-paddings None settings shape config fitted are = ap (flat_map padding_calls) are
+fitted-no-paddings (Some junctions) settings shape config fitted are = crossings-none padding_calls (λ _ _. refl) are.0 shape fitted are.2.corners
 
-    pub table-room : Fits (problem_of (spanned_grid config) (line_measure same_text) columns rows Columns) widths → AllHaveRoom table_drawing
-    table-room fits =
-        let counted : length widths ≡ columns = fits.one_each in
-        texts-leave-room table_drawing same_text rows widths refl
-        (subst (λ n. Fits (problem_of (spanned_grid config) (line_measure same_text) n rows Columns) widths) (sym counted) fits)
-        (λ p _. lines-are rows p)
+-- a vertical line of the frame stands between columns, whatever crossings were fitted
+vertical-stays : (request : Request) (columns : ℕ) (rows : List (List (List ℕ))) (junctions : Option Junctions) (shape : ℕ × ℕ) (config : SpannedConfig) (fitted : List Setting) →
+    AreFitted junctions (settings_of request columns rows) shape config fitted → IsConfiguredBy (settings_of request columns rows ++ fitted) config → IsSome request.frame.vertical →
+    (shown : List (List (List ℕ))) (widths heights : List ℕ) → (length heights, length widths) ≡ shape → (j : ℕ) → 0 < j → j < length widths → has_vertical (texts_drawing config shown widths heights) j ≡ true
+vertical-stays request columns rows None shape config fitted are told some shown widths heights counted j above below =
+    let plain : IsConfiguredBy (settings_of request columns rows) config =
+    subst (λ s. IsConfiguredBy s config) (ap (λ l. settings_of request columns rows ++ l) are ∙ append-nil (settings_of request columns rows)) told in
+    line-between config.characters request.frame j (length widths) (ap (λ c. c.frame) plain.effective.characters ∙ frame-of request columns rows) some above below
+vertical-stays request columns rows (Some junctions) shape config fitted are told some shown widths heights counted j above below =
+    let (plain, configured, fit, becomes) = are in
+    let same = fit.lines config becomes (texts_drawing plain shown widths heights) (texts_drawing config shown widths heights) refl refl counted counted j in
+    same.0 ∙ line-between plain.characters request.frame j (length widths) (ap (λ c. c.frame) configured.effective.characters ∙ frame-of request columns rows) some above below
 
-    table-apart : (IsSome request.frame.vertical) ⊎ (0 < request.padding.left.size) → AreApart table_drawing
-    table-apart (inl some) = inl (λ p is above.
-        inl (line-between config.characters request.frame p.col (length widths) (ap (λ c. c.frame) effective.characters ∙ frame-of request (length rows)) some above is.col_in))
-    table-apart (inr padded) = inl (λ p is above.
-        inr (subst (λ n. 0 < n) (sym (ap (λ s. s.left.size) (effective.padding p ∙ padding-of request (length rows) p))) padded))
+module _ (request : Request) (input : List ℕ) (d : Drawing) (so : IsCsvDrawing request input d) where
+  abbrev settings : List Setting
+  settings = table_settings so.table
 
-    pub table-wide : Fits (problem_of (spanned_grid config) (line_measure same_text) columns rows Columns) widths →
-        ((p : Position) (cell : List ℕ) → IsCellAt rows p cell → IsUtf8 cell) → list_all setting_separates (settings_of request 2) ≡ true →
-        (IsSome request.frame.vertical) ⊎ (0 < request.padding.left.size) →
-        All (λ line. width_of (text_of (pieces_of line)) ≡ total_along (layout_of table_drawing) Columns) (drawn_lines table_drawing)
-    table-wide fits utf8 separate apart =
-        lines-wide table_drawing table-tiled
-        (texts-honest table_drawing same_text rows (λ p _. lines-are rows p) utf8)
-        (with-separators table_drawing (settings_of request (length rows)) told (tested-all setting_separates request separate (length rows)))
-        (table-apart apart) (table-room fits)
+  abbrev fitted : List Setting
+  fitted = so.configured.fitted
 
--- ---- a table with a cell has a line
+  abbrev it : Drawing
+  it = texts_drawing so.config so.table.shown so.drawn.widths so.drawn.heights
 
-abbrev first_place : Position
-first_place = record { row = 0; col = 0 }
+  counted : (length so.drawn.heights, length so.drawn.widths) ≡ table_shape so.table
+  counted =
+      let fit = both-fit so.config so.table.columns so.table.shown request.sizing so.drawn.widths so.drawn.heights so.drawn.sized in
+      let high : length so.drawn.heights ≡ length so.table.rows = fit.down.one_each ∙ shown-length request.cut so.table.rows so.table.shown so.table.cut in
+      ap (λ n. (n, length so.drawn.widths)) high ∙ ap (λ n. (length so.table.rows, n)) fit.across.one_each
 
-abbrev no_demand : Demand
-no_demand = record { row = 0; col = 0; start = 0; span = 0; minimum = 0 }
+  apart : (IsSome request.frame.vertical) ⊎ (0 < request.padding.left.size) → AreApart it
+  apart (inl some) = inl (λ p is above.
+      inl (vertical-stays request so.table.columns so.table.rows request.junctions (table_shape so.table) so.config fitted so.configured.fit so.configured.told some so.table.shown so.drawn.widths so.drawn.heights counted
+      p.col above is.col_in))
+  apart (inr padded) = inl (λ p is above.
+      inr (subst (λ n. 0 < n) (sym (ap (λ s. s.left.size) (so.configured.told.effective.padding p
+      ∙ padding-of request so.table.columns so.table.rows fitted (fitted-no-paddings request.junctions settings (table_shape so.table) so.config fitted so.configured.fit) p))) padded))
 
-high-first : (grid : Grid) → HasNoSpans grid → (columns : ℕ) (cell : List ℕ) (cells : List (List ℕ)) (more : List (List (List ℕ))) (heights : List ℕ) →
-    Fits (problem_of grid (line_measure same_text) columns ((cell ∷ cells) ∷ more) Rows) heights → 1 ≤ sum (take 1 heights)
-high-first grid none columns cell cells more heights fits =
-    let shown = none.shown first_place in
-    let single = none.single Rows first_place in
-    let room = (rw shown at fits.room) 0 no_demand (omega arith) in
-    let first = rw single at room in
-    let lines = length-slice_split (λ b. b == 10) cell in
-    omega (arith, first, lines)
-
-high-total : (heights : List ℕ) (line : ℕ → Bool) → 1 ≤ sum (take 1 heights) → 1 ≤ total (slice_index heights) line (length heights)
-high-total [] line first = absurd (omega (arith, first))
-high-total (h ∷ hs) line first =
-    let parts : sum_from (slice_index (h ∷ hs)) 0 (length (h ∷ hs)) ≡ h + sum_from (slice_index (h ∷ hs)) 1 (length hs) =
-    sum_by-cons (slice_index (h ∷ hs)) 0 (range_with_len 1 (length hs)) in
-    let one : sum (take 1 (h ∷ hs)) ≡ h = omega arith in
-    omega (arith, first, parts, one)
-
-pub high : (columns : ℕ) (cell : List ℕ) (cells : List (List ℕ)) (more : List (List (List ℕ))) (config : SpannedConfig) (widths heights : List ℕ) → HasNoSpans (spanned_grid config) →
-    Fits (problem_of (spanned_grid config) (line_measure same_text) columns ((cell ∷ cells) ∷ more) Rows) heights →
-    1 ≤ whole_height (table_drawing columns ((cell ∷ cells) ∷ more) config widths heights)
-high columns cell cells more config widths heights none fits =
-    let all = high-total heights (λ i. (spanned_grid config).draws Rows (length heights) i) (high-first (spanned_grid config) none columns cell cells more heights fits) in
-    omega (arith, all)
+  pub csv-wide : list_all setting_separates (settings_of request 0 ([] ∷ [] ∷ [])) ≡ true → list_all setting_separates fitted ≡ true →
+      (IsSome request.frame.vertical) ⊎ (0 < request.padding.left.size) →
+      All (λ line. width_of (text_of (pieces_of line)) ≡ total_along (layout_of d) Columns) (drawn_lines d)
+  csv-wide separate crossings stands =
+      let tested = tested-all setting_separates (λ _ _. refl) (λ _ _. refl) request (spans-all (λ s. setting_separates s ≡ true) (λ _ _. refl) (λ _ _. refl) request.spans.items) separate
+      so.table.columns so.table.rows in
+      let all : list_all setting_separates (settings ++ fitted) ≡ true = list_all-append setting_separates settings fitted ∙ rw (tested, crossings) refl in
+      let utf8 = at-position so.table.shown (shown-utf8 request.cut so.table.rows so.table.shown (all-utf8 request.reading input so.table.columns so.table.rows so.table.are) so.table.cut) in
+      let tiled : IsTiled (layout_of it) = subst (λ (e : Drawing). IsTiled (layout_of e)) so.drawn.is so.tiled in
+      subst (λ (e : Drawing). All (λ line. width_of (text_of (pieces_of line)) ≡ total_along (layout_of e) Columns) (drawn_lines e)) (sym so.drawn.is)
+      (lines-wide it tiled
+      (texts-honest it (λ text. text) so.table.shown (λ p _. lines-are so.table.shown p) utf8)
+      (with-separators it (settings ++ fitted) so.configured.told.told all)
+      (apart stands)
+      (room-with so.table.columns so.table.shown request.sizing so.config it (record { widths = so.drawn.widths; heights = so.drawn.heights; sized = so.drawn.sized; is = refl })))

@@ -8,7 +8,7 @@ use Rattle.papergrid_layout.specs.Places.{total_along}
 use Rattle.papergrid_draw.specs.Drawings.{Drawing, layout_of}
 use Rattle.papergrid_draw.specs.Tiles.{IsFirstPosition, IsTiled}
 use Rattle.papergrid_draw.specs.declared.error.DrawError.{DrawError}
-use Rattle.papergrid_grid.specs.Crossings.{FitCrossings, IsFitFault}
+use Rattle.papergrid_grid.specs.Crossings.{BecomesBy, FitCrossings, IsFitFault}
 use Rattle.papergrid_grid.specs.Lined.{lined}
 use Rattle.papergrid_grid.specs.declared.crossings.Junctions.{Junctions}
 use Rattle.papergrid.specs.Layouts.{IsConfiguredBy}
@@ -33,12 +33,13 @@ pub record IsCsvTable (request : Request) (input : List ℕ) : Type 0 where
   pub seen : request.hides ≡ false → (p : Position) → IsHidden request.spans.items rows p → ⊥
   pub cut : AreCut request.cut rows shown
 
--- the settings by which crossings fit the spans, in a table with these settings and of so many rows and columns; none
--- where they need not fit
-abbrev pub AreFitted : Option Junctions → List Setting → ℕ × ℕ → List Setting → Type 0
-AreFitted None settings shape fitted = fitted ≡ []
-AreFitted (Some junctions) settings shape fitted =
+-- further settings, by which the crossings of a configuration fit the spans, in a table of so many rows and columns, where it
+-- becomes this one by them; none where they need not fit
+abbrev pub AreFitted : Option Junctions → List Setting → ℕ × ℕ → SpannedConfig → List Setting → Type 0
+AreFitted None settings shape config fitted = fitted ≡ []
+AreFitted (Some junctions) settings shape config fitted =
     (plain : SpannedConfig) × IsConfiguredBy settings plain × FitCrossings plain shape junctions fitted
+    × BecomesBy plain config fitted
 
 -- why there are none
 abbrev pub IsUnfitted : Option Junctions → List Setting → ℕ × ℕ → DrawError → Type 0
@@ -50,7 +51,7 @@ module _ (request : Request) (settings : List Setting) (shape : ℕ × ℕ) wher
   -- a configuration that was told these settings, and those by which its crossings fit the spans
   pub record IsConfigured (config : SpannedConfig) : Type 0 where
     pub fitted : List Setting
-    pub fit : AreFitted request.junctions settings shape fitted
+    pub fit : AreFitted request.junctions settings shape config fitted
     pub told : IsConfiguredBy (settings ++ fitted) config
 
   -- why rows have no picture: their crossings can't be fitted, or they have no sizes, or can't be drawn with them

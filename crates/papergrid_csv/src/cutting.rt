@@ -3,10 +3,10 @@
 ghost use Rattle.std.specs.Prelude.{◌≡◌, ◌<◌, ◌≤◌, All, IfOk, OnOk, false, string_bytes, true};
 ghost use Rattle.std.specs.Int.{is_in_range};
 ghost use Rattle.std.specs.List.{prefix_len};
-ghost use Rattle.papergrid_text.specs.Separators.{begins_keycap};
+ghost use Rattle.papergrid_text.specs.Separators.{begins_keycap, is_separator};
 ghost use Rattle.papergrid_text.specs.Text.{split_lines, width_of};
 ghost use Rattle.papergrid_csv.specs.Cutting.{IsCut};
-ghost use Rattle.papergrid_csv.specs.ForProofs.Cuts.{AddsLine, IsCutAt, is_apart};
+ghost use Rattle.papergrid_csv.specs.ForProofs.Cuts.{AddsLine, IsCutAt, is_apart, is_narrow_letter, is_wide_letter};
 
 use bumpalo::Bump;
 use bumpalo::collections::into_bump_str;
@@ -94,11 +94,11 @@ fn cut_place(columns: usize, line: &str) -> usize
     if columns <= printable {
         return columns.saturating_sub(1);
     }
-    place_after(columns, line, printable)
+    place_past_printable(columns, line, printable)
 }
 
 /// The same of a line that begins with so many bytes of printable ASCII, which stay.
-fn place_after(columns: usize, line: &str, printable: usize) -> usize
+fn place_past_printable(columns: usize, line: &str, printable: usize) -> usize
     requires wide { columns < width_of line.now }
     requires printable { printable ≡ prefix_len (is_in_range 0x20 0x7E) line.now }
     requires narrow { printable < columns }
@@ -129,7 +129,31 @@ fn place_after(columns: usize, line: &str, printable: usize) -> usize
 fn stands_apart(c: char) -> bool
     ensures { result ≡ is_apart c }
 {
+    is_separator(c) || is_narrow_letter(c) || is_wide_letter(c)
+}
+
+/// Whether it is a separator.
+fn is_separator(c: char) -> bool
+    ensures { result ≡ is_separator c }
+{
     (is_within(' ', '~', c) && !begins_keycap(c)) || is_within('\u{2500}', '\u{257F}', c)
+}
+
+/// Whether it is a letter of Latin, Greek or Cyrillic that is not ASCII.
+fn is_narrow_letter(c: char) -> bool
+    ensures { result ≡ is_narrow_letter c }
+{
+    is_within('\u{C0}', '\u{2FF}', c) || is_within('\u{370}', '\u{47F}', c)
+}
+
+/// Whether it is of kana, an ideograph or of Hangul.
+fn is_wide_letter(c: char) -> bool
+    ensures { result ≡ is_wide_letter c }
+{
+    is_within('\u{3041}', '\u{3096}', c)
+        || is_within('\u{30A0}', '\u{30FF}', c)
+        || is_within('\u{3400}', '\u{9FFF}', c)
+        || is_within('\u{AC00}', '\u{D77F}', c)
 }
 
 /// Whether a keycap may begin with the character.

@@ -202,7 +202,7 @@ fn draw_records<W: Sink>(
 {
     history_decides();
     let mut config = SpannedConfig::new(alloc);
-    if config.apply_all(settings).is_err() {
+    if let Err(_) = config.apply_all(settings) {
         return Err(RunFault::Memory);
     }
     match fit(alloc, &mut config, shape, request.junctions) {

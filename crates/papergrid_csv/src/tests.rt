@@ -1,5 +1,10 @@
 //! The pictures of small texts.
 
+mod asked;
+mod cuts;
+mod numbers;
+mod rows;
+
 use crate::{Alignment, CsvEnd, Format, Reading, Request, run_csv};
 use papergrid::{ReadSource, RunFault, Sizing, WriteSink};
 use papergrid_values::{

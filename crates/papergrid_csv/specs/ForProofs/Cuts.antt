@@ -1,13 +1,23 @@
 -- Where a line is cut, by its characters.
 use Rattle.std.specs.Prelude.{◌≡◌, ◌<◌, ◌≤◌, ◌+◌, ◌++◌, ◌||◌, ℕ, Bool, List, [], ◌∷◌, chars, encode_utf8_all, if◌then◌else◌, length, take, false}
+use Rattle.std.specs.Int.{is_in_range}
 use Rattle.std.specs.Str.{IsCharBoundary}
 use Rattle.unicode_width.specs.Width.{str_width}
 use Rattle.papergrid_text.specs.Separators.{is_separator}
 use Rattle.papergrid_csv.specs.Cutting.{IsCutLine}
 
--- a separator
+-- letters of Latin, Greek and Cyrillic
+abbrev pub is_narrow_letter : ℕ → Bool
+is_narrow_letter c = is_in_range 0xC0 0x2FF c || is_in_range 0x370 0x47F c
+
+-- kana, ideographs and Hangul
+abbrev pub is_wide_letter : ℕ → Bool
+is_wide_letter c =
+    (is_in_range 0x3041 0x3096 c || is_in_range 0x30A0 0x30FF c) || (is_in_range 0x3400 0x9FFF c || is_in_range 0xAC00 0xD77F c)
+
+-- a separator, or a letter that joins nothing after it
 abbrev pub is_apart : ℕ → Bool
-is_apart c = is_separator c
+is_apart c = is_separator c || (is_narrow_letter c || is_wide_letter c)
 
 -- the widths of a text up to this character and of what stands after it add up
 abbrev pub StandsApart : ℕ → Type 0

@@ -1,5 +1,5 @@
 -- Where the bytes of a text stand, as far as it depends on quotes.
-use Rattle.std.specs.Prelude.{ℕ, ◌==◌, ◌||◌, Bool, if◌then◌else◌, List, [], ◌∷◌}
+use Rattle.std.specs.Prelude.{ℕ, ◌==◌, ◌||◌, if◌then◌else◌, List, [], ◌∷◌}
 use Rattle.papergrid_csv.specs.declared.quotes.Place.{Place}
 use Rattle.papergrid_csv.specs.declared.quotes.Place.TheVariants.{Field, Quote, Quoted, Start}
 

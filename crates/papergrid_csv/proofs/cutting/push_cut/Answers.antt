@@ -1,7 +1,7 @@
 use Rattle.std.proofs.Common.{arith, refl}
 use Rattle.std.specs.Prelude.{string_bytes}
 use Rattle.std.proofs.Math.Utf8.{encode}
-use Rattle.papergrid_csv.proofs.CutLemmas.{adds-cut, adds-whole}
+use Rattle.papergrid_csv.proofs.CutLemmas.{adds-cut}
 use Rattle.papergrid_csv.proofs.SpellingLemmas.{pushed}
 use Rattle.papergrid_csv.proofs.cutting.push_cut.Goals as goal
 

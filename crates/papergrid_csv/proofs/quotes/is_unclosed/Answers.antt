@@ -1,4 +1,4 @@
-use Rattle.std.proofs.Common.{◌∙◌, ap, sym}
+use Rattle.std.proofs.Common.{◌∙◌, sym}
 use Rattle.papergrid_csv.proofs.QuoteLemmas.{none-told, tells-closed, tells-quoted, tsv-closed}
 use Rattle.papergrid_csv.proofs.quotes.is_unclosed.Goals as goal
 

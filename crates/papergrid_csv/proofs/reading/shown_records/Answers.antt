@@ -2,10 +2,10 @@ use Rattle.std.proofs.Common.{◌≡◌, ◌∙◌, List, [], ℕ, Some, ap, inl
 use Rattle.std.specs.Borrow.{Bor}
 use Rattle.std.proofs.lemmas.List.{length-map}
 use Rattle.std.proofs.lemmas.List.Elements.{All-nil}
-use Rattle.csv.specs.Reading.{Reached, default_config, strip_bom}
+use Rattle.csv.specs.Reading.{Reached, strip_bom}
 use Rattle.csv.specs.Records.{AllText, fields_of}
 use Rattle.csv.specs.declared.parser.Config.{Config}
-use Rattle.papergrid_csv.specs.Rows.{config_by, row_texts, texts_of}
+use Rattle.papergrid_csv.specs.Rows.{row_texts, texts_of}
 use Rattle.papergrid_csv.proofs.ReadLemmas.{config-known, counted-rows, shown-end, shown-more, shown-ragged, shown-unread}
 use Rattle.papergrid_csv.proofs.reading.shown_records.Goals as goal
 

@@ -1,7 +1,7 @@
-use Rattle.std.proofs.Common.{◌≡◌, arith, false, refl}
+use Rattle.std.proofs.Common.{◌≡◌, arith, false}
 use Rattle.std.proofs.lemmas.Bool.Decides.{nat_tests}
 use Rattle.papergrid_csv.specs.Spelling.{is_escaped}
-use Rattle.papergrid_csv.proofs.EscapeLemmas.{escaped-two, on-both}
+use Rattle.papergrid_csv.proofs.EscapeLemmas.{on-both}
 use Rattle.papergrid_csv.proofs.spelling.push_escaped.Goals as goal
 
 pub returns-in_ok-push_spelled-in_default : goal.returns-in_ok-push_spelled-in_default

@@ -1,4 +1,4 @@
-use Rattle.papergrid_csv.proofs.SpellingLemmas.{other-in-line, pushed, raw-kept, return-spelled, same-on_ok}
+use Rattle.papergrid_csv.proofs.SpellingLemmas.{pushed, raw-kept}
 use Rattle.papergrid_csv.proofs.spelling.push_in_line.Goals as goal
 
 pub returns-then-raw : goal.returns-then-raw

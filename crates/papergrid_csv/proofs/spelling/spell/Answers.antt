@@ -1,5 +1,4 @@
-use Rattle.std.proofs.Common.{◌∙◌, ap, false, sym}
-use Rattle.papergrid_csv.specs.Spelling.{spelled}
+use Rattle.std.proofs.Common.{◌∙◌, sym}
 use Rattle.papergrid_csv.proofs.SpellingLemmas.{kept-same, spelled-csv, spelled-printable, spelled-tsv}
 use Rattle.papergrid_csv.proofs.spelling.spell.Goals as goal
 

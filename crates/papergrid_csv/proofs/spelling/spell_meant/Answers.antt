@@ -1,9 +1,9 @@
 use Rattle.std.proofs.Common.{◌≡◌, ◌≢◌, ◌∙◌, ap, arith, map-id, sym}
-use Rattle.std.specs.Prelude.{encode_utf8_all, string_bytes}
+use Rattle.std.specs.Prelude.{string_bytes}
 use Rattle.std.proofs.lemmas.Bool.Decides.{nat_tests}
 use Rattle.std.proofs.lemmas.Iterator.{YieldsList-from_chars}
 use Rattle.std.proofs.lemmas.Iterator.Consumers.{YieldsList-end}
-use Rattle.papergrid_csv.specs.Spelling.{spelled_character, unescaped}
+use Rattle.papergrid_csv.specs.Spelling.{unescaped}
 use Rattle.papergrid_csv.proofs.EscapeLemmas.{all_spelled, settled-all, settled-last, settled-pair, settled-plain}
 use Rattle.papergrid_csv.proofs.spelling.spell_meant.Goals as goal
 use Rattle.papergrid_csv.proofs.spelling.spell_meant.Goals.{then-held-2+in_ok-push_spelled-2, else-held-2}

@@ -5,7 +5,7 @@ use Rattle.std.specs.Str.Iter.{chars_rest}
 use Rattle.papergrid_width.proofs.SimpleLemmas.{cut_past}
 use Rattle.papergrid_csv.proofs.ApartLemmas.{apart}
 use Rattle.papergrid_csv.proofs.CutLemmas.{IsSoFar, goes-apart, goes-on, is-front, never-ends, next-boundary, so-far-front, stops}
-use Rattle.papergrid_csv.proofs.cutting.place_after.Goals as goal
+use Rattle.papergrid_csv.proofs.cutting.place_past_printable.Goals as goal
 
 pub range_from-requires : goal.range_from-requires
 range_from-requires c =
