@@ -58,11 +58,20 @@ impl fmt::Display for Place<'_> {
         f.write_str(self.member)?;
         write_index(f, self.item)?;
         write_index(f, self.part)?;
-        if let Some(name) = self.field {
-            write!(f, ".{name}")?;
+        match self.field {
+            Some(name) if is_plain(name) => write!(f, ".{name}")?,
+            // A terminal would act on some of what a document may have here.
+            Some(name) => write!(f, "[{name:?}]")?,
+            None => {}
         }
         write_index(f, self.last)
     }
+}
+
+/// Whether a name has no other characters than the names of parts.
+fn is_plain(name: &str) -> bool {
+    name.bytes()
+        .all(|byte| byte.is_ascii_lowercase() || byte == b'_')
 }
 
 /// Writes the number of an item in brackets, if there is one.

@@ -1,9 +1,11 @@
 //! The table of a JSON document: drawn, and what keeps it from being drawn.
 
+ghost use Rattle.std.specs.Prelude.{◌≡◌, false};
+
 use papergrid::grid::DrawError;
 use papergrid::{RunFault, Sink, Sizing, Source, read_all};
 use papergrid_json::{DocumentError, SETTINGS, draw_document, read_document};
-use papergrid_program::name_like;
+use papergrid_program::{name_like, quoted};
 use std::alloc::{AllocError, Global};
 
 /// How the run of a document ended that read its whole input.
@@ -59,10 +61,16 @@ pub fn said_of_document(
 
 /// What is said of a document that tells no table.
 fn said_of_error(alloc: Global, name: &str, error: &DocumentError) -> Result<String, AllocError> {
-    if let DocumentError::UnknownSetting { name: word, .. } = error {
-        if let Some(like) = name_like(alloc, word.as_str(), &SETTINGS.map(|form| form.0))? {
-            return format!(in alloc; "{name}: {error}; did you mean {like}?");
-        }
+    let DocumentError::UnknownSetting { index, name: word } = error else {
+        return format!(in alloc; "{name}: {error}");
+    };
+    let written = quoted(alloc, word.as_str())?;
+    match name_like(alloc, word.as_str(), &SETTINGS.map(|form| form.0))? {
+        Some(like) => format!(in alloc;
+            "{name}: settings[{index}]: {written} is not a setting; did you mean {like}?"
+        ),
+        None => format!(in alloc;
+            "{name}: settings[{index}]: {written} is not a setting; --help-json tells all"
+        ),
     }
-    format!(in alloc; "{name}: {error}")
 }
