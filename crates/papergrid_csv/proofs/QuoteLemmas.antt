@@ -1,9 +1,10 @@
 -- Which bytes of a text stand between quotes, by places and by the states of the machine that reads it.
-use Rattle.std.proofs.Common.{◌≡◌, ◌≢◌, ◌∙◌, ◌+◌, ◌<◌, ℕ, List, [], ◌∷◌, ◌++◌, Bool, true, false, ap, arith, drop, get_or, length, refl, subst, sym, take}
-use Rattle.std.specs.Prelude.{◌==◌, ◌↔◌, IsTrue}
+use Rattle.std.proofs.Common.{◌≡◌, ◌≢◌, ◌∙◌, ◌+◌, ◌<◌, ◌≤◌, ◌-◌, ◌^◌, ℕ, suc, List, [], ◌∷◌, ◌++◌, Bool, true, false, cond, not, ap, arith, drop, get_or, length, refl, subst, sym, take}
+use Rattle.std.specs.Prelude.{◌==◌, ◌||◌, ◌↔◌, IsTrue}
 use Rattle.std.specs.Cmp.Lexicographic.{pointwise}
-use Rattle.std.specs.List.{list_any}
-use Rattle.std.proofs.lemmas.List.{take_more}
+use Rattle.std.specs.List.{list_any, position_or_len}
+use Rattle.std.proofs.lemmas.List.{drop_more, length-drop, length-take, take-append-drop, take_all, take_more}
+use Rattle.std.proofs.lemmas.List.Sums.{passes_at_first}
 use Rattle.std.proofs.lemmas.Bool.Decides.{nat_tests}
 use Rattle.csv.specs.Machine.{step}
 use Rattle.csv.specs.Reading.{strip_bom}
@@ -11,7 +12,7 @@ use Rattle.csv.specs.declared.parser.Config.{Config}
 use Rattle.csv.specs.declared.parser.State.{State}
 use Rattle.csv.specs.declared.parser.State.TheVariants as states
 use Rattle.papergrid_csv.specs.Rows.{IsUnclosed, config_by, state_after}
-use Rattle.papergrid_csv.specs.ForProofs.Places.{place_after, place_at}
+use Rattle.papergrid_csv.specs.ForProofs.Places.{place_after, place_at, plain_place}
 use Rattle.papergrid_csv.specs.declared.quotes.Place.{Place}
 use Rattle.papergrid_csv.specs.declared.quotes.Place.TheVariants.{Field, Quote, Quoted, Start}
 use Rattle.papergrid_csv.specs.declared.reading.Format.{Format}
@@ -178,3 +179,92 @@ pub place-next : (delimiter : ℕ) (text : List ℕ) (i : ℕ) (place next : Pla
     next ≡ place_after delimiter place (get_or text i 0) → next ≡ place_at delimiter Start (take (i + 1) text)
 place-next delimiter text i place next within is step =
     step ∙ ap (λ p. place_after delimiter p (get_or text i 0)) is ∙ sym (ap (place_at delimiter Start) (take_more text i 0 within) ∙ place-more delimiter Start (take i text) (get_or text i 0))
+
+-- ---- from quote to quote
+
+abbrev pub quote-at : List ℕ → ℕ
+quote-at bs = position_or_len (λ b. b == 34) bs
+
+pub none-before : (bs : List ℕ) → list_any (λ b. b == 34) (take (quote-at bs) bs) ≡ false
+none-before [] = refl
+none-before (b ∷ bs) = by (b == 34) refl (none-before bs)
+  where
+    by : (v : Bool) → (b == 34) ≡ v → list_any (λ b. b == 34) (take (quote-at bs) bs) ≡ false → list_any (λ b. b == 34) (take (cond (not (b == 34)) (1 + quote-at bs) 0) (b ∷ bs)) ≡ false
+    by true is more = ap (λ v. list_any (λ b. b == 34) (take (cond (not v) (1 + quote-at bs) 0) (b ∷ bs))) is
+    by false is more =
+        let next : 1 + quote-at bs ≡ suc (quote-at bs) = omega arith in
+        ap (λ v. list_any (λ b. b == 34) (take (cond (not v) (1 + quote-at bs) 0) (b ∷ bs))) is ∙ ap (λ k. list_any (λ b. b == 34) (take k (b ∷ bs))) next
+        ∙ ap (λ v. v || list_any (λ b. b == 34) (take (quote-at bs) bs)) is ∙ more
+
+pub none-at_all : (bs : List ℕ) (at : ℕ) → at ≡ quote-at bs → length bs ≤ at → list_any (λ b. b == 34) bs ≡ false
+none-at_all bs at is past = ap (list_any (λ b. b == 34)) (sym (take_all (quote-at bs) bs (omega arith))) ∙ none-before bs
+
+quote-found : (bs : List ℕ) → quote-at bs < length bs → bs ≡ take (quote-at bs) bs ++ (34 ∷ drop (quote-at bs + 1) bs)
+quote-found bs within =
+    let found : get_or bs (quote-at bs) 0 ≡ 34 = let passes = passes_at_first (λ b. b == 34) bs 0 within in grind (arith, nat_tests) in
+    sym (take-append-drop (quote-at bs) bs) ∙ ap (λ t. take (quote-at bs) bs ++ t) (drop_more bs (quote-at bs) 0 within) ∙ ap (λ c. take (quote-at bs) bs ++ (c ∷ drop (quote-at bs + 1) bs)) found
+
+place-append : (delimiter : ℕ) (place : Place) (xs ys : List ℕ) → place_at delimiter place (xs ++ ys) ≡ place_at delimiter (place_at delimiter place xs) ys
+unfolding place_at
+place-append delimiter place [] ys = refl
+place-append delimiter place (x ∷ xs) ys = place-append delimiter (place_after delimiter place x) xs ys
+
+stays-quoted : (delimiter : ℕ) (bs : List ℕ) → list_any (λ b. b == 34) bs ≡ false → Quoted ≡ place_at delimiter Quoted bs
+unfolding place_at
+stays-quoted delimiter [] none = refl
+stays-quoted delimiter (b ∷ bs) none =
+    let first : (b == 34) ≡ false = grind (arith, nat_tests) in
+    let rest : list_any (λ b. b == 34) bs ≡ false = grind (arith, nat_tests) in
+    stays-quoted delimiter bs rest ∙ ap (λ v. place_at delimiter (cond v Quote Quoted) bs) (sym first)
+
+pub quoted-stays : (delimiter : ℕ) (place : Place) (bs : List ℕ) → list_any (λ b. b == 34) bs ≡ false → place ≡ Quoted → place ≡ place_at delimiter place bs
+quoted-stays delimiter place bs none is = is ∙ stays-quoted delimiter bs none ∙ ap (λ p. place_at delimiter p bs) (sym is)
+
+pub place-kept : (delimiter : ℕ) (place : Place) (bs : List ℕ) → length bs ≡ 0 → place ≡ place_at delimiter place bs
+unfolding place_at
+place-kept delimiter place [] none = refl
+place-kept delimiter place (b ∷ bs) none = absurd (omega arith)
+
+plain-after : (delimiter : ℕ) (place : Place) (byte : ℕ) → place ≢ Quoted → (byte == 34) ≡ false → plain_place delimiter byte ≡ place_after delimiter place byte
+plain-after delimiter Start byte other is = rw is refl
+plain-after delimiter Field byte other is = refl
+plain-after delimiter Quoted byte other is = absurd (other refl)
+plain-after delimiter Quote byte other is = rw is refl
+
+any-last : (xs : List ℕ) (b : ℕ) → list_any (λ b. b == 34) (xs ++ b ∷ []) ≡ false → (list_any (λ b. b == 34) xs ≡ false) × ((b == 34) ≡ false)
+any-last [] b none = (refl, grind (arith, nat_tests))
+any-last (x ∷ xs) b none =
+    let first : (x == 34) ≡ false = grind (arith, nat_tests) in
+    let rest : list_any (λ b. b == 34) (xs ++ b ∷ []) ≡ false = grind (arith, nat_tests) in
+    let more = any-last xs b rest in
+    (ap (λ v. v || list_any (λ b. b == 34) xs) first ∙ more.0, more.1)
+
+pub past-last : (delimiter : ℕ) (place : Place) (bs : List ℕ) (last : ℕ) → list_any (λ b. b == 34) bs ≡ false → place ≢ Quoted → 0 < length bs → last ≡ get_or bs (length bs - 1) 0 →
+    plain_place delimiter last ≡ place_at delimiter place bs
+past-last delimiter place bs last none other some is =
+    let k : ℕ = length bs - 1 in
+    let whole : bs ≡ take k bs ++ last ∷ [] =
+    sym (take_all (k + 1) bs (omega arith)) ∙ take_more bs k 0 (omega arith) ∙ ap (λ c. take k bs ++ c ∷ []) (sym is) in
+    let parts = any-last (take k bs) last (sym (ap (list_any (λ b. b == 34)) whole) ∙ none) in
+    plain-after delimiter (place_at delimiter place (take k bs)) last (no-quote delimiter place (take k bs) parts.0 other) parts.1
+    ∙ sym (place-more delimiter place (take k bs) last) ∙ sym (ap (place_at delimiter place) whole)
+
+step-34 : (delimiter : ℕ) (p : Place) (left : List ℕ) → place_at delimiter p (34 ∷ left) ≡ place_at delimiter (place_after delimiter p 34) left
+unfolding place_at
+step-34 delimiter p left = refl
+
+pub quote-next : (delimiter : ℕ) (rest : List ℕ) (place before next : Place) (left : List ℕ) (at : ℕ) → at ≡ quote-at rest → at < length rest → left ≡ take (length rest - (at + 1)) (drop (at + 1) rest) →
+    before ≡ place_at delimiter place (take at rest) → next ≡ place_after delimiter before 34 → place_at delimiter place rest ≡ place_at delimiter next left
+quote-next delimiter rest place before next left at is within left_is before_is next_is =
+    let long = length-drop (at + 1) rest in
+    let whole : left ≡ drop (at + 1) rest = left_is ∙ take_all (length rest - (at + 1)) (drop (at + 1) rest) (omega arith) in
+    let split : rest ≡ take at rest ++ (34 ∷ left) =
+    quote-found rest (omega arith) ∙ ap (λ k. take k rest ++ (34 ∷ drop (k + 1) rest)) (sym is) ∙ ap (λ t. take at rest ++ (34 ∷ t)) (sym whole) in
+    ap (place_at delimiter place) split ∙ place-append delimiter place (take at rest) (34 ∷ left) ∙ ap (λ p. place_at delimiter p (34 ∷ left)) (sym before_is)
+    ∙ step-34 delimiter before left ∙ ap (λ p. place_at delimiter p left) (sym next_is)
+
+pub left-short : (bs : List ℕ) (n k : ℕ) → length bs < 2 ^ 64 → length (take n (drop k bs)) < 2 ^ 64
+left-short bs n k short =
+    let first = length-take n (drop k bs) in
+    let second = length-drop k bs in
+    omega arith

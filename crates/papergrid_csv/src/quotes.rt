@@ -1,12 +1,14 @@
 //! Whether a quoted field of a text does not end.
 
-ghost use Rattle.std.specs.Prelude.{◌≡◌, ◌↔◌, IsTrue};
+ghost use Rattle.std.specs.Prelude.{◌≡◌, ◌==◌, ◌↔◌, IsTrue, false};
+ghost use Rattle.std.specs.List.{list_any};
 ghost use Rattle.csv.specs.Reading.{strip_bom};
 ghost use Rattle.papergrid_csv.specs.Rows.{IsUnclosed};
 ghost use Rattle.papergrid_csv.specs.declared.quotes.Place.TheVariants.{Quoted, Start};
 ghost use Rattle.papergrid_csv.specs.ForProofs.Places.{place_after, place_at, plain_place};
 
 use crate::reading::{Format, Reading};
+use papergrid_text::search::find_byte;
 
 /// Where a byte of a text stands.
 #[derive(Clone, Copy, Debug, PartialEq, Eq)]
@@ -26,8 +28,7 @@ pub fn is_unclosed(reading: Reading, input: &[u8]) -> bool
     ensures { IsTrue result ↔ IsUnclosed reading input.now }
 {
     match reading.format {
-        Format::Csv(delimiter) => input.contains(&b'"')
-            && ends_quoted(delimiter, without_bom(input)),
+        Format::Csv(delimiter) => ends_quoted(delimiter, without_bom(input)),
         Format::Tsv => false,
     }
 }
@@ -42,15 +43,34 @@ fn without_bom(input: &[u8]) -> &[u8]
     }
 }
 
-/// Whether the text ends between the quotes of a field.
+/// Whether the text ends between the quotes of a field. It goes from quote to quote, and looks at no more than the byte
+/// before each.
 fn ends_quoted(delimiter: u8, text: &[u8]) -> bool
     ensures { IsTrue result ↔ (place_at delimiter Start text.now ≡ Quoted) }
 {
-    let mut place = Place::Start;
-    for byte in text {
-        place = place_after(delimiter, place, *byte);
+    let (mut place, mut rest) = (Place::Start, text);
+    let mut at = find_byte(rest, b'"');
+    while at < rest.len() {
+        let before = place_past(delimiter, place, &rest[..at]);
+        place = place_after(delimiter, before, b'"');
+        rest = &rest[at + 1..];
+        at = find_byte(rest, b'"');
     }
-    place == Place::Quoted
+    place_past(delimiter, place, rest) == Place::Quoted
+}
+
+/// Where the byte after these stands, of which none is a quote.
+fn place_past(delimiter: u8, place: Place, bytes: &[u8]) -> Place
+    requires { list_any (λ b. b == 34) bytes.now ≡ false }
+    ensures { result ≡ place_at delimiter place bytes.now }
+{
+    if let Place::Quoted = place {
+        return place;
+    }
+    if bytes.len() == 0 {
+        return place;
+    }
+    plain_place(delimiter, bytes[bytes.len() - 1])
 }
 
 /// Where the byte after this one stands.

@@ -1,9 +1,23 @@
-use Rattle.papergrid_csv.proofs.QuoteLemmas.{place-next, place-start}
+use Rattle.std.proofs.Common.{◌∙◌, ◌+◌, ◌-◌, ap, arith, length, refl, take}
+use Rattle.std.specs.Prelude.{◌==◌}
+use Rattle.std.specs.List.{list_any}
+use Rattle.papergrid_csv.proofs.QuoteLemmas.{left-short, none-at_all, none-before, quote-next}
 use Rattle.papergrid_csv.proofs.quotes.ends_quoted.Goals as goal
 
-pub loop-byte-init : goal.loop-byte-init
-loop-byte-init c = place-start c.args.delimiter
+pub place_past-before-requires : goal.place_past-before-requires
+place_past-before-requires c = ap (λ k. list_any (λ b. b == 34) (take k c.loop-at.rest.now)) c.loop-at.invariant.1 ∙ none-before c.loop-at.rest.now
 
-pub loop-byte-preserved : goal.loop-byte-preserved
-loop-byte-preserved c =
-    place-next c.args.delimiter c.args.text.now c.loop-byte.byte-index c.loop-byte.place c.place_after-place.result c.loop-byte-test.true c.loop-byte.invariant c.place_after-place.ensures
+pub overflow_add-rest : goal.overflow_add-rest
+overflow_add-rest c = let short = c.loop-at.invariant.2 in omega arith
+
+pub loop-at-preserved : goal.loop-at-preserved
+loop-at-preserved c = (
+  c.loop-at.invariant.0
+      ∙ quote-next c.args.delimiter c.loop-at.rest.now c.loop-at.place c.place_past-before.result c.place_after-place.result _ c.loop-at.at c.loop-at.invariant.1 c.loop-at-test.true refl
+      c.place_past-before.ensures c.place_after-place.ensures,
+  c.find_byte-at-in-loop-at.ensures,
+  left-short c.loop-at.rest.now (length c.loop-at.rest.now - (c.loop-at.at + 1)) (c.loop-at.at + 1) c.loop-at.invariant.2,
+)
+
+pub place_past-requires : goal.place_past-requires
+place_past-requires c = none-at_all c.loop-at.rest.now c.loop-at.at c.loop-at.invariant.1 (omega arith)
