@@ -17,11 +17,11 @@ use std::env::Args;
 /// What is to be done, and how.
 #[derive(Drop)]
 pub struct Wanted {
-    /// Of which input, or what the program says of itself.
-    pub asked: Asked,
     pub kind: Kind,
     /// What is asked of the table of a text. Its sizing is that of a script or document too.
     pub request: Request,
+    /// The greatest width of the table of a text whose fields are cut for that.
+    pub width: Option<usize>,
     /// Whether the cells are named that show why the table is no smaller.
     pub witness: bool,
     /// The file that is compared with what would be written.
@@ -70,14 +70,15 @@ struct Draft {
     /// An option that a script or a document does not take.
     of_fields: Option<&'static str>,
     request: Request,
+    width: Option<usize>,
     witness: bool,
     check: Option<String>,
     explains_json: bool,
 }
 
-/// What the words after the program's name ask for: options in any order, and one other word at most. After `--`
-/// no word is an option.
-pub fn asked_for(alloc: Global, words: Args) -> Result<Wanted, Misuse> {
+/// What the words after the program's name ask for, of which input or of the program itself, and how: options in any
+/// order, and one other word at most. After `--` no word is an option.
+pub fn asked_for(alloc: Global, words: Args) -> Result<(Asked, Wanted), Misuse> {
     let mut draft = Draft {
         alloc,
         asked: None,
@@ -89,6 +90,7 @@ pub fn asked_for(alloc: Global, words: Args) -> Result<Wanted, Misuse> {
         fits: false,
         of_fields: None,
         request: plain_request(alloc),
+        width: None,
         witness: false,
         check: None,
         explains_json: false,
@@ -259,6 +261,8 @@ impl Draft {
     fn takes_number(&mut self, choice: Choice, number: Option<usize>) -> bool {
         let request = &mut self.request;
         match choice {
+            Choice::Width if number == Some(0) => return false,
+            Choice::Width => self.width = number,
             Choice::MaxWidth => request.max_width = number,
             Choice::Cut => request.cut = number,
             Choice::Tab => request.reading.tab = number,
@@ -283,7 +287,7 @@ impl Draft {
     }
 
     /// What all words tell.
-    fn finish(self) -> Result<Wanted, Misuse> {
+    fn finish(self) -> Result<(Asked, Wanted), Misuse> {
         let Draft {
             alloc,
             asked,
@@ -295,6 +299,7 @@ impl Draft {
             fits,
             of_fields,
             mut request,
+            width,
             witness,
             check,
             explains_json,
@@ -306,6 +311,9 @@ impl Draft {
             let text = "--witness: not for JSON, and the input is JSON";
             return Err(Misuse::Said(String::from_str(alloc, text)?));
         }
+        if width.is_some() {
+            refuse_beside_width(alloc, &request)?;
+        }
         request.frame = style.frame();
         request.head = style.head(request.has_head);
         let side = style.padding();
@@ -313,15 +321,28 @@ impl Draft {
         if fits {
             request.junctions = Some(junctions_of(alloc, style)?);
         }
-        Ok(Wanted {
-            asked,
+        let wanted = Wanted {
             kind,
             request,
+            width,
             witness,
             check,
             explains_json,
-        })
+        };
+        Ok((asked, wanted))
     }
+}
+
+/// Refuses the options that `--width` chooses the values of.
+fn refuse_beside_width(alloc: Global, request: &Request) -> Result<(), Misuse> {
+    let other = if request.cut.is_some() {
+        "--cut"
+    } else if request.max_width.is_some() {
+        "--max-width"
+    } else {
+        return Ok(());
+    };
+    Err(Misuse::Said(format!(in alloc; "--width: not together with {other}")?))
 }
 
 /// The characters that fit crossings to spans. Not each style has all of them.

@@ -9,6 +9,7 @@ mod help_json;
 mod messages;
 mod options;
 mod places;
+mod progress;
 mod run;
 mod sizes;
 mod styles;
@@ -28,6 +29,7 @@ use run::answered_from;
 use std::alloc::AllocError;
 use std::env;
 use std::fs::File;
+use std::io::IsTerminal;
 use std::process::ExitCode;
 
 /// What the arguments may be.
@@ -43,7 +45,7 @@ fn main(rt: HostRuntime) -> ExitCode {
     // The first word is the program's name.
     let _ = words.next();
     match asked_for(rt.alloc(), words) {
-        Ok(wanted) => answered(&rt, &wanted),
+        Ok((asked, wanted)) => answered(&rt, &asked, wanted),
         Err(Misuse::Said(text)) => {
             let _ = eprintln!(rt; "{text}");
             ExitCode::from(2)
@@ -56,12 +58,16 @@ fn main(rt: HostRuntime) -> ExitCode {
 }
 
 /// Does what is asked for.
-fn answered(rt: &HostRuntime, wanted: &Wanted) -> ExitCode {
+fn answered(rt: &HostRuntime, asked: &Asked, wanted: Wanted) -> ExitCode {
     if wanted.explains_json {
         return explained(rt, json_help_text(rt.alloc()));
     }
-    match &wanted.asked {
-        Asked::OfInput => answered_from(rt, wanted, STANDARD_INPUT, rt.stdin()),
+    match asked {
+        Asked::OfInput => {
+            let input = rt.stdin();
+            let is_typed = input.is_terminal();
+            answered_from(rt, wanted, STANDARD_INPUT, input, is_typed)
+        }
         Asked::OfFile(path) => table_of_file(rt, wanted, path.as_str()),
         Asked::Help => explained(rt, help_text(rt.alloc())),
         Asked::Version => told(rt, "papergrid_table 0.18.0\n"),
@@ -77,13 +83,13 @@ fn explained(rt: &HostRuntime, text: Result<String, AllocError>) -> ExitCode {
 }
 
 /// Answers the input in a file.
-fn table_of_file(rt: &HostRuntime, wanted: &Wanted, path: &str) -> ExitCode {
+fn table_of_file(rt: &HostRuntime, wanted: Wanted, path: &str) -> ExitCode {
     let file = match File::open(rt, path) {
         Ok(file) => file,
         Err(error) => return unopened(rt, rt.alloc(), path, &error),
     };
     match shown(rt.alloc(), path) {
-        Ok(name) => answered_from(rt, wanted, name.as_str(), file),
+        Ok(name) => answered_from(rt, wanted, name.as_str(), file, false),
         Err(_) => fault(rt, path, RunFault::Memory, false),
     }
 }

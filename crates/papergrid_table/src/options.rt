@@ -19,6 +19,7 @@ pub enum Choice {
     Span,
     Hide,
     MaxWidth,
+    Width,
     Cut,
     Tab,
     OneLine,
@@ -65,7 +66,7 @@ const fn switch(choice: Choice, name: &'static str, is_of_fields: bool) -> Liste
 }
 
 /// All options.
-fn options() -> [Listed; 26] {
+fn options() -> [Listed; 27] {
     [
         switch(Choice::Csv, "--csv", false),
         switch(Choice::Tsv, "--tsv", false),
@@ -85,6 +86,7 @@ fn options() -> [Listed; 26] {
         valued(Choice::Span, "--span", "R,C=N or R,C=MxN"),
         switch(Choice::Hide, "--hide", true),
         valued(Choice::MaxWidth, "--max-width", "a number"),
+        valued(Choice::Width, "--width", "a number of at least 1"),
         valued(Choice::Cut, "--cut", "a number"),
         valued(Choice::Tab, "--tab", "a number"),
         switch(Choice::OneLine, "--one-line", true),
@@ -106,7 +108,7 @@ fn options() -> [Listed; 26] {
 }
 
 /// The names of all options.
-pub fn option_names() -> [&'static str; 26] {
+pub fn option_names() -> [&'static str; 27] {
     options().map(|option| option.name)
 }
 

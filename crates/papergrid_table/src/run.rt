@@ -3,10 +3,12 @@
 use crate::arguments::{Kind, Wanted};
 use crate::compared::Compared;
 use crate::document::{DocumentEnd, run_document, said_of_document};
-use crate::messages;
+use crate::messages::message_of as message_of_text;
+use crate::progress::{Progress, Watched};
+use crate::wide::no_cut_fits;
 use crate::witness::{witness_of_script, witness_of_text};
 use papergrid::{ReadSource, RunEnd, RunFault, WriteSink, read_all, run_table};
-use papergrid_csv::{CsvEnd, run_csv};
+use papergrid_csv::{CsvEnd, run_csv, run_csv_within};
 use papergrid_program::{Output, fault, message_of, shown, status, unopened};
 use std::alloc::{AllocError, Global};
 use std::fs::File;
@@ -27,25 +29,47 @@ enum End {
     OfDocument(DocumentEnd),
 }
 
-/// Draws the table of the input that is read, of this name, or compares it.
+/// Draws the table of the input that is read, of this name, or compares it. Whether the input is typed in is told.
 pub fn answered_from<R: Read + Drop>(
     rt: &HostRuntime,
-    wanted: &Wanted,
+    mut wanted: Wanted,
     name: &str,
     reader: R,
+    is_typed: bool,
 ) -> ExitCode {
-    match &wanted.check {
-        None => drawn(rt, wanted, name, reader),
+    let progress = Progress::new(rt, is_typed);
+    match wanted.check.take() {
+        None => drawn(rt, &progress, &mut wanted, name, reader),
         Some(path) => match File::open(rt, path.as_str()) {
-            Ok(file) => compared(rt, wanted, (name, path.as_str()), reader, file),
+            Ok(file) => compared(
+                rt,
+                &progress,
+                &mut wanted,
+                (name, path.as_str()),
+                reader,
+                file,
+            ),
             Err(error) => unopened(rt, rt.alloc(), path.as_str(), &error),
         },
     }
 }
 
 /// Draws the table on standard output, in pieces.
-fn drawn<R: Read + Drop>(rt: &HostRuntime, wanted: &Wanted, name: &str, reader: R) -> ExitCode {
-    let output = Output::new(rt.stdout());
+fn drawn<R: Read + Drop>(
+    rt: &HostRuntime,
+    progress: &Progress<'_>,
+    wanted: &mut Wanted,
+    name: &str,
+    reader: R,
+) -> ExitCode {
+    let reader = Watched {
+        inner: reader,
+        progress,
+    };
+    let output = Watched {
+        inner: Output::new(rt.stdout()),
+        progress,
+    };
     let Ok(mut out) = BufWriter::with_capacity(rt.alloc(), PIECE, output) else {
         return fault(rt, name, RunFault::Memory, false);
     };
@@ -54,18 +78,20 @@ fn drawn<R: Read + Drop>(rt: &HostRuntime, wanted: &Wanted, name: &str, reader: 
     if end.is_ok() && out.flush().is_err() {
         end = Err(RunFault::Write);
     }
+    progress.end();
     // After a fault nothing more is written.
     let (output, _) = out.into_parts();
     match end {
         Ok(end) => ended(rt, wanted, name, &input, end),
-        Err(reason) => fault(rt, name, reason, output.is_closed()),
+        Err(reason) => fault(rt, name, reason, output.inner.is_closed()),
     }
 }
 
 /// Compares the table with a file, of these names.
 fn compared<R: Read + Drop>(
     rt: &HostRuntime,
-    wanted: &Wanted,
+    progress: &Progress<'_>,
+    wanted: &mut Wanted,
     (name, path): (&str, &str),
     reader: R,
     file: File,
@@ -78,9 +104,15 @@ fn compared<R: Read + Drop>(
         Ok(picture) => picture,
         Err(reason) => return fault(rt, picture_name.as_str(), reason, false),
     };
+    let reader = Watched {
+        inner: reader,
+        progress,
+    };
     let mut comparing = Compared::new(&picture);
     let mut input = Vec::new(rt.alloc());
-    let end = match run(rt.alloc(), wanted, reader, &mut comparing, &mut input) {
+    let end = run(rt.alloc(), wanted, reader, &mut comparing, &mut input);
+    progress.end();
+    let end = match end {
         Ok(end) => end,
         Err(reason) => return fault(rt, name, reason, false),
     };
@@ -102,14 +134,14 @@ fn compared<R: Read + Drop>(
 /// Writes the table of the input that is read, keeps the input, and tells how that ended.
 fn run<R: Read + Drop, W: Write>(
     alloc: Global,
-    wanted: &Wanted,
+    wanted: &mut Wanted,
     reader: R,
     out: &mut W,
     input: &mut Vec<u8>,
 ) -> Result<End, RunFault> {
     let mut source = ReadSource::new(reader);
     let mut writer = WriteSink::new(out);
-    let request = &wanted.request;
+    let request = &mut wanted.request;
     match wanted.kind {
         Kind::Script => {
             let end = run_table(alloc, request.sizing, &mut source, &mut writer, input)?;
@@ -120,7 +152,12 @@ fn run<R: Read + Drop, W: Write>(
             Ok(End::OfDocument(end))
         }
         _ => {
-            let end = run_csv(alloc, request, &mut source, &mut writer, input)?;
+            let end = match wanted.width {
+                None => run_csv(alloc, request, &mut source, &mut writer, input)?,
+                Some(width) => {
+                    run_csv_within(alloc, width, request, &mut source, &mut writer, input)?
+                }
+            };
             Ok(End::OfText(end))
         }
     }
@@ -144,7 +181,7 @@ fn ended(rt: &HostRuntime, wanted: &Wanted, name: &str, input: &[u8], end: End) 
     }
     let said = match end {
         End::OfText(CsvEnd::Drawn) => witness_of_text(rt.alloc(), request, input),
-        End::OfText(end) => messages::message_of(rt.alloc(), request, name, input, end),
+        End::OfText(end) => said_of_text(rt.alloc(), wanted, name, input, end),
         End::OfScript(RunEnd::Done) => witness_of_script(rt.alloc(), request.sizing, input),
         End::OfScript(_) => said_of_script(rt.alloc(), wanted, input),
         End::OfDocument(end) => said_of_document(rt.alloc(), name, input, end),
@@ -156,6 +193,20 @@ fn ended(rt: &HostRuntime, wanted: &Wanted, name: &str, input: &[u8], end: End) 
             code_of(rt, name, end)
         }
         Err(_) => fault(rt, name, RunFault::Memory, false),
+    }
+}
+
+/// What keeps a text from its picture.
+fn said_of_text(
+    alloc: Global,
+    wanted: &Wanted,
+    name: &str,
+    text: &[u8],
+    end: CsvEnd,
+) -> Result<String, AllocError> {
+    match (wanted.width, end) {
+        (Some(most), CsvEnd::TooWide(width)) => no_cut_fits(alloc, name, most, width),
+        _ => message_of_text(alloc, &wanted.request, name, text, end),
     }
 }
 

@@ -52,6 +52,19 @@ pub fn too_wide(
     Ok(text)
 }
 
+/// What is said of a table that is wider than it may be by every cut, and has this width by a cut to one column.
+pub fn no_cut_fits(
+    alloc: Global,
+    name: &str,
+    most: usize,
+    width: usize,
+) -> Result<String, AllocError> {
+    let columns = if most == 1 { "column" } else { "columns" };
+    format!(in alloc;
+        "{name}: no cut makes the table at most {most} {columns} wide: with fields cut to one column it has {width}"
+    )
+}
+
 /// Adds the widest of the cells, and what the others and the lines take.
 fn name_cells(
     alloc: Global,
