@@ -1,5 +1,5 @@
 -- What runs do to a writer, by layers.
-use Rattle.std.proofs.Common.{◌≡◌, ◌≢◌, ◌⊎◌, ℕ, Bool, List, [], Option, None, Some, Result, Ok, Err, append-nil, inl, inr, refl, subst, sym}
+use Rattle.std.proofs.Common.{OnErr, ◌≡◌, ◌≢◌, ◌⊎◌, ℕ, Bool, List, [], Option, None, Some, Result, Ok, Err, append-nil, inl, inr, refl, subst, sym}
 use Rattle.std.specs.Io.KnownBytes.{Appends}
 use Rattle.std.specs.Prelude.{IsErrOf}
 use Rattle.std.specs.declared.alloc.AllocError.{AllocError}
@@ -25,7 +25,7 @@ module _ {W : Type 0} (contents : W → Option (List ℕ)) (has_failed has_stall
     not_read = so.not_read;
     beginning = elim so.beginning [
       | inl same ↦ inl same
-      | inr begun ↦ inr (begun.0, (begun.1.0, follows begun.0 begun.1.0 begun.1.1, begun.1.2))
+      | inr begun ↦ inr (begun.0, follows Drawn begun.0 begun.1, begun.2)
     ];
     write = so.write;
     steady = so.steady;
@@ -39,10 +39,16 @@ module _ {W : Type 0} (contents : W → Option (List ℕ)) (has_failed has_stall
       let memory : fault ≡ run_faults.Memory = cc in
       elim so.steady [ inl write ↦ absurd (let none : ⊥ = cc in none) | inr steady ↦ steady ]
 
+  -- what broke off was a picture, or nothing of it was written
+  pub runs-begun : (IsSo : CsvEnd → List ℕ → Type 0) (old new : W) (result : Result CsvEnd RunFault) → Runs contents has_failed has_stalled IsSo old new result →
+      OnErr result ((new ≡ old) ⊎ ((output : List ℕ) × IsSo Drawn output × HasBegun contents has_failed has_stalled old new output))
+  runs-begun IsSo old new (Ok end) so = tt
+  runs-begun IsSo old new (Err fault) so = so.beginning
+
   module _ (IsSo : CsvEnd → List ℕ → Type 0) where
     -- nothing was written, as it should be
     pub run-silent : (w : W) (end : CsvEnd) → IsSo end [] → Runs contents has_failed has_stalled IsSo w w (Ok end)
-    run-silent w end so = ([], so, record { taken = appends-none (contents w); works = refl; moves = refl })
+    run-silent w end so = ([], so, record { taken = appends-none (contents w); works = refl; moves = refl; silent = λ _. refl })
 
     -- memory was refused before
     pub run-no_memory : (w : W) → IsBrokenOff contents has_failed has_stalled IsSo w w run_faults.Memory
@@ -96,13 +102,13 @@ module _ {W : Type 0} (contents : W → Option (List ℕ)) (has_failed has_stall
       run-undrawn draw_errors.TooLarge so left begun write steady = refused draw_errors.TooLarge tt left (so tt)
       run-undrawn (draw_errors.Memory e) so left begun write steady = record {
         not_read = λ is. absurd (let none : ⊥ = cc in none);
-        beginning = inr (Drawn, (output, drawn, begun));
+        beginning = inr (output, drawn, begun);
         write = λ is. absurd (let none : ⊥ = cc in none);
         steady = elim steady [ inl is ↦ absurd (let none : ⊥ = cc in none) | inr so ↦ inr so ];
       }
       run-undrawn draw_errors.Write so left begun write steady = record {
         not_read = λ is. absurd (let none : ⊥ = cc in none);
-        beginning = inr (Drawn, (output, drawn, begun));
+        beginning = inr (output, drawn, begun);
         write = λ _. write refl;
         steady = inl refl;
       }

@@ -17,3 +17,4 @@ pub mod SizedLemmas
 pub mod SpellingLemmas
 pub mod TableLemmas
 pub mod WideLemmas
+pub mod WithinLemmas

@@ -5,3 +5,4 @@ pub mod Escapes
 pub mod Judging
 pub mod Places
 pub mod Read
+pub mod Within

@@ -7,4 +7,5 @@ pub mod Requests
 pub mod Rows
 pub mod Shown
 pub mod Spelling
+pub mod Within
 pub mod ForProofs

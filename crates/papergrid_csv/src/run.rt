@@ -13,6 +13,7 @@ ghost use Rattle.papergrid.specs.Pictures.{IsRefusal, texts_drawing, texts_held}
 ghost use Rattle.papergrid.specs.Runs.{IsWholeInput};
 ghost use Rattle.papergrid_csv.specs.Pictures.{IsCsvRun, IsNarrow, IsWide};
 ghost use Rattle.papergrid_csv.specs.Rows.{row_texts, texts_of};
+ghost use Rattle.papergrid_csv.specs.declared.run.CsvEnd.TheVariants.{Drawn};
 ghost use Rattle.papergrid_csv.specs.ForProofs.Drawn.{AreFittingOf, IsConfigRun, IsFitFaultOf, IsFree, IsKeptBy, IsRowsRun, IsSettingsRun, IsTableRun, Runs, end_refused, end_unread};
 
 use crate::judging::{first_hidden, first_missing};
@@ -109,16 +110,16 @@ pub fn run_csv<S: Source, W: Sink>(
         IfSome (S.remaining reader.old) (λ left. input.new.items ≡ left) }
     ensures write_end { IsErrOf result RunFault.Write → IsAtEnd (S.remaining reader.new) }
     ensures beginning { OnErr result ((writer.new ≡ writer.old)
-        ⊎ ((end : CsvEnd) × ((output : List ℕ) × IsCsvRun request.now input.new.items end output
+        ⊎ ((output : List ℕ) × IsCsvRun request.now input.new.items Drawn output
         × ((n : ℕ) × Appends (W.contents writer.old) (W.contents writer.new)
-        (take n output))))) }
+        (take n output)))) }
 {
     *input = read_all(alloc, reader)?;
     draw_input(alloc, request, input.as_slice(), writer)
 }
 
 /// Writes the picture of the table of an input, if it has one.
-fn draw_input<W: Sink>(
+pub fn draw_input<W: Sink>(
     alloc: Global,
     request: &Request,
     input: &[u8],

@@ -97,11 +97,12 @@ IsFitFaultOf (Some junctions) config shape e = IsFitFault config shape e
 
 -- a writer, by what it tells
 module _ {W : Type 0} (contents : W → Option (List ℕ)) (has_failed has_stalled : W → Bool) where
-  -- all of a text was taken
-  pub record IsTaken (old new : W) (text : List ℕ) : Type 0 where
+  -- all of a text was taken; where nothing is drawn the writer is as it was
+  pub record IsTaken (end : CsvEnd) (old new : W) (text : List ℕ) : Type 0 where
     pub taken : Appends (contents old) (contents new) text
     pub works : has_failed new ≡ has_failed old
     pub moves : has_stalled new ≡ has_stalled old
+    pub silent : (end ≡ Drawn → ⊥) → new ≡ old
 
   -- a beginning of it was
   abbrev pub HasBegun : W → W → List ℕ → Type 0
@@ -119,11 +120,11 @@ module _ {W : Type 0} (contents : W → Option (List ℕ)) (has_failed has_stall
     -- a run that broke off
     pub record IsBrokenOff (old new : W) (fault : RunFault) : Type 0 where
       pub not_read : fault ≢ run_faults.Read
-      pub beginning : (new ≡ old) ⊎ ((end : CsvEnd) × ((output : List ℕ) × IsOutput end output × HasBegun old new output))
+      pub beginning : (new ≡ old) ⊎ ((output : List ℕ) × IsOutput Drawn output × HasBegun old new output)
       pub write : fault ≡ run_faults.Write → HasEnded old new
       pub steady : (fault ≡ run_faults.Write) ⊎ IsSteady old new
 
     -- a run wrote an output, and ended accordingly, or it broke off
     abbrev pub Runs : W → W → Result CsvEnd RunFault → Type 0
-    Runs old new (Ok end) = (output : List ℕ) × IsOutput end output × IsTaken old new output
+    Runs old new (Ok end) = (output : List ℕ) × IsOutput end output × IsTaken end old new output
     Runs old new (Err fault) = IsBrokenOff old new fault

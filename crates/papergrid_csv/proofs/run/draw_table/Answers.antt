@@ -36,7 +36,7 @@ returns-in-Ok g c =
     let tiled : IsTiled (layout_of d) = c.in_default.ensures.ok (layout_of d) (ap spanned_grid (sym c.config.ensures)) (sym c.shape.ensures) in (
       lined d,
       (tiled, subst (IsNarrow c.args.request.now.max_width) c.width-width.ensures c.if-is_wide.ensures, refl),
-      record { taken = c.in-Ok.ensures.picture; works = c.in-Ok.ensures.works; moves = c.in-Ok.ensures.moves },
+      record { taken = c.in-Ok.ensures.picture; works = c.in-Ok.ensures.works; moves = c.in-Ok.ensures.moves; silent = λ other. absurd (other refl) },
     )
 
 pub returns-in-Err-draw_lines : goal.returns-in-Err-draw_lines

@@ -1,0 +1,115 @@
+//! The run of a CSV text whose fields are cut so that its table is no wider than it may be.
+
+ghost use Rattle.std.specs.Prelude.{◌≡◌, ◌⊎◌, ◌↔◌, ℕ, IfOk, IfSome, IsErrOf, IsTrue, List, OnErr, OnOk, false, take, true};
+ghost use Rattle.std.specs.Io.KnownBytes.{Appends, Consumes, IsAtEnd};
+ghost use Rattle.papergrid.specs.Runs.{IsWholeInput};
+ghost use Rattle.papergrid_csv.specs.Within.{IsRunWithin, cut_request};
+ghost use Rattle.papergrid_csv.specs.ForProofs.Drawn.{Runs};
+ghost use Rattle.papergrid_csv.specs.declared.run.CsvEnd.TheVariants.{Drawn, TooWide};
+
+use crate::request::Request;
+use crate::run::{CsvEnd, draw_input};
+use papergrid::{RunFault, read_all};
+use papergrid_draw::transfer::{Sink, Source};
+use std::alloc::Global;
+
+/// Like `run_csv`, with each field cut by the greatest cut of at most so many columns by which the table is no wider than
+/// that, or as it is where the table is no wider so. The cut and the greatest width of the request are not looked at. The
+/// request has those that were found then. The end is `TooWide`, and nothing is written, only where not even a cut of one column will do.
+///
+/// The picture is judged once for each cut that is tried, the widest first. So it takes time that grows with the width too.
+///
+/// Conditions and errors: as those of `run_csv`.
+pub fn run_csv_within<S: Source, W: Sink>(
+    alloc: Global,
+    width: usize,
+    request: &mut Request,
+    reader: &mut S,
+    writer: &mut W,
+    input: &mut Vec<u8>,
+) -> Result<CsvEnd, RunFault>
+    // Of a reader and a writer that had not failed.
+    requires reader { S.has_failed reader.old ≡ false }
+    requires writer { W.has_failed writer.old ≡ false }
+    // The vector holds what was read, to the end of the reader; it is all where the reader tells its bytes.
+    ensures kept { OnOk result (Consumes (S.remaining reader.old)
+        (S.remaining reader.new) input.new.items) }
+    ensures all_kept { OnOk result (IfSome (S.remaining reader.old) (λ left.
+        input.new.items ≡ left)) }
+    ensures end { OnOk result (IsAtEnd (S.remaining reader.new)) }
+    // The picture of its table, with fields cut as the request says now, was written, or nothing where it has none.
+    ensures written { IfOk result (λ end. (output : List ℕ)
+        × IsRunWithin request.old width input.new.items request.new.cut end output
+        × Appends (W.contents writer.old) (W.contents writer.new) output) }
+    // The request has the cut that was found, and is else as it was but for the width.
+    ensures request { OnOk result (request.new ≡ cut_request request.old width request.new.cut) }
+    ensures request_err { OnErr result ((request.new ≡ request.old)
+        ⊎ (request.new ≡ cut_request request.old width request.new.cut)) }
+    // No read and no write failed, and each write of a piece that isn't empty took a byte.
+    ensures reader_works { OnOk result (S.has_failed reader.new ≡ false) }
+    ensures writer_works { OnOk result (W.has_failed writer.new ≡ false) }
+    ensures writer_moves { OnOk result (W.has_stalled writer.new ≡ W.has_stalled writer.old) }
+    // Which fault comes, what was written then, and what the vector holds.
+    ensures read { IsErrOf result RunFault.Read → S.has_failed reader.new ≡ true }
+    ensures write { IsErrOf result RunFault.Write →
+        (W.has_failed writer.new ≡ true) ⊎ (W.has_stalled writer.old ≡ false →
+        W.has_stalled writer.new ≡ true) }
+    ensures memory { IsErrOf result RunFault.Memory → S.has_failed reader.new ≡ false }
+    ensures write_alone { IsErrOf result RunFault.Write → S.has_failed reader.new ≡ false }
+    ensures read_nothing { IsErrOf result RunFault.Read → writer.new ≡ writer.old }
+    ensures read_kept { IsErrOf result RunFault.Read → input.new ≡ input.old }
+    ensures memory_kept { IsErrOf result RunFault.Memory →
+        (input.new ≡ input.old) ⊎ IsWholeInput (S.remaining reader.old)
+        (S.remaining reader.new) input.new.items }
+    ensures memory_works { IsErrOf result RunFault.Memory → W.has_failed writer.new ≡ false }
+    ensures memory_moves { IsErrOf result RunFault.Memory →
+        W.has_stalled writer.new ≡ W.has_stalled writer.old }
+    ensures write_kept { IsErrOf result RunFault.Write →
+        Consumes (S.remaining reader.old) (S.remaining reader.new) input.new.items }
+    ensures write_all_kept { IsErrOf result RunFault.Write →
+        IfSome (S.remaining reader.old) (λ left. input.new.items ≡ left) }
+    ensures write_end { IsErrOf result RunFault.Write → IsAtEnd (S.remaining reader.new) }
+    ensures beginning { OnErr result ((writer.new ≡ writer.old)
+        ⊎ ((output : List ℕ)
+        × IsRunWithin request.old width input.new.items request.new.cut Drawn output
+        × ((n : ℕ) × Appends (W.contents writer.old) (W.contents writer.new)
+        (take n output)))) }
+{
+    *input = read_all(alloc, reader)?;
+    draw_within(alloc, width, request, input.as_slice(), writer)
+}
+
+/// Writes the picture of the table of an input with fields cut so that it is no wider than it may be.
+fn draw_within<W: Sink>(
+    alloc: Global,
+    width: usize,
+    request: &mut Request,
+    input: &[u8],
+    writer: &mut W,
+) -> Result<CsvEnd, RunFault>
+    ensures runs { Runs W.contents W.has_failed W.has_stalled
+        (IsRunWithin request.old width input.now request.new.cut)
+        writer.old writer.new result }
+    ensures request { request.new ≡ cut_request request.old width request.new.cut }
+{
+    request.max_width = Some(width);
+    request.cut = None;
+    let mut end = draw_input(alloc, request, input, writer)?;
+    let mut next = width;
+    while 0 < next && is_too_wide(end) {
+        request.cut = Some(next);
+        end = draw_input(alloc, request, input, writer)?;
+        next -= 1;
+    }
+    Ok(end)
+}
+
+/// Whether a run ended since its table is too wide.
+fn is_too_wide(end: CsvEnd) -> bool
+    ensures { IsTrue result ↔ ((found : ℕ) × (end ≡ TooWide found)) }
+{
+    match end {
+        CsvEnd::TooWide(_) => true,
+        _ => false,
+    }
+}
