@@ -1,6 +1,5 @@
-use Rattle.std.proofs.Common.{◌≡◌, ◌<◌, arith, refl, sym}
+use Rattle.std.proofs.Common.{arith}
 use Rattle.std.proofs.lemmas.Result.{err_from_is_err_and}
-use Rattle.papergrid_csv.specs.declared.run.CsvEnd.TheVariants.{TooWide}
 use Rattle.papergrid_csv.proofs.WithinLemmas.{broken-next, next-request, run-within, tried-first, tried-next}
 use Rattle.papergrid_csv.proofs.within.draw_within.Goals as goal
 
