@@ -261,7 +261,7 @@ impl Draft {
     fn takes_number(&mut self, choice: Choice, number: Option<usize>) -> bool {
         let request = &mut self.request;
         match choice {
-            Choice::Width if number == Some(0) => return false,
+            Choice::Width if !is_width(number) => return false,
             Choice::Width => self.width = number,
             Choice::MaxWidth => request.max_width = number,
             Choice::Cut => request.cut = number,
@@ -330,6 +330,17 @@ impl Draft {
             explains_json,
         };
         Ok((asked, wanted))
+    }
+}
+
+/// The greatest width that `--width` takes. Each smaller one may be tried.
+const WIDEST: usize = 1000;
+
+/// Whether a table can be asked to be so wide.
+fn is_width(number: Option<usize>) -> bool {
+    match number {
+        Some(width) => 0 < width && width <= WIDEST,
+        None => false,
     }
 }
 

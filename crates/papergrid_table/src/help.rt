@@ -35,7 +35,8 @@ How the table looks:
 How fields are shown:
   --cut N                 cuts lines longer than N columns; they end with an ellipsis then
   --width N               makes the table at most N columns wide: where it is wider, it cuts by the
-                          greatest N of --cut that does; not together with --cut or --max-width
+                          greatest N of --cut that does; N is at most 1000; not together with
+                          --cut or --max-width
   --tab N                 N blanks for a tab, which is spelled \\t without this
   --one-line              spells a line feed \\n, so that each field has one line
   --raw                   leaves control characters, so that the table may not line up

@@ -86,7 +86,7 @@ fn options() -> [Listed; 27] {
         valued(Choice::Span, "--span", "R,C=N or R,C=MxN"),
         switch(Choice::Hide, "--hide", true),
         valued(Choice::MaxWidth, "--max-width", "a number"),
-        valued(Choice::Width, "--width", "a number of at least 1"),
+        valued(Choice::Width, "--width", "a number from 1 to 1000"),
         valued(Choice::Cut, "--cut", "a number"),
         valued(Choice::Tab, "--tab", "a number"),
         switch(Choice::OneLine, "--one-line", true),
