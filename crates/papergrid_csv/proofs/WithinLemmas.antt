@@ -57,17 +57,17 @@ module _ {W : Type 0} (contents : W → Option (List ℕ)) (has_failed has_stall
         λ greater more within. absurd (let none : ⊥ = omega (arith, all, more, within) in none),
       )
       | inr later ↦
-        let before : IsGreatestCut asked width input (Some (left + 1)) = subst (IsGreatestCut asked width input) later.0 tried.greatest in
-        let here : IsWiderWith asked width input (Some (left + 1)) = subst (IsWiderWith asked width input) later.0 (wider found wide) in
-        let most = later.1 in (
-          before.0,
-          omega (arith, some),
-          omega (arith, most),
-          λ greater more within. elim (cases_lt (left + 1) greater) [
-            | inl past ↦ before.3 greater past within
-            | inr least ↦ subst (λ n. IsWiderWith asked width input (Some n)) (let same : left + 1 ≡ greater = omega (arith, more, least) in same) here
-          ],
-        )
+          let before : IsGreatestCut asked width input (Some (left + 1)) = subst (IsGreatestCut asked width input) later.0 tried.greatest in
+          let here : IsWiderWith asked width input (Some (left + 1)) = subst (IsWiderWith asked width input) later.0 (wider found wide) in
+          let most = later.1 in (
+            before.0,
+            omega (arith, some),
+            omega (arith, most),
+            λ greater more within. elim (cases_lt (left + 1) greater) [
+              | inl past ↦ before.3 greater past within
+              | inr least ↦ subst (λ n. IsWiderWith asked width input (Some n)) (let same : left + 1 ≡ greater = omega (arith, more, least) in same) here
+            ],
+          )
     ]
 
     left-within : left ≤ width
