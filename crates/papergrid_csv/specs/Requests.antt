@@ -1,13 +1,20 @@
 -- The settings of a table of a CSV text.
-use Rattle.std.specs.Prelude.{ℕ, ◌++◌, nat_lt, if◌then◌else◌, Bool, List, [], ◌∷◌, Option, None, Some, drop, flat_map, get_or, length, map, string_bytes}
-use Rattle.std.specs.List.{filter, range_with_len}
+use Rattle.std.specs.Prelude.{◌≡◌, ℕ, ◌++◌, nat_lt, if◌then◌else◌, Bool, true, List, [], ◌∷◌, Option, None, Some, drop, flat_map, get_or, length, map, string_bytes}
+use Rattle.std.specs.List.{filter, list_all, range_with_len}
 use Rattle.std.specs.Str.{bytes_eq}
+use Rattle.papergrid_values.specs.Borders.{frame_parts}
+use Rattle.papergrid_values.specs.Keys.{sides_parts}
+use Rattle.papergrid_values.specs.Lines.{horizontal_parts}
 use Rattle.papergrid_values.specs.declared.alignment.AlignmentHorizontal.{AlignmentHorizontal}
 use Rattle.papergrid_values.specs.declared.alignment.AlignmentHorizontal.TheVariants.{Left, Right}
 use Rattle.papergrid_values.specs.declared.entity.Entity.TheVariants.{Column, Global}
 use Rattle.papergrid_values.specs.declared.horizontal_line.HorizontalLine.{HorizontalLine}
+use Rattle.papergrid_values.specs.declared.indent.Indent.{Indent}
+use Rattle.papergrid_text.specs.Separators.{is_separator}
 use Rattle.papergrid_config.specs.declared.setting.Setting.{Setting}
 use Rattle.papergrid_config.specs.declared.setting.Setting.TheVariants.{InsertHorizontalLine, SetAlignmentHorizontal, SetAlignmentVertical, SetBorders, SetColumnSpan, SetPadding, SetRowSpan}
+use Rattle.papergrid_draw.specs.Separated.{part_separates}
+use Rattle.papergrid_grid.specs.declared.crossings.Junctions.{Junctions}
 use Rattle.papergrid_csv.specs.Numbers.{field_in, is_numeric}
 use Rattle.papergrid_csv.specs.declared.request.Alignment.{Alignment}
 use Rattle.papergrid_csv.specs.declared.request.Alignment.TheVariants.{Auto, Fixed}
@@ -70,3 +77,24 @@ module _ (request : Request) (columns : ℕ) (rows : List (List (List ℕ))) whe
       ++ (SetPadding Global request.padding ∷ SetAlignmentHorizontal Global (common_alignment request.alignment)
       ∷ (number_settings (rows_below request.has_head rows) columns request.alignment ++ (SetAlignmentVertical Global request.vertical
       ∷ (flat_map entry_settings request.columns.items ++ flat_map span_settings request.spans.items)))))
+
+-- the parts of a line that may be there
+abbrev pub head_parts : Option (HorizontalLine ℕ) → List (Option ℕ)
+head_parts None = []
+head_parts (Some line) = horizontal_parts line
+
+-- the characters of crossings that are to fit the spans
+abbrev pub fitting_characters : Option Junctions → List ℕ
+fitting_characters None = []
+fitting_characters (Some junctions) =
+    junctions.horizontal ∷ junctions.vertical ∷ junctions.top_left ∷ junctions.top_intersection ∷ junctions.top_right
+    ∷ junctions.left_intersection ∷ junctions.intersection ∷ junctions.right_intersection
+    ∷ junctions.bottom_left ∷ junctions.bottom_intersection ∷ junctions.bottom_right ∷ []
+
+-- all characters of a request are separators: those of its frame, of the line below the head, round texts, and of crossings
+-- that are to fit
+pub record HasSeparators (request : Request) : Type 0 where
+  pub frame : list_all part_separates (frame_parts request.frame) ≡ true
+  pub head : list_all part_separates (head_parts request.head) ≡ true
+  pub padding : list_all (λ (indent : Indent). is_separator indent.fill) (sides_parts request.padding) ≡ true
+  pub fitting : list_all is_separator (fitting_characters request.junctions) ≡ true
