@@ -93,7 +93,7 @@ fitting_characters (Some junctions) =
 
 -- all characters of a request are separators: those of its frame, of the line below the head, round texts, and of crossings
 -- that are to fit
-pub record HasSeparators (request : Request) : Type 0 where
+pub record IsSeparating (request : Request) : Type 0 where
   pub frame : list_all part_separates (frame_parts request.frame) ≡ true
   pub head : list_all part_separates (head_parts request.head) ≡ true
   pub padding : list_all (λ (indent : Indent). is_separator indent.fill) (sides_parts request.padding) ≡ true
