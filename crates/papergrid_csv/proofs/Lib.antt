@@ -17,4 +17,5 @@ pub mod SizedLemmas
 pub mod SpellingLemmas
 pub mod TableLemmas
 pub mod WideLemmas
+pub mod WidestLemmas
 pub mod WithinLemmas

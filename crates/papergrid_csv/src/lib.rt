@@ -12,6 +12,7 @@ mod request;
 mod run;
 mod shown;
 mod spelling;
+mod widest;
 mod within;
 
 pub use cutting::cut;
