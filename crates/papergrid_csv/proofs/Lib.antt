@@ -12,6 +12,7 @@ pub mod RefusalLemmas
 pub mod RequestLemmas
 pub mod RowLemmas
 pub mod RunLemmas
+pub mod SeparatingLemmas
 pub mod ShownLemmas
 pub mod SizedLemmas
 pub mod SpellingLemmas
