@@ -14,7 +14,6 @@ pub mod RowLemmas
 pub mod RunLemmas
 pub mod SeparatingLemmas
 pub mod ShownLemmas
-pub mod SizedLemmas
 pub mod SpellingLemmas
 pub mod TableLemmas
 pub mod WideLemmas

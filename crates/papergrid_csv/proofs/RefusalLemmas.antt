@@ -36,7 +36,7 @@ use Rattle.papergrid_csv.proofs.CutTextLemmas.{shown-full}
 use Rattle.papergrid_csv.proofs.PartLemmas.{crossings-none, no-spans}
 use Rattle.papergrid_csv.proofs.RowLemmas.{rows-full}
 use Rattle.papergrid_csv.proofs.TableLemmas.{HasNoSpans, none-spanned, tiled}
-use Rattle.papergrid_csv.proofs.SizedLemmas.{room-with}
+use Rattle.papergrid.proofs.PictureLemmas.{room-with}
 
 -- ---- no cell overflows the table
 

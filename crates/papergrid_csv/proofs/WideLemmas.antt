@@ -29,6 +29,7 @@ use Rattle.papergrid_grid.specs.declared.crossings.Junctions.{Junctions}
 use Rattle.papergrid.specs.Estimates.{text_measure}
 use Rattle.papergrid.specs.Layouts.{IsConfiguredBy}
 use Rattle.papergrid.specs.Pictures.{texts_drawing}
+use Rattle.papergrid.proofs.PictureLemmas.{lines-of-rows, room-with}
 use Rattle.papergrid_csv.specs.Pictures.{AreFitted, IsCsvDrawing, table_settings, table_shape}
 use Rattle.papergrid_csv.specs.Requests.{IsSeparating, settings_of}
 use Rattle.papergrid_csv.specs.declared.request.Request.{Request}
@@ -36,8 +37,7 @@ use Rattle.papergrid_csv.proofs.CutTextLemmas.{shown-length, shown-utf8}
 use Rattle.papergrid_csv.proofs.PartLemmas.{crossings-none, frame-of, padding-of}
 use Rattle.papergrid_csv.proofs.RowLemmas.{all-utf8}
 use Rattle.papergrid_csv.proofs.SeparatingLemmas.{fitted-separate, settings-separate}
-use Rattle.papergrid_csv.proofs.SizedLemmas.{room-with}
-use Rattle.papergrid_csv.proofs.TableLemmas.{line-between, lines-are}
+use Rattle.papergrid_csv.proofs.TableLemmas.{line-between}
 
 -- sizes that are chosen by either way fit
 pub record FitBoth (config : SpannedConfig) (columns : ℕ) (rows : List (List (List ℕ))) (widths heights : List ℕ) : Type 0 where
@@ -106,7 +106,7 @@ module _ (request : Request) (input : List ℕ) (d : Drawing) (so : IsCsvDrawing
       let tiled : IsTiled (layout_of it) = subst (λ (e : Drawing). IsTiled (layout_of e)) so.drawn.is so.tiled in
       subst (λ (e : Drawing). All (λ line. width_of (text_of (pieces_of line)) ≡ total_along (layout_of e) Columns) (drawn_lines e)) (sym so.drawn.is)
       (lines-wide it tiled
-      (texts-honest it (λ text. text) so.table.shown (λ p _. lines-are so.table.shown p) utf8)
+      (texts-honest it (λ text. text) so.table.shown (λ p _. lines-of-rows so.table.shown p) utf8)
       (with-separators it (settings ++ fitted) so.configured.told.told all)
       (apart stands)
       (room-with so.table.columns so.table.shown request.sizing so.config it (record { widths = so.drawn.widths; heights = so.drawn.heights; sized = so.drawn.sized; is = refl })))

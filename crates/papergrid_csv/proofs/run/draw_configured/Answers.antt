@@ -4,7 +4,7 @@ use Rattle.papergrid_layout.specs.Tables.{AreNoSizesBySizing, AreSizesBySizing}
 use Rattle.papergrid_draw.specs.Drawings.{Drawing}
 use Rattle.papergrid.specs.Estimates.{text_measure}
 use Rattle.papergrid.specs.Pictures.{texts_drawing}
-use Rattle.papergrid_csv.proofs.SizedLemmas.{drawing-with, no-sizes-seen, room-with, sizes-seen, unless-also}
+use Rattle.papergrid.proofs.PictureLemmas.{drawing-with, no-sizes-seen, room-with, sizes-seen, unless-also}
 use Rattle.papergrid_csv.specs.Rows.{row_texts}
 use Rattle.papergrid_csv.specs.ForProofs.Drawn.{IsConfigRun, IsTableRun, Sized}
 use Rattle.papergrid_csv.proofs.DrawLemmas.{runs-also}
