@@ -22,7 +22,7 @@ use Rattle.papergrid_text.proofs.Splits.{is_split}
 use Rattle.papergrid_text.proofs.ReadBack.{chars-back}
 use Rattle.papergrid_text.proofs.Widths.{str_width-nil}
 use Rattle.papergrid_csv.specs.Cutting.{IsCut, IsCutLine, IsShortened, shortened}
-use Rattle.papergrid_csv.specs.ForProofs.Cuts.{AddsLine, AllNarrow, IsCutAt, StandsApart}
+use Rattle.papergrid_csv.specs.ForProofs.Cuts.{AddsLine, AllNarrow, HasLinesWithin, IsCutAt, StandsApart}
 use Rattle.papergrid_csv.proofs.ApartLemmas.{ellipsis-adds}
 
 -- ---- what is shown of a line
@@ -419,10 +419,14 @@ narrow-zip columns [] all = tt
 narrow-zip columns (line ∷ lines) all =
     (inl (All-head (λ l. width_of l ≤ columns) line lines all, refl), narrow-zip columns lines (All-tail (λ l. width_of l ≤ columns) line lines all))
 
-pub cut-itself : (columns : ℕ) (text : List ℕ) → All (λ line. width_of line ≤ columns) (split_lines text) → IsCut columns text text
+pub cut-itself : (columns : ℕ) (text : List ℕ) → HasLinesWithin columns text → IsCut columns text text
 cut-itself columns text all = record { lines = split_lines text; each = narrow-zip columns (split_lines text) all; joined = sym (is_split text).joined }
 
-pub short-itself : (columns : ℕ) (text : List ℕ) → list_all (is_in_range 0x20 0x7E) text ≡ true → length text ≤ columns → IsCut columns text text
-short-itself columns text printable short =
+-- no line of a printable text is wider than the text is long
+pub short-within : (columns : ℕ) (text : List ℕ) → list_all (is_in_range 0x20 0x7E) text ≡ true → length text ≤ columns → HasLinesWithin columns text
+short-within columns text printable short =
     let wide = width-printable text printable in
-    cut-itself columns text (subst (All (λ l. width_of l ≤ columns)) (sym (one_line text printable)) (All-cons (λ l. width_of l ≤ columns) text [] (omega arith) (All-nil (λ l. width_of l ≤ columns))))
+    subst (All (λ l. width_of l ≤ columns)) (sym (one_line text printable)) (All-cons (λ l. width_of l ≤ columns) text [] (omega arith) (All-nil (λ l. width_of l ≤ columns)))
+
+pub short-itself : (columns : ℕ) (text : List ℕ) → list_all (is_in_range 0x20 0x7E) text ≡ true → length text ≤ columns → IsCut columns text text
+short-itself columns text printable short = cut-itself columns text (short-within columns text printable short)

@@ -8,6 +8,7 @@ use Rattle.papergrid_draw.specs.declared.error.DrawError.TheVariants as draw_err
 use Rattle.papergrid.specs.Pictures.{IsRefusal}
 use Rattle.papergrid.specs.declared.running.RunFault.{RunFault}
 use Rattle.papergrid.specs.declared.running.RunFault.TheVariants as run_faults
+use Rattle.papergrid.proofs.PictureLemmas.{same-writer}
 use Rattle.papergrid_csv.specs.ForProofs.Drawn.{HasBegun, HasEnded, IsBrokenOff, IsSteady, Runs, end_refused}
 use Rattle.papergrid_csv.specs.declared.run.CsvEnd.{CsvEnd}
 use Rattle.papergrid_csv.specs.declared.run.CsvEnd.TheVariants.{Drawn, Refused}
@@ -70,22 +71,6 @@ module _ {W : Type 0} (contents : W → Option (List ℕ)) (has_failed has_stall
 
     abbrev IsLeft : W → W → DrawError → Type 0
     IsLeft old new e = (e ≡ draw_errors.Write) ⊎ ((error : AllocError) × (e ≡ draw_errors.Memory error)) ⊎ (new ≡ old)
-
-    same-writer : (old new : W) (e : DrawError) → IsRefusal e → IsLeft old new e → new ≡ old
-    same-writer old new (draw_errors.Memory error) named how = absurd named
-    same-writer old new draw_errors.Write named how = absurd named
-    same-writer old new (draw_errors.OutOfTable p) named (inl same) = absurd (let none : ⊥ = cc in none)
-    same-writer old new (draw_errors.OutOfTable p) named (inr (inl same)) = absurd (let none : ⊥ = (let is = same.1 in cc) in none)
-    same-writer old new (draw_errors.OutOfTable p) named (inr (inr same)) = same
-    same-writer old new (draw_errors.NotTiled p) named (inl same) = absurd (let none : ⊥ = cc in none)
-    same-writer old new (draw_errors.NotTiled p) named (inr (inl same)) = absurd (let none : ⊥ = (let is = same.1 in cc) in none)
-    same-writer old new (draw_errors.NotTiled p) named (inr (inr same)) = same
-    same-writer old new (draw_errors.NoRoom p) named (inl same) = absurd (let none : ⊥ = cc in none)
-    same-writer old new (draw_errors.NoRoom p) named (inr (inl same)) = absurd (let none : ⊥ = (let is = same.1 in cc) in none)
-    same-writer old new (draw_errors.NoRoom p) named (inr (inr same)) = same
-    same-writer old new draw_errors.TooLarge named (inl same) = absurd (let none : ⊥ = cc in none)
-    same-writer old new draw_errors.TooLarge named (inr (inl same)) = absurd (let none : ⊥ = (let is = same.1 in cc) in none)
-    same-writer old new draw_errors.TooLarge named (inr (inr same)) = same
 
     -- a picture broke off, or none of it was written
     module _ (old new : W) (output : List ℕ) (drawn : IsSo Drawn output) where

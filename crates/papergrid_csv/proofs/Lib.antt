@@ -12,10 +12,11 @@ pub mod RefusalLemmas
 pub mod RequestLemmas
 pub mod RowLemmas
 pub mod RunLemmas
+pub mod SeparatingLemmas
 pub mod ShownLemmas
-pub mod SizedLemmas
 pub mod SpellingLemmas
 pub mod StyleLemmas
 pub mod TableLemmas
 pub mod WideLemmas
+pub mod WidestLemmas
 pub mod WithinLemmas

@@ -1,12 +1,8 @@
 -- What the settings of a request make of the parts of a configuration, with settings of crossings behind them.
 use Rattle.std.proofs.Common.{◌≡◌, ◌∙◌, ℕ, Bool, true, false, List, [], ◌∷◌, ◌++◌, All, Option, Some, None, ap, append-nil, flat_map, length, refl, subst, sym, cond}
 use Rattle.std.specs.Prelude.{nat_lt}
-use Rattle.std.specs.List.{list_all}
-use Rattle.std.proofs.lemmas.Bool.{and_parts}
 use Rattle.std.proofs.lemmas.Grind.{flat_map-append}
 use Rattle.std.proofs.lemmas.List.Elements.{All-head, All-nil, All-tail}
-use Rattle.std.proofs.lemmas.List.Folds.{list_all-append}
-use Rattle.std.proofs.lemmas.List.Sums.{list_all-from_AllPass}
 use Rattle.papergrid_values.specs.declared.alignment.AlignmentHorizontal.{AlignmentHorizontal}
 use Rattle.papergrid_values.specs.declared.alignment.AlignmentVertical.{AlignmentVertical}
 use Rattle.papergrid_values.specs.declared.border.Border.{Border}
@@ -24,6 +20,7 @@ use Rattle.papergrid_config.specs.declared.spanned.SpannedConfig.{SpannedConfig}
 use Rattle.papergrid_tables.specs.BorderCalls as lines
 use Rattle.papergrid_tables.specs.Made.{borders_made}
 use Rattle.papergrid_grid.specs.Crossings.{SetsCrossing, corner_border}
+use Rattle.papergrid_grid.specs.declared.crossings.Junctions.{Junctions}
 use Rattle.papergrid_csv.specs.Requests.{head_line, settings_of, span_settings}
 use Rattle.papergrid_csv.specs.declared.request.Request.{Request}
 use Rattle.papergrid_csv.proofs.RequestLemmas.{others, others-all, spans-all}
@@ -35,13 +32,13 @@ none-made part (s ∷ settings) all =
     rw first (none-made part settings (All-tail (λ s. part s ≡ []) s settings all))
 
 -- settings of crossings make nothing of a part that borders of cells are not of
-pub crossings-none : {X : Type 0} (part : Setting → List X) → ((p : Position) (b : Border ℕ) → part (SetBorder p b) ≡ []) → (config : SpannedConfig) (shape : ℕ × ℕ) (fitted : List Setting) →
-    All (SetsCrossing config shape) fitted → flat_map part fitted ≡ []
-crossings-none part none config shape [] all = refl
-crossings-none part none config shape (s ∷ fitted) all =
-    let sets = All-head (SetsCrossing config shape) s fitted all in
+pub crossings-none : {X : Type 0} (part : Setting → List X) → ((p : Position) (b : Border ℕ) → part (SetBorder p b) ≡ []) → (config : SpannedConfig) (shape : ℕ × ℕ) (junctions : Junctions) (fitted : List Setting) →
+    All (SetsCrossing config shape junctions) fitted → flat_map part fitted ≡ []
+crossings-none part none config shape junctions [] all = refl
+crossings-none part none config shape junctions (s ∷ fitted) all =
+    let sets = All-head (SetsCrossing config shape junctions) s fitted all in
     let first : part s ≡ [] = ap part sets.2 ∙ none sets.0 (corner_border sets.1) in
-    rw first (crossings-none part none config shape fitted (All-tail (SetsCrossing config shape) s fitted all))
+    rw first (crossings-none part none config shape junctions fitted (All-tail (SetsCrossing config shape junctions) s fitted all))
 
 module _ {X : Type 0} (part : Setting → List X) (request : Request) (columns : ℕ) (rows : List (List (List ℕ)))
     (none : flat_map part (others request columns rows) ≡ []) where
@@ -105,28 +102,3 @@ module _ (request : Request) (columns : ℕ) (rows : List (List (List ℕ))) whe
       by : (head : Option (HorizontalLine ℕ)) → (borders_made (lines.SetBorders request.frame ∷ (flat_map character_calls (head_line head (length rows)) ++ []))).frame ≡ request.frame
       by None = refl
       by (Some line) = kept (nat_lt 1 (length rows)) line
-
--- ---- tests that all of them pass
-
-module _ (test : Setting → Bool) (aligned : (entity : Entity) (alignment : AlignmentHorizontal) → test (SetAlignmentHorizontal entity alignment) ≡ true)
-    (vertical : (entity : Entity) (alignment : AlignmentVertical) → test (SetAlignmentVertical entity alignment) ≡ true) where
-  no-longer : (head : Option (HorizontalLine ℕ)) (rows : ℕ) → list_all test (head_line head 2) ≡ true → list_all test (head_line head rows) ≡ true
-  no-longer None rows all = refl
-  no-longer (Some line) rows all = by (nat_lt 1 rows)
-    where
-      by : (b : Bool) → list_all test (cond b (InsertHorizontalLine 1 line ∷ []) []) ≡ true
-      by true = all
-      by false = refl
-
-  -- those of a table of two rows without columns have all that a table of any rows has
-  pub tested-all : (request : Request) → All (λ s. test s ≡ true) (flat_map span_settings request.spans.items) → list_all test (settings_of request 0 ([] ∷ [] ∷ [])) ≡ true →
-      (columns : ℕ) (rows : List (List (List ℕ))) → list_all test (settings_of request columns rows) ≡ true
-  tested-all request spans all columns rows =
-      let two : List (List (List ℕ)) = [] ∷ [] ∷ [] in
-      let first = and_parts (test (SetBorders request.frame)) (list_all test (head_line request.head 2 ++ (SetPadding Global request.padding ∷ others request 0 two))) all in
-      let split = and_parts (list_all test (head_line request.head 2)) (list_all test (SetPadding Global request.padding ∷ others request 0 two))
-      (sym (list_all-append test (head_line request.head 2) (SetPadding Global request.padding ∷ others request 0 two)) ∙ first.1) in
-      let padding = and_parts (test (SetPadding Global request.padding)) (list_all test (others request 0 two)) split.1 in
-      let head = no-longer request.head (length rows) split.0 in
-      let rest = list_all-from_AllPass test (others request columns rows) (others-all (λ s. test s ≡ true) aligned vertical request columns rows spans) in
-      rw first.0 (list_all-append test (head_line request.head (length rows)) (SetPadding Global request.padding ∷ others request columns rows) ∙ rw (head, padding.0, rest) refl)

@@ -36,7 +36,7 @@ use Rattle.papergrid_csv.proofs.CutTextLemmas.{shown-full}
 use Rattle.papergrid_csv.proofs.PartLemmas.{crossings-none, no-spans}
 use Rattle.papergrid_csv.proofs.RowLemmas.{rows-full}
 use Rattle.papergrid_csv.proofs.TableLemmas.{HasNoSpans, none-spanned, tiled}
-use Rattle.papergrid_csv.proofs.SizedLemmas.{room-with}
+use Rattle.papergrid.proofs.PictureLemmas.{room-with}
 
 -- ---- no cell overflows the table
 
@@ -104,7 +104,7 @@ unfitted-large plain shape spans draw_errors.Write fault named = absurd fault
 -- settings that fit crossings make no spans
 fitted-no-spans : (junctions : Option Junctions) (settings : List Setting) (shape : ℕ × ℕ) (config : SpannedConfig) (fitted : List Setting) → AreFitted junctions settings shape config fitted → flat_map span_calls fitted ≡ []
 fitted-no-spans None settings shape config fitted are = ap (flat_map span_calls) are
-fitted-no-spans (Some junctions) settings shape config fitted are = crossings-none span_calls (λ _ _. refl) are.0 shape fitted are.2.corners
+fitted-no-spans (Some junctions) settings shape config fitted are = crossings-none span_calls (λ _ _. refl) are.0 shape junctions fitted are.2.corners
 
 module _ (request : Request) (empty : request.spans.items ≡ []) (columns : ℕ) (rows shown : List (List (List ℕ))) (full : All (λ row. length row ≡ columns) shown) where
   unsized-large : (config : SpannedConfig) → HasNoSpans (spanned_grid config) → (e : DrawError) → IsRefusal e → (error : LayoutError) → e ≡ draw_error_of error →

@@ -1,6 +1,7 @@
 -- What a run writes of a table, of records, of rows and of an input.
-use Rattle.std.proofs.Common.{◌≡◌, ℕ, Bool, List, [], Option, None, Some, refl, subst, sym}
-use Rattle.std.specs.Prelude.{length}
+use Rattle.std.proofs.Common.{Global, Vec, ◌≡◌, ◌∙◌, ℕ, Bool, List, [], Option, None, Some, ap, length, map, refl, subst, sym}
+use Rattle.std.specs.Borrow.{Bor}
+use Rattle.std.proofs.lemmas.List.{length-map}
 use Rattle.papergrid_tracks.specs.declared.error.LayoutError.{LayoutError}
 use Rattle.papergrid_tracks.specs.declared.error.LayoutError.TheVariants as layout_errors
 use Rattle.papergrid_config.specs.History.{AppendsSettings}
@@ -20,7 +21,7 @@ use Rattle.papergrid.specs.Layouts.{IsConfiguredBy}
 use Rattle.papergrid.specs.Pictures.{IsDrawingWith, IsRefusal, Undrawn, Unsized}
 use Rattle.papergrid_csv.specs.Pictures.{AreFitted, Faulty, IsCsvRun, IsCsvTable, IsConfigured, IsUnfitted, Unfitted}
 use Rattle.papergrid_csv.specs.Requests.{settings_of}
-use Rattle.papergrid_csv.specs.Rows.{AreRowsOf, IsUnread}
+use Rattle.papergrid_csv.specs.Rows.{AreRowsOf, IsUnread, row_texts, texts_of}
 use Rattle.papergrid_csv.specs.Shown.{AreCut}
 use Rattle.papergrid_csv.specs.ForProofs.Drawn.{AreFittingOf, Configured, Crossed, Faulted, Free, IsConfigRun, IsFitFaultOf, IsFree, IsKeptBy, IsRowsRun, IsSettingsRun, IsTableRun, Kept, Runs, Sized, end_refused, end_unread}
 use Rattle.papergrid_csv.specs.declared.reading.RowsError.{RowsError}
@@ -28,6 +29,7 @@ use Rattle.papergrid_csv.specs.declared.reading.RowsError.TheVariants as rows_er
 use Rattle.papergrid_csv.specs.declared.request.Request.{Request}
 use Rattle.papergrid_csv.specs.declared.run.CsvEnd.{CsvEnd}
 use Rattle.papergrid_csv.specs.declared.run.CsvEnd.TheVariants.{Drawn, Hides, NoColumn, NotText, Ragged, Refused, TooWide, Unclosed}
+use Rattle.papergrid_csv.proofs.CutTextLemmas.{shown-length}
 use Rattle.papergrid_csv.proofs.DrawLemmas.{run-no_memory, run-silent}
 
 -- ---- a table
@@ -76,15 +78,16 @@ unfitted-of (Some junctions) settings plain shape e told is = (plain, told, is)
 
 -- ---- rows
 
--- by what settings, shapes and records are
-pub rows-run-of : (request : Request) (columns : ℕ) (rows shown : List (List (List ℕ))) → IsFree request rows → AreCut request.cut rows shown →
-    (settings : List Setting) (shape : ℕ × ℕ) (told_columns : ℕ) (texts : List (List (List ℕ))) → settings ≡ settings_of request columns rows → shape ≡ (length rows, columns) → told_columns ≡ columns →
-    texts ≡ shown → (end : CsvEnd) (output : List ℕ) → IsSettingsRun request settings shape told_columns texts end output → IsRowsRun request columns rows end output
-rows-run-of request columns rows shown free cut settings shape told_columns texts same_settings same_shape same_columns same_texts end output so =
-    let one = subst (λ s. IsSettingsRun request s shape told_columns texts end output) same_settings so in
-    let two = subst (λ s. IsSettingsRun request (settings_of request columns rows) s told_columns texts end output) same_shape one in
-    let three = subst (λ n. IsSettingsRun request (settings_of request columns rows) (length rows, columns) n texts end output) same_columns two in
-    Free shown free cut (subst (λ t. IsSettingsRun request (settings_of request columns rows) (length rows, columns) columns t end output) same_texts three)
+-- by what settings are, and rows that are lent
+pub rows-run-of : (request : Request) (columns : ℕ) (rows : List (List (List ℕ))) → IsFree request rows → (held : Vec (Vec (Bor (List ℕ)) Global) Global) → AreCut request.cut rows (texts_of held) →
+    (lent : List (Vec (Bor (List ℕ)) Global)) → lent ≡ held.items → (settings : List Setting) → settings ≡ settings_of request columns rows →
+    (end : CsvEnd) (output : List ℕ) → IsSettingsRun request settings (length lent, columns) columns (map row_texts lent) end output → IsRowsRun request columns rows end output
+rows-run-of request columns rows free held cut lent same_rows settings same_settings end output so =
+    let same : map row_texts lent ≡ texts_of held = ap (map row_texts) same_rows in
+    let counted : length lent ≡ length rows = sym (length-map lent row_texts) ∙ ap length same ∙ shown-length request.cut rows (texts_of held) cut in
+    let by_settings = subst (λ s. IsSettingsRun request s (length lent, columns) columns (map row_texts lent) end output) same_settings so in
+    let by_shape = subst (λ n. IsSettingsRun request (settings_of request columns rows) (n, columns) columns (map row_texts lent) end output) counted by_settings in
+    Free (texts_of held) free cut (subst (λ t. IsSettingsRun request (settings_of request columns rows) (length rows, columns) columns t end output) same by_shape)
 
 -- ---- an input
 

@@ -1,6 +1,6 @@
 -- Tables whose cells span one row and one column each.
-use Rattle.std.proofs.Common.{◌≡◌, ◌∙◌, ◌<◌, ℕ, zero, suc, Bool, true, false, List, [], ◌∷◌, Option, Some, None, ap, arith, length, refl, subst, sym}
-use Rattle.std.specs.Prelude.{◌||◌, IsSome, flat_map, nat_lt, option_and_then, slice_get, slice_index_or, unwrap_or}
+use Rattle.std.proofs.Common.{◌≡◌, ◌∙◌, ◌<◌, ℕ, Bool, true, false, List, [], ap, arith, refl}
+use Rattle.std.specs.Prelude.{◌||◌, IsSome, flat_map, nat_lt, unwrap_or}
 use Rattle.std.proofs.lemmas.Bool.Decides.{nat_tests}
 use Rattle.std.specs.FinMap.{get-empty}
 use Rattle.papergrid_values.specs.MapKeys.{position_cmp}
@@ -19,12 +19,8 @@ use Rattle.papergrid_maps.specs.Made.{spans_made}
 use Rattle.papergrid_maps.specs.Spans.{is_visible, span_along}
 use Rattle.papergrid_maps.proofs.SpanVisible.{visible_test}
 use Rattle.papergrid_maps.specs.Grids.{Grid}
-use Rattle.papergrid_layout.specs.Laws.{IsCellAt}
 use Rattle.papergrid_layout.specs.Places.{TableView}
-use Rattle.papergrid_draw.specs.Contents.{lines_of}
-use Rattle.papergrid_draw.specs.Laws.{AreLinesAt}
 use Rattle.papergrid_draw.specs.Tiles.{EndsOutside, IsTiled, Owns}
-use Rattle.papergrid_grid.specs.Cells.{lines_at, text_lines}
 
 -- each position is visible, and spans one row and one column
 pub record HasNoSpans (grid : Grid) : Type 0 where
@@ -73,40 +69,6 @@ module _ (table : TableView) (spans : HasNoSpans table.grid) where
 
   pub tiled : IsTiled table
   tiled = record { within = within; once = λ q inside. (q, owns-itself q, only-itself q) }
-
--- ---- the lines of texts
-
-got-at : {X : Type 0} (xs : List X) (i : ℕ) (x d : X) → i < length xs → slice_index_or xs i d ≡ x → slice_get xs i ≡ Some x
-got-at [] i x d within is = absurd (omega arith)
-got-at (y ∷ ys) zero x d within is = ap Some is
-got-at (y ∷ ys) (suc i) x d within is = got-at ys i x d (omega arith) is
-
-found-at : {X : Type 0} (xs : List X) (i : ℕ) (x d : X) → slice_get xs i ≡ Some x → (i < length xs) × (slice_index_or xs i d ≡ x)
-found-at [] i x d is = cc
-found-at (y ∷ ys) zero x d is = (omega arith, cc)
-found-at (y ∷ ys) (suc i) x d is = let more = found-at ys i x d is in (omega arith, more.1)
-
-pub lines-are : (rows : List (List (List ℕ))) (p : Position) → AreLinesAt (λ text. text) rows p (lines_at text_lines rows p)
-lines-are rows p = record {
-  of_cell = λ cell is.
-      let row = got-at rows p.row (slice_index_or rows p.row []) [] is.0 refl in
-      let found = got-at (slice_index_or rows p.row []) p.col cell cell is.1.0 is.1.1 in
-      rw (row, found) refl;
-  of_none = λ none. by-row none (slice_get rows p.row) refl;
-}
-  where
-    by-cell : ((cell : List ℕ) → IsCellAt rows p cell → ⊥) → (row : List (List ℕ)) → slice_get rows p.row ≡ Some row → (found : Option (List ℕ)) → slice_get row p.col ≡ found →
-        lines_of text_lines found ≡ []
-    by-cell none row is None at = refl
-    by-cell none row is (Some cell) at =
-        let there = found-at rows p.row row [] is in
-        let here = found-at row p.col cell cell at in
-        absurd (none cell (there.0, subst (λ r. (p.col < length r) × (slice_index_or r p.col cell ≡ cell)) (sym there.1) here))
-
-    by-row : ((cell : List ℕ) → IsCellAt rows p cell → ⊥) → (found : Option (List (List ℕ))) → slice_get rows p.row ≡ found →
-        lines_of text_lines (option_and_then (λ row. slice_get row p.col) found) ≡ []
-    by-row none None is = refl
-    by-row none (Some row) is = by-cell none row is (slice_get row p.col) refl
 
 -- ---- vertical lines
 

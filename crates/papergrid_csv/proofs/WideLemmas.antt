@@ -1,5 +1,5 @@
 -- Each line of the picture of a CSV text is as wide as its table.
-use Rattle.std.proofs.Common.{◌≡◌, ◌∙◌, ◌⊎◌, ◌<◌, ◌++◌, ℕ, true, List, [], ◌∷◌, All, Option, None, Some, ap, append-nil, flat_map, inl, inr, length, refl, subst, sym}
+use Rattle.std.proofs.Common.{◌≡◌, ◌∙◌, ◌⊎◌, ◌<◌, ◌++◌, ℕ, true, List, [], All, Option, None, Some, ap, append-nil, flat_map, inl, inr, length, refl, subst, sym}
 use Rattle.std.specs.Prelude.{IsSome, IsUtf8}
 use Rattle.std.specs.List.{list_all}
 use Rattle.std.proofs.lemmas.List.Folds.{list_all-append}
@@ -29,15 +29,15 @@ use Rattle.papergrid_grid.specs.declared.crossings.Junctions.{Junctions}
 use Rattle.papergrid.specs.Estimates.{text_measure}
 use Rattle.papergrid.specs.Layouts.{IsConfiguredBy}
 use Rattle.papergrid.specs.Pictures.{texts_drawing}
+use Rattle.papergrid.proofs.PictureLemmas.{lines-of-rows, room-with}
 use Rattle.papergrid_csv.specs.Pictures.{AreFitted, IsCsvDrawing, table_settings, table_shape}
-use Rattle.papergrid_csv.specs.Requests.{settings_of}
+use Rattle.papergrid_csv.specs.Requests.{IsSeparating, settings_of}
 use Rattle.papergrid_csv.specs.declared.request.Request.{Request}
 use Rattle.papergrid_csv.proofs.CutTextLemmas.{shown-length, shown-utf8}
-use Rattle.papergrid_csv.proofs.PartLemmas.{crossings-none, frame-of, padding-of, tested-all}
-use Rattle.papergrid_csv.proofs.RequestLemmas.{spans-all}
+use Rattle.papergrid_csv.proofs.PartLemmas.{crossings-none, frame-of, padding-of}
 use Rattle.papergrid_csv.proofs.RowLemmas.{all-utf8}
-use Rattle.papergrid_csv.proofs.SizedLemmas.{room-with}
-use Rattle.papergrid_csv.proofs.TableLemmas.{line-between, lines-are}
+use Rattle.papergrid_csv.proofs.SeparatingLemmas.{fitted-separate, settings-separate}
+use Rattle.papergrid_csv.proofs.TableLemmas.{line-between}
 
 -- sizes that are chosen by either way fit
 pub record FitBoth (config : SpannedConfig) (columns : ℕ) (rows : List (List (List ℕ))) (widths heights : List ℕ) : Type 0 where
@@ -57,7 +57,7 @@ at-position rows all p cell is = subst IsUtf8 is.1.1 (all p.row [] is.0 p.col ce
 fitted-no-paddings : (junctions : Option Junctions) (settings : List Setting) (shape : ℕ × ℕ) (config : SpannedConfig) (fitted : List Setting) → AreFitted junctions settings shape config fitted →
     flat_map padding_calls fitted ≡ []
 fitted-no-paddings None settings shape config fitted are = ap (flat_map padding_calls) are
-fitted-no-paddings (Some junctions) settings shape config fitted are = crossings-none padding_calls (λ _ _. refl) are.0 shape fitted are.2.corners
+fitted-no-paddings (Some junctions) settings shape config fitted are = crossings-none padding_calls (λ _ _. refl) are.0 shape junctions fitted are.2.corners
 
 -- a vertical line of the frame stands between columns, whatever crossings were fitted
 vertical-stays : (request : Request) (columns : ℕ) (rows : List (List (List ℕ))) (junctions : Option Junctions) (shape : ℕ × ℕ) (config : SpannedConfig) (fitted : List Setting) →
@@ -96,18 +96,17 @@ module _ (request : Request) (input : List ℕ) (d : Drawing) (so : IsCsvDrawing
       inr (subst (λ n. 0 < n) (sym (ap (λ s. s.left.size) (so.configured.told.effective.padding p
       ∙ padding-of request so.table.columns so.table.rows fitted (fitted-no-paddings request.junctions settings (table_shape so.table) so.config fitted so.configured.fit) p))) padded))
 
-  pub csv-wide : list_all setting_separates (settings_of request 0 ([] ∷ [] ∷ [])) ≡ true → list_all setting_separates fitted ≡ true →
-      (IsSome request.frame.vertical) ⊎ (0 < request.padding.left.size) →
+  pub csv-wide : IsSeparating request → (IsSome request.frame.vertical) ⊎ (0 < request.padding.left.size) →
       All (λ line. width_of (text_of (pieces_of line)) ≡ total_along (layout_of d) Columns) (drawn_lines d)
-  csv-wide separate crossings stands =
-      let tested = tested-all setting_separates (λ _ _. refl) (λ _ _. refl) request (spans-all (λ s. setting_separates s ≡ true) (λ _ _. refl) (λ _ _. refl) request.spans.items) separate
-      so.table.columns so.table.rows in
-      let all : list_all setting_separates (settings ++ fitted) ≡ true = list_all-append setting_separates settings fitted ∙ rw (tested, crossings) refl in
+  csv-wide separating stands =
+      let told = settings-separate request separating so.table.columns so.table.rows in
+      let crossed = fitted-separate request.junctions settings (table_shape so.table) so.config fitted separating.fitting so.configured.fit in
+      let all : list_all setting_separates (settings ++ fitted) ≡ true = list_all-append setting_separates settings fitted ∙ rw (told, crossed) refl in
       let utf8 = at-position so.table.shown (shown-utf8 request.cut so.table.rows so.table.shown (all-utf8 request.reading input so.table.columns so.table.rows so.table.are) so.table.cut) in
       let tiled : IsTiled (layout_of it) = subst (λ (e : Drawing). IsTiled (layout_of e)) so.drawn.is so.tiled in
       subst (λ (e : Drawing). All (λ line. width_of (text_of (pieces_of line)) ≡ total_along (layout_of e) Columns) (drawn_lines e)) (sym so.drawn.is)
       (lines-wide it tiled
-      (texts-honest it (λ text. text) so.table.shown (λ p _. lines-are so.table.shown p) utf8)
+      (texts-honest it (λ text. text) so.table.shown (λ p _. lines-of-rows so.table.shown p) utf8)
       (with-separators it (settings ++ fitted) so.configured.told.told all)
       (apart stands)
       (room-with so.table.columns so.table.shown request.sizing so.config it (record { widths = so.drawn.widths; heights = so.drawn.heights; sized = so.drawn.sized; is = refl })))

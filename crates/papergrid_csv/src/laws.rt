@@ -1,28 +1,24 @@
 //! Laws of the picture of a CSV text, each the contract of a function that does nothing.
 
-ghost use Rattle.std.specs.Prelude.{◌≡◌, ◌<◌, ◌∷◌, [], ◌⊎◌, ℕ, All, IsSome, List, true};
-ghost use Rattle.std.specs.List.{list_all};
+ghost use Rattle.std.specs.Prelude.{◌≡◌, ◌<◌, [], ◌⊎◌, ℕ, All, IsSome, List};
 ghost use Rattle.papergrid_values.specs.declared.direction.Direction.TheVariants.{Columns};
 ghost use Rattle.papergrid_text.specs.Text.{width_of};
 ghost use Rattle.papergrid_layout.specs.Places.{total_along};
 ghost use Rattle.papergrid_draw.specs.Drawings.{Drawing, layout_of};
 ghost use Rattle.papergrid_draw.specs.Drawn.{drawn_lines};
 ghost use Rattle.papergrid_draw.specs.Laws.{pieces_of};
-ghost use Rattle.papergrid_draw.specs.Separated.{setting_separates, text_of};
+ghost use Rattle.papergrid_draw.specs.Separated.{text_of};
 ghost use Rattle.papergrid_draw.specs.declared.error.DrawError.{DrawError};
 ghost use Rattle.papergrid_draw.specs.declared.error.DrawError.TheVariants.{TooLarge};
 ghost use Rattle.papergrid_csv.specs.Pictures.{IsCsvDrawing, IsCsvRefused};
-ghost use Rattle.papergrid_csv.specs.Requests.{settings_of};
+ghost use Rattle.papergrid_csv.specs.Requests.{IsSeparating};
 ghost use Rattle.papergrid_csv.specs.declared.request.Request.{Request};
 
 /// Each line of the picture of a CSV text is as wide as its table, as `unicode_width` counts it, whatever the text is, where
-/// the characters of the request, and those of fitted crossings, are separators, and a vertical line or a padding stands
-/// between columns.
+/// the characters of the request are separators, and a vertical line or a padding stands between columns.
 pub fn csv_lines_as_wide()
-    ensures { (request : Request) (input : List ℕ) (d : Drawing)
-        (so : IsCsvDrawing request input d) →
-        list_all setting_separates (settings_of request 0 ([] ∷ [] ∷ [])) ≡ true →
-        list_all setting_separates so.configured.fitted ≡ true →
+    ensures { (request : Request) (input : List ℕ) (d : Drawing) →
+        IsCsvDrawing request input d → IsSeparating request →
         (IsSome request.frame.vertical) ⊎ (0 < request.padding.left.size) →
         All (λ line. width_of (text_of (pieces_of line)) ≡ total_along (layout_of d) Columns)
         (drawn_lines d) }

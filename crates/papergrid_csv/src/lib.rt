@@ -13,6 +13,7 @@ mod run;
 mod shown;
 mod spelling;
 mod style;
+mod widest;
 mod within;
 
 pub use cutting::cut;

@@ -1,15 +1,14 @@
 //! The run of a CSV text: read to the end, judge, draw.
 
-ghost use Rattle.std.specs.Prelude.{◌≡◌, ◌≢◌, ◌⊎◌, ℕ, All, IfErr, IfOk, IfSome, IsErrOf, List, MatchBool, MatchOption, OnErr, OnOk, false, map, take, true};
+ghost use Rattle.std.specs.Prelude.{◌≡◌, ◌≢◌, ◌⊎◌, ℕ, All, IfErr, IfOk, IfSome, IsErrOf, List, MatchBool, MatchOption, OnErr, OnOk, false, length, map, take, true};
 ghost use Rattle.std.specs.Io.KnownBytes.{Appends, Consumes, IsAtEnd};
-ghost use Rattle.papergrid_text.specs.HeldRows.{column_count};
 ghost use Rattle.papergrid_config.specs.Applied.{is_in_range};
 ghost use Rattle.papergrid_config.specs.History.{AppendsSettings};
 ghost use Rattle.papergrid_config.specs.declared.setting.Setting.{Setting};
 ghost use Rattle.papergrid_draw.specs.Faults.{AllHaveRoom};
 ghost use Rattle.papergrid_draw.specs.declared.error.DrawError.TheVariants.{Write};
 ghost use Rattle.papergrid_grid.specs.Crossings.{FitCrossings, IsFitFault};
-ghost use Rattle.papergrid.specs.Pictures.{IsRefusal, texts_drawing, texts_held};
+ghost use Rattle.papergrid.specs.Pictures.{IsRefusal, texts_drawing};
 ghost use Rattle.papergrid.specs.Runs.{IsWholeInput};
 ghost use Rattle.papergrid_csv.specs.Pictures.{IsCsvRun, IsNarrow, IsWide};
 ghost use Rattle.papergrid_csv.specs.Rows.{row_texts, texts_of};
@@ -19,7 +18,7 @@ ghost use Rattle.papergrid_csv.specs.ForProofs.Drawn.{AreFittingOf, IsConfigRun,
 use crate::judging::{first_hidden, first_missing};
 use crate::reading::{Rows, RowsError, read_rows};
 use crate::request::{Request, settings};
-use crate::shown::shown_rows;
+use crate::shown::cut_rows;
 use bumpalo::Bump;
 use papergrid::{RunFault, read_all};
 use papergrid_config::laws::history_decides;
@@ -28,7 +27,7 @@ use papergrid_draw::transfer::{Sink, Source};
 use papergrid_draw::{DrawError, Room, check_tiles};
 use papergrid_grid::{Junctions, TextCells, draw_lines, fitted_crossings};
 use papergrid_layout::Table;
-use papergrid_text::VecRecords;
+use papergrid_text::IterRecords;
 use papergrid_values::Position;
 use std::alloc::{AllocError, Global};
 
@@ -130,13 +129,13 @@ pub fn draw_input<W: Sink>(
 {
     let texts = Bump::new(alloc);
     match read_rows(alloc, &texts, request.reading, input) {
-        Ok(rows) => draw_rows(alloc, &texts, request, rows, writer),
+        Ok(rows) => draw_rows(alloc, request, &rows, writer),
         Err(error) => end_unread(error),
     }
 }
 
 /// How a run ends whose input was not read.
-fn end_unread(error: RowsError) -> Result<CsvEnd, RunFault>
+pub fn end_unread(error: RowsError) -> Result<CsvEnd, RunFault>
     ensures { result ≡ end_unread error }
 {
     match error {
@@ -148,26 +147,28 @@ fn end_unread(error: RowsError) -> Result<CsvEnd, RunFault>
 }
 
 /// Writes the picture of these rows, if they have one.
-fn draw_rows<'t, W: Sink>(
+pub fn draw_rows<W: Sink>(
     alloc: Global,
-    texts: &'t Bump,
     request: &Request,
-    rows: Rows<'t>,
+    rows: &Rows<'_>,
     writer: &mut W,
 ) -> Result<CsvEnd, RunFault>
     ensures { Runs W.contents W.has_failed W.has_stalled
-        (IsRowsRun request.now rows.entry.columns (texts_of rows.entry.rows))
+        (IsRowsRun request.now rows.now.columns (texts_of rows.now.rows))
         writer.old writer.new result }
 {
-    if let Some(end) = judged(request, &rows) {
+    if let Some(end) = judged(request, rows) {
         return Ok(end);
     }
-    let settings = settings(alloc, request, &rows)?;
-    let Rows { columns, rows } = rows;
-    let shape = (rows.len(), columns);
-    let shown = shown_rows(alloc, texts, request.cut, rows)?;
-    let records = VecRecords::with_size(shown, shape.0, columns);
-    draw_records(alloc, request, settings, shape, &records, writer)
+    let settings = settings(alloc, request, rows)?;
+    match request.cut {
+        None => draw_records(alloc, request, settings, rows.columns, &rows.rows, writer),
+        Some(columns) => {
+            let texts = Bump::new(alloc);
+            let shown = cut_rows(alloc, &texts, columns, &rows.rows)?;
+            draw_records(alloc, request, settings, rows.columns, &shown, writer)
+        }
+    }
 }
 
 /// How a run ends that rows keep from their picture.
@@ -187,27 +188,27 @@ fn judged(request: &Request, rows: &Rows<'_>) -> Option<CsvEnd>
     }
 }
 
-/// Writes the picture of records by settings, if they have one.
+/// Writes the picture of rows of so many fields by settings, if they have one.
 fn draw_records<W: Sink>(
     alloc: Global,
     request: &Request,
     settings: Vec<Setting>,
-    shape: (usize, usize),
-    records: &VecRecords<&str>,
+    columns: usize,
+    rows: &[Vec<&str>],
     writer: &mut W,
 ) -> Result<CsvEnd, RunFault>
     requires { All (λ setting. is_in_range setting ≡ true) settings.items }
     ensures { Runs W.contents W.has_failed W.has_stalled
-        (IsSettingsRun request.now settings.items shape (column_count records.now)
-        (texts_held (λ text. text.now) records.now)) writer.old writer.new result }
+        (IsSettingsRun request.now settings.items (length rows.now, columns) columns
+        (map row_texts rows.now)) writer.old writer.new result }
 {
     history_decides();
     let mut config = SpannedConfig::new(alloc);
     if let Err(_) = config.apply_all(settings) {
         return Err(RunFault::Memory);
     }
-    match fit(alloc, &mut config, shape, request.junctions) {
-        Ok(()) => draw_configured(alloc, request, &config, records, writer),
+    match fit(alloc, &mut config, (rows.len(), columns), request.junctions) {
+        Ok(()) => draw_configured(alloc, request, &config, columns, rows, writer),
         Err(error) => end_refused(error),
     }
 }
@@ -262,20 +263,22 @@ fn fit_crossings(
     }
 }
 
-/// Writes the picture of records by a configuration, if they have one.
+/// Writes the picture of rows of so many fields by a configuration, if they have one.
 fn draw_configured<W: Sink>(
     alloc: Global,
     request: &Request,
     config: &SpannedConfig,
-    records: &VecRecords<&str>,
+    columns: usize,
+    rows: &[Vec<&str>],
     writer: &mut W,
 ) -> Result<CsvEnd, RunFault>
     ensures { Runs W.contents W.has_failed W.has_stalled
-        (IsConfigRun request.now (column_count records.now)
-        (texts_held (λ text. text.now) records.now) config.now) writer.old writer.new result }
+        (IsConfigRun request.now columns (map row_texts rows.now) config.now)
+        writer.old writer.new result }
 {
+    let records = IterRecords::new(rows, columns, Some(rows.len()));
     match Table::new(alloc, config, records, request.sizing) {
-        Ok(table) => draw_table(alloc, request, &table, records.as_slice(), writer),
+        Ok(table) => draw_table(alloc, request, &table, rows, writer),
         Err(error) => end_refused(DrawError::from(error)),
     }
 }

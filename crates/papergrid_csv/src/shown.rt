@@ -1,39 +1,23 @@
 //! Rows as they are drawn.
 
-ghost use Rattle.std.specs.Prelude.{IfOk};
+ghost use Rattle.std.specs.Prelude.{IfOk, map};
 ghost use Rattle.std.specs.List.{AllZip};
 ghost use Rattle.papergrid_csv.specs.Cutting.{IsCut};
-ghost use Rattle.papergrid_csv.specs.Shown.{AreCut};
 ghost use Rattle.papergrid_csv.specs.Rows.{row_texts, texts_of};
 
 use crate::cutting::cut;
 use bumpalo::Bump;
 use std::alloc::{AllocError, Global};
 
-/// The rows with each field cut to so many columns, or as they are.
-pub fn shown_rows<'t>(
-    alloc: Global,
-    texts: &'t Bump,
-    columns: Option<usize>,
-    rows: Vec<Vec<&'t str>>,
-) -> Result<Vec<Vec<&'t str>>, AllocError>
-    ensures { IfOk result (λ shown. AreCut columns (texts_of rows.entry) (texts_of shown)) }
-{
-    match columns {
-        None => Ok(rows),
-        Some(columns) => cut_rows(alloc, texts, columns, rows),
-    }
-}
-
-/// The rows with each field cut.
-fn cut_rows<'t>(
+/// The rows with each field cut to so many columns.
+pub fn cut_rows<'t>(
     alloc: Global,
     texts: &'t Bump,
     columns: usize,
-    rows: Vec<Vec<&'t str>>,
+    rows: &[Vec<&'t str>],
 ) -> Result<Vec<Vec<&'t str>>, AllocError>
     ensures { IfOk result (λ shown. AllZip (AllZip (IsCut columns))
-        (texts_of rows.entry) (texts_of shown)) }
+        (map row_texts rows.now) (texts_of shown)) }
 {
     let mut shown = Vec::with_capacity(alloc, rows.len())?;
     for row in rows {
@@ -47,14 +31,14 @@ fn cut_row<'t>(
     alloc: Global,
     texts: &'t Bump,
     columns: usize,
-    row: Vec<&'t str>,
+    row: &[&'t str],
 ) -> Result<Vec<&'t str>, AllocError>
     ensures { IfOk result (λ shown. AllZip (IsCut columns)
-        (row_texts row.entry) (row_texts shown)) }
+        (map (λ field. field.now) row.now) (row_texts shown)) }
 {
     let mut shown = Vec::with_capacity(alloc, row.len())?;
     for field in row {
-        shown.push(cut(texts, columns, field)?)?;
+        shown.push(cut(texts, columns, *field)?)?;
     }
     Ok(shown)
 }

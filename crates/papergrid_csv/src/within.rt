@@ -3,12 +3,17 @@
 ghost use Rattle.std.specs.Prelude.{◌≡◌, ◌⊎◌, ◌↔◌, ℕ, IfOk, IfSome, IsErrOf, IsTrue, List, OnErr, OnOk, false, take, true};
 ghost use Rattle.std.specs.Io.KnownBytes.{Appends, Consumes, IsAtEnd};
 ghost use Rattle.papergrid.specs.Runs.{IsWholeInput};
+ghost use Rattle.papergrid_csv.specs.Rows.{texts_of};
 ghost use Rattle.papergrid_csv.specs.Within.{IsRunWithin, cut_request};
 ghost use Rattle.papergrid_csv.specs.ForProofs.Drawn.{Runs};
+ghost use Rattle.papergrid_csv.specs.ForProofs.Within.{IsFirstCut};
 ghost use Rattle.papergrid_csv.specs.declared.run.CsvEnd.TheVariants.{Drawn, TooWide};
 
+use crate::reading::{Rows, read_rows};
 use crate::request::Request;
-use crate::run::{CsvEnd, draw_input};
+use crate::run::{CsvEnd, draw_rows, end_unread};
+use crate::widest::widest_line;
+use bumpalo::Bump;
 use papergrid::{RunFault, read_all};
 use papergrid_draw::transfer::{Sink, Source};
 use std::alloc::Global;
@@ -17,7 +22,8 @@ use std::alloc::Global;
 /// that, or as it is where the table is no wider so. The cut and the greatest width of the request are not looked at. The
 /// request has those that were found then. The end is `TooWide`, and nothing is written, only where not even a cut of one column will do.
 ///
-/// The picture is judged once for each cut that is tried, the widest first. So it takes time that grows with the width too.
+/// The rows are read once. Cuts are tried from the widest line of a field downwards, or from `width` where that is less, each
+/// by an estimate of the table. So it takes time that grows with them too.
 ///
 /// Conditions and errors: as those of `run_csv`.
 pub fn run_csv_within<S: Source, W: Sink>(
@@ -94,14 +100,26 @@ fn draw_within<W: Sink>(
 {
     request.max_width = Some(width);
     request.cut = None;
-    let mut end = draw_input(alloc, request, input, writer)?;
-    let mut next = width;
+    let texts = Bump::new(alloc);
+    let rows = match read_rows(alloc, &texts, request.reading, input) {
+        Ok(rows) => rows,
+        Err(error) => return end_unread(error),
+    };
+    let mut end = draw_rows(alloc, request, &rows, writer)?;
+    let mut next = first_cut(width, &rows);
     while 0 < next && is_too_wide(end) {
         request.cut = Some(next);
-        end = draw_input(alloc, request, input, writer)?;
+        end = draw_rows(alloc, request, &rows, writer)?;
         next -= 1;
     }
     Ok(end)
+}
+
+/// The first cut to try, of at most so many columns: each greater one of those changes no field.
+fn first_cut(width: usize, rows: &Rows<'_>) -> usize
+    ensures { IsFirstCut width (texts_of rows.now.rows) result }
+{
+    width.min(widest_line(&rows.rows).saturating_sub(1).max(1))
 }
 
 /// Whether a run ended since its table is too wide.

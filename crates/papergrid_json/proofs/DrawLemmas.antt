@@ -23,7 +23,7 @@ use Rattle.papergrid.specs.Estimates.{text_measure}
 use Rattle.papergrid.specs.Layouts.{IsConfiguredBy}
 use Rattle.papergrid.specs.Pictures.{IsRefusal}
 use Rattle.papergrid.specs.ForProofs.Drawn.{HasEnded, IsSteady}
-use Rattle.papergrid_json.proofs.SizeLemmas.{no-sizes-seen, room-with, sizes-seen}
+use Rattle.papergrid.proofs.PictureLemmas.{no-sizes-seen, room-in, same-writer, sizes-seen}
 use Rattle.papergrid_json.specs.Pictures.{AreNoSizesOf, AreSizesOf, IsDocumentDrawing, IsDocumentFault, IsDrawingWith, IsFaultWith, Undrawn, Unsized, texts_of}
 use Rattle.papergrid_json.specs.ForProofs.Drawn.{Draws, IsDocumentTable, IsUndrawn}
 use Rattle.papergrid_json.specs.declared.document.Document.{Document}
@@ -111,7 +111,7 @@ module _ (document : Document) (sizing : Sizing) (config : SpannedConfig) where
   room-found rows parts same so none =
       let sized = subst (λ s. AreSizesOf document sizing config s parts.widths parts.heights) none so.1 in
       let by_parts = subst (λ c. AreSizesBySizing c text_measure document.columns (texts_of document) sizing parts.widths parts.heights) (sym so.0) sized in
-      room-with parts.config document.columns (map (λ row. map string_bytes row.items) rows) sizing parts.widths parts.heights _
+      room-in parts.config document.columns (map (λ row. map string_bytes row.items) rows) sizing parts.widths parts.heights _
       (subst (λ held. AreSizesBySizing parts.config text_measure document.columns (map (λ row. map string_bytes row.items) held) sizing parts.widths parts.heights) (sym same) by_parts)
 
   -- what is known of a call that draws it
@@ -150,27 +150,11 @@ module _ (document : Document) (sizing : Sizing) (config : SpannedConfig) where
     drawn-so d is old new (Ok x) taken works moves fault nothing begun write steady = (d, is, record { taken = taken; works = works; moves = moves })
     drawn-so d is old new (Err e) taken works moves fault nothing begun write steady = record {
       fault = λ named. Undrawn d is fault;
-      nothing = λ named. left e named nothing;
+      nothing = λ named. same-writer old new e named nothing;
       beginning = inr (d, is, begun);
       write = λ same. write (ap Err same);
       steady = steady;
     }
-      where
-        left : (e : DrawError) → IsRefusal e → (e ≡ draw_errors.Write) ⊎ ((error : AllocError) × (e ≡ draw_errors.Memory error)) ⊎ (new ≡ old) → new ≡ old
-        left (draw_errors.Memory error) named how = absurd named
-        left draw_errors.Write named how = absurd named
-        left (draw_errors.OutOfTable p) named (inl same) = absurd (let none : ⊥ = cc in none)
-        left (draw_errors.OutOfTable p) named (inr (inl same)) = absurd (let none : ⊥ = (let is = same.1 in cc) in none)
-        left (draw_errors.OutOfTable p) named (inr (inr same)) = same
-        left (draw_errors.NotTiled p) named (inl same) = absurd (let none : ⊥ = cc in none)
-        left (draw_errors.NotTiled p) named (inr (inl same)) = absurd (let none : ⊥ = (let is = same.1 in cc) in none)
-        left (draw_errors.NotTiled p) named (inr (inr same)) = same
-        left (draw_errors.NoRoom p) named (inl same) = absurd (let none : ⊥ = cc in none)
-        left (draw_errors.NoRoom p) named (inr (inl same)) = absurd (let none : ⊥ = (let is = same.1 in cc) in none)
-        left (draw_errors.NoRoom p) named (inr (inr same)) = same
-        left draw_errors.TooLarge named (inl same) = absurd (let none : ⊥ = cc in none)
-        left draw_errors.TooLarge named (inr (inl same)) = absurd (let none : ⊥ = (let is = same.1 in cc) in none)
-        left draw_errors.TooLarge named (inr (inr same)) = same
 
     -- by a configuration that the settings tell
     module _ (told : IsConfiguredBy document.settings.items config) {A : Type 0} (old new : W) where

@@ -1,2 +1,1 @@
 pub mod DrawLemmas
-pub mod SizeLemmas

@@ -1,9 +1,10 @@
 -- Where a line is cut, by its characters.
-use Rattle.std.specs.Prelude.{◌≡◌, ◌<◌, ◌≤◌, ◌+◌, ◌++◌, ◌||◌, ℕ, Bool, List, [], ◌∷◌, chars, encode_utf8_all, if◌then◌else◌, length, take, false}
+use Rattle.std.specs.Prelude.{◌≡◌, ◌<◌, ◌≤◌, ◌+◌, ◌++◌, ◌||◌, ℕ, All, Bool, List, [], ◌∷◌, chars, encode_utf8_all, if◌then◌else◌, length, take, false}
 use Rattle.std.specs.Int.{is_in_range}
 use Rattle.std.specs.Str.{IsCharBoundary}
 use Rattle.unicode_width.specs.Width.{str_width}
 use Rattle.papergrid_text.specs.Separators.{is_separator}
+use Rattle.papergrid_text.specs.Text.{split_lines, width_of}
 use Rattle.papergrid_csv.specs.Cutting.{IsCutLine}
 
 -- letters of Latin, Greek and Cyrillic
@@ -37,6 +38,10 @@ pub record IsCutAt (columns : ℕ) (line : List ℕ) (place : ℕ) : Type 0 wher
   pub boundary : IsCharBoundary line place
   pub narrow : AllNarrow columns kept
   pub wide : columns ≤ str_width false (kept ++ next ∷ [])
+
+-- each line of a text takes at most so many columns
+abbrev pub HasLinesWithin : ℕ → List ℕ → Type 0
+HasLinesWithin columns text = All (λ line. width_of line ≤ columns) (split_lines text)
 
 -- a line was added as it is cut, after a line feed where it is not the first
 abbrev pub AddsLine : ℕ → List ℕ → Bool → List ℕ → List ℕ → Type 0
