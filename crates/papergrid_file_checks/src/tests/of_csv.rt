@@ -1,0 +1,101 @@
+//! CSV texts: their tables, their rows, and what is cut.
+
+use crate::csv_rows::{shape_of, shortened};
+use crate::csv_tables::{csv_table, csv_table_within, rounded};
+use papergrid::WriteSink;
+use papergrid_csv::{CsvEnd, RowsError};
+use std::alloc::Global;
+
+/// The table of `examples/pets.csv`, as it stands in the README.
+const PETS: &str = "\
+╭──────┬──────┬─────╮\n\
+│ name │ kind │ age │\n\
+├──────┼──────┼─────┤\n\
+│ Ada  │ cat  │ 3   │\n\
+│ Bo   │ dog  │ 12  │\n\
+╰──────┴──────┴─────╯\n";
+
+/// Whether a text ends so, and this is written.
+fn ends(alloc: Global, text: &[u8], end: CsvEnd, picture: &str) -> bool {
+    let mut written = Vec::new(alloc);
+    let request = rounded(alloc);
+    let ended = csv_table(alloc, &request, text, &mut WriteSink::new(&mut written));
+    ended == Ok(end) && written.as_slice() == picture.as_bytes()
+}
+
+#[test]
+fn tables(rt: HostRuntime) {
+    let alloc = rt.alloc();
+    assert!(rt;
+        ends(
+            alloc,
+            b"name,kind,age\nAda,cat,3\nBo,dog,12\n",
+            CsvEnd::Drawn,
+            PETS
+        ) && ends(alloc, b"", CsvEnd::Drawn, "")
+            && ends(alloc, b"a,\"b\n", CsvEnd::Unclosed, "")
+    );
+}
+
+/// Lines take three columns, paddings four, and the first column one. So of 12 columns four are left for the second column,
+/// of whose fields one is wider.
+const CUT: &str = "\
+╭───┬──────╮\n\
+│ n │ text │\n\
+├───┼──────┤\n\
+│ 1 │ abc… │\n\
+╰───┴──────╯\n";
+
+/// Whether the text ends so by this width, with fields cut so, and this is written.
+fn ends_within(
+    alloc: Global,
+    width: usize,
+    cut: Option<usize>,
+    end: CsvEnd,
+    picture: &str,
+) -> bool {
+    let mut written = Vec::new(alloc);
+    let mut request = rounded(alloc);
+    let ended = csv_table_within(
+        alloc,
+        width,
+        &mut request,
+        b"n,text\n1,abcdefghij\n",
+        &mut WriteSink::new(&mut written),
+    );
+    ended == Ok(end) && request.cut == cut && written.as_slice() == picture.as_bytes()
+}
+
+/// In 12 columns there is room, with fields cut to one column nine are needed, and in 8 there is none.
+#[test]
+fn narrow_tables(rt: HostRuntime) {
+    let alloc = rt.alloc();
+    assert!(rt;
+        ends_within(alloc, 12, Some(4), CsvEnd::Drawn, CUT)
+            && ends_within(alloc, 8, Some(1), CsvEnd::TooWide(9), "")
+    );
+}
+
+/// Of three rows the second is the longest, with two fields.
+#[test]
+fn rows(rt: HostRuntime) {
+    let alloc = rt.alloc();
+    assert!(rt;
+        shape_of(alloc, b"a\nb,c\nd\n") == Ok((3, 2))
+            && shape_of(alloc, b"a\nb\n\xff\n") == Err(RowsError::NotText(2))
+    );
+}
+
+/// Whether a text is cut so to four columns.
+fn is_cut(alloc: Global, text: &str, shown: &str) -> bool {
+    match shortened(alloc, 4, text) {
+        Ok(cut) => cut.as_str() == shown,
+        Err(_) => false,
+    }
+}
+
+#[test]
+fn cuts(rt: HostRuntime) {
+    let alloc = rt.alloc();
+    assert!(rt; is_cut(alloc, "abcde\nabcd", "abc…\nabcd") && is_cut(alloc, "日本語", "日…"));
+}
