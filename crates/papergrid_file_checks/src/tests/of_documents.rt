@@ -73,6 +73,10 @@ fn refusals(rt: HostRuntime) {
             b"{\"records\": [[\"a\", 1]]}",
             "records[0][1]: not a text"
         ) == Ok(true)
-            && says(alloc, spanned, "the cell at row 0, column 0 is out of the table") == Ok(true)
+            && says(
+                alloc,
+                spanned,
+                "the cell at row 0, column 0 is out of the table"
+            ) == Ok(true)
     );
 }
