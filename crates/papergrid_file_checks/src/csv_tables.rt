@@ -1,73 +1,28 @@
 //! Tables of CSV texts.
 
-ghost use Rattle.std.specs.Prelude.{◌≡◌, ◌⊎◌, IfOk, IsErrOf, IsSome, List, None, OnErr, OnOk, [], false, true, ℕ};
+ghost use Rattle.std.specs.Prelude.{◌≡◌, ◌⊎◌, IfOk, IsErrOf, IsSome, List, OnErr, OnOk, false, true, ℕ};
 ghost use Rattle.std.specs.Io.KnownBytes.{Appends};
-ghost use Rattle.std.specs.List.{list_all};
-ghost use Rattle.papergrid_values.specs.Borders.{frame_parts};
-ghost use Rattle.papergrid_draw.specs.Separated.{part_separates};
 ghost use Rattle.papergrid_csv.specs.Pictures.{IsCsvRun};
 ghost use Rattle.papergrid_csv.specs.Requests.{IsSeparating};
 ghost use Rattle.papergrid_csv.specs.Within.{IsRunWithin, cut_request};
+ghost use Rattle.papergrid_csv.specs.declared.request.Alignment.TheVariants.{Auto};
 ghost use Rattle.papergrid_csv.specs.declared.run.CsvEnd.TheVariants.{Drawn};
-ghost use Rattle.papergrid_file_checks.specs.Readings.{commas};
+ghost use Rattle.papergrid_csv.specs.declared.style.Style.TheVariants.{Plain};
 ghost use Rattle.papergrid_file_checks.specs.Written.{AppendsBeginning};
 
-use crate::csv_rows::commas;
-use papergrid::config::{
-    AlignmentHorizontal, AlignmentVertical, Borders, HorizontalLine, Indent, Sides,
-};
-use papergrid::{ReadSource, RunFault, Sink, Sizing};
-use papergrid_csv::{Alignment, CsvEnd, Request, run_csv, run_csv_within};
+use papergrid::{ReadSource, RunFault, Sink};
+use papergrid_csv::{Alignment, CsvEnd, Request, Style, run_csv, run_csv_within};
 use std::alloc::Global;
 
-/// A request for the table of a text with commas. It has round corners, a line below the head, and a blank on both sides of
-/// each text.
-pub fn rounded(alloc: Global) -> Request
-    ensures reading { result.reading ≡ commas }
+/// A request for a table in a style, with columns of numbers on the right.
+pub fn aligned(alloc: Global, style: Style) -> Request
     ensures separators { IsSeparating result }
-    ensures apart { IsSome result.frame.vertical }
-    ensures head { result.has_head ≡ true }
-    ensures columns { result.columns.items ≡ [] }
-    ensures spans { result.spans.items ≡ [] }
-    ensures widths { (result.cut ≡ None) × (result.max_width ≡ None) }
+    ensures apart { (style ≡ Plain) ⊎ (IsSome result.frame.vertical) }
+    ensures alignment { result.alignment ≡ Auto }
 {
-    let (blank, none) = (Indent::spaced(1), Indent::zero());
-    Request {
-        reading: commas(),
-        frame: round_frame(),
-        head: Some(HorizontalLine::full('─', '┼', '├', '┤')),
-        has_head: true,
-        padding: Sides::new(blank, blank, none, none),
-        alignment: Alignment::Fixed(AlignmentHorizontal::Left),
-        vertical: AlignmentVertical::Top,
-        columns: Vec::new(alloc),
-        spans: Vec::new(alloc),
-        hides: false,
-        junctions: None,
-        cut: None,
-        max_width: None,
-        sizing: Sizing::ByShares,
-    }
-}
-
-/// Lines round a table and between its columns.
-fn round_frame() -> Borders<char>
-    ensures separators { list_all part_separates (frame_parts result) ≡ true }
-    ensures apart { IsSome result.vertical }
-{
-    let mut frame = Borders::empty();
-    frame.top = Some('─');
-    frame.top_left = Some('╭');
-    frame.top_right = Some('╮');
-    frame.top_intersection = Some('┬');
-    frame.bottom = Some('─');
-    frame.bottom_left = Some('╰');
-    frame.bottom_right = Some('╯');
-    frame.bottom_intersection = Some('┴');
-    frame.left = Some('│');
-    frame.right = Some('│');
-    frame.vertical = Some('│');
-    frame
+    let mut request = Request::in_style(alloc, style);
+    request.alignment = Alignment::Auto;
+    request
 }
 
 /// Writes the table of a CSV text by a request, and tells how that ended. Condition: the writer has not failed.

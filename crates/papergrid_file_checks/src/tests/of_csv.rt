@@ -1,13 +1,16 @@
 //! CSV texts: their tables, their rows, and what is cut.
 
 use crate::csv_rows::{shape_of, shortened};
-use crate::csv_tables::{csv_table, csv_table_within, rounded};
+use crate::csv_tables::{aligned, csv_table, csv_table_within};
 use papergrid::WriteSink;
-use papergrid_csv::{CsvEnd, RowsError};
+use papergrid_csv::{CsvEnd, Request, RowsError, Style};
 use std::alloc::Global;
 
-/// The table of `examples/pets.csv`, as it stands in the README.
-const PETS: &str = "\
+/// The file `examples/pets.csv`.
+const PETS: &[u8] = b"name,kind,age\nAda,cat,3\nBo,dog,12\n";
+
+/// Its table, as it stands in the README.
+const ROUNDED: &str = "\
 ╭──────┬──────┬─────╮\n\
 │ name │ kind │ age │\n\
 ├──────┼──────┼─────┤\n\
@@ -15,25 +18,30 @@ const PETS: &str = "\
 │ Bo   │ dog  │ 12  │\n\
 ╰──────┴──────┴─────╯\n";
 
-/// Whether a text ends so, and this is written.
-fn ends(alloc: Global, text: &[u8], end: CsvEnd, picture: &str) -> bool {
+/// The same in Markdown, with numbers on the right, as it stands there too.
+const MARKDOWN: &str = "\
+| name | kind | age |\n\
+|------|------|-----|\n\
+| Ada  | cat  |   3 |\n\
+| Bo   | dog  |  12 |\n";
+
+/// Whether a text ends so by a request, and this is written.
+fn ends(alloc: Global, request: &Request, text: &[u8], end: CsvEnd, picture: &str) -> bool {
     let mut written = Vec::new(alloc);
-    let request = rounded(alloc);
-    let ended = csv_table(alloc, &request, text, &mut WriteSink::new(&mut written));
+    let ended = csv_table(alloc, request, text, &mut WriteSink::new(&mut written));
     ended == Ok(end) && written.as_slice() == picture.as_bytes()
 }
 
 #[test]
 fn tables(rt: HostRuntime) {
     let alloc = rt.alloc();
+    let rounded = Request::in_style(alloc, Style::Rounded);
+    let markdown = aligned(alloc, Style::Markdown);
     assert!(rt;
-        ends(
-            alloc,
-            b"name,kind,age\nAda,cat,3\nBo,dog,12\n",
-            CsvEnd::Drawn,
-            PETS
-        ) && ends(alloc, b"", CsvEnd::Drawn, "")
-            && ends(alloc, b"a,\"b\n", CsvEnd::Unclosed, "")
+        ends(alloc, &rounded, PETS, CsvEnd::Drawn, ROUNDED)
+            && ends(alloc, &markdown, PETS, CsvEnd::Drawn, MARKDOWN)
+            && ends(alloc, &rounded, b"", CsvEnd::Drawn, "")
+            && ends(alloc, &rounded, b"a,\"b\n", CsvEnd::Unclosed, "")
     );
 }
 
@@ -55,7 +63,7 @@ fn ends_within(
     picture: &str,
 ) -> bool {
     let mut written = Vec::new(alloc);
-    let mut request = rounded(alloc);
+    let mut request = Request::in_style(alloc, Style::Rounded);
     let ended = csv_table_within(
         alloc,
         width,
