@@ -87,11 +87,11 @@ impl Request {
         ensures separators { IsSeparating result }
         ensures apart { (style ≡ Plain) ⊎ (IsSome result.frame.vertical) }
         ensures reading { result.reading ≡ record {
-            format = Csv 44;
-            tab = None;
-            one_line = false;
-            raw = false;
-            strict = false;
+          format = Csv 44;
+          tab = None;
+          one_line = false;
+          raw = false;
+          strict = false;
         } }
         ensures head { result.has_head ≡ true }
         ensures columns { result.columns.items ≡ [] }

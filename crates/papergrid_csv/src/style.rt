@@ -96,23 +96,19 @@ impl Style {
 }
 
 /// A frame by its lines across and down, and its corners and crossings at the top and at the bottom.
-fn box_of(
-    lines: (char, char),
-    top: (char, char, char),
-    bottom: (char, char, char),
-) -> Borders<char>
+fn box_of(lines: (char, char), top: (char, char, char), bottom: (char, char, char)) -> Borders<char>
     ensures { result ≡ record (frame_with None) {
-        top = Some lines.0;
-        bottom = Some lines.0;
-        left = Some lines.1;
-        right = Some lines.1;
-        vertical = Some lines.1;
-        top_left = Some top.0;
-        top_intersection = Some top.1.0;
-        top_right = Some top.1.1;
-        bottom_left = Some bottom.0;
-        bottom_intersection = Some bottom.1.0;
-        bottom_right = Some bottom.1.1;
+      top = Some lines.0;
+      bottom = Some lines.0;
+      left = Some lines.1;
+      right = Some lines.1;
+      vertical = Some lines.1;
+      top_left = Some top.0;
+      top_intersection = Some top.1;
+      top_right = Some top.2;
+      bottom_left = Some bottom.0;
+      bottom_intersection = Some bottom.1;
+      bottom_right = Some bottom.2;
     } }
 {
     let mut frame = Borders::empty();
@@ -133,10 +129,10 @@ fn box_of(
 /// The same with lines between rows.
 fn ruled(mut frame: Borders<char>, line: (char, char, char, char)) -> Borders<char>
     ensures { result ≡ record frame {
-        horizontal = Some line.0;
-        left_intersection = Some line.1.0;
-        intersection = Some line.1.1.0;
-        right_intersection = Some line.1.1.1;
+      horizontal = Some line.0;
+      left_intersection = Some line.1;
+      intersection = Some line.2;
+      right_intersection = Some line.3;
     } }
 {
     frame.horizontal = Some(line.0);
@@ -167,10 +163,10 @@ fn sided(mut frame: Borders<char>, c: char) -> Borders<char>
 /// The same with lines above and below.
 fn overlined(mut frame: Borders<char>, c: char, between: char) -> Borders<char>
     ensures { result ≡ record frame {
-        top = Some c;
-        top_intersection = Some between;
-        bottom = Some c;
-        bottom_intersection = Some between;
+      top = Some c;
+      top_intersection = Some between;
+      bottom = Some c;
+      bottom_intersection = Some between;
     } }
 {
     frame.top = Some(c);
@@ -183,10 +179,10 @@ fn overlined(mut frame: Borders<char>, c: char, between: char) -> Borders<char>
 /// A line without ends.
 fn inner_line(main: char, between: char) -> HorizontalLine<char>
     ensures { result ≡ record {
-        main = Some main;
-        intersection = Some between;
-        left = None;
-        right = None;
+      main = Some main;
+      intersection = Some between;
+      left = None;
+      right = None;
     } }
 {
     HorizontalLine::new(Some(main), Some(between), None, None)
