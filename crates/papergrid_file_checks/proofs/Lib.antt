@@ -1,1 +1,2 @@
 pub mod BegunLemmas
+pub mod DocumentLemmas
