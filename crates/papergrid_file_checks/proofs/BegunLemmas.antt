@@ -1,5 +1,5 @@
 -- What a run over a text in memory leaves written where it fails, and where it does not.
-use Rattle.std.proofs.Common.{◌≡◌, ◌∙◌, ◌⊎◌, ℕ, Bool, true, false, List, [], ◌∷◌, Option, None, Some, ap, inl, inr, length, refl, subst, sym, take}
+use Rattle.std.proofs.Common.{◌≡◌, ◌∙◌, ◌⊎◌, ℕ, Bool, true, false, List, [], ◌∷◌, Option, ap, inl, inr, length, refl, subst, sym, take}
 use Rattle.std.specs.Prelude.{◌==◌, ◌||◌, if◌then◌else◌, Err, IfOk, IsErrOf, Ok, OnErr, OnOk, Result}
 use Rattle.std.specs.Io.KnownBytes.{Appends}
 use Rattle.std.proofs.KnownBytes.{Appends-nil}
