@@ -1,0 +1,3 @@
+pub mod Calls
+pub mod Handle
+pub mod Numbers
