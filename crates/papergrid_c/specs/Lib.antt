@@ -1,3 +1,4 @@
 pub mod Calls
 pub mod Handle
 pub mod Numbers
+pub mod Settings

@@ -2,5 +2,9 @@
 #![tactic(auto)]
 
 mod handle;
+mod made;
 mod numbers;
+mod setters;
+mod structs;
 mod told;
+
