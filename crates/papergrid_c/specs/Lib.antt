@@ -1,3 +1,4 @@
+pub mod Asked
 pub mod Calls
 pub mod Handle
 pub mod Numbers

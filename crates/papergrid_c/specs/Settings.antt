@@ -62,32 +62,55 @@ part_at cs i = part_of (slice_index cs i)
 abbrev pub borders_setting : List ℕ → Option Setting
 borders_setting cs =
     if are_parts 15 cs then Some (SetBorders (record {
-      top = part_at cs 0; top_left = part_at cs 1; top_right = part_at cs 2; top_intersection = part_at cs 3;
-      bottom = part_at cs 4; bottom_left = part_at cs 5; bottom_right = part_at cs 6; bottom_intersection = part_at cs 7;
-      horizontal = part_at cs 8; vertical = part_at cs 9; intersection = part_at cs 10;
-      left = part_at cs 11; left_intersection = part_at cs 12; right = part_at cs 13; right_intersection = part_at cs 14;
+      top = part_at cs 0;
+      top_left = part_at cs 1;
+      top_right = part_at cs 2;
+      top_intersection = part_at cs 3;
+      bottom = part_at cs 4;
+      bottom_left = part_at cs 5;
+      bottom_right = part_at cs 6;
+      bottom_intersection = part_at cs 7;
+      horizontal = part_at cs 8;
+      vertical = part_at cs 9;
+      intersection = part_at cs 10;
+      left = part_at cs 11;
+      left_intersection = part_at cs 12;
+      right = part_at cs 13;
+      right_intersection = part_at cs 14;
     })) else None
 
 -- the border of a cell, in the order of the fields of `Border`
 abbrev pub border_setting : ℕ → ℕ → List ℕ → Option Setting
 border_setting row column cs =
     if are_parts 8 cs then Some (SetBorder (record { row = row; col = column }) (record {
-      top = part_at cs 0; bottom = part_at cs 1; left = part_at cs 2; right = part_at cs 3;
-      left_top_corner = part_at cs 4; left_bottom_corner = part_at cs 5; right_top_corner = part_at cs 6; right_bottom_corner = part_at cs 7;
+      top = part_at cs 0;
+      bottom = part_at cs 1;
+      left = part_at cs 2;
+      right = part_at cs 3;
+      left_top_corner = part_at cs 4;
+      left_bottom_corner = part_at cs 5;
+      right_top_corner = part_at cs 6;
+      right_bottom_corner = part_at cs 7;
     })) else None
 
 -- a line before a row: itself, its crossings, its left end and its right end
 abbrev pub horizontal_line_setting : ℕ → List ℕ → Option Setting
 horizontal_line_setting row cs =
     if are_parts 4 cs then Some (InsertHorizontalLine row (record {
-      main = part_at cs 0; intersection = part_at cs 1; left = part_at cs 2; right = part_at cs 3;
+      main = part_at cs 0;
+      intersection = part_at cs 1;
+      left = part_at cs 2;
+      right = part_at cs 3;
     })) else None
 
 -- a line before a column: itself, its crossings, its upper end and its lower end
 abbrev pub vertical_line_setting : ℕ → List ℕ → Option Setting
 vertical_line_setting column cs =
     if are_parts 4 cs then Some (InsertVerticalLine column (record {
-      main = part_at cs 0; intersection = part_at cs 1; top = part_at cs 2; bottom = part_at cs 3;
+      main = part_at cs 0;
+      intersection = part_at cs 1;
+      top = part_at cs 2;
+      bottom = part_at cs 3;
     })) else None
 
 abbrev pub column_span_setting : ℕ → ℕ → ℕ → Option Setting

@@ -6,8 +6,8 @@ ghost use Rattle.papergrid_c.specs.Handle.{Held, handle_owns, held_coded};
 
 mod loose;
 
-use papergrid_builder::Builder;
 use loose::Loose;
+use papergrid_builder::Builder;
 use std::alloc::Global;
 use std::marker::Model;
 

@@ -4,7 +4,8 @@
 mod handle;
 mod made;
 mod numbers;
+mod pictures;
 mod setters;
+mod sizes;
 mod structs;
 mod told;
-

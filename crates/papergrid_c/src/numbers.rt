@@ -9,8 +9,12 @@ use papergrid_builder::BuilderError;
 pub const DONE: i32 = 0;
 /// The handle has no table.
 pub const NO_TABLE: i32 = 2;
+/// What is told does not fit into what the caller lends.
+pub const NO_ROOM: i32 = 11;
 /// A value is none of those that the call knows.
 pub const BAD_VALUE: i32 = 12;
+/// No cell stands over the point.
+pub const NO_CELL: i32 = 13;
 
 /// Why a table refuses a call.
 pub fn number_of(error: BuilderError) -> i32

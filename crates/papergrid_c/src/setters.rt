@@ -8,8 +8,8 @@ use crate::made::{
     alignment_setting, border_setting, borders_setting, horizontal_line_setting, padding_setting,
     vertical_line_setting, vertical_setting,
 };
-use crate::told::set;
 use crate::structs::PapergridEntity;
+use crate::told::set;
 use papergrid_config::Setting;
 use papergrid_values::Position;
 use std::alloc::Global;
@@ -28,7 +28,11 @@ pub extern "C" fn papergrid_set_padding(
     ensures { ChangesTable (Sets (padding_setting entity left right top bottom))
         handle.old.held handle.new.held result }
 {
-    set(alloc, handle, padding_setting(entity, left, right, top, bottom))
+    set(
+        alloc,
+        handle,
+        padding_setting(entity, left, right, top, bottom),
+    )
 }
 
 /// Texts stand at the left (0), in the middle (1) or at the right (2).
