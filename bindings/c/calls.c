@@ -63,7 +63,7 @@ enum { MOST = 1000 };
 static const uint32_t line[4] = {'-', '+', '+', '+'};
 static const uint32_t upright[4] = {'|', '+', '+', '+'};
 static const uint32_t corners[8] = {'=', '=', '|', '|', '#', '#', '#', '#'};
-static const PapergridBorders frame = {'-', '+', '+', '+', '-', '+', '+', '+', 0, '|', 0, '|', '+', '|', '+'};
+static const PapergridBorders frame = {'-', '+', '+', '+', '-', '+', '+', '+', 0, '|', 0, '|', 0, '|', 0};
 
 static void draws(Papergrid *table, uint32_t least, const char *picture) {
     char bytes[512];
@@ -109,7 +109,7 @@ static void plain(void) {
 static void settings(void) {
     Papergrid table = PAPERGRID_NONE;
     begin(&table);
-    EACH(papergrid_push_rows(&table, "long;e;\n", 8, ';', '\n'));
+    EACH(papergrid_push_rows(&table, "long;e\n", 7, ';', '\n'));
     draws(&table, 0, "a   b\nc   d\nlonge\n");
     EACH(papergrid_set_alignment(&table, papergrid_cell(0, 0), 2));
     EACH(papergrid_set_alignment(&table, papergrid_row(1), 1));
@@ -121,7 +121,7 @@ static void settings(void) {
     draws(&table, 0, "    | \n    |b\n   a| \n c  |d\nlong|e\n");
     EACH(papergrid_set_string(&table, "[\"RemoveVerticalLine\", 1, 2]"));
     EACH(papergrid_set_border(&table, 2, 0, corners, 8));
-    draws(&table, 0, "?    ??\n?    ?b\n?   a??\n? c  ?d\n#====#?\n|long|e\n#====#?\n");
+    draws(&table, 0, "?    ? \n?    ?b\n?   a? \n? c  ?d\n#====#?\n|long|e\n#====#?\n");
     end(&table);
 }
 
