@@ -41,9 +41,11 @@ Estimates sizing old lent new told result =
 abbrev pub AreCurrent : ToldTable → Type 0
 AreCurrent table = IfSome table.found (λ parts. (sizing : Sizing) × IsLaidOut table.settings table.rows sizing parts)
 
+-- a screen rectangle as C has it
 abbrev pub place_for_c : Place → PapergridPlace
 place_for_c place = record { left = place.left; top = place.top; width = place.width; height = place.height }
 
+-- a position as C has it
 abbrev pub position_for_c : Position → PapergridPosition
 position_for_c p = record { row = p.row; column = p.col }
 

@@ -11,10 +11,11 @@ use Rattle.std.specs.declared.option.Option.TheVariants.{None, Some}
 use Rattle.std_heap.specs.contracts.GlobalAllocator.TheImpl.{ghosts}
 use Rattle.papergrid_builder.specs.contracts.builder.Builder.{the_row}
 
--- the type of what a handle may have, and a value of it
+-- the type of what a handle may have
 abbrev pub HeldRow : RattleType
 HeldRow = the_row
 
+-- a value of it: what was told of a table (`ToldTable`)
 abbrev pub Held : Type 0
 Held = HeldRow.Denot
 

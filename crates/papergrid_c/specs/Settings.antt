@@ -23,7 +23,7 @@ entity_of e =
 abbrev pub blanks : ℕ → Indent
 blanks size = record { fill = 32; size = size }
 
--- blanks at the left, at the right, above and below
+-- blanks at the left, at the right, above and below the texts of an entity
 abbrev pub padding_setting : PapergridEntity → ℕ → ℕ → ℕ → ℕ → Option Setting
 padding_setting e left right top bottom =
     option_map (λ entity. SetPadding entity (record { top = blanks top; bottom = blanks bottom; left = blanks left; right = blanks right })) (entity_of e)
@@ -41,13 +41,15 @@ abbrev pub setting_by : {A : Type 0} → (Entity → A → Setting) → Option E
 setting_by make None value = None
 setting_by make (Some entity) value = option_map (make entity) value
 
+-- where the texts of an entity stand between left and right
 abbrev pub alignment_setting : PapergridEntity → ℕ → Option Setting
 alignment_setting e n = setting_by SetAlignmentHorizontal (entity_of e) (horizontal_of n)
 
+-- where they stand between top and bottom
 abbrev pub vertical_setting : PapergridEntity → ℕ → Option Setting
 vertical_setting e n = setting_by SetAlignmentVertical (entity_of e) (vertical_of n)
 
--- so many numbers of characters
+-- as many numbers as are asked for, each of a character
 abbrev pub are_parts : ℕ → List ℕ → Bool
 are_parts count cs = length cs == count && list_all scalar cs
 
@@ -55,6 +57,7 @@ are_parts count cs = length cs == count && list_all scalar cs
 abbrev pub part_of : ℕ → Option ℕ
 part_of c = if c == 0 then None else if scalar c then Some c else None
 
+-- the character at a place of a list of numbers
 abbrev pub part_at : List ℕ → ℕ → Option ℕ
 part_at cs i = part_of (slice_index cs i)
 
@@ -113,8 +116,10 @@ vertical_line_setting column cs =
       bottom = part_at cs 3;
     })) else None
 
+-- the cell at a row and a column goes over so many columns
 abbrev pub column_span_setting : ℕ → ℕ → ℕ → Option Setting
 column_span_setting row column columns = Some (SetColumnSpan (record { row = row; col = column }) columns)
 
+-- it goes over so many rows
 abbrev pub row_span_setting : ℕ → ℕ → ℕ → Option Setting
 row_span_setting row column rows = Some (SetRowSpan (record { row = row; col = column }) rows)
