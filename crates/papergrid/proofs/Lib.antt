@@ -10,7 +10,7 @@ mod LineLemmas
 mod ListedLemmas
 mod MarkLemmas
 mod RangeLemmas
-mod PictureLemmas
+pub mod PictureLemmas
 mod ReadLemmas
 mod ReasonLemmas
 mod ScriptLineLemmas

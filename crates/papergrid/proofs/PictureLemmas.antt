@@ -77,7 +77,7 @@ module _ {A : Type 0} (view : A → List ℕ) (config : SpannedConfig) (columns 
   no-sizes-seen Least e is = refused-seen NoneFits e is
 
 -- the lines at a position are those of the text that the rows have there
-lines-of-rows : (texts : List (List (List ℕ))) (p : Position) → AreLinesAt (λ text. text) texts p (lines_at text_lines texts p)
+pub lines-of-rows : (texts : List (List (List ℕ))) (p : Position) → AreLinesAt (λ text. text) texts p (lines_at text_lines texts p)
 lines-of-rows texts p = record {
   of_cell = λ cell is.
       ap in-row (slice_get-get_or texts p.row [] is.0)
@@ -117,13 +117,34 @@ fits-by : (config : SpannedConfig) (columns : ℕ) (texts : List (List (List ℕ
 fits-by config columns texts ByShares widths heights are = are.widths.fits
 fits-by config columns texts Least widths heights are = are.widths.least.fits
 
--- so each visible cell has room in the drawing with them
+-- so each visible cell has room in a drawing with them, whatever the colours are
+pub room-in : (config : SpannedConfig) (columns : ℕ) (texts : List (List (List ℕ))) (sizing : Sizing) (widths heights : List ℕ) (color : Position → Option (List ℕ × List ℕ)) →
+    AreSizesBySizing config text_measure columns texts sizing widths heights → AllHaveRoom (record (texts_drawing config texts widths heights) { color = color })
+room-in config columns texts sizing widths heights color sized =
+    let fits = fits-by config columns texts sizing widths heights sized in
+    let counted = subst (λ n. Fits (problem_of (spanned_grid config) text_measure n texts Columns) widths) (sym fits.one_each) fits in
+    texts-leave-room (record (texts_drawing config texts widths heights) { color = color }) (λ text. text) texts widths refl counted (λ p cell. lines-of-rows texts p)
+
 pub room-with : (columns : ℕ) (texts : List (List (List ℕ))) (sizing : Sizing) (config : SpannedConfig) (d : Drawing) → IsDrawingWith columns texts sizing config d → AllHaveRoom d
 room-with columns texts sizing config d is =
-    let fits = fits-by config columns texts sizing is.widths is.heights is.sized in
-    let counted = subst (λ n. Fits (problem_of (spanned_grid config) text_measure n texts Columns) is.widths) (sym fits.one_each) fits in
-    subst AllHaveRoom (sym is.is)
-    (texts-leave-room (texts_drawing config texts is.widths is.heights) (λ text. text) texts is.widths refl counted (λ p cell. lines-of-rows texts p))
+    subst AllHaveRoom (sym is.is) (room-in config columns texts sizing is.widths is.heights (λ _. None) is.sized)
+
+-- a refusal leaves the writer as it was, where only a failed write or allocation may change it
+pub same-writer : {W : Type 0} (old new : W) (e : DrawError) → IsRefusal e → (e ≡ draw_errors.Write) ⊎ ((error : AllocError) × (e ≡ draw_errors.Memory error)) ⊎ (new ≡ old) → new ≡ old
+same-writer old new (draw_errors.Memory error) named how = absurd named
+same-writer old new draw_errors.Write named how = absurd named
+same-writer old new (draw_errors.OutOfTable p) named (inl same) = absurd (let none : ⊥ = cc in none)
+same-writer old new (draw_errors.OutOfTable p) named (inr (inl same)) = absurd (let none : ⊥ = (let is = same.1 in cc) in none)
+same-writer old new (draw_errors.OutOfTable p) named (inr (inr same)) = same
+same-writer old new (draw_errors.NotTiled p) named (inl same) = absurd (let none : ⊥ = cc in none)
+same-writer old new (draw_errors.NotTiled p) named (inr (inl same)) = absurd (let none : ⊥ = (let is = same.1 in cc) in none)
+same-writer old new (draw_errors.NotTiled p) named (inr (inr same)) = same
+same-writer old new (draw_errors.NoRoom p) named (inl same) = absurd (let none : ⊥ = cc in none)
+same-writer old new (draw_errors.NoRoom p) named (inr (inl same)) = absurd (let none : ⊥ = (let is = same.1 in cc) in none)
+same-writer old new (draw_errors.NoRoom p) named (inr (inr same)) = same
+same-writer old new draw_errors.TooLarge named (inl same) = absurd (let none : ⊥ = cc in none)
+same-writer old new draw_errors.TooLarge named (inr (inl same)) = absurd (let none : ⊥ = (let is = same.1 in cc) in none)
+same-writer old new draw_errors.TooLarge named (inr (inr same)) = same
 
 -- what is known of a call that draws by a configuration, with the sizes that are chosen so
 module _ {W : Type 0} (contents : W → Option (List ℕ)) (has_failed has_stalled : W → Bool) (config : SpannedConfig) (columns : ℕ) (texts : List (List (List ℕ)))
@@ -180,28 +201,12 @@ module _ {W : Type 0} (contents : W → Option (List ℕ)) (has_failed has_stall
   drawn-so d is old new (Ok x) taken works moves fault nothing begun write steady = (d, is, record { taken = taken; works = works; moves = moves })
   drawn-so d is old new (Err e) taken works moves fault nothing begun write steady = record {
     fault = λ named. Undrawn d is fault;
-    nothing = λ named. left e named nothing;
+    nothing = λ named. same-writer old new e named nothing;
     beginning = inr (d, is, begun);
     write = λ same. write (ap Err same);
     steady = steady;
     room = λ p none. room-with columns texts sizing config d is p (subst (IsDrawFault d) none fault).1.it;
   }
-    where
-      left : (e : DrawError) → IsRefusal e → (e ≡ draw_errors.Write) ⊎ ((error : AllocError) × (e ≡ draw_errors.Memory error)) ⊎ (new ≡ old) → new ≡ old
-      left (draw_errors.Memory error) named how = absurd named
-      left draw_errors.Write named how = absurd named
-      left (draw_errors.OutOfTable p) named (inl same) = absurd (let none : ⊥ = cc in none)
-      left (draw_errors.OutOfTable p) named (inr (inl same)) = absurd (let none : ⊥ = (let is = same.1 in cc) in none)
-      left (draw_errors.OutOfTable p) named (inr (inr same)) = same
-      left (draw_errors.NotTiled p) named (inl same) = absurd (let none : ⊥ = cc in none)
-      left (draw_errors.NotTiled p) named (inr (inl same)) = absurd (let none : ⊥ = (let is = same.1 in cc) in none)
-      left (draw_errors.NotTiled p) named (inr (inr same)) = same
-      left (draw_errors.NoRoom p) named (inl same) = absurd (let none : ⊥ = cc in none)
-      left (draw_errors.NoRoom p) named (inr (inl same)) = absurd (let none : ⊥ = (let is = same.1 in cc) in none)
-      left (draw_errors.NoRoom p) named (inr (inr same)) = same
-      left draw_errors.TooLarge named (inl same) = absurd (let none : ⊥ = cc in none)
-      left draw_errors.TooLarge named (inr (inl same)) = absurd (let none : ⊥ = (let is = same.1 in cc) in none)
-      left draw_errors.TooLarge named (inr (inr same)) = same
 
 -- by a configuration that settings tell
 module _ {W : Type 0} (contents : W → Option (List ℕ)) (has_failed has_stalled : W → Bool) (settings : List Setting) (config : SpannedConfig) (told : IsConfiguredBy settings config)

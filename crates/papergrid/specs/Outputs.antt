@@ -2,7 +2,7 @@
 use Rattle.std.specs.Prelude.{ℕ, List, [], ◌∷◌, ◌++◌, Option, Some, None, Result, Ok, Err, codes, decimal, flat_map}
 use Rattle.papergrid_values.specs.declared.position.Position.{Position}
 use Rattle.papergrid_layout.specs.declared.sizing.Sizing.{Sizing}
-use Rattle.papergrid_layout.specs.declared.sizing.Sizing.TheVariants.{ByShares, Least}
+use Rattle.papergrid_layout.specs.declared.sizing.Sizing.TheVariants.{ByShares}
 use Rattle.papergrid.specs.declared.running.RunEnd.{RunEnd}
 use Rattle.papergrid.specs.declared.running.RunEnd.TheVariants.{Done, Refused, BadScript}
 use Rattle.papergrid.specs.Grammar.{space, comma}
@@ -67,11 +67,3 @@ output_of input = output_by ByShares input
 -- how a run by shares ends
 abbrev pub run_end_of : List ℕ → RunEnd
 run_end_of input = end_by ByShares input
-
--- of the least sizes
-abbrev pub least_output_of : List ℕ → List ℕ
-least_output_of input = output_by Least input
-
--- how a run for the least sizes ends
-abbrev pub least_run_end_of : List ℕ → RunEnd
-least_run_end_of input = end_by Least input

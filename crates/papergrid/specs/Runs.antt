@@ -3,7 +3,7 @@
 use Rattle.std.specs.Prelude.{◌≡◌, ℕ, IfSome, List, Option, take}
 use Rattle.std.specs.Io.KnownBytes.{Appends, Consumes, IsAtEnd}
 use Rattle.papergrid_layout.specs.declared.sizing.Sizing.{Sizing}
-use Rattle.papergrid_layout.specs.declared.sizing.Sizing.TheVariants.{ByShares, Least}
+use Rattle.papergrid_layout.specs.declared.sizing.Sizing.TheVariants.{ByShares}
 use Rattle.papergrid.specs.declared.running.RunEnd.{RunEnd}
 use Rattle.papergrid.specs.Outputs.{end_by, output_by}
 
@@ -37,11 +37,3 @@ module _ (unread_old unread_new written_old written_new : Option (List ℕ)) whe
   -- by shares
   abbrev pub IsBrokenRun : Type 0
   IsBrokenRun = IsBrokenRunBy ByShares
-
-  -- of the least sizes
-  abbrev pub IsWholeLeastRun : RunEnd → Type 0
-  IsWholeLeastRun end = IsWholeRunBy Least end
-
-  -- the same of the least sizes
-  abbrev pub IsBrokenLeastRun : Type 0
-  IsBrokenLeastRun = IsBrokenRunBy Least

@@ -22,7 +22,7 @@ pub use drawing::{draw, run_table};
 pub use explained::{Reason, explain};
 pub use papergrid_draw::transfer::{Failed, ReadSource, Sink, Source, WriteSink};
 pub use papergrid_layout::{Sizing, Table};
-pub use running::{RunEnd, RunFault, read_all, run, run_keeping, run_least};
+pub use running::{RunEnd, RunFault, read_all, run, run_keeping};
 pub use table_layout::{layout, layout_least};
 
 /// Colours as texts.

@@ -3,8 +3,8 @@
 ghost use Rattle.std.specs.Prelude.{◌≡◌, ◌⊎◌, ℕ, take, true, false, IfOk, IfSome, OnOk, OnErr, IsErrOf};
 ghost use Rattle.std.specs.Io.KnownBytes.{Appends, Consumes, IsAtEnd};
 ghost use Rattle.papergrid.specs.Estimates.{estimate_of};
-ghost use Rattle.papergrid.specs.Outputs.{end_by, run_end_of, estimate_end, estimate_text, least_run_end_of, least_output_of, output_by, output_of};
-ghost use Rattle.papergrid.specs.Runs.{IsBrokenLeastRun, IsBrokenRun, IsWholeInput, IsWholeLeastRun, IsWholeRun};
+ghost use Rattle.papergrid.specs.Outputs.{end_by, estimate_end, estimate_text, output_by, output_of, run_end_of};
+ghost use Rattle.papergrid.specs.Runs.{IsBrokenRun, IsWholeInput, IsWholeRun};
 ghost use Rattle.papergrid.specs.ForProofs.ScriptSeen.{table_seen};
 ghost use Rattle.papergrid.specs.ForProofs.Seen.{GivesEstimate};
 ghost use Rattle.papergrid.specs.declared.running.RunFault.TheVariants.{Memory};
@@ -179,54 +179,12 @@ pub fn run<S: Source, W: Sink>(
     run_keeping(alloc, Sizing::ByShares, reader, writer, &mut input)
 }
 
-/// The same of the least sizes, whatever spans cross: no table with room for each visible cell is narrower, or lower. It is
-/// refused as too large only where no sizes with room come, with the lines, to at most the greatest `usize`.
+/// The same by shares or of the least sizes, as the sizing says. Of the least ones no table with room for each visible cell is
+/// narrower, or lower, whatever spans cross. It is refused as too large only where no sizes with room come, with the lines, to
+/// at most the greatest `usize`.
 ///
-/// Conditions and errors: as those of `run`.
-pub fn run_least<S: Source, W: Sink>(
-    alloc: Global,
-    reader: &mut S,
-    writer: &mut W,
-) -> Result<RunEnd, RunFault>
-    // Of a reader and a writer that had not failed.
-    requires reader { S.has_failed reader.old ≡ false }
-    requires writer { W.has_failed writer.old ≡ false }
-    // The input was read to its end, and what it means was written and nothing else.
-    ensures end { OnOk result (IsAtEnd (S.remaining reader.new)) }
-    ensures written { OnOk result (IfSome (S.remaining reader.old) (λ input.
-        Appends (W.contents writer.old) (W.contents writer.new) (least_output_of input))) }
-    ensures answer { IfOk result (λ end. IfSome (S.remaining reader.old) (λ input.
-        end ≡ least_run_end_of input)) }
-    // So of some input where the reader does not tell its bytes.
-    ensures some_input { IfOk result
-        (IsWholeLeastRun (S.remaining reader.old) (S.remaining reader.new) (W.contents writer.old)
-        (W.contents writer.new)) }
-    // No read and no write failed, and each write of a piece that isn't empty took a byte.
-    ensures reader_works { OnOk result (S.has_failed reader.new ≡ false) }
-    ensures writer_works { OnOk result (W.has_failed writer.new ≡ false) }
-    ensures writer_moves { OnOk result (W.has_stalled writer.new ≡ W.has_stalled writer.old) }
-    // Which fault comes, and what was written then.
-    ensures read { IsErrOf result RunFault.Read → S.has_failed reader.new ≡ true }
-    ensures write { IsErrOf result RunFault.Write →
-        (W.has_failed writer.new ≡ true) ⊎ (W.has_stalled writer.old ≡ false →
-        W.has_stalled writer.new ≡ true) }
-    ensures memory { IsErrOf result RunFault.Memory → S.has_failed reader.new ≡ false }
-    ensures write_alone { IsErrOf result RunFault.Write → S.has_failed reader.new ≡ false }
-    ensures read_nothing { IsErrOf result RunFault.Read → writer.new ≡ writer.old }
-    ensures memory_nothing { IsErrOf result RunFault.Memory → writer.new ≡ writer.old }
-    ensures beginning { IsErrOf result RunFault.Write → IfSome (S.remaining reader.old) (λ input.
-        (n : ℕ) × Appends (W.contents writer.old) (W.contents writer.new)
-        (take n (least_output_of input))) }
-    ensures some_beginning { IsErrOf result RunFault.Write →
-        IsBrokenLeastRun (S.remaining reader.old) (S.remaining reader.new) (W.contents writer.old)
-        (W.contents writer.new) }
-{
-    let mut input = Vec::new(alloc);
-    run_keeping(alloc, Sizing::Least, reader, writer, &mut input)
-}
-
-/// The same by shares or of the least sizes, as the sizing says, and the whole input is left in the vector, in place of what
-/// it held. So a caller can `explain` an input that came from a reader.
+/// The whole input is left in the vector, in place of what it held. So a caller can `explain` an input that came from a
+/// reader.
 ///
 /// Conditions and errors: as those of `run`. After `Read` the vector is as it was. After `Memory` it is as it was or has the
 /// whole input, after `Write` the whole input.

@@ -3,7 +3,7 @@
 use crate::answer::Answer;
 use crate::reading::Words;
 use crate::running::Outcome;
-use papergrid::{ReadSource, RunEnd, RunFault, Sizing, WriteSink, run, run_least};
+use papergrid::{ReadSource, RunEnd, RunFault, Sizing, WriteSink, run, run_keeping};
 use std::alloc::Global;
 
 /// Answers what a run writes, its lines with ` / ` between them, and how it ends. `run` asks for both kinds of sizes,
@@ -65,6 +65,9 @@ fn run_into(
     let mut writer = WriteSink::new(written);
     match sizing {
         Sizing::ByShares => run(alloc, &mut reader, &mut writer),
-        Sizing::Least => run_least(alloc, &mut reader, &mut writer),
+        Sizing::Least => {
+            let mut input = Vec::new(alloc);
+            run_keeping(alloc, sizing, &mut reader, &mut writer, &mut input)
+        }
     }
 }

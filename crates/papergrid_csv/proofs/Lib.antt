@@ -15,6 +15,7 @@ pub mod RunLemmas
 pub mod ShownLemmas
 pub mod SizedLemmas
 pub mod SpellingLemmas
+pub mod StyleLemmas
 pub mod TableLemmas
 pub mod WideLemmas
 pub mod WithinLemmas

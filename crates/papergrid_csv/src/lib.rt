@@ -12,12 +12,14 @@ mod request;
 mod run;
 mod shown;
 mod spelling;
+mod style;
 mod within;
 
 pub use cutting::cut;
 pub use reading::{Format, Reading, Rows, RowsError, read_rows};
 pub use request::{Alignment, ColumnName, Request, Span};
 pub use run::{CsvEnd, run_csv};
+pub use style::Style;
 pub use within::run_csv_within;
 
 #[cfg(test)]

@@ -1,13 +1,20 @@
 //! What is asked of the table of a CSV text.
 
-ghost use Rattle.std.specs.Prelude.{◌≡◌, ◌∷◌, ◌++◌, [], IfOk, OnOk, flat_map, length};
+ghost use Rattle.std.specs.Prelude.{◌≡◌, ◌⊎◌, ◌∷◌, ◌++◌, [], IfOk, IsSome, None, OnOk, false, flat_map, length, true};
+ghost use Rattle.papergrid_values.specs.declared.alignment.AlignmentHorizontal.TheVariants.{Left};
+ghost use Rattle.papergrid_values.specs.declared.alignment.AlignmentVertical.TheVariants.{Top};
 ghost use Rattle.papergrid_values.specs.declared.entity.Entity.TheVariants.{Global};
 ghost use Rattle.papergrid_config.specs.declared.setting.Setting.TheVariants.{SetAlignmentVertical, SetBorders, SetPadding};
-ghost use Rattle.papergrid_csv.specs.Requests.{head_line, settings_of, span_settings};
+ghost use Rattle.papergrid_layout.specs.declared.sizing.Sizing.TheVariants.{ByShares};
+ghost use Rattle.papergrid_csv.specs.Requests.{IsSeparating, head_line, settings_of, span_settings};
 ghost use Rattle.papergrid_csv.specs.Rows.{texts_of};
+ghost use Rattle.papergrid_csv.specs.declared.reading.Format.TheVariants.{Csv};
+ghost use Rattle.papergrid_csv.specs.declared.request.Alignment.TheVariants.{Fixed};
+ghost use Rattle.papergrid_csv.specs.declared.style.Style.TheVariants.{Plain};
 
 use crate::aligned::{push_alignments, push_entries, rows_below};
-use crate::reading::{Reading, Rows};
+use crate::reading::{Format, Reading, Rows};
+use crate::style::Style;
 use papergrid_config::Setting;
 use papergrid_grid::Junctions;
 use papergrid_layout::Sizing;
@@ -69,6 +76,55 @@ pub struct Request {
     /// The greatest width of the table, in columns.
     pub max_width: Option<usize>,
     pub sizing: Sizing,
+}
+
+impl Request {
+    /// A request for the table of a CSV text with commas, in a style. The first row is a head. Texts stand on the left and at
+    /// the top of their cells. Nothing is cut, and records may have unlike numbers of fields.
+    ///
+    /// So each line is as wide as the table (law `csv_lines_as_wide`), whatever the text is, but in the style `Plain`.
+    pub fn in_style(alloc: Global, style: Style) -> Request
+        ensures separators { IsSeparating result }
+        ensures apart { (style ≡ Plain) ⊎ (IsSome result.frame.vertical) }
+        ensures reading { result.reading ≡ record {
+          format = Csv 44;
+          tab = None;
+          one_line = false;
+          raw = false;
+          strict = false;
+        } }
+        ensures head { result.has_head ≡ true }
+        ensures columns { result.columns.items ≡ [] }
+        ensures spans { (result.spans.items ≡ []) × (result.hides ≡ false) }
+        ensures junctions { result.junctions ≡ None }
+        ensures widths { (result.cut ≡ None) × (result.max_width ≡ None) }
+        ensures alignment { (result.alignment ≡ Fixed Left) × (result.vertical ≡ Top) }
+        ensures sizing { result.sizing ≡ ByShares }
+    {
+        let (side, none) = (Indent::spaced(style.padding()), Indent::zero());
+        Request {
+            reading: Reading {
+                format: Format::Csv(b','),
+                tab: None,
+                one_line: false,
+                raw: false,
+                strict: false,
+            },
+            frame: style.frame(),
+            head: style.head(true),
+            has_head: true,
+            padding: Sides::new(side, side, none, none),
+            alignment: Alignment::Fixed(AlignmentHorizontal::Left),
+            vertical: AlignmentVertical::Top,
+            columns: Vec::new(alloc),
+            spans: Vec::new(alloc),
+            hides: false,
+            junctions: None,
+            cut: None,
+            max_width: None,
+            sizing: Sizing::ByShares,
+        }
+    }
 }
 
 /// The settings of a table of these rows.

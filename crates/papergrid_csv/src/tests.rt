@@ -5,56 +5,17 @@ mod cuts;
 mod numbers;
 mod rows;
 
-use crate::{Alignment, CsvEnd, Format, Reading, Request, run_csv};
-use papergrid::{ReadSource, RunFault, Sizing, WriteSink};
-use papergrid_values::{
-    AlignmentHorizontal, AlignmentVertical, Borders, HorizontalLine, Indent, Sides,
-};
+use crate::{CsvEnd, Request, Style, run_csv};
+use papergrid::{ReadSource, RunFault, WriteSink};
 use std::alloc::Global;
 use std::process::Abort;
 use std::test::Fail;
 
-/// Lines with round corners, and one below the first row.
+/// A request for lines with round corners, and one below the first row.
 fn rounded(alloc: Global, one_line: bool) -> Request {
-    let mut frame = Borders::empty();
-    frame.top = Some('─');
-    frame.top_left = Some('╭');
-    frame.top_right = Some('╮');
-    frame.top_intersection = Some('┬');
-    frame.bottom = Some('─');
-    frame.bottom_left = Some('╰');
-    frame.bottom_right = Some('╯');
-    frame.bottom_intersection = Some('┴');
-    frame.left = Some('│');
-    frame.right = Some('│');
-    frame.vertical = Some('│');
-    Request {
-        reading: Reading {
-            format: Format::Csv(b','),
-            tab: None,
-            one_line,
-            raw: false,
-            strict: false,
-        },
-        frame,
-        head: Some(HorizontalLine::full('─', '┼', '├', '┤')),
-        padding: Sides::new(
-            Indent::spaced(1),
-            Indent::spaced(1),
-            Indent::zero(),
-            Indent::zero(),
-        ),
-        has_head: true,
-        alignment: Alignment::Fixed(AlignmentHorizontal::Left),
-        vertical: AlignmentVertical::Top,
-        columns: Vec::new(alloc),
-        spans: Vec::new(alloc),
-        hides: false,
-        junctions: None,
-        cut: None,
-        max_width: None,
-        sizing: Sizing::ByShares,
-    }
+    let mut request = Request::in_style(alloc, Style::Rounded);
+    request.reading.one_line = one_line;
+    request
 }
 
 /// The input ends so, and this is written; or an allocation failed.

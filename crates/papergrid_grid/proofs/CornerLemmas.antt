@@ -39,6 +39,7 @@ use Rattle.papergrid_config.specs.declared.setting.Setting.{Setting}
 use Rattle.papergrid_config.specs.declared.spanned.SpannedConfig.{SpannedConfig}
 use Rattle.papergrid_grid.specs.Crossings.{BecomesBy, DifferInCrossings, corner_border}
 use Rattle.papergrid_grid.specs.ForProofs.Crossings.{IsMark, mark_at, setting_of}
+use Rattle.papergrid_grid.specs.declared.crossings.Junctions.{Junctions}
 
 -- ---- the character at a position
 
@@ -244,9 +245,9 @@ module _ (old new : SpannedConfig) (marks : List (Position × ℕ)) (becomes : B
   stands-on : (direction : Direction) (n : ℕ) → StandsOn direction n parts.corner → StandsOn direction n (with_marks marks parts).corner
   stands-on direction n stands = (stands.0, stands.1, some-or (mark_at marks stands.0) (parts.corner stands.0) stands.2)
 
-  module _ (shape : ℕ × ℕ) (each : All (IsMark old shape) marks) where
+  module _ (shape : ℕ × ℕ) (junctions : Junctions) (each : All (IsMark old shape junctions) marks) where
     abbrev MarkOn : Direction → ℕ → Type 0
-    MarkOn direction n = (mark : Position × ℕ) × IsMark old shape mark × (along direction mark.0 ≡ n)
+    MarkOn direction n = (mark : Position × ℕ) × IsMark old shape junctions mark × (along direction mark.0 ≡ n)
 
     -- and what stands there stood there, or is marked
     stood-on : (direction : Direction) (n : ℕ) → StandsOn direction n (with_marks marks parts).corner → StandsOn direction n parts.corner ⊎ MarkOn direction n
@@ -254,7 +255,7 @@ module _ (old new : SpannedConfig) (marks : List (Position × ℕ)) (becomes : B
         let p = stands.0 in
         elim (mark_at marks p) as (λ o. mark_at marks p ≡ o → IsSome (option_or o (parts.corner p)) → StandsOn direction n parts.corner ⊎ MarkOn direction n) [
           | None ↦ λ _ some. inl (p, stands.1, some)
-          | Some character ↦ λ is _. (let found = marked (IsMark old shape) marks p character each is in
+          | Some character ↦ λ is _. (let found = marked (IsMark old shape junctions) marks p character each is in
               inr (found.0, found.1, ap (along direction) found.2 ∙ stands.1))
         ] refl stands.2
 

@@ -132,7 +132,7 @@ module _ (config : SpannedConfig) (shape : ℕ × ℕ) (junctions : Junctions) w
   fitted-start = record {
     marks = [];
     are = refl;
-    each = none-yet (IsMark config shape);
+    each = none-yet (IsMark config shape junctions);
     later = λ p after. refl;
     fit = λ r c seen before. absurd (none-first (position_of (r, c)) before);
   }
@@ -163,10 +163,11 @@ module _ (config : SpannedConfig) (shape : ℕ × ℕ) (junctions : Junctions) w
   fitted-push i j character settings in_rows in_columns rows columns fitted has =
       let mark : Position × ℕ = (position_of (i, j), character) in
       let marks = fitted.marks ++ mark ∷ [] in
-      let own : IsMark config shape mark = record {
+      let own : IsMark config shape junctions mark = record {
         in_range = and_from _ _ (lt-ltb (i + 1) (2 ^ 64) (omega (arith, in_rows, rows))) (lt-ltb (j + 1) (2 ^ 64) (omega (arith, in_columns, columns)));
         horizontal = has.horizontal;
         vertical = has.vertical;
+        joins = has.joins;
         other = has.other;
       } in
       let elsewhere : (p : Position) → (position_of (i, j) ≡ p → ⊥) → mark_at marks p ≡ mark_at fitted.marks p = λ p apart.
@@ -180,7 +181,7 @@ module _ (config : SpannedConfig) (shape : ℕ × ℕ) (junctions : Junctions) w
       record {
         marks = marks;
         are = ap (λ list. list ++ setting_of mark ∷ []) fitted.are ∙ sym (map-append setting_of fitted.marks (mark ∷ []));
-        each = All-append (IsMark config shape) fitted.marks (mark ∷ []) fitted.each (All-cons (IsMark config shape) mark [] own (none-yet (IsMark config shape)));
+        each = All-append (IsMark config shape junctions) fitted.marks (mark ∷ []) fitted.each (All-cons (IsMark config shape junctions) mark [] own (none-yet (IsMark config shape junctions)));
         later = λ p after. elsewhere p (λ is. after (subst (λ q. IsBefore q (position_of (i, j + 1))) is (inr (refl, omega arith))))
             ∙ fitted.later p (λ before. after (before-more p i j before));
         fit = λ r c seen before. elim (before-next r c i j before) [
@@ -230,7 +231,7 @@ module _ (config : SpannedConfig) (shape : ℕ × ℕ) (junctions : Junctions) w
   fitted-empty i none = record {
     marks = [];
     are = refl;
-    each = none-yet (IsMark config shape);
+    each = none-yet (IsMark config shape junctions);
     later = λ p after. refl;
     fit = λ r c seen before. absurd (elim none [ inl rows ↦ omega (arith, rows, seen.has_rows) | inr columns ↦ omega (arith, columns, seen.has_columns) ]);
   }
@@ -276,8 +277,8 @@ module _ (junctions : Junctions) (settings : List Setting) where
     pub fit-all : ((shape.0 ≡ 0) ⊎ (shape.1 ≡ 0) → settings ≡ []) → FitCrossings config shape junctions settings
     fit-all none = record {
       none = none;
-      corners = subst (All (SetsCrossing config shape)) (sym fitted.are) (All-map (SetsCrossing config shape) setting_of fitted.marks (λ k other within.
-          let m = get_or fitted.marks k other in (m.0, m.1, refl, (fitted.each k other within).other)));
+      corners = subst (All (SetsCrossing config shape junctions)) (sym fitted.are) (All-map (SetsCrossing config shape junctions) setting_of fitted.marks (λ k other within.
+          let m = get_or fitted.marks k other in let is = fitted.each k other within in (m.0, m.1, refl, is.other, is.joins)));
       in_range = subst (All (λ s. is_in_range s ≡ true)) (sym fitted.are) (All-map (λ s. is_in_range s ≡ true) setting_of fitted.marks (λ k other within. (fitted.each k other within).in_range));
       keeps = λ new becomes. differ config new fitted.marks (by-marks new becomes);
       lines = λ new becomes d e d_config e_config d_shape e_shape n.
@@ -289,8 +290,8 @@ module _ (junctions : Junctions) (settings : List Setting) where
           ) in
           let of_d = lined d config d_config d_shape in
           let of_e = lined e new e_config e_shape in (
-            of_e.0 ∙ vertical-same config new fitted.marks by shape fitted.each n ∙ sym of_d.0,
-            of_e.1 ∙ horizontal-same config new fitted.marks by shape fitted.each n ∙ sym of_d.1,
+            of_e.0 ∙ vertical-same config new fitted.marks by shape junctions fitted.each n ∙ sym of_d.0,
+            of_e.1 ∙ horizontal-same config new fitted.marks by shape junctions fitted.each n ∙ sym of_d.1,
           );
       fit = λ new becomes d is same i j seen.
           let at : AreFitted d.config d.shape junctions (d.shape.0 + 1) 0 settings =

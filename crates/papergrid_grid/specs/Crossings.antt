@@ -88,11 +88,23 @@ pub record AreOfFrame (frame : Borders ℕ) (junctions : Junctions) : Type 0 whe
 abbrev pub corner_border : ℕ → Border ℕ
 corner_border character = record (border_with None) { left_top_corner = Some character }
 
--- a setting sets the character of one crossing, which has another one
-abbrev pub SetsCrossing : SpannedConfig → ℕ × ℕ → Setting → Type 0
-SetsCrossing config shape setting =
+-- a table with the lines and spans of a configuration, and without texts and sizes
+abbrev pub bare_drawing : SpannedConfig → ℕ × ℕ → Drawing
+bare_drawing config shape = record {
+  config = config;
+  widths = λ _. 0;
+  heights = λ _. 0;
+  shape = shape;
+  lines = λ _. [];
+  color = λ _. None;
+}
+
+-- a setting gives one crossing the character that joins the lines which meet there; it has another one
+abbrev pub SetsCrossing : SpannedConfig → ℕ × ℕ → Junctions → Setting → Type 0
+SetsCrossing config shape junctions setting =
     (p : Position) × (character : ℕ) × (setting ≡ SetBorder p (corner_border character))
     × (crossing_character config shape p ≢ character)
+    × (junction_at junctions (bare_drawing config shape) p.row p.col ≡ Some character)
 
 -- a configuration that was told settings becomes the other by further ones
 pub record BecomesBy (old new : SpannedConfig) (further : List Setting) : Type 0 where
@@ -112,7 +124,7 @@ pub record DifferInCrossings (old new : SpannedConfig) : Type 0 where
 pub record FitCrossings (config : SpannedConfig) (shape : ℕ × ℕ) (junctions : Junctions) (settings : List Setting)
     : Type 0 where
   pub none : (shape.0 ≡ 0) ⊎ (shape.1 ≡ 0) → settings ≡ []
-  pub corners : All (SetsCrossing config shape) settings
+  pub corners : All (SetsCrossing config shape junctions) settings
   pub in_range : All (λ setting. is_in_range setting ≡ true) settings
   pub keeps : (new : SpannedConfig) → BecomesBy config new settings → DifferInCrossings config new
   pub lines : (new : SpannedConfig) → BecomesBy config new settings → (d e : Drawing) → d.config ≡ config → e.config ≡ new →
@@ -121,17 +133,6 @@ pub record FitCrossings (config : SpannedConfig) (shape : ℕ × ℕ) (junctions
   pub fit : (new : SpannedConfig) → BecomesBy config new settings → (d : Drawing) → d.config ≡ config → d.shape ≡ shape →
       (i j : ℕ) → IsSeenCrossing d i j →
       junction_at junctions d i j ≡ Some (crossing_character new shape (position_of (i, j)))
-
--- a table with the lines and spans of a configuration, and without texts and sizes
-abbrev pub bare_drawing : SpannedConfig → ℕ × ℕ → Drawing
-bare_drawing config shape = record {
-  config = config;
-  widths = λ _. 0;
-  heights = λ _. 0;
-  shape = shape;
-  lines = λ _. [];
-  color = λ _. None;
-}
 
 -- why there are no such settings: the spans do not tile the table, else it has so many rows or columns that no more can be
 -- counted; an allocation may fail

@@ -1,16 +1,21 @@
 //! What the arguments ask for.
 
+ghost use Rattle.std.specs.Prelude.{◌≡◌, IfOk, OnOk, Some, true};
+ghost use Rattle.std.specs.List.{list_all};
+ghost use Rattle.papergrid_text.specs.Separators.{is_separator};
+ghost use Rattle.papergrid_csv.specs.Requests.{IsSeparating, fitting_characters};
+
 use crate::options::{Choice, Listed, option_of, values_of};
-use crate::styles::Style;
+use crate::styles::{name_of, style_named};
 use crate::values::{
     alignment_of, column_alignment, delimiter_of, number_of, padding, padding_of, span_of,
     vertical_of,
 };
 use papergrid::Sizing;
 use papergrid::grid::Junctions;
-use papergrid_csv::{Alignment, Format, Reading, Request};
+use papergrid_csv::{Alignment, Format, Request, Style};
 use papergrid_program::{Request as Asked, Unexpected, asked_by, name_like, shown};
-use papergrid_values::{AlignmentHorizontal, AlignmentVertical, Indent, Sides};
+use papergrid_values::Sides;
 use std::alloc::{AllocError, Global};
 use std::env::Args;
 
@@ -65,7 +70,7 @@ struct Draft {
     kind: Option<Kind>,
     delimiter: Option<u8>,
     style: Style,
-    pad: Option<Sides<Indent>>,
+    pad: Option<Sides<usize>>,
     fits: bool,
     /// An option that a script or a document does not take.
     of_fields: Option<&'static str>,
@@ -78,7 +83,10 @@ struct Draft {
 
 /// What the words after the program's name ask for, of which input or of the program itself, and how: options in any
 /// order, and one other word at most. After `--` no word is an option.
-pub fn asked_for(alloc: Global, words: Args) -> Result<(Asked, Wanted), Misuse> {
+pub fn asked_for(alloc: Global, words: Args) -> Result<(Asked, Wanted), Misuse>
+    // So each line of the table of a text is as wide as the table, in each style but one without lines or padding.
+    ensures { IfOk result (λ asked. IsSeparating asked.1.request) }
+{
     let mut draft = Draft {
         alloc,
         asked: None,
@@ -89,7 +97,7 @@ pub fn asked_for(alloc: Global, words: Args) -> Result<(Asked, Wanted), Misuse> 
         pad: None,
         fits: false,
         of_fields: None,
-        request: plain_request(alloc),
+        request: Request::in_style(alloc, Style::Rounded),
         width: None,
         witness: false,
         check: None,
@@ -102,32 +110,6 @@ pub fn asked_for(alloc: Global, words: Args) -> Result<(Asked, Wanted), Misuse> 
     match before {
         Some(option) => Err(lacks_value(alloc, &option)?),
         None => draft.finish(),
-    }
-}
-
-/// What is asked where no option is given, but for what the style decides.
-fn plain_request(alloc: Global) -> Request {
-    Request {
-        reading: Reading {
-            format: Format::Csv(b','),
-            tab: None,
-            one_line: false,
-            raw: false,
-            strict: false,
-        },
-        frame: Style::Rounded.frame(),
-        head: None,
-        has_head: true,
-        padding: padding(1, 1, 0, 0),
-        alignment: Alignment::Fixed(AlignmentHorizontal::Left),
-        vertical: AlignmentVertical::Top,
-        columns: Vec::new(alloc),
-        spans: Vec::new(alloc),
-        hides: false,
-        junctions: None,
-        cut: None,
-        max_width: None,
-        sizing: Sizing::ByShares,
     }
 }
 
@@ -236,7 +218,7 @@ impl Draft {
                 None => return Ok(false),
             },
             Choice::Check => self.check = Some(String::from_str(self.alloc, value)?),
-            Choice::Style => match Style::named(value) {
+            Choice::Style => match style_named(value) {
                 Some(style) => self.style = style,
                 None => return Ok(false),
             },
@@ -287,7 +269,9 @@ impl Draft {
     }
 
     /// What all words tell.
-    fn finish(self) -> Result<(Asked, Wanted), Misuse> {
+    fn finish(self) -> Result<(Asked, Wanted), Misuse>
+        ensures { IfOk result (λ asked. IsSeparating asked.1.request) }
+    {
         let Draft {
             alloc,
             asked,
@@ -314,13 +298,7 @@ impl Draft {
         if width.is_some() {
             refuse_beside_width(alloc, &request)?;
         }
-        request.frame = style.frame();
-        request.head = style.head(request.has_head);
-        let side = style.padding();
-        request.padding = pad.unwrap_or(padding(side, side, 0, 0));
-        if fits {
-            request.junctions = Some(junctions_of(alloc, style)?);
-        }
+        draw_in_style(alloc, style, pad, fits, &mut request)?;
         let wanted = Wanted {
             kind,
             request,
@@ -356,12 +334,37 @@ fn refuse_beside_width(alloc: Global, request: &Request) -> Result<(), Misuse> {
     Err(Misuse::Said(format!(in alloc; "--width: not together with {other}")?))
 }
 
+/// Asks for the lines of a style, for its padding where no other is told, and for crossings that fit the spans if they are to.
+fn draw_in_style(
+    alloc: Global,
+    style: Style,
+    pad: Option<Sides<usize>>,
+    fits: bool,
+    request: &mut Request,
+) -> Result<(), Misuse>
+    ensures { OnOk result (IsSeparating request.new) }
+{
+    request.frame = style.frame();
+    request.head = style.head(request.has_head);
+    let side = style.padding();
+    request.padding = padding(pad.unwrap_or(Sides::new(side, side, 0, 0)));
+    request.junctions = if fits {
+        Some(junctions_of(alloc, style)?)
+    } else {
+        None
+    };
+    Ok(())
+}
+
 /// The characters that fit crossings to spans. Not each style has all of them.
-fn junctions_of(alloc: Global, style: Style) -> Result<Junctions, Misuse> {
+fn junctions_of(alloc: Global, style: Style) -> Result<Junctions, Misuse>
+    ensures { IfOk result (λ junctions.
+        list_all is_separator (fitting_characters (Some junctions)) ≡ true) }
+{
     match style.junctions() {
         Some(junctions) => Ok(junctions),
         None => {
-            let name = style.name();
+            let name = name_of(style);
             let text = "has no crossings to fit";
             Err(Misuse::Said(format!(in alloc; "--fit-crossings: the style {name} {text}")?))
         }

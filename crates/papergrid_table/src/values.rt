@@ -1,5 +1,10 @@
 //! What the values of options say, and how they are spelled in messages.
 
+ghost use Rattle.std.specs.Prelude.{◌≡◌, true};
+ghost use Rattle.std.specs.List.{list_all};
+ghost use Rattle.papergrid_values.specs.Keys.{sides_parts};
+ghost use Rattle.papergrid_text.specs.Separators.{is_separator};
+
 use papergrid_csv::{Alignment, ColumnName, Span};
 use papergrid_values::{AlignmentHorizontal, AlignmentVertical, Indent, Position, Sides};
 use std::alloc::{AllocError, Global};
@@ -79,14 +84,14 @@ pub fn delimiter_of(value: &str) -> Option<u8> {
 }
 
 /// Paddings: so many spaces on both sides, as `2`, or left, right, above and below, as `2,1,0,0`.
-pub fn padding_of(value: &str) -> Option<Sides<Indent>> {
+pub fn padding_of(value: &str) -> Option<Sides<usize>> {
     if let Some(side) = number_of(value) {
-        return Some(padding(side, side, 0, 0));
+        return Some(Sides::new(side, side, 0, 0));
     }
     let (left, others) = value.split_once(',')?;
     let (right, others) = others.split_once(',')?;
     let (top, bottom) = others.split_once(',')?;
-    Some(padding(
+    Some(Sides::new(
         number_of(left)?,
         number_of(right)?,
         number_of(top)?,
@@ -95,12 +100,14 @@ pub fn padding_of(value: &str) -> Option<Sides<Indent>> {
 }
 
 /// So many spaces left and right, and so many blank lines above and below.
-pub fn padding(left: usize, right: usize, top: usize, bottom: usize) -> Sides<Indent> {
+pub fn padding(sizes: Sides<usize>) -> Sides<Indent>
+    ensures { list_all (λ indent. is_separator indent.fill) (sides_parts result) ≡ true }
+{
     Sides::new(
-        Indent::spaced(left),
-        Indent::spaced(right),
-        Indent::spaced(top),
-        Indent::spaced(bottom),
+        Indent::spaced(sizes.left),
+        Indent::spaced(sizes.right),
+        Indent::spaced(sizes.top),
+        Indent::spaced(sizes.bottom),
     )
 }
 

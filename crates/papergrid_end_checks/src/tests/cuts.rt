@@ -1,6 +1,6 @@
 //! A worked script that ends after any byte, and lines that are no text.
 
-use papergrid::{ReadSource, RunEnd, RunFault, Sizing, WriteSink, run, run_least};
+use papergrid::{ReadSource, RunEnd, RunFault, Sizing, WriteSink, run, run_keeping};
 use std::alloc::Global;
 
 const SCRIPT: &[u8] =
@@ -41,7 +41,10 @@ fn run_by(
     let mut writer = WriteSink::new(written);
     match sizing {
         Sizing::ByShares => run(alloc, &mut reader, &mut writer),
-        Sizing::Least => run_least(alloc, &mut reader, &mut writer),
+        Sizing::Least => {
+            let mut input = Vec::new(alloc);
+            run_keeping(alloc, sizing, &mut reader, &mut writer, &mut input)
+        }
     }
 }
 

@@ -48,13 +48,6 @@ mark_at [] p = None
 mark_at (mark ∷ marks) p = option_or (mark_at marks p) (if position_eq mark.0 p then Some mark.1 else None)
 
 module _ (config : SpannedConfig) (shape : ℕ × ℕ) where
-  -- both lines of a marked crossing are there, and it has another character
-  pub record IsMark (mark : Position × ℕ) : Type 0 where
-    pub in_range : has_neighbours mark.0 ≡ true
-    pub horizontal : horizontal_line_at config.characters mark.0.row shape.0 ≡ true
-    pub vertical : vertical_line_at config.characters mark.0.col shape.1 ≡ true
-    pub other : crossing_character config shape mark.0 ≢ mark.1
-
   -- the character of a crossing where the marks are given
   abbrev pub marked_character : List (Position × ℕ) → Position → ℕ
   marked_character marks p =
@@ -72,6 +65,14 @@ module _ (config : SpannedConfig) (shape : ℕ × ℕ) where
       pub vertical : vertical_line_at config.characters j shape.1 ≡ true
       pub joins : junction_at junctions (bare_drawing config shape) i j ≡ Some character
       pub other : crossing_character config shape (position_of (i, j)) ≢ character
+
+    -- both lines of a marked crossing are there, their character is this, and it has another one
+    pub record IsMark (mark : Position × ℕ) : Type 0 where
+      pub in_range : has_neighbours mark.0 ≡ true
+      pub horizontal : horizontal_line_at config.characters mark.0.row shape.0 ≡ true
+      pub vertical : vertical_line_at config.characters mark.0.col shape.1 ≡ true
+      pub joins : junction_at junctions (bare_drawing config shape) mark.0.row mark.0.col ≡ Some mark.1
+      pub other : crossing_character config shape mark.0 ≢ mark.1
 
     -- the crossings before (i, j), by row and then by column, are fitted, and no later one is marked
     pub record AreFitted (i j : ℕ) (settings : List Setting) : Type 0 where

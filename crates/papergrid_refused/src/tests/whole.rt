@@ -7,7 +7,7 @@ use super::sizes::{in_table, rows, settings};
 use super::{CallNumber, call, only, says};
 use papergrid::records::vec_records::VecRecords;
 use papergrid::{
-    ReadSource, RunEnd, RunFault, Sizing, WriteSink, explain, layout, layout_least, run, run_least,
+    ReadSource, RunEnd, RunFault, Sizing, WriteSink, explain, layout, layout_least, run, run_keeping,
     run_table,
 };
 use papergrid_config::Setting;
@@ -79,7 +79,8 @@ const CASES: [Case; 3] = [
 fn end_of(alloc: Global, it: Case, written: &mut Vec<u8>) -> Result<RunEnd, RunFault> {
     let (mut reader, mut writer) = (ReadSource::new(it.script), WriteSink::new(written));
     if it.is_least {
-        run_least(alloc, &mut reader, &mut writer)
+        let mut input = Vec::new(alloc);
+        run_keeping(alloc, Sizing::Least, &mut reader, &mut writer, &mut input)
     } else {
         run(alloc, &mut reader, &mut writer)
     }
