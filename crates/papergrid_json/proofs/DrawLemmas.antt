@@ -24,8 +24,8 @@ use Rattle.papergrid.specs.Layouts.{IsConfiguredBy}
 use Rattle.papergrid.specs.Pictures.{IsRefusal}
 use Rattle.papergrid.specs.ForProofs.Drawn.{HasEnded, IsSteady}
 use Rattle.papergrid_json.proofs.SizeLemmas.{no-sizes-seen, room-with, sizes-seen}
-use Rattle.papergrid_json.specs.Pictures.{AreNoSizesOf, AreSizesOf, IsDocumentDrawing, IsDocumentFault, IsDrawingWith, IsFaultWith, Undrawn, Unsized, texts_of}
-use Rattle.papergrid_json.specs.ForProofs.Drawn.{Draws, IsDocumentTable, IsUndrawn}
+use Rattle.papergrid_json.specs.Pictures.{AreNoSizesOf, AreSizesOf, IsDocumentDrawing, IsDocumentFault, IsDocumentTable, IsDrawingWith, IsFaultWith, Undrawn, Unsized, texts_of}
+use Rattle.papergrid_json.specs.ForProofs.Drawn.{Draws, IsUndrawn}
 use Rattle.papergrid_json.specs.declared.document.Document.{Document}
 use Rattle.papergrid_json.specs.declared.document.OwnSizes.{OwnSizes}
 

@@ -1,9 +1,9 @@
 -- The picture of a document.
-use Rattle.std.specs.Prelude.{◌≡◌, ℕ, List, Option, None, Some, length, map, slice_index, string_bytes}
+use Rattle.std.specs.Prelude.{◌≡◌, ℕ, List, Option, None, Some, Result, Ok, Err, length, map, slice_index, string_bytes}
 use Rattle.std.specs.BTreeMap.{get}
 use Rattle.papergrid_values.specs.MapKeys.{position_cmp}
 use Rattle.papergrid_config.specs.declared.spanned.SpannedConfig.{SpannedConfig}
-use Rattle.papergrid_layout.specs.Tables.{AreNoSizesBySizing, AreSizesBySizing, IsTotalTooLarge, view_of}
+use Rattle.papergrid_layout.specs.Tables.{AreNoSizesBySizing, AreSizesBySizing, IsTotalTooLarge, TableParts, view_of}
 use Rattle.papergrid_layout.specs.declared.sizing.Sizing.{Sizing}
 use Rattle.papergrid_tracks.specs.declared.error.LayoutError.{LayoutError}
 use Rattle.papergrid_tracks.specs.declared.error.LayoutError.TheVariants.{TooLarge}
@@ -44,6 +44,11 @@ module _ (document : Document) (sizing : Sizing) where
     AreNoSizesOf None e = AreNoSizesBySizing config text_measure document.columns (texts_of document) sizing e
     AreNoSizesOf (Some own) e =
         (e ≡ TooLarge) × IsTotalTooLarge (view_of (record { config = config; widths = own.widths.items; heights = own.heights.items }))
+
+    -- its table, or why there is none
+    abbrev pub IsDocumentTable : Result TableParts LayoutError → Type 0
+    IsDocumentTable (Ok table) = (table.config ≡ config) × AreSizesOf document.sizes table.widths table.heights
+    IsDocumentTable (Err e) = AreNoSizesOf document.sizes e
 
     -- its drawing with such sizes
     pub record IsDrawingWith (d : Drawing) : Type 0 where

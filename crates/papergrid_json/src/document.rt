@@ -49,8 +49,13 @@ pub struct Document {
 pub fn read_document(alloc: Global, input: &[u8]) -> Result<Document, DocumentError>
     ensures { IfOk result (λ document. AreInRange document.settings.items) }
 {
+    read(alloc, parsed(alloc, input)?)
+}
+
+/// The JSON value that a text is.
+fn parsed(alloc: Global, input: &[u8]) -> Result<Value, DocumentError> {
     match Value::from_slice(alloc, input) {
-        Ok(document) => read(alloc, document),
+        Ok(value) => Ok(value),
         Err(error) if error.is_memory() => Err(DocumentError::Memory),
         Err(error) => Err(DocumentError::Syntax(error.line(), error.column())),
     }
@@ -71,6 +76,32 @@ fn read(alloc: Global, document: Value) -> Result<Document, DocumentError>
         },
         Err(fault) => Err(told(alloc, fault)),
     }
+}
+
+/// The setting that a JSON list of its name and its values tells, as in the `settings` of a document.
+///
+/// # Errors
+///
+/// Those of `read_document`. Its number among the settings is 0.
+pub fn read_setting(alloc: Global, input: &[u8]) -> Result<Setting, DocumentError>
+    ensures { IfOk result (λ setting. is_in_range setting ≡ true) }
+{
+    let value = parsed(alloc, input)?;
+    match one_setting(alloc, &value) {
+        Ok(setting) => Ok(setting),
+        Err(fault) => Err(told(alloc, fault)),
+    }
+}
+
+/// The setting that a JSON value tells.
+fn one_setting<'v>(alloc: Global, value: &'v Value) -> Result<Setting, Fault<'v>>
+    ensures { IfOk result (λ setting. is_in_range setting ≡ true) }
+{
+    let spot = Spot {
+        value: Some(value),
+        place: Place::of("setting"),
+    };
+    in_range(setting(alloc, 0, &spot)?, &spot)
 }
 
 /// What a JSON value tells but its rows, and the number of columns, if it tells one.
@@ -116,12 +147,19 @@ fn add<'v>(settings: &mut Vec<Setting>, next: Setting, at: &Spot<'v>) -> Result<
     ensures { OnOk result ((settings.new.items ≡ settings.old.items ++ next ∷ [])
         × (is_in_range next ≡ true)) }
 {
-    if !next.is_in_range() {
-        drop(next);
+    settings.push(in_range(next, at)?)?;
+    Ok(())
+}
+
+/// The setting that stands at a place, if it is in range.
+fn in_range<'v>(setting: Setting, at: &Spot<'v>) -> Result<Setting, Fault<'v>>
+    ensures { IfOk result (λ told. (told ≡ setting) × (is_in_range setting ≡ true)) }
+{
+    if !setting.is_in_range() {
+        drop(setting);
         return Err(at.unexpected("of a row and a column below the greatest number"));
     }
-    settings.push(next)?;
-    Ok(())
+    Ok(setting)
 }
 
 /// How many items the list at a place has, 0 where nothing stands there.

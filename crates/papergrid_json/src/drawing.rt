@@ -10,8 +10,8 @@ ghost use Rattle.papergrid_layout.specs.Answers.{UnlessMemory};
 ghost use Rattle.papergrid.specs.Layouts.{IsConfiguredBy};
 ghost use Rattle.papergrid.specs.Pictures.{IsRefusal};
 ghost use Rattle.papergrid_json.specs.Documents.{AreInRange};
-ghost use Rattle.papergrid_json.specs.Pictures.{IsDocumentDrawing, IsDocumentFault, IsDrawingWith, IsFaultWith};
-ghost use Rattle.papergrid_json.specs.ForProofs.Drawn.{Draws, IsDocumentTable};
+ghost use Rattle.papergrid_json.specs.Pictures.{IsDocumentDrawing, IsDocumentFault, IsDocumentTable, IsDrawingWith, IsFaultWith};
+ghost use Rattle.papergrid_json.specs.ForProofs.Drawn.{Draws};
 
 use crate::document::Document;
 use papergrid_config::laws::history_decides;
@@ -60,10 +60,12 @@ pub fn draw_document<W: Sink>(
     draw_by(alloc, &config, document, sizing, sink)
 }
 
-/// The configuration that settings tell.
+/// The configuration that settings tell, or out of memory.
+///
+/// Condition: each setting is in range, as those of a document that was read are.
 // It is made where its caller keeps it: it is large, and is not moved.
 #[inline(always)]
-fn configuration(alloc: Global, settings: &Vec<Setting>) -> Result<SpannedConfig, AllocError>
+pub fn configuration(alloc: Global, settings: &Vec<Setting>) -> Result<SpannedConfig, AllocError>
     requires { AreInRange settings.now.items }
     ensures { IfOk result (IsConfiguredBy settings.now.items) }
 {
@@ -88,7 +90,7 @@ fn draw_by<W: Sink>(
         (IsDrawingWith document.now sizing config.now)
         (IsFaultWith document.now sizing config.now) sink.old sink.new result }
 {
-    let table = table_of(alloc, config, document, sizing)?;
+    let table = document_table(alloc, config, document, sizing)?;
     let cells = TextCells {
         alloc,
         rows: document.rows.as_slice(),
@@ -97,8 +99,14 @@ fn draw_by<W: Sink>(
     draw_lines(alloc, &table, &cells, room_of(document), sink)
 }
 
-/// The table of a document by a configuration.
-fn table_of<'a>(
+/// The table of a document by a configuration, as that which its settings tell. The widths and heights are those that it tells,
+/// else those that are chosen so.
+///
+/// # Errors
+///
+/// `OutOfTable` with the first visible cell that overflows the table, where no sizes are told; `TooLarge` where these, or those that
+/// are chosen so, come with all lines to more than the greatest `usize`; `Memory` in place of any answer.
+pub fn document_table<'a>(
     alloc: Global,
     config: &'a SpannedConfig,
     document: &Document,

@@ -12,7 +12,7 @@ mod setting;
 mod spot;
 mod values;
 
-pub use document::{Document, OwnSizes, read_document};
-pub use drawing::draw_document;
+pub use document::{Document, OwnSizes, read_document, read_setting};
+pub use drawing::{configuration, document_table, draw_document};
 pub use error::DocumentError;
 pub use forms::{Form, SETTINGS};

@@ -4,19 +4,8 @@ use Rattle.papergrid_draw.specs.Drawings.{Drawing}
 use Rattle.papergrid_draw.specs.declared.error.DrawError.{DrawError}
 use Rattle.papergrid_draw.specs.declared.error.DrawError.TheVariants as draw_errors
 use Rattle.papergrid_grid.specs.Lined.{lined}
-use Rattle.papergrid_layout.specs.Tables.{TableParts}
-use Rattle.papergrid_layout.specs.declared.sizing.Sizing.{Sizing}
-use Rattle.papergrid_config.specs.declared.spanned.SpannedConfig.{SpannedConfig}
-use Rattle.papergrid_tracks.specs.declared.error.LayoutError.{LayoutError}
 use Rattle.papergrid.specs.Pictures.{IsRefusal}
 use Rattle.papergrid.specs.ForProofs.Drawn.{HasBegun, HasEnded, IsSteady, IsTaken}
-use Rattle.papergrid_json.specs.Pictures.{AreNoSizesOf, AreSizesOf}
-use Rattle.papergrid_json.specs.declared.document.Document.{Document}
-
--- the table of a document by a configuration, or why there is none
-abbrev pub IsDocumentTable : Document → Sizing → SpannedConfig → Result TableParts LayoutError → Type 0
-IsDocumentTable document sizing config (Ok table) = (table.config ≡ config) × AreSizesOf document sizing config document.sizes table.widths table.heights
-IsDocumentTable document sizing config (Err e) = AreNoSizesOf document sizing config document.sizes e
 
 -- a writer, by what it tells
 module _ {W : Type 0} (contents : W → Option (List ℕ)) (has_failed has_stalled : W → Bool) (IsDrawn : Drawing → Type 0) (IsFault : DrawError → Type 0) where

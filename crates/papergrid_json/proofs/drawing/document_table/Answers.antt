@@ -1,7 +1,7 @@
 use Rattle.std.proofs.Common.{◌∙◌, ap}
 use Rattle.std.specs.List.{each_same}
 use Rattle.papergrid_json.proofs.DrawLemmas.{table-found, table-own}
-use Rattle.papergrid_json.proofs.drawing.table_of.Goals as goal
+use Rattle.papergrid_json.proofs.drawing.document_table.Goals as goal
 
 pub returns-in_ok-heights-in-Some : goal.returns-in_ok-heights-in-Some
 returns-in_ok-heights-in-Some c =
