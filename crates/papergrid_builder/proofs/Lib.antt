@@ -1,0 +1,2 @@
+pub mod DrawLemmas
+pub mod TextLemmas

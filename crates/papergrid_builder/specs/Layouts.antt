@@ -1,0 +1,64 @@
+-- What is found of a table.
+use Rattle.std.specs.Prelude.{◌≡◌, ◌^◌, ◌<◌, ◌⊎◌, ⊤, ℕ, List, Option, None, Some, Result, Ok, Err, true, false}
+use Rattle.papergrid_values.specs.declared.direction.Direction.{Direction}
+use Rattle.papergrid_values.specs.declared.direction.Direction.TheVariants.{Columns, Rows}
+use Rattle.papergrid_values.specs.declared.position.Position.{Position}
+use Rattle.papergrid_config.specs.declared.setting.Setting.{Setting}
+use Rattle.papergrid_config.specs.declared.spanned.SpannedConfig.{SpannedConfig}
+use Rattle.papergrid_layout.specs.Places.{HasPlace, IsFirstOver, Overflows, total_along}
+use Rattle.papergrid_layout.specs.Tables.{AreNoSizesBySizing, AreSizesBySizing, TableParts, view_of}
+use Rattle.papergrid_layout.specs.declared.rect.Place.{Place}
+use Rattle.papergrid_layout.specs.declared.sizing.Sizing.{Sizing}
+use Rattle.papergrid_tracks.specs.declared.error.LayoutError.{LayoutError}
+use Rattle.papergrid_tracks.specs.declared.error.LayoutError.TheVariants as layout_errors
+use Rattle.papergrid.specs.Estimates.{text_measure}
+use Rattle.papergrid.specs.Layouts.{IsConfiguredBy}
+use Rattle.papergrid_builder.specs.Told.{longest}
+use Rattle.papergrid_builder.specs.declared.error.BuilderError.{BuilderError}
+use Rattle.papergrid_builder.specs.declared.error.BuilderError.TheVariants.{Hidden, Memory, NotEstimated, OutOfTable, TooLarge}
+
+module _ (settings : List Setting) (rows : List (List (List ℕ))) (sizing : Sizing) where
+  -- a configuration that the settings tell, with the sizes that are chosen so for the texts; their totals fit
+  pub record IsLaidOut (parts : TableParts) : Type 0 where
+    pub configured : IsConfiguredBy settings parts.config
+    pub sized : AreSizesBySizing parts.config text_measure (longest rows) rows sizing parts.widths parts.heights
+    pub fit : (direction : Direction) → total_along (view_of parts) direction < 2 ^ 64
+
+  -- why there are none
+  abbrev pub HasNoSizes : LayoutError → Type 0
+  HasNoSizes e = (config : SpannedConfig) × IsConfiguredBy settings config × AreNoSizesBySizing config text_measure (longest rows) rows sizing e
+
+  -- the same of the error that is answered; an allocation may fail
+  abbrev pub IsNotLaidOut : BuilderError → Type 0
+  IsNotLaidOut (OutOfTable p) = HasNoSizes (layout_errors.OutOfTable p)
+  IsNotLaidOut TooLarge = HasNoSizes layout_errors.TooLarge
+  IsNotLaidOut Memory = ⊤
+  IsNotLaidOut e = ⊥
+
+-- its total width and its total height, with all lines
+abbrev pub totals_of : TableParts → ℕ × ℕ
+totals_of parts = (total_along (view_of parts) Columns, total_along (view_of parts) Rows)
+
+-- the screen rectangle of the cell at a position, or why it has none: it is hidden, else it overflows the table
+abbrev pub IsPlacedBy : TableParts → Position → Result Place BuilderError → Type 0
+IsPlacedBy parts p (Ok place) = HasPlace (view_of parts) p place
+IsPlacedBy parts p (Err Hidden) = (view_of parts).grid.shows p ≡ false
+IsPlacedBy parts p (Err (OutOfTable q)) =
+    (q ≡ p) × ((view_of parts).grid.shows p ≡ true) × (Overflows (view_of parts) p Columns ⊎ Overflows (view_of parts) p Rows)
+IsPlacedBy parts p (Err Memory) = ⊤
+IsPlacedBy parts p (Err e) = ⊥
+
+-- the same of what was found, if something was
+abbrev pub IsPlaceAnswer : Option TableParts → Position → Result Place BuilderError → Type 0
+IsPlaceAnswer None p answer = answer ≡ Err NotEstimated
+IsPlaceAnswer (Some parts) p answer = IsPlacedBy parts p answer
+
+-- the first cell, by row and then by column, that stands over a point, or none does
+abbrev pub IsCellBy : TableParts → ℕ → ℕ → Result (Option Position) BuilderError → Type 0
+IsCellBy parts column line (Ok cell) = IsFirstOver (view_of parts) column line cell
+IsCellBy parts column line (Err e) = e ≡ Memory
+
+-- the same of what was found, if something was
+abbrev pub IsCellAnswer : Option TableParts → ℕ → ℕ → Result (Option Position) BuilderError → Type 0
+IsCellAnswer None column line answer = answer ≡ Err NotEstimated
+IsCellAnswer (Some parts) column line answer = IsCellBy parts column line answer
