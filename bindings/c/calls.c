@@ -60,10 +60,11 @@ enum { MOST = 1000 };
         WANT(answer == PAPERGRID_OK);                                    \
     } while (0)
 
-static const uint32_t line[4] = {'-', '+', '+', '+'};
-static const uint32_t upright[4] = {'|', '+', '+', '+'};
-static const uint32_t corners[8] = {'=', '=', '|', '|', '#', '#', '#', '#'};
-static const PapergridBorders frame = {'-', '+', '+', '+', '-', '+', '+', '+', 0, '|', 0, '|', 0, '|', 0};
+/* Each character another one, so that a picture tells them apart. */
+static const uint32_t line[4] = {'-', 'x', '{', '}'};
+static const uint32_t upright[4] = {'|', '+', '^', 'v'};
+static const uint32_t corners[8] = {'=', '_', '(', ')', '1', '2', '3', '4'};
+static const PapergridBorders frame = {'^', '1', '2', 'T', '_', '3', '4', 'B', '~', '|', '+', '(', '<', ')', '>'};
 
 static void draws(Papergrid *table, uint32_t least, const char *picture) {
     char bytes[512];
@@ -96,12 +97,23 @@ static void plain(void) {
     begin(&table);
     draws(&table, 0, "ab\ncd\n");
     EACH(papergrid_set_frame(&table, &frame));
+    draws(&table, 0, "1^T^2\n(a|b)\n<~+~>\n(c|d)\n3_B_4\n");
     EACH(papergrid_insert_horizontal_line(&table, 1, line, 4));
-    draws(&table, 0, "+-+-+\n|a|b|\n+-+-+\n|c|d|\n+-+-+\n");
+    draws(&table, 1, "1^T^2\n(a|b)\n{-x-}\n(c|d)\n3_B_4\n");
     EACH(papergrid_set_padding(&table, papergrid_column(1), 1, 2, 0, 0));
-    draws(&table, 1, "+-+----+\n|a| b  |\n+-+----+\n|c| d  |\n+-+----+\n");
+    draws(&table, 0, "1^T^^^^2\n(a| b  )\n{-x----}\n(c| d  )\n3_B____4\n");
+    end(&table);
+}
+
+/* A row that is ended by nothing more than the rows of before has no cells, and no height. */
+static void ended(void) {
+    Papergrid table = PAPERGRID_NONE;
+    begin(&table);
     EACH(papergrid_end_row(&table));
-    draws(&table, 0, "+-+----+\n|a| b  |\n+-+----+\n|c| d  |\n+-+----+\n");
+    draws(&table, 0, "ab\ncd\n");
+    EACH(papergrid_push_string(&table, "e"));
+    EACH(papergrid_push_rows(&table, "f", 1, ',', '\n'));
+    draws(&table, 0, "ab\ncd\ne \nf \n");
     end(&table);
 }
 
@@ -114,14 +126,14 @@ static void settings(void) {
     EACH(papergrid_set_alignment(&table, papergrid_cell(0, 0), 2));
     EACH(papergrid_set_alignment(&table, papergrid_row(1), 1));
     draws(&table, 0, "   ab\n c  d\nlonge\n");
-    EACH(papergrid_insert_vertical_line(&table, 1, upright, 4));
+    EACH(papergrid_insert_vertical_line(&table, 1, upright, 4)); /* its ends ask for a line at the top and at the bottom */
     EACH(papergrid_set_string(&table, "[\"SetBordersMissing\", \"?\"]"));
-    EACH(papergrid_set_padding(&table, papergrid_cell(0, 1), 0, 0, 1, 1));
+    EACH(papergrid_set_padding(&table, papergrid_cell(0, 1), 0, 0, 1, 0));
     EACH(papergrid_set_vertical_alignment(&table, papergrid_all(), 2));
-    draws(&table, 0, "    | \n    |b\n   a| \n c  |d\nlong|e\n");
+    draws(&table, 0, "????^?\n    | \n   a|b\n c  |d\nlong|e\n????v?\n");
     EACH(papergrid_set_string(&table, "[\"RemoveVerticalLine\", 1, 2]"));
     EACH(papergrid_set_border(&table, 2, 0, corners, 8));
-    draws(&table, 0, "?    ? \n?    ?b\n?   a? \n? c  ?d\n#====#?\n|long|e\n#====#?\n");
+    draws(&table, 0, "?    ? \n?   a?b\n? c  ?d\n1====3?\n(long)e\n2____4?\n");
     end(&table);
 }
 
@@ -276,6 +288,7 @@ static void words(void) {
 
 int main(void) {
     plain();
+    ended();
     settings();
     places();
     bad();
