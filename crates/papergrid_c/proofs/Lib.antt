@@ -1,0 +1,3 @@
+mod Values
+mod Handles
+mod CallLemmas

@@ -1,0 +1,10 @@
+use Rattle.std.proofs.Common.{w32}
+use Rattle.std.proofs.lemmas.Int.{to_z-of_z}
+use Rattle.papergrid_c.proofs.CallLemmas.{setting-pushed}
+use Rattle.papergrid_c.proofs.told.set_in.Goals as goal
+
+pub returns-in-Some : goal.returns-in-Some
+returns-in-Some c =
+    let told = c.push_setting.ensures in
+    rw (c.in-Some.is, to_z-of_z w32 c.number.result (record { sfits = c.number.type_inv }))
+    (setting-pushed c.args.builder.now c.push_setting.new.self c.number.result c.in-Some.setting c.push_setting.result told.ok told.range told.errors told.err c.number.ensures)

@@ -1,0 +1,94 @@
+-- What calls tell of the table of a handle.
+use Rattle.std.specs.Prelude.{◌≡◌, ◌⊎◌, ◌<◌, ◌≤◌, ℕ, ℤ, ◌==◌, if◌then◌else◌, ◌++◌, IfSome, List, Option, None, Some, Result, Ok, Err, drop, length}
+use Rattle.papergrid_values.specs.declared.position.Position.{Position}
+use Rattle.papergrid_layout.specs.Tables.{TableParts}
+use Rattle.papergrid_layout.specs.declared.rect.Place.{Place}
+use Rattle.papergrid_layout.specs.declared.sizing.Sizing.{Sizing}
+use Rattle.papergrid_layout.specs.declared.sizing.Sizing.TheVariants.{ByShares, Least}
+use Rattle.papergrid_draw.specs.Drawings.{Drawing}
+use Rattle.papergrid_grid.specs.Lined.{lined}
+use Rattle.papergrid_builder.specs.Layouts.{IsCellAnswer, IsLaidOut, IsNotLaidOut, IsPlaceAnswer, totals_of}
+use Rattle.papergrid_builder.specs.Pictures.{IsDrawingOf, IsNotDrawn}
+use Rattle.papergrid_builder.specs.Told.{ToldTable}
+use Rattle.papergrid_builder.specs.declared.error.BuilderError.{BuilderError}
+use Rattle.papergrid_builder.specs.declared.error.BuilderError.TheVariants.{NotTiled, OutOfTable}
+use Rattle.papergrid_c.specs.Numbers.{done, no_cell, no_room, no_table, number_of}
+use Rattle.papergrid_c.specs.declared.structs.PapergridPlace.{PapergridPlace}
+use Rattle.papergrid_c.specs.declared.structs.PapergridPosition.{PapergridPosition}
+
+-- what a call does to the table of a handle, and what it tells in the place of what was lent to it; a handle without a table stays so
+abbrev pub TellsOfTable : {A : Type 0} → (ToldTable → A → ToldTable → A → ℤ → Type 0) → Option ToldTable → A → Option ToldTable → A → ℤ → Type 0
+TellsOfTable Does None lent new told result = (new ≡ None) × (told ≡ lent) × (result ≡ no_table)
+TellsOfTable Does (Some old) lent new told result = (table : ToldTable) × (new ≡ Some table) × Does old lent table told result
+
+-- the same of a call that leaves the table as it is
+abbrev pub AsksTable : {A : Type 0} → (ToldTable → A → A → ℤ → Type 0) → Option ToldTable → A → Option ToldTable → A → ℤ → Type 0
+AsksTable Tells None lent new told result = (new ≡ None) × (told ≡ lent) × (result ≡ no_table)
+AsksTable Tells (Some table) lent new told result = (new ≡ Some table) × Tells table lent told result
+
+-- sizes by shares, or the least
+abbrev pub sizing_of : ℕ → Sizing
+sizing_of least = if least == 0 then ByShares else Least
+
+-- the total width and height by sizes that are found of the table and kept; or why there are none
+abbrev pub Estimates : Sizing → ToldTable → ℕ × ℕ → ToldTable → ℕ × ℕ → ℤ → Type 0
+Estimates sizing old lent new told result =
+    ((parts : TableParts) × IsLaidOut old.settings old.rows sizing parts × (new ≡ record old { found = Some parts })
+    × (told ≡ totals_of parts) × (result ≡ done))
+    ⊎ ((e : BuilderError) × IsNotLaidOut old.settings old.rows sizing e × (new ≡ old) × (told ≡ lent) × (result ≡ number_of e))
+
+-- sizes that were found are those of the table as it is told
+abbrev pub AreCurrent : ToldTable → Type 0
+AreCurrent table = IfSome table.found (λ parts. (sizing : Sizing) × IsLaidOut table.settings table.rows sizing parts)
+
+-- a screen rectangle as C has it
+abbrev pub place_for_c : Place → PapergridPlace
+place_for_c place = record { left = place.left; top = place.top; width = place.width; height = place.height }
+
+-- a position as C has it
+abbrev pub position_for_c : Position → PapergridPosition
+position_for_c p = record { row = p.row; column = p.col }
+
+-- how the answer to where a cell stands is told
+abbrev pub IsToldPlace : Result Place BuilderError → PapergridPlace → PapergridPlace → ℤ → Type 0
+IsToldPlace (Ok place) lent told result = (told ≡ place_for_c place) × (result ≡ done)
+IsToldPlace (Err e) lent told result = (told ≡ lent) × (result ≡ number_of e)
+
+-- where the cell at a position stands, by the sizes that were found
+abbrev pub TellsPlace : Position → ToldTable → PapergridPlace → PapergridPlace → ℤ → Type 0
+TellsPlace p table lent told result =
+    (answer : Result Place BuilderError) × IsPlaceAnswer table.found p answer × AreCurrent table × IsToldPlace answer lent told result
+
+-- how the answer to which cell stands over a point is told
+abbrev pub IsToldCell : Result (Option Position) BuilderError → PapergridPosition → PapergridPosition → ℤ → Type 0
+IsToldCell (Ok None) lent told result = (told ≡ lent) × (result ≡ no_cell)
+IsToldCell (Ok (Some p)) lent told result = (told ≡ position_for_c p) × (result ≡ done)
+IsToldCell (Err e) lent told result = (told ≡ lent) × (result ≡ number_of e)
+
+-- the cell over a column of the terminal in a line, by the sizes that were found
+abbrev pub TellsCell : ℕ → ℕ → ToldTable → PapergridPosition → PapergridPosition → ℤ → Type 0
+TellsCell column line table lent told result =
+    (answer : Result (Option Position) BuilderError) × IsCellAnswer table.found column line answer × AreCurrent table × IsToldCell answer lent told result
+
+-- the cell of which an error speaks
+abbrev pub cell_of : BuilderError → PapergridPosition → PapergridPosition
+cell_of (OutOfTable p) lent = position_for_c p
+cell_of (NotTiled p) lent = position_for_c p
+cell_of e lent = lent
+
+-- the picture is kept, and its length told; or why there is none, and the cell of which that speaks
+abbrev pub Draws : Sizing → ToldTable → ℕ × PapergridPosition → ToldTable → ℕ × PapergridPosition → ℤ → Type 0
+Draws sizing old lent new told result =
+    ((d : Drawing) × IsDrawingOf old.settings old.rows sizing d × (new ≡ record old { picture = lined d })
+    × (told ≡ (length (lined d), lent.1)) × (result ≡ done))
+    ⊎ ((e : BuilderError) × IsNotDrawn old.settings old.rows sizing e × (new ≡ old) × (told ≡ (lent.0, cell_of e lent.1)) × (result ≡ number_of e))
+
+-- values written to the front of what is lent, where they fit
+abbrev pub TellsInFront : List ℕ → List ℕ → List ℕ → ℤ → Type 0
+TellsInFront values lent told result =
+    ((length values ≤ length lent) × (told ≡ values ++ drop (length values) lent) × (result ≡ done))
+    ⊎ ((length lent < length values) × (told ≡ lent) × (result ≡ no_room))
+
+-- the bytes of the picture that was drawn last
+abbrev pub TellsPicture : ToldTable → List ℕ → List ℕ → ℤ → Type 0
+TellsPicture table = TellsInFront table.picture
