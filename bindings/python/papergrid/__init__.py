@@ -131,7 +131,7 @@ class Table:
         ends = len(texts) - 1 + sum(max(len(row) - 1, 0) for row in texts)
         if _BREAKING_BUT_ENDS.search(joined) or joined.count(_CELL_END) + joined.count(_ROW_END) != max(ends, 0):
             joined = _ROW_END.join(_CELL_END.join(map(_spelled, row)) for row in texts)
-        if texts:
+        if self._count[1] > 0:
             self._handle.push_rows(joined.encode(), ord(_CELL_END), ord(_ROW_END))
 
     def _set_style(self, style: str, header: bool) -> None:
