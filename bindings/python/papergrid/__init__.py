@@ -81,6 +81,16 @@ def _text(value: Any) -> str:
     return value if isinstance(value, str) else "" if value is None else str(value)
 
 
+def _joined(rows: Sequence[Sequence[Any]]) -> Tuple[Sequence[Sequence[str]], str]:
+    """The texts of rows of values, and all of them as one text."""
+    try:
+        # So where each value is a text no list is made anew.
+        return rows, _ROW_END.join(map(_CELL_END.join, rows))
+    except TypeError:
+        texts = [[_text(value) for value in row] for row in rows]
+        return texts, _ROW_END.join(map(_CELL_END.join, texts))
+
+
 def _is_numeric(column: Iterable[str]) -> bool:
     """Whether each text is a number or empty, and one at least is a number."""
     some = False
@@ -120,16 +130,15 @@ class Table:
         self._least = least
         self._is_estimated = False
         self._handle = _library.Handle()
-        texts = [[_text(value) for value in row] for row in rows]
+        texts, joined = _joined([row if isinstance(row, (list, tuple)) else list(row) for row in rows])
         self._count = (len(texts), max(map(len, texts), default=0))
-        self._push(texts)
+        self._push(texts, joined)
         self._set_style(style, header)
         self._set_alignments(texts[1:] if header else texts, align)
 
-    def _push(self, texts: List[List[str]]) -> None:
-        joined = _ROW_END.join(map(_CELL_END.join, texts))
-        ends = len(texts) - 1 + sum(max(len(row) - 1, 0) for row in texts)
-        if _BREAKING_BUT_ENDS.search(joined) or joined.count(_CELL_END) + joined.count(_ROW_END) != max(ends, 0):
+    def _push(self, texts: Sequence[Sequence[str]], joined: str) -> None:
+        ends = max(len(texts) - 1, 0) + sum(max(len(row) - 1, 0) for row in texts)
+        if _BREAKING_BUT_ENDS.search(joined) or joined.count(_CELL_END) + joined.count(_ROW_END) != ends:
             joined = _ROW_END.join(_CELL_END.join(map(_spelled, row)) for row in texts)
         if self._count[1] > 0:
             self._handle.push_rows(joined.encode(), ord(_CELL_END), ord(_ROW_END))
@@ -142,7 +151,7 @@ class Table:
             self._handle.insert_horizontal_line(1, [ord(c) if c else 0 for c in line])
         self._handle.set_padding(_library.ALL, it.padding, it.padding, 0, 0)
 
-    def _set_alignments(self, below: List[List[str]], align: Align) -> None:
+    def _set_alignments(self, below: Sequence[Sequence[str]], align: Align) -> None:
         if isinstance(align, str):
             each, common = [], align
         else:
