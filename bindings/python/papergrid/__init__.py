@@ -141,7 +141,7 @@ class Table:
         if _BREAKING_BUT_ENDS.search(joined) or joined.count(_CELL_END) + joined.count(_ROW_END) != ends:
             joined = _ROW_END.join(_CELL_END.join(map(_spelled, row)) for row in texts)
         if self._count[1] > 0:
-            self._handle.push_rows(joined.encode(), ord(_CELL_END), ord(_ROW_END))
+            self._handle.push_rows((joined + _ROW_END).encode(), ord(_CELL_END), ord(_ROW_END))
 
     def _set_style(self, style: str, header: bool) -> None:
         it = STYLES[style]

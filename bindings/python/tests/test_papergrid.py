@@ -29,6 +29,8 @@ class Draws(unittest.TestCase):
 
     def test_empty(self):
         self.assertEqual(papergrid.draw([]), "")
+        self.assertEqual(papergrid.draw([[], []]), "")
+        self.assertEqual(papergrid.draw([["a"], [""]], header=False, style="ascii"), "+---+\n| a |\n+---+\n|   |\n+---+")
 
     def test_controls(self):
         self.assertEqual(
