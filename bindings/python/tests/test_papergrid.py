@@ -1,5 +1,6 @@
 """Tables drawn through the shared library. Pictures are those of the README, or worked out by hand."""
 
+import doctest
 import unittest
 
 import papergrid
@@ -89,6 +90,12 @@ class Refusals(unittest.TestCase):
             table.set("SetPaddings", "Global")
         table.set("SetAlignmentHorizontal", "Global", "Right")
         self.assertEqual(str(table).split("\n")[1], " Adacat  3")
+
+
+class Documents(unittest.TestCase):
+    def test_module(self):
+        tried = doctest.testmod(papergrid)
+        self.assertEqual((tried.failed, tried.attempted), (0, 2))
 
 
 if __name__ == "__main__":
