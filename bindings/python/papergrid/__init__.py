@@ -1,0 +1,238 @@
+"""Tables of texts whose columns line up, drawn by the library papergrid, which is proved.
+
+>>> import papergrid
+>>> print(papergrid.draw([["name", "age"], ["Ada", 3], ["Bo", 12]]))
+╭──────┬─────╮
+│ name │ age │
+├──────┼─────┤
+│ Ada  │   3 │
+│ Bo   │  12 │
+╰──────┴─────╯
+
+A `Table` is told rows of values, and draws them. Widths are in columns of a terminal, and heights in lines.
+"""
+
+import re
+from typing import Any, Iterable, List, NamedTuple, Optional, Sequence, Tuple, Union
+
+from . import _library
+from ._library import (
+    BadSetting,
+    Hidden,
+    NotTiled,
+    OutOfMemory,
+    OutOfTable,
+    PapergridError,
+    TooLarge,
+)
+from ._styles import STYLES
+
+__all__ = [
+    "BadSetting",
+    "Hidden",
+    "NotTiled",
+    "OutOfMemory",
+    "OutOfTable",
+    "PapergridError",
+    "Place",
+    "STYLES",
+    "Table",
+    "TooLarge",
+    "draw",
+]
+
+# What ends a cell and a row on the way to the library.
+_CELL_END, _ROW_END = "\x1f", "\x1e"
+
+# Characters that would break the lines of a table: control characters but a line feed, and those that turn the direction of a text.
+_BREAKING = re.compile("[\x00-\x09\x0b-\x1f\x7f-\x9f\u202a-\u202e\u2066-\u2069]")
+_BREAKING_BUT_ENDS = re.compile("[\x00-\x09\x0b-\x1d\x7f-\x9f\u202a-\u202e\u2066-\u2069]")
+_NAMED = {"\t": "\\t", "\r": "\\r"}
+
+# A sign, digits with groups of three or without, a fraction and an exponent.
+_NUMBER = re.compile(r"[+-]?(?:[0-9]{1,3}(?:,[0-9]{3})+|[0-9]+|(?=\.[0-9]))(?:\.[0-9]*)?(?:[eE][+-]?[0-9]+)?")
+
+_ALIGNMENTS = ("left", "center", "right")
+
+Align = Union[str, Sequence[str]]
+
+
+class Place(NamedTuple):
+    """Where a cell stands: its first column of the terminal, its first line, and how many of each it takes."""
+
+    column: int
+    line: int
+    width: int
+    height: int
+
+
+def _spelled(text: str) -> str:
+    """A text whose control characters are spelled."""
+
+    def spell(found: "re.Match[str]") -> str:
+        character = found[0]
+        code = ord(character)
+        return _NAMED.get(character) or (f"\\x{code:02x}" if code < 0x80 else f"\\u{{{code:x}}}")
+
+    return _BREAKING.sub(spell, text)
+
+
+def _text(value: Any) -> str:
+    return value if isinstance(value, str) else "" if value is None else str(value)
+
+
+def _joined(rows: Sequence[Sequence[Any]]) -> Tuple[Sequence[Sequence[str]], str]:
+    """The texts of rows of values, and all of them as one text."""
+    try:
+        # So where each value is a text no list is made anew.
+        return rows, _ROW_END.join(map(_CELL_END.join, rows))
+    except TypeError:
+        texts = [[_text(value) for value in row] for row in rows]
+        return texts, _ROW_END.join(map(_CELL_END.join, texts))
+
+
+def _is_numeric(column: Iterable[str]) -> bool:
+    """Whether each text is a number or empty, and one at least is a number."""
+    some = False
+    for text in column:
+        if text:
+            if not _NUMBER.fullmatch(text):
+                return False
+            some = True
+    return some
+
+
+class Table:
+    """A table of rows of values, as their texts.
+
+    rows: a list of rows, each a list of values; a value that is no text is shown as `str` has it, and None as an empty text.
+        Rows may be of unlike length: the table has as many columns as the longest one.
+    header: whether the first row is a head. In styles that have one a line stands below it, and `auto` passes it over.
+    style: one of `STYLES`.
+    align: `left`, `center`, `right`, or `auto`, by which columns of numbers stand on the right and others on the left;
+        or a list of these, one a column.
+    least: whether the widths and heights are those of the least total where cells span several columns or rows.
+
+    Control characters in texts are spelled, as `\\t` and `\\x1b`. A line feed begins a new line of its cell.
+    Raises ValueError for a style or an alignment that is none, and OutOfMemory.
+    """
+
+    def __init__(
+        self,
+        rows: Iterable[Iterable[Any]],
+        header: bool = True,
+        style: str = "rounded",
+        align: Align = "auto",
+        least: bool = False,
+    ) -> None:
+        if style not in STYLES:
+            raise ValueError(f"no style is named {style!r}; there are {', '.join(STYLES)}")
+        self._least = least
+        self._is_estimated = False
+        self._handle = _library.Handle()
+        texts, joined = _joined([row if isinstance(row, (list, tuple)) else list(row) for row in rows])
+        self._count = (len(texts), max(map(len, texts), default=0))
+        self._push(texts, joined)
+        self._set_style(style, header)
+        self._set_alignments(texts[1:] if header else texts, align)
+
+    def _push(self, texts: Sequence[Sequence[str]], joined: str) -> None:
+        ends = max(len(texts) - 1, 0) + sum(max(len(row) - 1, 0) for row in texts)
+        if _BREAKING_BUT_ENDS.search(joined) or joined.count(_CELL_END) + joined.count(_ROW_END) != ends:
+            joined = _ROW_END.join(_CELL_END.join(map(_spelled, row)) for row in texts)
+        if self._count[1] > 0:
+            self._handle.push_rows((joined + _ROW_END).encode(), ord(_CELL_END), ord(_ROW_END))
+
+    def _set_style(self, style: str, header: bool) -> None:
+        it = STYLES[style]
+        self._handle.set_borders([ord(c) if c else 0 for c in it.frame])
+        line = it.head if header else it.line
+        if line and self._count[0] > 1:
+            self._handle.insert_horizontal_line(1, [ord(c) if c else 0 for c in line])
+        self._handle.set_padding(_library.ALL, it.padding, it.padding, 0, 0)
+
+    def _set_alignments(self, below: Sequence[Sequence[str]], align: Align) -> None:
+        if isinstance(align, str):
+            each, common = [], align
+        else:
+            each, common = list(align), "left"
+        for name in [*each, common]:
+            if name not in _ALIGNMENTS and name != "auto":
+                raise ValueError(f"no alignment is named {name!r}; there are left, center, right and auto")
+        base = "left" if common == "auto" else common
+        self._handle.set_alignment(_library.ALL, _ALIGNMENTS.index(base))
+        for column in range(self._count[1]):
+            name = each[column] if column < len(each) else common
+            if name == "auto":
+                name = "right" if _is_numeric(row[column] for row in below if column < len(row)) else "left"
+            if name != base:
+                self._handle.set_alignment(_library.column(column), _ALIGNMENTS.index(name))
+
+    def span(self, row: int, column: int, rows: int = 1, columns: int = 1) -> "Table":
+        """Lets a cell span so many rows and columns. The cells under it are not drawn."""
+        self._is_estimated = False
+        self._handle.set_column_span(row, column, columns)
+        self._handle.set_row_span(row, column, rows)
+        return self
+
+    def set(self, name: str, *values: Any) -> "Table":
+        """Any setting by its name and values, as a JSON document has it: `set("SetPadding", ["Column", 0], ...)`.
+
+        Raises BadSetting where it is none.
+        """
+        self._is_estimated = False
+        self._handle.set(name, *values)
+        return self
+
+    def __str__(self) -> str:
+        """The picture, without a line feed at its end. Raises OutOfTable, NotTiled, TooLarge or OutOfMemory."""
+        return self._handle.draw(self._least).decode()[:-1]
+
+    def _estimate(self) -> Tuple[int, int]:
+        if not self._is_estimated:
+            self._totals = self._handle.estimate(self._least)
+            self._is_estimated = True
+        return self._totals
+
+    @property
+    def width(self) -> int:
+        """How many columns of a terminal the table takes, with its lines."""
+        return self._estimate()[0]
+
+    @property
+    def height(self) -> int:
+        """How many lines it takes."""
+        return self._estimate()[1]
+
+    @property
+    def widths(self) -> List[int]:
+        """The width of each column, without lines."""
+        self._estimate()
+        return self._handle.widths()
+
+    @property
+    def heights(self) -> List[int]:
+        """The height of each row, without lines."""
+        self._estimate()
+        return self._handle.heights()
+
+    def place(self, row: int, column: int) -> Place:
+        """Where a cell stands. Raises Hidden for a position under a span, and OutOfTable."""
+        self._estimate()
+        return Place(*self._handle.place(row, column))
+
+    def cell_at(self, column: int, line: int) -> Optional[Tuple[int, int]]:
+        """The row and the column of the cell at a column of the terminal in a line, both counted from 0; None on a line of the table."""
+        self._estimate()
+        return self._handle.cell_at(column, line)
+
+
+def draw(
+    rows: Iterable[Iterable[Any]],
+    header: bool = True,
+    style: str = "rounded",
+    align: Align = "auto",
+    least: bool = False,
+) -> str:
+    """The picture of a `Table` of these."""
+    return str(Table(rows, header, style, align, least))
