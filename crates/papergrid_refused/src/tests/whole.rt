@@ -7,8 +7,8 @@ use super::sizes::{in_table, rows, settings};
 use super::{CallNumber, call, only, says};
 use papergrid::records::vec_records::VecRecords;
 use papergrid::{
-    ReadSource, RunEnd, RunFault, Sizing, WriteSink, explain, layout, layout_least, run, run_keeping,
-    run_table,
+    ReadSource, RunEnd, RunFault, Sizing, WriteSink, explain, layout, layout_least, run,
+    run_keeping, run_table,
 };
 use papergrid_config::Setting;
 use std::alloc::{AllocError, Global};
