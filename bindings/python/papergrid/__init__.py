@@ -13,7 +13,7 @@ A `Table` is told rows of values, and draws them. Widths are in columns of a ter
 """
 
 import re
-from typing import Any, Iterable, List, NamedTuple, Optional, Sequence, Tuple, Union
+from typing import Any, Iterable, NamedTuple, Optional, Sequence, Tuple, Union
 
 from . import _library
 from ._library import (
@@ -203,18 +203,6 @@ class Table:
     def height(self) -> int:
         """How many lines it takes."""
         return self._estimate()[1]
-
-    @property
-    def widths(self) -> List[int]:
-        """The width of each column, without lines."""
-        self._estimate()
-        return self._handle.widths()
-
-    @property
-    def heights(self) -> List[int]:
-        """The height of each row, without lines."""
-        self._estimate()
-        return self._handle.heights()
 
     def place(self, row: int, column: int) -> Place:
         """Where a cell stands. Raises Hidden for a position under a span, and OutOfTable."""

@@ -5,7 +5,7 @@ import ctypes.util
 import json
 import os
 import pathlib
-from typing import Any, List, Optional, Sequence, Tuple
+from typing import Any, Optional, Sequence, Tuple
 
 
 class PapergridError(Exception):
@@ -109,8 +109,6 @@ _FUNCTIONS = {
     "set_column_span": [_SIZE, _SIZE, _SIZE],
     "set_row_span": [_SIZE, _SIZE, _SIZE],
     "estimate": [_NUMBER, _SIZES, _SIZES],
-    "widths": [_SIZES, _SIZE, _SIZES],
-    "heights": [_SIZES, _SIZE, _SIZES],
     "place": [_SIZE, _SIZE, ctypes.POINTER(_Place)],
     "cell_at": [_SIZE, _SIZE, ctypes.POINTER(_Position)],
     "draw": [_NUMBER, _SIZES, ctypes.POINTER(_Position)],
@@ -177,22 +175,6 @@ class Handle:
         width, height = _SIZE(), _SIZE()
         _check(_IT.papergrid_estimate(self._it, int(least), width, height))
         return width.value, height.value
-
-    def _sizes(self, function: Any) -> List[int]:
-        count = _SIZE()
-        number = function(self._it, (_SIZE * 0)(), 0, count)
-        if count.value == 0:
-            _check(number)
-            return []
-        sizes = (_SIZE * count.value)()
-        _check(function(self._it, sizes, count.value, count))
-        return list(sizes)
-
-    def widths(self) -> List[int]:
-        return self._sizes(_IT.papergrid_widths)
-
-    def heights(self) -> List[int]:
-        return self._sizes(_IT.papergrid_heights)
 
     def place(self, row: int, column: int) -> Tuple[int, int, int, int]:
         place = _Place()
