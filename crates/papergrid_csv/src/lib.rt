@@ -22,6 +22,3 @@ pub use request::{Alignment, ColumnName, Request, Span};
 pub use run::{CsvEnd, run_csv};
 pub use style::Style;
 pub use within::run_csv_within;
-
-#[cfg(test)]
-mod tests;
