@@ -3,8 +3,10 @@
 use crate::csv_rows::{shape_of, shortened};
 use crate::csv_tables::{aligned, csv_table, csv_table_within};
 use papergrid::WriteSink;
-use papergrid_csv::{CsvEnd, Request, RowsError, Style};
-use std::alloc::Global;
+use papergrid::config::Position;
+use papergrid::grid::Junctions;
+use papergrid_csv::{Alignment, CsvEnd, Request, RowsError, Span, Style};
+use std::alloc::{AllocError, Global};
 
 /// The file `examples/pets.csv`.
 const PETS: &[u8] = b"name,kind,age\nAda,cat,3\nBo,dog,12\n";
@@ -43,6 +45,53 @@ fn tables(rt: HostRuntime) {
             && ends(alloc, &rounded, b"", CsvEnd::Drawn, "")
             && ends(alloc, &rounded, b"a,\"b\n", CsvEnd::Unclosed, "")
     );
+}
+
+/// A span over two columns, with lines between all rows and crossings that fit it.
+const FITTED: &str = "\
+╭───────╮\n\
+│ ab    │\n\
+├───┬───┤\n\
+│ c │ d │\n\
+╰───┴───╯\n";
+
+/// Whether round corners and lines between all rows, which no style has together, are drawn so.
+fn is_ruled(alloc: Global) -> Result<bool, AllocError> {
+    let mut request = Request::in_style(alloc, Style::Rounded);
+    request.head = None;
+    request.spans.push(Span {
+        position: Position::new(0, 0),
+        rows: 1,
+        columns: 2,
+    })?;
+    request.frame.horizontal = Some('─');
+    request.frame.left_intersection = Some('├');
+    request.frame.intersection = Some('┼');
+    request.frame.right_intersection = Some('┤');
+    request.junctions = Junctions::of_frame(&request.frame);
+    Ok(ends(alloc, &request, b"ab,\nc,d\n", CsvEnd::Drawn, FITTED))
+}
+
+/// A column whose head alone is a number, without a line below it.
+const HEADED: &str = "\
+╭─────╮\n\
+│ 20  │\n\
+│ abc │\n\
+╰─────╯\n";
+
+/// Whether round corners without a line below the head, which no style has together, are drawn so.
+fn is_headed(alloc: Global) -> bool {
+    let mut request = Request::in_style(alloc, Style::Rounded);
+    request.head = None;
+    request.alignment = Alignment::Auto;
+    ends(alloc, &request, b"20\nabc\n", CsvEnd::Drawn, HEADED)
+}
+
+/// What no option of the program asks for.
+#[test]
+fn frames_of_a_caller(rt: HostRuntime) {
+    let alloc = rt.alloc();
+    assert!(rt; is_ruled(alloc) == Ok(true) && is_headed(alloc));
 }
 
 /// Lines take three columns, paddings four, and the first column one. So of 12 columns four are left for the second column,
