@@ -22,8 +22,8 @@ use Rattle.papergrid.specs.declared.estimate.Sizes.{Sizes}
 use Rattle.papergrid_layout.specs.declared.sizing.Sizing.{Sizing}
 use Rattle.papergrid_layout.specs.declared.sizing.Sizing.TheVariants.{ByShares, Least}
 use Rattle.papergrid.specs.Estimates.{Estimate, OutOfTable, TooLarge, Sized, unless_large, unless_out, sizes_by, certificate_by, totalled_sizes, estimate_by}
-use Rattle.papergrid.specs.Totals.{AreSizesBy, HasNone}
-use Rattle.papergrid.specs.ForProofs.Seen.{GivesEstimate, IsFoundCertificate, places_seen, total_with_lines}
+use Rattle.papergrid_layout.specs.Certificates.{AreSizesBy, AreTooLargeBy, IsFoundCertificate}
+use Rattle.papergrid.specs.ForProofs.Seen.{GivesEstimate, places_seen, total_with_lines}
 
 -- ---- tests and options
 
@@ -58,7 +58,7 @@ are_found : (sizing : Sizing) (problem : Problem) (sizes : List ℕ) → AreSize
 are_found ByShares problem sizes are = record { none_out = are.none_out; exact = are.exact; one_each = are.fits.one_each; total = are.total }
 are_found Least problem sizes are = record { none_out = are.none_out; exact = exact-least problem sizes are; one_each = are.least.fits.one_each; total = are.total }
 
-none_large : (sizing : Sizing) (problem : Problem) → HasNone sizing problem → 2 ^ 64 ≤ total_of problem (sizes_by sizing problem)
+none_large : (sizing : Sizing) (problem : Problem) → AreTooLargeBy sizing problem → 2 ^ 64 ≤ total_of problem (sizes_by sizing problem)
 none_large ByShares problem none = none.too_large
 none_large Least problem none = none.too_large
 
@@ -91,7 +91,7 @@ module _ {C : Type 0} (grid : Grid) (measure : C → ℕ × ℕ) (columns : ℕ)
         estimate_inside none
         ∙ large (sizes_by sizing across) (sizes_by sizing down) (total_of across (sizes_by sizing across)) (total_of down (sizes_by sizing down)) (certificate_by sizing across) (certificate_by sizing down) past
 
-    pub estimate_none : first_out_of_table grid measure columns cells ≡ None → HasNone sizing across ⊎ HasNone sizing down → estimate_by sizing grid measure columns cells ≡ TooLarge
+    pub estimate_none : first_out_of_table grid measure columns cells ≡ None → AreTooLargeBy sizing across ⊎ AreTooLargeBy sizing down → estimate_by sizing grid measure columns cells ≡ TooLarge
     estimate_none none too_large = estimate_large none (elim too_large [ inl wide ↦ inl (none_large sizing across wide) | inr high ↦ inr (none_large sizing down high) ])
 
     module _ (certified : Certified) (are : AreCertifiedWhere grid measure columns cells (AreSizesBy sizing) (IsFoundCertificate sizing) certified) where
@@ -133,7 +133,7 @@ module _ {A B : Type 0} (grid : Grid) (v : A → B) (f : B → ℕ × ℕ) (colu
 
 -- why there are no certified sizes of the cells told is why these have no estimate
 pub refused : {C : Type 0} (Tells : List (List C) → Type 0) (sizing : Sizing) (grid : Grid) (measure : C → ℕ × ℕ) (columns : ℕ) (e : LayoutError)
-    → UnlessMemoryError e ((cells : List (List C)) × Tells cells × IsBothRefusedWhere grid measure columns cells (HasNone sizing) e)
+    → UnlessMemoryError e ((cells : List (List C)) × Tells cells × IsBothRefusedWhere grid measure columns cells (AreTooLargeBy sizing) e)
     → GivesEstimate (Err e) (λ answer. (cells : List (List C)) × Tells cells × (answer ≡ estimate_by sizing grid measure columns cells))
 refused Tells sizing grid measure columns (layout_errors.OutOfTable place) is = (is.0, is.1, sym (estimate_out grid measure columns is.0 sizing place is.2))
 refused Tells sizing grid measure columns layout_errors.TooLarge is = (is.0, is.1, sym (estimate_none grid measure columns is.0 sizing is.2.0 is.2.1))

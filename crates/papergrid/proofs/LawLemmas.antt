@@ -14,9 +14,9 @@ use Rattle.papergrid_tracks.specs.Ranges.{IsInTable, first_out, place_of}
 use Rattle.papergrid_tracks.specs.Sizes.{sizes_of}
 use Rattle.papergrid_tracks.proofs.LaminarLemmas.{Decides-is_laminar, SomeCross-from_test}
 use Rattle.papergrid_tracks.proofs.OutLemmas as out_lemmas
-use Rattle.papergrid_tracks.proofs.Theorems.{AreSizes-sizes_of, Fits-sizes_of, IsCertificate-certificate_cells_of, NoneHolds-sizes_of}
+use Rattle.papergrid_tracks.proofs.Theorems.{AreSizes-sizes_of, Fits-sizes_of, IsCertificate-certificate_cells_of, AreSizesTooLarge-sizes_of}
 use Rattle.papergrid_tracks.specs.Least.{least_of}
-use Rattle.papergrid_tracks.proofs.LeastLemmas.{AreLeastSizes-least_of, AreCriticalPath-critical_path, IsLeast-least_of, NoneFits-least_of}
+use Rattle.papergrid_tracks.proofs.LeastLemmas.{AreLeastSizes-least_of, AreCriticalPath-critical_path, IsLeast-least_of, AreLeastTooLarge-least_of}
 use Rattle.papergrid_values.specs.Lines.{all_lines}
 use Rattle.papergrid_walk.specs.Cells.{demand_by, visible_cells}
 use Rattle.papergrid_maps.specs.Grids.{Grid}
@@ -28,7 +28,8 @@ use Rattle.papergrid_layout.specs.declared.sizing.Sizing.TheVariants.{ByShares, 
 use Rattle.papergrid.specs.Estimates.{Estimate, OutOfTable, TooLarge, Sized, unless_large, unless_out, text_measure, sizes_by, certificate_by, estimate_by, estimate_of}
 use Rattle.papergrid.specs.Grids.{grid_of}
 use Rattle.papergrid.specs.Scripts.{Table}
-use Rattle.papergrid.specs.Totals.{AreSized, AreSizesBy, HasNone, IsTableTooLarge, IsCertificateBy, problem_of_table}
+use Rattle.papergrid.specs.Totals.{AreSized, IsTableTooLarge, IsCertificateBy, problem_of_table}
+use Rattle.papergrid_layout.specs.Certificates.{AreSizesBy, AreTooLargeBy}
 use Rattle.papergrid.proofs.EstimateLemmas.{estimate_large, estimate_out}
 use Rattle.papergrid.proofs.GridLemmas.{grid_covers, grid_draws}
 
@@ -39,9 +40,9 @@ module _ (problem : Problem) (table : All (IsInTable problem.count) problem.dema
   sizes_are ByShares small = AreSizes-sizes_of problem table (sizes_of problem) refl small
   sizes_are Least small = AreLeastSizes-least_of problem table inside small
 
-  has_none : (sizing : Sizing) → 2 ^ 64 ≤ total_of problem (sizes_by sizing problem) → HasNone sizing problem
-  has_none ByShares past = NoneHolds-sizes_of problem table (λ small. absurd (omega arith))
-  has_none Least past = NoneFits-least_of problem table inside past
+  has_none : (sizing : Sizing) → 2 ^ 64 ≤ total_of problem (sizes_by sizing problem) → AreTooLargeBy sizing problem
+  has_none ByShares past = AreSizesTooLarge-sizes_of problem table (λ small. absurd (omega arith))
+  has_none Least past = AreLeastTooLarge-least_of problem table inside past
 
   shares_certificate : total_of problem (sizes_of problem) < 2 ^ 64 → IsCertificateBy ByShares problem (certificate_by_shares problem)
   shares_certificate small = by_test (is_laminar problem.demands) refl

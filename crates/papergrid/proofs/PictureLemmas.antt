@@ -6,9 +6,9 @@ use Rattle.std.specs.declared.alloc.AllocError.{AllocError}
 use Rattle.std.proofs.lemmas.Option.{get_or_from_slice_get, slice_get-get_or, slice_get_cases}
 use Rattle.papergrid_values.specs.declared.position.Position.{Position}
 use Rattle.papergrid_values.specs.declared.direction.Direction.TheVariants.{Columns, Rows}
-use Rattle.papergrid_tracks.specs.Answers.{AreSizes, NoneHolds}
+use Rattle.papergrid_tracks.specs.Answers.{AreSizes, AreSizesTooLarge}
 use Rattle.papergrid_tracks.specs.Fits.{Fits}
-use Rattle.papergrid_tracks.specs.LeastAnswers.{AreLeastSizes, NoneFits}
+use Rattle.papergrid_tracks.specs.LeastAnswers.{AreLeastSizes, AreLeastTooLarge}
 use Rattle.papergrid_tracks.specs.Problem.{Problem}
 use Rattle.papergrid_tracks.specs.declared.error.LayoutError.{LayoutError}
 use Rattle.papergrid_tracks.specs.declared.error.LayoutError.TheVariants as layout_errors
@@ -73,8 +73,8 @@ module _ {A : Type 0} (view : A → List ℕ) (config : SpannedConfig) (columns 
   -- why there are none
   pub no-sizes-seen : (sizing : Sizing) (e : LayoutError) → AreNoSizesBySizing config (λ x. text_measure (view x)) columns cells sizing e →
       AreNoSizesBySizing config text_measure columns texts sizing e
-  no-sizes-seen ByShares e is = refused-seen NoneHolds e is
-  no-sizes-seen Least e is = refused-seen NoneFits e is
+  no-sizes-seen ByShares e is = refused-seen AreSizesTooLarge e is
+  no-sizes-seen Least e is = refused-seen AreLeastTooLarge e is
 
 -- the lines at a position are those of the text that the rows have there
 pub lines-of-rows : (texts : List (List (List ℕ))) (p : Position) → AreLinesAt (λ text. text) texts p (lines_at text_lines texts p)

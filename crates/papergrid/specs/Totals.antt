@@ -1,9 +1,9 @@
 -- What the answers for a table are, apart from how they are found.
 use Rattle.std.specs.Prelude.{◌≡◌, ◌⊎◌, ℕ, ◌+◌, ◌^◌, ◌<◌, List, Option, Some, None, length, sum}
 use Rattle.papergrid_values.specs.declared.position.Position.{Position}
-use Rattle.papergrid_tracks.specs.Answers.{AreCertifying, AreSizes, NoneCertify, NoneHolds}
+use Rattle.papergrid_tracks.specs.Answers.{AreCertifying, NoneCertify}
 use Rattle.papergrid_tracks.specs.Problem.{Problem}
-use Rattle.papergrid_tracks.specs.LeastAnswers.{AreLeastSizes, AreCriticalPath, NoneFits}
+use Rattle.papergrid_tracks.specs.LeastAnswers.{AreCriticalPath}
 use Rattle.papergrid_values.specs.declared.direction.Direction.{Direction}
 use Rattle.papergrid_values.specs.declared.direction.Direction.TheVariants.{Columns, Rows}
 use Rattle.papergrid_values.specs.Lines.{all_lines}
@@ -12,6 +12,7 @@ use Rattle.papergrid_config.specs.declared.setting.Setting.{Setting}
 use Rattle.papergrid_walk.specs.Cells.{problem_of}
 use Rattle.papergrid_config.specs.Grids.{line_along}
 use Rattle.papergrid_layout.specs.Answers.{HoldAlong, first_out_of_table}
+use Rattle.papergrid_layout.specs.Certificates.{AreSizesBy, AreTooLargeBy}
 use Rattle.papergrid_layout.specs.declared.sizing.Sizing.{Sizing}
 use Rattle.papergrid_layout.specs.declared.sizing.Sizing.TheVariants.{ByShares, Least}
 use Rattle.papergrid.specs.Estimates.{text_measure}
@@ -26,20 +27,10 @@ lines_along direction settings count = all_lines (line_along (characters_of sett
 abbrev pub problem_of_table : Table → Direction → Problem
 problem_of_table table = problem_of (grid_of table.settings) text_measure table.columns table.rows
 
--- by shares the sizes are too large along a direction; of least sizes, so is every list that fits
-abbrev pub HasNone : Sizing → Problem → Type 0
-HasNone ByShares = NoneHolds
-HasNone Least = NoneFits
-
 -- no visible cell overflows the table, and the sizes along one direction with its lines do not fit 64 bits
 pub record IsTableTooLarge (sizing : Sizing) (table : Table) : Type 0 where
   pub inside : first_out_of_table (grid_of table.settings) text_measure table.columns table.rows ≡ None
-  pub too_large : HasNone sizing (problem_of_table table Columns) ⊎ HasNone sizing (problem_of_table table Rows)
-
--- exactly the sizes by shares, or the least sizes, and what holds of them
-abbrev pub AreSizesBy : Sizing → Problem → List ℕ → Type 0
-AreSizesBy ByShares = AreSizes
-AreSizesBy Least = AreLeastSizes
+  pub too_large : AreTooLargeBy sizing (problem_of_table table Columns) ⊎ AreTooLargeBy sizing (problem_of_table table Rows)
 
 -- the positions of the cells that certify that the sizes are least. By shares there are none where two longer ranges are
 -- neither nested nor disjoint, and only there; least sizes always have them

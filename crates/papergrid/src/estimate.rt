@@ -6,10 +6,10 @@ ghost use Rattle.papergrid_config.specs.Grids.{spanned_grid};
 ghost use Rattle.papergrid_walk.specs.Measures.{line_measure};
 ghost use Rattle.papergrid_layout.specs.Answers.{UnlessMemory};
 ghost use Rattle.papergrid.specs.Estimates.{estimate_by};
-ghost use Rattle.papergrid.specs.ForProofs.Seen.{GivesEstimate, IsCertifiedBy, total_with_lines};
+ghost use Rattle.papergrid.specs.ForProofs.Seen.{GivesEstimate, total_with_lines};
 
 use papergrid_config::SpannedConfig;
-use papergrid_layout::certificates::{Certified, certified_least, certified_sizes};
+use papergrid_layout::certificates::{Certified, certify};
 use papergrid_layout::{LayoutResult, Sizing};
 use papergrid_text::{IntoRecords, Records};
 use std::alloc::Global;
@@ -46,29 +46,8 @@ where
         × (answer ≡ estimate_by sizing (spanned_grid cfg.now) (line_measure R.Iter.Cell.text)
         (R.columns records) cells)) }
 {
-    let certified = certify(alloc, sizing, records, cfg)?;
+    let certified = certify(alloc, records, cfg, sizing)?;
     Ok(with_totals(certified, cfg))
-}
-
-/// The sizes that are chosen so, with the cells that certify them.
-fn certify<R>(
-    alloc: Global,
-    sizing: Sizing,
-    records: R,
-    cfg: &SpannedConfig,
-) -> LayoutResult<Certified>
-where
-    R: Records + Drop,
-    <<R as Records>::Iter as IntoRecords>::Cell: AsStr + Drop,
-    requires { R.is_lawful records }
-    ensures { UnlessMemory result ((cells : List (List R.Iter.Cell)) × R.tells records cells
-        × IsCertifiedBy sizing (spanned_grid cfg.now) (line_measure R.Iter.Cell.text)
-        (R.columns records) cells result) }
-{
-    match sizing {
-        Sizing::ByShares => certified_sizes(alloc, records, cfg),
-        Sizing::Least => certified_least(alloc, records, cfg),
-    }
 }
 
 /// The sizes, with the totals by the lines of the configuration.

@@ -7,12 +7,12 @@ use Rattle.papergrid_values.specs.declared.direction.Direction.{Direction}
 use Rattle.papergrid_values.specs.declared.direction.Direction.TheVariants.{Columns, Rows}
 use Rattle.papergrid_tracks.specs.declared.error.LayoutError.{LayoutError}
 use Rattle.papergrid_tracks.specs.declared.error.LayoutError.TheVariants.{OutOfTable, TooLarge, Memory}
-use Rattle.papergrid_tracks.specs.Answers.{AnswersWhere, IsRefusedWhere, NoneHolds}
+use Rattle.papergrid_tracks.specs.Answers.{AnswersWhere, IsRefusedWhere, AreSizesTooLarge}
 use Rattle.papergrid_tracks.specs.Problem.{Problem}
 use Rattle.papergrid_tracks.specs.Ranges.{place_of}
 use Rattle.papergrid_config.specs.Grids.{spanned_grid}
 use Rattle.papergrid_config.specs.declared.spanned.SpannedConfig.{SpannedConfig}
-use Rattle.papergrid_tracks.specs.LeastAnswers.{AreLeastSizes, NoneFits}
+use Rattle.papergrid_tracks.specs.LeastAnswers.{AreLeastSizes, AreLeastTooLarge}
 use Rattle.papergrid_walk.specs.Cells.{demand_by, demands_of, problem_of, visible_cells}
 use Rattle.papergrid_maps.specs.Grids.{Grid}
 use Rattle.papergrid_layout.specs.Answers.{AnswersBothWhere, HoldAlong, IsBothRefusedWhere, UnlessMemory, UnlessMemoryError}
@@ -79,7 +79,7 @@ module _ {A B : Type 0} (grid : Grid) (v : A → B) (f : B → ℕ × ℕ) (colu
   pub laid_told : (result : Result IterGridDimension LayoutError)
       → UnlessMemory result ((cells : List (List A)) × (map (map v) cells ≡ rows) × IsLaidOut grid (λ x. f (v x)) columns cells result) → IsLaidOut grid f columns rows result
   laid_told (Ok dimension) is = both_told is.0 is.1 _ _ _ is.2
-  laid_told (Err e) is = both_refused NoneHolds e is
+  laid_told (Err e) is = both_refused AreSizesTooLarge e is
 
 -- the table of the cells told, of least sizes, is that of the rows
 pub table_told : {A B : Type 0} (config : SpannedConfig) (v : A → B) (f : B → ℕ × ℕ) (columns : ℕ) (rows : List (List B)) (result : Result TableParts LayoutError)
@@ -87,6 +87,6 @@ pub table_told : {A B : Type 0} (config : SpannedConfig) (v : A → B) (f : B �
     → UnlessMemory result (IsTableOf config f columns rows Least result)
 table_told config v f columns rows (Ok table) is =
     (is.2.0, both_told (spanned_grid config) v f columns rows is.0 is.1 AreLeastSizes table.widths table.heights is.2.1)
-table_told config v f columns rows (Err (OutOfTable place)) is = both_refused (spanned_grid config) v f columns rows NoneFits (OutOfTable place) is
-table_told config v f columns rows (Err TooLarge) is = both_refused (spanned_grid config) v f columns rows NoneFits TooLarge is
+table_told config v f columns rows (Err (OutOfTable place)) is = both_refused (spanned_grid config) v f columns rows AreLeastTooLarge (OutOfTable place) is
+table_told config v f columns rows (Err TooLarge) is = both_refused (spanned_grid config) v f columns rows AreLeastTooLarge TooLarge is
 table_told config v f columns rows (Err (Memory e)) is = tt

@@ -4,7 +4,7 @@ ghost use Rattle.std.specs.Prelude.{◌≡◌, MatchResult, slice_index, string_
 ghost use Rattle.papergrid_tracks.specs.Answers.{IsRefused};
 ghost use Rattle.papergrid_tracks.specs.Sizes.{sizes_of};
 ghost use Rattle.papergrid_layout.specs.Answers.{AnswersBothWhere, AreBothSized};
-ghost use Rattle.papergrid_tracks.specs.LeastAnswers.{AreLeastSizes, NoneFits};
+ghost use Rattle.papergrid_tracks.specs.LeastAnswers.{AreLeastSizes, AreLeastTooLarge};
 ghost use Rattle.papergrid_text.specs.HeldRows.{column_count, rows_held};
 ghost use Rattle.papergrid_values.specs.declared.direction.Direction.TheVariants.{Columns};
 ghost use Rattle.papergrid_walk.specs.Cells.{problem_of};
@@ -59,7 +59,7 @@ pub fn of_crossing(
     config: &SpannedConfig,
 ) -> Result<(Vec<usize>, Vec<usize>), LayoutError>
     ensures { AnswersBothWhere (spanned_grid config.now) text_measure 3 (cells_of rows.now)
-        NoneFits (λ problem sizes. AreLeastSizes problem sizes.items) result }
+        AreLeastTooLarge (λ problem sizes. AreLeastSizes problem sizes.items) result }
 {
     let mut dimension = LeastGridDimension::new(alloc);
     dimension.estimate(IterRecords::new(rows, 3, None), config)?;

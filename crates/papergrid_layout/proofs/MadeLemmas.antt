@@ -21,7 +21,7 @@ module _ {C : Type 0} (sizing : Sizing) (config : SpannedConfig) (measure : C �
   have-room Least are = least-have-room (spanned_grid config) measure columns cells widths heights are
 
   -- the totals of sizes that are chosen fit
-  chosen-fit : AreSizesBySizing config measure columns cells sizing widths heights → (direction : Direction) →
+  pub chosen-fit : AreSizesBySizing config measure columns cells sizing widths heights → (direction : Direction) →
       total_along (view_of (record { config = config; widths = widths; heights = heights })) direction < 2 ^ 64
   chosen-fit are direction =
       let have = have-room sizing are in

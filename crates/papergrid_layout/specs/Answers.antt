@@ -4,9 +4,9 @@ use Rattle.papergrid_values.specs.declared.position.Position.{Position}
 use Rattle.papergrid_values.specs.declared.direction.Direction.TheVariants.{Columns, Rows}
 use Rattle.papergrid_tracks.specs.declared.error.LayoutError.{LayoutError}
 use Rattle.papergrid_tracks.specs.declared.error.LayoutError.TheVariants.{OutOfTable, TooLarge, Memory}
-use Rattle.papergrid_tracks.specs.Answers.{AreSizes, NoneHolds}
+use Rattle.papergrid_tracks.specs.Answers.{AreSizes, AreSizesTooLarge}
 use Rattle.papergrid_tracks.specs.Problem.{Problem}
-use Rattle.papergrid_tracks.specs.LeastAnswers.{AreLeastSizes, NoneFits}
+use Rattle.papergrid_tracks.specs.LeastAnswers.{AreLeastSizes, AreLeastTooLarge}
 use Rattle.papergrid_walk.specs.Cells.{problem_of, visible_cells}
 use Rattle.papergrid_maps.specs.Grids.{Grid}
 
@@ -53,11 +53,11 @@ module _ {C : Type 0} (grid : Grid) (measure : C → ℕ × ℕ) (columns : ℕ)
 
   -- the same, where the sizes along that direction are too large
   abbrev pub IsBothRefused : LayoutError → Type 0
-  IsBothRefused e = IsBothRefusedWhere NoneHolds e
+  IsBothRefused e = IsBothRefusedWhere AreSizesTooLarge e
 
   -- the same, where all sizes that fit are too large along that direction
   abbrev pub HaveNoLeast : LayoutError → Type 0
-  HaveNoLeast e = IsBothRefusedWhere NoneFits e
+  HaveNoLeast e = IsBothRefusedWhere AreLeastTooLarge e
 
   -- what is found along both directions, or why there is none
   abbrev pub AnswersBothWhere : {A : Type 0} → (Problem → Type 0) → (Problem → A → Type 0) → Result (A × A) LayoutError → Type 0
@@ -66,4 +66,4 @@ module _ {C : Type 0} (grid : Grid) (measure : C → ℕ × ℕ) (columns : ℕ)
 
   -- the widths and the heights, or why there are none
   abbrev pub AreBothSized : {Z : Type 0} → Result (Vec ℕ Z × Vec ℕ Z) LayoutError → Type 0
-  AreBothSized {Z} result = AnswersBothWhere NoneHolds (λ problem (sizes : Vec ℕ Z). AreSizes problem sizes.items) result
+  AreBothSized {Z} result = AnswersBothWhere AreSizesTooLarge (λ problem (sizes : Vec ℕ Z). AreSizes problem sizes.items) result

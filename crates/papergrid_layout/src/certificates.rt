@@ -9,11 +9,13 @@ ghost use Rattle.papergrid_walk.specs.Cells.{problem_of};
 ghost use Rattle.papergrid_config.specs.Grids.{spanned_grid};
 ghost use Rattle.papergrid_walk.specs.Measures.{line_measure};
 ghost use Rattle.papergrid_layout.specs.Answers.{UnlessMemory};
-ghost use Rattle.papergrid_layout.specs.Certificates.{IsCertified, IsCertifiedLeast, IsChecked};
+ghost use Rattle.papergrid_layout.specs.Certificates.{IsCertifiedBy, IsChecked};
+ghost use Rattle.papergrid_layout.specs.declared.sizing.Sizing.TheVariants as sizings;
 
 use crate::along::solve_along;
 use crate::both::solve_both;
 use crate::check::check;
+use crate::sizing::Sizing;
 use papergrid_config::SpannedConfig;
 use papergrid_text::{IntoRecords, Records};
 use papergrid_tracks::{ByLeastTotal, ByShares, LayoutError};
@@ -207,9 +209,10 @@ pub struct Certified {
     pub height_witness: Option<Vec<Position>>,
 }
 
-/// The sizes that `IterGridDimension` estimates, and the certificates that `width_witness` and
-/// `height_witness` give, by one walk over the records: none along a direction where two longer
-/// ranges are neither nested nor disjoint.
+/// The sizes that are chosen so, and the cells that certify them, by one walk over the records. By shares they are what
+/// `IterGridDimension` estimates, with the cells of `width_witness` and `height_witness`: none along a direction where two longer
+/// ranges are neither nested nor disjoint. The least ones are those of `LeastGridDimension`, with the cells of
+/// `width_certificate` and `height_certificate`.
 ///
 /// Condition: the records are lawful: they tell one finite list of rows, as each vector of
 /// rows does.
@@ -217,7 +220,27 @@ pub struct Certified {
 /// # Errors
 ///
 /// As those of the estimate.
-pub fn certified_sizes<R: Records + Drop>(
+pub fn certify<R: Records + Drop>(
+    alloc: Global,
+    records: R,
+    config: &SpannedConfig,
+    sizing: Sizing,
+) -> Result<Certified, LayoutError>
+where
+    <<R as Records>::Iter as IntoRecords>::Cell: AsStr + Drop,
+    requires { R.is_lawful records }
+    ensures { UnlessMemory result ((cells : List (List R.Iter.Cell)) × R.tells records cells
+        × IsCertifiedBy (spanned_grid config.now) (line_measure R.Iter.Cell.text)
+        (R.columns records) cells sizing result) }
+{
+    match sizing {
+        Sizing::ByShares => certified_by_shares(alloc, records, config),
+        Sizing::Least => certified_least(alloc, records, config),
+    }
+}
+
+/// The sizes by shares with their certificates.
+fn certified_by_shares<R: Records + Drop>(
     alloc: Global,
     records: R,
     config: &SpannedConfig,
@@ -226,8 +249,8 @@ where
     <<R as Records>::Iter as IntoRecords>::Cell: AsStr + Drop,
     requires { R.is_lawful records }
     ensures { UnlessMemory result ((cells : List (List R.Iter.Cell)) × R.tells records cells
-        × IsCertified (spanned_grid config.now) (line_measure R.Iter.Cell.text)
-        (R.columns records) cells result) }
+        × IsCertifiedBy (spanned_grid config.now) (line_measure R.Iter.Cell.text)
+        (R.columns records) cells sizings.ByShares result) }
 {
     let (across, down) = solve_both::<ByShares, ByLines, _, _>(alloc, records, config, true)?;
     Ok(Certified {
@@ -238,16 +261,8 @@ where
     })
 }
 
-/// The sizes that `LeastGridDimension` estimates, and the cells that `width_certificate` and
-/// `height_certificate` give, by one walk over the records.
-///
-/// Condition: the records are lawful: they tell one finite list of rows, as each vector of
-/// rows does.
-///
-/// # Errors
-///
-/// As those of the estimate.
-pub fn certified_least<R: Records + Drop>(
+/// The least sizes with the cells that certify them.
+fn certified_least<R: Records + Drop>(
     alloc: Global,
     records: R,
     config: &SpannedConfig,
@@ -256,8 +271,8 @@ where
     <<R as Records>::Iter as IntoRecords>::Cell: AsStr + Drop,
     requires { R.is_lawful records }
     ensures { UnlessMemory result ((cells : List (List R.Iter.Cell)) × R.tells records cells
-        × IsCertifiedLeast (spanned_grid config.now) (line_measure R.Iter.Cell.text)
-        (R.columns records) cells result) }
+        × IsCertifiedBy (spanned_grid config.now) (line_measure R.Iter.Cell.text)
+        (R.columns records) cells sizings.Least result) }
 {
     let (across, down) = solve_both::<ByLeastTotal, ByLines, _, _>(alloc, records, config, true)?;
     Ok(Certified {

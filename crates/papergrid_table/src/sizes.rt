@@ -3,8 +3,8 @@
 use bumpalo::Bump;
 use papergrid_config::SpannedConfig;
 use papergrid_csv::{Request, Rows, RowsError, cut, read_rows};
-use papergrid_layout::certificates::{Certified, certified_least, certified_sizes};
-use papergrid_layout::{LayoutError, Sizing};
+use papergrid_layout::LayoutError;
+use papergrid_layout::certificates::{self, Certified};
 use papergrid_text::VecRecords;
 use papergrid_values::{Entity, Position};
 use std::alloc::{AllocError, Global};
@@ -23,11 +23,7 @@ pub fn certified(
     let count = rows.len();
     let config = configuration(alloc, request, count)?;
     let records = VecRecords::with_size(rows, count, columns);
-    let found = match request.sizing {
-        Sizing::ByShares => certified_sizes(alloc, &records, &config),
-        Sizing::Least => certified_least(alloc, &records, &config),
-    };
-    match found {
+    match certificates::certify(alloc, &records, &config, request.sizing) {
         Ok(certified) => Ok(Some(certified)),
         Err(LayoutError::Memory(error)) => Err(error),
         Err(_) => Ok(None),

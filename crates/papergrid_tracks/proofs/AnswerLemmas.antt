@@ -19,7 +19,7 @@ use Rattle.papergrid_tracks.proofs.DrawnLemmas.{lines-drawn, sizes-drawn}
 use Rattle.papergrid_tracks.proofs.OutLemmas.{large_any, out_kept, table_demands}
 use Rattle.papergrid_tracks.proofs.DemandLemmas.{base-kept, by_span-kept}
 use Rattle.papergrid_tracks.specs.declared.limits.Limits.{Limits}
-use Rattle.papergrid_tracks.specs.LeastAnswers.{AreLeastSizes, IsCriticalPath, NoneFits}
+use Rattle.papergrid_tracks.specs.LeastAnswers.{AreLeastSizes, IsCriticalPath, AreLeastTooLarge}
 use Rattle.papergrid_tracks.specs.LowestPositions.{lowest_position}
 use Rattle.papergrid_tracks.specs.TrackBoundaries.{net_minimum, boundaries_of, sizes_between}
 use Rattle.papergrid_tracks.specs.Least.{highest_position, least_of}
@@ -27,13 +27,13 @@ use Rattle.papergrid_tracks.specs.ForProofs.Laid.{AreLaid, with_net_minimum}
 use Rattle.papergrid_tracks.specs.ForProofs.Limits.{AreLimits, AreLowestBoundaries, AreHighestBoundaries, Refuses}
 use Rattle.papergrid_tracks.specs.ForProofs.LeastSettled.{AreLowestPositions, IsCriticalPathInOrder}
 use Rattle.papergrid_tracks.proofs.BoundaryLemmas.{AreBoundaries-boundaries_of, take_whole}
-use Rattle.papergrid_tracks.proofs.LeastLemmas.{AreLeastSizes-least_of, NoneFits-by_all, total-least_of}
+use Rattle.papergrid_tracks.proofs.LeastLemmas.{AreLeastSizes-least_of, AreLeastTooLarge-by_all, total-least_of}
 use Rattle.papergrid_tracks.proofs.LeastDemandLemmas.{AreLaid-from_boundaries, lowest_position-is, highest_position-is, longer_asking}
 
-pub NoneFits-large : (n : ℕ) (kept : Demands) (demands : List Demand) → AreGathered n kept demands → (line : ℕ → Bool) → IsLargeInside n kept → NoneFits (problem_of_demands line n demands)
-NoneFits-large n kept demands is line large =
+pub AreLeastTooLarge-large : (n : ℕ) (kept : Demands) (demands : List Demand) → AreGathered n kept demands → (line : ℕ → Bool) → IsLargeInside n kept → AreLeastTooLarge (problem_of_demands line n demands)
+AreLeastTooLarge-large n kept demands is line large =
     let table : All (IsInTable n) demands = table_demands n kept demands is large.inside in
-    NoneFits-by_all (problem_of_demands line n demands) table (out_kept n kept demands is ∙ large.inside)
+    AreLeastTooLarge-by_all (problem_of_demands line n demands) table (out_kept n kept demands is ∙ large.inside)
     (λ other fits. large_any line n other demands (sym is.held.large ∙ large.is_large) table fits.room)
 
 -- where the boundaries agree, so do the sizes between them
@@ -66,8 +66,8 @@ module _ (line : ℕ → Bool) (n : ℕ) (kept : Demands) (demands : List Demand
   all_drawn : all_lines drawn n ≡ all_lines line n
   all_drawn = lines-drawn drawn line n agree
 
-  past : ((boundary : ℕ → ℕ) → AreLaid base asking boundary → 18446744073709551616 ≤ boundary (length base) + all_lines drawn (length base)) → NoneFits (problem_of_demands line n demands)
-  past large = NoneFits-by_all (problem_of_demands line n demands) table (out_kept n kept demands is_kept ∙ inside) each
+  past : ((boundary : ℕ → ℕ) → AreLaid base asking boundary → 18446744073709551616 ≤ boundary (length base) + all_lines drawn (length base)) → AreLeastTooLarge (problem_of_demands line n demands)
+  past large = AreLeastTooLarge-by_all (problem_of_demands line n demands) table (out_kept n kept demands is_kept ∙ inside) each
     where
       each : (other : List ℕ) → Fits (problem_of_demands line n demands) other → IsTooLarge (problem_of_demands line n demands) other
       each other fits =
@@ -82,7 +82,7 @@ module _ (line : ℕ → Bool) (n : ℕ) (kept : Demands) (demands : List Demand
           let all : 18446744073709551616 ≤ sum other + all_lines line n = omega arith in
           all
 
-  pub IsRefusedWhere-refuses : (e : LayoutError) → Refuses ((boundary : ℕ → ℕ) → AreLaid base asking boundary → 18446744073709551616 ≤ boundary (length base) + all_lines drawn (length base)) e → IsRefusedWhere (problem_of_demands line n demands) (NoneFits (problem_of_demands line n demands)) e
+  pub IsRefusedWhere-refuses : (e : LayoutError) → Refuses ((boundary : ℕ → ℕ) → AreLaid base asking boundary → 18446744073709551616 ≤ boundary (length base) + all_lines drawn (length base)) e → IsRefusedWhere (problem_of_demands line n demands) (AreLeastTooLarge (problem_of_demands line n demands)) e
   IsRefusedWhere-refuses (OutOfTable place) refused = absurd refused
   IsRefusedWhere-refuses TooLarge refused = past refused
   IsRefusedWhere-refuses (Memory e) refused = tt

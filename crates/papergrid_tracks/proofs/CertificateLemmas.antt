@@ -17,7 +17,7 @@ use Rattle.papergrid_tracks.proofs.GrowLemmas.{IsLaminarInOrder-growing}
 use Rattle.papergrid_tracks.proofs.LaminarLemmas.{SomeCross-unless}
 use Rattle.papergrid_tracks.proofs.LastLemmas.{IsLaminar-from_laminar}
 use Rattle.papergrid_tracks.proofs.Orders.{IsLaminarInOrder-by_span, TakesAll-by_span}
-use Rattle.papergrid_tracks.proofs.OutLemmas.{NoneHolds-large, out_kept}
+use Rattle.papergrid_tracks.proofs.OutLemmas.{AreSizesTooLarge-large, out_kept}
 use Rattle.papergrid_tracks.proofs.DemandLemmas.{exact_single-first}
 use Rattle.papergrid_tracks.proofs.Theorems.{Fits-sizes_of, first_out-none, IsCertificate-certificate_cells_of}
 
@@ -54,7 +54,7 @@ module _ (problem : Problem) (kept : Demands) (is : AreGathered problem.count ke
   small-settled = elim (cases_Bool kept.is_large) [
     | inl large ↦
         let inside = sym (out_kept problem.count kept problem.demands is) ∙ first_out-none problem.count problem.demands (recursion_from_All (IsInTable problem.count) problem.demands table) in
-        let past = (NoneHolds-large problem.count kept problem.demands is problem.line record { inside = inside; is_large = large }).too_large in
+        let past = (AreSizesTooLarge-large problem.count kept problem.demands is problem.line record { inside = inside; is_large = large }).too_large in
         absurd (omega (arith, past, total))
     | inr small ↦ small
   ]

@@ -13,7 +13,7 @@ use Rattle.papergrid_tracks.specs.Sizes.{sizes_of}
 use Rattle.papergrid_tracks.proofs.Theorems.{Fits-sizes_of, bound-sizes_of, IsLeast-sizes_of}
 use Rattle.papergrid_tracks.proofs.BoundLemmas.{bound-least_sizes}
 use Rattle.papergrid_tracks.proofs.Upto.{upto, sum-take}
-use Rattle.papergrid_tracks.specs.LeastAnswers.{AreLeastSizes, AreCriticalPath, NoneFits}
+use Rattle.papergrid_tracks.specs.LeastAnswers.{AreLeastSizes, AreCriticalPath, AreLeastTooLarge}
 use Rattle.papergrid_tracks.specs.TrackBoundaries.{net_minimum, boundaries_of, AreBoundaries, sizes_between}
 use Rattle.papergrid_tracks.specs.LowestPositions.{lowest_position, least_total}
 use Rattle.papergrid_tracks.specs.Least.{AreFurthestRight, AreLeastBefore, highest_position, least_sizes, least_of}
@@ -230,11 +230,11 @@ module _ (problem : Problem) (table : All (IsInTable problem.count) problem.dema
             let c : sum sizes + all_lines problem.line problem.count < 18446744073709551616 = omega arith in
             c
 
-    pub NoneFits-by_all : ((other : List ℕ) → Fits problem other → IsTooLarge problem other) → NoneFits problem
-    NoneFits-by_all each = record { none_out = inside; too_large = refused-least_of.1 each; none_fits = each }
+    pub AreLeastTooLarge-by_all : ((other : List ℕ) → Fits problem other → IsTooLarge problem other) → AreLeastTooLarge problem
+    AreLeastTooLarge-by_all each = record { none_out = inside; too_large = refused-least_of.1 each; others_too_large = each }
 
-    pub NoneFits-least_of : IsTooLarge problem (least_of problem) → NoneFits problem
-    NoneFits-least_of large = NoneFits-by_all (refused-least_of.0 large)
+    pub AreLeastTooLarge-least_of : IsTooLarge problem (least_of problem) → AreLeastTooLarge problem
+    AreLeastTooLarge-least_of large = AreLeastTooLarge-by_all (refused-least_of.0 large)
 
 -- what is said of least sizes, and of the cells that certify them, leaves no choice
 pub exact-least : (problem : Problem) (sizes : List ℕ) → AreLeastSizes problem sizes → sizes ≡ least_of problem

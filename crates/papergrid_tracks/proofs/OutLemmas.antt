@@ -10,7 +10,7 @@ use Rattle.papergrid_tracks.specs.declared.demand.Demand.{Demand}
 use Rattle.papergrid_tracks.specs.declared.demands.Demands.{Demands}
 use Rattle.papergrid_tracks.specs.declared.error.LayoutError.{LayoutError}
 use Rattle.papergrid_tracks.specs.declared.error.LayoutError.TheVariants.{OutOfTable, TooLarge, Memory}
-use Rattle.papergrid_tracks.specs.Answers.{IsRefusedWhere, NoneHolds}
+use Rattle.papergrid_tracks.specs.Answers.{IsRefusedWhere, AreSizesTooLarge}
 use Rattle.papergrid_tracks.specs.ForProofs.Settled.{IsLargeInside}
 use Rattle.papergrid_tracks.specs.Ranges.{IsInTable, end_of, first_out, place_of}
 use Rattle.papergrid_tracks.specs.Fits.{HasRoom}
@@ -65,13 +65,13 @@ module _ (n : ℕ) (kept : Demands) (demands : List Demand) (is : AreGathered n 
   pub table_demands : first_out n kept.rest.items ≡ None → All (IsInTable n) demands
   table_demands none = none_out n demands (out_kept ∙ none) is.held.spans
 
-  pub NoneHolds-large : (line : ℕ → Bool) → IsLargeInside n kept → NoneHolds (problem_of_demands line n demands)
-  NoneHolds-large line large =
+  pub AreSizesTooLarge-large : (line : ℕ → Bool) → IsLargeInside n kept → AreSizesTooLarge (problem_of_demands line n demands)
+  AreSizesTooLarge-large line large =
       let table = table_demands large.inside in
       let any = sym is.held.large ∙ large.is_large in
       let problem = problem_of_demands line n demands in
       record {
         none_out = out_kept ∙ large.inside;
         too_large = large_any line n (sizes_of problem) demands any table (Fits-sizes_of (problem_of_demands line n demands) table).room;
-        none_holds = λ laminar other fits. large_any line n other demands any table fits.room;
+        others_too_large = λ laminar other fits. large_any line n other demands any table fits.room;
       }

@@ -3,7 +3,7 @@ use Rattle.std.proofs.Common.{◌≡◌, ◌∙◌, ◌+◌, ◌<◌, ◌≤◌,
 use Rattle.std.specs.Prelude.{All, None, false}
 use Rattle.papergrid_tracks.specs.declared.demand.Demand.{Demand}
 use Rattle.papergrid_tracks.specs.declared.demands.Demands.{Demands}
-use Rattle.papergrid_tracks.specs.Answers.{NoneHolds}
+use Rattle.papergrid_tracks.specs.Answers.{AreSizesTooLarge}
 use Rattle.papergrid_tracks.specs.Certificates.{growing_demands}
 use Rattle.papergrid_tracks.specs.ForProofs.Demands.{AreGathered, no_demand}
 use Rattle.papergrid_tracks.specs.ForProofs.Settled.{AreGrown}
@@ -14,7 +14,7 @@ use Rattle.papergrid_tracks.specs.Sizes.{base_sizes, grown_sizes, sizes_of, by_s
 use Rattle.papergrid_tracks.proofs.DrawnLemmas.{growing_cells-drawn, lines-drawn, sizes-drawn}
 use Rattle.papergrid_tracks.proofs.OutLemmas.{table_demands}
 use Rattle.papergrid_tracks.proofs.DemandLemmas.{base-kept, by_span-kept}
-use Rattle.papergrid_tracks.proofs.Theorems.{Fits-sizes_of, NoneHolds-sizes_of}
+use Rattle.papergrid_tracks.proofs.Theorems.{Fits-sizes_of, AreSizesTooLarge-sizes_of}
 
 module _ (line : ℕ → Bool) (n : ℕ) (kept : Demands) (demands : List Demand) (is_kept : AreGathered n kept demands) (inside : first_out n kept.rest.items ≡ None) (small : kept.is_large ≡ false)
     (drawn : ℕ → Bool) (agree : (i : ℕ) → i ≤ n → drawn i ≡ line i)
@@ -47,8 +47,8 @@ module _ (line : ℕ → Bool) (n : ℕ) (kept : Demands) (demands : List Demand
     total-shares : total_of problem (sizes_of problem) ≡ sum sizes + all_lines drawn (length sizes)
     total-shares = sym (total-grown ∙ ap (total_of problem) shares-grown)
 
-    pub NoneHolds-grown : (sum sizes + all_lines drawn (length sizes) < 18446744073709551616 → ⊥) → NoneHolds problem
-    NoneHolds-grown past = NoneHolds-sizes_of problem table (λ small. past (subst (λ k. k < 18446744073709551616) total-shares small))
+    pub AreSizesTooLarge-grown : (sum sizes + all_lines drawn (length sizes) < 18446744073709551616 → ⊥) → AreSizesTooLarge problem
+    AreSizesTooLarge-grown past = AreSizesTooLarge-sizes_of problem table (λ small. past (subst (λ k. k < 18446744073709551616) total-shares small))
 
     pub AreGrown-grown : (in_order growing_cells : List Demand) → in_order ≡ cells → growing_cells ≡ growing_demands drawn base cells →
         sum sizes + all_lines drawn (length sizes) < 18446744073709551616 → AreGrown problem sizes in_order growing_cells

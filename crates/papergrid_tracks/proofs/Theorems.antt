@@ -5,7 +5,7 @@ use Rattle.std.specs.List.{AllByRecursion}
 use Rattle.std.proofs.lemmas.Bool.{cases_lt}
 use Rattle.std.proofs.lemmas.List.Elements.{All-contains, All-weaker, All-from_recursion, recursion_from_All}
 use Rattle.papergrid_tracks.specs.declared.demand.Demand.{Demand}
-use Rattle.papergrid_tracks.specs.Answers.{AreSizes, NoneHolds}
+use Rattle.papergrid_tracks.specs.Answers.{AreSizes, AreSizesTooLarge}
 use Rattle.papergrid_tracks.specs.Problem.{Problem, total_of}
 use Rattle.papergrid_values.specs.Lines.{all_lines}
 use Rattle.papergrid_tracks.specs.Ranges.{IsInTable, IsLaminar, end_of, first_out}
@@ -40,9 +40,9 @@ module _ (problem : Problem) (table : All (IsInTable problem.count) problem.dema
       (IsLaminarInOrder-by_span problem.count problem.demands disjoint)
 
   -- no table was refused that another choice of sizes could have held
-  pub none_holds-sizes_of : IsLaminar problem.demands → IsTooLarge problem (sizes_of problem) →
+  pub others_too_large-sizes_of : IsLaminar problem.demands → IsTooLarge problem (sizes_of problem) →
       (other : List ℕ) → Fits problem other → IsTooLarge problem other
-  none_holds-sizes_of disjoint large other fits =
+  others_too_large-sizes_of disjoint large other fits =
       let le : sum (sizes_of problem) ≤ sum other = (IsLeast-sizes_of disjoint).least other fits in
       let past : 18446744073709551616 ≤ total_of problem (sizes_of problem) = large in
       let all : 18446744073709551616 ≤ sum other + all_lines problem.line problem.count = omega arith in
@@ -75,8 +75,8 @@ module _ (problem : Problem) (table : All (IsInTable problem.count) problem.dema
     least = IsLeast-sizes_of;
   }
 
-  pub NoneHolds-sizes_of : (total_of problem (sizes_of problem) < 18446744073709551616 → ⊥) → NoneHolds problem
-  NoneHolds-sizes_of not_small =
+  pub AreSizesTooLarge-sizes_of : (total_of problem (sizes_of problem) < 18446744073709551616 → ⊥) → AreSizesTooLarge problem
+  AreSizesTooLarge-sizes_of not_small =
       let large : IsTooLarge problem (sizes_of problem) = elim (cases_lt (total_of problem (sizes_of problem)) 18446744073709551616) [
         | inl small ↦ absurd (not_small small)
         | inr le ↦ le
@@ -84,5 +84,5 @@ module _ (problem : Problem) (table : All (IsInTable problem.count) problem.dema
       record {
         none_out = none_out;
         too_large = large;
-        none_holds = λ disjoint other fits. none_holds-sizes_of disjoint large other fits;
+        others_too_large = λ disjoint other fits. others_too_large-sizes_of disjoint large other fits;
       }

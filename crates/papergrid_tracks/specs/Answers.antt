@@ -23,10 +23,10 @@ module _ (problem : Problem) where
     pub least : IsLaminar problem.demands → IsLeast problem sizes
 
   -- the sizes are too large, and where ranges are nested or disjoint so is every list that fits
-  pub record NoneHolds : Type 0 where
+  pub record AreSizesTooLarge : Type 0 where
     pub none_out : first_out problem.count problem.demands ≡ None
     pub too_large : IsTooLarge problem (sizes_of problem)
-    pub none_holds : IsLaminar problem.demands → (other : List ℕ) → Fits problem other → IsTooLarge problem other
+    pub others_too_large : IsLaminar problem.demands → (other : List ℕ) → Fits problem other → IsTooLarge problem other
 
   -- out of the table by the first cell that overflows it, else too large, of which this is known; an allocation may fail in
   -- place of any answer
@@ -37,7 +37,7 @@ module _ (problem : Problem) where
 
   -- the same, where the sizes are too large
   abbrev pub IsRefused : LayoutError → Type 0
-  IsRefused e = IsRefusedWhere NoneHolds e
+  IsRefused e = IsRefusedWhere AreSizesTooLarge e
 
   -- the positions of the cells of the certificate
   pub record AreCertifying (places : List Position) : Type 0 where
@@ -85,7 +85,7 @@ AnswersWhere too_large holds problem (Err e) = IsRefusedWhere problem (too_large
 
 -- the same, where the sizes are too large
 abbrev pub Answers : {A : Type 0} → (Problem → A → Type 0) → Problem → Result A LayoutError → Type 0
-Answers holds problem result = AnswersWhere NoneHolds holds problem result
+Answers holds problem result = AnswersWhere AreSizesTooLarge holds problem result
 
 -- the sizes, or why there are none
 abbrev pub IsSized : {Z : Type 0} → Problem → Result (Vec ℕ Z) LayoutError → Type 0

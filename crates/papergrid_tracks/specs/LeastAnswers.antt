@@ -31,10 +31,10 @@ module _ (problem : Problem) where
     pub certificate : (sizes : List ℕ) → IsLeast problem sizes → IsCertificate problem sizes cells
 
   -- no cell overflows the table, and the least sizes are too large, as every list that fits is
-  pub record NoneFits : Type 0 where
+  pub record AreLeastTooLarge : Type 0 where
     pub none_out : first_out problem.count problem.demands ≡ None
     pub too_large : IsTooLarge problem (least_of problem)
-    pub none_fits : (other : List ℕ) → Fits problem other → IsTooLarge problem other
+    pub others_too_large : (other : List ℕ) → Fits problem other → IsTooLarge problem other
 
   -- the sum of the least sizes and of all lines
   abbrev pub IsLeastTotal : ℕ → Type 0
@@ -47,7 +47,7 @@ IsCriticalPath problem (Some places) = AreCriticalPath problem places.items
 
 -- what is asked for of a problem, or why there is none: where it is refused as too large, every list that fits is
 abbrev pub LeastAnswers : {A : Type 0} → (Problem → A → Type 0) → Problem → Result A LayoutError → Type 0
-LeastAnswers holds problem result = AnswersWhere NoneFits holds problem result
+LeastAnswers holds problem result = AnswersWhere AreLeastTooLarge holds problem result
 
 -- the least sizes, or why there are none
 abbrev pub IsLeastSized : {Z : Type 0} → Problem → Result (Vec ℕ Z) LayoutError → Type 0

@@ -70,13 +70,13 @@ pub struct ByLeastTotal {}
 
 impl Solver for ByLeastTotal {
     ghost use Rattle.papergrid_tracks.specs.Answers.{IsSolvedBy};
-    ghost use Rattle.papergrid_tracks.specs.LeastAnswers.{AreLeastSizes, NoneFits};
+    ghost use Rattle.papergrid_tracks.specs.LeastAnswers.{AreLeastSizes, AreLeastTooLarge};
 
     // What certifies them is told where the demands stand by row and then by column.
     ghost solves = { λ certify problem solved.
         IsSolvedBy AreLeastSizes IsCriticalPathInOrder certify problem solved };
 
-    ghost too_large = { NoneFits };
+    ghost too_large = { AreLeastTooLarge };
 
     fn solve<A: Axis>(
         alloc: Global,

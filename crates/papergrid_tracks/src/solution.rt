@@ -58,11 +58,11 @@ pub trait Solver {
 pub struct ByShares {}
 
 impl Solver for ByShares {
-    ghost use Rattle.papergrid_tracks.specs.Answers.{AreSizes, IsSolvedBy, IsCertificateOrNone, NoneHolds};
+    ghost use Rattle.papergrid_tracks.specs.Answers.{AreSizes, IsSolvedBy, IsCertificateOrNone, AreSizesTooLarge};
 
     ghost solves = { λ certify problem solved. IsSolvedBy AreSizes IsCertificateOrNone certify problem solved };
 
-    ghost too_large = { NoneHolds };
+    ghost too_large = { AreSizesTooLarge };
 
     fn solve<A: Axis>(
         alloc: Global,

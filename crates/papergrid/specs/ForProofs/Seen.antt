@@ -5,28 +5,10 @@ use Rattle.papergrid_values.specs.declared.direction.Direction.{Direction}
 use Rattle.papergrid_values.specs.declared.position.Position.{Position}
 use Rattle.papergrid_values.specs.Lines.{all_lines}
 use Rattle.papergrid.specs.declared.estimate.Sizes.{Sizes}
-use Rattle.papergrid_layout.specs.declared.sizing.Sizing.{Sizing}
-use Rattle.papergrid_layout.specs.declared.sizing.Sizing.TheVariants.{ByShares, Least}
 use Rattle.papergrid_tracks.specs.declared.error.LayoutError.{LayoutError}
 use Rattle.papergrid_tracks.specs.declared.error.LayoutError.TheVariants as layout_errors
-use Rattle.papergrid_tracks.specs.Answers.{IsCertificateOrNone}
-use Rattle.papergrid_tracks.specs.Problem.{Problem}
 use Rattle.papergrid_maps.specs.Grids.{Grid}
-use Rattle.papergrid_layout.specs.Certificates.{IsCertifiedWhere}
-use Rattle.papergrid_tracks.specs.LeastAnswers.{IsCriticalPath}
-use Rattle.papergrid_layout.specs.declared.certificates.Certified.{Certified}
 use Rattle.papergrid.specs.Estimates.{Estimate, OutOfTable, TooLarge, Sized}
-use Rattle.papergrid.specs.Totals.{AreSizesBy, HasNone}
-
--- what is found to certify the sizes of a problem
-abbrev pub IsFoundCertificate : Sizing → Problem → Option (Vec Position Global) → Type 0
-IsFoundCertificate ByShares = IsCertificateOrNone
-IsFoundCertificate Least = IsCriticalPath
-
--- exactly the sizes that are chosen so, with what certifies them, or why there are none
-abbrev pub IsCertifiedBy : Sizing → {C : Type 0} → Grid → (C → ℕ × ℕ) → ℕ → List (List C) → Result Certified LayoutError → Type 0
-IsCertifiedBy sizing grid measure columns cells result =
-    IsCertifiedWhere grid measure columns cells (HasNone sizing) (AreSizesBy sizing) (IsFoundCertificate sizing) result
 
 -- the positions of a certificate that the program holds
 abbrev pub places_seen : Option (Vec Position Global) → Option (List Position)

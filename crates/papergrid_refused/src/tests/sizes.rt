@@ -8,12 +8,11 @@ use super::settings::told;
 use super::{CallNumber, at, call, clones, only, says, with_clone};
 use papergrid_config::{CompactConfig, Setting, SpannedConfig};
 use papergrid_layout::certificates::{
-    certified_least, certified_sizes, height_certificate, height_witness, width_certificate,
-    width_witness,
+    self, height_certificate, height_witness, width_certificate, width_witness,
 };
 use papergrid_layout::{
     CompactGridDimension, Dimension, Estimate, IterGridDimension, LayoutError, LeastGridDimension,
-    PeekableGridDimension, places,
+    PeekableGridDimension, Sizing, places,
 };
 use papergrid_text::VecRecords;
 use papergrid_values::{Borders, Entity, Indent, Sides};
@@ -143,9 +142,9 @@ fn certified_calls(rt: &(impl Abort + AllocGlobal), config: &SpannedConfig) -> R
     answers(rt, call(3, 6), columns)?;
     let rows = height_certificate(alloc, records(alloc)?, config);
     answers(rt, call(4, 6), rows)?;
-    let by_shares = certified_sizes(alloc, records(alloc)?, config);
+    let by_shares = certificates::certify(alloc, records(alloc)?, config, Sizing::ByShares);
     answers(rt, call(5, 6), by_shares)?;
-    let least = certified_least(alloc, records(alloc)?, config);
+    let least = certificates::certify(alloc, records(alloc)?, config, Sizing::Least);
     answers(rt, call(6, 6), least)
 }
 

@@ -1,5 +1,5 @@
 use Rattle.std.specs.Prelude.{string_bytes}
-use Rattle.papergrid_tracks.specs.Answers.{AreSizes, NoneHolds}
+use Rattle.papergrid_tracks.specs.Answers.{AreSizes, AreSizesTooLarge}
 use Rattle.papergrid_values.specs.declared.direction.Direction.TheVariants.{Columns}
 use Rattle.papergrid_config.specs.Grids.{spanned_grid}
 use Rattle.papergrid_walk.specs.Measures.{line_measure}
@@ -10,4 +10,4 @@ use Rattle.papergrid_checks.proofs.cells.of_people.Goals as goal
 pub returns : goal.returns
 returns c =
     let told = rw c.new.ensures at c.width.ensures in
-    answers_told (spanned_grid c.args.config.now) (λ cell. cell.now) (line_measure (λ person. string_bytes person.name)) c.args.columns (cells_of c.args.rows.now) NoneHolds (λ problem sizes. AreSizes problem sizes.items) Columns _ told
+    answers_told (spanned_grid c.args.config.now) (λ cell. cell.now) (line_measure (λ person. string_bytes person.name)) c.args.columns (cells_of c.args.rows.now) AreSizesTooLarge (λ problem sizes. AreSizes problem sizes.items) Columns _ told

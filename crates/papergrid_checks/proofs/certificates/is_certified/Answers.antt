@@ -1,5 +1,5 @@
 use Rattle.std.proofs.lemmas.Result.{err_from_is_err_and}
-use Rattle.papergrid_tracks.specs.Answers.{IsCertificateOrNone, NoneHolds}
+use Rattle.papergrid_tracks.specs.Answers.{IsCertificateOrNone, AreSizesTooLarge}
 use Rattle.papergrid_values.specs.declared.direction.Direction.TheVariants.{Columns}
 use Rattle.papergrid_config.specs.Grids.{spanned_grid}
 use Rattle.papergrid_checks.specs.Rows.{cells_of, text_measure}
@@ -11,13 +11,13 @@ pub returns-in_err-widths : goal.returns-in_err-widths
 returns-in_err-widths c =
     let p = err_from_is_err_and c.from_residual.result c.from_residual.ensures.1 in
     let told = rw c.new-records.ensures at c.in_err-widths.ensures in
-    rw (p.1, p.2) (one_refused (spanned_grid c.args.config.now) (λ cell. cell.now) text_measure 3 (cells_of c.args.rows.now) NoneHolds Columns _ told)
+    rw (p.1, p.2) (one_refused (spanned_grid c.args.config.now) (λ cell. cell.now) text_measure 3 (cells_of c.args.rows.now) AreSizesTooLarge Columns _ told)
 
 pub returns-in_err-cells : goal.returns-in_err-cells
 returns-in_err-cells c =
     let p = err_from_is_err_and c.from_residual-in_err-cells.result c.from_residual-in_err-cells.ensures.1 in
     let told = rw c.new-records.ensures at c.in_err-cells.ensures in
-    rw (p.1, p.2) (one_refused (spanned_grid c.args.config.now) (λ cell. cell.now) text_measure 3 (cells_of c.args.rows.now) NoneHolds Columns _ told)
+    rw (p.1, p.2) (one_refused (spanned_grid c.args.config.now) (λ cell. cell.now) text_measure 3 (cells_of c.args.rows.now) AreSizesTooLarge Columns _ told)
 
 pub returns-in-Some : goal.returns-in-Some
 returns-in-Some c =

@@ -2,7 +2,7 @@ use Rattle.std.proofs.Common.{◌≡◌, ◌∙◌, ℕ, List, map}
 use Rattle.std.specs.Prelude.{Vec}
 use Rattle.std.specs.Borrow.{Bor}
 use Rattle.std.specs.declared.alloc.Global.{Global}
-use Rattle.papergrid_tracks.specs.Answers.{AreSizes, NoneHolds}
+use Rattle.papergrid_tracks.specs.Answers.{AreSizes, AreSizesTooLarge}
 use Rattle.papergrid_tracks.specs.declared.error.LayoutError.{LayoutError}
 use Rattle.papergrid_tracks.specs.declared.error.LayoutError.TheVariants.{OutOfTable, TooLarge, Memory}
 use Rattle.papergrid_layout.specs.Answers.{UnlessMemoryError}
@@ -23,7 +23,7 @@ of_lent_texts Holds rows texts (Memory e) same is = tt
 
 pub returns-in_err-estimate : goal.returns-in_err-estimate
 returns-in_err-estimate c =
-    refused_on (spanned_grid c.args.config.now) (λ cell. cell.now.now) (line_measure (λ text. text)) 2 (map entry_texts c.args.entries.now) NoneHolds (λ problem sizes. AreSizes problem sizes.items) _ _ c.from_residual-in_err-estimate.ensures.1
+    refused_on (spanned_grid c.args.config.now) (λ cell. cell.now.now) (line_measure (λ text. text)) 2 (map entry_texts c.args.entries.now) AreSizesTooLarge (λ problem sizes. AreSizes problem sizes.items) _ _ c.from_residual-in_err-estimate.ensures.1
     (of_lent_texts _ _ (map entry_texts c.args.entries.now) _ c.in_ok-rows.ensures (rw c.new.ensures at c.in_err-estimate.ensures.err))
 
 pub returns : goal.returns

@@ -1,6 +1,6 @@
 use Rattle.std.proofs.Common.{◌∙◌, ap, slice_index}
 use Rattle.std.proofs.lemmas.Result.{err_from_is_err_and}
-use Rattle.papergrid_tracks.specs.Answers.{AreSizes, NoneHolds}
+use Rattle.papergrid_tracks.specs.Answers.{AreSizes, AreSizesTooLarge}
 use Rattle.papergrid_config.specs.Grids.{spanned_grid}
 use Rattle.papergrid_checks.specs.Rows.{cells_of, text_measure}
 use Rattle.papergrid_checks.proofs.RowLemmas.{both_refused, both_told}
@@ -10,7 +10,7 @@ pub returns-in_err-estimate : goal.returns-in_err-estimate
 returns-in_err-estimate c =
     let p = err_from_is_err_and c.from_residual.result c.from_residual.ensures.1 in
     let told = rw c.new.ensures at c.in_err-estimate.ensures.err in
-    rw (p.1, p.2) (both_refused (spanned_grid c.args.config.now) (λ cell. cell.now) text_measure 3 (cells_of c.args.rows.now) NoneHolds _ told)
+    rw (p.1, p.2) (both_refused (spanned_grid c.args.config.now) (λ cell. cell.now) text_measure 3 (cells_of c.args.rows.now) AreSizesTooLarge _ told)
 
 pub returns : goal.returns
 returns c =

@@ -8,15 +8,15 @@ use Rattle.papergrid_tracks.specs.Answers.{IsRefusedWhere}
 use Rattle.papergrid_tracks.specs.Problem.{problem_of_demands}
 use Rattle.papergrid_tracks.proofs.OutLemmas.{IsRefusedWhere-weaker, table_demands}
 use Rattle.papergrid_tracks.proofs.DemandLemmas.{table-kept}
-use Rattle.papergrid_tracks.specs.LeastAnswers.{NoneFits}
+use Rattle.papergrid_tracks.specs.LeastAnswers.{AreLeastTooLarge}
 use Rattle.papergrid_tracks.specs.ForProofs.LeastSettled.{AreLowestPositions}
-use Rattle.papergrid_tracks.proofs.AnswerLemmas.{AreLowestPositions-made, AreLeastSizes-made, IsRefusedWhere-refuses, NoneFits-large, total-made}
+use Rattle.papergrid_tracks.proofs.AnswerLemmas.{AreLowestPositions-made, AreLeastSizes-made, IsRefusedWhere-refuses, AreLeastTooLarge-large, total-made}
 use Rattle.papergrid_tracks.proofs.least.ByLeastTotalSolver.solve.Goals as goal
 
 pub returns-in-Some : goal.returns-in-Some
 returns-in-Some g c = λ demands kept.
     let line = g.A.Axis.line c.args.axis.now in
-    IsRefusedWhere-weaker (problem_of_demands line c.args.count demands) (NoneFits-large c.args.count c.args.kept.now demands kept line) c.in-Some.error (c.in-Some.ensures.refused line demands kept)
+    IsRefusedWhere-weaker (problem_of_demands line c.args.count demands) (AreLeastTooLarge-large c.args.count c.args.kept.now demands kept line) c.in-Some.error (c.in-Some.ensures.refused line demands kept)
 
 pub make_least-requires-clause-table : goal.make_least-requires-clause-table
 make_least-requires-clause-table g c =
@@ -27,7 +27,7 @@ make_least-requires-clause-table g c =
 pub returns-in_err-limits : goal.returns-in_err-limits
 returns-in_err-limits g c = λ demands kept.
     let problem = problem_of_demands (g.A.Axis.line c.args.axis.now) c.args.count demands in
-    let refused : IsRefusedWhere problem (NoneFits problem) c.in_err-limits.field-0.0 =
+    let refused : IsRefusedWhere problem (AreLeastTooLarge problem) c.in_err-limits.field-0.0 =
     IsRefusedWhere-refuses (g.A.Axis.line c.args.axis.now) c.args.count c.args.kept.now demands kept c.in_default.ensures.inside c.in_default.ensures.small
     (line_at c.in_ok-lines.lines) c.in_ok-lines.ensures.drawn
     c.deref_mut-2.result.now (omega (arith, c.in_ok-sizes.ensures.len, c.deref_mut.ensures.len, c.write_base.ensures.length, c.deref_mut-2.ensures.len))

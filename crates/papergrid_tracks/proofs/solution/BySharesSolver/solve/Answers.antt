@@ -5,16 +5,16 @@ use Rattle.papergrid_tracks.specs.ForProofs.Settled.{AreGrown, line_at}
 use Rattle.papergrid_tracks.specs.Problem.{problem_of_demands, total_of}
 use Rattle.papergrid_tracks.specs.ForProofs.Demands.{no_demand}
 use Rattle.papergrid_tracks.specs.Sizes.{grown_sizes, by_span}
-use Rattle.papergrid_tracks.proofs.OutLemmas.{IsRefusedWhere-weaker, NoneHolds-large, table_demands}
+use Rattle.papergrid_tracks.proofs.OutLemmas.{IsRefusedWhere-weaker, AreSizesTooLarge-large, table_demands}
 use Rattle.papergrid_tracks.proofs.DemandLemmas.{table-kept, by_span-kept}
-use Rattle.papergrid_tracks.proofs.SettleLemmas.{AreGrown-grown, NoneHolds-grown, total-grown}
+use Rattle.papergrid_tracks.proofs.SettleLemmas.{AreGrown-grown, AreSizesTooLarge-grown, total-grown}
 use Rattle.papergrid_tracks.proofs.Theorems.{AreSizes-sizes_of, table-by_span}
 use Rattle.papergrid_tracks.proofs.solution.BySharesSolver.solve.Goals as goal
 
 pub returns-in-Some : goal.returns-in-Some
 returns-in-Some g c = λ demands kept.
     let line = g.A.Axis.line c.args.axis.now in
-    IsRefusedWhere-weaker (problem_of_demands line c.args.count demands) (NoneHolds-large c.args.count c.args.kept.now demands kept line) c.in-Some.error (c.in-Some.ensures.refused line demands kept)
+    IsRefusedWhere-weaker (problem_of_demands line c.args.count demands) (AreSizesTooLarge-large c.args.count c.args.kept.now demands kept line) c.in-Some.error (c.in-Some.ensures.refused line demands kept)
 
 pub by_span-requires : goal.by_span-requires
 by_span-requires g c =
@@ -34,7 +34,7 @@ pub returns-in_default-checked_total : goal.returns-in_default-checked_total
 returns-in_default-checked_total g c = λ demands kept.
     let after : c.deref-5.result.now ≡ fold (grown_sizes (line_at c.in_ok-lines.lines.items)) c.deref_mut-2.result.now c.deref-4.result.now =
     c.deref-5.ensures.value ∙ with_items_is (with_items c.in_ok-sizes.sizes c.write_base.new.sizes) c.grow_all.new.sizes (omega arith) ∙ rw c.deref-3.ensures.value at c.in_ok-growing_cells.ensures.sizes in
-    NoneHolds-grown (g.A.Axis.line c.args.axis.now) c.args.count c.args.kept.now demands kept c.in_default.ensures.inside c.in_default.ensures.small
+    AreSizesTooLarge-grown (g.A.Axis.line c.args.axis.now) c.args.count c.args.kept.now demands kept c.in_default.ensures.inside c.in_default.ensures.small
     (line_at c.in_ok-lines.lines.items) c.in_ok-lines.ensures.drawn
     c.deref_mut-2.result.now (omega (arith, c.in_ok-sizes.ensures.len, c.deref_mut.ensures.len, c.write_base.ensures.length, c.deref_mut-2.ensures.len))
     (rw (c.deref_mut-2.ensures.value ∙ with_items_is c.in_ok-sizes.sizes c.write_base.new.sizes (omega arith)) (λ k l. c.write_base.ensures.base k l ∙ ap (λ ds. (get_or ds k no_demand).minimum) c.deref.ensures.value))
