@@ -21,7 +21,7 @@
  *
  * What the caller owes; the library tests none of it:
  * - A handle begins as PAPERGRID_NONE, and is then changed by these calls alone. It may be moved. Of two copies only one is used.
- * - No pointer is NULL, but for a text, characters, sizes or bytes of length 0.
+ * - No pointer is NULL, but for a text, characters, sizes, cells or bytes of length 0.
  * - What is lent to be written to overlaps nothing else that the same call is handed.
  * - One call at a time for one handle. From call to call it may go from one thread to another, and several threads may call at a time,
  *   each for a handle of its own.
@@ -55,7 +55,8 @@ enum {
     PAPERGRID_HIDDEN = 10,       /* another cell spans over the position */
     PAPERGRID_NO_ROOM = 11,      /* there is more than fits */
     PAPERGRID_BAD_VALUE = 12,    /* a value is none of those that the call knows */
-    PAPERGRID_NO_CELL = 13       /* no cell stands there */
+    PAPERGRID_NO_CELL = 13,      /* no cell stands there */
+    PAPERGRID_NO_CERTIFICATE = 14 /* no cells certify the sizes */
 };
 
 /* A table, or none. */
@@ -111,8 +112,8 @@ int32_t papergrid_push_cell(Papergrid *handle, const char *text, size_t length);
 int32_t papergrid_end_row(Papergrid *handle);
 
 /* Adds the rows that a text is cut into: each byte `row_end` ends a row, and each byte `cell_end` stands between two cells. Both are
- * ASCII. What stands behind the last `row_end` is a row too, unless it is empty. A row that was begun is ended before. Nothing is
- * unquoted: for CSV with quotes, cut the text yourself. PAPERGRID_NOT_TEXT, PAPERGRID_MEMORY. */
+ * ASCII, else PAPERGRID_BAD_VALUE. What stands behind the last `row_end` is a row too, unless it is empty. A row that was begun is ended
+ * before. Nothing is unquoted: for CSV with quotes, cut the text yourself. PAPERGRID_NOT_TEXT, PAPERGRID_MEMORY. */
 int32_t papergrid_push_rows(Papergrid *handle, const char *text, size_t length, uint8_t cell_end, uint8_t row_end);
 
 /* ---- settings. Each is one more, and of two for the same the later one counts. */
@@ -166,6 +167,22 @@ int32_t papergrid_place(Papergrid *handle, size_t row, size_t column, PapergridP
 /* Writes which cell stands over a column of the terminal in a line, by the sizes that were found; PAPERGRID_NO_CELL where none does.
  * PAPERGRID_NOT_ESTIMATED, PAPERGRID_MEMORY. */
 int32_t papergrid_cell_at(Papergrid *handle, size_t column, size_t line, PapergridPosition *cell);
+
+/* Writes how many columns there are, and then their widths to the front of `widths`, by the sizes that were found; where they do not fit,
+ * PAPERGRID_NO_ROOM, with the count alone written. Without the lines between. PAPERGRID_NOT_ESTIMATED. */
+int32_t papergrid_widths(Papergrid *handle, size_t *widths, size_t room, size_t *count);
+
+/* The same of the rows and their heights. */
+int32_t papergrid_heights(Papergrid *handle, size_t *heights, size_t room, size_t *count);
+
+/* Writes how many cells certify that the widths that were found are least, and then their positions to the front of `cells`; where they do
+ * not fit, PAPERGRID_NO_ROOM, with the count alone written. No two of them share a column. What each of them needs, less the lines that
+ * stand inside of it, adds up to the widths: so no widths with room for these cells are less. PAPERGRID_NO_CERTIFICATE where the widths are
+ * by shares and two cells over several columns overlap in part; PAPERGRID_NOT_ESTIMATED. */
+int32_t papergrid_width_certificate(Papergrid *handle, PapergridPosition *cells, size_t room, size_t *count);
+
+/* The same of the heights: no two of the cells share a row. */
+int32_t papergrid_height_certificate(Papergrid *handle, PapergridPosition *cells, size_t room, size_t *count);
 
 /* ---- the picture */
 
@@ -237,6 +254,7 @@ static inline const char *papergrid_words(int32_t answer) {
     case PAPERGRID_NO_ROOM: return "there is more than fits";
     case PAPERGRID_BAD_VALUE: return "the value is none of those that are known";
     case PAPERGRID_NO_CELL: return "no cell stands there";
+    case PAPERGRID_NO_CERTIFICATE: return "no cells certify the sizes";
     default: return "no answer of papergrid";
     }
 }

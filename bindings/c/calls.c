@@ -117,6 +117,40 @@ static void ended(void) {
     end(&table);
 }
 
+/* An empty row has one cell, and the last one needs no end. A cell behind them begins a row. */
+static void cut(void) {
+    Papergrid table = PAPERGRID_NONE;
+    EACH(papergrid_new(&table));
+    EACH(papergrid_push_string(&table, "x"));
+    EACH(papergrid_push_rows(&table, "a;b\n\nc", 6, ';', '\n'));
+    draws(&table, 0, "x \nab\n  \nc \n");
+    EACH(papergrid_push_string(&table, "y"));
+    EACH(papergrid_push_string(&table, "\xc3\xa9"));
+    draws(&table, 0, "x \nab\n  \nc \ny\xc3\xa9\n");
+    EACH(papergrid_push_rows(&table, "\xe2\x80\xa6\x1f!\x1e\x1fz\x1e", 9, '\x1f', '\x1e'));
+    draws(&table, 0, "x \nab\n  \nc \ny\xc3\xa9\n\xe2\x80\xa6!\n z\n");
+    end(&table);
+}
+
+/* A row without cells has no height. */
+static void without_cells(void) {
+    Papergrid table = PAPERGRID_NONE;
+    PapergridPlace place = {7, 7, 7, 7};
+    size_t width = 7, height = 7, heights[3] = {7, 7, 7}, count = 7;
+    EACH(papergrid_new(&table));
+    EACH(papergrid_push_string(&table, "a"));
+    EACH(papergrid_end_row(&table));
+    EACH(papergrid_end_row(&table));
+    EACH(papergrid_push_string(&table, "b"));
+    EACH(papergrid_estimate(&table, 0, &width, &height));
+    WANT(width == 1 && height == 2);
+    EACH(papergrid_place(&table, 2, 0, &place));
+    WANT(place.left == 0 && place.top == 1);
+    EACH(papergrid_heights(&table, heights, 3, &count));
+    WANT(count == 3 && heights[0] == 1 && heights[1] == 0 && heights[2] == 1);
+    end(&table);
+}
+
 /* Settings by values and by JSON. */
 static void settings(void) {
     Papergrid table = PAPERGRID_NONE;
@@ -167,6 +201,62 @@ static void places(void) {
     end(&table);
 }
 
+/* The sizes that are found, and the cells that certify them. */
+static void sizes(void) {
+    Papergrid table = PAPERGRID_NONE;
+    PapergridPosition cells[4] = {{7, 7}, {7, 7}, {7, 7}, {7, 7}};
+    size_t width, height, found[4] = {7, 7, 7, 7}, count = 7;
+    begin(&table);
+    EACH(papergrid_push_rows(&table, "together,\n", 10, ',', '\n'));
+    EACH(papergrid_set_column_span(&table, 2, 0, 2));
+    EACH(papergrid_set_row_span(&table, 0, 1, 2));
+    WANT(papergrid_widths(&table, found, 4, &count) == PAPERGRID_NOT_ESTIMATED);
+    WANT(papergrid_heights(&table, found, 4, &count) == PAPERGRID_NOT_ESTIMATED);
+    WANT(papergrid_width_certificate(&table, cells, 4, &count) == PAPERGRID_NOT_ESTIMATED);
+    WANT(papergrid_height_certificate(&table, cells, 4, &count) == PAPERGRID_NOT_ESTIMATED);
+    WANT(count == 7 && found[0] == 7 && cells[0].row == 7);
+    for (uint32_t least = 0; least < 2; least++) {
+        EACH(papergrid_estimate(&table, least, &width, &height));
+        found[0] = found[2] = cells[0].row = cells[1].row = 7;
+        WANT(papergrid_widths(&table, found, 1, &count) == PAPERGRID_NO_ROOM && count == 2 && found[0] == 7);
+        EACH(papergrid_widths(&table, found, 4, &count));
+        WANT(count == 2 && found[0] == 4 && found[1] == 4 && found[2] == 7);
+        WANT(papergrid_heights(&table, NULL, 0, &count) == PAPERGRID_NO_ROOM && count == 3);
+        EACH(papergrid_heights(&table, found, 3, &count));
+        WANT(count == 3 && found[0] == 1 && found[1] == 1 && found[2] == 1 && found[3] == 7);
+        EACH(papergrid_width_certificate(&table, cells, 4, &count));
+        WANT(count == 1 && cells[0].row == 2 && cells[0].column == 0 && cells[1].row == 7);
+        WANT(papergrid_height_certificate(&table, cells, 2, &count) == PAPERGRID_NO_ROOM && count == 3 && cells[1].row == 7);
+        EACH(papergrid_height_certificate(&table, cells, 3, &count));
+        WANT(count == 3);
+        for (size_t i = 0; i < 3; i++) WANT(cells[i].row == i && cells[i].column == 0);
+        WANT(cells[3].row == 7);
+    }
+    end(&table);
+}
+
+/* Spans that cross: by shares nothing certifies the widths, and least ones are certified. */
+static void crossing(void) {
+    Papergrid table = PAPERGRID_NONE;
+    PapergridPosition cells[4] = {{7, 7}, {7, 7}, {7, 7}, {7, 7}};
+    size_t width, height, found[3], count = 7;
+    EACH(papergrid_new(&table));
+    EACH(papergrid_push_rows(&table, "wide,,c\nd,even,\n", 16, ',', '\n'));
+    EACH(papergrid_set_column_span(&table, 0, 0, 2));
+    EACH(papergrid_set_column_span(&table, 1, 1, 2));
+    EACH(papergrid_estimate(&table, 0, &width, &height));
+    WANT(papergrid_width_certificate(&table, cells, 4, &count) == PAPERGRID_NO_CERTIFICATE && count == 7 && cells[0].row == 7);
+    EACH(papergrid_height_certificate(&table, cells, 4, &count));
+    WANT(count == 2 && cells[0].row == 0 && cells[1].row == 1);
+    EACH(papergrid_estimate(&table, 1, &width, &height));
+    WANT(width == 5 && height == 2);
+    EACH(papergrid_widths(&table, found, 3, &count));
+    WANT(count == 3 && found[0] == 1 && found[1] == 3 && found[2] == 1);
+    EACH(papergrid_width_certificate(&table, cells, 4, &count));
+    WANT(count == 2 && cells[0].row == cells[1].row && cells[0].column == 0 && cells[1].column == 2 - cells[0].row);
+    end(&table);
+}
+
 /* Values and texts that are none. What is refused changes nothing. */
 static void bad(void) {
     Papergrid table = PAPERGRID_NONE;
@@ -176,7 +266,12 @@ static void bad(void) {
     WANT(papergrid_push_cell(&table, "\xff", 1) == PAPERGRID_NOT_TEXT);
     WANT(papergrid_push_rows(&table, "a\n\xc3,\xa9\n", 6, ',', '\n') == PAPERGRID_NOT_TEXT);
     WANT(papergrid_set_string(&table, "[\"SetBorderDefault\"]") == PAPERGRID_BAD_SETTING);
+    WANT(papergrid_set_string(&table, "[\"SetBorderDefault\", \"ab\"]") == PAPERGRID_BAD_SETTING);
+    WANT(papergrid_set_string(&table, "[\"None\"]") == PAPERGRID_BAD_SETTING);
     WANT(papergrid_set_string(&table, "{") == PAPERGRID_BAD_SETTING);
+    WANT(papergrid_set_string(&table, "{}") == PAPERGRID_BAD_SETTING);
+    WANT(papergrid_push_rows(&table, "a", 1, 0x80, '\n') == PAPERGRID_BAD_VALUE);
+    WANT(papergrid_push_rows(&table, "\xff", 1, ',', 0xff) == PAPERGRID_BAD_VALUE);
     WANT(papergrid_set_padding(&table, none, 1, 1, 1, 1) == PAPERGRID_BAD_VALUE);
     WANT(papergrid_set_alignment(&table, papergrid_all(), 3) == PAPERGRID_BAD_VALUE);
     WANT(papergrid_set_vertical_alignment(&table, papergrid_all(), 3) == PAPERGRID_BAD_VALUE);
@@ -238,6 +333,10 @@ static void none(void) {
     WANT(papergrid_estimate(&table, 0, &width, &height) == PAPERGRID_NO_TABLE && width == 7 && height == 7);
     WANT(papergrid_place(&table, 0, 0, &place) == PAPERGRID_NO_TABLE && place.left == 7);
     WANT(papergrid_cell_at(&table, 0, 0, &at) == PAPERGRID_NO_TABLE && at.row == 7);
+    WANT(papergrid_widths(&table, &width, 1, &height) == PAPERGRID_NO_TABLE && width == 7 && height == 7);
+    WANT(papergrid_heights(&table, &width, 1, &height) == PAPERGRID_NO_TABLE && width == 7 && height == 7);
+    WANT(papergrid_width_certificate(&table, &at, 1, &height) == PAPERGRID_NO_TABLE && at.row == 7 && height == 7);
+    WANT(papergrid_height_certificate(&table, &at, 1, &height) == PAPERGRID_NO_TABLE && at.row == 7 && height == 7);
     WANT(papergrid_draw(&table, 0, &width, &at) == PAPERGRID_NO_TABLE && width == 7 && at.column == 7);
     WANT(papergrid_picture(&table, &byte, 1) == PAPERGRID_NO_TABLE && byte == '~');
     papergrid_free(&table);
@@ -282,15 +381,19 @@ static void not_made(void) {
 
 /* Each number has words of its own. */
 static void words(void) {
-    for (int32_t a = PAPERGRID_OK; a <= PAPERGRID_NO_CELL + 1; a++)
+    for (int32_t a = PAPERGRID_OK; a <= PAPERGRID_NO_CERTIFICATE + 1; a++)
         for (int32_t b = PAPERGRID_OK; b < a; b++) WANT(strcmp(papergrid_words(a), papergrid_words(b)) != 0);
 }
 
 int main(void) {
     plain();
     ended();
+    cut();
+    without_cells();
     settings();
     places();
+    sizes();
+    crossing();
     bad();
     no_picture();
     none();

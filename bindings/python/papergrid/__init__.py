@@ -46,7 +46,9 @@ _CELL_END, _ROW_END = "\x1f", "\x1e"
 
 # Characters that would break the lines of a table: control characters but a line feed, and those that turn the direction of a text.
 _BREAKING = re.compile("[\x00-\x09\x0b-\x1f\x7f-\x9f\u202a-\u202e\u2066-\u2069]")
-_BREAKING_BUT_ENDS = re.compile("[\x00-\x09\x0b-\x1d\x7f-\x9f\u202a-\u202e\u2066-\u2069]")
+# The same of ASCII, as bytes, and the others.
+_ASCII_BREAKING = bytes([*range(0x0a), *range(0x0b, 0x20), 0x7f])
+_OTHER_BREAKING = re.compile("[\x80-\x9f\u202a-\u202e\u2066-\u2069]")
 _NAMED = {"\t": "\\t", "\r": "\\r"}
 
 # A sign, digits with groups of three or without, a fraction and an exponent.
@@ -79,6 +81,14 @@ def _spelled(text: str) -> str:
 
 def _text(value: Any) -> str:
     return value if isinstance(value, str) else "" if value is None else str(value)
+
+
+def _listed(rows: Iterable[Iterable[Any]]) -> Sequence[Sequence[Any]]:
+    """The rows as a list of lists or tuples."""
+    listed = list(rows)
+    if set(map(type, listed)) <= {list, tuple}:
+        return listed
+    return [row if isinstance(row, (list, tuple)) else list(row) for row in listed]
 
 
 def _joined(rows: Sequence[Sequence[Any]]) -> Tuple[Sequence[Sequence[str]], str]:
@@ -130,18 +140,23 @@ class Table:
         self._least = least
         self._is_estimated = False
         self._handle = _library.Handle()
-        texts, joined = _joined([row if isinstance(row, (list, tuple)) else list(row) for row in rows])
-        self._count = (len(texts), max(map(len, texts), default=0))
-        self._push(texts, joined)
+        texts, joined = _joined(_listed(rows))
+        lengths = list(map(len, texts))
+        self._count = (len(texts), max(lengths, default=0))
+        if self._count[1] > 0:
+            self._push(texts, joined, lengths)
         self._set_style(style, header)
         self._set_alignments(texts[1:] if header else texts, align)
 
-    def _push(self, texts: Sequence[Sequence[str]], joined: str) -> None:
-        ends = max(len(texts) - 1, 0) + sum(max(len(row) - 1, 0) for row in texts)
-        if _BREAKING_BUT_ENDS.search(joined) or joined.count(_CELL_END) + joined.count(_ROW_END) != ends:
-            joined = _ROW_END.join(_CELL_END.join(map(_spelled, row)) for row in texts)
-        if self._count[1] > 0:
-            self._handle.push_rows((joined + _ROW_END).encode(), ord(_CELL_END), ord(_ROW_END))
+    def _push(self, texts: Sequence[Sequence[str]], joined: str, lengths: Sequence[int]) -> None:
+        data = joined.encode()
+        # Between cells and between rows; a row without cells ends as one with one.
+        ends = sum(lengths) + lengths.count(0) - 1
+        # All texts are looked at as one. Only where a character has to be spelled is each looked at alone.
+        breaking = len(data) - len(data.translate(None, _ASCII_BREAKING))
+        if breaking != ends or not joined.isascii() and _OTHER_BREAKING.search(joined):
+            data = _ROW_END.join(_CELL_END.join(map(_spelled, row)) for row in texts).encode()
+        self._handle.push_rows(data + _ROW_END.encode(), ord(_CELL_END), ord(_ROW_END))
 
     def _set_style(self, style: str, header: bool) -> None:
         it = STYLES[style]
@@ -186,7 +201,9 @@ class Table:
 
     def __str__(self) -> str:
         """The picture, without a line feed at its end. Raises OutOfTable, NotTiled, TooLarge or OutOfMemory."""
-        return self._handle.draw(self._least).decode()[:-1]
+        picture = self._handle.draw(self._least)
+        del picture[-1:]
+        return picture.decode()
 
     def _estimate(self) -> Tuple[int, int]:
         if not self._is_estimated:
@@ -203,6 +220,34 @@ class Table:
     def height(self) -> int:
         """How many lines it takes."""
         return self._estimate()[1]
+
+    @property
+    def widths(self) -> Sequence[int]:
+        """The width of each column, in columns of a terminal, without the lines between."""
+        self._estimate()
+        return self._handle.sizes("widths")
+
+    @property
+    def heights(self) -> Sequence[int]:
+        """The height of each row, in lines."""
+        self._estimate()
+        return self._handle.sizes("heights")
+
+    @property
+    def width_certificate(self) -> Optional[Sequence[Tuple[int, int]]]:
+        """The rows and columns of cells that show that no widths with room for all cells have a smaller sum.
+
+        No two of them share a column, and what each needs, less the lines inside of it, adds up to the widths. None where sizes are not
+        asked to be `least` and two cells over several columns overlap in part.
+        """
+        self._estimate()
+        return self._handle.certificate("width_certificate")
+
+    @property
+    def height_certificate(self) -> Optional[Sequence[Tuple[int, int]]]:
+        """The same of the heights: no two of the cells share a row."""
+        self._estimate()
+        return self._handle.certificate("height_certificate")
 
     def place(self, row: int, column: int) -> Place:
         """Where a cell stands. Raises Hidden for a position under a span, and OutOfTable."""

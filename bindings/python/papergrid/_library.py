@@ -54,7 +54,7 @@ _ERRORS = {
     11: (PapergridError, "there is no room for the answer"),
     12: (BadSetting, "a value is none of those that are wanted"),
 }
-_NO_CELL = 13
+_NO_CELL, _NO_CERTIFICATE, _NO_ROOM = 13, 14, 11
 
 
 class _Handle(ctypes.Structure):
@@ -111,6 +111,10 @@ _FUNCTIONS = {
     "estimate": [_NUMBER, _SIZES, _SIZES],
     "place": [_SIZE, _SIZE, ctypes.POINTER(_Place)],
     "cell_at": [_SIZE, _SIZE, ctypes.POINTER(_Position)],
+    "widths": [_SIZES, _SIZE, _SIZES],
+    "heights": [_SIZES, _SIZE, _SIZES],
+    "width_certificate": [ctypes.POINTER(_Position), _SIZE, _SIZES],
+    "height_certificate": [ctypes.POINTER(_Position), _SIZE, _SIZES],
     "draw": [_NUMBER, _SIZES, ctypes.POINTER(_Position)],
     "picture": [ctypes.c_void_p, _SIZE],
 }
@@ -190,9 +194,29 @@ class Handle:
         _check(number)
         return position.row, position.column
 
-    def draw(self, least: bool) -> bytes:
+    def _listed(self, name: str, item: Any) -> Optional[Sequence[Any]]:
+        """What the function lists, asked for its count first; None where it has no list."""
+        ask, count = getattr(_IT, f"papergrid_{name}"), _SIZE()
+        number = ask(self._it, None, 0, count)
+        if number == _NO_CERTIFICATE:
+            return None
+        if number != _NO_ROOM:
+            _check(number)
+        items = (item * count.value)()
+        _check(ask(self._it, items, count.value, count))
+        return items
+
+    def sizes(self, name: str) -> Sequence[int]:
+        return list(self._listed(name, _SIZE) or ())
+
+    def certificate(self, name: str) -> Optional[Sequence[Tuple[int, int]]]:
+        cells = self._listed(name, _Position)
+        return None if cells is None else [(cell.row, cell.column) for cell in cells]
+
+    def draw(self, least: bool) -> bytearray:
         length, position = _SIZE(), _Position()
         _check(_IT.papergrid_draw(self._it, int(least), length, position), position)
-        picture = ctypes.create_string_buffer(length.value)
-        _check(_IT.papergrid_picture(self._it, picture, length.value))
-        return picture.raw
+        picture = bytearray(length.value)
+        if picture:
+            _check(_IT.papergrid_picture(self._it, (ctypes.c_char * len(picture)).from_buffer(picture), len(picture)))
+        return picture

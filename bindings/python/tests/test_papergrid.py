@@ -56,6 +56,17 @@ class Sizes(unittest.TestCase):
     def test_sizes(self):
         table = papergrid.Table(PETS)
         self.assertEqual((table.width, table.height), (21, 6))
+        self.assertEqual((table.widths, table.heights), ([6, 6, 5], [1, 1, 1]))
+
+    def test_certificates(self):
+        table = papergrid.Table(PETS)
+        self.assertEqual(table.width_certificate, [(0, 0), (0, 1), (0, 2)])
+        self.assertEqual([row for row, _ in table.height_certificate], [0, 1, 2])
+        crossing = [["wide", "", "c"], ["d", "even", ""]]
+        for least in (False, True):
+            table = papergrid.Table(crossing, style="none", header=False, least=least).span(0, 0, columns=2).span(1, 1, columns=2)
+            self.assertEqual(table.width_certificate is None, not least)
+        self.assertEqual((table.widths, table.width, len(table.width_certificate)), ([1, 3, 1], 5, 2))
 
     def test_places(self):
         table = papergrid.Table(PETS)

@@ -1,97 +1,115 @@
--- The pictures and the sizes of documents that have neither sizes nor colours of their own.
-use Rattle.std.proofs.Common.{◌≡◌, ◌∙◌, ℕ, List, [], None, Option, ap, refl, subst, sym}
-use Rattle.std.specs.Prelude.{length, slice_index}
-use Rattle.std.specs.BTreeMap.{get}
-use Rattle.papergrid_values.specs.MapKeys.{position_cmp}
+-- The sizes and the picture of rows of texts that are lent, by what is found of records of them.
+use Rattle.std.proofs.Common.{Global, Vec, ◌≡◌, ℕ, List, None, Option, Some, Result, Ok, Err, IfErr, IfOk, map, refl, subst}
+use Rattle.papergrid_values.specs.declared.direction.Direction.{Direction}
+use Rattle.papergrid_values.specs.declared.direction.Direction.TheVariants.{Columns, Rows}
 use Rattle.papergrid_values.specs.declared.position.Position.{Position}
+use Rattle.papergrid_config.specs.Grids.{spanned_grid}
+use Rattle.papergrid_config.specs.declared.setting.Setting.{Setting}
 use Rattle.papergrid_config.specs.declared.spanned.SpannedConfig.{SpannedConfig}
+use Rattle.papergrid_walk.specs.Cells.{problem_of}
+use Rattle.papergrid_layout.specs.Answers.{IsBothRefusedWhere, UnlessMemoryError}
+use Rattle.papergrid_layout.specs.Certificates.{AreCertifiedWhere, AreSizesBy, AreTooLargeBy, IsFoundCertificate}
 use Rattle.papergrid_layout.specs.Tables.{AreNoSizesBySizing, AreSizesBySizing}
+use Rattle.papergrid_layout.specs.declared.certificates.Certified.{Certified}
 use Rattle.papergrid_layout.specs.declared.sizing.Sizing.{Sizing}
+use Rattle.papergrid_layout.specs.declared.sizing.Sizing.TheVariants.{ByShares, Least}
+use Rattle.papergrid_layout.proofs.Told.{problem_told}
+use Rattle.papergrid_tracks.specs.Problem.{Problem}
 use Rattle.papergrid_tracks.specs.declared.error.LayoutError.{LayoutError}
 use Rattle.papergrid_tracks.specs.declared.error.LayoutError.TheVariants as layout_errors
 use Rattle.papergrid_draw.specs.Drawings.{Drawing}
-use Rattle.papergrid_draw.specs.Errors.{draw_error_of}
-use Rattle.papergrid_draw.specs.declared.error.DrawError.{DrawError}
-use Rattle.papergrid_draw.specs.declared.error.DrawError.TheVariants as draw_errors
-use Rattle.papergrid_grid.specs.Cells.{lines_at, text_lines}
+use Rattle.papergrid_grid.specs.Lined.{lined}
 use Rattle.papergrid.specs.Estimates.{text_measure}
 use Rattle.papergrid.specs.Layouts.{IsConfiguredBy}
-use Rattle.papergrid.proofs.PictureLemmas.{room-with}
-use Rattle.papergrid.specs.Pictures as pictures
-use Rattle.papergrid_json.specs.Pictures as documents
-use Rattle.papergrid_json.specs.Pictures.{AreNoSizesOf, AreSizesOf, IsDocumentDrawing, IsDocumentFault, texts_of}
-use Rattle.papergrid_json.specs.declared.document.Document.{Document}
+use Rattle.papergrid.specs.Pictures.{IsDrawingWith, Unsized}
+use Rattle.papergrid.specs.Totals.{IsCertificateBy}
+use Rattle.papergrid.proofs.PictureLemmas.{no-sizes-seen, sizes-seen}
+use Rattle.papergrid_builder.specs.Errors.{layout_refusal}
 use Rattle.papergrid_builder.specs.Layouts.{IsNotLaidOut}
-use Rattle.papergrid_builder.specs.Pictures.{IsDrawingOf}
-use Rattle.papergrid_builder.specs.ForProofs.Sizes.{IsUnfound}
+use Rattle.papergrid_builder.specs.Pictures.{IsDrawingOf, IsNotDrawn}
+use Rattle.papergrid_builder.specs.Told.{longest}
+use Rattle.papergrid_builder.specs.ForProofs.Kept.{places_of}
+use Rattle.papergrid_builder.specs.ForProofs.Sizes.{AreFound, IsUndrawn, IsUnfound}
 use Rattle.papergrid_builder.specs.declared.error.BuilderError.{BuilderError}
 use Rattle.papergrid_builder.specs.declared.error.BuilderError.TheVariants as builder_errors
-use Rattle.papergrid_builder.specs.Told.{longest}
 
-module _ (document : Document) (sizing : Sizing) (no_sizes : document.sizes ≡ None) (counted : document.columns ≡ longest (texts_of document)) where
-  -- its sizes are chosen so for its texts
-  pub sizes-chosen : (config : SpannedConfig) (widths heights : List ℕ) → AreSizesOf document sizing config document.sizes widths heights →
-      AreSizesBySizing config text_measure (longest (texts_of document)) (texts_of document) sizing widths heights
-  sizes-chosen config widths heights are =
-      subst (λ n. AreSizesBySizing config text_measure n (texts_of document) sizing widths heights) counted
-      (subst (λ own. AreSizesOf document sizing config own widths heights) no_sizes are)
+certificate-told : (sizing : Sizing) (problem : Problem) (found : Option (Vec Position Global)) → IsFoundCertificate sizing problem found → IsCertificateBy sizing problem (places_of found)
+certificate-told ByShares problem None is = is
+certificate-told ByShares problem (Some places) is = is
+certificate-told Least problem None is = is
+certificate-told Least problem (Some places) is = is
+
+-- of cells that are seen as these texts
+module _ {A : Type 0} (view : A → List ℕ) (config : SpannedConfig) (sizing : Sizing) (cells : List (List A)) (rows : List (List (List ℕ)))
+    (same : map (map view) cells ≡ rows) (columns : ℕ) (counted : columns ≡ longest rows) where
+  chosen : (sizing : Sizing) (certified : Certified) →
+      AreCertifiedWhere (spanned_grid config) (λ x. text_measure (view x)) columns cells (AreSizesBy sizing) (IsFoundCertificate sizing) certified →
+      AreSizesBySizing config (λ x. text_measure (view x)) columns cells sizing certified.widths.items certified.heights.items
+  chosen ByShares certified are = record { widths = are.widths.0; heights = are.heights.0 }
+  chosen Least certified are = record { widths = are.widths.0; heights = are.heights.0 }
+
+  along : (direction : Direction) → problem_of (spanned_grid config) (λ x. text_measure (view x)) columns cells direction ≡ problem_of (spanned_grid config) text_measure (longest rows) rows direction
+  along direction = subst (λ n. problem_of (spanned_grid config) (λ x. text_measure (view x)) columns cells direction ≡ problem_of (spanned_grid config) text_measure n rows direction) counted
+      (problem_told (spanned_grid config) view text_measure cells rows same direction columns)
+
+  -- sizes with what certifies them
+  pub found-told : (certified : Certified) →
+      AreCertifiedWhere (spanned_grid config) (λ x. text_measure (view x)) columns cells (AreSizesBy sizing) (IsFoundCertificate sizing) certified →
+      AreFound config rows sizing certified
+  found-told certified are = record {
+    sized = subst (λ n. AreSizesBySizing config text_measure n rows sizing certified.widths.items certified.heights.items) counted
+        (sizes-seen view config columns cells rows same sizing certified.widths.items certified.heights.items (chosen sizing certified are));
+    certifies_widths = subst (λ problem. IsCertificateBy sizing problem (places_of certified.width_witness)) (along Columns)
+        (certificate-told sizing _ certified.width_witness are.widths.1);
+    certifies_heights = subst (λ problem. IsCertificateBy sizing problem (places_of certified.height_witness)) (along Rows)
+        (certificate-told sizing _ certified.height_witness are.heights.1);
+  }
+
+  none-chosen : (sizing : Sizing) (e : LayoutError) → IsBothRefusedWhere (spanned_grid config) (λ x. text_measure (view x)) columns cells (AreTooLargeBy sizing) e →
+      AreNoSizesBySizing config (λ x. text_measure (view x)) columns cells sizing e
+  none-chosen ByShares e are = are
+  none-chosen Least e are = are
 
   -- why there are none
-  pub no-sizes-chosen : (config : SpannedConfig) (e : LayoutError) → AreNoSizesOf document sizing config document.sizes e →
-      AreNoSizesBySizing config text_measure (longest (texts_of document)) (texts_of document) sizing e
-  no-sizes-chosen config e are =
-      subst (λ n. AreNoSizesBySizing config text_measure n (texts_of document) sizing e) counted
-      (subst (λ own. AreNoSizesOf document sizing config own e) no_sizes are)
+  pub no-sizes : (e : LayoutError) → IsBothRefusedWhere (spanned_grid config) (λ x. text_measure (view x)) columns cells (AreTooLargeBy sizing) e →
+      AreNoSizesBySizing config text_measure (longest rows) rows sizing e
+  no-sizes e are = subst (λ n. AreNoSizesBySizing config text_measure n rows sizing e) counted
+      (no-sizes-seen view config columns cells rows same sizing e (none-chosen sizing e are))
 
-  -- the same of the error that is answered
-  pub not-found : (config : SpannedConfig) → IsConfiguredBy document.settings.items config → (e : BuilderError) → IsUnfound config document sizing e →
-      IsNotLaidOut document.settings.items (texts_of document) sizing e
-  not-found config told (builder_errors.OutOfTable p) are = (config, told, no-sizes-chosen config (layout_errors.OutOfTable p) are)
-  not-found config told builder_errors.TooLarge are = (config, told, no-sizes-chosen config layout_errors.TooLarge are)
-  not-found config told builder_errors.Memory are = tt
-  not-found config told e are = absurd are
+module _ (config : SpannedConfig) (rows : List (List (List ℕ))) (sizing : Sizing) where
+  pub unfound-unsized : (e : LayoutError) → UnlessMemoryError e (AreNoSizesBySizing config text_measure (longest rows) rows sizing e) → IsUnfound config rows sizing (layout_refusal e)
+  unfound-unsized (layout_errors.OutOfTable p) are = are
+  unfound-unsized layout_errors.TooLarge are = are
+  unfound-unsized (layout_errors.Memory e) are = tt
 
-  module _ (no_colors : document.colors.entries ≡ []) where
-    plainly : (config : SpannedConfig) (d : Drawing) → documents.IsDrawingWith document sizing config d →
-        pictures.IsDrawingWith (longest (texts_of document)) (texts_of document) sizing config d
-    plainly config d is = record {
-      widths = is.widths;
-      heights = is.heights;
-      sized = sizes-chosen config is.widths is.heights is.sized;
-      is = is.is ∙ (λ i. record {
-        config = config;
-        widths = slice_index is.widths;
-        heights = slice_index is.heights;
-        shape = (length is.heights, length is.widths);
-        lines = lines_at text_lines (texts_of document);
-        color = λ p. uncolored p i;
-      });
-    }
-      where
-        uncolored : (p : Position) → get position_cmp document.colors p ≡ None
-        uncolored p = rw no_colors refl
+  -- there are no sizes to draw with
+  pub undrawn-unsized : (e : LayoutError) → UnlessMemoryError e (AreNoSizesBySizing config text_measure (longest rows) rows sizing e) → IsUndrawn config rows sizing (layout_refusal e)
+  undrawn-unsized (layout_errors.OutOfTable p) are = Unsized (layout_errors.OutOfTable p) refl are
+  undrawn-unsized layout_errors.TooLarge are = Unsized layout_errors.TooLarge refl are
+  undrawn-unsized (layout_errors.Memory e) are = tt
 
-    -- its drawing is that of its texts
-    pub drawing-told : (d : Drawing) → IsDocumentDrawing document sizing d → IsDrawingOf document.settings.items (texts_of document) sizing d
-    drawing-told d is = (is.0, is.1, plainly is.0 d is.2)
+  -- by a configuration that settings tell
+  module _ (settings : List Setting) (told : IsConfiguredBy settings config) where
+    pub not-found : (e : BuilderError) → IsUnfound config rows sizing e → IsNotLaidOut settings rows sizing e
+    not-found (builder_errors.OutOfTable p) are = (config, told, are)
+    not-found builder_errors.TooLarge are = (config, told, are)
+    not-found builder_errors.Memory are = tt
+    not-found e are = absurd are
 
-    -- why there is none
-    pub fault-told : (e : DrawError) → IsDocumentFault document sizing e → pictures.IsPictureFault (longest (texts_of document)) (texts_of document) sizing document.settings.items e
-    fault-told e is = (is.0, is.1, plain-fault is.0 is.2)
-      where
-        plain-fault : (config : SpannedConfig) → documents.IsFaultWith document sizing config e → pictures.IsFaultWith (longest (texts_of document)) (texts_of document) sizing config e
-        plain-fault config (documents.Unsized error same are) = pictures.Unsized error same (no-sizes-chosen config error are)
-        plain-fault config (documents.Undrawn d is fault) = pictures.Undrawn d (plainly config d is) fault
+    pub not-drawn : (e : BuilderError) → IsUndrawn config rows sizing e → IsNotDrawn settings rows sizing e
+    not-drawn (builder_errors.OutOfTable p) are = (config, told, are)
+    not-drawn (builder_errors.NotTiled p) are = (config, told, are)
+    not-drawn builder_errors.TooLarge are = (config, told, are)
+    not-drawn builder_errors.Memory are = tt
+    not-drawn e are = absurd are
 
-    -- no visible cell lacks room
-    pub never-without-room : (p : Position) → IsDocumentFault document sizing (draw_errors.NoRoom p) → ⊥
-    never-without-room p is = without is.0 is.2
-      where
-        unlike : (error : LayoutError) → draw_errors.NoRoom p ≡ draw_error_of error → ⊥
-        unlike (layout_errors.OutOfTable q) same = cc
-        unlike layout_errors.TooLarge same = cc
-        unlike (layout_errors.Memory e) same = cc
+    -- the same of an answer
+    pub drawn-told : (result : Result (Vec ℕ Global) BuilderError) →
+        IfOk result (λ picture. (d : Drawing) × IsDrawingWith (longest rows) rows sizing config d × (picture.items ≡ lined d)) →
+        IfOk result (λ picture. (d : Drawing) × IsDrawingOf settings rows sizing d × (picture.items ≡ lined d))
+    drawn-told (Ok picture) drawn = (drawn.0, (config, told, drawn.1), drawn.2)
+    drawn-told (Err e) drawn = tt
 
-        without : (config : SpannedConfig) → documents.IsFaultWith document sizing config (draw_errors.NoRoom p) → ⊥
-        without config (documents.Unsized error same are) = unlike error same
-        without config (documents.Undrawn d is fault) = room-with (longest (texts_of document)) (texts_of document) sizing config d (plainly config d is) p fault.1.it
+    pub undrawn-told : (result : Result (Vec ℕ Global) BuilderError) → IfErr result (IsUndrawn config rows sizing) → IfErr result (IsNotDrawn settings rows sizing)
+    undrawn-told (Ok picture) undrawn = tt
+    undrawn-told (Err e) undrawn = not-drawn e undrawn

@@ -1,112 +1,210 @@
--- Rows of texts: how many cells the longest has, one more cell, and what a text is cut into.
-use Rattle.std.proofs.Common.{Bor, Global, String, Vec, ◌≡◌, ◌∙◌, ◌+◌, ◌-◌, ◌<◌, ℕ, Bool, List, [], ◌∷◌, ◌++◌, None, Option, Some, max, ap, append_assoc, arith, get_or, length, length-append, refl, set, string_bytes, subst, sym, take, map}
-use Rattle.std.specs.Prelude.{◌==◌, All, IsUtf8, MatchOption, unwrap_or}
+-- Texts of cells in one text, rows of them by where they begin, and what a text is cut into.
+use Rattle.std.proofs.Common.{Bor, ◌≡◌, ◌∙◌, ◌+◌, ◌-◌, ◌<◌, ◌≤◌, ◌⊎◌, ℕ, zero, suc, Bool, false, List, [], ◌∷◌, ◌++◌, None, Option, Some, Result, Ok, Err, OnErr, OnOk, max, ap, append_assoc, arith, drop, get_or, inl, inr, length, length-append, refl, subst, sym, take, true, map}
+use Rattle.std.specs.Prelude.{◌==◌, All, IsCharBoundary, IsUtf8, MatchOption, slice_get, slice_index, slice_range, unwrap_or}
 use Rattle.std.specs.List.{after_first, before_first, position_or_len, slice_split}
-use Rattle.std.proofs.Math.Seq.{take-length}
-use Rattle.std.proofs.lemmas.List.{length-drop, length-map, length-set, map-append, take_more, take_more_set}
+use Rattle.std.proofs.Math.Seq.{drop-append_seam, take-length}
+use Rattle.std.proofs.lemmas.List.{drop-append-le, drop-map, get_or_append_left, length-drop, length-map, length-take, map-append, take-append-le, take-map, take_more}
 use Rattle.std.specs.Ordering.{nat_cmp, ord_max}
+use Rattle.std.proofs.lemmas.Bool.{cases_lt}
 use Rattle.std.proofs.lemmas.Bool.Decides.{nat_tests}
 use Rattle.std.proofs.lemmas.List.Elements.{All-cons, All-head, All-nil, All-push, All-tail}
 use Rattle.std.proofs.lemmas.List.Splits.{length-slice_split, slice_split_first, slice_split_none}
-use Rattle.std.proofs.lemmas.List.Sums.{fails_before_first}
-use Rattle.papergrid_builder.specs.Told.{in_last_row, longest, rows_in, unless_last_is_empty}
-use Rattle.papergrid_builder.specs.ForProofs.Texts.{IsNotAllText, IsNotText, texts_in}
-use Rattle.papergrid_builder.specs.declared.error.BuilderError.{BuilderError}
-use Rattle.papergrid_builder.specs.declared.error.BuilderError.TheVariants.{Memory, NotText}
-
-abbrev pub Row : Type 0
-Row = Vec (String Global) Global
+use Rattle.std.proofs.lemmas.List.Sums.{fails_before_first, passes_at_first}
+use Rattle.std.proofs.lemmas.Str.{IsCharBoundary-after_ascii, IsCharBoundary-at_seam, IsCharBoundary-before_ascii, IsCharBoundary-end, IsUtf8-append, IsUtf8-between, IsUtf8-drop, IsUtf8-take}
+use Rattle.papergrid_text.proofs.Places.{no_more_than}
+use Rattle.papergrid_builder.specs.Told.{in_last_row, longest, one_more_cell, rows_in, unless_last_is_empty}
+use Rattle.papergrid_builder.specs.ForProofs.Texts.{AreCells, AreStarts, IsTextRange, rows_told, text_in, texts_lent}
 
 -- ---- the longest row
 
 pub max-of : (a b c : ℕ) → b ≡ c → ord_max nat_cmp a b ≡ max a c
 max-of a b c same = grind (arith, nat_tests)
 
-pub longest-append : (xs ys : List (List (List ℕ))) → longest (xs ++ ys) ≡ max (longest xs) (longest ys)
+longest-append : (xs ys : List (List (List ℕ))) → longest (xs ++ ys) ≡ max (longest xs) (longest ys)
 longest-append [] ys = omega arith
 longest-append (x ∷ xs) ys = omega (arith, longest-append xs ys)
 
--- with one more row
-pub longest-more : (rows : List Row) (row : Row) (count : ℕ) → length row.items ≡ count → longest (texts_in (rows ++ row ∷ [])) ≡ max (longest (texts_in rows)) count
-longest-more rows row count is =
-    ap longest (map-append (λ (r : Row). map string_bytes r.items) rows (row ∷ []))
-    ∙ (omega (arith, longest-append (texts_in rows) (texts_in (row ∷ [])), length-map row.items string_bytes, is))
-
--- with more rows
-pub longest-both : (rows more : List Row) → longest (texts_in (rows ++ more)) ≡ max (longest (texts_in rows)) (longest (texts_in more))
-longest-both rows more = ap longest (map-append (λ (r : Row). map string_bytes r.items) rows more) ∙ longest-append (texts_in rows) (texts_in more)
-
 -- of the rows up to this one
-pub longest-take : (rows : List Row) (i : ℕ) (row : Row) (count : ℕ) → i < length rows → row ≡ get_or rows i row → length row.items ≡ count →
-    longest (texts_in (take (i + 1) rows)) ≡ max (longest (texts_in (take i rows))) count
-longest-take rows i row count within at is =
-    ap (λ taken. longest (texts_in taken)) (take_more rows i row within ∙ ap (λ (r : Row). take i rows ++ r ∷ []) (sym at)) ∙ longest-more (take i rows) row count is
+pub longest-take : {R : Type 0} (cells : R → List (List ℕ)) (rows : List R) (i : ℕ) (d : R) (count : ℕ) → i < length rows → length (cells (get_or rows i d)) ≡ count →
+    longest (map cells (take (i + 1) rows)) ≡ max (longest (map cells (take i rows))) count
+longest-take cells rows i d count within is =
+    ap (λ taken. longest (map cells taken)) (take_more rows i d within)
+    ∙ ap longest (map-append cells (take i rows) (get_or rows i d ∷ []))
+    ∙ (omega (arith, longest-append (map cells (take i rows)) (cells (get_or rows i d) ∷ []), is))
 
--- ---- one more cell
+-- ---- ranges
 
--- a list by its last element
-module _ {X : Type 0} (xs : List X) (n : ℕ) (counted : n ≡ length xs) (some : 0 < n) where
-  pub last-is : (x : X) → x ≡ get_or xs (n - 1) x → xs ≡ take (n - 1) xs ++ x ∷ []
-  last-is x at =
-      let whole : length xs ≡ (n - 1) + 1 = omega arith in
-      sym (take-length xs) ∙ ap (λ k. take k xs) whole ∙ take_more xs (n - 1) x (omega arith) ∙ ap (λ y. take (n - 1) xs ++ y ∷ []) (sym at)
+-- a range of a list that goes on
+pub range-kept : {X : Type 0} (xs more : List X) (start end : ℕ) → start ≤ end → end ≤ length xs → slice_range (xs ++ more) start end ≡ slice_range xs start end
+range-kept xs more start end ordered within =
+    ap (take (end - start)) (drop-append-le start xs more (omega (arith, ordered, within)))
+    ∙ take-append-le (end - start) (drop start xs) more (omega (arith, ordered, within, length-drop start xs))
 
-  pub last-set : (y : X) → set xs (n - 1) y ≡ take (n - 1) xs ++ y ∷ []
-  last-set y =
-      let whole : length (set xs (n - 1) y) ≡ (n - 1) + 1 = omega (arith, length-set xs (n - 1) y) in
-      sym (take-length (set xs (n - 1) y)) ∙ ap (λ k. take k (set xs (n - 1) y)) whole ∙ take_more_set xs (n - 1) y (omega arith)
+-- up to the end
+pub range-whole : {X : Type 0} (xs : List X) (start : ℕ) → start ≤ length xs → slice_range xs start (length xs) ≡ drop start xs
+range-whole xs start within = ap (λ n. take n (drop start xs)) (omega (arith, within, length-drop start xs)) ∙ take-length (drop start xs)
 
-in_last_row-append : (front : List (List (List ℕ))) (row : List (List ℕ)) (text : List ℕ) → in_last_row (front ++ row ∷ []) text ≡ front ++ (row ++ text ∷ []) ∷ []
-in_last_row-append [] row text = refl
-in_last_row-append (x ∷ []) row text = refl
-in_last_row-append (x ∷ y ∷ front) row text = ap (λ rows. x ∷ rows) (in_last_row-append (y ∷ front) row text)
+-- behind a list
+pub range-behind : {X : Type 0} (xs more : List X) → slice_range (xs ++ more) (length xs) (length (xs ++ more)) ≡ more
+range-behind xs more = range-whole (xs ++ more) (length xs) (omega (arith, length-append xs more)) ∙ drop-append_seam xs more
 
-module _ (rows : List Row) (n : ℕ) (counted : n ≡ length rows) (some : 0 < n) (old new : Row) (last : old ≡ get_or rows (n - 1) old) where
-  front : List (List (List ℕ))
-  front = texts_in (take (n - 1) rows)
+-- of what a list is mapped to
+pub range-map : {X Y : Type 0} (f : X → Y) (xs : List X) (start end : ℕ) → slice_range (map f xs) start end ≡ map f (slice_range xs start end)
+range-map f xs start end = ap (take (end - start)) (drop-map f start xs) ∙ take-map f (end - start) (drop start xs)
 
-  before : texts_in rows ≡ front ++ map string_bytes old.items ∷ []
-  unfolding front
-  before = ap texts_in (last-is rows n counted some old last) ∙ map-append (λ (r : Row). map string_bytes r.items) (take (n - 1) rows) (old ∷ [])
+-- ---- cells in a text
 
-  after : texts_in (set rows (n - 1) new) ≡ front ++ map string_bytes new.items ∷ []
-  unfolding front
-  after = ap texts_in (last-set rows n counted some new) ∙ map-append (λ (r : Row). map string_bytes r.items) (take (n - 1) rows) (new ∷ [])
+boundary-kept : (text more : List ℕ) (i : ℕ) → IsUtf8 more → IsCharBoundary text i → IsCharBoundary (text ++ more) i
+boundary-kept text more i utf8 is = elim (cases_lt i (length text)) [
+  | inl within ↦ let same : slice_index (text ++ more) i ≡ slice_index text i = get_or_append_left text more 0 i within in (
+    omega (arith, is.0, length-append text more),
+    λ _ high. subst (λ b. 192 ≤ b) (sym same) (is.1 within (subst (λ b. 128 ≤ b) same high)),
+  )
+  | inr past ↦ subst (IsCharBoundary (text ++ more)) (omega (arith, past, is.0)) (IsCharBoundary-at_seam (text ++ more) text more refl utf8)
+]
 
-  -- the last row as it was
-  pub last-kept : new.items ≡ old.items → texts_in (set rows (n - 1) new) ≡ texts_in rows
-  last-kept same = after ∙ ap (λ items. front ++ map string_bytes items ∷ []) same ∙ sym before
+-- cells of a text that goes on
+module _ (text more : List ℕ) (utf8 : IsUtf8 more) where
+  ranges-kept : (ranges : List (ℕ × ℕ)) → All (IsTextRange text) ranges → All (IsTextRange (text ++ more)) ranges
+  ranges-kept [] all = All-nil (IsTextRange (text ++ more))
+  ranges-kept (r ∷ ranges) all =
+      let first = All-head (IsTextRange text) r ranges all in
+      All-cons (IsTextRange (text ++ more)) r ranges
+      (record { ordered = first.ordered; begins = boundary-kept text more r.0 utf8 first.begins; ends = boundary-kept text more r.1 utf8 first.ends })
+      (ranges-kept ranges (All-tail (IsTextRange text) r ranges all))
 
-  -- with one more cell
-  module _ (cell : String Global) (more : new.items ≡ old.items ++ cell ∷ []) where
-    longer : map string_bytes new.items ≡ map string_bytes old.items ++ string_bytes cell ∷ []
-    longer = ap (map string_bytes) more ∙ map-append string_bytes old.items (cell ∷ [])
+  pub cells-kept : (ranges : List (ℕ × ℕ)) → AreCells text ranges → AreCells (text ++ more) ranges
+  cells-kept ranges are = record { utf8 = IsUtf8-append text more are.utf8 utf8; within = ranges-kept ranges are.within }
 
-    pub last-longer : texts_in (set rows (n - 1) new) ≡ in_last_row (texts_in rows) (string_bytes cell)
-    last-longer =
-        after ∙ ap (λ row. front ++ row ∷ []) longer ∙ sym (in_last_row-append front (map string_bytes old.items) (string_bytes cell))
-        ∙ ap (λ told. in_last_row told (string_bytes cell)) (sym before)
+  pub texts-kept : (ranges : List (ℕ × ℕ)) → All (IsTextRange text) ranges → map (text_in (text ++ more)) ranges ≡ map (text_in text) ranges
+  texts-kept [] all = refl
+  texts-kept (r ∷ ranges) all =
+      let first = All-head (IsTextRange text) r ranges all in
+      λ i. range-kept text more r.0 r.1 first.ordered first.ends.0 i ∷ texts-kept ranges (All-tail (IsTextRange text) r ranges all) i
 
-    pub longest-longer : longest (texts_in (set rows (n - 1) new)) ≡ max (longest (texts_in rows)) (length new.items)
-    longest-longer =
-        let was = longest-append front (map string_bytes old.items ∷ []) in
-        let is = longest-append front (map string_bytes new.items ∷ []) in
-        let told = ap longest before in
-        let then = ap longest after in
-        let count : length new.items ≡ length old.items + 1 = ap length more ∙ length-append old.items (cell ∷ []) in
-        omega (arith, length-map old.items string_bytes, length-map new.items string_bytes)
+  -- with a cell of what is behind
+  module _ (ranges : List (ℕ × ℕ)) (are : AreCells text ranges) (start end : ℕ) (starts : start ≡ length text) (ends : end ≡ length (text ++ more)) where
+    pub cells-more : AreCells (text ++ more) (ranges ++ (start, end) ∷ [])
+    cells-more = record {
+      utf8 = IsUtf8-append text more are.utf8 utf8;
+      within = All-push (IsTextRange (text ++ more)) ranges (start, end) (ranges-kept ranges are.within) (record {
+        ordered = omega (arith, starts, ends, length-append text more);
+        begins = subst (IsCharBoundary (text ++ more)) (sym starts) (IsCharBoundary-at_seam (text ++ more) text more refl utf8);
+        ends = subst (IsCharBoundary (text ++ more)) (sym ends) (IsCharBoundary-end (text ++ more));
+      });
+    }
+
+    pub texts-more : map (text_in (text ++ more)) (ranges ++ (start, end) ∷ []) ≡ map (text_in text) ranges ++ more ∷ []
+    texts-more =
+        map-append (text_in (text ++ more)) ranges ((start, end) ∷ [])
+        ∙ (λ i. texts-kept ranges are.within i ++ slice_range (text ++ more) (starts i) (ends i) ∷ [])
+        ∙ ap (λ cell. map (text_in text) ranges ++ cell ∷ []) (range-behind text more)
+
+-- each is UTF-8
+pub texts-utf8 : (text : List ℕ) (ranges : List (ℕ × ℕ)) → AreCells text ranges → All IsUtf8 (map (text_in text) ranges)
+texts-utf8 text [] are = All-nil IsUtf8
+texts-utf8 text (r ∷ ranges) are =
+    let first = All-head (IsTextRange text) r ranges are.within in
+    All-cons IsUtf8 (text_in text r) (map (text_in text) ranges) (IsUtf8-between text r.0 r.1 are.utf8 first.ordered first.begins first.ends)
+    (texts-utf8 text ranges (record { utf8 = are.utf8; within = All-tail (IsTextRange text) r ranges are.within }))
+
+-- ---- rows by where they begin
+
+pub start-within : (count start : ℕ) (starts : List ℕ) → AreStarts count (start ∷ starts) → start ≤ count
+start-within count start [] is = is
+start-within count start (next ∷ starts) is = omega (arith, is.0, start-within count next starts is.1)
+
+pub starts-kept : (count more : ℕ) (starts : List ℕ) → count ≤ more → AreStarts count starts → AreStarts more starts
+starts-kept count more [] le is = tt
+starts-kept count more (start ∷ []) le is = omega (arith, is, le)
+starts-kept count more (start ∷ next ∷ starts) le is = (is.0, starts-kept count more (next ∷ starts) le is.1)
+
+pub starts-more : (count more : ℕ) (starts : List ℕ) → count ≤ more → AreStarts count starts → AreStarts more (starts ++ count ∷ [])
+starts-more count more [] le is = le
+starts-more count more (start ∷ []) le is = (is, le)
+starts-more count more (start ∷ next ∷ starts) le is = (is.0, starts-more count more (next ∷ starts) le is.1)
+
+-- one more row, of what is behind
+pub rows-more : (cells more : List (List ℕ)) (starts : List ℕ) → AreStarts (length cells) starts →
+    rows_told (cells ++ more) (starts ++ length cells ∷ []) ≡ rows_told cells starts ++ more ∷ []
+rows-more cells more [] is = ap (λ row. row ∷ []) (drop-append_seam cells more)
+rows-more cells more (start ∷ []) is =
+    λ i. (range-kept cells more start (length cells) is (omega arith) ∙ range-whole cells start is) i ∷ drop-append_seam cells more i ∷ []
+rows-more cells more (start ∷ next ∷ starts) is =
+    λ i. range-kept cells more start next is.0 (start-within (length cells) next starts is.1) i ∷ rows-more cells more (next ∷ starts) is.1 i
+
+in-last : (row : List (List ℕ)) (rows : List (List (List ℕ))) (cell : List ℕ) → 0 < length rows → in_last_row (row ∷ rows) cell ≡ row ∷ in_last_row rows cell
+in-last row [] cell some = absurd (omega arith)
+in-last row (next ∷ rows) cell some = refl
+
+some-rows : (cells : List (List ℕ)) (start : ℕ) (starts : List ℕ) → 0 < length (rows_told cells (start ∷ starts))
+some-rows cells start [] = omega arith
+some-rows cells start (next ∷ starts) = omega arith
+
+-- one more cell of the last row
+rows-longer : (cells : List (List ℕ)) (cell : List ℕ) (start : ℕ) (starts : List ℕ) → AreStarts (length cells) (start ∷ starts) →
+    rows_told (cells ++ cell ∷ []) (start ∷ starts) ≡ in_last_row (rows_told cells (start ∷ starts)) cell
+rows-longer cells cell start [] is = ap (λ row. row ∷ []) (drop-append-le start cells (cell ∷ []) is)
+rows-longer cells cell start (next ∷ starts) is =
+    (λ i. range-kept cells (cell ∷ []) start next is.0 (start-within (length cells) next starts is.1) i ∷ rows-longer cells cell next starts is.1 i)
+    ∙ sym (in-last (slice_range cells start next) (rows_told cells (next ∷ starts)) cell (some-rows cells next starts))
+
+pub rows-go-on : (cells : List (List ℕ)) (cell : List ℕ) (starts : List ℕ) → AreStarts (length cells) starts → 0 < length starts →
+    rows_told (cells ++ cell ∷ []) starts ≡ in_last_row (rows_told cells starts) cell
+rows-go-on cells cell [] is some = absurd (omega arith)
+rows-go-on cells cell (start ∷ starts) is some = rows-longer cells cell start starts is
+
+pub first-or : (xs : List ℕ) (n : ℕ) → unwrap_or (slice_get xs 0) n ≡ get_or xs 0 n
+first-or [] n = refl
+first-or (x ∷ xs) n = refl
+
+-- the first row, and those behind it
+pub rows-first : (cells : List (List ℕ)) (start : ℕ) (starts : List ℕ) → AreStarts (length cells) (start ∷ starts) →
+    rows_told cells (start ∷ starts) ≡ slice_range cells start (get_or starts 0 (length cells)) ∷ rows_told cells starts
+rows-first cells start [] is = ap (λ row. row ∷ []) (sym (range-whole cells start is))
+rows-first cells start (next ∷ starts) is = refl
+
+pub starts-rest : (count start : ℕ) (starts : List ℕ) → AreStarts count (start ∷ starts) → AreStarts count starts
+starts-rest count start [] is = tt
+starts-rest count start (next ∷ starts) is = is.1
+
+pub first-end : (count start : ℕ) (starts : List ℕ) → AreStarts count (start ∷ starts) → (start ≤ get_or starts 0 count) × (get_or starts 0 count ≤ count)
+first-end count start [] is = (is, omega arith)
+first-end count start (next ∷ starts) is = (is.0, start-within count next starts is.1)
+
+-- what comes first stays so
+pub first-kept : {X : Type 0} (old xs more : List X) → take (length old) xs ≡ old → take (length old) (xs ++ more) ≡ old
+first-kept old xs more is = take-append-le (length old) xs more (omega (arith, ap length is, length-take (length old) xs)) ∙ is
+
+-- a new row, where the last one does not go on or there is none
+pub new-row : (goes_on : Bool) (rows : List (List (List ℕ))) (cell : List ℕ) → (goes_on ≡ false) ⊎ (rows ≡ []) → one_more_cell goes_on rows cell ≡ rows ++ (cell ∷ []) ∷ []
+new-row false rows cell why = refl
+new-row true rows cell (inl is) = absurd (let none : ⊥ = cc in none)
+new-row true rows cell (inr none) = rw none refl
+
+-- the rows after a call that adds a cell to the last one
+pub after-push : {E : Type 0} (cells new : List (List ℕ)) (cell : List ℕ) (starts : List ℕ) (told : List (List (List ℕ))) → rows_told (cells ++ cell ∷ []) starts ≡ told →
+    (result : Result (Unit {0}) E) → OnOk result (new ≡ cells ++ cell ∷ []) → OnOk result (rows_told new starts ≡ told)
+after-push cells new cell starts told is (Ok x) pushed = ap (λ cs. rows_told cs starts) pushed ∙ is
+after-push cells new cell starts told is (Err e) pushed = tt
+
+-- where rows may begin after a call that adds a cell or none
+pub starts-after : {E : Type 0} (cells new : List (List ℕ)) (cell : List ℕ) (starts : List ℕ) → AreStarts (length cells) starts → (result : Result (Unit {0}) E) →
+    OnOk result (new ≡ cells ++ cell ∷ []) → OnErr result (new ≡ cells) → AreStarts (length new) starts
+starts-after cells new cell starts are (Ok x) ok err = starts-kept (length cells) (length new) starts (omega (arith, ap length ok, length-append cells (cell ∷ []))) are
+starts-after cells new cell starts are (Err e) ok err = subst (λ cs. AreStarts (length cs) starts) (sym err) are
+
+-- the same of cells that are lent
+pub starts-lent : (texts : List (Bor (List ℕ))) (cells : List (List ℕ)) (starts : List ℕ) → texts_lent texts ≡ cells → AreStarts (length cells) starts → AreStarts (length texts) starts
+starts-lent texts cells starts is are = subst (λ n. AreStarts n starts) (sym (ap length is) ∙ length-map texts (λ text. text.now)) are
 
 -- ---- what a text is cut into
 
--- one more of what is mapped
-module _ {X Y : Type 0} (f : X → Y) (xs : List X) (x : X) (y : Y) (is : f x ≡ y) where
-  pub joined-more : (left after whole : List Y) → map f xs ++ left ≡ whole → left ≡ y ∷ after → map f (xs ++ x ∷ []) ++ after ≡ whole
-  joined-more left after whole so next =
-      ap (λ ys. ys ++ after) (map-append f xs (x ∷ [])) ∙ append_assoc (map f xs) (f x ∷ []) after ∙ ap (λ z. map f xs ++ z ∷ after) is
-      ∙ ap (λ ys. map f xs ++ ys) (sym next) ∙ so
-
-  pub all-more : (P : Y → Type 0) → All P (map f xs) → P y → All P (map f (xs ++ x ∷ []))
-  all-more P all p = subst (All P) (sym (map-append f xs (x ∷ []))) (All-push P (map f xs) (f x) all (subst P (sym is) p))
+-- an ASCII byte that was found
+pub ascii-at : (text : List ℕ) (end at : ℕ) → at ≡ position_or_len (λ byte. byte == end) text → at < length text → end < 128 → get_or text at 0 < 128
+ascii-at text end at is within ascii =
+    let found = subst (λ n. (get_or text n 0 == end) ≡ true) (sym is) (passes_at_first (λ byte. byte == end) text 0 (omega (arith, is, within))) in
+    grind (arith, nat_tests)
 
 more-pieces : (piece : List ℕ) (pieces : List (List ℕ)) → 0 < length pieces → unless_last_is_empty (piece ∷ pieces) ≡ piece ∷ unless_last_is_empty pieces
 more-pieces piece [] some = absurd (omega arith)
@@ -166,35 +264,59 @@ module _ (end : ℕ) (text : List ℕ) where
 -- the cells so far, one more, and those that are left
 pub row-step : (end : ℕ) (whole front : List (List ℕ)) (rest : Option (Bor (List ℕ))) (text : Bor (List ℕ)) (piece : List ℕ) (after : Option (Bor (List ℕ))) →
     front ++ cells_left end rest ≡ whole → rest ≡ Some text → piece ≡ before_first (ends end text.now) text.now → IsBehind end text.now after →
-    front ++ piece ∷ cells_left end after ≡ whole
+    (front ++ piece ∷ []) ++ cells_left end after ≡ whole
 row-step end whole front rest text piece after so is first behind =
-    ap (λ p. front ++ p ∷ cells_left end after) first ∙ ap (λ cells. front ++ cells) (sym (cells-cut end text.now after behind))
+    append_assoc front (piece ∷ []) (cells_left end after)
+    ∙ ap (λ p. front ++ p ∷ cells_left end after) first ∙ ap (λ cells. front ++ cells) (sym (cells-cut end text.now after behind))
     ∙ ap (λ left. front ++ cells_left end left) (sym is) ∙ so
 
 -- the rows so far, one more, and those that are left
 pub rows-step : (cell_end row_end : ℕ) (whole front : List (List (List ℕ))) (text piece : List ℕ) (after : Option (Bor (List ℕ))) (nothing left : Bor (List ℕ)) →
     front ++ rows_in cell_end row_end text ≡ whole → 0 < length text → piece ≡ before_first (ends row_end text) text → IsBehind row_end text after → nothing.now ≡ [] →
     left ≡ unwrap_or after nothing →
-    front ++ slice_split (λ byte. byte == cell_end) piece ∷ rows_in cell_end row_end left.now ≡ whole
+    (front ++ slice_split (λ byte. byte == cell_end) piece ∷ []) ++ rows_in cell_end row_end left.now ≡ whole
 rows-step cell_end row_end whole front text piece after nothing left so some first behind none_left left_is =
-    (λ i. front ++ slice_split (λ byte. byte == cell_end) (first i) ∷ rows_in cell_end row_end (left_is i).now)
+    append_assoc front (slice_split (λ byte. byte == cell_end) piece ∷ []) (rows_in cell_end row_end left.now)
+    ∙ (λ i. front ++ slice_split (λ byte. byte == cell_end) (first i) ∷ rows_in cell_end row_end (left_is i).now)
     ∙ ap (λ pieces. front ++ map (slice_split (λ byte. byte == cell_end)) pieces) (sym (pieces-cut row_end text some nothing none_left after behind)) ∙ so
 
--- ---- what is no text
+-- ---- what is UTF-8
 
-all-at : {X : Type 0} (P : X → Type 0) (front : List X) (x : X) (after : List X) → All P (front ++ x ∷ after) → P x
-all-at P [] x after all = All-head P x after all
-all-at P (y ∷ front) x after all = all-at P front x after (All-tail P y (front ++ x ∷ after) all)
+split-utf8 : (fuel : ℕ) (end : ℕ) (text : List ℕ) → length text < fuel → end < 128 → IsUtf8 text → All IsUtf8 (slice_split (ends end text) text)
+split-utf8 zero end text less ascii utf8 = absurd (omega (arith, less))
+split-utf8 (suc fuel) end text less ascii utf8 = elim (cases_lt (position_or_len (ends end text) text) (length text)) [
+  | inl within ↦
+      let at = position_or_len (ends end text) text in
+      let byte = ascii-at text end at refl within ascii in
+      let after = IsUtf8-drop text (at + 1) utf8 (IsCharBoundary-after_ascii text at utf8 within byte) in
+      subst (All IsUtf8) (sym (slice_split_first (ends end text) text 0 within))
+      (All-cons IsUtf8 (before_first (ends end text) text) (slice_split (ends end text) (after_first (ends end text) text))
+      (IsUtf8-take text at utf8 (IsCharBoundary-before_ascii text at within byte))
+      (split-utf8 fuel end (drop (at + 1) text) (omega (arith, less, within, length-drop (at + 1) text)) ascii after))
+  | inr past ↦
+      subst (All IsUtf8) (sym (piece-alone end text (omega (arith, past, no_more_than text end)))) (All-cons IsUtf8 text [] utf8 (All-nil IsUtf8))
+]
 
--- a cell of a row
-pub not-text-cell : (front : List (List ℕ)) (cell : List ℕ) (after : List (List ℕ)) (e : BuilderError) → IsNotText cell e → IsNotAllText ((front ++ cell ∷ after) ∷ []) e
-not-text-cell front cell after NotText is = λ all. is (all-at IsUtf8 front cell after (All-head (All IsUtf8) (front ++ cell ∷ after) [] all))
-not-text-cell front cell after Memory is = tt
-not-text-cell front cell after e is = absurd is
+last-utf8 : (pieces : List (List ℕ)) → All IsUtf8 pieces → All IsUtf8 (unless_last_is_empty pieces)
+last-utf8 [] all = all
+last-utf8 (piece ∷ []) all = elim (cases_lt 0 (length piece)) [
+  | inl some ↦ subst (All IsUtf8) (sym (one-piece piece some)) all
+  | inr none ↦ subst (All IsUtf8) (sym (no-piece piece (omega (arith, none)))) (All-nil IsUtf8)
+]
+  where
+    no-piece : (piece : List ℕ) → length piece ≡ 0 → unless_last_is_empty (piece ∷ []) ≡ []
+    no-piece piece none = grind (arith, nat_tests)
+last-utf8 (piece ∷ next ∷ pieces) all =
+    All-cons IsUtf8 piece (unless_last_is_empty (next ∷ pieces)) (All-head IsUtf8 piece (next ∷ pieces) all) (last-utf8 (next ∷ pieces) (All-tail IsUtf8 piece (next ∷ pieces) all))
 
--- a row of several
-pub not-text-row : (front : List (List (List ℕ))) (row : List (List ℕ)) (after : List (List (List ℕ))) (e : BuilderError) → IsNotAllText (row ∷ []) e → IsNotAllText (front ++ row ∷ after) e
-not-text-row front row after NotText is =
-    λ all. is (All-cons (All IsUtf8) row [] (all-at (All IsUtf8) front row after all) (All-nil (All IsUtf8)))
-not-text-row front row after Memory is = tt
-not-text-row front row after e is = absurd is
+cells-utf8 : (end : ℕ) → end < 128 → (pieces : List (List ℕ)) → All IsUtf8 pieces → All (All IsUtf8) (map (slice_split (λ byte. byte == end)) pieces)
+cells-utf8 end ascii [] all = All-nil (All IsUtf8)
+cells-utf8 end ascii (piece ∷ pieces) all =
+    All-cons (All IsUtf8) (slice_split (λ byte. byte == end) piece) (map (slice_split (λ byte. byte == end)) pieces)
+    (split-utf8 (length piece + 1) end piece (omega arith) ascii (All-head IsUtf8 piece pieces all)) (cells-utf8 end ascii pieces (All-tail IsUtf8 piece pieces all))
+
+-- the cells that a text is cut into
+pub rows-utf8 : (cell_end row_end : ℕ) (text : List ℕ) → cell_end < 128 → row_end < 128 → IsUtf8 text → All (All IsUtf8) (rows_in cell_end row_end text)
+rows-utf8 cell_end row_end text cell row utf8 =
+    cells-utf8 cell_end cell (unless_last_is_empty (slice_split (λ byte. byte == row_end) text))
+    (last-utf8 (slice_split (λ byte. byte == row_end) text) (split-utf8 (length text + 1) row_end text (omega arith) row utf8))

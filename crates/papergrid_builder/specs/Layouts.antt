@@ -5,6 +5,8 @@ use Rattle.papergrid_values.specs.declared.direction.Direction.TheVariants.{Colu
 use Rattle.papergrid_values.specs.declared.position.Position.{Position}
 use Rattle.papergrid_config.specs.declared.setting.Setting.{Setting}
 use Rattle.papergrid_config.specs.declared.spanned.SpannedConfig.{SpannedConfig}
+use Rattle.papergrid_config.specs.Grids.{spanned_grid}
+use Rattle.papergrid_walk.specs.Cells.{problem_of}
 use Rattle.papergrid_layout.specs.Places.{HasPlace, IsFirstOver, Overflows, total_along}
 use Rattle.papergrid_layout.specs.Tables.{AreNoSizesBySizing, AreSizesBySizing, TableParts, view_of}
 use Rattle.papergrid_layout.specs.declared.rect.Place.{Place}
@@ -13,16 +15,25 @@ use Rattle.papergrid_tracks.specs.declared.error.LayoutError.{LayoutError}
 use Rattle.papergrid_tracks.specs.declared.error.LayoutError.TheVariants as layout_errors
 use Rattle.papergrid.specs.Estimates.{text_measure}
 use Rattle.papergrid.specs.Layouts.{IsConfiguredBy}
-use Rattle.papergrid_builder.specs.Told.{longest}
+use Rattle.papergrid.specs.Totals.{IsCertificateBy}
+use Rattle.papergrid_builder.specs.Told.{FoundTable, longest}
 use Rattle.papergrid_builder.specs.declared.error.BuilderError.{BuilderError}
 use Rattle.papergrid_builder.specs.declared.error.BuilderError.TheVariants.{Hidden, Memory, NotEstimated, OutOfTable, TooLarge}
 
 module _ (settings : List Setting) (rows : List (List (List ℕ))) (sizing : Sizing) where
-  -- a configuration that the settings tell, with the sizes that are chosen so for the texts; their totals fit
-  pub record IsLaidOut (parts : TableParts) : Type 0 where
-    pub configured : IsConfiguredBy settings parts.config
-    pub sized : AreSizesBySizing parts.config text_measure (longest rows) rows sizing parts.widths parts.heights
-    pub fit : (direction : Direction) → total_along (view_of parts) direction < 2 ^ 64
+  -- what certifies the sizes along a direction of rows of texts by a configuration; by shares nothing does where two longer ranges are
+  -- neither nested nor disjoint, and only there
+  abbrev pub Certifies : SpannedConfig → Direction → Option (List Position) → Type 0
+  Certifies config direction certificate = IsCertificateBy sizing (problem_of (spanned_grid config) text_measure (longest rows) rows direction) certificate
+
+  -- a configuration that the settings tell, with the sizes that are chosen so for the texts, whose totals fit, and the cells that certify
+  -- these
+  pub record IsLaidOut (found : FoundTable) : Type 0 where
+    pub configured : IsConfiguredBy settings found.parts.config
+    pub sized : AreSizesBySizing found.parts.config text_measure (longest rows) rows sizing found.parts.widths found.parts.heights
+    pub certifies_widths : Certifies found.parts.config Columns found.width_certificate
+    pub certifies_heights : Certifies found.parts.config Rows found.height_certificate
+    pub fit : (direction : Direction) → total_along (view_of found.parts) direction < 2 ^ 64
 
   -- why there are none
   abbrev pub HasNoSizes : LayoutError → Type 0
@@ -39,6 +50,16 @@ module _ (settings : List Setting) (rows : List (List (List ℕ))) (sizing : Siz
 abbrev pub totals_of : TableParts → ℕ × ℕ
 totals_of parts = (total_along (view_of parts) Columns, total_along (view_of parts) Rows)
 
+-- the widths, or the heights
+abbrev pub sizes_along : Direction → FoundTable → List ℕ
+sizes_along Columns found = found.parts.widths
+sizes_along Rows found = found.parts.heights
+
+-- the cells that certify them, if there are such
+abbrev pub certificate_along : Direction → FoundTable → Option (List Position)
+certificate_along Columns found = found.width_certificate
+certificate_along Rows found = found.height_certificate
+
 -- the screen rectangle of the cell at a position, or why it has none: it is hidden, else it overflows the table
 abbrev pub IsPlacedBy : TableParts → Position → Result Place BuilderError → Type 0
 IsPlacedBy parts p (Ok place) = HasPlace (view_of parts) p place
@@ -49,9 +70,9 @@ IsPlacedBy parts p (Err Memory) = ⊤
 IsPlacedBy parts p (Err e) = ⊥
 
 -- the same of what was found, if something was
-abbrev pub IsPlaceAnswer : Option TableParts → Position → Result Place BuilderError → Type 0
+abbrev pub IsPlaceAnswer : Option FoundTable → Position → Result Place BuilderError → Type 0
 IsPlaceAnswer None p answer = answer ≡ Err NotEstimated
-IsPlaceAnswer (Some parts) p answer = IsPlacedBy parts p answer
+IsPlaceAnswer (Some found) p answer = IsPlacedBy found.parts p answer
 
 -- the first cell, by row and then by column, that stands over a point, or none does
 abbrev pub IsCellBy : TableParts → ℕ → ℕ → Result (Option Position) BuilderError → Type 0
@@ -59,6 +80,6 @@ IsCellBy parts column line (Ok cell) = IsFirstOver (view_of parts) column line c
 IsCellBy parts column line (Err e) = e ≡ Memory
 
 -- the same of what was found, if something was
-abbrev pub IsCellAnswer : Option TableParts → ℕ → ℕ → Result (Option Position) BuilderError → Type 0
+abbrev pub IsCellAnswer : Option FoundTable → ℕ → ℕ → Result (Option Position) BuilderError → Type 0
 IsCellAnswer None column line answer = answer ≡ Err NotEstimated
-IsCellAnswer (Some parts) column line answer = IsCellBy parts column line answer
+IsCellAnswer (Some found) column line answer = IsCellBy found.parts column line answer

@@ -1,8 +1,15 @@
 -- A table that is told call by call, and what each call makes of it.
 use Rattle.std.specs.Prelude.{ℕ, ◌==◌, Bool, true, false, if◌then◌else◌, List, [], ◌∷◌, ◌++◌, length, map, max, Option, None}
 use Rattle.std.specs.List.{slice_split}
+use Rattle.papergrid_values.specs.declared.position.Position.{Position}
 use Rattle.papergrid_config.specs.declared.setting.Setting.{Setting}
 use Rattle.papergrid_layout.specs.Tables.{TableParts}
+
+-- what was found of a table: its configuration and its sizes, and the cells that certify these along each direction, if there are such
+pub record FoundTable : Type 0 where
+  pub parts : TableParts
+  pub width_certificate : Option (List Position)
+  pub height_certificate : Option (List Position)
 
 -- what is told of a table, what was found of it, and what was drawn
 pub record ToldTable : Type 0 where
@@ -11,8 +18,8 @@ pub record ToldTable : Type 0 where
   pub rows : List (List (List ℕ))
   -- whether the next cell is one more of the last row
   pub goes_on : Bool
-  -- the configuration and the sizes of the last estimate, if nothing was told since
-  pub found : Option TableParts
+  -- what the last estimate found, if nothing was told since
+  pub found : Option FoundTable
   -- the picture that was drawn last
   pub picture : List ℕ
 

@@ -1,24 +1,27 @@
 //! A table that is told call by call.
 
+use crate::cells::CellTexts;
 use crate::drawn::drawn;
 use crate::error::BuilderError;
 use crate::found::{Found, cell_by, found_by, place_by};
-use crate::texts::{add_cell, cut_rows, longest_of, text_of};
+use crate::rows::{add_cell, add_rows};
 use papergrid_config::Setting;
-use papergrid_json::{Document, DocumentError, read_setting};
+use papergrid_json::{DocumentError, read_setting};
 use papergrid_layout::{Place, Sizing};
-use papergrid_values::Position;
+use papergrid_values::{Direction, Position};
 use std::alloc::Global;
-use std::collections::BTreeMap;
 use std::marker::Model;
 
 /// A table that is told call by call: its settings, and the texts of its cells, row by row. It has as many columns as its longest row
-/// has cells. It also keeps the sizes that were found of it, until a setting or a text is told, and the picture that was drawn last.
+/// has cells. It also keeps what was found of it, until a setting or a text is told, and the picture that was drawn last.
 ///
 /// A call that is refused changes nothing.
 #[derive(Debug, Drop)]
 pub struct Builder {
-    document: Document,
+    settings: Vec<Setting>,
+    cells: CellTexts,
+    /// Where each row begins among the cells.
+    starts: Vec<usize>,
     /// Whether the next cell is one more of the last row.
     goes_on: bool,
     found: Option<Found>,
@@ -38,36 +41,32 @@ impl Model for Builder {
 
     ghost use Rattle.papergrid_builder.specs.ForProofs.Kept.{IsKept, told_by};
 
-    ghost view = { λ b. told_by b.document b.goes_on b.found b.picture.items };
+    ghost view = { λ b. told_by b.settings.items b.cells b.starts.items b.goes_on b.found
+        b.picture.items };
 
-    ghost invariant = { λ b. IsKept b.document b.found };
+    ghost invariant = { λ b. IsKept b.settings.items b.cells b.starts.items b.found };
 }
 
 impl Builder {
-    ghost use Rattle.std.specs.Prelude.{◌≡◌, ◌↔◌, ◌⊎◌, ℕ, All, Err, IfErr, IfOk, IfSome, IsUtf8, List, OnErr, OnOk, Some, false, true};
+    ghost use Rattle.std.specs.Prelude.{◌≡◌, ◌↔◌, ◌⊎◌, ◌<◌, All, Err, IfErr, IfOk, IfSome, IsUtf8, OnErr, OnOk, Some, false, option_and_then, option_map, true};
     ghost use Rattle.papergrid_config.specs.Applied.{is_in_range};
     ghost use Rattle.papergrid_config.specs.declared.setting.Setting.{Setting};
     ghost use Rattle.papergrid_draw.specs.Drawings.{Drawing};
     ghost use Rattle.papergrid_grid.specs.Lined.{lined};
-    ghost use Rattle.papergrid_layout.specs.Tables.{TableParts};
     ghost use Rattle.papergrid_layout.specs.declared.sizing.Sizing.{Sizing};
-    ghost use Rattle.papergrid_builder.specs.Layouts.{IsCellAnswer, IsLaidOut, IsNotLaidOut, IsPlaceAnswer, totals_of};
+    ghost use Rattle.papergrid_builder.specs.Layouts.{IsCellAnswer, IsLaidOut, IsNotLaidOut, IsPlaceAnswer, certificate_along, sizes_along, totals_of};
     ghost use Rattle.papergrid_builder.specs.Pictures.{IsDrawingOf, IsNotDrawn};
-    ghost use Rattle.papergrid_builder.specs.Told.{empty_table, rows_in, with_cell, with_row_end, with_rows, with_setting};
-    ghost use Rattle.papergrid_builder.specs.declared.error.BuilderError.TheVariants.{BadSetting, Memory, NotText, OutOfRange};
+    ghost use Rattle.papergrid_builder.specs.Told.{FoundTable, empty_table, rows_in, with_cell, with_row_end, with_rows, with_setting};
+    ghost use Rattle.papergrid_builder.specs.declared.error.BuilderError.TheVariants.{BadSetting, Memory, NotAscii, NotText, OutOfRange};
 
     /// A table of which nothing was told. It does not allocate.
     pub fn new(alloc: Global) -> Builder
         ensures { result ≡ empty_table }
     {
         Builder {
-            document: Document {
-                columns: 0,
-                settings: Vec::new(alloc),
-                rows: Vec::new(alloc),
-                sizes: None,
-                colors: BTreeMap::new(alloc),
-            },
+            settings: Vec::new(alloc),
+            cells: CellTexts::new(alloc),
+            starts: Vec::new(alloc),
             goes_on: false,
             found: None,
             picture: Vec::new(alloc),
@@ -89,7 +88,7 @@ impl Builder {
             drop(setting);
             return Err(BuilderError::OutOfRange);
         }
-        self.document.settings.push(setting)?;
+        self.settings.push(setting)?;
         self.found = None;
         Ok(())
     }
@@ -118,15 +117,16 @@ impl Builder {
     /// # Errors
     ///
     /// `NotText` exactly where the bytes are not UTF-8; else `Memory`.
-    pub fn push_cell(&mut self, alloc: Global, text: &[u8]) -> Result<(), BuilderError>
+    pub fn push_cell(&mut self, text: &[u8]) -> Result<(), BuilderError>
         ensures ok { OnOk result (self.new ≡ with_cell self.old text.now) }
         ensures text { (result ≡ Err NotText) ↔ (¬ IsUtf8 text.now) }
         ensures errors { IfErr result (λ e. (e ≡ NotText) ⊎ (e ≡ Memory)) }
         ensures err { OnErr result (self.new ≡ self.old) }
     {
-        let cell = text_of(alloc, text)?;
-        let count = add_cell(alloc, &mut self.document.rows, self.goes_on, cell)?;
-        self.document.columns = self.document.columns.max(count);
+        let Ok(text) = str::from_utf8(text) else {
+            return Err(BuilderError::NotText);
+        };
+        add_cell(&mut self.cells, &mut self.starts, self.goes_on, text)?;
         self.goes_on = true;
         self.found = None;
         Ok(())
@@ -138,7 +138,7 @@ impl Builder {
     /// # Errors
     ///
     /// `Memory`.
-    pub fn end_row(&mut self, alloc: Global) -> Result<(), BuilderError>
+    pub fn end_row(&mut self) -> Result<(), BuilderError>
         ensures ok { OnOk result (self.new ≡ with_row_end self.old) }
         ensures errors { IfErr result (λ e. e ≡ Memory) }
         ensures err { OnErr result (self.new ≡ self.old) }
@@ -147,7 +147,7 @@ impl Builder {
             self.goes_on = false;
             return Ok(());
         }
-        self.document.rows.push(Vec::new(alloc))?;
+        self.starts.push(self.cells.len())?;
         self.found = None;
         Ok(())
     }
@@ -155,31 +155,29 @@ impl Builder {
     /// Tells many rows at once: those that a text is cut into. Each byte `row_end` ends a row, and each byte `cell_end` stands between
     /// two cells of one. What stands behind the last `row_end` is a row too, unless it is empty. A row that goes on is ended before.
     ///
-    /// Takes time that grows with the bytes, and a string for each cell.
+    /// Takes time that grows with the bytes, and no allocation for each cell.
     ///
     /// # Errors
     ///
-    /// `NotText` where the bytes of some cell are not UTF-8: with ASCII bytes between cells and rows, where the text is not; `Memory` in
-    /// place of any answer.
-    pub fn push_rows(
-        &mut self,
-        alloc: Global,
-        text: &[u8],
-        cell_end: u8,
-        row_end: u8,
-    ) -> Result<(), BuilderError>
+    /// `NotAscii` exactly where one of the bytes that end cells and rows is not ASCII, else `NotText` exactly where the text is not UTF-8;
+    /// else `Memory`.
+    pub fn push_rows(&mut self, text: &[u8], cell_end: u8, row_end: u8) -> Result<(), BuilderError>
         ensures ok { OnOk result (self.new
             ≡ with_rows self.old (rows_in cell_end row_end text.now)) }
         ensures texts { OnOk result (All (All IsUtf8) (rows_in cell_end row_end text.now)) }
-        ensures not_text { result ≡ Err NotText →
-            ¬ All (All IsUtf8) (rows_in cell_end row_end text.now) }
-        ensures errors { IfErr result (λ e. (e ≡ NotText) ⊎ (e ≡ Memory)) }
+        ensures ascii { (result ≡ Err NotAscii) ↔ ¬ ((cell_end < 128) × (row_end < 128)) }
+        ensures text { (result ≡ Err NotText)
+            ↔ ((cell_end < 128) × (row_end < 128) × ¬ IsUtf8 text.now) }
+        ensures errors { IfErr result (λ e. (e ≡ NotAscii) ⊎ (e ≡ NotText) ⊎ (e ≡ Memory)) }
         ensures err { OnErr result (self.new ≡ self.old) }
     {
-        let mut rows = cut_rows(alloc, text, cell_end, row_end)?;
-        let count = longest_of(&rows);
-        self.document.rows.append(&mut rows)?;
-        self.document.columns = self.document.columns.max(count);
+        if !cell_end.is_ascii() || !row_end.is_ascii() {
+            return Err(BuilderError::NotAscii);
+        }
+        let Ok(text) = str::from_utf8(text) else {
+            return Err(BuilderError::NotText);
+        };
+        add_rows(&mut self.cells, &mut self.starts, text, cell_end, row_end)?;
         self.goes_on = false;
         self.found = None;
         Ok(())
@@ -198,7 +196,7 @@ impl Builder {
         ensures fault { IfErr result (IsNotDrawn self.old.settings self.old.rows sizing) }
         ensures err { OnErr result (self.new ≡ self.old) }
     {
-        self.picture = drawn(alloc, &self.document, sizing)?;
+        self.picture = drawn(alloc, &self.settings, &self.cells, &self.starts, sizing)?;
         Ok(())
     }
 
@@ -209,8 +207,8 @@ impl Builder {
         self.picture.as_slice()
     }
 
-    /// Finds the sizes of the table, and keeps them until a setting or a text is told. Answers the total width in columns of a terminal
-    /// and the total height in lines, with all lines and without margins.
+    /// Finds the sizes of the table and the cells that certify them, and keeps these until a setting or a text is told. Answers the total
+    /// width in columns of a terminal and the total height in lines, with all lines and without margins.
     ///
     /// # Errors
     ///
@@ -221,15 +219,49 @@ impl Builder {
         alloc: Global,
         sizing: Sizing,
     ) -> Result<(usize, usize), BuilderError>
-        ensures ok { IfOk result (λ totals. (parts : TableParts)
-            × IsLaidOut self.old.settings self.old.rows sizing parts
-            × (totals ≡ totals_of parts) × (self.new ≡ record self.old { found = Some parts })) }
+        ensures ok { IfOk result (λ totals. (found : FoundTable)
+            × IsLaidOut self.old.settings self.old.rows sizing found
+            × (totals ≡ totals_of found.parts)
+            × (self.new ≡ record self.old { found = Some found })) }
         ensures fault { IfErr result (IsNotLaidOut self.old.settings self.old.rows sizing) }
         ensures err { OnErr result (self.new ≡ self.old) }
     {
-        let (found, totals) = found_by(alloc, &self.document, sizing)?;
+        let (found, totals) = found_by(alloc, &self.settings, &self.cells, &self.starts, sizing)?;
         self.found = Some(found);
         Ok(totals)
+    }
+
+    /// The widths of the columns, in columns of a terminal, or the heights of the rows, in lines, that were found. None where none were
+    /// found since the last setting or text was told.
+    pub fn sizes(&self, direction: Direction) -> Option<&[usize]>
+        ensures exact { option_map (λ sizes. sizes.now) result
+            ≡ option_map (sizes_along direction) self.now.found }
+        ensures current { IfSome self.now.found (λ found. (sizing : Sizing)
+            × IsLaidOut self.now.settings self.now.rows sizing found) }
+    {
+        let found = self.found.as_ref()?;
+        Some(match direction {
+            Direction::Columns => found.certified.widths.as_slice(),
+            Direction::Rows => found.certified.heights.as_slice(),
+        })
+    }
+
+    /// The positions of the cells that certify that no widths with room for each visible cell, or no heights, have a smaller total: visible
+    /// cells of disjoint ranges, whose minimum sizes less the lines inside of them add up to the sizes that were found. None where no
+    /// sizes were found since the last setting or text was told, and where they are by shares and two longer ranges are neither nested
+    /// nor disjoint.
+    pub fn certificate(&self, direction: Direction) -> Option<&[Position]>
+        ensures exact { option_map (λ places. places.now) result
+            ≡ option_and_then (certificate_along direction) self.now.found }
+        ensures current { IfSome self.now.found (λ found. (sizing : Sizing)
+            × IsLaidOut self.now.settings self.now.rows sizing found) }
+    {
+        let certified = &self.found.as_ref()?.certified;
+        let places = match direction {
+            Direction::Columns => certified.width_witness.as_ref()?,
+            Direction::Rows => certified.height_witness.as_ref()?,
+        };
+        Some(places.as_slice())
     }
 
     /// The screen rectangle of the cell at a position, by the sizes that were found.
@@ -243,8 +275,8 @@ impl Builder {
     /// `OutOfTable` with it where its range ends past the last column or the last row; `Memory` in place of these answers.
     pub fn place(&self, alloc: Global, position: Position) -> Result<Place, BuilderError>
         ensures exact { IsPlaceAnswer self.now.found position result }
-        ensures current { IfSome self.now.found (λ parts. (sizing : Sizing)
-            × IsLaidOut self.now.settings self.now.rows sizing parts) }
+        ensures current { IfSome self.now.found (λ found. (sizing : Sizing)
+            × IsLaidOut self.now.settings self.now.rows sizing found) }
     {
         match &self.found {
             Some(found) => place_by(alloc, found, position),
@@ -267,8 +299,8 @@ impl Builder {
         line: usize,
     ) -> Result<Option<Position>, BuilderError>
         ensures exact { IsCellAnswer self.now.found column line result }
-        ensures current { IfSome self.now.found (λ parts. (sizing : Sizing)
-            × IsLaidOut self.now.settings self.now.rows sizing parts) }
+        ensures current { IfSome self.now.found (λ found. (sizing : Sizing)
+            × IsLaidOut self.now.settings self.now.rows sizing found) }
     {
         match &self.found {
             Some(found) => cell_by(alloc, found, column, line),

@@ -1,34 +1,73 @@
-//! The picture of a table.
+//! The picture of rows of texts.
 
-ghost use Rattle.std.specs.Prelude.{◌≡◌, [], IfErr, IfOk, None};
+ghost use Rattle.std.specs.Prelude.{◌≡◌, IfErr, IfOk, length};
 ghost use Rattle.papergrid_draw.specs.Drawings.{Drawing};
 ghost use Rattle.papergrid_grid.specs.Lined.{lined};
+ghost use Rattle.papergrid.specs.Pictures.{IsDrawingWith};
 ghost use Rattle.papergrid_json.specs.Documents.{AreInRange};
-ghost use Rattle.papergrid_json.specs.Pictures.{texts_of};
 ghost use Rattle.papergrid_builder.specs.Pictures.{IsDrawingOf, IsNotDrawn};
 ghost use Rattle.papergrid_builder.specs.Told.{longest};
+ghost use Rattle.papergrid_builder.specs.ForProofs.Sizes.{IsUndrawn};
+ghost use Rattle.papergrid_builder.specs.ForProofs.Texts.{AreStarts, rows_lent, rows_told};
 
 use crate::byte_sink::ByteSink;
+use crate::cells::CellTexts;
 use crate::error::BuilderError;
-use papergrid_draw::DrawError;
-use papergrid_json::{Document, draw_document};
-use papergrid_layout::Sizing;
+use crate::rows::{longest_of, rows_of};
+use papergrid_config::{NoColors, Setting, SpannedConfig};
+use papergrid_draw::{DrawError, Room};
+use papergrid_grid::{TextCells, draw_lines};
+use papergrid_json::configuration;
+use papergrid_layout::{Sizing, Table};
+use papergrid_text::IterRecords;
 use std::alloc::Global;
 
-/// The picture of a document without sizes and colours of its own, each line with a line feed.
-pub fn drawn(alloc: Global, document: &Document, sizing: Sizing) -> Result<Vec<u8>, BuilderError>
-    requires in_range { AreInRange document.now.settings.items }
-    requires no_sizes { document.now.sizes ≡ None }
-    requires no_colors { document.now.colors.entries ≡ [] }
-    requires counted { document.now.columns ≡ longest (texts_of document.now) }
+/// The picture of cells, by where each row begins among them, by settings, each line with a line feed.
+///
+/// Condition: each setting is in range.
+pub fn drawn(
+    alloc: Global,
+    settings: &Vec<Setting>,
+    cells: &CellTexts,
+    starts: &[usize],
+    sizing: Sizing,
+) -> Result<Vec<u8>, BuilderError>
+    requires in_range { AreInRange settings.now.items }
+    requires starts { AreStarts (length cells.now) starts.now }
     ensures ok { IfOk result (λ picture. (d : Drawing)
-        × IsDrawingOf document.now.settings.items (texts_of document.now) sizing d
+        × IsDrawingOf settings.now.items (rows_told cells.now starts.now) sizing d
         × (picture.items ≡ lined d)) }
-    ensures err { IfErr result (IsNotDrawn document.now.settings.items
-        (texts_of document.now) sizing) }
+    ensures err { IfErr result (IsNotDrawn settings.now.items
+        (rows_told cells.now starts.now) sizing) }
 {
+    let texts = cells.texts(alloc)?;
+    let rows = rows_of(alloc, &texts, starts)?;
+    let config = configuration(alloc, settings)?;
+    drawn_by(alloc, &config, &rows, sizing)
+}
+
+/// The picture of rows of texts by a configuration.
+fn drawn_by(
+    alloc: Global,
+    config: &SpannedConfig,
+    rows: &[&[&str]],
+    sizing: Sizing,
+) -> Result<Vec<u8>, BuilderError>
+    ensures ok { IfOk result (λ picture. (d : Drawing)
+        × IsDrawingWith (longest (rows_lent rows.now)) (rows_lent rows.now) sizing config.now d
+        × (picture.items ≡ lined d)) }
+    ensures err { IfErr result (IsUndrawn config.now (rows_lent rows.now) sizing) }
+{
+    let columns = longest_of(rows);
+    let records = IterRecords::new(Vec::from_slice(alloc, rows)?, columns, Some(rows.len()));
+    let table = Table::new(alloc, config, records, sizing)?;
+    let cells = TextCells {
+        alloc,
+        rows,
+        colors: &NoColors,
+    };
     let mut sink = ByteSink::new(alloc);
-    match draw_document(alloc, document, sizing, &mut sink) {
+    match draw_lines(alloc, &table, &cells, Room::Known, &mut sink) {
         Ok(()) => {
             let ByteSink { bytes, failed: _ } = sink;
             Ok(bytes)

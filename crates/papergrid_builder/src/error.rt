@@ -18,6 +18,9 @@ pub enum BuilderError {
     /// The bytes of a cell are not UTF-8.
     #[error("the text of a cell is not UTF-8")]
     NotText,
+    /// The byte that ends a cell or a row is not ASCII.
+    #[error("a byte that ends cells or rows is not ASCII")]
+    NotAscii,
     /// The row or the column of a border has none behind it in `usize`.
     #[error("the setting is for a row or a column that is too great")]
     OutOfRange,

@@ -1,110 +1,99 @@
-//! The sizes of a table, and where its cells stand.
+//! The sizes of a table, the cells that certify them, and where its cells stand.
 
-ghost use Rattle.std.specs.Prelude.{◌≡◌, ◌^◌, ◌<◌, ◌≤◌, ℕ, IfErr, IfOk, None, length, slice_index};
+ghost use Rattle.std.specs.Prelude.{◌≡◌, ◌^◌, ◌<◌, IfErr, IfOk, length};
 ghost use Rattle.papergrid_values.specs.declared.direction.Direction.{Direction};
 ghost use Rattle.papergrid_layout.specs.Tables.{view_of};
 ghost use Rattle.papergrid_layout.specs.Places.{total_along};
 ghost use Rattle.papergrid_json.specs.Documents.{AreInRange};
-ghost use Rattle.papergrid_json.specs.Pictures.{AreNoSizesOf, AreSizesOf, texts_of};
 ghost use Rattle.papergrid_builder.specs.Layouts.{IsCellBy, IsLaidOut, IsNotLaidOut, IsPlacedBy, totals_of};
-ghost use Rattle.papergrid_builder.specs.Told.{longest};
-ghost use Rattle.papergrid_builder.specs.ForProofs.Kept.{parts_of};
+ghost use Rattle.papergrid_builder.specs.ForProofs.Kept.{found_of, parts_of};
 ghost use Rattle.papergrid_builder.specs.ForProofs.Sizes.{AreFound, IsUnfound};
+ghost use Rattle.papergrid_builder.specs.ForProofs.Texts.{AreStarts, rows_lent, rows_told};
 
+use crate::cells::CellTexts;
 use crate::error::BuilderError;
-use papergrid_config::SpannedConfig;
-use papergrid_json::{Document, configuration, document_table};
-use papergrid_layout::{Dimension, Place, PlaceError, Sizing, Table};
+use crate::rows::{longest_of, rows_of};
+use papergrid_config::{Setting, SpannedConfig};
+use papergrid_json::configuration;
+use papergrid_layout::certificates::{Certified, certify};
+use papergrid_layout::{Place, PlaceError, Sizing, Table};
+use papergrid_text::IterRecords;
 use papergrid_values::Position;
 use std::alloc::{AllocError, Global};
 
-/// A configuration with the sizes that were found by it.
+/// A configuration with the sizes that were found by it, and what certifies these.
 #[derive(Debug, Drop)]
 pub struct Found {
     pub config: SpannedConfig,
-    pub widths: Vec<usize>,
-    pub heights: Vec<usize>,
+    pub certified: Certified,
 }
 
-/// Sizes, with the total width and the total height.
-#[derive(Debug, Drop)]
-pub struct Sizes {
-    pub widths: Vec<usize>,
-    pub heights: Vec<usize>,
-    pub totals: (usize, usize),
-}
-
-/// What is found of a document without sizes of its own, with the total width and the total height.
+/// What is found of cells, by where each row begins among them, by settings, with the total width and the total height.
+///
+/// Condition: each setting is in range.
 pub fn found_by(
     alloc: Global,
-    document: &Document,
+    settings: &Vec<Setting>,
+    cells: &CellTexts,
+    starts: &[usize],
     sizing: Sizing,
 ) -> Result<(Found, (usize, usize)), BuilderError>
-    requires in_range { AreInRange document.now.settings.items }
-    requires no_sizes { document.now.sizes ≡ None }
-    requires counted { document.now.columns ≡ longest (texts_of document.now) }
-    ensures ok { IfOk result (λ found. IsLaidOut document.now.settings.items
-        (texts_of document.now) sizing (parts_of found.0)) }
+    requires in_range { AreInRange settings.now.items }
+    requires starts { AreStarts (length cells.now) starts.now }
+    ensures ok { IfOk result (λ found. IsLaidOut settings.now.items
+        (rows_told cells.now starts.now) sizing (found_of found.0)) }
     ensures totals { IfOk result (λ found. found.1 ≡ totals_of (parts_of found.0)) }
-    ensures err { IfErr result (IsNotLaidOut document.now.settings.items
-        (texts_of document.now) sizing) }
+    ensures err { IfErr result (IsNotLaidOut settings.now.items
+        (rows_told cells.now starts.now) sizing) }
 {
-    let config = configuration(alloc, &document.settings)?;
-    let sizes = sizes_by(alloc, &config, document, sizing)?;
-    let Sizes {
-        widths,
-        heights,
-        totals,
-    } = sizes;
-    let found = Found {
-        config,
-        widths,
-        heights,
-    };
+    let texts = cells.texts(alloc)?;
+    let rows = rows_of(alloc, &texts, starts)?;
+    found_in(alloc, settings, &rows, sizing)
+}
+
+/// The same of rows of texts.
+fn found_in(
+    alloc: Global,
+    settings: &Vec<Setting>,
+    rows: &[&[&str]],
+    sizing: Sizing,
+) -> Result<(Found, (usize, usize)), BuilderError>
+    requires { AreInRange settings.now.items }
+    ensures ok { IfOk result (λ found. IsLaidOut settings.now.items (rows_lent rows.now)
+        sizing (found_of found.0)) }
+    ensures totals { IfOk result (λ found. found.1 ≡ totals_of (parts_of found.0)) }
+    ensures err { IfErr result (IsNotLaidOut settings.now.items (rows_lent rows.now) sizing) }
+{
+    let config = configuration(alloc, settings)?;
+    let certified = certified_by(alloc, &config, rows, sizing)?;
+    let found = Found { config, certified };
+    let totals = totals(alloc, &found)?;
     Ok((found, totals))
 }
 
-/// The sizes of a document by a configuration.
-fn sizes_by(
+/// The sizes of rows of texts by a configuration, and what certifies these.
+fn certified_by(
     alloc: Global,
     config: &SpannedConfig,
-    document: &Document,
+    rows: &[&[&str]],
     sizing: Sizing,
-) -> Result<Sizes, BuilderError>
-    ensures ok { IfOk result (λ sizes. AreFound config.now document.now sizing
-        sizes.widths.items sizes.heights.items sizes.totals) }
-    ensures err { IfErr result (IsUnfound config.now document.now sizing) }
+) -> Result<Certified, BuilderError>
+    ensures ok { IfOk result (AreFound config.now (rows_lent rows.now) sizing) }
+    ensures err { IfErr result (IsUnfound config.now (rows_lent rows.now) sizing) }
 {
-    let table = document_table(alloc, config, document, sizing)?;
-    Ok(Sizes {
-        widths: widths_of(alloc, &table)?,
-        heights: heights_of(alloc, &table)?,
-        totals: (table.width(), table.height()),
-    })
+    let columns = longest_of(rows);
+    let records = IterRecords::new(Vec::from_slice(alloc, rows)?, columns, Some(rows.len()));
+    Ok(certify(alloc, records, config, sizing)?)
 }
 
-/// The widths of a table.
-fn widths_of(alloc: Global, table: &Table<'_>) -> Result<Vec<usize>, AllocError>
-    ensures { IfOk result (λ widths. widths.items ≡ table.now.widths) }
+/// The total width and the total height, with all lines.
+fn totals(alloc: Global, found: &Found) -> Result<(usize, usize), AllocError>
+    requires { (direction : Direction) →
+        total_along (view_of (parts_of found.now)) direction < 2 ^ 64 }
+    ensures { IfOk result (λ totals. totals ≡ totals_of (parts_of found.now)) }
 {
-    let (_, columns) = table.shape();
-    let mut widths = Vec::with_capacity(alloc, columns)?;
-    for column in 0..columns {
-        widths.push(table.get_width(column))?;
-    }
-    Ok(widths)
-}
-
-/// The heights of a table.
-fn heights_of(alloc: Global, table: &Table<'_>) -> Result<Vec<usize>, AllocError>
-    ensures { IfOk result (λ heights. heights.items ≡ table.now.heights) }
-{
-    let (rows, _) = table.shape();
-    let mut heights = Vec::with_capacity(alloc, rows)?;
-    for row in 0..rows {
-        heights.push(table.get_height(row))?;
-    }
-    Ok(heights)
+    let table = table_of(alloc, found)?;
+    Ok((table.width(), table.height()))
 }
 
 /// The table of what was found.
@@ -113,8 +102,12 @@ fn table_of(alloc: Global, found: &Found) -> Result<Table<'_>, AllocError>
         total_along (view_of (parts_of found.now)) direction < 2 ^ 64 }
     ensures { IfOk result (λ table. table ≡ parts_of found.now) }
 {
-    let (widths, heights) = (found.widths.clone()?, found.heights.clone()?);
-    match Table::from_sizes(alloc, &found.config, widths, heights) {
+    let Certified {
+        widths,
+        heights,
+        ..
+    } = &found.certified;
+    match Table::from_sizes(alloc, &found.config, widths.clone()?, heights.clone()?) {
         Ok(table) => Ok(table),
         Err(_) => Err(AllocError),
     }

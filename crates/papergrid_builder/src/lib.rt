@@ -4,12 +4,11 @@
 
 mod builder;
 mod byte_sink;
+mod cells;
 mod drawn;
 mod error;
 mod found;
-#[cfg(test)]
-mod tests;
-mod texts;
+mod rows;
 
 pub use builder::Builder;
 pub use error::BuilderError;

@@ -1,3 +1,4 @@
-mod Values
-mod Handles
 mod CallLemmas
+mod Handles
+mod Values
+mod FrontLemmas

@@ -1,18 +1,18 @@
 -- What calls tell of the table of a handle.
-use Rattle.std.specs.Prelude.{◌≡◌, ◌⊎◌, ◌<◌, ◌≤◌, ℕ, ℤ, ◌==◌, if◌then◌else◌, ◌++◌, IfSome, List, Option, None, Some, Result, Ok, Err, drop, length}
+use Rattle.std.specs.Prelude.{◌≡◌, ◌⊎◌, ◌<◌, ◌≤◌, ℕ, ℤ, ◌==◌, if◌then◌else◌, ◌++◌, IfSome, List, Option, None, Some, Result, Ok, Err, drop, length, map}
+use Rattle.papergrid_values.specs.declared.direction.Direction.{Direction}
 use Rattle.papergrid_values.specs.declared.position.Position.{Position}
-use Rattle.papergrid_layout.specs.Tables.{TableParts}
 use Rattle.papergrid_layout.specs.declared.rect.Place.{Place}
 use Rattle.papergrid_layout.specs.declared.sizing.Sizing.{Sizing}
 use Rattle.papergrid_layout.specs.declared.sizing.Sizing.TheVariants.{ByShares, Least}
 use Rattle.papergrid_draw.specs.Drawings.{Drawing}
 use Rattle.papergrid_grid.specs.Lined.{lined}
-use Rattle.papergrid_builder.specs.Layouts.{IsCellAnswer, IsLaidOut, IsNotLaidOut, IsPlaceAnswer, totals_of}
+use Rattle.papergrid_builder.specs.Layouts.{IsCellAnswer, IsLaidOut, IsNotLaidOut, IsPlaceAnswer, certificate_along, sizes_along, totals_of}
 use Rattle.papergrid_builder.specs.Pictures.{IsDrawingOf, IsNotDrawn}
-use Rattle.papergrid_builder.specs.Told.{ToldTable}
+use Rattle.papergrid_builder.specs.Told.{FoundTable, ToldTable}
 use Rattle.papergrid_builder.specs.declared.error.BuilderError.{BuilderError}
-use Rattle.papergrid_builder.specs.declared.error.BuilderError.TheVariants.{NotTiled, OutOfTable}
-use Rattle.papergrid_c.specs.Numbers.{done, no_cell, no_room, no_table, number_of}
+use Rattle.papergrid_builder.specs.declared.error.BuilderError.TheVariants.{NotEstimated, NotTiled, OutOfTable}
+use Rattle.papergrid_c.specs.Numbers.{done, no_cell, no_certificate, no_room, no_table, number_of}
 use Rattle.papergrid_c.specs.declared.structs.PapergridPlace.{PapergridPlace}
 use Rattle.papergrid_c.specs.declared.structs.PapergridPosition.{PapergridPosition}
 
@@ -33,13 +33,13 @@ sizing_of least = if least == 0 then ByShares else Least
 -- the total width and height by sizes that are found of the table and kept; or why there are none
 abbrev pub Estimates : Sizing → ToldTable → ℕ × ℕ → ToldTable → ℕ × ℕ → ℤ → Type 0
 Estimates sizing old lent new told result =
-    ((parts : TableParts) × IsLaidOut old.settings old.rows sizing parts × (new ≡ record old { found = Some parts })
-    × (told ≡ totals_of parts) × (result ≡ done))
+    ((found : FoundTable) × IsLaidOut old.settings old.rows sizing found × (new ≡ record old { found = Some found })
+    × (told ≡ totals_of found.parts) × (result ≡ done))
     ⊎ ((e : BuilderError) × IsNotLaidOut old.settings old.rows sizing e × (new ≡ old) × (told ≡ lent) × (result ≡ number_of e))
 
 -- sizes that were found are those of the table as it is told
 abbrev pub AreCurrent : ToldTable → Type 0
-AreCurrent table = IfSome table.found (λ parts. (sizing : Sizing) × IsLaidOut table.settings table.rows sizing parts)
+AreCurrent table = IfSome table.found (λ found. (sizing : Sizing) × IsLaidOut table.settings table.rows sizing found)
 
 -- a screen rectangle as C has it
 abbrev pub place_for_c : Place → PapergridPlace
@@ -84,7 +84,7 @@ Draws sizing old lent new told result =
     ⊎ ((e : BuilderError) × IsNotDrawn old.settings old.rows sizing e × (new ≡ old) × (told ≡ (lent.0, cell_of e lent.1)) × (result ≡ number_of e))
 
 -- values written to the front of what is lent, where they fit
-abbrev pub TellsInFront : List ℕ → List ℕ → List ℕ → ℤ → Type 0
+abbrev pub TellsInFront : {A : Type 0} → List A → List A → List A → ℤ → Type 0
 TellsInFront values lent told result =
     ((length values ≤ length lent) × (told ≡ values ++ drop (length values) lent) × (result ≡ done))
     ⊎ ((length lent < length values) × (told ≡ lent) × (result ≡ no_room))
@@ -92,3 +92,30 @@ TellsInFront values lent told result =
 -- the bytes of the picture that was drawn last
 abbrev pub TellsPicture : ToldTable → List ℕ → List ℕ → ℤ → Type 0
 TellsPicture table = TellsInFront table.picture
+
+-- how many values there are, and they, where they fit
+abbrev pub TellsCounted : {A : Type 0} → List A → List A × ℕ → List A × ℕ → ℤ → Type 0
+TellsCounted values lent told result = (told.1 ≡ length values) × TellsInFront values lent.0 told.0 result
+
+-- the widths, or the heights, of what was found
+abbrev pub TellsFoundSizes : Direction → Option FoundTable → List ℕ × ℕ → List ℕ × ℕ → ℤ → Type 0
+TellsFoundSizes direction None lent told result = (told ≡ lent) × (result ≡ number_of NotEstimated)
+TellsFoundSizes direction (Some found) lent told result = TellsCounted (sizes_along direction found) lent told result
+
+-- of the table
+abbrev pub TellsSizes : Direction → ToldTable → List ℕ × ℕ → List ℕ × ℕ → ℤ → Type 0
+TellsSizes direction table lent told result = TellsFoundSizes direction table.found lent told result × AreCurrent table
+
+-- the cells of a certificate, if there is one
+abbrev pub TellsPlaces : Option (List Position) → List PapergridPosition × ℕ → List PapergridPosition × ℕ → ℤ → Type 0
+TellsPlaces None lent told result = (told ≡ lent) × (result ≡ no_certificate)
+TellsPlaces (Some places) lent told result = TellsCounted (map position_for_c places) lent told result
+
+-- the cells that certify the widths, or the heights, of what was found
+abbrev pub TellsFoundCertificate : Direction → Option FoundTable → List PapergridPosition × ℕ → List PapergridPosition × ℕ → ℤ → Type 0
+TellsFoundCertificate direction None lent told result = (told ≡ lent) × (result ≡ number_of NotEstimated)
+TellsFoundCertificate direction (Some found) lent told result = TellsPlaces (certificate_along direction found) lent told result
+
+-- of the table
+abbrev pub TellsCertificate : Direction → ToldTable → List PapergridPosition × ℕ → List PapergridPosition × ℕ → ℤ → Type 0
+TellsCertificate direction table lent told result = TellsFoundCertificate direction table.found lent told result × AreCurrent table

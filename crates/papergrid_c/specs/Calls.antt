@@ -1,10 +1,10 @@
 -- What calls do to the table of a handle.
-use Rattle.std.specs.Prelude.{◌≡◌, ◌⊎◌, ⊤, ℕ, ℤ, All, IsUtf8, List, Option, None, Some, false, true}
+use Rattle.std.specs.Prelude.{◌≡◌, ◌⊎◌, ◌<◌, ⊤, ℕ, ℤ, All, IsUtf8, List, Option, None, Some, false, true}
 use Rattle.papergrid_config.specs.Applied.{is_in_range}
 use Rattle.papergrid_config.specs.declared.setting.Setting.{Setting}
 use Rattle.papergrid_builder.specs.Told.{ToldTable, empty_table, rows_in, with_cell, with_row_end, with_rows, with_setting}
 use Rattle.papergrid_builder.specs.declared.error.BuilderError.{BuilderError}
-use Rattle.papergrid_builder.specs.declared.error.BuilderError.TheVariants.{BadSetting, Memory, NotText, OutOfRange}
+use Rattle.papergrid_builder.specs.declared.error.BuilderError.TheVariants.{BadSetting, Memory, NotAscii, NotText, OutOfRange}
 use Rattle.papergrid_c.specs.Numbers.{bad_value, done, no_table, number_of}
 
 -- what a call does to the table of a handle; a handle without one stays so
@@ -41,15 +41,22 @@ IsNoMemory e = ⊥
 abbrev pub EndsRow : ToldTable → ToldTable → ℤ → Type 0
 EndsRow old = Ends (λ new. new ≡ with_row_end old) IsNoMemory old
 
--- why rows of texts are refused; memory may be in any case
-abbrev pub AreNoRows : List (List (List ℕ)) → BuilderError → Type 0
-AreNoRows rows NotText = ¬ All (All IsUtf8) rows
-AreNoRows rows Memory = ⊤
-AreNoRows rows e = ⊥
+-- the bytes that end cells and rows are ASCII
+abbrev pub AreAscii : ℕ → ℕ → Type 0
+AreAscii cell_end row_end = (cell_end < 128) × (row_end < 128)
 
--- more rows of these texts, each of which is ended
-abbrev pub PushesRows : List (List (List ℕ)) → ToldTable → ToldTable → ℤ → Type 0
-PushesRows rows old = Ends (λ new. All (All IsUtf8) rows × (new ≡ with_rows old rows)) (AreNoRows rows) old
+-- why the rows that a text is cut into are refused
+abbrev pub AreNoRows : ℕ → ℕ → List ℕ → BuilderError → Type 0
+AreNoRows cell_end row_end text NotAscii = ¬ AreAscii cell_end row_end
+AreNoRows cell_end row_end text NotText = AreAscii cell_end row_end × ¬ IsUtf8 text
+AreNoRows cell_end row_end text Memory = AreAscii cell_end row_end × IsUtf8 text
+AreNoRows cell_end row_end text e = ⊥
+
+-- the rows that a text is cut into as more rows, each of which is ended
+abbrev pub PushesRows : ℕ → ℕ → List ℕ → ToldTable → ToldTable → ℤ → Type 0
+PushesRows cell_end row_end text old =
+    Ends (λ new. AreAscii cell_end row_end × IsUtf8 text × All (All IsUtf8) (rows_in cell_end row_end text)
+    × (new ≡ with_rows old (rows_in cell_end row_end text))) (AreNoRows cell_end row_end text) old
 
 -- a setting that is in range, as one more
 abbrev pub HasSetting : ToldTable → ToldTable → Setting → Type 0

@@ -1,7 +1,7 @@
 -- The numbers that calls answer; papergrid.h has their names for C.
 use Rattle.std.specs.Prelude.{ℤ, pos}
 use Rattle.papergrid_builder.specs.declared.error.BuilderError.{BuilderError}
-use Rattle.papergrid_builder.specs.declared.error.BuilderError.TheVariants.{BadSetting, Hidden, Memory, NotEstimated, NotText, NotTiled, OutOfRange, OutOfTable, TooLarge}
+use Rattle.papergrid_builder.specs.declared.error.BuilderError.TheVariants.{BadSetting, Hidden, Memory, NotAscii, NotEstimated, NotText, NotTiled, OutOfRange, OutOfTable, TooLarge}
 
 -- it is done
 abbrev pub done : ℤ
@@ -23,6 +23,10 @@ bad_value = pos 12
 abbrev pub no_cell : ℤ
 no_cell = pos 13
 
+-- no cells certify the sizes
+abbrev pub no_certificate : ℤ
+no_certificate = pos 14
+
 -- why a table refuses a call
 abbrev pub number_of : BuilderError → ℤ
 number_of Memory = pos 1
@@ -34,3 +38,4 @@ number_of (NotTiled p) = pos 7
 number_of TooLarge = pos 8
 number_of NotEstimated = pos 9
 number_of Hidden = pos 10
+number_of NotAscii = bad_value

@@ -15,6 +15,8 @@ pub const NO_ROOM: i32 = 11;
 pub const BAD_VALUE: i32 = 12;
 /// No cell stands over the point.
 pub const NO_CELL: i32 = 13;
+/// No cells certify the sizes.
+pub const NO_CERTIFICATE: i32 = 14;
 
 /// Why a table refuses a call.
 pub fn number_of(error: BuilderError) -> i32
@@ -30,6 +32,7 @@ pub fn number_of(error: BuilderError) -> i32
         BuilderError::TooLarge => 8,
         BuilderError::NotEstimated => 9,
         BuilderError::Hidden => 10,
+        BuilderError::NotAscii => BAD_VALUE,
     }
 }
 

@@ -41,7 +41,8 @@ fn draw(
     length: &mut usize,
     at: &mut PapergridPosition,
 ) -> i32
-    ensures { Draws sizing builder.old (length.old, at.old) builder.new (length.new, at.new) result }
+    ensures { Draws sizing builder.old (length.old, at.old) builder.new
+        (length.new, at.new) result }
 {
     match builder.draw(alloc, sizing) {
         Ok(()) => {

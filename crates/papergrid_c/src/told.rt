@@ -1,7 +1,6 @@
 //! A table that C tells call by call.
 
 ghost use Rattle.std.specs.Prelude.{◌≡◌, None};
-ghost use Rattle.papergrid_builder.specs.Told.{rows_in};
 ghost use Rattle.papergrid_c.specs.Calls.{ChangesTable, EndsRow, Makes, PushesCell, PushesRows, ReadsSetting, Sets};
 ghost use Rattle.papergrid_c.specs.Numbers.{number_of};
 
@@ -44,7 +43,7 @@ pub extern "C" fn papergrid_push_cell(alloc: Global, handle: &mut Handle, text: 
     match handle.take(alloc) {
         None => NO_TABLE,
         Some(mut builder) => {
-            let answer = builder.push_cell(alloc, text);
+            let answer = builder.push_cell(text);
             *handle = Handle::of(builder);
             number(answer)
         }
@@ -59,7 +58,7 @@ pub extern "C" fn papergrid_end_row(alloc: Global, handle: &mut Handle) -> i32
     match handle.take(alloc) {
         None => NO_TABLE,
         Some(mut builder) => {
-            let answer = builder.end_row(alloc);
+            let answer = builder.end_row();
             *handle = Handle::of(builder);
             number(answer)
         }
@@ -76,13 +75,13 @@ pub extern "C" fn papergrid_push_rows(
     cell_end: u8,
     row_end: u8,
 ) -> i32
-    ensures { ChangesTable (PushesRows (rows_in cell_end row_end text.now))
+    ensures { ChangesTable (PushesRows cell_end row_end text.now)
         handle.old.held handle.new.held result }
 {
     match handle.take(alloc) {
         None => NO_TABLE,
         Some(mut builder) => {
-            let answer = builder.push_rows(alloc, text, cell_end, row_end);
+            let answer = builder.push_rows(text, cell_end, row_end);
             *handle = Handle::of(builder);
             number(answer)
         }

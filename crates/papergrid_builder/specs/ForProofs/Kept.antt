@@ -1,33 +1,44 @@
 -- What a builder keeps.
-use Rattle.std.specs.Prelude.{◌≡◌, ℕ, Bool, List, [], Option, None, IfSome, option_map}
+use Rattle.std.specs.Prelude.{ℕ, Bool, List, Option, IfSome, Vec, length, option_map}
+use Rattle.std.specs.declared.alloc.Global.{Global}
+use Rattle.papergrid_values.specs.declared.position.Position.{Position}
 use Rattle.papergrid_config.specs.declared.setting.Setting.{Setting}
 use Rattle.papergrid_layout.specs.Tables.{TableParts}
 use Rattle.papergrid_layout.specs.declared.sizing.Sizing.{Sizing}
 use Rattle.papergrid_json.specs.Documents.{AreInRange}
-use Rattle.papergrid_json.specs.Pictures.{texts_of}
-use Rattle.papergrid_json.specs.declared.document.Document.{Document}
 use Rattle.papergrid_builder.specs.Layouts.{IsLaidOut}
-use Rattle.papergrid_builder.specs.Told.{ToldTable, longest}
+use Rattle.papergrid_builder.specs.Told.{FoundTable, ToldTable}
+use Rattle.papergrid_builder.specs.ForProofs.Texts.{AreStarts, rows_told}
 use Rattle.papergrid_builder.specs.declared.found.Found.{Found}
 
--- what was found
+-- the sizes that were found, with their configuration
 abbrev pub parts_of : Found → TableParts
-parts_of found = record { config = found.config; widths = found.widths.items; heights = found.heights.items }
+parts_of found = record { config = found.config; widths = found.certified.widths.items; heights = found.certified.heights.items }
+
+-- the positions of a certificate
+abbrev pub places_of : Option (Vec Position Global) → Option (List Position)
+places_of certificate = option_map (λ places. places.items) certificate
+
+-- what was found
+abbrev pub found_of : Found → FoundTable
+found_of found = record {
+  parts = parts_of found;
+  width_certificate = places_of found.certified.width_witness;
+  height_certificate = places_of found.certified.height_witness;
+}
 
 -- what is told of a table that is kept so
-abbrev pub told_by : Document → Bool → Option Found → List ℕ → ToldTable
-told_by document goes_on found picture = record {
-  settings = document.settings.items;
-  rows = texts_of document;
+abbrev pub told_by : List Setting → List (List ℕ) → List ℕ → Bool → Option Found → List ℕ → ToldTable
+told_by settings cells starts goes_on found picture = record {
+  settings = settings;
+  rows = rows_told cells starts;
   goes_on = goes_on;
-  found = option_map parts_of found;
+  found = option_map found_of found;
   picture = picture;
 }
 
 -- what is known of it
-pub record IsKept (document : Document) (found : Option Found) : Type 0 where
-  pub in_range : AreInRange document.settings.items
-  pub no_sizes : document.sizes ≡ None
-  pub no_colors : document.colors.entries ≡ []
-  pub counted : document.columns ≡ longest (texts_of document)
-  pub current : IfSome found (λ f. (sizing : Sizing) × IsLaidOut document.settings.items (texts_of document) sizing (parts_of f))
+pub record IsKept (settings : List Setting) (cells : List (List ℕ)) (starts : List ℕ) (found : Option Found) : Type 0 where
+  pub in_range : AreInRange settings
+  pub within : AreStarts (length cells) starts
+  pub current : IfSome found (λ f. (sizing : Sizing) × IsLaidOut settings (rows_told cells starts) sizing (found_of f))
