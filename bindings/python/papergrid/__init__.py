@@ -12,8 +12,9 @@
 A `Table` is told rows of values, and draws them. Widths are in columns of a terminal, and heights in lines.
 """
 
+import itertools
 import re
-from typing import Any, Iterable, NamedTuple, Optional, Sequence, Tuple, Union
+from typing import Any, Iterable, Iterator, NamedTuple, Optional, Sequence, Tuple, Union
 
 from . import _library
 from ._library import (
@@ -41,8 +42,9 @@ __all__ = [
     "draw",
 ]
 
-# What ends a cell and a row on the way to the library.
+# What ends a cell and a row on the way to the library, and how many rows go there at once.
 _CELL_END, _ROW_END = "\x1f", "\x1e"
+_PORTION = 1000
 
 # Characters that would break the lines of a table: control characters but a line feed, and those that turn the direction of a text.
 _BREAKING = re.compile("[\x00-\x09\x0b-\x1f\x7f-\x9f\u202a-\u202e\u2066-\u2069]")
@@ -83,22 +85,22 @@ def _text(value: Any) -> str:
     return value if isinstance(value, str) else "" if value is None else str(value)
 
 
-def _listed(rows: Iterable[Iterable[Any]]) -> Sequence[Sequence[Any]]:
-    """The rows as a list of lists or tuples."""
-    listed = list(rows)
-    if set(map(type, listed)) <= {list, tuple}:
-        return listed
-    return [row if isinstance(row, (list, tuple)) else list(row) for row in listed]
-
-
-def _joined(rows: Sequence[Sequence[Any]]) -> Tuple[Sequence[Sequence[str]], str]:
-    """The texts of rows of values, and all of them as one text."""
+def _texts_of(rows: Sequence[Iterable[Any]]) -> Tuple[Sequence[Sequence[str]], Sequence[int], str]:
+    """The texts of rows of values, how many each row has, and all of them as one text, with an end behind each row."""
     try:
-        # So where each value is a text no list is made anew.
-        return rows, _ROW_END.join(map(_CELL_END.join, rows))
+        # So where each row has a length and each value is a text no list is made anew.
+        lengths = list(map(len, rows))
+        return rows, lengths, _ROW_END.join([*map(_CELL_END.join, rows), ""])
     except TypeError:
         texts = [[_text(value) for value in row] for row in rows]
-        return texts, _ROW_END.join(map(_CELL_END.join, texts))
+        return texts, list(map(len, texts)), _ROW_END.join([*map(_CELL_END.join, texts), ""])
+
+
+def _column(texts: Sequence[Sequence[str]], heads: int, column: int) -> Iterator[str]:
+    """The texts of a column below the heads."""
+    for row in itertools.islice(texts, heads, None):
+        if column < len(row):
+            yield row[column] if isinstance(row, (list, tuple)) else list(row)[column]
 
 
 def _is_numeric(column: Iterable[str]) -> bool:
@@ -140,33 +142,49 @@ class Table:
         self._least = least
         self._is_estimated = False
         self._handle = _library.Handle()
-        texts, joined = _joined(_listed(rows))
-        lengths = list(map(len, texts))
-        self._count = (len(texts), max(lengths, default=0))
-        if self._count[1] > 0:
-            self._push(texts, joined, lengths)
+        self._columns = 0
+        texts = self._push(rows if isinstance(rows, (list, tuple)) else list(rows))
+        self._rows = len(texts)
         self._set_style(style, header)
-        self._set_alignments(texts[1:] if header else texts, align)
+        self._set_alignments(texts, 1 if header else 0, align)
 
-    def _push(self, texts: Sequence[Sequence[str]], joined: str, lengths: Sequence[int]) -> None:
+    def _push(self, rows: Sequence[Iterable[Any]]) -> Sequence[Sequence[str]]:
+        """Tells all rows, and answers their texts. Where no row has a cell nothing is told."""
+        texts, waiting = rows, 0
+        for start in range(0, len(rows), _PORTION):
+            portion = rows[start : start + _PORTION]
+            told, lengths, joined = _texts_of(portion)
+            if told is not portion:
+                texts = list(texts)
+                texts[start : start + _PORTION] = told
+            self._columns = max(self._columns, *lengths)
+            if self._columns == 0:
+                waiting += len(told)
+                continue
+            data = (waiting * _ROW_END).encode() + self._checked(told, lengths, joined)
+            waiting = 0
+            self._handle.push_rows(data, ord(_CELL_END), ord(_ROW_END))
+        return texts
+
+    def _checked(self, texts: Sequence[Sequence[str]], lengths: Sequence[int], joined: str) -> bytes:
+        """All texts as one, whose control characters are spelled. Only where there are such is each text looked at alone."""
         data = joined.encode()
-        # Between cells and between rows; a row without cells ends as one with one.
-        ends = sum(lengths) + lengths.count(0) - 1
-        # All texts are looked at as one. Only where a character has to be spelled is each looked at alone.
+        # Between cells, and behind rows; a row without cells ends as one with one.
+        ends = sum(lengths) + lengths.count(0)
         breaking = len(data) - len(data.translate(None, _ASCII_BREAKING))
-        if breaking != ends or not joined.isascii() and _OTHER_BREAKING.search(joined):
-            data = _ROW_END.join(_CELL_END.join(map(_spelled, row)) for row in texts).encode()
-        self._handle.push_rows(data + _ROW_END.encode(), ord(_CELL_END), ord(_ROW_END))
+        if breaking == ends and (joined.isascii() or not _OTHER_BREAKING.search(joined)):
+            return data
+        return _ROW_END.join([*(_CELL_END.join(map(_spelled, row)) for row in texts), ""]).encode()
 
     def _set_style(self, style: str, header: bool) -> None:
         it = STYLES[style]
         self._handle.set_borders([ord(c) if c else 0 for c in it.frame])
         line = it.head if header else it.line
-        if line and self._count[0] > 1:
+        if line and self._rows > 1:
             self._handle.insert_horizontal_line(1, [ord(c) if c else 0 for c in line])
         self._handle.set_padding(_library.ALL, it.padding, it.padding, 0, 0)
 
-    def _set_alignments(self, below: Sequence[Sequence[str]], align: Align) -> None:
+    def _set_alignments(self, texts: Sequence[Sequence[str]], heads: int, align: Align) -> None:
         if isinstance(align, str):
             each, common = [], align
         else:
@@ -176,10 +194,10 @@ class Table:
                 raise ValueError(f"no alignment is named {name!r}; there are left, center, right and auto")
         base = "left" if common == "auto" else common
         self._handle.set_alignment(_library.ALL, _ALIGNMENTS.index(base))
-        for column in range(self._count[1]):
+        for column in range(self._columns):
             name = each[column] if column < len(each) else common
             if name == "auto":
-                name = "right" if _is_numeric(row[column] for row in below if column < len(row)) else "left"
+                name = "right" if _is_numeric(_column(texts, heads, column)) else "left"
             if name != base:
                 self._handle.set_alignment(_library.column(column), _ALIGNMENTS.index(name))
 
@@ -199,11 +217,14 @@ class Table:
         self._handle.set(name, *values)
         return self
 
-    def __str__(self) -> str:
-        """The picture, without a line feed at its end. Raises OutOfTable, NotTiled, TooLarge or OutOfMemory."""
+    def _drawn(self) -> bytearray:
         picture = self._handle.draw(self._least)
         del picture[-1:]
-        return picture.decode()
+        return picture
+
+    def __str__(self) -> str:
+        """The picture, without a line feed at its end. Raises OutOfTable, NotTiled, TooLarge or OutOfMemory."""
+        return self._drawn().decode()
 
     def _estimate(self) -> Tuple[int, int]:
         if not self._is_estimated:
@@ -268,4 +289,5 @@ def draw(
     least: bool = False,
 ) -> str:
     """The picture of a `Table` of these."""
-    return str(Table(rows, header, style, align, least))
+    # The table is gone before its picture is decoded, which then has its memory.
+    return Table(rows, header, style, align, least)._drawn().decode()

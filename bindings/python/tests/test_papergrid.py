@@ -28,6 +28,31 @@ class Draws(unittest.TestCase):
             "+---+--+-----+\n| 1 |  | 2.5 |\n+---+--+-----+\n| x |  |     |\n+---+--+-----+",
         )
 
+    def test_rows(self):
+        """Rows are whatever can be gone through once."""
+        want = papergrid.draw([["a", "1"], ["b", "2"]])
+        for rows in (
+            (iter(row) for row in (["a", "1"], ["b", "2"])),
+            [["a", "1"], iter(["b", "2"])],
+            [dict.fromkeys(["a", "1"]), ("b", 2)],
+            ["a1", "b2"],
+        ):
+            self.assertEqual(papergrid.draw(rows), want)
+
+    def test_empty_texts(self):
+        for rows in ([[""]], [["a"], [""]], [["\x1e"], ["", ""]]):
+            lines = papergrid.draw(rows, style="none", header=False).split("\n")
+            self.assertEqual(len(lines), len(rows))
+
+    def test_many_rows(self):
+        """Rows go to the library in portions."""
+        rows = [[str(row), row if row == 1500 else "x", "\t" if row == 2200 else ""] for row in range(2501)]
+        lines = papergrid.draw([[], *rows], style="none", header=False, align="left").split("\n")
+        self.assertEqual(len(lines), 2502)
+        self.assertEqual((lines[0].strip(), lines[1501], lines[2201]), ("", "15001500  ", "2200x   \\t"))
+        self.assertEqual(papergrid.draw([[]] * 1001 + [["a"]], style="none").count("\n"), 1001)
+        self.assertEqual(papergrid.draw([[]] * 1001), "")
+
     def test_empty(self):
         self.assertEqual(papergrid.draw([]), "")
         self.assertEqual(papergrid.draw([[], []]), "")
