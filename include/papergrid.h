@@ -17,7 +17,7 @@
  * too (PAPERGRID_MEMORY): no call ends the program.
  *
  * Rows and columns count from 0. Widths are columns of a terminal, heights are lines. Texts are UTF-8, with their length in bytes, and
- * need no 0 at their end. A character is told by its number in Unicode.
+ * need no 0 at their end. A character is told by its number in Unicode, as 0x2502 for a line down; C11 has U'x' for that of x.
  *
  * What the caller owes; the library tests none of it:
  * - A handle begins as PAPERGRID_NONE, and is then changed by these calls alone. It may be moved. Of two copies only one is used.
@@ -66,6 +66,8 @@ typedef struct Papergrid {
 
 #define PAPERGRID_NONE {NULL}
 
+#define PAPERGRID_VERSION "0.18.0"
+
 /* What a setting is for: see `papergrid_all` and the three below it. */
 typedef struct PapergridEntity {
     uint32_t kind; /* 0 all cells, 1 a column, 2 a row, 3 a cell */
@@ -88,7 +90,10 @@ typedef struct PapergridPlace {
     size_t height;
 } PapergridPlace;
 
-/* The characters of a table's frame and of the lines inside; 0 is none. */
+/* The characters of a table's frame and of the lines inside; 0 is none. There is a line between every two rows where one of `horizontal`,
+ * `intersection`, `left_intersection` and `right_intersection` is there, and between every two columns where one of `vertical`,
+ * `intersection`, `top_intersection` and `bottom_intersection` is. Intersections stand where these lines cross, and where they meet the
+ * frame. */
 typedef struct PapergridBorders {
     uint32_t top, top_left, top_right, top_intersection;
     uint32_t bottom, bottom_left, bottom_right, bottom_intersection;
@@ -98,7 +103,8 @@ typedef struct PapergridBorders {
 
 /* ---- a table and its cells */
 
-/* Puts a table of which nothing was told into the handle. A table that it had is freed. After PAPERGRID_MEMORY it has none. */
+/* Puts a table of which nothing was told into the handle: without lines, padding and margins, with texts at the left and at the top. A
+ * table that it had is freed. After PAPERGRID_MEMORY it has none. */
 int32_t papergrid_new(Papergrid *handle);
 
 /* Frees the table, if there is one. The handle is PAPERGRID_NONE then, and may be freed again. */
@@ -108,7 +114,7 @@ void papergrid_free(Papergrid *handle);
  * PAPERGRID_NOT_TEXT, PAPERGRID_MEMORY. */
 int32_t papergrid_push_cell(Papergrid *handle, const char *text, size_t length);
 
-/* Ends the last row: the next cell begins a new one. Where it would anyway there is one more row, without cells. PAPERGRID_MEMORY. */
+/* Ends the row that was begun: the next cell begins a new one. Where none was begun it adds a row without cells. PAPERGRID_MEMORY. */
 int32_t papergrid_end_row(Papergrid *handle);
 
 /* Adds the rows that a text is cut into: each byte `row_end` ends a row, and each byte `cell_end` stands between two cells. Both are
@@ -116,14 +122,15 @@ int32_t papergrid_end_row(Papergrid *handle);
  * before. Nothing is unquoted: for CSV with quotes, cut the text yourself. PAPERGRID_NOT_TEXT, PAPERGRID_MEMORY. */
 int32_t papergrid_push_rows(Papergrid *handle, const char *text, size_t length, uint8_t cell_end, uint8_t row_end);
 
-/* ---- settings. Each is one more, and of two for the same the later one counts. */
+/* ---- settings. Each is one more, and of two for the same the later one counts. A frame and an inserted line are not the same: the line
+ * stays whichever is told first. */
 
-/* Any of the 41 settings, as a JSON list of its name and its values: ["SetBorderDefault", "+"]. `papergrid_table --help-json` lists
- * them. PAPERGRID_BAD_SETTING, PAPERGRID_MEMORY. */
+/* Any of the 41 settings, as a JSON list of its name and its values: ["SetBorderDefault", "+"]. Margins are told so alone, say. The
+ * program papergrid_table of the repository lists all with `--help-json`. PAPERGRID_BAD_SETTING, PAPERGRID_MEMORY. */
 int32_t papergrid_set(Papergrid *handle, const char *json, size_t length);
 
 /* So many blank columns left and right of each text, and so many blank lines above and below. PAPERGRID_BAD_VALUE for a kind of entity
- * that there is not, here and below; PAPERGRID_MEMORY, here and below. */
+ * that there is not, and PAPERGRID_MEMORY: so all the setters below. */
 int32_t papergrid_set_padding(Papergrid *handle, PapergridEntity entity, size_t left, size_t right, size_t top, size_t bottom);
 
 /* Texts stand at the left (0), in the middle (1) or at the right (2); PAPERGRID_BAD_VALUE for any other. */
@@ -140,10 +147,11 @@ int32_t papergrid_set_borders(Papergrid *handle, const uint32_t *characters, siz
  * the top right and the bottom right. PAPERGRID_OUT_OF_RANGE where the row or the column is SIZE_MAX. */
 int32_t papergrid_set_border(Papergrid *handle, size_t row, size_t column, const uint32_t *characters, size_t count);
 
-/* A line above a row: 4 characters, for the line, its crossings, its left end and its right end. */
+/* A line above a row, or below the last one where the row is their number: 4 characters, for the line, its crossings, its left end and its
+ * right end. Where one is 0 the frame's character for that place stands, or else a blank. For a row past these nothing is drawn. */
 int32_t papergrid_insert_horizontal_line(Papergrid *handle, size_t row, const uint32_t *characters, size_t count);
 
-/* A line left of a column: 4 characters, for the line, its crossings, its upper end and its lower end. */
+/* The same left of a column, or right of the last one: for the line, its crossings, its upper end and its lower end. */
 int32_t papergrid_insert_vertical_line(Papergrid *handle, size_t column, const uint32_t *characters, size_t count);
 
 /* The cell goes over so many columns, and hides the cells there. */
@@ -156,8 +164,8 @@ int32_t papergrid_set_row_span(Papergrid *handle, size_t row, size_t column, siz
 
 /* Finds the sizes of the table, and keeps them until a cell or a setting is told. With `least` 0 they are chosen by shares: a cell over
  * several columns spreads what it lacks evenly. Else no table is smaller, whatever spans cross. Writes the whole width in columns of a
- * terminal and the whole height in lines, with all lines and without margins. PAPERGRID_OUT_OF_TABLE, PAPERGRID_TOO_LARGE,
- * PAPERGRID_MEMORY. */
+ * terminal and the whole height in lines, with all lines and without margins. `papergrid_draw` finds sizes for itself, and keeps none.
+ * PAPERGRID_OUT_OF_TABLE, PAPERGRID_TOO_LARGE, PAPERGRID_MEMORY. */
 int32_t papergrid_estimate(Papergrid *handle, uint32_t least, size_t *width, size_t *height);
 
 /* Writes where the cell at a position stands, by the sizes that were found. PAPERGRID_NOT_ESTIMATED, PAPERGRID_HIDDEN,
@@ -169,26 +177,28 @@ int32_t papergrid_place(Papergrid *handle, size_t row, size_t column, PapergridP
 int32_t papergrid_cell_at(Papergrid *handle, size_t column, size_t line, PapergridPosition *cell);
 
 /* Writes how many columns there are, and then their widths to the front of `widths`, by the sizes that were found; where they do not fit,
- * PAPERGRID_NO_ROOM, with the count alone written. Without the lines between. PAPERGRID_NOT_ESTIMATED. */
+ * PAPERGRID_NO_ROOM, with the count alone written. So NULL and a room of 0 ask for the count. A width is with the padding and without the
+ * lines between columns. PAPERGRID_NOT_ESTIMATED. */
 int32_t papergrid_widths(Papergrid *handle, size_t *widths, size_t room, size_t *count);
 
 /* The same of the rows and their heights. */
 int32_t papergrid_heights(Papergrid *handle, size_t *heights, size_t room, size_t *count);
 
 /* Writes how many cells certify that the widths that were found are least, and then their positions to the front of `cells`; where they do
- * not fit, PAPERGRID_NO_ROOM, with the count alone written. No two of them share a column. What each of them needs, less the lines that
- * stand inside of it, adds up to the widths: so no widths with room for these cells are less. PAPERGRID_NO_CERTIFICATE where the widths are
- * by shares and two cells over several columns overlap in part; PAPERGRID_NOT_ESTIMATED. */
+ * not fit, PAPERGRID_NO_ROOM, with the count alone written. No two of them share a column. A cell needs its widest line and its padding,
+ * less the lines between the columns that it spans. What they need adds up to the widths: so no widths with room for these cells are less.
+ * PAPERGRID_NO_CERTIFICATE where the widths are by shares and two cells over several columns overlap in part; PAPERGRID_NOT_ESTIMATED. */
 int32_t papergrid_width_certificate(Papergrid *handle, PapergridPosition *cells, size_t room, size_t *count);
 
-/* The same of the heights: no two of the cells share a row. */
+/* The same of the heights: no two of the cells share a row, and a cell needs its lines and its padding. */
 int32_t papergrid_height_certificate(Papergrid *handle, PapergridPosition *cells, size_t room, size_t *count);
 
 /* ---- the picture */
 
 /* Draws the table: its picture is kept, and its length in bytes is written. It is UTF-8, with a line feed after each line, and empty
  * where there are no rows or no columns. `least` is as for `papergrid_estimate`. After PAPERGRID_OUT_OF_TABLE and PAPERGRID_NOT_TILED
- * `at` is the cell of which they speak. PAPERGRID_TOO_LARGE, PAPERGRID_MEMORY. After an error the picture of before is kept. */
+ * `at` is the cell of which they speak; after any other answer it is as it was. PAPERGRID_TOO_LARGE, PAPERGRID_MEMORY. After an error the
+ * picture of before is kept. */
 int32_t papergrid_draw(Papergrid *handle, uint32_t least, size_t *length, PapergridPosition *at);
 
 /* Copies the picture that was drawn last to the front of the bytes, with no 0 behind it. PAPERGRID_NO_ROOM where it is longer. */
