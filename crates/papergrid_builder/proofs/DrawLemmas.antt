@@ -1,5 +1,5 @@
 -- The sizes and the picture of rows of texts that are lent, by what is found of records of them.
-use Rattle.std.proofs.Common.{Global, Vec, ◌≡◌, ℕ, List, None, Option, Some, Result, Ok, Err, IfErr, IfOk, map, refl, subst}
+use Rattle.std.proofs.Common.{Bor, Global, Vec, ◌≡◌, ℕ, List, None, Option, Some, Result, Ok, Err, IfErr, IfOk, map, refl, subst}
 use Rattle.papergrid_values.specs.declared.direction.Direction.{Direction}
 use Rattle.papergrid_values.specs.declared.direction.Direction.TheVariants.{Columns, Rows}
 use Rattle.papergrid_values.specs.declared.position.Position.{Position}
@@ -9,26 +9,29 @@ use Rattle.papergrid_config.specs.declared.spanned.SpannedConfig.{SpannedConfig}
 use Rattle.papergrid_walk.specs.Cells.{problem_of}
 use Rattle.papergrid_layout.specs.Answers.{IsBothRefusedWhere, UnlessMemoryError}
 use Rattle.papergrid_layout.specs.Certificates.{AreCertifiedWhere, AreSizesBy, AreTooLargeBy, IsFoundCertificate}
-use Rattle.papergrid_layout.specs.Tables.{AreNoSizesBySizing, AreSizesBySizing}
+use Rattle.papergrid_layout.specs.Tables.{AreNoSizesBySizing, AreSizesBySizing, IsTableOf, TableParts}
 use Rattle.papergrid_layout.specs.declared.certificates.Certified.{Certified}
 use Rattle.papergrid_layout.specs.declared.sizing.Sizing.{Sizing}
 use Rattle.papergrid_layout.specs.declared.sizing.Sizing.TheVariants.{ByShares, Least}
 use Rattle.papergrid_layout.proofs.Told.{problem_told}
+use Rattle.papergrid_text.proofs.RowSteps.{told_by}
 use Rattle.papergrid_tracks.specs.Problem.{Problem}
 use Rattle.papergrid_tracks.specs.declared.error.LayoutError.{LayoutError}
 use Rattle.papergrid_tracks.specs.declared.error.LayoutError.TheVariants as layout_errors
-use Rattle.papergrid_draw.specs.Drawings.{Drawing}
+use Rattle.papergrid_draw.specs.Drawings.{Drawing, drawn_of}
+use Rattle.papergrid_grid.specs.Cells.{lines_at, text_lines}
 use Rattle.papergrid_grid.specs.Lined.{lined}
 use Rattle.papergrid.specs.Estimates.{text_measure}
 use Rattle.papergrid.specs.Layouts.{IsConfiguredBy}
 use Rattle.papergrid.specs.Pictures.{IsDrawingWith, Unsized}
 use Rattle.papergrid.specs.Totals.{IsCertificateBy}
-use Rattle.papergrid.proofs.PictureLemmas.{no-sizes-seen, sizes-seen}
+use Rattle.papergrid.proofs.PictureLemmas.{drawing-with, no-sizes-seen, sizes-seen}
 use Rattle.papergrid_builder.specs.Errors.{layout_refusal}
 use Rattle.papergrid_builder.specs.Layouts.{IsNotLaidOut}
 use Rattle.papergrid_builder.specs.Pictures.{IsDrawingOf, IsNotDrawn}
 use Rattle.papergrid_builder.specs.Told.{longest}
 use Rattle.papergrid_builder.specs.ForProofs.Kept.{places_of}
+use Rattle.papergrid_builder.specs.ForProofs.Texts.{rows_lent, texts_lent}
 use Rattle.papergrid_builder.specs.ForProofs.Sizes.{AreFound, IsUndrawn, IsUnfound}
 use Rattle.papergrid_builder.specs.declared.error.BuilderError.{BuilderError}
 use Rattle.papergrid_builder.specs.declared.error.BuilderError.TheVariants as builder_errors
@@ -75,6 +78,21 @@ module _ {A : Type 0} (view : A → List ℕ) (config : SpannedConfig) (sizing :
       AreNoSizesBySizing config text_measure (longest rows) rows sizing e
   no-sizes e are = subst (λ n. AreNoSizesBySizing config text_measure n rows sizing e) counted
       (no-sizes-seen view config columns cells rows same sizing e (none-chosen sizing e are))
+
+-- the drawing of rows of texts that are lent, by a table of them
+module _ (config : SpannedConfig) (sizing : Sizing) (lent : List (Bor (List (Bor (List ℕ))))) (table : TableParts) where
+  abbrev pub drawing-lent : Drawing
+  drawing-lent = drawn_of (λ rows. lines_at text_lines (map (λ row. texts_lent row.now) rows)) (λ _ _. None) table lent
+
+  pub is-drawing : (columns : ℕ) (cells : List (List (Bor (Bor (List ℕ))))) → columns ≡ longest (rows_lent lent) →
+      map (map (λ cell. cell.now)) cells ≡ map (λ row. row.now) lent → IsTableOf config (λ cell. text_measure cell.now.now) columns cells sizing (Ok table) →
+      IsDrawingWith (longest (rows_lent lent)) (rows_lent lent) sizing config drawing-lent
+  is-drawing columns cells counted told is =
+      let texts = rows_lent lent in
+      let same = told_by (λ cell. cell.now) (λ text. text.now) (λ row. row.now) cells lent told in
+      let sized = subst (λ n. AreSizesBySizing config text_measure n texts sizing table.widths table.heights) counted
+      (sizes-seen (λ cell. cell.now.now) config columns cells texts same sizing table.widths table.heights is.1) in
+      drawing-with (λ row. texts_lent row.now) table config (longest texts) sizing lent lent is.0 refl sized
 
 module _ (config : SpannedConfig) (rows : List (List (List ℕ))) (sizing : Sizing) where
   pub unfound-unsized : (e : LayoutError) → UnlessMemoryError e (AreNoSizesBySizing config text_measure (longest rows) rows sizing e) → IsUnfound config rows sizing (layout_refusal e)

@@ -1,17 +1,15 @@
-use Rattle.std.proofs.Common.{◌∙◌, ◌++◌, None, ap, map, refl, subst}
+use Rattle.std.proofs.Common.{◌∙◌, ◌++◌, ap, map, subst}
 use Rattle.std.proofs.lemmas.Result.{err_from_is_err_and}
 use Rattle.papergrid_text.proofs.RowSteps.{told_by}
-use Rattle.papergrid_layout.specs.Tables.{AreNoSizesBySizing, AreSizesBySizing}
-use Rattle.papergrid_draw.specs.Drawings.{drawn_of}
+use Rattle.papergrid_layout.specs.Tables.{AreNoSizesBySizing}
 use Rattle.papergrid_draw.specs.Faults.{IsDrawFault}
-use Rattle.papergrid_grid.specs.Cells.{lines_at, text_lines}
 use Rattle.papergrid_grid.specs.Lined.{lined}
 use Rattle.papergrid.specs.Estimates.{text_measure}
 use Rattle.papergrid.specs.Pictures.{Undrawn}
-use Rattle.papergrid.proofs.PictureLemmas.{drawing-with, no-sizes-seen, room-with, sizes-seen, unless-also}
+use Rattle.papergrid.proofs.PictureLemmas.{no-sizes-seen, room-with, unless-also}
 use Rattle.papergrid_builder.specs.Told.{longest}
-use Rattle.papergrid_builder.specs.ForProofs.Texts.{rows_lent, texts_lent}
-use Rattle.papergrid_builder.proofs.DrawLemmas.{undrawn-unsized}
+use Rattle.papergrid_builder.specs.ForProofs.Texts.{rows_lent}
+use Rattle.papergrid_builder.proofs.DrawLemmas.{drawing-lent, is-drawing, undrawn-unsized}
 use Rattle.papergrid_builder.proofs.drawn.drawn_by.Goals as goal
 
 pub returns-in_err-table-clause-err : goal.returns-in_err-table-clause-err
@@ -27,77 +25,54 @@ returns-in_err-table-clause-err c =
 
 pub draw_lines-requires : goal.draw_lines-requires
 draw_lines-requires c = λ known.
-    let texts = rows_lent c.args.rows.now in
     let rows = ap (λ r. r.iter.items) c.new-records.ensures ∙ c.in_ok-from_slice.ensures.items in
     let columns = ap (λ r. r.count_columns) c.new-records.ensures ∙ c.longest_of-columns.ensures in
     let told = c.in_ok-table.ensures in
-    let same = told_by (λ cell. cell.now) (λ text. text.now) (λ row. row.now) told.0 c.args.rows.now (told.1 ∙ ap (map (λ row. row.now)) rows) in
-    let sized = subst (λ n. AreSizesBySizing c.args.config.now text_measure n texts c.args.sizing c.in_ok-table.table.widths c.in_ok-table.table.heights) columns
-    (sizes-seen (λ cell. cell.now.now) c.args.config.now _ told.0 texts same c.args.sizing _ _ told.2.1) in
-    let is = drawing-with (λ row. texts_lent row.now) c.in_ok-table.table c.args.config.now (longest texts) c.args.sizing c.args.rows.now c.args.rows.now told.2.0 refl sized in
-    room-with (longest texts) texts c.args.sizing c.args.config.now _ is
+    let is = is-drawing c.args.config.now c.args.sizing c.args.rows.now c.in_ok-table.table _ told.0 columns (told.1 ∙ ap (map (λ row. row.now)) rows) told.2 in
+    room-with (longest (rows_lent c.args.rows.now)) (rows_lent c.args.rows.now) c.args.sizing c.args.config.now _ is
 
 pub returns-in-Ok-clause-ok : goal.returns-in-Ok-clause-ok
 returns-in-Ok-clause-ok c =
-    let texts = rows_lent c.args.rows.now in
     let rows = ap (λ r. r.iter.items) c.new-records.ensures ∙ c.in_ok-from_slice.ensures.items in
     let columns = ap (λ r. r.count_columns) c.new-records.ensures ∙ c.longest_of-columns.ensures in
     let told = c.in_ok-table.ensures in
-    let same = told_by (λ cell. cell.now) (λ text. text.now) (λ row. row.now) told.0 c.args.rows.now (told.1 ∙ ap (map (λ row. row.now)) rows) in
-    let sized = subst (λ n. AreSizesBySizing c.args.config.now text_measure n texts c.args.sizing c.in_ok-table.table.widths c.in_ok-table.table.heights) columns
-    (sizes-seen (λ cell. cell.now.now) c.args.config.now _ told.0 texts same c.args.sizing _ _ told.2.1) in
-    let is = drawing-with (λ row. texts_lent row.now) c.in_ok-table.table c.args.config.now (longest texts) c.args.sizing c.args.rows.now c.args.rows.now told.2.0 refl sized in
-    let d = drawn_of (λ rows. lines_at text_lines (map (λ row. texts_lent row.now) rows)) (λ _ _. None) c.in_ok-table.table c.args.rows.now in
+    let is = is-drawing c.args.config.now c.args.sizing c.args.rows.now c.in_ok-table.table _ told.0 columns (told.1 ∙ ap (map (λ row. row.now)) rows) told.2 in
+    let d = drawing-lent c.args.config.now c.args.sizing c.args.rows.now c.in_ok-table.table in
     (d, is, c.in-Ok.ensures.picture ∙ ap (λ before. before ++ lined d) c.new-sink.ensures)
 
 pub returns-in-Err-OutOfTable-clause-err : goal.returns-in-Err-OutOfTable-clause-err
 returns-in-Err-OutOfTable-clause-err c =
-    let texts = rows_lent c.args.rows.now in
     let rows = ap (λ r. r.iter.items) c.new-records.ensures ∙ c.in_ok-from_slice.ensures.items in
     let columns = ap (λ r. r.count_columns) c.new-records.ensures ∙ c.longest_of-columns.ensures in
     let told = c.in_ok-table.ensures in
-    let same = told_by (λ cell. cell.now) (λ text. text.now) (λ row. row.now) told.0 c.args.rows.now (told.1 ∙ ap (map (λ row. row.now)) rows) in
-    let sized = subst (λ n. AreSizesBySizing c.args.config.now text_measure n texts c.args.sizing c.in_ok-table.table.widths c.in_ok-table.table.heights) columns
-    (sizes-seen (λ cell. cell.now.now) c.args.config.now _ told.0 texts same c.args.sizing _ _ told.2.1) in
-    let is = drawing-with (λ row. texts_lent row.now) c.in_ok-table.table c.args.config.now (longest texts) c.args.sizing c.args.rows.now c.args.rows.now told.2.0 refl sized in
-    let d = drawn_of (λ rows. lines_at text_lines (map (λ row. texts_lent row.now) rows)) (λ _ _. None) c.in_ok-table.table c.args.rows.now in
+    let is = is-drawing c.args.config.now c.args.sizing c.args.rows.now c.in_ok-table.table _ told.0 columns (told.1 ∙ ap (map (λ row. row.now)) rows) told.2 in
+    let d = drawing-lent c.args.config.now c.args.sizing c.args.rows.now c.in_ok-table.table in
     Undrawn d is (subst (IsDrawFault d) c.in-Err-OutOfTable.field-0-is c.in-Err-OutOfTable.ensures.fault)
 
 pub returns-in-Err-NotTiled-clause-err : goal.returns-in-Err-NotTiled-clause-err
 returns-in-Err-NotTiled-clause-err c =
-    let texts = rows_lent c.args.rows.now in
     let rows = ap (λ r. r.iter.items) c.new-records.ensures ∙ c.in_ok-from_slice.ensures.items in
     let columns = ap (λ r. r.count_columns) c.new-records.ensures ∙ c.longest_of-columns.ensures in
     let told = c.in_ok-table.ensures in
-    let same = told_by (λ cell. cell.now) (λ text. text.now) (λ row. row.now) told.0 c.args.rows.now (told.1 ∙ ap (map (λ row. row.now)) rows) in
-    let sized = subst (λ n. AreSizesBySizing c.args.config.now text_measure n texts c.args.sizing c.in_ok-table.table.widths c.in_ok-table.table.heights) columns
-    (sizes-seen (λ cell. cell.now.now) c.args.config.now _ told.0 texts same c.args.sizing _ _ told.2.1) in
-    let is = drawing-with (λ row. texts_lent row.now) c.in_ok-table.table c.args.config.now (longest texts) c.args.sizing c.args.rows.now c.args.rows.now told.2.0 refl sized in
-    let d = drawn_of (λ rows. lines_at text_lines (map (λ row. texts_lent row.now) rows)) (λ _ _. None) c.in_ok-table.table c.args.rows.now in
+    let is = is-drawing c.args.config.now c.args.sizing c.args.rows.now c.in_ok-table.table _ told.0 columns (told.1 ∙ ap (map (λ row. row.now)) rows) told.2 in
+    let d = drawing-lent c.args.config.now c.args.sizing c.args.rows.now c.in_ok-table.table in
     Undrawn d is (subst (IsDrawFault d) c.in-Err-NotTiled.field-0-is c.in-Err-NotTiled.ensures.fault)
 
 pub returns-in-Err-TooLarge-clause-err : goal.returns-in-Err-TooLarge-clause-err
 returns-in-Err-TooLarge-clause-err c =
-    let texts = rows_lent c.args.rows.now in
     let rows = ap (λ r. r.iter.items) c.new-records.ensures ∙ c.in_ok-from_slice.ensures.items in
     let columns = ap (λ r. r.count_columns) c.new-records.ensures ∙ c.longest_of-columns.ensures in
     let told = c.in_ok-table.ensures in
-    let same = told_by (λ cell. cell.now) (λ text. text.now) (λ row. row.now) told.0 c.args.rows.now (told.1 ∙ ap (map (λ row. row.now)) rows) in
-    let sized = subst (λ n. AreSizesBySizing c.args.config.now text_measure n texts c.args.sizing c.in_ok-table.table.widths c.in_ok-table.table.heights) columns
-    (sizes-seen (λ cell. cell.now.now) c.args.config.now _ told.0 texts same c.args.sizing _ _ told.2.1) in
-    let is = drawing-with (λ row. texts_lent row.now) c.in_ok-table.table c.args.config.now (longest texts) c.args.sizing c.args.rows.now c.args.rows.now told.2.0 refl sized in
-    let d = drawn_of (λ rows. lines_at text_lines (map (λ row. texts_lent row.now) rows)) (λ _ _. None) c.in_ok-table.table c.args.rows.now in
+    let is = is-drawing c.args.config.now c.args.sizing c.args.rows.now c.in_ok-table.table _ told.0 columns (told.1 ∙ ap (map (λ row. row.now)) rows) told.2 in
+    let d = drawing-lent c.args.config.now c.args.sizing c.args.rows.now c.in_ok-table.table in
     Undrawn d is (subst (IsDrawFault d) c.in-Err-TooLarge.field-0-is c.in-Err-TooLarge.ensures.fault)
 
 pub unreachable-requires : goal.unreachable-requires
 unreachable-requires c =
-    let texts = rows_lent c.args.rows.now in
     let rows = ap (λ r. r.iter.items) c.new-records.ensures ∙ c.in_ok-from_slice.ensures.items in
     let columns = ap (λ r. r.count_columns) c.new-records.ensures ∙ c.longest_of-columns.ensures in
     let told = c.in_ok-table.ensures in
-    let same = told_by (λ cell. cell.now) (λ text. text.now) (λ row. row.now) told.0 c.args.rows.now (told.1 ∙ ap (map (λ row. row.now)) rows) in
-    let sized = subst (λ n. AreSizesBySizing c.args.config.now text_measure n texts c.args.sizing c.in_ok-table.table.widths c.in_ok-table.table.heights) columns
-    (sizes-seen (λ cell. cell.now.now) c.args.config.now _ told.0 texts same c.args.sizing _ _ told.2.1) in
-    let is = drawing-with (λ row. texts_lent row.now) c.in_ok-table.table c.args.config.now (longest texts) c.args.sizing c.args.rows.now c.args.rows.now told.2.0 refl sized in
-    let d = drawn_of (λ rows. lines_at text_lines (map (λ row. texts_lent row.now) rows)) (λ _ _. None) c.in_ok-table.table c.args.rows.now in
-    room-with (longest texts) texts c.args.sizing c.args.config.now d is c.in-Err-NoRoom.field-0-0 (subst (IsDrawFault d) c.in-Err-NoRoom.field-0-is c.in-Err-NoRoom.ensures.fault).1.it
+    let is = is-drawing c.args.config.now c.args.sizing c.args.rows.now c.in_ok-table.table _ told.0 columns (told.1 ∙ ap (map (λ row. row.now)) rows) told.2 in
+    let d = drawing-lent c.args.config.now c.args.sizing c.args.rows.now c.in_ok-table.table in
+    room-with (longest (rows_lent c.args.rows.now)) (rows_lent c.args.rows.now) c.args.sizing c.args.config.now d is c.in-Err-NoRoom.field-0-0
+    (subst (IsDrawFault d) c.in-Err-NoRoom.field-0-is c.in-Err-NoRoom.ensures.fault).1.it
