@@ -14,7 +14,7 @@
  *
  * Each call but `papergrid_free` answers a number, which is 0 where it is done (`papergrid_words` has words for each). After any other
  * number the table is as it was, and nothing was written to what was lent, unless the call says so. Memory that is refused is an answer
- * too (PAPERGRID_MEMORY): no call ends the program.
+ * too (PAPERGRID_MEMORY): no call ends the program. What such a call had allocated may stay with the table until it is freed.
  *
  * Rows and columns count from 0. Widths are columns of a terminal, heights are lines. Texts are UTF-8, with their length in bytes, and
  * need no 0 at their end. A character is told by its number in Unicode, as 0x2502 for a line down; C11 has U'x' for that of x.
