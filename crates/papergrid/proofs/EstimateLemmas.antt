@@ -13,8 +13,8 @@ use Rattle.papergrid_tracks.specs.Ranges.{first_out, place_of}
 use Rattle.papergrid_tracks.proofs.LeastLemmas.{exact-least, exact-critical_path}
 use Rattle.papergrid_walk.specs.Cells.{demand_by, demands_of, problem_of, visible_cells}
 use Rattle.papergrid_maps.specs.Grids.{Grid}
-use Rattle.papergrid_layout.specs.Answers.{IsBothRefusedWhere, UnlessMemoryError, first_out_of_table, overflows}
-use Rattle.papergrid_layout.specs.Certificates.{AreCertifiedWhere}
+use Rattle.papergrid_layout.specs.Answers.{AreSizesBy, AreTooLargeBy, IsBothRefusedWhere, UnlessMemoryError, first_out_of_table, overflows}
+use Rattle.papergrid_layout.specs.Certificates.{AreCertified, IsCertificateBy, places_of}
 use Rattle.papergrid_layout.specs.declared.certificates.Certified.{Certified}
 use Rattle.papergrid_layout.proofs.Told.{first_told, problem_told, certificate_is}
 use Rattle.papergrid_layout.proofs.PairLemmas.{none_overflows}
@@ -22,8 +22,7 @@ use Rattle.papergrid.specs.declared.estimate.Sizes.{Sizes}
 use Rattle.papergrid_layout.specs.declared.sizing.Sizing.{Sizing}
 use Rattle.papergrid_layout.specs.declared.sizing.Sizing.TheVariants.{ByShares, Least}
 use Rattle.papergrid.specs.Estimates.{Estimate, OutOfTable, TooLarge, Sized, unless_large, unless_out, sizes_by, certificate_by, totalled_sizes, estimate_by}
-use Rattle.papergrid_layout.specs.Certificates.{AreSizesBy, AreTooLargeBy, IsFoundCertificate}
-use Rattle.papergrid.specs.ForProofs.Seen.{GivesEstimate, places_seen, total_with_lines}
+use Rattle.papergrid.specs.ForProofs.Seen.{GivesEstimate, total_with_lines}
 
 -- ---- tests and options
 
@@ -62,10 +61,10 @@ none_large : (sizing : Sizing) (problem : Problem) → AreTooLargeBy sizing prob
 none_large ByShares problem none = none.too_large
 none_large Least problem none = none.too_large
 
-found_certificate : (sizing : Sizing) (problem : Problem) (found : Option (Vec Position Global)) → IsFoundCertificate sizing problem found → places_seen found ≡ certificate_by sizing problem
+found_certificate : (sizing : Sizing) (problem : Problem) (found : Option (List Position)) → IsCertificateBy sizing problem found → found ≡ certificate_by sizing problem
 found_certificate ByShares problem found is = certificate_is problem found is
 found_certificate Least problem None is = absurd is
-found_certificate Least problem (Some places) critical_path = ap Some (exact-critical_path problem places.items critical_path)
+found_certificate Least problem (Some places) critical_path = ap Some (exact-critical_path problem places critical_path)
 
 module _ {C : Type 0} (grid : Grid) (measure : C → ℕ × ℕ) (columns : ℕ) (cells : List (List C)) where
   module _ (sizing : Sizing) where
@@ -94,12 +93,12 @@ module _ {C : Type 0} (grid : Grid) (measure : C → ℕ × ℕ) (columns : ℕ)
     pub estimate_none : first_out_of_table grid measure columns cells ≡ None → AreTooLargeBy sizing across ⊎ AreTooLargeBy sizing down → estimate_by sizing grid measure columns cells ≡ TooLarge
     estimate_none none too_large = estimate_large none (elim too_large [ inl wide ↦ inl (none_large sizing across wide) | inr high ↦ inr (none_large sizing down high) ])
 
-    module _ (certified : Certified) (are : AreCertifiedWhere grid measure columns cells (AreSizesBy sizing) (IsFoundCertificate sizing) certified) where
+    module _ (certified : Certified) (are : AreCertified grid measure columns cells sizing certified.widths.items certified.heights.items (places_of certified.width_witness) (places_of certified.height_witness)) where
       wide : AreFound sizing across certified.widths.items
-      wide = are_found sizing across certified.widths.items are.widths.0
+      wide = are_found sizing across certified.widths.items are.sizes.widths
 
       high : AreFound sizing down certified.heights.items
-      high = are_found sizing down certified.heights.items are.heights.0
+      high = are_found sizing down certified.heights.items are.sizes.heights
 
       pub width_fits : total_with_lines Columns grid (length certified.widths.items) certified.widths.items < 2 ^ 64
       width_fits = subst (λ n. total_with_lines Columns grid n certified.widths.items < 2 ^ 64) (sym wide.one_each) wide.total
@@ -110,14 +109,14 @@ module _ {C : Type 0} (grid : Grid) (measure : C → ℕ × ℕ) (columns : ℕ)
       -- sizes with what certifies them are what is estimated
       pub estimate_certified : estimate_by sizing grid measure columns cells
           ≡ Sized certified.widths.items certified.heights.items (total_with_lines Columns grid (length certified.widths.items) certified.widths.items)
-          (total_with_lines Rows grid (length certified.heights.items) certified.heights.items) (places_seen certified.width_witness) (places_seen certified.height_witness)
+          (total_with_lines Rows grid (length certified.heights.items) certified.heights.items) (places_of certified.width_witness) (places_of certified.height_witness)
       estimate_certified =
           estimate_inside ((none_overflows grid measure columns cells).1 (wide.none_out, high.none_out))
           ∙ (λ i. unless_large (sym wide.exact i) (sym high.exact i)
           (total_with_lines Columns grid (sym wide.one_each i) (sym wide.exact i)) (total_with_lines Rows grid (sym high.one_each i) (sym high.exact i))
-          (sym (found_certificate sizing across certified.width_witness are.widths.1) i) (sym (found_certificate sizing down certified.height_witness are.heights.1) i))
+          (sym (found_certificate sizing across (places_of certified.width_witness) are.certifies_widths) i) (sym (found_certificate sizing down (places_of certified.height_witness) are.certifies_heights) i))
           ∙ sized certified.widths.items certified.heights.items (total_with_lines Columns grid (length certified.widths.items) certified.widths.items)
-          (total_with_lines Rows grid (length certified.heights.items) certified.heights.items) (places_seen certified.width_witness) (places_seen certified.height_witness) width_fits height_fits
+          (total_with_lines Rows grid (length certified.heights.items) certified.heights.items) (places_of certified.width_witness) (places_of certified.height_witness) width_fits height_fits
 
 -- cells that are seen through a view
 module _ {A B : Type 0} (grid : Grid) (v : A → B) (f : B → ℕ × ℕ) (columns : ℕ) (cells : List (List A)) (rows : List (List B)) (same : map (map v) cells ≡ rows) where

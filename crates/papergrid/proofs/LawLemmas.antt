@@ -28,8 +28,9 @@ use Rattle.papergrid_layout.specs.declared.sizing.Sizing.TheVariants.{ByShares, 
 use Rattle.papergrid.specs.Estimates.{Estimate, OutOfTable, TooLarge, Sized, unless_large, unless_out, text_measure, sizes_by, certificate_by, estimate_by, estimate_of}
 use Rattle.papergrid.specs.Grids.{grid_of}
 use Rattle.papergrid.specs.Scripts.{Table}
-use Rattle.papergrid.specs.Totals.{AreSized, IsTableTooLarge, IsCertificateBy, problem_of_table}
-use Rattle.papergrid_layout.specs.Certificates.{AreSizesBy, AreTooLargeBy}
+use Rattle.papergrid.specs.Totals.{AreSized, IsTableTooLarge, problem_of_table}
+use Rattle.papergrid_layout.specs.Answers.{AreSizesBy, AreTooLargeBy}
+use Rattle.papergrid_layout.specs.Certificates.{IsCertificateBy}
 use Rattle.papergrid.proofs.EstimateLemmas.{estimate_large, estimate_out}
 use Rattle.papergrid.proofs.GridLemmas.{grid_covers, grid_draws}
 
@@ -120,16 +121,18 @@ module _ (table : Table) where
     are_sized none narrow low =
         let inside = (none_overflows grid text_measure table.columns table.rows).0 none in
         record {
-          sizes = record {
-            widths = sizes_are (problem_of_table table Columns) (in_table Columns inside.0) inside.0 sizing narrow;
-            heights = sizes_are (problem_of_table table Rows) (in_table Rows inside.1) inside.1 sizing low;
+          certified = record {
+            sizes = record {
+              widths = sizes_are (problem_of_table table Columns) (in_table Columns inside.0) inside.0 sizing narrow;
+              heights = sizes_are (problem_of_table table Rows) (in_table Rows inside.1) inside.1 sizing low;
+            };
+            certifies_widths = is_certificate (problem_of_table table Columns) (in_table Columns inside.0) inside.0 sizing narrow;
+            certifies_heights = is_certificate (problem_of_table table Rows) (in_table Rows inside.1) inside.1 sizing low;
           };
           is_width = ap (λ draws. sum (sizes Columns) + all_lines (draws table.columns) table.columns) (grid_draws table.settings Columns);
           is_height = ap (λ draws. sum (sizes Rows) + all_lines (draws (length table.rows)) (length table.rows)) (grid_draws table.settings Rows);
           width_fits = narrow;
           height_fits = low;
-          certifies_widths = is_certificate (problem_of_table table Columns) (in_table Columns inside.0) inside.0 sizing narrow;
-          certifies_heights = is_certificate (problem_of_table table Rows) (in_table Rows inside.1) inside.1 sizing low;
         }
 
     are_large : first ≡ None → (2 ^ 64 ≤ total Columns) ⊎ (2 ^ 64 ≤ total Rows) → IsTableTooLarge sizing table

@@ -3,7 +3,8 @@
 ghost use Rattle.std.specs.Prelude.{◌≡◌, ◌∷◌, ◌++◌, [], IfOk, OnOk, codes, decimal};
 ghost use Rattle.papergrid.specs.Estimates.{OutOfTable, TooLarge};
 ghost use Rattle.papergrid.specs.Outputs.{estimate_text, number_line, spaced_places, certificate_line};
-ghost use Rattle.papergrid.specs.ForProofs.Seen.{places_seen, sizes_seen};
+ghost use Rattle.papergrid.specs.ForProofs.Seen.{sizes_seen};
+ghost use Rattle.papergrid_layout.specs.Certificates.{places_of};
 
 use crate::estimate::Sizes;
 use itoa::Buffer;
@@ -47,7 +48,7 @@ fn push_certificate(
     witness: &Option<Vec<Position>>,
 ) -> Result<(), AllocError>
     ensures { OnOk result (text.new.items ≡ text.old.items ++ certificate_line word.now
-        (places_seen witness.now)) }
+        (places_of witness.now)) }
 {
     text.extend_from_slice(word)?;
     match witness {

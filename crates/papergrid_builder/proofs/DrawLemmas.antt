@@ -7,12 +7,11 @@ use Rattle.papergrid_config.specs.Grids.{spanned_grid}
 use Rattle.papergrid_config.specs.declared.setting.Setting.{Setting}
 use Rattle.papergrid_config.specs.declared.spanned.SpannedConfig.{SpannedConfig}
 use Rattle.papergrid_walk.specs.Cells.{problem_of}
-use Rattle.papergrid_layout.specs.Answers.{IsBothRefusedWhere, UnlessMemoryError}
-use Rattle.papergrid_layout.specs.Certificates.{AreCertifiedWhere, AreSizesBy, AreTooLargeBy, IsFoundCertificate}
+use Rattle.papergrid_layout.specs.Answers.{AreTooLargeBy, IsBothRefusedWhere, UnlessMemoryError}
+use Rattle.papergrid_layout.specs.Certificates.{IsCertificateBy, IsCertifiedBy, places_of}
 use Rattle.papergrid_layout.specs.Tables.{AreNoSizesBySizing, AreSizesBySizing, IsTableOf, TableParts}
 use Rattle.papergrid_layout.specs.declared.certificates.Certified.{Certified}
 use Rattle.papergrid_layout.specs.declared.sizing.Sizing.{Sizing}
-use Rattle.papergrid_layout.specs.declared.sizing.Sizing.TheVariants.{ByShares, Least}
 use Rattle.papergrid_layout.proofs.Told.{problem_told}
 use Rattle.papergrid_text.proofs.RowSteps.{told_by}
 use Rattle.papergrid_tracks.specs.Problem.{Problem}
@@ -24,60 +23,38 @@ use Rattle.papergrid_grid.specs.Lined.{lined}
 use Rattle.papergrid.specs.Estimates.{text_measure}
 use Rattle.papergrid.specs.Layouts.{IsConfiguredBy}
 use Rattle.papergrid.specs.Pictures.{IsDrawingWith, Unsized}
-use Rattle.papergrid.specs.Totals.{IsCertificateBy}
 use Rattle.papergrid.proofs.PictureLemmas.{drawing-with, no-sizes-seen, sizes-seen}
 use Rattle.papergrid_builder.specs.Errors.{layout_refusal}
-use Rattle.papergrid_builder.specs.Layouts.{IsNotLaidOut}
+use Rattle.papergrid_builder.specs.Layouts.{IsNotLaidOut, IsSized}
 use Rattle.papergrid_builder.specs.Pictures.{IsDrawingOf, IsNotDrawn}
 use Rattle.papergrid_builder.specs.Told.{longest}
-use Rattle.papergrid_builder.specs.ForProofs.Kept.{places_of}
+use Rattle.papergrid_builder.specs.ForProofs.Kept.{found_of}
 use Rattle.papergrid_builder.specs.ForProofs.Texts.{rows_lent, texts_lent}
-use Rattle.papergrid_builder.specs.ForProofs.Sizes.{AreFound, IsUndrawn, IsUnfound}
+use Rattle.papergrid_builder.specs.ForProofs.Sizes.{IsUndrawn, IsUnfound}
 use Rattle.papergrid_builder.specs.declared.error.BuilderError.{BuilderError}
 use Rattle.papergrid_builder.specs.declared.error.BuilderError.TheVariants as builder_errors
-
-certificate-told : (sizing : Sizing) (problem : Problem) (found : Option (Vec Position Global)) → IsFoundCertificate sizing problem found → IsCertificateBy sizing problem (places_of found)
-certificate-told ByShares problem None is = is
-certificate-told ByShares problem (Some places) is = is
-certificate-told Least problem None is = is
-certificate-told Least problem (Some places) is = is
 
 -- of cells that are seen as these texts
 module _ {A : Type 0} (view : A → List ℕ) (config : SpannedConfig) (sizing : Sizing) (cells : List (List A)) (rows : List (List (List ℕ)))
     (same : map (map view) cells ≡ rows) (columns : ℕ) (counted : columns ≡ longest rows) where
-  chosen : (sizing : Sizing) (certified : Certified) →
-      AreCertifiedWhere (spanned_grid config) (λ x. text_measure (view x)) columns cells (AreSizesBy sizing) (IsFoundCertificate sizing) certified →
-      AreSizesBySizing config (λ x. text_measure (view x)) columns cells sizing certified.widths.items certified.heights.items
-  chosen ByShares certified are = record { widths = are.widths.0; heights = are.heights.0 }
-  chosen Least certified are = record { widths = are.widths.0; heights = are.heights.0 }
-
   along : (direction : Direction) → problem_of (spanned_grid config) (λ x. text_measure (view x)) columns cells direction ≡ problem_of (spanned_grid config) text_measure (longest rows) rows direction
   along direction = subst (λ n. problem_of (spanned_grid config) (λ x. text_measure (view x)) columns cells direction ≡ problem_of (spanned_grid config) text_measure n rows direction) counted
       (problem_told (spanned_grid config) view text_measure cells rows same direction columns)
 
   -- sizes with what certifies them
-  pub found-told : (certified : Certified) →
-      AreCertifiedWhere (spanned_grid config) (λ x. text_measure (view x)) columns cells (AreSizesBy sizing) (IsFoundCertificate sizing) certified →
-      AreFound config rows sizing certified
+  pub found-told : (certified : Certified) → IsCertifiedBy (spanned_grid config) (λ x. text_measure (view x)) columns cells sizing (Ok certified) →
+      IsSized rows sizing (found_of (record { config = config; certified = certified }))
   found-told certified are = record {
-    sized = subst (λ n. AreSizesBySizing config text_measure n rows sizing certified.widths.items certified.heights.items) counted
-        (sizes-seen view config columns cells rows same sizing certified.widths.items certified.heights.items (chosen sizing certified are));
-    certifies_widths = subst (λ problem. IsCertificateBy sizing problem (places_of certified.width_witness)) (along Columns)
-        (certificate-told sizing _ certified.width_witness are.widths.1);
-    certifies_heights = subst (λ problem. IsCertificateBy sizing problem (places_of certified.height_witness)) (along Rows)
-        (certificate-told sizing _ certified.height_witness are.heights.1);
+    sizes = subst (λ n. AreSizesBySizing config text_measure n rows sizing certified.widths.items certified.heights.items) counted
+        (sizes-seen view config columns cells rows same sizing certified.widths.items certified.heights.items are.sizes);
+    certifies_widths = subst (λ problem. IsCertificateBy sizing problem (places_of certified.width_witness)) (along Columns) are.certifies_widths;
+    certifies_heights = subst (λ problem. IsCertificateBy sizing problem (places_of certified.height_witness)) (along Rows) are.certifies_heights;
   }
-
-  none-chosen : (sizing : Sizing) (e : LayoutError) → IsBothRefusedWhere (spanned_grid config) (λ x. text_measure (view x)) columns cells (AreTooLargeBy sizing) e →
-      AreNoSizesBySizing config (λ x. text_measure (view x)) columns cells sizing e
-  none-chosen ByShares e are = are
-  none-chosen Least e are = are
 
   -- why there are none
   pub no-sizes : (e : LayoutError) → IsBothRefusedWhere (spanned_grid config) (λ x. text_measure (view x)) columns cells (AreTooLargeBy sizing) e →
       AreNoSizesBySizing config text_measure (longest rows) rows sizing e
-  no-sizes e are = subst (λ n. AreNoSizesBySizing config text_measure n rows sizing e) counted
-      (no-sizes-seen view config columns cells rows same sizing e (none-chosen sizing e are))
+  no-sizes e are = subst (λ n. AreNoSizesBySizing config text_measure n rows sizing e) counted (no-sizes-seen view config columns cells rows same sizing e are)
 
 -- the drawing of rows of texts that are lent, by a table of them
 module _ (config : SpannedConfig) (sizing : Sizing) (lent : List (Bor (List (Bor (List ℕ))))) (table : TableParts) where

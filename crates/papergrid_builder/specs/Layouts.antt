@@ -6,33 +6,29 @@ use Rattle.papergrid_values.specs.declared.position.Position.{Position}
 use Rattle.papergrid_config.specs.declared.setting.Setting.{Setting}
 use Rattle.papergrid_config.specs.declared.spanned.SpannedConfig.{SpannedConfig}
 use Rattle.papergrid_config.specs.Grids.{spanned_grid}
-use Rattle.papergrid_walk.specs.Cells.{problem_of}
+use Rattle.papergrid_layout.specs.Certificates.{AreCertified}
 use Rattle.papergrid_layout.specs.Places.{HasPlace, IsFirstOver, Overflows, total_along}
-use Rattle.papergrid_layout.specs.Tables.{AreNoSizesBySizing, AreSizesBySizing, TableParts, view_of}
+use Rattle.papergrid_layout.specs.Tables.{AreNoSizesBySizing, TableParts, view_of}
 use Rattle.papergrid_layout.specs.declared.rect.Place.{Place}
 use Rattle.papergrid_layout.specs.declared.sizing.Sizing.{Sizing}
 use Rattle.papergrid_tracks.specs.declared.error.LayoutError.{LayoutError}
 use Rattle.papergrid_tracks.specs.declared.error.LayoutError.TheVariants as layout_errors
 use Rattle.papergrid.specs.Estimates.{text_measure}
 use Rattle.papergrid.specs.Layouts.{IsConfiguredBy}
-use Rattle.papergrid.specs.Totals.{IsCertificateBy}
 use Rattle.papergrid_builder.specs.Told.{FoundTable, longest}
 use Rattle.papergrid_builder.specs.declared.error.BuilderError.{BuilderError}
 use Rattle.papergrid_builder.specs.declared.error.BuilderError.TheVariants.{Hidden, Memory, NotEstimated, OutOfTable, TooLarge}
 
-module _ (settings : List Setting) (rows : List (List (List ℕ))) (sizing : Sizing) where
-  -- what certifies the sizes along a direction of rows of texts by a configuration; by shares nothing does where two longer ranges are
-  -- neither nested nor disjoint, and only there
-  abbrev pub Certifies : SpannedConfig → Direction → Option (List Position) → Type 0
-  Certifies config direction certificate = IsCertificateBy sizing (problem_of (spanned_grid config) text_measure (longest rows) rows direction) certificate
+-- the sizes that are chosen so for rows of texts by its configuration, and what certifies them
+abbrev pub IsSized : List (List (List ℕ)) → Sizing → FoundTable → Type 0
+IsSized rows sizing found =
+    AreCertified (spanned_grid found.parts.config) text_measure (longest rows) rows sizing found.parts.widths found.parts.heights found.width_certificate found.height_certificate
 
-  -- a configuration that the settings tell, with the sizes that are chosen so for the texts, whose totals fit, and the cells that certify
-  -- these
+module _ (settings : List Setting) (rows : List (List (List ℕ))) (sizing : Sizing) where
+  -- the same by a configuration that the settings tell; the totals fit
   pub record IsLaidOut (found : FoundTable) : Type 0 where
     pub configured : IsConfiguredBy settings found.parts.config
-    pub sized : AreSizesBySizing found.parts.config text_measure (longest rows) rows sizing found.parts.widths found.parts.heights
-    pub certifies_widths : Certifies found.parts.config Columns found.width_certificate
-    pub certifies_heights : Certifies found.parts.config Rows found.height_certificate
+    pub sized : IsSized rows sizing found
     pub fit : (direction : Direction) → total_along (view_of found.parts) direction < 2 ^ 64
 
   -- why there are none

@@ -5,9 +5,9 @@ ghost use Rattle.papergrid_values.specs.declared.direction.Direction.{Direction}
 ghost use Rattle.papergrid_layout.specs.Tables.{view_of};
 ghost use Rattle.papergrid_layout.specs.Places.{total_along};
 ghost use Rattle.papergrid_json.specs.Documents.{AreInRange};
-ghost use Rattle.papergrid_builder.specs.Layouts.{IsCellBy, IsLaidOut, IsNotLaidOut, IsPlacedBy, totals_of};
+ghost use Rattle.papergrid_builder.specs.Layouts.{IsCellBy, IsLaidOut, IsNotLaidOut, IsPlacedBy, IsSized, totals_of};
 ghost use Rattle.papergrid_builder.specs.ForProofs.Kept.{found_of, parts_of};
-ghost use Rattle.papergrid_builder.specs.ForProofs.Sizes.{AreFound, IsUnfound};
+ghost use Rattle.papergrid_builder.specs.ForProofs.Sizes.{IsUnfound};
 ghost use Rattle.papergrid_builder.specs.ForProofs.Texts.{AreStarts, rows_lent, rows_told};
 
 use crate::cells::CellTexts;
@@ -78,7 +78,8 @@ fn certified_by(
     rows: &[&[&str]],
     sizing: Sizing,
 ) -> Result<Certified, BuilderError>
-    ensures ok { IfOk result (AreFound config.now (rows_lent rows.now) sizing) }
+    ensures ok { IfOk result (λ certified. IsSized (rows_lent rows.now) sizing
+        (found_of (record { config = config.now; certified = certified }))) }
     ensures err { IfErr result (IsUnfound config.now (rows_lent rows.now) sizing) }
 {
     let columns = longest_of(rows);

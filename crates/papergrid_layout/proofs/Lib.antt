@@ -1,4 +1,5 @@
 pub mod AnswerLemmas
+mod CertifiedLemmas
 pub mod CheckSteps
 pub mod EqualLemmas
 pub mod LawLemmas

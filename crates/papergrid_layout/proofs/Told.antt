@@ -1,13 +1,11 @@
 -- What a caller that knows its rows reads of an answer: the cells told are seen through a view, as lent cells are.
-use Rattle.std.proofs.Common.{◌≡◌, ◌∙◌, ℕ, ◌+◌, ◌||◌, true, List, [], ◌∷◌, ◌++◌, length, map, nat_lt, refl, ap, sym, inl, inr, Vec}
+use Rattle.std.proofs.Common.{◌≡◌, ◌∙◌, ℕ, ◌+◌, ◌||◌, true, List, [], ◌∷◌, ◌++◌, length, map, nat_lt, refl, ap, sym, inl, inr}
 use Rattle.std.specs.Prelude.{None, Option, Some, find}
-use Rattle.std.specs.Option.{option_map}
 use Rattle.std.proofs.lemmas.Bool.{cases_Bool}
 use Rattle.std.proofs.lemmas.List.{length-map}
 use Rattle.papergrid_values.specs.declared.position.Position.{Position}
 use Rattle.papergrid_values.specs.declared.direction.Direction.{Direction}
 use Rattle.papergrid_values.specs.declared.direction.Direction.TheVariants.{Columns, Rows}
-use Rattle.papergrid_tracks.specs.Answers.{IsCertificateOrNone}
 use Rattle.papergrid_tracks.specs.Laminar.{is_laminar}
 use Rattle.papergrid_tracks.specs.Problem.{Problem, problem_of_demands}
 use Rattle.papergrid_tracks.proofs.LaminarLemmas.{Decides-is_laminar, not_laminar}
@@ -16,11 +14,11 @@ use Rattle.papergrid_walk.specs.Cells.{demand_by, demands_by, count_along, deman
 use Rattle.papergrid_maps.specs.Grids.{Grid}
 use Rattle.papergrid_walk.specs.ForProofs.Visits.{demands_by-append}
 use Rattle.papergrid_layout.specs.Answers.{first_out_of_table, overflows}
-use Rattle.papergrid_layout.specs.Certificates.{certificate_by_shares}
+use Rattle.papergrid_layout.specs.Certificates.{IsCertificateBy, certificate_by_shares}
+use Rattle.papergrid_layout.specs.declared.sizing.Sizing.TheVariants.{ByShares}
 
 -- the positions that a certificate gives, by the test of ranges that are nested or disjoint
-pub certificate_is : {Z : Type 0} (problem : Problem) (found : Option (Vec Position Z)) → IsCertificateOrNone problem found →
-    option_map (λ places. places.items) found ≡ certificate_by_shares problem
+pub certificate_is : (problem : Problem) (found : Option (List Position)) → IsCertificateBy ByShares problem found → found ≡ certificate_by_shares problem
 certificate_is problem None none = elim (cases_Bool (is_laminar problem.demands)) [
   | inl t ↦ absurd (not_laminar problem.demands none.not_laminar ((Decides-is_laminar problem.demands).0 t))
   | inr f ↦ rw f refl

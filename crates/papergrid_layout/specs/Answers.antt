@@ -9,6 +9,8 @@ use Rattle.papergrid_tracks.specs.Problem.{Problem}
 use Rattle.papergrid_tracks.specs.LeastAnswers.{AreLeastSizes, AreLeastTooLarge}
 use Rattle.papergrid_walk.specs.Cells.{problem_of, visible_cells}
 use Rattle.papergrid_maps.specs.Grids.{Grid}
+use Rattle.papergrid_layout.specs.declared.sizing.Sizing.{Sizing}
+use Rattle.papergrid_layout.specs.declared.sizing.Sizing.TheVariants.{ByShares, Least}
 
 -- P, unless it is out of memory
 abbrev pub UnlessMemoryError : LayoutError → Type 0 → Type 0
@@ -20,6 +22,16 @@ UnlessMemoryError (Memory e) P = ⊤
 abbrev pub UnlessMemory : {A : Type 0} → Result A LayoutError → Type 0 → Type 0
 UnlessMemory (Ok x) P = P
 UnlessMemory (Err e) P = UnlessMemoryError e P
+
+-- exactly the sizes by shares, or the least sizes, and what holds of them
+abbrev pub AreSizesBy : Sizing → Problem → List ℕ → Type 0
+AreSizesBy ByShares = AreSizes
+AreSizesBy Least = AreLeastSizes
+
+-- by shares the sizes are too large along a direction; of least sizes, so is every list that fits
+abbrev pub AreTooLargeBy : Sizing → Problem → Type 0
+AreTooLargeBy ByShares = AreSizesTooLarge
+AreTooLargeBy Least = AreLeastTooLarge
 
 module _ {C : Type 0} (grid : Grid) (measure : C → ℕ × ℕ) (columns : ℕ) (cells : List (List C)) where
   -- the cell at a position overflows the table, along columns or along rows

@@ -4,5 +4,6 @@ pub mod Earlier
 pub mod Placing
 pub mod Points
 pub mod Rulers
+pub mod Solved
 pub mod Spanning
 pub mod Tables

@@ -8,13 +8,12 @@ use Rattle.papergrid_tracks.specs.declared.error.LayoutError.TheVariants as layo
 use Rattle.papergrid_config.specs.declared.spanned.SpannedConfig.{SpannedConfig}
 use Rattle.papergrid_config.specs.Grids.{spanned_grid}
 use Rattle.papergrid_maps.specs.Grids.{Grid}
-use Rattle.papergrid_layout.specs.Answers.{AreBothLeast, AreBothSizes, HaveNoLeast, IsBothRefused, UnlessMemoryError}
+use Rattle.papergrid_layout.specs.Answers.{AreSizesBy, AreTooLargeBy, HoldAlong, IsBothRefusedWhere, UnlessMemoryError}
 use Rattle.papergrid_layout.specs.Places.{ArePlacesRefused, IsPlaced, TableView, line_offset, sized_table, total_along, track_count, track_line, track_size}
 use Rattle.papergrid_layout.specs.declared.rect.Place.{Place}
 use Rattle.papergrid_layout.specs.declared.rect.PlaceError.{PlaceError}
 use Rattle.papergrid_layout.specs.declared.rect.PlaceError.TheVariants.{TooLarge}
 use Rattle.papergrid_layout.specs.declared.sizing.Sizing.{Sizing}
-use Rattle.papergrid_layout.specs.declared.sizing.Sizing.TheVariants.{ByShares, Least}
 
 -- a configuration, with the width of each column and the height of each row
 pub record TableParts : Type 0 where
@@ -38,13 +37,11 @@ IsTable parts (Err e) = UnlessMemoryError e ((e ≡ layout_error.TooLarge) × Is
 module _ {C : Type 0} (config : SpannedConfig) (measure : C → ℕ × ℕ) (columns : ℕ) (cells : List (List C)) where
   -- these widths and heights are chosen so
   abbrev pub AreSizesBySizing : Sizing → List ℕ → List ℕ → Type 0
-  AreSizesBySizing ByShares widths heights = AreBothSizes (spanned_grid config) measure columns cells widths heights
-  AreSizesBySizing Least widths heights = AreBothLeast (spanned_grid config) measure columns cells widths heights
+  AreSizesBySizing sizing widths heights = HoldAlong (spanned_grid config) measure columns cells (AreSizesBy sizing) widths heights
 
   -- why there are none
   abbrev pub AreNoSizesBySizing : Sizing → LayoutError → Type 0
-  AreNoSizesBySizing ByShares e = IsBothRefused (spanned_grid config) measure columns cells e
-  AreNoSizesBySizing Least e = HaveNoLeast (spanned_grid config) measure columns cells e
+  AreNoSizesBySizing sizing e = IsBothRefusedWhere (spanned_grid config) measure columns cells (AreTooLargeBy sizing) e
 
   -- the table of these cells by the configuration, or why there is none
   abbrev pub IsTableOf : Sizing → Result TableParts LayoutError → Type 0

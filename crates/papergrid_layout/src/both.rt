@@ -3,17 +3,24 @@
 ghost use Rattle.std.specs.Prelude.{◌≡◌, List, length};
 ghost use Rattle.papergrid_tracks.specs.Ranges.{first_out};
 ghost use Rattle.papergrid_walk.specs.ForProofs.Pairs.{AreBothGathered};
-ghost use Rattle.papergrid_layout.specs.Answers.{AnswersBothWhere, UnlessMemory};
+ghost use Rattle.papergrid_walk.specs.Measures.{line_measure};
+ghost use Rattle.papergrid_config.specs.Grids.{spanned_grid};
+ghost use Rattle.papergrid_layout.specs.Answers.{AnswersBothWhere, AreTooLargeBy, UnlessMemory};
 ghost use Rattle.papergrid_layout.specs.ForProofs.Earlier.{earlier, earlier_of};
+ghost use Rattle.papergrid_layout.specs.ForProofs.Solved.{IsSolvedWith};
 
 use crate::along::Along;
+use crate::sizing::Sizing;
+use papergrid_config::SpannedConfig;
 use papergrid_maps::ConfigView;
 use papergrid_text::{IntoRecords, Records};
 use papergrid_tracks::settled::find_out;
-use papergrid_tracks::{LayoutError, LayoutResult, Solved, Solver};
+use papergrid_tracks::{ByLeastTotal, ByShares, LayoutError, LayoutResult, Solved, Solver};
 use papergrid_values::{Direction, Position};
+use papergrid_walk::measure::ByLines;
 use papergrid_walk::{BothDemands, Measure, gather_both};
 use std::alloc::Global;
+use std::convert::AsStr;
 
 /// Of two positions the one that is earlier by row and then by column.
 fn earlier_of(p: Position, q: Position) -> Position
@@ -106,4 +113,29 @@ where
     let columns = records.count_columns();
     let (both, rows) = gather_both::<M, R, S>(alloc, records, settings)?;
     conclude::<T, M, _, S>(alloc, columns, rows, &both, settings, certify)
+}
+
+/// What the records come to along columns and along rows, as their sizes are chosen.
+///
+/// # Errors
+///
+/// As those of `solve_both`.
+pub fn solve_by<R: Records + Drop>(
+    alloc: Global,
+    records: R,
+    config: &SpannedConfig,
+    sizing: Sizing,
+    certify: bool,
+) -> LayoutResult<(Solved, Solved)>
+where
+    <<R as Records>::Iter as IntoRecords>::Cell: AsStr + Drop,
+    requires { R.is_lawful records }
+    ensures { UnlessMemory result ((cells : List (List R.Iter.Cell)) × R.tells records cells
+        × AnswersBothWhere (spanned_grid config.now) (line_measure R.Iter.Cell.text)
+        (R.columns records) cells (AreTooLargeBy sizing) (IsSolvedWith sizing certify) result) }
+{
+    match sizing {
+        Sizing::ByShares => solve_both::<ByShares, ByLines, _, _>(alloc, records, config, certify),
+        Sizing::Least => solve_both::<ByLeastTotal, ByLines, _, _>(alloc, records, config, certify),
+    }
 }

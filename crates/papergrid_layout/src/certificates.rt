@@ -10,10 +10,9 @@ ghost use Rattle.papergrid_config.specs.Grids.{spanned_grid};
 ghost use Rattle.papergrid_walk.specs.Measures.{line_measure};
 ghost use Rattle.papergrid_layout.specs.Answers.{UnlessMemory};
 ghost use Rattle.papergrid_layout.specs.Certificates.{IsCertifiedBy, IsChecked};
-ghost use Rattle.papergrid_layout.specs.declared.sizing.Sizing.TheVariants as sizings;
 
 use crate::along::solve_along;
-use crate::both::solve_both;
+use crate::both::solve_by;
 use crate::check::check;
 use crate::sizing::Sizing;
 use papergrid_config::SpannedConfig;
@@ -233,48 +232,7 @@ where
         × IsCertifiedBy (spanned_grid config.now) (line_measure R.Iter.Cell.text)
         (R.columns records) cells sizing result) }
 {
-    match sizing {
-        Sizing::ByShares => certified_by_shares(alloc, records, config),
-        Sizing::Least => certified_least(alloc, records, config),
-    }
-}
-
-/// The sizes by shares with their certificates.
-fn certified_by_shares<R: Records + Drop>(
-    alloc: Global,
-    records: R,
-    config: &SpannedConfig,
-) -> Result<Certified, LayoutError>
-where
-    <<R as Records>::Iter as IntoRecords>::Cell: AsStr + Drop,
-    requires { R.is_lawful records }
-    ensures { UnlessMemory result ((cells : List (List R.Iter.Cell)) × R.tells records cells
-        × IsCertifiedBy (spanned_grid config.now) (line_measure R.Iter.Cell.text)
-        (R.columns records) cells sizings.ByShares result) }
-{
-    let (across, down) = solve_both::<ByShares, ByLines, _, _>(alloc, records, config, true)?;
-    Ok(Certified {
-        widths: across.sizes,
-        heights: down.sizes,
-        width_witness: across.certificate,
-        height_witness: down.certificate,
-    })
-}
-
-/// The least sizes with the cells that certify them.
-fn certified_least<R: Records + Drop>(
-    alloc: Global,
-    records: R,
-    config: &SpannedConfig,
-) -> Result<Certified, LayoutError>
-where
-    <<R as Records>::Iter as IntoRecords>::Cell: AsStr + Drop,
-    requires { R.is_lawful records }
-    ensures { UnlessMemory result ((cells : List (List R.Iter.Cell)) × R.tells records cells
-        × IsCertifiedBy (spanned_grid config.now) (line_measure R.Iter.Cell.text)
-        (R.columns records) cells sizings.Least result) }
-{
-    let (across, down) = solve_both::<ByLeastTotal, ByLines, _, _>(alloc, records, config, true)?;
+    let (across, down) = solve_by(alloc, records, config, sizing, true)?;
     Ok(Certified {
         widths: across.sizes,
         heights: down.sizes,

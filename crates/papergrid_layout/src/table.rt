@@ -10,10 +10,9 @@ ghost use Rattle.papergrid_layout.specs.Answers.{UnlessMemory};
 ghost use Rattle.papergrid_layout.specs.Places.{EndsWithin, HaveAllPlaces, IsFirstOver, IsTrackAt, StandsOver, place_at, total_along, track_count, track_line, track_size};
 ghost use Rattle.papergrid_layout.specs.Tables.{AreNotPlacedIn, IsPlacedIn, IsTable, IsTableOf, line_position, view_of};
 
+use crate::both::solve_by;
 use crate::cell_rects::places;
-use crate::dimension::{Dimension, Estimate};
-use crate::iterable::IterGridDimension;
-use crate::least::LeastGridDimension;
+use crate::dimension::Dimension;
 use crate::marks::{Marks, place_of};
 use crate::per_direction::PerDirection;
 use crate::rect::{Place, PlaceError};
@@ -89,19 +88,8 @@ impl<'a> Table<'a> {
             × IsTableOf config.now (line_measure R.Iter.Cell.text)
             (R.columns records) cells sizing result) }
     {
-        let (widths, heights) = match sizing {
-            Sizing::ByShares => {
-                let mut dimension = IterGridDimension::new(alloc);
-                dimension.estimate(records, config)?;
-                dimension.get_values()
-            }
-            Sizing::Least => {
-                let mut dimension = LeastGridDimension::new(alloc);
-                dimension.estimate(records, config)?;
-                dimension.get_values()
-            }
-        };
-        Table::from_sizes(alloc, config, widths, heights)
+        let (across, down) = solve_by(alloc, records, config, sizing, false)?;
+        Table::from_sizes(alloc, config, across.sizes, down.sizes)
     }
 
     /// The table of these widths and heights, of any estimate or one's own.

@@ -1,24 +1,19 @@
 -- What clauses see of the values that the program holds.
-use Rattle.std.specs.Prelude.{ℕ, ◌+◌, List, sum, Option, option_map, Result, Ok, Err, Vec}
-use Rattle.std.specs.declared.alloc.Global.{Global}
+use Rattle.std.specs.Prelude.{ℕ, ◌+◌, List, sum, Result, Ok, Err}
 use Rattle.papergrid_values.specs.declared.direction.Direction.{Direction}
-use Rattle.papergrid_values.specs.declared.position.Position.{Position}
 use Rattle.papergrid_values.specs.Lines.{all_lines}
 use Rattle.papergrid.specs.declared.estimate.Sizes.{Sizes}
 use Rattle.papergrid_tracks.specs.declared.error.LayoutError.{LayoutError}
 use Rattle.papergrid_tracks.specs.declared.error.LayoutError.TheVariants as layout_errors
 use Rattle.papergrid_maps.specs.Grids.{Grid}
+use Rattle.papergrid_layout.specs.Certificates.{places_of}
 use Rattle.papergrid.specs.Estimates.{Estimate, OutOfTable, TooLarge, Sized}
-
--- the positions of a certificate that the program holds
-abbrev pub places_seen : Option (Vec Position Global) → Option (List Position)
-places_seen witness = option_map (λ places. places.items) witness
 
 -- the estimate that the sizes of the program are
 abbrev pub sizes_seen : Sizes → Estimate
 sizes_seen sizes =
     Sized sizes.certified.widths.items sizes.certified.heights.items sizes.total_width sizes.total_height
-    (places_seen sizes.certified.width_witness) (places_seen sizes.certified.height_witness)
+    (places_of sizes.certified.width_witness) (places_of sizes.certified.height_witness)
 
 -- what is estimated is so; out of memory says nothing
 abbrev pub GivesEstimate : Result Sizes LayoutError → (Estimate → Type 0) → Type 0

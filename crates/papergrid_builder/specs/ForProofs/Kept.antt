@@ -1,8 +1,7 @@
 -- What a builder keeps.
-use Rattle.std.specs.Prelude.{ℕ, Bool, List, Option, IfSome, Vec, length, option_map}
-use Rattle.std.specs.declared.alloc.Global.{Global}
-use Rattle.papergrid_values.specs.declared.position.Position.{Position}
+use Rattle.std.specs.Prelude.{ℕ, Bool, List, Option, IfSome, length, option_map}
 use Rattle.papergrid_config.specs.declared.setting.Setting.{Setting}
+use Rattle.papergrid_layout.specs.Certificates.{places_of}
 use Rattle.papergrid_layout.specs.Tables.{TableParts}
 use Rattle.papergrid_layout.specs.declared.sizing.Sizing.{Sizing}
 use Rattle.papergrid_json.specs.Documents.{AreInRange}
@@ -14,10 +13,6 @@ use Rattle.papergrid_builder.specs.declared.found.Found.{Found}
 -- the sizes that were found, with their configuration
 abbrev pub parts_of : Found → TableParts
 parts_of found = record { config = found.config; widths = found.certified.widths.items; heights = found.certified.heights.items }
-
--- the positions of a certificate
-abbrev pub places_of : Option (Vec Position Global) → Option (List Position)
-places_of certificate = option_map (λ places. places.items) certificate
 
 -- what was found
 abbrev pub found_of : Found → FoundTable

@@ -3,7 +3,7 @@ use Rattle.std.proofs.lemmas.Result.{err_from_is_err_and}
 use Rattle.papergrid_config.specs.Grids.{spanned_grid}
 use Rattle.papergrid_walk.specs.Measures.{line_measure}
 use Rattle.papergrid.specs.Estimates.{Sized}
-use Rattle.papergrid.specs.ForProofs.Seen.{places_seen}
+use Rattle.papergrid_layout.specs.Certificates.{places_of}
 use Rattle.papergrid.proofs.EstimateLemmas.{estimate_certified, height_fits, refused, width_fits}
 use Rattle.papergrid.proofs.estimate.estimate.Goals as goal
 
@@ -22,7 +22,7 @@ returns g c =
     let told = c.in_ok-certified.ensures in
     let sized = estimate_certified (spanned_grid c.args.cfg.now) (line_measure g.R.Iter.Cell.AsStr.text) (g.R.Records.columns c.args.records) told.0 c.args.sizing c.in_ok-certified.certified told.2 in
     let with = c.with_totals.ensures in
-    (told.0, told.1, (λ i. Sized (with.certified i).widths.items (with.certified i).heights.items (with.total_width i) (with.total_height i) (places_seen (with.certified i).width_witness) (places_seen (with.certified i).height_witness)) ∙ sym sized)
+    (told.0, told.1, (λ i. Sized (with.certified i).widths.items (with.certified i).heights.items (with.total_width i) (with.total_height i) (places_of (with.certified i).width_witness) (places_of (with.certified i).height_witness)) ∙ sym sized)
 
 pub returns-in_err-certified : goal.returns-in_err-certified
 returns-in_err-certified g c =

@@ -15,7 +15,7 @@ returns-in_err-certified-clause-err c =
 pub totals-requires : goal.totals-requires
 totals-requires c =
     let rows = rows_lent c.args.rows.now in
-    chosen-fit c.args.sizing c.in_ok-config.config text_measure (longest rows) rows _ _ c.in_ok-certified.ensures.ok.sized
+    chosen-fit c.args.sizing c.in_ok-config.config text_measure (longest rows) rows _ _ c.in_ok-certified.ensures.ok.sizes
 
 pub returns-clause-ok : goal.returns-clause-ok
 returns-clause-ok c =
@@ -23,8 +23,6 @@ returns-clause-ok c =
     let found = c.in_ok-certified.ensures.ok in
     record {
       configured = c.in_ok-config.ensures;
-      sized = found.sized;
-      certifies_widths = found.certifies_widths;
-      certifies_heights = found.certifies_heights;
-      fit = chosen-fit c.args.sizing c.in_ok-config.config text_measure (longest rows) rows _ _ found.sized;
+      sized = found;
+      fit = chosen-fit c.args.sizing c.in_ok-config.config text_measure (longest rows) rows _ _ found.sizes;
     }

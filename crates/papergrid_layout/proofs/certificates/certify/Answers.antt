@@ -1,7 +1,14 @@
+use Rattle.std.proofs.Common.{refl}
 use Rattle.papergrid_layout.proofs.certificates.certify.Goals as goal
 
-pub returns-in-ByShares : goal.returns-in-ByShares
-returns-in-ByShares g c = rw c.in-ByShares.is c.certified_by_shares.ensures
-
-pub returns-in-Least : goal.returns-in-Least
-returns-in-Least g c = rw c.in-Least.is c.certified_least.ensures
+pub returns : goal.returns
+returns g c =
+    let told = c.in_ok-across.ensures in (
+      told.0,
+      told.1,
+      record {
+        sizes = record { widths = told.2.widths.sizes; heights = told.2.heights.sizes };
+        certifies_widths = told.2.widths.certifies refl;
+        certifies_heights = told.2.heights.certifies refl;
+      },
+    )
