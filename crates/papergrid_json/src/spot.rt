@@ -92,11 +92,7 @@ impl<'v> Spot<'v> {
 
     /// The number that stands here.
     pub fn number(&self) -> Result<usize, Fault<'v>> {
-        let number = match self.value {
-            Some(value) => value.as_u64(),
-            None => None,
-        };
-        match number {
+        match self.value.and_then(Value::as_u64) {
             Some(number) => Ok(number as usize),
             None => Err(self.unexpected("a whole number from 0 on")),
         }

@@ -59,13 +59,25 @@ pub fn color<'v>(alloc: Global, spot: &Spot<'v>) -> Result<Option<ANSIBuf>, Faul
 pub fn entity<'v>(spot: &Spot<'v>) -> Result<Entity, Fault<'v>> {
     match spot.word() {
         ("Global", 0) => Ok(Entity::Global),
-        ("Column", 1) => Ok(Entity::Column(spot.at(1).number()?)),
-        ("Row", 1) => Ok(Entity::Row(spot.at(1).number()?)),
-        ("Cell", 2) => Ok(Entity::Cell(spot.at(1).number()?, spot.at(2).number()?)),
+        ("Column", 1) => column(&spot.at(1)),
+        ("Row", 1) => row(&spot.at(1)),
+        ("Cell", 2) => cell(&spot.at(1), &spot.at(2)),
         _ => Err(spot.unexpected(
             "\"Global\", [\"Column\", number], [\"Row\", number] or [\"Cell\", row, column]",
         )),
     }
+}
+
+fn column<'v>(number: &Spot<'v>) -> Result<Entity, Fault<'v>> {
+    Ok(Entity::Column(number.number()?))
+}
+
+fn row<'v>(number: &Spot<'v>) -> Result<Entity, Fault<'v>> {
+    Ok(Entity::Row(number.number()?))
+}
+
+fn cell<'v>(row: &Spot<'v>, column: &Spot<'v>) -> Result<Entity, Fault<'v>> {
+    Ok(Entity::Cell(row.number()?, column.number()?))
 }
 
 /// The position that stands at a place.
