@@ -100,14 +100,6 @@ module _ (text more : List ℕ) (utf8 : IsUtf8 more) where
         ∙ (λ i. texts-kept ranges are.within i ++ slice_range (text ++ more) (starts i) (ends i) ∷ [])
         ∙ ap (λ cell. map (text_in text) ranges ++ cell ∷ []) (range-behind text more)
 
--- each is UTF-8
-pub texts-utf8 : (text : List ℕ) (ranges : List (ℕ × ℕ)) → AreCells text ranges → All IsUtf8 (map (text_in text) ranges)
-texts-utf8 text [] are = All-nil IsUtf8
-texts-utf8 text (r ∷ ranges) are =
-    let first = All-head (IsTextRange text) r ranges are.within in
-    All-cons IsUtf8 (text_in text r) (map (text_in text) ranges) (IsUtf8-between text r.0 r.1 are.utf8 first.ordered first.begins first.ends)
-    (texts-utf8 text ranges (record { utf8 = are.utf8; within = All-tail (IsTextRange text) r ranges are.within }))
-
 -- ---- rows by where they begin
 
 pub start-within : (count start : ℕ) (starts : List ℕ) → AreStarts count (start ∷ starts) → start ≤ count

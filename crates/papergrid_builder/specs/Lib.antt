@@ -1,4 +1,5 @@
 -- Definitions: a table that is told call by call, and what its calls answer.
+pub mod Calls
 pub mod Errors
 pub mod Layouts
 pub mod Pictures

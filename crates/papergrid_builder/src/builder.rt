@@ -54,9 +54,10 @@ impl Builder {
     ghost use Rattle.papergrid_draw.specs.Drawings.{Drawing};
     ghost use Rattle.papergrid_grid.specs.Lined.{lined};
     ghost use Rattle.papergrid_layout.specs.declared.sizing.Sizing.{Sizing};
+    ghost use Rattle.papergrid_builder.specs.Calls.{AreNoRows, HasCell, HasRows, HasSetting, IsNoCell, IsNoSetting, IsNotTold, IsOutOfMemory};
     ghost use Rattle.papergrid_builder.specs.Layouts.{IsCellAnswer, IsLaidOut, IsNotLaidOut, IsPlaceAnswer, certificate_along, sizes_along, totals_of};
     ghost use Rattle.papergrid_builder.specs.Pictures.{IsDrawingOf, IsNotDrawn};
-    ghost use Rattle.papergrid_builder.specs.Told.{FoundTable, empty_table, rows_in, with_cell, with_row_end, with_rows, with_setting};
+    ghost use Rattle.papergrid_builder.specs.Told.{FoundTable, empty_table, with_row_end};
     ghost use Rattle.papergrid_builder.specs.declared.error.BuilderError.TheVariants.{BadSetting, Memory, NotAscii, NotText, OutOfRange};
 
     /// A table of which nothing was told. It does not allocate.
@@ -79,9 +80,8 @@ impl Builder {
     ///
     /// `OutOfRange` exactly where the setting is not in range (`Setting::is_in_range`); else `Memory`.
     pub fn push_setting(&mut self, setting: Setting) -> Result<(), BuilderError>
-        ensures ok { OnOk result (self.new ≡ with_setting self.old setting) }
-        ensures range { (result ≡ Err OutOfRange) ↔ (is_in_range setting ≡ false) }
-        ensures errors { IfErr result (λ e. (e ≡ OutOfRange) ⊎ (e ≡ Memory)) }
+        ensures ok { OnOk result (HasSetting self.old self.new setting) }
+        ensures refused { IfErr result (IsNotTold setting) }
         ensures err { OnErr result (self.new ≡ self.old) }
     {
         if !setting.is_in_range() {
@@ -100,9 +100,8 @@ impl Builder {
     /// `BadSetting` where it is no JSON in UTF-8, has no name that is known, or has values that are not those of that name or not in
     /// range; `Memory`.
     pub fn read_setting(&mut self, alloc: Global, json: &[u8]) -> Result<(), BuilderError>
-        ensures ok { OnOk result ((setting : Setting) × (is_in_range setting ≡ true)
-            × (self.new ≡ with_setting self.old setting)) }
-        ensures errors { IfErr result (λ e. (e ≡ BadSetting) ⊎ (e ≡ Memory)) }
+        ensures ok { OnOk result ((setting : Setting) × HasSetting self.old self.new setting) }
+        ensures refused { IfErr result IsNoSetting }
         ensures err { OnErr result (self.new ≡ self.old) }
     {
         match read_setting(alloc, json) {
@@ -118,9 +117,8 @@ impl Builder {
     ///
     /// `NotText` exactly where the bytes are not UTF-8; else `Memory`.
     pub fn push_cell(&mut self, text: &[u8]) -> Result<(), BuilderError>
-        ensures ok { OnOk result (self.new ≡ with_cell self.old text.now) }
-        ensures text { (result ≡ Err NotText) ↔ (¬ IsUtf8 text.now) }
-        ensures errors { IfErr result (λ e. (e ≡ NotText) ⊎ (e ≡ Memory)) }
+        ensures ok { OnOk result (HasCell text.now self.old self.new) }
+        ensures refused { IfErr result (IsNoCell text.now) }
         ensures err { OnErr result (self.new ≡ self.old) }
     {
         let Ok(text) = str::from_utf8(text) else {
@@ -140,7 +138,7 @@ impl Builder {
     /// `Memory`.
     pub fn end_row(&mut self) -> Result<(), BuilderError>
         ensures ok { OnOk result (self.new ≡ with_row_end self.old) }
-        ensures errors { IfErr result (λ e. e ≡ Memory) }
+        ensures refused { IfErr result IsOutOfMemory }
         ensures err { OnErr result (self.new ≡ self.old) }
     {
         if self.goes_on {
@@ -162,13 +160,8 @@ impl Builder {
     /// `NotAscii` exactly where one of the bytes that end cells and rows is not ASCII, else `NotText` exactly where the text is not UTF-8;
     /// else `Memory`.
     pub fn push_rows(&mut self, text: &[u8], cell_end: u8, row_end: u8) -> Result<(), BuilderError>
-        ensures ok { OnOk result (self.new
-            ≡ with_rows self.old (rows_in cell_end row_end text.now)) }
-        ensures texts { OnOk result (All (All IsUtf8) (rows_in cell_end row_end text.now)) }
-        ensures ascii { (result ≡ Err NotAscii) ↔ ¬ ((cell_end < 128) × (row_end < 128)) }
-        ensures text { (result ≡ Err NotText)
-            ↔ ((cell_end < 128) × (row_end < 128) × ¬ IsUtf8 text.now) }
-        ensures errors { IfErr result (λ e. (e ≡ NotAscii) ⊎ (e ≡ NotText) ⊎ (e ≡ Memory)) }
+        ensures ok { OnOk result (HasRows cell_end row_end text.now self.old self.new) }
+        ensures refused { IfErr result (AreNoRows cell_end row_end text.now) }
         ensures err { OnErr result (self.new ≡ self.old) }
     {
         if !cell_end.is_ascii() || !row_end.is_ascii() {

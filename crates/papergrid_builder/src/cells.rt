@@ -40,8 +40,7 @@ impl CellTexts {
 
     /// How many there are.
     pub fn len(&self) -> usize
-        ensures count { result ≡ length self.now }
-        ensures texts { All IsUtf8 self.now }
+        ensures { result ≡ length self.now }
     {
         self.ranges.len()
     }

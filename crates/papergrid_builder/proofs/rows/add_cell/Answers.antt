@@ -22,7 +22,7 @@ pub returns-in-Ok-clause-ok : goal.returns-in-Ok-clause-ok
 returns-in-Ok-clause-ok c =
     let told = rows-more c.args.cells.now (c.args.cell.now ∷ []) c.args.starts.now.items c.requires in
     let at : rows_told c.push-3.new.self c.push-2.new.self.items ≡ rows_told c.args.cells.now c.args.starts.now.items ++ (c.args.cell.now ∷ []) ∷ [] =
-    (λ i. rows_told (c.in-Ok.ensures.ok i) ((c.in_ok-push.ensures.items ∙ ap (λ n. c.args.starts.now.items ++ n ∷ []) c.len.ensures.count) i)) ∙ told in
+    (λ i. rows_told (c.in-Ok.ensures.ok i) ((c.in_ok-push.ensures.items ∙ ap (λ n. c.args.starts.now.items ++ n ∷ []) c.len.ensures) i)) ∙ told in
     at ∙ sym (new-row c.args.goes_on (rows_told c.args.cells.now c.args.starts.now.items) c.args.cell.now (elim c.else-goes_on.branch [
       | else-goes_on-via-then-goes_on+else-not-is_empty w ↦
           let none : vec_len c.args.starts.now ≡ 0 = grind (arith, nat_tests, w.if-not-is_empty.false, w.is_empty.ensures) in
@@ -32,6 +32,6 @@ returns-in-Ok-clause-ok c =
 
 pub returns-in-Ok-clause-starts : goal.returns-in-Ok-clause-starts
 returns-in-Ok-clause-starts c =
-    subst (AreStarts (length c.push-3.new.self)) (sym (c.in_ok-push.ensures.items ∙ ap (λ n. c.args.starts.now.items ++ n ∷ []) c.len.ensures.count))
+    subst (AreStarts (length c.push-3.new.self)) (sym (c.in_ok-push.ensures.items ∙ ap (λ n. c.args.starts.now.items ++ n ∷ []) c.len.ensures))
     (starts-more (length c.args.cells.now) (length c.push-3.new.self) c.args.starts.now.items
     (omega (arith, ap length c.in-Ok.ensures.ok, length-append c.args.cells.now (c.args.cell.now ∷ []))) c.requires)

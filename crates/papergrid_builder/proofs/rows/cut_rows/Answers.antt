@@ -12,7 +12,7 @@ loop-rest-preserved c =
     let cells = c.loop-rest.cells in
     let starts = c.loop-rest.starts.items in
     let row = slice_split (λ byte. byte == c.args.cell_end) c.first_piece.result.0.now in
-    let pushed : c.push.new.self.items ≡ starts ++ length cells ∷ [] = c.in_ok-push.ensures.items ∙ ap (λ n. starts ++ n ∷ []) c.len.ensures.count in
+    let pushed : c.push.new.self.items ≡ starts ++ length cells ∷ [] = c.in_ok-push.ensures.items ∙ ap (λ n. starts ++ n ∷ []) c.len.ensures in
     let cut : c.cut_row.new.cells ≡ cells ++ row = c.in_ok-cut_row.ensures.ok in
     let some : 0 < length c.loop-rest.rest.now = grind (arith, nat_tests, c.loop-rest-test.true, c.is_empty.ensures) in
     record {

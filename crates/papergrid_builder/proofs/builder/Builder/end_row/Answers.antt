@@ -12,7 +12,7 @@ invariant_of-self-2 c =
     let starts = c.self.inside.starts.items in
     record {
       in_range = c.self.invariant.in_range;
-      within = subst (AreStarts count) (sym (c.in_ok-push.ensures.items ∙ ap (λ n. starts ++ n ∷ []) c.len.ensures.count))
+      within = subst (AreStarts count) (sym (c.in_ok-push.ensures.items ∙ ap (λ n. starts ++ n ∷ []) c.len.ensures))
           (starts-more count count starts (omega arith) c.self.invariant.within);
       current = tt;
     }
@@ -22,7 +22,7 @@ returns-clause-ok c =
     let cells = c.self.inside.cells in
     let starts = c.self.inside.starts.items in
     let rows : rows_told cells c.push.new.self.items ≡ rows_told cells starts ++ [] ∷ [] =
-    ap (rows_told cells) (c.in_ok-push.ensures.items ∙ ap (λ n. starts ++ n ∷ []) c.len.ensures.count)
+    ap (rows_told cells) (c.in_ok-push.ensures.items ∙ ap (λ n. starts ++ n ∷ []) c.len.ensures)
     ∙ ap (λ cs. rows_told cs (starts ++ length cells ∷ [])) (sym (append-nil cells)) ∙ rows-more cells [] starts c.self.invariant.within in
     let told : ToldTable = record {
       settings = c.self.inside.settings.items;
