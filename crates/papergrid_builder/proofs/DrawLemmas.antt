@@ -1,8 +1,7 @@
 -- The sizes and the picture of rows of texts that are lent, by what is found of records of them.
-use Rattle.std.proofs.Common.{Bor, Global, Vec, ◌≡◌, ℕ, List, None, Option, Some, Result, Ok, Err, IfErr, IfOk, map, refl, subst}
+use Rattle.std.proofs.Common.{Bor, Global, Vec, ◌≡◌, ℕ, List, None, Result, Ok, Err, IfErr, IfOk, map, refl, subst}
 use Rattle.papergrid_values.specs.declared.direction.Direction.{Direction}
 use Rattle.papergrid_values.specs.declared.direction.Direction.TheVariants.{Columns, Rows}
-use Rattle.papergrid_values.specs.declared.position.Position.{Position}
 use Rattle.papergrid_config.specs.Grids.{spanned_grid}
 use Rattle.papergrid_config.specs.declared.setting.Setting.{Setting}
 use Rattle.papergrid_config.specs.declared.spanned.SpannedConfig.{SpannedConfig}
@@ -14,7 +13,6 @@ use Rattle.papergrid_layout.specs.declared.certificates.Certified.{Certified}
 use Rattle.papergrid_layout.specs.declared.sizing.Sizing.{Sizing}
 use Rattle.papergrid_layout.proofs.Told.{problem_told}
 use Rattle.papergrid_text.proofs.RowSteps.{told_by}
-use Rattle.papergrid_tracks.specs.Problem.{Problem}
 use Rattle.papergrid_tracks.specs.declared.error.LayoutError.{LayoutError}
 use Rattle.papergrid_tracks.specs.declared.error.LayoutError.TheVariants as layout_errors
 use Rattle.papergrid_draw.specs.Drawings.{Drawing, drawn_of}

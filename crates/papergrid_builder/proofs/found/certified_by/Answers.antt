@@ -22,4 +22,4 @@ returns-clause-ok c =
     let columns = ap (λ r. r.count_columns) c.new-records.ensures ∙ c.longest_of-columns.ensures in
     let told = c.in_ok-certify.ensures in
     let same = told_by (λ cell. cell.now) (λ text. text.now) (λ row. row.now) told.0 c.args.rows.now (told.1 ∙ ap (map (λ row. row.now)) rows) in
-    found-told (λ cell. cell.now.now) c.args.config.now c.args.sizing told.0 (rows_lent c.args.rows.now) same _ columns _ told.2
+    found-told (λ cell. cell.now.now) c.args.config.now c.args.sizing told.0 (rows_lent c.args.rows.now) same _ columns c.in_ok-certify.field-0 told.2
