@@ -1,19 +1,17 @@
 -- What an estimate is, by the answers of a dimension, and what follows from it.
-use Rattle.std.proofs.Common.{◌≡◌, ◌⊎◌, ◌∙◌, ℕ, ◌+◌, ◌<◌, ◌≤◌, ◌^◌, Bool, true, false, List, [], ◌∷◌, ◌||◌, length, map, refl, ap, sym, subst, arith, inl, inr, nat_lt, nat_le}
-use Rattle.std.specs.Prelude.{Option, Some, None, Result, Ok, Err, Vec, find}
-use Rattle.std.specs.declared.alloc.Global.{Global}
+use Rattle.std.proofs.Common.{◌≡◌, ◌⊎◌, ◌∙◌, ℕ, ◌<◌, ◌≤◌, ◌^◌, Bool, true, false, List, ◌||◌, length, map, refl, ap, sym, subst, arith, inl, inr, nat_le}
+use Rattle.std.specs.Prelude.{Option, Some, None, Result, Ok, Err}
 use Rattle.std.proofs.lemmas.Bool.Decides.{nat_tests}
-use Rattle.std.proofs.lemmas.List.{length-map}
 use Rattle.papergrid_values.specs.declared.position.Position.{Position}
 use Rattle.papergrid_values.specs.declared.direction.Direction.TheVariants.{Columns, Rows}
 use Rattle.papergrid_tracks.specs.declared.error.LayoutError.{LayoutError}
 use Rattle.papergrid_tracks.specs.declared.error.LayoutError.TheVariants as layout_errors
 use Rattle.papergrid_tracks.specs.Problem.{Problem, total_of}
-use Rattle.papergrid_tracks.specs.Ranges.{first_out, place_of}
+use Rattle.papergrid_tracks.specs.Ranges.{first_out}
 use Rattle.papergrid_tracks.proofs.LeastLemmas.{exact-least, exact-critical_path}
-use Rattle.papergrid_walk.specs.Cells.{demand_by, demands_of, problem_of, visible_cells}
+use Rattle.papergrid_walk.specs.Cells.{problem_of}
 use Rattle.papergrid_maps.specs.Grids.{Grid}
-use Rattle.papergrid_layout.specs.Answers.{AreSizesBy, AreTooLargeBy, IsBothRefusedWhere, UnlessMemoryError, first_out_of_table, overflows}
+use Rattle.papergrid_layout.specs.Answers.{AreSizesBy, AreTooLargeBy, IsBothRefusedWhere, UnlessMemoryError, first_out_of_table}
 use Rattle.papergrid_layout.specs.Certificates.{AreCertified, IsCertificateBy, places_of}
 use Rattle.papergrid_layout.specs.declared.certificates.Certified.{Certified}
 use Rattle.papergrid_layout.proofs.Told.{first_told, problem_told, certificate_is}

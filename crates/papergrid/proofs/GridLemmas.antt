@@ -19,7 +19,7 @@ use Rattle.papergrid_config.specs.Parts.{character_calls, span_calls}
 use Rattle.papergrid_config.specs.History.{HasSettingHistory}
 use Rattle.papergrid_config.specs.declared.setting.Setting.{Setting}
 use Rattle.papergrid_config.specs.declared.spanned.SpannedConfig.{SpannedConfig}
-use Rattle.papergrid_maps.specs.Grids.{Grid, size_after, size_before}
+use Rattle.papergrid_maps.specs.Grids.{Grid}
 use Rattle.papergrid_maps.specs.Spans.{span_along}
 use Rattle.papergrid_config.specs.Grids.{line_along, spanned_grid}
 use Rattle.papergrid_config.proofs.GridLemmas.{same_grid_by}

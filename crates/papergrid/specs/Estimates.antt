@@ -1,10 +1,8 @@
 -- The estimate of a table: the sizes along both directions, the totals, which count the lines, and the cells that certify
 -- that the sizes are least; or why there are none.
-use Rattle.std.specs.Prelude.{ℕ, ◌+◌, ◌^◌, ◌||◌, List, map, sum, Option, Some, None, nat_le, if◌then◌else◌}
+use Rattle.std.specs.Prelude.{ℕ, ◌^◌, ◌||◌, List, map, Option, Some, None, nat_le, if◌then◌else◌}
 use Rattle.papergrid_values.specs.declared.position.Position.{Position}
-use Rattle.papergrid_values.specs.declared.direction.Direction.{Direction}
 use Rattle.papergrid_values.specs.declared.direction.Direction.TheVariants.{Columns, Rows}
-use Rattle.papergrid_values.specs.Lines.{all_lines}
 use Rattle.papergrid_tracks.specs.Problem.{Problem, total_of}
 use Rattle.papergrid_tracks.specs.Ranges.{place_of}
 use Rattle.papergrid_tracks.specs.Sizes.{sizes_of}

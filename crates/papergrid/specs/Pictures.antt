@@ -1,6 +1,5 @@
 -- The picture of records by a list of settings, and that of a script.
 use Rattle.std.specs.Prelude.{◌≡◌, ⊤, ℕ, List, [], ◌∷◌, ◌++◌, None, codes, decimal, length, map, slice_index, Result, Ok, Err}
-use Rattle.papergrid_values.specs.declared.position.Position.{Position}
 use Rattle.papergrid_text.specs.HeldRows.{rows_held}
 use Rattle.papergrid_text.specs.declared.vec_records.VecRecords.{VecRecords}
 use Rattle.papergrid_config.specs.declared.setting.Setting.{Setting}

@@ -1,4 +1,4 @@
-use Rattle.std.proofs.Common.{◌≡◌, ◌∙◌, ap, map, subst}
+use Rattle.std.proofs.Common.{map, subst}
 use Rattle.std.proofs.lemmas.Result.{err_from_is_err_and}
 use Rattle.papergrid_grid.specs.Lined.{lined}
 use Rattle.papergrid.specs.Layouts.{IsConfiguredBy}
