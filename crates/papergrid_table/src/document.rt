@@ -65,7 +65,7 @@ fn said_of_error(alloc: Global, name: &str, error: &DocumentError) -> Result<Str
         return format!(in alloc; "{name}: {error}");
     };
     let written = quoted(alloc, word.as_str())?;
-    match name_like(alloc, word.as_str(), &SETTINGS.map(|form| form.0))? {
+    match name_like(alloc, word.as_str(), &setting_names(alloc)?)? {
         Some(like) => format!(in alloc;
             "{name}: settings[{index}]: {written} is not a setting; did you mean {like}?"
         ),
@@ -73,4 +73,13 @@ fn said_of_error(alloc: Global, name: &str, error: &DocumentError) -> Result<Str
             "{name}: settings[{index}]: {written} is not a setting; --help-json tells all"
         ),
     }
+}
+
+/// The names of all settings.
+fn setting_names(alloc: Global) -> Result<Vec<&'static str>, AllocError> {
+    let mut names = Vec::with_capacity(alloc, SETTINGS.len())?;
+    for (name, _, _) in &SETTINGS {
+        names.push(*name)?;
+    }
+    Ok(names)
 }

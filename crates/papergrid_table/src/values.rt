@@ -115,10 +115,7 @@ pub fn padding(sizes: Sides<usize>) -> Sides<Indent>
 pub fn span_of(value: &str) -> Option<Span> {
     let (place, size) = value.split_once('=')?;
     let (row, column) = place.split_once(',')?;
-    let (rows, columns) = match size.split_once('x') {
-        Some((rows, columns)) => (number_of(rows)?, number_of(columns)?),
-        None => (1, number_of(size)?),
-    };
+    let (rows, columns) = span_size(size)?;
     if rows == 0 || columns == 0 {
         return None;
     }
@@ -127,6 +124,18 @@ pub fn span_of(value: &str) -> Option<Span> {
         rows,
         columns,
     })
+}
+
+/// How many rows and columns a span has, as `3` or `2x3`.
+fn span_size(size: &str) -> Option<(usize, usize)> {
+    match size.split_once('x') {
+        Some((rows, columns)) => rows_and_columns(rows, columns),
+        None => rows_and_columns("1", size),
+    }
+}
+
+fn rows_and_columns(rows: &str, columns: &str) -> Option<(usize, usize)> {
+    Some((number_of(rows)?, number_of(columns)?))
 }
 
 /// A span as its option tells it.

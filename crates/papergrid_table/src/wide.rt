@@ -101,11 +101,7 @@ fn add_cell(text: &mut String, name: &str, line: usize, takes: usize) -> Result<
 
 /// What a cell asks for: the width of its text and of its padding.
 fn asked_of(request: &Request, rows: &Rows<'_>, position: Position) -> Asking {
-    let text = match rows
-        .rows
-        .get(position.row)
-        .and_then(|row| row.get(position.col))
-    {
+    let text = match text_at(rows, position) {
         Some(text) => get_text_width(text),
         None => 0,
     };
@@ -118,6 +114,11 @@ fn asked_of(request: &Request, rows: &Rows<'_>, position: Position) -> Asking {
         position,
         width: text.saturating_add(sides),
     }
+}
+
+/// The text at a position, where its row has one.
+fn text_at<'r>(rows: &Rows<'r>, position: Position) -> Option<&'r str> {
+    rows.rows.get(position.row)?.get(position.col).copied()
 }
 
 /// The head of the column of a cell, or its number, and the line of its record.
