@@ -6,7 +6,7 @@ use Rattle.papergrid_builder.specs.Told.{ToldTable, rows_in, with_cell, with_row
 use Rattle.papergrid_builder.specs.declared.error.BuilderError.{BuilderError}
 use Rattle.papergrid_builder.specs.declared.error.BuilderError.TheVariants.{BadSetting, Memory, NotAscii, NotText, OutOfRange}
 
--- memory alone may be refused
+-- an allocation failed
 abbrev pub IsOutOfMemory : BuilderError → Type 0
 IsOutOfMemory Memory = ⊤
 IsOutOfMemory e = ⊥
@@ -21,7 +21,7 @@ IsNotTold setting OutOfRange = is_in_range setting ≡ false
 IsNotTold setting Memory = is_in_range setting ≡ true
 IsNotTold setting e = ⊥
 
--- why a JSON text is refused as a setting; memory may be in any case
+-- why a JSON text is refused: it is no setting, or an allocation failed
 abbrev pub IsNoSetting : BuilderError → Type 0
 IsNoSetting BadSetting = ⊤
 IsNoSetting Memory = ⊤

@@ -1,6 +1,6 @@
 -- What a caller that holds its rows reads of an answer: the cells told are seen through a view, and are those of the rows.
 use Rattle.std.proofs.Common.{◌≡◌, ◌∙◌, ℕ, ◌+◌, ◌||◌, inl, inr, List, [], ◌∷◌, length, map, nat_lt, refl, ap, sym, subst}
-use Rattle.std.specs.Prelude.{Err, IsErrAnd, Ok, Result}
+use Rattle.std.specs.Prelude.{Err, IsErrAnd, MatchResult, Ok, Result}
 use Rattle.std.proofs.lemmas.List.{length-map}
 use Rattle.papergrid_values.specs.declared.position.Position.{Position}
 use Rattle.papergrid_values.specs.declared.direction.Direction.{Direction}
@@ -15,7 +15,7 @@ use Rattle.papergrid_config.specs.declared.spanned.SpannedConfig.{SpannedConfig}
 use Rattle.papergrid_tracks.specs.LeastAnswers.{AreLeastSizes, AreLeastTooLarge}
 use Rattle.papergrid_walk.specs.Cells.{demand_by, demands_of, problem_of, visible_cells}
 use Rattle.papergrid_maps.specs.Grids.{Grid}
-use Rattle.papergrid_layout.specs.Answers.{AnswersBothWhere, HoldAlong, IsBothRefusedWhere, UnlessMemory, UnlessMemoryError}
+use Rattle.papergrid_layout.specs.Answers.{HoldAlong, IsBothRefusedWhere, UnlessMemory, UnlessMemoryError}
 use Rattle.papergrid_layout.specs.Tables.{IsTableOf, TableParts}
 use Rattle.papergrid_layout.specs.declared.sizing.Sizing.TheVariants.{Least}
 use Rattle.papergrid_layout.specs.declared.iterable.IterGridDimension.{IterGridDimension}
@@ -48,14 +48,15 @@ module _ {A B : Type 0} (grid : Grid) (v : A → B) (f : B → ℕ × ℕ) (colu
   both_refused too_large (Memory e) is = tt
 
   -- the same, as a `?` hands it on
-  pub refused_on : {V : Type 0} (too_large : Problem → Type 0) (holds : Problem → V → Type 0) (result : Result (V × V) LayoutError) (e : LayoutError) → IsErrAnd result (λ error. error ≡ e)
-      → UnlessMemoryError e ((cells : List (List A)) × (map (map v) cells ≡ rows) × IsBothRefusedWhere grid (λ x. f (v x)) columns cells too_large e) → AnswersBothWhere grid f columns rows too_large holds result
+  pub refused_on : {V : Type 0} (too_large : Problem → Type 0) (holds : V → Type 0) (result : Result V LayoutError) (e : LayoutError) → IsErrAnd result (λ error. error ≡ e)
+      → UnlessMemoryError e ((cells : List (List A)) × (map (map v) cells ≡ rows) × IsBothRefusedWhere grid (λ x. f (v x)) columns cells too_large e)
+      → MatchResult result holds (IsBothRefusedWhere grid f columns rows too_large)
   refused_on too_large holds (Ok found) e is told = absurd is
   refused_on too_large holds (Err error) e is told = subst (IsBothRefusedWhere grid f columns rows too_large) (sym is) (both_refused too_large e told)
 
   -- the sizes along both directions, as a dimension hands them out
   pub sizes_told : {V : Type 0} (items : V → List ℕ) (holds : Problem → List ℕ → Type 0) (across down : List ℕ) (wide high : V) → items wide ≡ across → items high ≡ down
-      → (cells : List (List A)) × (map (map v) cells ≡ rows) × HoldAlong grid (λ x. f (v x)) columns cells holds across down → HoldAlong grid f columns rows (λ problem sizes. holds problem (items sizes)) wide high
+      → (cells : List (List A)) × (map (map v) cells ≡ rows) × HoldAlong grid (λ x. f (v x)) columns cells holds across down → HoldAlong grid f columns rows holds (items wide) (items high)
   sizes_told items holds across down wide high widths heights told =
       let both = both_told told.0 told.1 holds across down told.2 in
       record { widths = rw widths both.widths; heights = rw heights both.heights }

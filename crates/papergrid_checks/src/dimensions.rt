@@ -3,8 +3,7 @@
 ghost use Rattle.std.specs.Prelude.{◌≡◌, MatchResult, slice_index, string_bytes};
 ghost use Rattle.papergrid_tracks.specs.Answers.{IsRefused};
 ghost use Rattle.papergrid_tracks.specs.Sizes.{sizes_of};
-ghost use Rattle.papergrid_layout.specs.Answers.{AnswersBothWhere, AreBothSized};
-ghost use Rattle.papergrid_tracks.specs.LeastAnswers.{AreLeastSizes, AreLeastTooLarge};
+ghost use Rattle.papergrid_layout.specs.Answers.{AreBothLeast, AreBothSized, HaveNoLeast};
 ghost use Rattle.papergrid_text.specs.HeldRows.{column_count, rows_held};
 ghost use Rattle.papergrid_values.specs.declared.direction.Direction.TheVariants.{Columns};
 ghost use Rattle.papergrid_walk.specs.Cells.{problem_of};
@@ -58,8 +57,10 @@ pub fn of_crossing(
     rows: &[Vec<&str>],
     config: &SpannedConfig,
 ) -> Result<(Vec<usize>, Vec<usize>), LayoutError>
-    ensures { AnswersBothWhere (spanned_grid config.now) text_measure 3 (cells_of rows.now)
-        AreLeastTooLarge (λ problem sizes. AreLeastSizes problem sizes.items) result }
+    ensures { let grid = spanned_grid config.now in
+        MatchResult result
+        (λ sizes. AreBothLeast grid text_measure 3 (cells_of rows.now) sizes.0.items sizes.1.items)
+        (HaveNoLeast grid text_measure 3 (cells_of rows.now)) }
 {
     let mut dimension = LeastGridDimension::new(alloc);
     dimension.estimate(IterRecords::new(rows, 3, None), config)?;

@@ -1,14 +1,20 @@
-//! The worked tables of the documents, and what worked cases as data can't tell of the callers: the words of errors,
-//! tables of a caller's own types, and the law of layouts.
+//! The worked tables of the documents, and what worked cases as data can't tell: the words of errors, tables of a caller's
+//! own types, and the law of layouts. Scripts that end after any byte, readers and writers that fail, stall, or move few
+//! bytes, and writers that take a beginning of a picture alone.
 
 mod crossings;
+mod cuts;
+mod ends;
 mod layouts;
 mod messages;
+mod of_csv;
+mod of_documents;
 mod own_types;
 mod places;
 mod scripts;
 mod shown;
 mod types_of_laws;
+mod writers;
 
 use crate::certificates::{is_certified, is_right};
 use crate::own::{Flat, of_flat};

@@ -2,6 +2,7 @@
 use Rattle.std.proofs.Common.{ℕ, Bool, List}
 use Rattle.std.specs.Prelude.{None, Option, Some, Result, Ok, Err, Vec}
 use Rattle.std.specs.declared.alloc.Global.{Global}
+use Rattle.papergrid_values.specs.declared.per_direction.PerDirection.{PerDirection}
 use Rattle.papergrid_values.specs.declared.position.Position.{Position}
 use Rattle.papergrid_values.specs.declared.direction.Direction.{Direction}
 use Rattle.papergrid_values.specs.declared.direction.Direction.TheVariants.{Columns, Rows}
@@ -34,29 +35,36 @@ module _ {C : Type 0} (grid : Grid) (measure : C → ℕ × ℕ) (columns : ℕ)
   along cells direction = problem_of grid measure columns cells direction
 
   -- what holds of both directions
-  abbrev Told : (Problem → Type 0) → (Problem → Solved → Type 0) → Result (Solved × Solved) LayoutError → Type 0
+  abbrev Told : (Problem → Type 0) → (Problem → Solved → Type 0) → Result (PerDirection Solved) LayoutError → Type 0
   Told too_large holds result = UnlessMemory result ((cells : List (List C)) × IsTold cells × AnswersBothWhere grid measure columns cells too_large holds result)
 
   told-also : (too_large : Problem → Type 0) (holds also : Problem → Solved → Type 0) →
       ((cells : List (List C)) (direction : Direction) (solved : Solved) → holds (along cells direction) solved → also (along cells direction) solved) →
-      (result : Result (Solved × Solved) LayoutError) → Told too_large holds result → Told too_large also result
+      (result : Result (PerDirection Solved) LayoutError) → Told too_large holds result → Told too_large also result
   told-also too_large holds also then (Ok found) told =
-      (told.0, told.1, record { widths = then told.0 Columns found.0 told.2.widths; heights = then told.0 Rows found.1 told.2.heights })
+      (told.0, told.1, record { widths = then told.0 Columns found.columns told.2.widths; heights = then told.0 Rows found.rows told.2.heights })
   told-also too_large holds also then (Err (OutOfTable p)) told = told
   told-also too_large holds also then (Err TooLarge) told = told
   told-also too_large holds also then (Err (Memory e)) told = told
 
   module _ (certify : Bool) where
-    pub solved-by_shares : (result : Result (Solved × Solved) LayoutError) → Told AreSizesTooLarge (IsSolvedBy AreSizes IsCertificateOrNone certify) result →
+    pub solved-by_shares : (result : Result (PerDirection Solved) LayoutError) → Told AreSizesTooLarge (IsSolvedBy AreSizes IsCertificateOrNone certify) result →
         Told AreSizesTooLarge (IsSolvedWith ByShares certify) result
     solved-by_shares = told-also AreSizesTooLarge _ _
-        (λ cells direction solved is. record { sizes = is.sizes; certifies = λ asked. by_shares _ solved.certificate (is.asked asked) })
+        (λ cells direction solved is. record {
+          sizes = is.sizes;
+          total = is.total;
+          asked = λ asked. by_shares _ solved.certificate (is.asked asked);
+          unasked = is.unasked;
+        })
 
-    pub solved-least : (result : Result (Solved × Solved) LayoutError) → Told AreLeastTooLarge (IsSolvedBy AreLeastSizes IsCriticalPathInOrder certify) result →
+    pub solved-least : (result : Result (PerDirection Solved) LayoutError) → Told AreLeastTooLarge (IsSolvedBy AreLeastSizes IsCriticalPathInOrder certify) result →
         Told AreLeastTooLarge (IsSolvedWith Least certify) result
     solved-least = told-also AreLeastTooLarge _ _
         (λ cells direction solved is. record {
           sizes = is.sizes;
-          certifies = λ asked. by_path _ solved.certificate
+          total = is.total;
+          asked = λ asked. by_path _ solved.certificate
               (IsCriticalPath-in_order (along cells direction) solved.certificate (in_order-demands direction grid measure cells) (is.asked asked));
+          unasked = is.unasked;
         })

@@ -2,6 +2,7 @@ pub mod AnswerLemmas
 mod CertifiedLemmas
 pub mod CheckSteps
 pub mod EqualLemmas
+mod EstimateLemmas
 pub mod LawLemmas
 pub mod LeastLaws
 pub mod PairLemmas

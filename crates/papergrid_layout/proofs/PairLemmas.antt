@@ -3,14 +3,15 @@ use Rattle.std.proofs.Common.{◌≡◌, ℕ, ◌+◌, ◌<◌, ◌≢◌, inl, 
 use Rattle.std.specs.Prelude.{◌↔◌, All, AllPairs, Option, Some, None, is_some, find, unwrap_or}
 use Rattle.std.proofs.lemmas.Bool.{cases_Bool, false≢true}
 use Rattle.std.proofs.lemmas.List.Elements.{All-head, All-tail}
+use Rattle.papergrid_values.specs.declared.per_direction.PerDirection.{PerDirection}
 use Rattle.papergrid_values.specs.declared.position.Position.{Position}
+use Rattle.papergrid_tracks.specs.declared.demands.Demands.{Demands}
 use Rattle.papergrid_values.specs.Positions.{IsBefore}
 use Rattle.papergrid_values.specs.declared.direction.Direction.{Direction}
 use Rattle.papergrid_values.specs.declared.direction.Direction.TheVariants.{Columns, Rows}
 use Rattle.papergrid_tracks.specs.Ranges.{end_of, first_out}
 use Rattle.papergrid_tracks.specs.ForProofs.Demands.{AreGathered}
 use Rattle.papergrid_tracks.proofs.OutLemmas.{out_kept}
-use Rattle.papergrid_walk.specs.declared.demand_visitors.BothDemands.{BothDemands}
 use Rattle.papergrid_walk.specs.Cells.{demand_by, demands_of, visible_cells}
 use Rattle.papergrid_maps.specs.Grids.{Grid}
 use Rattle.papergrid_walk.specs.ForProofs.Pairs.{AreBothGathered}
@@ -93,7 +94,7 @@ module _ {C : Type 0} (grid : Grid) (measure : C → ℕ × ℕ) (columns : ℕ)
         λ none. sym either ∙ ap₂ earlier none.0 none.1,
       )
 
-  module _ (both : BothDemands) (kept : AreBothGathered grid measure columns cells both) (rows : ℕ) (many : rows ≡ length cells) where
+  module _ (both : PerDirection Demands) (kept : AreBothGathered grid measure columns cells both) (rows : ℕ) (many : rows ≡ length cells) where
     -- the same of what is kept
     pub out_of_both : earlier (first_out columns both.columns.rest.items) (first_out rows both.rows.rest.items) ≡ first_out_of_table grid measure columns cells
     out_of_both =

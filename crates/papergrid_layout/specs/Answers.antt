@@ -1,5 +1,6 @@
 -- What the answers say of the rows told.
-use Rattle.std.specs.Prelude.{◌≡◌, ◌⊎◌, ℕ, ◌+◌, ◌||◌, Bool, List, length, map, find, nat_lt, Option, None, Some, Result, Ok, Err, Vec, ⊤}
+use Rattle.std.specs.Prelude.{◌≡◌, ◌⊎◌, ℕ, ◌+◌, ◌||◌, Bool, List, length, map, find, nat_lt, Option, None, Some, Result, Ok, Err, MatchResult, Vec, ⊤}
+use Rattle.papergrid_values.specs.declared.per_direction.PerDirection.{PerDirection}
 use Rattle.papergrid_values.specs.declared.position.Position.{Position}
 use Rattle.papergrid_values.specs.declared.direction.Direction.TheVariants.{Columns, Rows}
 use Rattle.papergrid_tracks.specs.declared.error.LayoutError.{LayoutError}
@@ -72,10 +73,10 @@ module _ {C : Type 0} (grid : Grid) (measure : C → ℕ × ℕ) (columns : ℕ)
   HaveNoLeast e = IsBothRefusedWhere AreLeastTooLarge e
 
   -- what is found along both directions, or why there is none
-  abbrev pub AnswersBothWhere : {A : Type 0} → (Problem → Type 0) → (Problem → A → Type 0) → Result (A × A) LayoutError → Type 0
-  AnswersBothWhere too_large holds (Ok found) = HoldAlong holds found.0 found.1
+  abbrev pub AnswersBothWhere : {A : Type 0} → (Problem → Type 0) → (Problem → A → Type 0) → Result (PerDirection A) LayoutError → Type 0
+  AnswersBothWhere too_large holds (Ok found) = HoldAlong holds found.columns found.rows
   AnswersBothWhere too_large holds (Err e) = IsBothRefusedWhere too_large e
 
   -- the widths and the heights, or why there are none
   abbrev pub AreBothSized : {Z : Type 0} → Result (Vec ℕ Z × Vec ℕ Z) LayoutError → Type 0
-  AreBothSized {Z} result = AnswersBothWhere AreSizesTooLarge (λ problem (sizes : Vec ℕ Z). AreSizes problem sizes.items) result
+  AreBothSized result = MatchResult result (λ found. AreBothSizes found.0.items found.1.items) IsBothRefused

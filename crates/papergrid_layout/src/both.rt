@@ -15,10 +15,12 @@ use papergrid_config::SpannedConfig;
 use papergrid_maps::ConfigView;
 use papergrid_text::{IntoRecords, Records};
 use papergrid_tracks::settled::find_out;
-use papergrid_tracks::{ByLeastTotal, ByShares, LayoutError, LayoutResult, Solved, Solver};
-use papergrid_values::{Direction, Position};
+use papergrid_tracks::{
+    ByLeastTotal, ByShares, Demands, LayoutError, LayoutResult, Solved, Solver,
+};
+use papergrid_values::{Direction, PerDirection, Position};
 use papergrid_walk::measure::ByLines;
-use papergrid_walk::{BothDemands, Measure, gather_both};
+use papergrid_walk::{Measure, gather_both};
 use std::alloc::Global;
 use std::convert::AsStr;
 
@@ -42,7 +44,7 @@ fn earlier(p: Option<Position>, q: Option<Position>) -> Option<Position>
 
 /// The position of the first cell that overflows the table, by its range along columns or by that
 /// along rows.
-fn find_out_of_both(columns: usize, rows: usize, both: &BothDemands) -> Option<Position>
+fn find_out_of_both(columns: usize, rows: usize, both: &PerDirection<Demands>) -> Option<Position>
     ensures { result ≡ earlier (first_out columns both.now.columns.rest.items)
         (first_out rows both.now.rows.rest.items) }
 {
@@ -57,10 +59,10 @@ fn conclude<T: Solver, M: Measure<C>, C, S: ConfigView>(
     alloc: Global,
     columns: usize,
     rows: usize,
-    both: &BothDemands,
+    both: &PerDirection<Demands>,
     settings: &S,
     certify: bool,
-) -> LayoutResult<(Solved, Solved)>
+) -> LayoutResult<PerDirection<Solved>>
     requires { (cells : List (List C)) × (rows ≡ length cells)
         × AreBothGathered (S.grid settings.now) M.measured columns cells both.now }
     ensures { (cells : List (List C)) → rows ≡ length cells →
@@ -83,7 +85,10 @@ fn conclude<T: Solver, M: Measure<C>, C, S: ConfigView>(
     };
     let widths = T::solve(alloc, columns, &both.columns, &across, certify)?;
     let heights = T::solve(alloc, rows, &both.rows, &down, certify)?;
-    Ok((widths, heights))
+    Ok(PerDirection {
+        columns: widths,
+        rows: heights,
+    })
 }
 
 /// What the records come to along columns and along rows.
@@ -98,7 +103,7 @@ pub fn solve_both<T, M, R, S>(
     records: R,
     settings: &S,
     certify: bool,
-) -> LayoutResult<(Solved, Solved)>
+) -> LayoutResult<PerDirection<Solved>>
 where
     T: Solver,
     R: Records + Drop,
@@ -126,7 +131,7 @@ pub fn solve_by<R: Records + Drop>(
     config: &SpannedConfig,
     sizing: Sizing,
     certify: bool,
-) -> LayoutResult<(Solved, Solved)>
+) -> LayoutResult<PerDirection<Solved>>
 where
     <<R as Records>::Iter as IntoRecords>::Cell: AsStr + Drop,
     requires { R.is_lawful records }

@@ -18,7 +18,7 @@ use crate::sizing::Sizing;
 use papergrid_config::SpannedConfig;
 use papergrid_text::{IntoRecords, Records};
 use papergrid_tracks::{ByLeastTotal, ByShares, LayoutError};
-use papergrid_values::{Direction, Position};
+use papergrid_values::{Direction, PerDirection, Position};
 use papergrid_walk::measure::ByLines;
 use std::alloc::Global;
 use std::convert::AsStr;
@@ -232,11 +232,11 @@ where
         × IsCertifiedBy (spanned_grid config.now) (line_measure R.Iter.Cell.text)
         (R.columns records) cells sizing result) }
 {
-    let (across, down) = solve_by(alloc, records, config, sizing, true)?;
+    let PerDirection { columns, rows } = solve_by(alloc, records, config, sizing, true)?;
     Ok(Certified {
-        widths: across.sizes,
-        heights: down.sizes,
-        width_witness: across.certificate,
-        height_witness: down.certificate,
+        widths: columns.sizes,
+        heights: rows.sizes,
+        width_witness: columns.certificate,
+        height_witness: rows.certificate,
     })
 }

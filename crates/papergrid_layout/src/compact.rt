@@ -12,11 +12,10 @@ ghost use Rattle.papergrid_layout.specs.Answers.{AreBothSized, UnlessMemory};
 use crate::along::solve_along;
 use crate::both::solve_both;
 use crate::dimension::{Dimension, Estimate};
-use crate::size_list::SizeList;
 use papergrid_config::CompactConfig;
 use papergrid_text::{IntoRecords, Records};
-use papergrid_tracks::{ByShares, LayoutError};
-use papergrid_values::Direction;
+use papergrid_tracks::{ByShares, LayoutError, SizeList};
+use papergrid_values::{Direction, PerDirection};
 use papergrid_walk::measure::ByStdLines;
 use std::alloc::Global;
 use std::convert::AsStr;
@@ -122,10 +121,9 @@ impl CompactGridDimension {
             × AreBothSized (compact_grid config.now) (std_line_measure R.Iter.Cell.text)
             (R.columns records) cells result) }
     {
-        let (across, down) = solve_both::<ByShares, ByStdLines, _, _>(
-            alloc, records, config, false,
-        )?;
-        Ok((across.sizes, down.sizes))
+        let found = solve_both::<ByShares, ByStdLines, _, _>(alloc, records, config, false)?;
+        let PerDirection { columns, rows } = found;
+        Ok((columns.sizes, rows.sizes))
     }
 }
 

@@ -14,10 +14,9 @@ pub use crate::certificates::{
     check_height_witness, check_width_witness, height_witness, width_witness,
 };
 use crate::dimension::{Dimension, Estimate};
-use crate::size_list::SizeList;
 use papergrid_config::SpannedConfig;
 use papergrid_text::{IntoRecords, Records};
-use papergrid_tracks::{ByShares, LayoutError};
+use papergrid_tracks::{ByShares, LayoutError, SizeList, replace_sizes};
 use papergrid_values::Direction;
 use papergrid_walk::measure::ByLines;
 use std::alloc::Global;
@@ -226,11 +225,7 @@ where
         (R.columns records) cells error) };
 
     fn estimate(&mut self, records: R, config: &SpannedConfig) -> Result<(), LayoutError> {
-        let (across, down) = solve_both::<ByShares, ByLines, _, _>(
-            self.alloc, records, config, false,
-        )?;
-        self.widths = SizeList::of(across.sizes);
-        self.heights = SizeList::of(down.sizes);
-        Ok(())
+        let found = solve_both::<ByShares, ByLines, _, _>(self.alloc, records, config, false);
+        replace_sizes(&mut self.widths, &mut self.heights, found)
     }
 }

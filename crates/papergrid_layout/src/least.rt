@@ -12,10 +12,9 @@ use crate::along::solve_along;
 use crate::both::solve_both;
 pub use crate::certificates::{height_certificate, width_certificate};
 use crate::dimension::{Dimension, Estimate};
-use crate::size_list::SizeList;
 use papergrid_config::SpannedConfig;
 use papergrid_text::{IntoRecords, Records};
-use papergrid_tracks::{ByLeastTotal, LayoutError};
+use papergrid_tracks::{ByLeastTotal, LayoutError, SizeList, replace_sizes};
 use papergrid_values::Direction;
 use papergrid_walk::measure::ByLines;
 use std::alloc::Global;
@@ -237,11 +236,7 @@ where
         (R.columns records) cells error) };
 
     fn estimate(&mut self, records: R, config: &SpannedConfig) -> Result<(), LayoutError> {
-        let (across, down) = solve_both::<ByLeastTotal, ByLines, _, _>(
-            self.alloc, records, config, false,
-        )?;
-        self.widths = SizeList::of(across.sizes);
-        self.heights = SizeList::of(down.sizes);
-        Ok(())
+        let found = solve_both::<ByLeastTotal, ByLines, _, _>(self.alloc, records, config, false);
+        replace_sizes(&mut self.widths, &mut self.heights, found)
     }
 }

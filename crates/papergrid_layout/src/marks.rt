@@ -6,9 +6,9 @@ ghost use Rattle.papergrid_walk.specs.ForProofs.Shown.{anchor_in};
 ghost use Rattle.papergrid_layout.specs.Places.{IsTrackAt, TableView, extent, offset, place_at, total};
 ghost use Rattle.papergrid_layout.specs.ForProofs.Placing.{AreMarked, AreMarks};
 
-use crate::per_direction::PerDirection;
 use crate::rect::Place;
 use papergrid_maps::Anchor;
+use papergrid_values::PerDirection;
 
 /// Where each track begins and where it ends.
 #[derive(Debug, Drop)]

@@ -11,11 +11,10 @@ ghost use Rattle.papergrid_layout.specs.Answers.{AreBothSized, UnlessMemory};
 use crate::along::solve_along;
 use crate::both::solve_both;
 use crate::dimension::{Dimension, Estimate};
-use crate::size_list::SizeList;
 use papergrid_config::SpannedConfig;
 use papergrid_text::{Cell, IntoRecords, Records};
-use papergrid_tracks::{ByShares, LayoutError};
-use papergrid_values::Direction;
+use papergrid_tracks::{ByShares, LayoutError, SizeList, replace_sizes};
+use papergrid_values::{Direction, PerDirection};
 use papergrid_walk::measure::ByCell;
 use std::alloc::Global;
 
@@ -127,8 +126,9 @@ impl PeekableGridDimension {
             × AreBothSized (spanned_grid config.now)
             (cell_measure R.Iter.Cell.width R.Iter.Cell.lines) (R.columns records) cells result) }
     {
-        let (across, down) = solve_both::<ByShares, ByCell, _, _>(alloc, records, config, false)?;
-        Ok((across.sizes, down.sizes))
+        let found = solve_both::<ByShares, ByCell, _, _>(alloc, records, config, false)?;
+        let PerDirection { columns, rows } = found;
+        Ok((columns.sizes, rows.sizes))
     }
 
     /// The widths and the heights.
@@ -186,11 +186,7 @@ where
         (R.columns records) cells error) };
 
     fn estimate(&mut self, records: R, config: &SpannedConfig) -> Result<(), LayoutError> {
-        let (across, down) = solve_both::<ByShares, ByCell, _, _>(
-            self.alloc, records, config, false,
-        )?;
-        self.widths = SizeList::of(across.sizes);
-        self.heights = SizeList::of(down.sizes);
-        Ok(())
+        let found = solve_both::<ByShares, ByCell, _, _>(self.alloc, records, config, false);
+        replace_sizes(&mut self.widths, &mut self.heights, found)
     }
 }

@@ -9,11 +9,10 @@ ghost use Rattle.papergrid_layout.specs.ForProofs.Placing.{AreMarked};
 ghost use Rattle.papergrid_layout.specs.ForProofs.Spanning.{AreSpanning, CoverInRow, HaveAllSpanning, IsFirstCovering, IsSpannedStep};
 
 use crate::marks::{Marks, place_of};
-use crate::per_direction::PerDirection;
 use crate::rect::Place;
 use papergrid_config::SpannedConfig;
 use papergrid_maps::ConfigView;
-use papergrid_values::Position;
+use papergrid_values::{PerDirection, Position};
 use papergrid_walk::Sweep;
 use papergrid_walk::shown::{sweep_of, visible_anchor};
 use std::alloc::{AllocError, Global};

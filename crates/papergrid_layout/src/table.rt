@@ -14,7 +14,6 @@ use crate::both::solve_by;
 use crate::cell_rects::places;
 use crate::dimension::Dimension;
 use crate::marks::{Marks, place_of};
-use crate::per_direction::PerDirection;
 use crate::rect::{Place, PlaceError};
 use crate::ruler::Ruler;
 use crate::sizing::Sizing;
@@ -23,7 +22,7 @@ use papergrid_config::SpannedConfig;
 use papergrid_maps::{Anchor, ConfigView};
 use papergrid_text::{IntoRecords, Records};
 use papergrid_tracks::LayoutError;
-use papergrid_values::{Direction, Position};
+use papergrid_values::{Direction, PerDirection, Position};
 use std::alloc::Global;
 use std::convert::AsStr;
 use std::marker::Model;
@@ -88,8 +87,8 @@ impl<'a> Table<'a> {
             × IsTableOf config.now (line_measure R.Iter.Cell.text)
             (R.columns records) cells sizing result) }
     {
-        let (across, down) = solve_by(alloc, records, config, sizing, false)?;
-        Table::from_sizes(alloc, config, across.sizes, down.sizes)
+        let PerDirection { columns, rows } = solve_by(alloc, records, config, sizing, false)?;
+        Table::from_sizes(alloc, config, columns.sizes, rows.sizes)
     }
 
     /// The table of these widths and heights, of any estimate or one's own.

@@ -23,6 +23,7 @@ mod limits;
 mod lines;
 mod lower;
 pub mod settled;
+mod size_list;
 pub mod solution;
 pub mod worked;
 
@@ -33,4 +34,5 @@ pub use demand::Demand;
 pub use demands::Demands;
 pub use error::{LayoutError, LayoutResult};
 pub use least::ByLeastTotal;
+pub use size_list::{SizeList, replace_sizes};
 pub use solution::{ByShares, Solved, Solver};

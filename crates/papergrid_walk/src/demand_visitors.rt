@@ -23,7 +23,7 @@ use papergrid_maps::{Anchor, ConfigView, Paddings};
 use papergrid_text::{IntoRecords, Records};
 use papergrid_tracks::Demands;
 use papergrid_tracks::demands::keep;
-use papergrid_values::{Direction, Position};
+use papergrid_values::{Direction, PerDirection, Position};
 use std::alloc::{AllocError, Global};
 use std::marker::PhantomData;
 
@@ -167,15 +167,8 @@ impl<'a, M: Measure<C>, C, S: ConfigView> Visitor<C> for DemandVisitor<'a, M, S>
 #[derive(Drop)]
 pub struct BothDemandVisitor<'a, M, S> {
     view: View<'a, S>,
-    both: BothDemands,
+    both: PerDirection<Demands>,
     measure: PhantomData<M>,
-}
-
-/// What a walk gathers along both directions.
-#[derive(Drop)]
-pub struct BothDemands {
-    pub columns: Demands,
-    pub rows: Demands,
 }
 
 impl<'a, M, S: ConfigView> BothDemandVisitor<'a, M, S> {
@@ -303,7 +296,7 @@ pub fn gather_both<M, R: Records + Drop, S: ConfigView>(
     alloc: Global,
     records: R,
     settings: &S,
-) -> Result<(BothDemands, usize), AllocError>
+) -> Result<(PerDirection<Demands>, usize), AllocError>
 where
     M: Measure<<<R as Records>::Iter as IntoRecords>::Cell>,
     <<R as Records>::Iter as IntoRecords>::Cell: Drop,
@@ -315,7 +308,7 @@ where
     let columns = records.count_columns();
     let mut minimums = BothDemandVisitor::<M, S> {
         view: View::new(alloc, settings)?,
-        both: BothDemands {
+        both: PerDirection {
             columns: Demands::new(alloc, limit_of(Direction::Columns, columns)),
             rows: Demands::new(alloc, limit_of(Direction::Rows, columns)),
         },

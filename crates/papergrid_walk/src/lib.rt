@@ -18,7 +18,7 @@ pub mod shown;
 pub mod sweep;
 pub mod visitor;
 
-pub use demand_visitors::{BothDemands, gather, gather_both};
+pub use demand_visitors::{gather, gather_both};
 pub use measure::Measure;
 pub use sweep::Sweep;
 pub use visitor::{Visitor, walk};

@@ -1,9 +1,10 @@
 -- What all characters of some ranges are, as the tables tell.
 use Rattle.std.proofs.Common.{◌≡◌, ℕ, Bool, true, false, not, ◌&&◌, ◌||◌, List, [], ◌∷◌, refl, arith}
+use Rattle.std.proofs.lemmas.Bool.{false≢true}
 use Rattle.std.proofs.lemmas.Bool.Decides.{nat_tests}
 use Rattle.ucd_table.specs.Rows.{Range, in_ranges}
 use Rattle.ucd_table.proofs.Facts.{Stepped-everywhere, always, ends_by}
-use Rattle.ucd_table.proofs.Stepped.{Stepped, of_ranges, zip_stepped}
+use Rattle.ucd_table.proofs.Stepped.{Stepped, map_stepped, of_ranges, zip_stepped}
 use Rattle.ucd_table.proofs.StepsLemmas.{range_rows, rises_from}
 use Rattle.unicode_width.specs.declared.kind.Kind.{Kind}
 use Rattle.unicode_width.specs.declared.kind.Kind.TheVariants as kinds
@@ -92,34 +93,97 @@ own_of Modifiers = (2, before states.EmojiModifier)
 abbrev AllHaveKind : Group → Type 0
 AllHaveKind group = AllPass (ranges_of group) (λ c. has_kind group (kind c))
 
--- the steps of that
-abbrev kind_stepped_in : (group : Group) → rise (ranges_of group) ≡ true → Stepped (λ c. not (in_ranges (ranges_of group) c) || has_kind group (kind c))
-kind_stepped_in group rising = zip_stepped (λ inside k. not inside || has_kind group k) (in_ranges (ranges_of group)) kind (of_ranges (ranges_of group) rising) kind_stepped
+-- the ranges of each group rise
+rises : (group : Group) → rise (ranges_of group) ≡ true
+unfolding rises_from
+rises Marks = refl
+rises Ones = refl
+rises Alefs = refl
+rises Twos = refl
+rises Pictographs = refl
+rises Indicators = refl
+rises Modifiers = refl
 
--- what the steps tell of a group
-by_steps : (group : Group) (rising : rise (ranges_of group) ≡ true) → passes_by_steps (λ c. not (in_ranges (ranges_of group) c) || has_kind group (kind c)) (kind_stepped_in group rising) ≡ true → AllHaveKind group
-by_steps group rising = Stepped-everywhere (λ c. not (in_ranges (ranges_of group) c) || has_kind group (kind c)) (kind_stepped_in group rising)
+-- in the ranges of which of these groups a character lies
+abbrev flags_of : Group → List Group → ℕ → List Bool
+flags_of group [] c = in_ranges (ranges_of group) c ∷ []
+flags_of group (next ∷ rest) c = in_ranges (ranges_of group) c ∷ flags_of next rest c
 
--- a computation by itself, so that none is too long
-pictographs_have_kind : AllHaveKind Pictographs
+abbrev flags_stepped : (group : Group) (rest : List Group) → Stepped (flags_of group rest)
+flags_stepped group [] = map_stepped (λ inside. inside ∷ []) (in_ranges (ranges_of group)) (of_ranges (ranges_of group) (rises group))
+flags_stepped group (next ∷ rest) =
+    zip_stepped (λ inside flags. inside ∷ flags) (in_ranges (ranges_of group)) (flags_of next rest) (of_ranges (ranges_of group) (rises group)) (flags_stepped next rest)
+
+-- the kind is one of each group whose flag is set
+abbrev fits : List Group → List Bool → Kind → Bool
+fits (group ∷ rest) (inside ∷ flags) k = (not inside || has_kind group k) && fits rest flags k
+fits _ _ _ = true
+
+-- each character has a kind of each of these groups in whose ranges it lies
+abbrev AllFit : Group → List Group → Type 0
+AllFit group rest = (c : ℕ) → fits (group ∷ rest) (flags_of group rest c) (kind c) ≡ true
+
+left : (a b : Bool) → (a && b) ≡ true → a ≡ true
+left true b h = refl
+left false b h = h
+
+right : (a b : Bool) → (a && b) ≡ true → b ≡ true
+right true b h = h
+right false b h = absurd (false≢true h)
+
+first : (group : Group) (rest : List Group) → AllFit group rest → AllHaveKind group
+first group [] all c = left _ _ (all c)
+first group (next ∷ rest) all c = left _ _ (all c)
+
+others : (group next : Group) (rest : List Group) → AllFit group (next ∷ rest) → AllFit next rest
+others group next rest all c = right _ _ (all c)
+
+abbrev after_pictographs : List Group
+after_pictographs = Indicators ∷ Modifiers ∷ []
+
+abbrev after_twos : List Group
+after_twos = Pictographs ∷ after_pictographs
+
+abbrev after_alefs : List Group
+after_alefs = Twos ∷ after_twos
+
+abbrev after_ones : List Group
+after_ones = Alefs ∷ after_alefs
+
+abbrev after_marks : List Group
+after_marks = Ones ∷ after_ones
+
+-- one computation for all groups, over the steps of the kinds
+all_fit : AllFit Marks after_marks
 unfolding unicode_width
-pictographs_have_kind = by_steps Pictographs refl refl
+all_fit =
+    Stepped-everywhere (λ c. fits (Marks ∷ after_marks) (flags_of Marks after_marks c) (kind c))
+    (zip_stepped (fits (Marks ∷ after_marks)) (flags_of Marks after_marks) kind (flags_stepped Marks after_marks) kind_stepped) refl
 
--- the same of those of two columns
-twos_have_kind : AllHaveKind Twos
-unfolding unicode_width
-twos_have_kind = by_steps Twos refl refl
+from_ones : AllFit Ones after_ones
+from_ones = others Marks Ones after_ones all_fit
 
--- the same of every group
+from_alefs : AllFit Alefs after_alefs
+from_alefs = others Ones Alefs after_alefs from_ones
+
+from_twos : AllFit Twos after_twos
+from_twos = others Alefs Twos after_twos from_alefs
+
+from_pictographs : AllFit Pictographs after_pictographs
+from_pictographs = others Twos Pictographs after_pictographs from_twos
+
+from_indicators : AllFit Indicators (Modifiers ∷ [])
+from_indicators = others Pictographs Indicators (Modifiers ∷ []) from_pictographs
+
+-- so each character of a group's ranges has a kind of the group
 all_have_kind : (group : Group) → AllHaveKind group
-unfolding unicode_width
-all_have_kind Marks = by_steps Marks refl refl
-all_have_kind Ones = by_steps Ones refl refl
-all_have_kind Alefs = by_steps Alefs refl refl
-all_have_kind Twos = twos_have_kind
-all_have_kind Pictographs = pictographs_have_kind
-all_have_kind Indicators = by_steps Indicators refl refl
-all_have_kind Modifiers = by_steps Modifiers refl refl
+all_have_kind Marks = first Marks after_marks all_fit
+all_have_kind Ones = first Ones after_ones from_ones
+all_have_kind Alefs = first Alefs after_alefs from_alefs
+all_have_kind Twos = first Twos after_twos from_twos
+all_have_kind Pictographs = first Pictographs after_pictographs from_pictographs
+all_have_kind Indicators = first Indicators (Modifiers ∷ []) from_indicators
+all_have_kind Modifiers = first Modifiers [] (others Indicators Modifiers [] from_indicators)
 
 -- a character of the ranges has a kind of its group
 pub kind_in : (group : Group) (c : ℕ) → in_ranges (ranges_of group) c ≡ true → has_kind group (kind c) ≡ true

@@ -8,7 +8,7 @@ use Rattle.papergrid_checks.proofs.dimensions.of_measured.Goals as goal
 pub returns-in_err-estimate : goal.returns-in_err-estimate
 returns-in_err-estimate c =
     let records = c.args.records.now in
-    refused_on (spanned_grid c.args.config.now) (λ cell. cell.now) kept_measure (column_count records) (cells_of (rows_held records).items) AreSizesTooLarge (λ problem sizes. AreSizes problem sizes.items) _ _ c.from_residual.ensures.1 c.in_err-estimate.ensures.err
+    refused_on (spanned_grid c.args.config.now) (λ cell. cell.now) kept_measure (column_count records) (cells_of (rows_held records).items) AreSizesTooLarge _ _ _ c.from_residual.ensures.1 c.in_err-estimate.ensures.err
 
 pub returns : goal.returns
 returns c =

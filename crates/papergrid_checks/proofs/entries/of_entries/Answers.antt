@@ -23,7 +23,7 @@ of_lent_texts Holds rows texts (Memory e) same is = tt
 
 pub returns-in_err-estimate : goal.returns-in_err-estimate
 returns-in_err-estimate c =
-    refused_on (spanned_grid c.args.config.now) (λ cell. cell.now.now) (line_measure (λ text. text)) 2 (map entry_texts c.args.entries.now) AreSizesTooLarge (λ problem sizes. AreSizes problem sizes.items) _ _ c.from_residual-in_err-estimate.ensures.1
+    refused_on (spanned_grid c.args.config.now) (λ cell. cell.now.now) (line_measure (λ text. text)) 2 (map entry_texts c.args.entries.now) AreSizesTooLarge _ _ _ c.from_residual-in_err-estimate.ensures.1
     (of_lent_texts _ _ (map entry_texts c.args.entries.now) _ c.in_ok-rows.ensures (rw c.new.ensures at c.in_err-estimate.ensures.err))
 
 pub returns : goal.returns

@@ -1,0 +1,26 @@
+use Rattle.std.proofs.Common.{◌∙◌, ℕ, List, Vec, ap, inl, inr}
+use Rattle.std.specs.Io.KnownBytes.{Appends}
+use Rattle.std.specs.declared.alloc.Global.{Global}
+use Rattle.papergrid_csv.specs.Within.{IsRunWithin, cut_request}
+use Rattle.papergrid_csv.specs.declared.run.CsvEnd.TheVariants.{Drawn}
+use Rattle.papergrid_checks.proofs.BegunLemmas.{begun, no-output, of-text}
+use Rattle.papergrid_checks.proofs.csv_tables.csv_table_within.Goals as goal
+
+pub returns-clause-written : goal.returns-clause-written
+returns-clause-written g c =
+    let contents = g.W.Sink.contents in
+    of-text c.run_csv_within.result
+    (λ end text. (output : List ℕ) × IsRunWithin c.args.request.now c.args.width text c.run_csv_within.new.request.cut end output × Appends (contents c.args.writer.now) (contents c.run_csv_within.new.writer) output)
+    c.run_csv_within.new.input.items c.args.text.now (rw c.new-reader.ensures at c.run_csv_within.ensures.all_kept) c.run_csv_within.ensures.written
+
+pub returns-clause-beginning : goal.returns-clause-beginning
+returns-clause-beginning g c =
+    let cut = c.run_csv_within.new.request.cut in
+    begun g.W.Sink.contents c.args.writer.now c.run_csv_within.new.writer (λ text. IsRunWithin c.args.request.now c.args.width text cut Drawn)
+    c.args.text.now c.run_csv_within.new.input.items c.run_csv_within.result
+    (λ output is. no-output (cut_request c.args.request.now c.args.width cut) output is.run) c.run_csv_within.ensures.beginning c.run_csv_within.ensures.read_nothing
+    (λ e. elim (c.run_csv_within.ensures.memory_kept e) [
+      | inl kept ↦ inl (ap (λ (held : Vec ℕ Global). held.items) kept ∙ c.new-input.ensures.items)
+      | inr whole ↦ let all = whole.all in inr (rw c.new-reader.ensures at all)
+    ])
+    (λ e. let all = c.run_csv_within.ensures.write_all_kept e in rw c.new-reader.ensures at all)

@@ -1,0 +1,71 @@
+//! Tables of CSV texts.
+
+ghost use Rattle.std.specs.Prelude.{◌≡◌, ◌⊎◌, IfOk, IsErrOf, IsSome, List, OnErr, OnOk, false, true, ℕ};
+ghost use Rattle.std.specs.Io.KnownBytes.{Appends};
+ghost use Rattle.papergrid_csv.specs.Pictures.{IsCsvRun};
+ghost use Rattle.papergrid_csv.specs.Requests.{IsSeparating};
+ghost use Rattle.papergrid_csv.specs.Within.{IsRunWithin, cut_request};
+ghost use Rattle.papergrid_csv.specs.declared.request.Alignment.TheVariants.{Auto};
+ghost use Rattle.papergrid_csv.specs.declared.run.CsvEnd.TheVariants.{Drawn};
+ghost use Rattle.papergrid_csv.specs.declared.style.Style.TheVariants.{Plain};
+ghost use Rattle.papergrid_checks.specs.Written.{AppendsBeginning};
+
+use papergrid::{ReadSource, RunFault, Sink};
+use papergrid_csv::{Alignment, CsvEnd, Request, Style, run_csv, run_csv_within};
+use std::alloc::Global;
+
+/// A request for a table in a style, with columns of numbers on the right.
+pub fn aligned(alloc: Global, style: Style) -> Request
+    ensures separators { IsSeparating result }
+    ensures apart { (style ≡ Plain) ⊎ (IsSome result.frame.vertical) }
+    ensures alignment { result.alignment ≡ Auto }
+{
+    let mut request = Request::in_style(alloc, style);
+    request.alignment = Alignment::Auto;
+    request
+}
+
+/// Writes the table of a CSV text by a request, and tells how that ended. Condition: the writer has not failed.
+pub fn csv_table<W: Sink>(
+    alloc: Global,
+    request: &Request,
+    text: &[u8],
+    writer: &mut W,
+) -> Result<CsvEnd, RunFault>
+    requires { W.has_failed writer.old ≡ false }
+    ensures written { IfOk result (λ end. (output : List ℕ)
+        × IsCsvRun request.now text.now end output
+        × Appends (W.contents writer.old) (W.contents writer.new) output) }
+    ensures beginning { OnErr result (AppendsBeginning (IsCsvRun request.now text.now Drawn)
+        (W.contents writer.old) (W.contents writer.new)) }
+    ensures write { IsErrOf result RunFault.Write → (W.has_failed writer.new ≡ true)
+        ⊎ (W.has_stalled writer.old ≡ false → W.has_stalled writer.new ≡ true) }
+{
+    let mut reader = ReadSource::new(text);
+    let mut input = Vec::new(alloc);
+    run_csv(alloc, request, &mut reader, writer, &mut input)
+}
+
+/// The same with each field cut, where the table is wider than so many columns. The request has the cut that was found then.
+pub fn csv_table_within<W: Sink>(
+    alloc: Global,
+    width: usize,
+    request: &mut Request,
+    text: &[u8],
+    writer: &mut W,
+) -> Result<CsvEnd, RunFault>
+    requires { W.has_failed writer.old ≡ false }
+    ensures written { IfOk result (λ end. (output : List ℕ)
+        × IsRunWithin request.old width text.now request.new.cut end output
+        × Appends (W.contents writer.old) (W.contents writer.new) output) }
+    ensures request { OnOk result (request.new ≡ cut_request request.old width request.new.cut) }
+    ensures beginning { OnErr result (AppendsBeginning
+        (IsRunWithin request.old width text.now request.new.cut Drawn)
+        (W.contents writer.old) (W.contents writer.new)) }
+    ensures write { IsErrOf result RunFault.Write → (W.has_failed writer.new ≡ true)
+        ⊎ (W.has_stalled writer.old ≡ false → W.has_stalled writer.new ≡ true) }
+{
+    let mut reader = ReadSource::new(text);
+    let mut input = Vec::new(alloc);
+    run_csv_within(alloc, width, request, &mut reader, writer, &mut input)
+}

@@ -1,2 +1,0 @@
-pub mod BegunLemmas
-pub mod DocumentLemmas
