@@ -41,7 +41,8 @@ use Rattle.papergrid.specs.declared.running.RunEnd.TheVariants.{Done, Refused}
 use Rattle.papergrid.specs.declared.running.RunFault.{RunFault}
 use Rattle.papergrid.specs.declared.running.RunFault.TheVariants as run_faults
 use Rattle.papergrid.specs.Pictures.{IsDrawingBy, IsDrawingWith, IsFaultWith, IsPictureFault, IsPictureOf, IsPictureRun, IsRefusal, IsTablePicture, Undrawn, Unsized, refusal_line, texts_drawing}
-use Rattle.papergrid.specs.ForProofs.Drawn.{Draws, HasEnded, IsBrokenOff, IsSteady, IsTaken, IsUndrawn, Runs}
+use Rattle.papergrid.specs.ForProofs.Drawn.{Draws, IsBrokenOff, IsSteady, IsWritten, IsUndrawn, Runs}
+use Rattle.papergrid_draw.specs.ForProofs.Sinks.{HasEnded}
 
 module _ {A : Type 0} (view : A → List ℕ) (config : SpannedConfig) (columns : ℕ) (cells : List (List A)) (texts : List (List (List ℕ)))
     (same : map (map view) cells ≡ texts) where
@@ -286,7 +287,7 @@ module _ {W : Type 0} (contents : W → Option (List ℕ)) (has_failed has_stall
     IsSoUndrawn old new e = IsUndrawn contents has_failed has_stalled (IsDrawingWith table.columns table.rows sizing config) (IsFaultWith table.columns table.rows sizing config) lined old new e
 
     -- the picture was written
-    pub run-drawn : (old new : W) → ((d : Drawing) × IsDrawingWith table.columns table.rows sizing config d × IsTaken contents has_failed has_stalled old new (lined d)) →
+    pub run-drawn : (old new : W) → ((d : Drawing) × IsDrawingWith table.columns table.rows sizing config d × IsWritten contents has_failed has_stalled old new (lined d)) →
         Runs contents has_failed has_stalled (IsTablePicture sizing table) old new (Ok Done)
     run-drawn old new so = (lined so.0, (so.0, (config, told, so.1), refl), so.2)
 

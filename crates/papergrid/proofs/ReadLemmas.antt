@@ -17,7 +17,8 @@ use Rattle.papergrid_values.specs.Borders.{frame_with}
 use Rattle.papergrid_values.specs.Positions as positions
 use Rattle.papergrid_config.specs.declared.setting.Setting.{Setting}
 use Rattle.papergrid_config.specs.declared.setting.Setting.TheVariants.{SetPadding, SetColumnSpan, SetRowSpan, SetBorders, InsertVerticalLine, InsertHorizontalLine, RemoveVerticalLine, RemoveHorizontalLine}
-use Rattle.papergrid.specs.Grammar.{◌>>=◌, Said, Nothing, Columns, Set, Row, Cell, spaces, pair_at, parted_at, number_of, position_said, placed_span, entity_of, sides_of, padding_of, character_of, placed_character, vertical_main, horizontal_main, setting_of, keyword_says, text_says, line_says}
+use Rattle.papergrid_maps.specs.Compact.{spaces}
+use Rattle.papergrid.specs.Grammar.{◌>>=◌, Said, Nothing, Columns, Set, Row, Cell, pair_at, parted_at, number_said, position_said, placed_span, entity_said, sides_of, padding_of, character_of, placed_character, vertical_main, horizontal_main, keyword_setting, keyword_says, text_says, line_says}
 use Rattle.papergrid.specs.Spelling.{IsNumber, IsPosition, IsEntity, AreSides, IsCharacter, IsSetting, Pad, Colspan, Rowspan, Border, Vline, Hline, Novline, Nohline, Means, Ended, Plain, Newline, Tab, Backslash, IsLine}
 use Rattle.papergrid.proofs.CharacterLemmas.{character_read, text_behind}
 use Rattle.papergrid.specs.Texts.{unescaped, escape_of, put_first}
@@ -77,8 +78,8 @@ pair_read {A} {B} byte first second bytes pair h =
 
 -- ---- numbers, entities and sides
 
-pub number_read : (digits : List ℕ) (n : ℕ) → number_of digits ≡ Some n → IsNumber digits n
-unfolding number_of
+pub number_read : (digits : List ℕ) (n : ℕ) → number_said digits ≡ Some n → IsNumber digits n
+unfolding number_said
 number_read digits n h =
     let parts = cond_some _ _ _ h in
     let both = and_true _ _ parts.0 in
@@ -101,18 +102,18 @@ cell_at place = entities.Cell place.row place.col
 position_read : (bytes : List ℕ) (place : Position) → position_said bytes ≡ Some place → IsPosition bytes place
 unfolding position_said
 position_read bytes place h =
-    let at = map_some positions.position_of (pair_at 44 number_of number_of bytes) place h in
-    let pair = pair_read 44 number_of number_of bytes at.0 at.1 in
+    let at = map_some positions.position_of (pair_at 44 number_said number_said bytes) place h in
+    let pair = pair_read 44 number_said number_said bytes at.0 at.1 in
     subst (IsPosition bytes) at.2 (pair.front, pair.back, number_read _ _ pair.is_front, number_read _ _ pair.is_back, pair.whole)
 
-pub entity_read : (bytes : List ℕ) (entity : Entity) → entity_of bytes ≡ Some entity → IsEntity bytes entity
-unfolding entity_of
+pub entity_read : (bytes : List ℕ) (entity : Entity) → entity_said bytes ≡ Some entity → IsEntity bytes entity
+unfolding entity_said
 entity_read bytes entity h = elim (chosen (bytes_eq bytes (codes "*")) (Some entities.Global) _ (Some entity) h) [
   | inl star ↦ subst (IsEntity bytes) (same_Some _ _ star.1) (is_word bytes (codes "*") star.0)
-  | inr other ↦ elim (chosen (starts_with nat_eq bytes (codes "c")) (option_map entities.Column (number_of (drop 1 bytes))) _ (Some entity) other.1) [
-    | inl col ↦ let n = map_some entities.Column (number_of (drop 1 bytes)) entity col.1 in subst (IsEntity bytes) n.2 (drop 1 bytes, number_read _ _ n.1, starts_one 99 bytes col.0)
-    | inr more ↦ elim (chosen (starts_with nat_eq bytes (codes "r")) (option_map entities.Row (number_of (drop 1 bytes))) (option_map cell_at (position_said bytes)) (Some entity) more.1) [
-      | inl row ↦ let n = map_some entities.Row (number_of (drop 1 bytes)) entity row.1 in subst (IsEntity bytes) n.2 (drop 1 bytes, number_read _ _ n.1, starts_one 114 bytes row.0)
+  | inr other ↦ elim (chosen (starts_with nat_eq bytes (codes "c")) (option_map entities.Column (number_said (drop 1 bytes))) _ (Some entity) other.1) [
+    | inl col ↦ let n = map_some entities.Column (number_said (drop 1 bytes)) entity col.1 in subst (IsEntity bytes) n.2 (drop 1 bytes, number_read _ _ n.1, starts_one 99 bytes col.0)
+    | inr more ↦ elim (chosen (starts_with nat_eq bytes (codes "r")) (option_map entities.Row (number_said (drop 1 bytes))) (option_map cell_at (position_said bytes)) (Some entity) more.1) [
+      | inl row ↦ let n = map_some entities.Row (number_said (drop 1 bytes)) entity row.1 in subst (IsEntity bytes) n.2 (drop 1 bytes, number_read _ _ n.1, starts_one 114 bytes row.0)
       | inr cell ↦ let place = map_some cell_at (position_said bytes) entity cell.1 in subst (IsEntity bytes) place.2 (position_read bytes place.0 place.1)
     ]
   ]
@@ -124,13 +125,13 @@ sides_with l r t b = record { top = spaces t; bottom = spaces b; left = spaces l
 sides_read : (bytes : List ℕ) (sides : Sides Indent) → sides_of bytes ≡ Some sides → AreSides bytes sides
 unfolding sides_of
 sides_read bytes sides h =
-    let at_l = bind_some (λ (p : List ℕ × List ℕ). parted_at 32 p.1 >>= λ q. parted_at 32 q.1 >>= λ s. number_of p.0 >>= λ l. number_of q.0 >>= λ r. number_of s.0 >>= λ t. number_of s.1 >>= λ b. Some (sides_with l r t b)) (parted_at 32 bytes) sides h in
-    let at_r = bind_some (λ (q : List ℕ × List ℕ). parted_at 32 q.1 >>= λ s. number_of at_l.0.0 >>= λ l. number_of q.0 >>= λ r. number_of s.0 >>= λ t. number_of s.1 >>= λ b. Some (sides_with l r t b)) (parted_at 32 at_l.0.1) sides at_l.2 in
-    let at_t = bind_some (λ (s : List ℕ × List ℕ). number_of at_l.0.0 >>= λ l. number_of at_r.0.0 >>= λ r. number_of s.0 >>= λ t. number_of s.1 >>= λ b. Some (sides_with l r t b)) (parted_at 32 at_r.0.1) sides at_r.2 in
-    let l = bind_some (λ l. number_of at_r.0.0 >>= λ r. number_of at_t.0.0 >>= λ t. number_of at_t.0.1 >>= λ b. Some (sides_with l r t b)) (number_of at_l.0.0) sides at_t.2 in
-    let r = bind_some (λ r. number_of at_t.0.0 >>= λ t. number_of at_t.0.1 >>= λ b. Some (sides_with l.0 r t b)) (number_of at_r.0.0) sides l.2 in
-    let t = bind_some (λ t. number_of at_t.0.1 >>= λ b. Some (sides_with l.0 r.0 t b)) (number_of at_t.0.0) sides r.2 in
-    let b = bind_some (λ b. Some (sides_with l.0 r.0 t.0 b)) (number_of at_t.0.1) sides t.2 in
+    let at_l = bind_some (λ (p : List ℕ × List ℕ). parted_at 32 p.1 >>= λ q. parted_at 32 q.1 >>= λ s. number_said p.0 >>= λ l. number_said q.0 >>= λ r. number_said s.0 >>= λ t. number_said s.1 >>= λ b. Some (sides_with l r t b)) (parted_at 32 bytes) sides h in
+    let at_r = bind_some (λ (q : List ℕ × List ℕ). parted_at 32 q.1 >>= λ s. number_said at_l.0.0 >>= λ l. number_said q.0 >>= λ r. number_said s.0 >>= λ t. number_said s.1 >>= λ b. Some (sides_with l r t b)) (parted_at 32 at_l.0.1) sides at_l.2 in
+    let at_t = bind_some (λ (s : List ℕ × List ℕ). number_said at_l.0.0 >>= λ l. number_said at_r.0.0 >>= λ r. number_said s.0 >>= λ t. number_said s.1 >>= λ b. Some (sides_with l r t b)) (parted_at 32 at_r.0.1) sides at_r.2 in
+    let l = bind_some (λ l. number_said at_r.0.0 >>= λ r. number_said at_t.0.0 >>= λ t. number_said at_t.0.1 >>= λ b. Some (sides_with l r t b)) (number_said at_l.0.0) sides at_t.2 in
+    let r = bind_some (λ r. number_said at_t.0.0 >>= λ t. number_said at_t.0.1 >>= λ b. Some (sides_with l.0 r t b)) (number_said at_r.0.0) sides l.2 in
+    let t = bind_some (λ t. number_said at_t.0.1 >>= λ b. Some (sides_with l.0 r.0 t b)) (number_said at_t.0.0) sides r.2 in
+    let b = bind_some (λ b. Some (sides_with l.0 r.0 t.0 b)) (number_said at_t.0.1) sides t.2 in
     subst (AreSides bytes) (same_Some _ _ b.2) (record {
       left = at_l.0.0;
       right = at_r.0.0;
@@ -148,8 +149,8 @@ sides_read bytes sides h =
 padding_read : (bytes : List ℕ) (setting : Setting) → padding_of bytes ≡ Some setting → IsSetting (codes "pad " ++ bytes) setting
 unfolding padding_of
 padding_read bytes setting h =
-    let at = map_some (λ (p : Entity × Sides Indent). SetPadding p.0 p.1) (pair_at 32 entity_of sides_of bytes) setting h in
-    let pair = pair_read 32 entity_of sides_of bytes at.0 at.1 in
+    let at = map_some (λ (p : Entity × Sides Indent). SetPadding p.0 p.1) (pair_at 32 entity_said sides_of bytes) setting h in
+    let pair = pair_read 32 entity_said sides_of bytes at.0 at.1 in
     subst (IsSetting (codes "pad " ++ bytes)) at.2
     (subst (λ (b : List ℕ). IsSetting (codes "pad " ++ b) (SetPadding at.0.0 at.0.1)) (sym pair.whole)
     (Pad pair.front pair.back at.0.0 at.0.1 (entity_read _ _ pair.is_front) (sides_read _ _ pair.is_back)))
@@ -166,7 +167,7 @@ spanned_read : (word : List ℕ) (set : Position → ℕ → Setting)
 unfolding placed_span
 spanned_read word set spells rest setting h =
     let at = map_some (λ (at : Position × ℕ). set at.0 at.1) (placed_span rest) setting h in
-    let pair = pair_read 32 position_said number_of rest at.0 at.1 in
+    let pair = pair_read 32 position_said number_said rest at.0 at.1 in
     subst (IsSetting (word ++ rest)) at.2
     (subst (λ (r : List ℕ). IsSetting (word ++ r) (set at.0.0 at.0.1)) (sym pair.whole)
     (spells pair.front pair.back at.0.0 at.0.1 (position_read _ _ pair.is_front) (number_read _ _ pair.is_back)))
@@ -182,20 +183,20 @@ lined_read : (word : List ℕ) (set : ℕ → ℕ → Setting) → ((digits x : 
 unfolding placed_character
 lined_read word set spells rest setting text h =
     let at = map_some (λ (at : ℕ × ℕ). set at.0 at.1) (placed_character rest) setting h in
-    let pair = pair_read 32 number_of character_of rest at.0 at.1 in
+    let pair = pair_read 32 number_said character_of rest at.0 at.1 in
     let behind = text_behind pair.front pair.back 32 (lit< tt) (subst IsUtf8 pair.whole text) in
     subst (IsSetting (word ++ rest)) at.2
     (subst (λ (r : List ℕ). IsSetting (word ++ r) (set at.0.0 at.0.1)) (sym pair.whole)
     (spells pair.front pair.back at.0.0 at.0.1 (number_read _ _ pair.is_front) (character_read _ _ behind pair.is_back)))
 
-novline_read : (rest : List ℕ) (setting : Setting) → option_map (λ col. RemoveVerticalLine col 0) (number_of rest) ≡ Some setting → IsSetting (codes "novline " ++ rest) setting
+novline_read : (rest : List ℕ) (setting : Setting) → option_map (λ col. RemoveVerticalLine col 0) (number_said rest) ≡ Some setting → IsSetting (codes "novline " ++ rest) setting
 novline_read rest setting h =
-    let col = map_some (λ col. RemoveVerticalLine col 0) (number_of rest) setting h in
+    let col = map_some (λ col. RemoveVerticalLine col 0) (number_said rest) setting h in
     subst (IsSetting (codes "novline " ++ rest)) col.2 (Novline rest col.0 (number_read rest col.0 col.1))
 
-nohline_read : (rest : List ℕ) (setting : Setting) → option_map (λ row. RemoveHorizontalLine row 0) (number_of rest) ≡ Some setting → IsSetting (codes "nohline " ++ rest) setting
+nohline_read : (rest : List ℕ) (setting : Setting) → option_map (λ row. RemoveHorizontalLine row 0) (number_said rest) ≡ Some setting → IsSetting (codes "nohline " ++ rest) setting
 nohline_read rest setting h =
-    let row = map_some (λ row. RemoveHorizontalLine row 0) (number_of rest) setting h in
+    let row = map_some (λ row. RemoveHorizontalLine row 0) (number_said rest) setting h in
     subst (IsSetting (codes "nohline " ++ rest)) row.2 (Nohline rest row.0 (number_read rest row.0 row.1))
 
 -- what is read of a keyword that is neither of padding nor of spans
@@ -204,8 +205,8 @@ line_setting keyword rest =
     cond (bytes_eq keyword (codes "border")) (option_map (λ c. SetBorders (frame_with (Some c))) (character_of rest))
     (cond (bytes_eq keyword (codes "vline")) (option_map (λ at. InsertVerticalLine at.0 (vertical_main at.1)) (placed_character rest))
     (cond (bytes_eq keyword (codes "hline")) (option_map (λ at. InsertHorizontalLine at.0 (horizontal_main at.1)) (placed_character rest))
-    (cond (bytes_eq keyword (codes "novline")) (option_map (λ col. RemoveVerticalLine col 0) (number_of rest))
-    (cond (bytes_eq keyword (codes "nohline")) (option_map (λ row. RemoveHorizontalLine row 0) (number_of rest)) None))))
+    (cond (bytes_eq keyword (codes "novline")) (option_map (λ col. RemoveVerticalLine col 0) (number_said rest))
+    (cond (bytes_eq keyword (codes "nohline")) (option_map (λ row. RemoveHorizontalLine row 0) (number_said rest)) None))))
 
 line_setting_read : (keyword rest : List ℕ) (setting : Setting) → IsUtf8 rest → line_setting keyword rest ≡ Some setting → IsSetting (keyword ++ 32 ∷ rest) setting
 line_setting_read keyword rest setting text h = elim (chosen (bytes_eq keyword (codes "border")) (option_map (λ c. SetBorders (frame_with (Some c))) (character_of rest)) _ (Some setting) h) [
@@ -214,9 +215,9 @@ line_setting_read keyword rest setting text h = elim (chosen (bytes_eq keyword (
     | inl vline ↦ worded keyword (codes "vline") rest setting vline.0 (lined_read (codes "vline ") (λ col c. InsertVerticalLine col (vertical_main c)) Vline rest setting text vline.1)
     | inr past_vline ↦ elim (chosen (bytes_eq keyword (codes "hline")) (option_map (λ at. InsertHorizontalLine at.0 (horizontal_main at.1)) (placed_character rest)) _ (Some setting) past_vline.1) [
       | inl hline ↦ worded keyword (codes "hline") rest setting hline.0 (lined_read (codes "hline ") (λ row c. InsertHorizontalLine row (horizontal_main c)) Hline rest setting text hline.1)
-      | inr past_hline ↦ elim (chosen (bytes_eq keyword (codes "novline")) (option_map (λ col. RemoveVerticalLine col 0) (number_of rest)) _ (Some setting) past_hline.1) [
+      | inr past_hline ↦ elim (chosen (bytes_eq keyword (codes "novline")) (option_map (λ col. RemoveVerticalLine col 0) (number_said rest)) _ (Some setting) past_hline.1) [
         | inl novline ↦ worded keyword (codes "novline") rest setting novline.0 (novline_read rest setting novline.1)
-        | inr past_novline ↦ elim (chosen (bytes_eq keyword (codes "nohline")) (option_map (λ row. RemoveHorizontalLine row 0) (number_of rest)) None (Some setting) past_novline.1) [
+        | inr past_novline ↦ elim (chosen (bytes_eq keyword (codes "nohline")) (option_map (λ row. RemoveHorizontalLine row 0) (number_said rest)) None (Some setting) past_novline.1) [
           | inl nohline ↦ worded keyword (codes "nohline") rest setting nohline.0 (nohline_read rest setting nohline.1)
           | inr none ↦ absurd (none-some setting none.1)
         ]
@@ -225,8 +226,8 @@ line_setting_read keyword rest setting text h = elim (chosen (bytes_eq keyword (
   ]
 ]
 
-setting_read : (keyword rest : List ℕ) (setting : Setting) → IsUtf8 rest → setting_of keyword rest ≡ Some setting → IsSetting (keyword ++ 32 ∷ rest) setting
-unfolding setting_of
+setting_read : (keyword rest : List ℕ) (setting : Setting) → IsUtf8 rest → keyword_setting keyword rest ≡ Some setting → IsSetting (keyword ++ 32 ∷ rest) setting
+unfolding keyword_setting
 setting_read keyword rest setting text h = elim (chosen (bytes_eq keyword (codes "pad")) (padding_of rest) _ (Some setting) h) [
   | inl pad ↦ worded keyword (codes "pad") rest setting pad.0 (padding_read rest setting pad.1)
   | inr past_pad ↦ elim (chosen (bytes_eq keyword (codes "colspan")) (option_map (λ at. SetColumnSpan at.0 at.1) (placed_span rest)) _ (Some setting) past_pad.1) [
@@ -293,12 +294,12 @@ keyword_read keyword rest s text h = elim (chosen (bytes_eq keyword (codes "cell
   | inl cell ↦
       let meant = map_some Cell (unescaped rest) s cell.1 in
       subst (IsLine (keyword ++ 32 ∷ rest)) meant.2 (inr (rest, means_read rest meant.0 meant.1, ap (λ w. w ++ 32 ∷ rest) (is_word keyword (codes "cell") cell.0)))
-  | inr other ↦ elim (chosen (bytes_eq keyword (codes "columns")) (option_map Columns (number_of rest)) _ (Some s) other.1) [
+  | inr other ↦ elim (chosen (bytes_eq keyword (codes "columns")) (option_map Columns (number_said rest)) _ (Some s) other.1) [
     | inl columns ↦
-        let n = map_some Columns (number_of rest) s columns.1 in
+        let n = map_some Columns (number_said rest) s columns.1 in
         subst (IsLine (keyword ++ 32 ∷ rest)) n.2 (rest, number_read rest n.0 n.1, ap (λ w. w ++ 32 ∷ rest) (is_word keyword (codes "columns") columns.0))
     | inr more ↦
-        let setting = map_some Set (setting_of keyword rest) s more.1 in
+        let setting = map_some Set (keyword_setting keyword rest) s more.1 in
         subst (IsLine (keyword ++ 32 ∷ rest)) setting.2 (setting_read keyword rest setting.0 text setting.1)
   ]
 ]

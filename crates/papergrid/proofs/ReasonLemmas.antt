@@ -7,7 +7,7 @@ use Rattle.papergrid.specs.declared.explained.Reason.TheVariants as reason
 use Rattle.papergrid.specs.declared.running.RunEnd.TheVariants.{BadScript, Done, Refused}
 use Rattle.papergrid.specs.Estimates.{Estimate, OutOfTable, Sized, TooLarge, estimate_of}
 use Rattle.papergrid.specs.Outputs.{end_by, estimate_end, estimate_text, output_by, script_end, script_text}
-use Rattle.papergrid.specs.Reasons.{IsOfTable, estimate_reason, reason_by, reason_text, script_reason}
+use Rattle.papergrid.specs.Reasons.{IsTableReason, estimate_reason, reason_by, reason_text, script_reason}
 use Rattle.papergrid.specs.Scripts.{Table, table_of}
 
 -- one reason is written in one way
@@ -27,7 +27,7 @@ module _ (table : Table) where
   never_bad TooLarge = (λ is. cc is.1, λ is. cc is)
   never_bad (Sized widths heights total_width total_height width_witness height_witness) = (λ is. cc is.1, λ is. cc is)
 
-  refusal : (e : Estimate) → ((r : Reason) × (estimate_reason table e ≡ Some r) × IsOfTable r) ↔ (estimate_end e ≡ Refused)
+  refusal : (e : Estimate) → ((r : Reason) × (estimate_reason table e ≡ Some r) × IsTableReason r) ↔ (estimate_end e ≡ Refused)
   refusal (OutOfTable place) = (λ is. refl, λ is. (_, refl, tt))
   refusal TooLarge = (λ is. refl, λ is. (reason.TooLarge, refl, tt))
   refusal (Sized widths heights total_width total_height width_witness height_witness) = (λ is. cc is.1, λ is. cc is)
@@ -48,8 +48,8 @@ module _ (sizing : Sizing) where
   told_bad (Err number) = (λ is. refl, λ is. (number, refl))
   told_bad (Ok table) = never_bad table (estimate_of sizing table)
 
-  told_refused : (told : Result Table ℕ) → ((r : Reason) × (script_reason sizing told ≡ Some r) × IsOfTable r) ↔ (script_end sizing told ≡ Refused)
-  told_refused (Err number) = (λ is. let same : reason.BadLine number ≡ is.0 = cc is.1 in absurd (subst IsOfTable (sym same) is.2), λ is. cc is)
+  told_refused : (told : Result Table ℕ) → ((r : Reason) × (script_reason sizing told ≡ Some r) × IsTableReason r) ↔ (script_end sizing told ≡ Refused)
+  told_refused (Err number) = (λ is. let same : reason.BadLine number ≡ is.0 = cc is.1 in absurd (subst IsTableReason (sym same) is.2), λ is. cc is)
   told_refused (Ok table) = refusal table (estimate_of sizing table)
 
   told_written : (told : Result Table ℕ) (r : Reason) → script_reason sizing told ≡ Some r → script_text sizing told ≡ reason_text r
@@ -65,7 +65,7 @@ module _ (sizing : Sizing) where
     unfolding reason_by end_by
     bad_line_where_bad = told_bad (table_of input)
 
-    pub refusal_where_refused : ((r : Reason) × (reason_by sizing input ≡ Some r) × IsOfTable r) ↔ (end_by sizing input ≡ Refused)
+    pub refusal_where_refused : ((r : Reason) × (reason_by sizing input ≡ Some r) × IsTableReason r) ↔ (end_by sizing input ≡ Refused)
     unfolding reason_by end_by
     refusal_where_refused = told_refused (table_of input)
 

@@ -18,7 +18,7 @@ use Rattle.papergrid_values.specs.declared.position.Position.{Position}
 use Rattle.papergrid_values.specs.declared.sides.Sides.{Sides}
 use Rattle.papergrid_config.specs.declared.setting.Setting.{Setting}
 use Rattle.papergrid_config.specs.declared.setting.Setting.TheVariants.{SetPadding}
-use Rattle.papergrid.specs.Grammar.{Said, Nothing, Columns, Set, Row, Cell, parted_at, number_of, position_said, placed_span, entity_of, sides_of, padding_of, placed_character, setting_of, keyword_says, text_says, line_says}
+use Rattle.papergrid.specs.Grammar.{Said, Nothing, Columns, Set, Row, Cell, parted_at, number_said, position_said, placed_span, entity_said, sides_of, padding_of, placed_character, keyword_setting, keyword_says, text_says, line_says}
 use Rattle.papergrid.specs.Spelling.{IsNumber, IsPosition, IsEntity, AreSides, IsCharacter, IsSetting, Pad, Colspan, Rowspan, Border, Vline, Hline, Novline, Nohline, Means, Ended, Plain, Newline, Tab, Backslash, IsLine}
 use Rattle.papergrid.proofs.CharacterLemmas.{character_spelled}
 use Rattle.papergrid.proofs.ReadLemmas.{cell_at}
@@ -54,8 +54,8 @@ parted_after c word rest none =
 
 -- ---- numbers and entities
 
-pub number_spelled : (digits : List ℕ) (n : ℕ) → IsNumber digits n → number_of digits ≡ Some n
-unfolding number_of
+pub number_spelled : (digits : List ℕ) (n : ℕ) → IsNumber digits n → number_said digits ≡ Some n
+unfolding number_said
 number_spelled digits n h =
     let small : digits_value 10 digits < 2 ^ 64 = rw h.value h.fits in
     rw (h.digits_alone, lt-ltb _ _ h.some, lt-ltb _ _ small, h.value) refl
@@ -78,8 +78,8 @@ position_lacks bytes place h = subst (lacks 32) (sym h.4)
     (list_all-append (λ b. not (nat_eq b 32)) h.0 (44 ∷ h.1) ∙ rw (digits_lack 32 h.0 (lit< tt) h.2.digits_alone) (digits_lack 32 h.1 (lit< tt) h.3.digits_alone))
 
 -- a number and a comma are no star, and no letter stands first
-number_first : (row col : List ℕ) → all_ascii_digits row ≡ true → 0 < length row → option_map cell_at (position_said (row ++ 44 ∷ col)) ≡ entity_of (row ++ 44 ∷ col)
-unfolding entity_of
+number_first : (row col : List ℕ) → all_ascii_digits row ≡ true → 0 < length row → option_map cell_at (position_said (row ++ 44 ∷ col)) ≡ entity_said (row ++ 44 ∷ col)
+unfolding entity_said
 number_first [] col h some = absurd (omega arith)
 number_first (d ∷ digits) col h some =
     let p = tells_all_ascii_digits.parts d digits h in
@@ -88,12 +88,12 @@ number_first (d ∷ digits) col h some =
     let r : nat_eq 114 d ≡ false = grind (arith, nat_tests, p.0.1) in
     rw (star, c, r) refl
 
-pub entity_spelled : (bytes : List ℕ) (entity : Entity) → IsEntity bytes entity → entity_of bytes ≡ Some entity
-unfolding entity_of
-entity_spelled bytes entities.Global h = subst (λ (b : List ℕ). entity_of b ≡ Some entities.Global) (sym h) refl
-entity_spelled bytes (entities.Column c) h = subst (λ (b : List ℕ). entity_of b ≡ Some (entities.Column c)) (sym h.2) (ap (option_map entities.Column) (number_spelled h.0 c h.1))
-entity_spelled bytes (entities.Row r) h = subst (λ (b : List ℕ). entity_of b ≡ Some (entities.Row r)) (sym h.2) (ap (option_map entities.Row) (number_spelled h.0 r h.1))
-entity_spelled bytes (entities.Cell r c) h = subst (λ (b : List ℕ). entity_of b ≡ Some (entities.Cell r c)) (sym h.4)
+pub entity_spelled : (bytes : List ℕ) (entity : Entity) → IsEntity bytes entity → entity_said bytes ≡ Some entity
+unfolding entity_said
+entity_spelled bytes entities.Global h = subst (λ (b : List ℕ). entity_said b ≡ Some entities.Global) (sym h) refl
+entity_spelled bytes (entities.Column c) h = subst (λ (b : List ℕ). entity_said b ≡ Some (entities.Column c)) (sym h.2) (ap (option_map entities.Column) (number_spelled h.0 c h.1))
+entity_spelled bytes (entities.Row r) h = subst (λ (b : List ℕ). entity_said b ≡ Some (entities.Row r)) (sym h.2) (ap (option_map entities.Row) (number_spelled h.0 r h.1))
+entity_spelled bytes (entities.Cell r c) h = subst (λ (b : List ℕ). entity_said b ≡ Some (entities.Cell r c)) (sym h.4)
     (sym (number_first h.0 h.1 h.2.digits_alone h.2.some) ∙ ap (option_map cell_at) (position_spelled (h.0 ++ 44 ∷ h.1) (record { row = r; col = c }) (h.0, h.1, h.2, h.3, refl)))
 
 entity_lacks : (bytes : List ℕ) (entity : Entity) → IsEntity bytes entity → lacks 32 bytes
@@ -140,7 +140,7 @@ placed_spelled digits x place c is_number is_character =
     rw (parted_after 32 digits x (digits_lack 32 digits (lit< tt) is_number.digits_alone), number_spelled digits place is_number, character_spelled x c is_character) refl
 
 setting_spelled : (line : List ℕ) (setting : Setting) → IsSetting line setting → text_says line ≡ Some (Set setting)
-unfolding text_says keyword_says setting_of
+unfolding text_says keyword_says keyword_setting
 setting_spelled _ _ (Pad spelled rest entity sides is_entity are_sides) =
     rw (parted_after 32 (codes "pad") (spelled ++ 32 ∷ rest) refl, padding_spelled spelled rest entity sides is_entity are_sides) refl
 setting_spelled _ _ (Colspan spelled digits place n is_position is_number) =

@@ -3,6 +3,7 @@ use Rattle.std.specs.Prelude.{ℕ, ◌-◌, ◌^◌, ◌&&◌, List, [], ◌∷�
 use Rattle.std.specs.List.{slice_split, starts_with, before_first, after_first, position_or_len}
 use Rattle.std.specs.Str.{chars, is_utf8, all_ascii_digits}
 use Rattle.std.specs.Str.Parse.{digits_value}
+use Rattle.papergrid_maps.specs.Compact.{spaces}
 use Rattle.papergrid_values.specs.declared.entity.Entity.{Entity}
 use Rattle.papergrid_values.specs.declared.entity.Entity.TheVariants as entities
 use Rattle.papergrid_values.specs.declared.indent.Indent.{Indent}
@@ -52,28 +53,24 @@ pair_at byte first second spelled = do
 -- ---- numbers and entities
 
 -- one or more digits, of a value that fits 64 bits
-unfoldable pub number_of : List ℕ → Option ℕ
-number_of digits =
+unfoldable pub number_said : List ℕ → Option ℕ
+number_said digits =
     if all_ascii_digits digits && nat_lt 0 (length digits) && nat_lt (digits_value 10 digits) (2 ^ 64)
     then Some (digits_value 10 digits) else None
 
 -- a row and a column with a comma between them
 unfoldable pub position_said : List ℕ → Option Position
-position_said spelled = option_map positions.position_of (pair_at comma number_of number_of spelled)
+position_said spelled = option_map positions.position_of (pair_at comma number_said number_said spelled)
 
 -- a star, a c or r with a number, or a cell
-unfoldable pub entity_of : List ℕ → Option Entity
-entity_of spelled =
+unfoldable pub entity_said : List ℕ → Option Entity
+entity_said spelled =
     if bytes_eq spelled (codes "*") then Some entities.Global
-    else if starts_with nat_eq spelled (codes "c") then option_map entities.Column (number_of (drop 1 spelled))
-    else if starts_with nat_eq spelled (codes "r") then option_map entities.Row (number_of (drop 1 spelled))
+    else if starts_with nat_eq spelled (codes "c") then option_map entities.Column (number_said (drop 1 spelled))
+    else if starts_with nat_eq spelled (codes "r") then option_map entities.Row (number_said (drop 1 spelled))
     else option_map (λ (place : Position). entities.Cell place.row place.col) (position_said spelled)
 
 -- ---- paddings
-
--- so many spaces
-abbrev pub spaces : ℕ → Indent
-spaces size = record { fill = space; size = size }
 
 -- four numbers of spaces: left, right, top and bottom
 unfoldable pub sides_of : List ℕ → Option (Sides Indent)
@@ -81,21 +78,21 @@ sides_of spelled = do
   at_left ← parted_at space spelled
   at_right ← parted_at space at_left.1
   at_top ← parted_at space at_right.1
-  left ← number_of at_left.0
-  right ← number_of at_right.0
-  top ← number_of at_top.0
-  bottom ← number_of at_top.1
+  left ← number_said at_left.0
+  right ← number_said at_right.0
+  top ← number_said at_top.0
+  bottom ← number_said at_top.1
   Some (record { top = spaces top; bottom = spaces bottom; left = spaces left; right = spaces right })
 
 -- an entity, and the four numbers
 unfoldable pub padding_of : List ℕ → Option Setting
-padding_of spelled = option_map (λ p. SetPadding p.0 p.1) (pair_at space entity_of sides_of spelled)
+padding_of spelled = option_map (λ p. SetPadding p.0 p.1) (pair_at space entity_said sides_of spelled)
 
 -- ---- spans
 
 -- a position, and a number of columns or rows after it and a space
 unfoldable pub placed_span : List ℕ → Option (Position × ℕ)
-placed_span spelled = pair_at space position_said number_of spelled
+placed_span spelled = pair_at space position_said number_said spelled
 
 -- ---- borders and lines
 
@@ -111,7 +108,7 @@ character_of spelled = one_alone (chars spelled)
 
 -- a number, and one character after it and a space
 unfoldable pub placed_character : List ℕ → Option (ℕ × ℕ)
-placed_character spelled = pair_at space number_of character_of spelled
+placed_character spelled = pair_at space number_said character_of spelled
 
 -- lines of one character, whose crossings and ends are not set
 abbrev pub vertical_main : ℕ → VerticalLine ℕ
@@ -124,16 +121,16 @@ horizontal_main c = record { main = Some c; intersection = None; left = None; ri
 -- ---- settings
 
 -- a keyword, and what stands after it and a space
-unfoldable pub setting_of : List ℕ → List ℕ → Option Setting
-setting_of keyword rest =
+unfoldable pub keyword_setting : List ℕ → List ℕ → Option Setting
+keyword_setting keyword rest =
     if bytes_eq keyword (codes "pad") then padding_of rest
     else if bytes_eq keyword (codes "colspan") then option_map (λ at. SetColumnSpan at.0 at.1) (placed_span rest)
     else if bytes_eq keyword (codes "rowspan") then option_map (λ at. SetRowSpan at.0 at.1) (placed_span rest)
     else if bytes_eq keyword (codes "border") then option_map (λ c. SetBorders (frame_with (Some c))) (character_of rest)
     else if bytes_eq keyword (codes "vline") then option_map (λ at. InsertVerticalLine at.0 (vertical_main at.1)) (placed_character rest)
     else if bytes_eq keyword (codes "hline") then option_map (λ at. InsertHorizontalLine at.0 (horizontal_main at.1)) (placed_character rest)
-    else if bytes_eq keyword (codes "novline") then option_map (λ col. RemoveVerticalLine col 0) (number_of rest)
-    else if bytes_eq keyword (codes "nohline") then option_map (λ row. RemoveHorizontalLine row 0) (number_of rest)
+    else if bytes_eq keyword (codes "novline") then option_map (λ col. RemoveVerticalLine col 0) (number_said rest)
+    else if bytes_eq keyword (codes "nohline") then option_map (λ row. RemoveHorizontalLine row 0) (number_said rest)
     else None
 
 -- ---- lines of a script
@@ -150,8 +147,8 @@ pub data Said : Type 0 where
 unfoldable pub keyword_says : List ℕ → List ℕ → Option Said
 keyword_says keyword rest =
     if bytes_eq keyword (codes "cell") then option_map Cell (unescaped rest)
-    else if bytes_eq keyword (codes "columns") then option_map Columns (number_of rest)
-    else option_map Set (setting_of keyword rest)
+    else if bytes_eq keyword (codes "columns") then option_map Columns (number_said rest)
+    else option_map Set (keyword_setting keyword rest)
 
 -- what a line of text says: nothing, a row, a cell without a text, or by its keyword
 unfoldable pub text_says : List ℕ → Option Said

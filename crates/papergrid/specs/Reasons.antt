@@ -40,7 +40,7 @@ reason_text (reason.OutOfTable place spans shape) = estimate_text (OutOfTable pl
 reason_text reason.TooLarge = estimate_text TooLarge
 
 -- a reason why a table is refused, and no bad line
-abbrev pub IsOfTable : Reason → Type 0
-IsOfTable (reason.BadLine number) = ⊥
-IsOfTable (reason.OutOfTable place spans shape) = ⊤
-IsOfTable reason.TooLarge = ⊤
+abbrev pub IsTableReason : Reason → Type 0
+IsTableReason (reason.BadLine number) = ⊥
+IsTableReason (reason.OutOfTable place spans shape) = ⊤
+IsTableReason reason.TooLarge = ⊤

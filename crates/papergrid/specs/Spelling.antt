@@ -11,7 +11,8 @@ use Rattle.papergrid_values.specs.declared.sides.Sides.{Sides}
 use Rattle.papergrid_values.specs.Borders.{frame_with}
 use Rattle.papergrid_config.specs.declared.setting.Setting.{Setting}
 use Rattle.papergrid_config.specs.declared.setting.Setting.TheVariants.{SetPadding, SetColumnSpan, SetRowSpan, SetBorders, InsertVerticalLine, InsertHorizontalLine, RemoveVerticalLine, RemoveHorizontalLine}
-use Rattle.papergrid.specs.Grammar.{Said, Nothing, Columns, Set, Row, Cell, space, comma, spaces, vertical_main, horizontal_main}
+use Rattle.papergrid_maps.specs.Compact.{spaces}
+use Rattle.papergrid.specs.Grammar.{Said, Nothing, Columns, Set, Row, Cell, space, comma, vertical_main, horizontal_main}
 use Rattle.papergrid.specs.Texts.{newline, backslash}
 
 -- one or more digits, of a number that fits 64 bits

@@ -35,7 +35,7 @@ pub fn estimate<R>(
     alloc: Global,
     sizing: Sizing,
     records: R,
-    cfg: &SpannedConfig,
+    config: &SpannedConfig,
 ) -> LayoutResult<Sizes>
 where
     R: Records + Drop,
@@ -43,28 +43,28 @@ where
     requires { R.is_lawful records }
     ensures { GivesEstimate result (λ answer. (cells : List (List R.Iter.Cell))
         × R.tells records cells
-        × (answer ≡ estimate_by sizing (spanned_grid cfg.now) (line_measure R.Iter.Cell.text)
+        × (answer ≡ estimate_by sizing (spanned_grid config.now) (line_measure R.Iter.Cell.text)
         (R.columns records) cells)) }
 {
-    let certified = certify(alloc, records, cfg, sizing)?;
-    Ok(with_totals(certified, cfg))
+    let certified = certify(alloc, records, config, sizing)?;
+    Ok(with_totals(certified, config))
 }
 
 /// The sizes, with the totals by the lines of the configuration.
-fn with_totals(certified: Certified, cfg: &SpannedConfig) -> Sizes
-    requires width { total_with_lines Columns (spanned_grid cfg.now)
+fn with_totals(certified: Certified, config: &SpannedConfig) -> Sizes
+    requires width { total_with_lines Columns (spanned_grid config.now)
         (length certified.widths.items) certified.widths.items < 2 ^ 64 }
-    requires height { total_with_lines Rows (spanned_grid cfg.now)
+    requires height { total_with_lines Rows (spanned_grid config.now)
         (length certified.heights.items) certified.heights.items < 2 ^ 64 }
     ensures certified { result.certified ≡ certified }
-    ensures total_width { result.total_width ≡ total_with_lines Columns (spanned_grid cfg.now)
+    ensures total_width { result.total_width ≡ total_with_lines Columns (spanned_grid config.now)
         (length certified.widths.items) certified.widths.items }
     ensures total_height { result.total_height
-        ≡ total_with_lines Rows (spanned_grid cfg.now)
+        ≡ total_with_lines Rows (spanned_grid config.now)
         (length certified.heights.items) certified.heights.items }
 {
-    let vertical = cfg.count_vertical(certified.widths.len());
-    let horizontal = cfg.count_horizontal(certified.heights.len());
+    let vertical = config.count_vertical(certified.widths.len());
+    let horizontal = config.count_horizontal(certified.heights.len());
     let total_width = total(&certified.widths, vertical);
     let total_height = total(&certified.heights, horizontal);
     Sizes {

@@ -16,13 +16,13 @@ ghost use Rattle.papergrid_draw.specs.declared.transfer.Failed.{Failed};
 ghost use Rattle.papergrid.specs.Estimates.{OutOfTable, Sized, TooLarge, estimate_of, text_measure};
 ghost use Rattle.papergrid.specs.Grids.{grid_of};
 ghost use Rattle.papergrid.specs.Outputs.{end_by, output_by};
-ghost use Rattle.papergrid.specs.Reasons.{IsOfTable, reason_by, reason_text};
+ghost use Rattle.papergrid.specs.Reasons.{IsTableReason, reason_by, reason_text};
 ghost use Rattle.papergrid.specs.Rows.{WorkedScripts};
 ghost use Rattle.papergrid.specs.Scripts.{Table, table_of};
 ghost use Rattle.papergrid.specs.Totals.{AreSized, IsTableTooLarge};
 ghost use Rattle.papergrid_values.specs.declared.entity.Entity.{Entity};
 ghost use Rattle.papergrid_config.specs.Applied.{is_in_range};
-ghost use Rattle.papergrid.specs.Grammar.{Said, entity_of, number_of, line_says, script_lines};
+ghost use Rattle.papergrid.specs.Grammar.{Said, entity_said, number_said, line_says, script_lines};
 ghost use Rattle.papergrid.specs.ScriptLines.{AreScriptLines};
 ghost use Rattle.papergrid.specs.Spelling.{IsEntity, IsLine, IsNumber};
 ghost use Rattle.papergrid.specs.Tells.{IsBad, IsFirstBad, Tells};
@@ -78,7 +78,7 @@ pub fn reasons_by_runs()
         ((number : ℕ) × (reason_by sizing input ≡ Some (Reason.BadLine number)))
         ↔ (end_by sizing input ≡ RunEnd.BadScript) }
     ensures refused { (sizing : Sizing) (input : List ℕ) →
-        ((reason : Reason) × (reason_by sizing input ≡ Some reason) × IsOfTable reason)
+        ((reason : Reason) × (reason_by sizing input ≡ Some reason) × IsTableReason reason)
         ↔ (end_by sizing input ≡ RunEnd.Refused) }
     ensures written { (sizing : Sizing) (input : List ℕ) (reason : Reason) →
         reason_by sizing input ≡ Some reason → output_by sizing input ≡ reason_text reason }
@@ -104,16 +104,16 @@ pub fn equal_where_same()
 
 /// A number is read exactly where its digits spell it.
 pub fn number_form()
-    ensures read { (digits : List ℕ) (n : ℕ) → number_of digits ≡ Some n → IsNumber digits n }
-    ensures spelled { (digits : List ℕ) (n : ℕ) → IsNumber digits n → number_of digits ≡ Some n }
+    ensures read { (digits : List ℕ) (n : ℕ) → number_said digits ≡ Some n → IsNumber digits n }
+    ensures spelled { (digits : List ℕ) (n : ℕ) → IsNumber digits n → number_said digits ≡ Some n }
 {}
 
 /// An entity is read exactly where the bytes spell it.
 pub fn entity_form()
     ensures read { (bytes : List ℕ) (entity : Entity) →
-        entity_of bytes ≡ Some entity → IsEntity bytes entity }
+        entity_said bytes ≡ Some entity → IsEntity bytes entity }
     ensures spelled { (bytes : List ℕ) (entity : Entity) →
-        IsEntity bytes entity → entity_of bytes ≡ Some entity }
+        IsEntity bytes entity → entity_said bytes ≡ Some entity }
 {}
 
 /// A line is read exactly where it is text that is spelled so.

@@ -3,11 +3,11 @@
 ghost use Rattle.std.specs.Prelude.{◌≡◌, ◌∷◌, []};
 ghost use Rattle.std.specs.List.{list_all};
 ghost use Rattle.std.specs.Char.{is_ascii_digit};
-ghost use Rattle.papergrid.specs.Grammar.{number_of};
+ghost use Rattle.papergrid.specs.Grammar.{number_said};
 
 /// The number that the text spells: one or more ASCII digits and nothing else, of a value that fits.
 pub fn number(spelled: &str) -> Option<usize>
-    ensures { result ≡ number_of spelled.now }
+    ensures { result ≡ number_said spelled.now }
 {
     // Most numbers have one digit.
     if let [digit] = spelled.as_bytes() {
@@ -22,7 +22,7 @@ pub fn number(spelled: &str) -> Option<usize>
 /// The number that the byte spells alone.
 #[tactic(auto, unfolding(crate::specs::Grammar::number_of))]
 fn one_digit(byte: u8) -> Option<usize>
-    ensures { result ≡ number_of (byte ∷ []) }
+    ensures { result ≡ number_said (byte ∷ []) }
 {
     if !byte.is_ascii_digit() {
         return None;

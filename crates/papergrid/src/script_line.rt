@@ -1,7 +1,7 @@
 //! The lines of a script, one at a time.
 
 ghost use Rattle.std.specs.Prelude.{◌≢◌, IfOk, codes, option_map};
-ghost use Rattle.papergrid.specs.Grammar.{Cell, Set, keyword_says, setting_of, text_says};
+ghost use Rattle.papergrid.specs.Grammar.{Cell, Set, keyword_says, keyword_setting, text_says};
 ghost use Rattle.papergrid.specs.ForProofs.ScriptSeen.{Takes};
 ghost use Rattle.papergrid.specs.Texts.{unescaped};
 ghost use Rattle.papergrid.specs.ForProofs.Escapes.{IsFirstEscape};
@@ -76,7 +76,7 @@ fn take_cell<'a>(draft: &mut Draft<'a>, spelled: &'a str, escape: usize) -> Resu
 /// Takes the setting of a keyword, and of what stands after it and a space; false where there is none.
 fn take_setting(draft: &mut Draft<'_>, keyword: &str, rest: &str) -> Result<bool, AllocError>
     ensures { IfOk result (λ fits.
-        Takes draft.old (option_map Set (setting_of keyword.now rest.now)) fits draft.new) }
+        Takes draft.old (option_map Set (keyword_setting keyword.now rest.now)) fits draft.new) }
 {
     match line_setting(keyword, rest) {
         Some(setting) => {

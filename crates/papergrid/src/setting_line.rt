@@ -2,7 +2,7 @@
 
 ghost use Rattle.std.specs.Prelude.{◌≡◌, option_map};
 ghost use Rattle.papergrid.specs.ForProofs.Settings.{setting_told, spaced_sides};
-ghost use Rattle.papergrid.specs.Grammar.{character_of, entity_of, padding_of, placed_character, placed_span, position_said, setting_of, sides_of};
+ghost use Rattle.papergrid.specs.Grammar.{character_of, entity_said, padding_of, placed_character, placed_span, position_said, keyword_setting, sides_of};
 
 use crate::cut::split_at_byte;
 use crate::number::number;
@@ -12,7 +12,7 @@ use papergrid_values::{Entity, Position, Sides};
 /// The setting of a keyword, and of what stands after it and a space.
 #[tactic(auto, unfolding(crate::specs::Grammar::setting_of))]
 pub fn line_setting(keyword: &str, rest: &str) -> Option<ScriptSetting>
-    ensures { option_map setting_told result ≡ setting_of keyword.now rest.now }
+    ensures { option_map setting_told result ≡ keyword_setting keyword.now rest.now }
 {
     match keyword {
         "pad" => padding(rest),
@@ -72,7 +72,7 @@ fn sides(spelled: &str) -> Option<Sides<usize>>
 /// The entity that the text spells: `*`, `c` or `r` with a number, or a row and a column with a comma.
 #[tactic(auto, unfolding(crate::specs::Grammar::entity_of))]
 fn entity(spelled: &str) -> Option<Entity>
-    ensures { result ≡ entity_of spelled.now }
+    ensures { result ≡ entity_said spelled.now }
 {
     if spelled == "*" {
         return Some(Entity::Global);

@@ -23,12 +23,12 @@ use Rattle.papergrid.specs.Layouts.{IsConfiguredBy}
 use Rattle.papergrid.specs.Pictures.{IsDrawingWith, Unsized}
 use Rattle.papergrid.proofs.PictureLemmas.{drawing-with, no-sizes-seen, sizes-seen}
 use Rattle.papergrid_builder.specs.Errors.{layout_refusal}
-use Rattle.papergrid_builder.specs.Layouts.{IsNotLaidOut, IsSized}
+use Rattle.papergrid_builder.specs.Layouts.{IsNoFoundTable, AreFoundSizes}
 use Rattle.papergrid_builder.specs.Pictures.{IsDrawingOf, IsNotDrawn}
 use Rattle.papergrid_builder.specs.Told.{longest}
 use Rattle.papergrid_builder.specs.ForProofs.Kept.{found_of}
 use Rattle.papergrid_builder.specs.ForProofs.Texts.{rows_lent, texts_lent}
-use Rattle.papergrid_builder.specs.ForProofs.Sizes.{IsUndrawn, IsUnfound}
+use Rattle.papergrid_builder.specs.ForProofs.Sizes.{IsPictureRefused, IsUnfound}
 use Rattle.papergrid_builder.specs.declared.error.BuilderError.{BuilderError}
 use Rattle.papergrid_builder.specs.declared.error.BuilderError.TheVariants as builder_errors
 
@@ -41,7 +41,7 @@ module _ {A : Type 0} (view : A → List ℕ) (config : SpannedConfig) (sizing :
 
   -- sizes with what certifies them
   pub found-told : (certified : Certified) → IsCertifiedBy (spanned_grid config) (λ x. text_measure (view x)) columns cells sizing (Ok certified) →
-      IsSized rows sizing (found_of (record { config = config; certified = certified }))
+      AreFoundSizes rows sizing (found_of (record { config = config; certified = certified }))
   found-told certified are = record {
     sizes = subst (λ n. AreSizesBySizing config text_measure n rows sizing certified.widths.items certified.heights.items) counted
         (sizes-seen view config columns cells rows same sizing certified.widths.items certified.heights.items are.sizes);
@@ -76,20 +76,20 @@ module _ (config : SpannedConfig) (rows : List (List (List ℕ))) (sizing : Sizi
   unfound-unsized (layout_errors.Memory e) are = tt
 
   -- there are no sizes to draw with
-  pub undrawn-unsized : (e : LayoutError) → UnlessMemoryError e (AreNoSizesBySizing config text_measure (longest rows) rows sizing e) → IsUndrawn config rows sizing (layout_refusal e)
+  pub undrawn-unsized : (e : LayoutError) → UnlessMemoryError e (AreNoSizesBySizing config text_measure (longest rows) rows sizing e) → IsPictureRefused config rows sizing (layout_refusal e)
   undrawn-unsized (layout_errors.OutOfTable p) are = Unsized (layout_errors.OutOfTable p) refl are
   undrawn-unsized layout_errors.TooLarge are = Unsized layout_errors.TooLarge refl are
   undrawn-unsized (layout_errors.Memory e) are = tt
 
   -- by a configuration that settings tell
   module _ (settings : List Setting) (told : IsConfiguredBy settings config) where
-    pub not-found : (e : BuilderError) → IsUnfound config rows sizing e → IsNotLaidOut settings rows sizing e
+    pub not-found : (e : BuilderError) → IsUnfound config rows sizing e → IsNoFoundTable settings rows sizing e
     not-found (builder_errors.OutOfTable p) are = (config, told, are)
     not-found builder_errors.TooLarge are = (config, told, are)
     not-found builder_errors.Memory are = tt
     not-found e are = absurd are
 
-    pub not-drawn : (e : BuilderError) → IsUndrawn config rows sizing e → IsNotDrawn settings rows sizing e
+    pub not-drawn : (e : BuilderError) → IsPictureRefused config rows sizing e → IsNotDrawn settings rows sizing e
     not-drawn (builder_errors.OutOfTable p) are = (config, told, are)
     not-drawn (builder_errors.NotTiled p) are = (config, told, are)
     not-drawn builder_errors.TooLarge are = (config, told, are)
@@ -103,6 +103,6 @@ module _ (config : SpannedConfig) (rows : List (List (List ℕ))) (sizing : Sizi
     drawn-told (Ok picture) drawn = (drawn.0, (config, told, drawn.1), drawn.2)
     drawn-told (Err e) drawn = tt
 
-    pub undrawn-told : (result : Result (Vec ℕ Global) BuilderError) → IfErr result (IsUndrawn config rows sizing) → IfErr result (IsNotDrawn settings rows sizing)
+    pub undrawn-told : (result : Result (Vec ℕ Global) BuilderError) → IfErr result (IsPictureRefused config rows sizing) → IfErr result (IsNotDrawn settings rows sizing)
     undrawn-told (Ok picture) undrawn = tt
     undrawn-told (Err e) undrawn = not-drawn e undrawn

@@ -2,7 +2,7 @@
 use Rattle.std.specs.Prelude.{◌≡◌, ◌<◌, ⊤, ℕ, All, IsUtf8, List, false, true}
 use Rattle.papergrid_config.specs.Applied.{is_in_range}
 use Rattle.papergrid_config.specs.declared.setting.Setting.{Setting}
-use Rattle.papergrid_builder.specs.Told.{ToldTable, rows_in, with_cell, with_rows, with_setting}
+use Rattle.papergrid_builder.specs.Told.{ToldTable, rows_in, with_cell, with_more_rows, with_setting}
 use Rattle.papergrid_builder.specs.declared.error.BuilderError.{BuilderError}
 use Rattle.papergrid_builder.specs.declared.error.BuilderError.TheVariants.{BadSetting, Memory, NotAscii, NotText, OutOfRange}
 
@@ -12,8 +12,8 @@ IsOutOfMemory Memory = ⊤
 IsOutOfMemory e = ⊥
 
 -- a setting that is in range, as one more
-abbrev pub HasSetting : ToldTable → ToldTable → Setting → Type 0
-HasSetting old new setting = (is_in_range setting ≡ true) × (new ≡ with_setting old setting)
+abbrev pub GainsSetting : ToldTable → ToldTable → Setting → Type 0
+GainsSetting old new setting = (is_in_range setting ≡ true) × (new ≡ with_setting old setting)
 
 -- why a setting is refused
 abbrev pub IsNotTold : Setting → BuilderError → Type 0
@@ -28,8 +28,8 @@ IsNoSetting Memory = ⊤
 IsNoSetting e = ⊥
 
 -- one more cell, of a text in UTF-8
-abbrev pub HasCell : List ℕ → ToldTable → ToldTable → Type 0
-HasCell text old new = IsUtf8 text × (new ≡ with_cell old text)
+abbrev pub GainsCell : List ℕ → ToldTable → ToldTable → Type 0
+GainsCell text old new = IsUtf8 text × (new ≡ with_cell old text)
 
 -- why the text of a cell is refused
 abbrev pub IsNoCell : List ℕ → BuilderError → Type 0
@@ -42,9 +42,9 @@ abbrev pub AreAscii : ℕ → ℕ → Type 0
 AreAscii cell_end row_end = (cell_end < 128) × (row_end < 128)
 
 -- the rows that a text in UTF-8 is cut into as more rows, each of which is ended; their texts are in UTF-8 too
-abbrev pub HasRows : ℕ → ℕ → List ℕ → ToldTable → ToldTable → Type 0
-HasRows cell_end row_end text old new = AreAscii cell_end row_end × IsUtf8 text
-    × All (All IsUtf8) (rows_in cell_end row_end text) × (new ≡ with_rows old (rows_in cell_end row_end text))
+abbrev pub GainsRows : ℕ → ℕ → List ℕ → ToldTable → ToldTable → Type 0
+GainsRows cell_end row_end text old new = AreAscii cell_end row_end × IsUtf8 text
+    × All (All IsUtf8) (rows_in cell_end row_end text) × (new ≡ with_more_rows old (rows_in cell_end row_end text))
 
 -- why the rows that a text is cut into are refused
 abbrev pub AreNoRows : ℕ → ℕ → List ℕ → BuilderError → Type 0

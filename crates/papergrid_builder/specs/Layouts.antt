@@ -20,15 +20,15 @@ use Rattle.papergrid_builder.specs.declared.error.BuilderError.{BuilderError}
 use Rattle.papergrid_builder.specs.declared.error.BuilderError.TheVariants.{Hidden, Memory, NotEstimated, OutOfTable, TooLarge}
 
 -- the sizes that are chosen so for rows of texts by its configuration, and what certifies them
-abbrev pub IsSized : List (List (List ℕ)) → Sizing → FoundTable → Type 0
-IsSized rows sizing found =
+abbrev pub AreFoundSizes : List (List (List ℕ)) → Sizing → FoundTable → Type 0
+AreFoundSizes rows sizing found =
     AreCertified (spanned_grid found.parts.config) text_measure (longest rows) rows sizing found.parts.widths found.parts.heights found.width_certificate found.height_certificate
 
 module _ (settings : List Setting) (rows : List (List (List ℕ))) (sizing : Sizing) where
   -- the same by a configuration that the settings tell; the totals fit
-  pub record IsLaidOut (found : FoundTable) : Type 0 where
+  pub record IsFoundTable (found : FoundTable) : Type 0 where
     pub configured : IsConfiguredBy settings found.parts.config
-    pub sized : IsSized rows sizing found
+    pub sized : AreFoundSizes rows sizing found
     pub fit : (direction : Direction) → total_along (view_of found.parts) direction < 2 ^ 64
 
   -- why there are none
@@ -36,11 +36,11 @@ module _ (settings : List Setting) (rows : List (List (List ℕ))) (sizing : Siz
   HasNoSizes e = (config : SpannedConfig) × IsConfiguredBy settings config × AreNoSizesBySizing config text_measure (longest rows) rows sizing e
 
   -- the same of the error that is answered; an allocation may fail
-  abbrev pub IsNotLaidOut : BuilderError → Type 0
-  IsNotLaidOut (OutOfTable p) = HasNoSizes (layout_errors.OutOfTable p)
-  IsNotLaidOut TooLarge = HasNoSizes layout_errors.TooLarge
-  IsNotLaidOut Memory = ⊤
-  IsNotLaidOut e = ⊥
+  abbrev pub IsNoFoundTable : BuilderError → Type 0
+  IsNoFoundTable (OutOfTable p) = HasNoSizes (layout_errors.OutOfTable p)
+  IsNoFoundTable TooLarge = HasNoSizes layout_errors.TooLarge
+  IsNoFoundTable Memory = ⊤
+  IsNoFoundTable e = ⊥
 
 -- its total width and its total height, with all lines
 abbrev pub totals_of : TableParts → ℕ × ℕ

@@ -24,8 +24,8 @@ pub record ToldTable : Type 0 where
   pub picture : List ℕ
 
 -- nothing was told
-abbrev pub empty_table : ToldTable
-empty_table = record { settings = []; rows = []; goes_on = false; found = None; picture = [] }
+abbrev pub blank_table : ToldTable
+blank_table = record { settings = []; rows = []; goes_on = false; found = None; picture = [] }
 
 -- one more setting
 abbrev pub with_setting : ToldTable → Setting → ToldTable
@@ -52,8 +52,8 @@ with_row_end table =
     if table.goes_on then record table { goes_on = false } else record table { rows = table.rows ++ [] ∷ []; found = None }
 
 -- more rows, each of which is ended
-abbrev pub with_rows : ToldTable → List (List (List ℕ)) → ToldTable
-with_rows table rows = record table { rows = table.rows ++ rows; goes_on = false; found = None }
+abbrev pub with_more_rows : ToldTable → List (List (List ℕ)) → ToldTable
+with_more_rows table rows = record table { rows = table.rows ++ rows; goes_on = false; found = None }
 
 -- the pieces but the last, and the last unless it is empty
 abbrev pub unless_last_is_empty : List (List ℕ) → List (List ℕ)

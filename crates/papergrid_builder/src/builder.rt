@@ -54,15 +54,15 @@ impl Builder {
     ghost use Rattle.papergrid_draw.specs.Drawings.{Drawing};
     ghost use Rattle.papergrid_grid.specs.Lined.{lined};
     ghost use Rattle.papergrid_layout.specs.declared.sizing.Sizing.{Sizing};
-    ghost use Rattle.papergrid_builder.specs.Calls.{AreNoRows, HasCell, HasRows, HasSetting, IsNoCell, IsNoSetting, IsNotTold, IsOutOfMemory};
-    ghost use Rattle.papergrid_builder.specs.Layouts.{IsCellAnswer, IsLaidOut, IsNotLaidOut, IsPlaceAnswer, certificate_along, sizes_along, totals_of};
+    ghost use Rattle.papergrid_builder.specs.Calls.{AreNoRows, GainsCell, GainsRows, GainsSetting, IsNoCell, IsNoSetting, IsNotTold, IsOutOfMemory};
+    ghost use Rattle.papergrid_builder.specs.Layouts.{IsCellAnswer, IsFoundTable, IsNoFoundTable, IsPlaceAnswer, certificate_along, sizes_along, totals_of};
     ghost use Rattle.papergrid_builder.specs.Pictures.{IsDrawingOf, IsNotDrawn};
-    ghost use Rattle.papergrid_builder.specs.Told.{FoundTable, empty_table, with_row_end};
+    ghost use Rattle.papergrid_builder.specs.Told.{FoundTable, blank_table, with_row_end};
     ghost use Rattle.papergrid_builder.specs.declared.error.BuilderError.TheVariants.{BadSetting, Memory, NotAscii, NotText, OutOfRange};
 
     /// A table of which nothing was told. It does not allocate.
     pub fn new(alloc: Global) -> Builder
-        ensures { result ≡ empty_table }
+        ensures { result ≡ blank_table }
     {
         Builder {
             settings: Vec::new(alloc),
@@ -80,7 +80,7 @@ impl Builder {
     ///
     /// `OutOfRange` exactly where the setting is not in range (`Setting::is_in_range`); else `Memory`.
     pub fn push_setting(&mut self, setting: Setting) -> Result<(), BuilderError>
-        ensures ok { OnOk result (HasSetting self.old self.new setting) }
+        ensures ok { OnOk result (GainsSetting self.old self.new setting) }
         ensures refused { IfErr result (IsNotTold setting) }
         ensures err { OnErr result (self.new ≡ self.old) }
     {
@@ -100,7 +100,7 @@ impl Builder {
     /// `BadSetting` where it is no JSON in UTF-8, has no name that is known, or has values that are not those of that name or not in
     /// range; `Memory`.
     pub fn read_setting(&mut self, alloc: Global, json: &[u8]) -> Result<(), BuilderError>
-        ensures ok { OnOk result ((setting : Setting) × HasSetting self.old self.new setting) }
+        ensures ok { OnOk result ((setting : Setting) × GainsSetting self.old self.new setting) }
         ensures refused { IfErr result IsNoSetting }
         ensures err { OnErr result (self.new ≡ self.old) }
     {
@@ -117,7 +117,7 @@ impl Builder {
     ///
     /// `NotText` exactly where the bytes are not UTF-8; else `Memory`.
     pub fn push_cell(&mut self, text: &[u8]) -> Result<(), BuilderError>
-        ensures ok { OnOk result (HasCell text.now self.old self.new) }
+        ensures ok { OnOk result (GainsCell text.now self.old self.new) }
         ensures refused { IfErr result (IsNoCell text.now) }
         ensures err { OnErr result (self.new ≡ self.old) }
     {
@@ -160,7 +160,7 @@ impl Builder {
     /// `NotAscii` exactly where one of the bytes that end cells and rows is not ASCII, else `NotText` exactly where the text is not UTF-8;
     /// else `Memory`.
     pub fn push_rows(&mut self, text: &[u8], cell_end: u8, row_end: u8) -> Result<(), BuilderError>
-        ensures ok { OnOk result (HasRows cell_end row_end text.now self.old self.new) }
+        ensures ok { OnOk result (GainsRows cell_end row_end text.now self.old self.new) }
         ensures refused { IfErr result (AreNoRows cell_end row_end text.now) }
         ensures err { OnErr result (self.new ≡ self.old) }
     {
@@ -213,10 +213,10 @@ impl Builder {
         sizing: Sizing,
     ) -> Result<(usize, usize), BuilderError>
         ensures ok { IfOk result (λ totals. (found : FoundTable)
-            × IsLaidOut self.old.settings self.old.rows sizing found
+            × IsFoundTable self.old.settings self.old.rows sizing found
             × (totals ≡ totals_of found.parts)
             × (self.new ≡ record self.old { found = Some found })) }
-        ensures fault { IfErr result (IsNotLaidOut self.old.settings self.old.rows sizing) }
+        ensures fault { IfErr result (IsNoFoundTable self.old.settings self.old.rows sizing) }
         ensures err { OnErr result (self.new ≡ self.old) }
     {
         let (found, totals) = found_by(alloc, &self.settings, &self.cells, &self.starts, sizing)?;
@@ -230,7 +230,7 @@ impl Builder {
         ensures exact { option_map (λ sizes. sizes.now) result
             ≡ option_map (sizes_along direction) self.now.found }
         ensures current { IfSome self.now.found (λ found. (sizing : Sizing)
-            × IsLaidOut self.now.settings self.now.rows sizing found) }
+            × IsFoundTable self.now.settings self.now.rows sizing found) }
     {
         let found = self.found.as_ref()?;
         Some(match direction {
@@ -247,7 +247,7 @@ impl Builder {
         ensures exact { option_map (λ places. places.now) result
             ≡ option_and_then (certificate_along direction) self.now.found }
         ensures current { IfSome self.now.found (λ found. (sizing : Sizing)
-            × IsLaidOut self.now.settings self.now.rows sizing found) }
+            × IsFoundTable self.now.settings self.now.rows sizing found) }
     {
         let certified = &self.found.as_ref()?.certified;
         let places = match direction {
@@ -269,7 +269,7 @@ impl Builder {
     pub fn place(&self, alloc: Global, position: Position) -> Result<Place, BuilderError>
         ensures exact { IsPlaceAnswer self.now.found position result }
         ensures current { IfSome self.now.found (λ found. (sizing : Sizing)
-            × IsLaidOut self.now.settings self.now.rows sizing found) }
+            × IsFoundTable self.now.settings self.now.rows sizing found) }
     {
         match &self.found {
             Some(found) => place_by(alloc, found, position),
@@ -293,7 +293,7 @@ impl Builder {
     ) -> Result<Option<Position>, BuilderError>
         ensures exact { IsCellAnswer self.now.found column line result }
         ensures current { IfSome self.now.found (λ found. (sizing : Sizing)
-            × IsLaidOut self.now.settings self.now.rows sizing found) }
+            × IsFoundTable self.now.settings self.now.rows sizing found) }
     {
         match &self.found {
             Some(found) => cell_by(alloc, found, column, line),

@@ -7,7 +7,7 @@ ghost use Rattle.papergrid.specs.Pictures.{IsDrawingWith};
 ghost use Rattle.papergrid_json.specs.Documents.{AreInRange};
 ghost use Rattle.papergrid_builder.specs.Pictures.{IsDrawingOf, IsNotDrawn};
 ghost use Rattle.papergrid_builder.specs.Told.{longest};
-ghost use Rattle.papergrid_builder.specs.ForProofs.Sizes.{IsUndrawn};
+ghost use Rattle.papergrid_builder.specs.ForProofs.Sizes.{IsPictureRefused};
 ghost use Rattle.papergrid_builder.specs.ForProofs.Texts.{AreStarts, rows_lent, rows_told};
 
 use crate::byte_sink::ByteSink;
@@ -56,7 +56,7 @@ fn drawn_by(
     ensures ok { IfOk result (λ picture. (d : Drawing)
         × IsDrawingWith (longest (rows_lent rows.now)) (rows_lent rows.now) sizing config.now d
         × (picture.items ≡ lined d)) }
-    ensures err { IfErr result (IsUndrawn config.now (rows_lent rows.now) sizing) }
+    ensures err { IfErr result (IsPictureRefused config.now (rows_lent rows.now) sizing) }
 {
     let columns = longest_of(rows);
     let records = IterRecords::new(Vec::from_slice(alloc, rows)?, columns, Some(rows.len()));

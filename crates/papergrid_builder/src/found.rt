@@ -5,8 +5,8 @@ ghost use Rattle.papergrid_values.specs.declared.direction.Direction.{Direction}
 ghost use Rattle.papergrid_layout.specs.Tables.{view_of};
 ghost use Rattle.papergrid_layout.specs.Places.{total_along};
 ghost use Rattle.papergrid_json.specs.Documents.{AreInRange};
-ghost use Rattle.papergrid_builder.specs.Layouts.{IsCellBy, IsLaidOut, IsNotLaidOut, IsPlacedBy, IsSized, totals_of};
-ghost use Rattle.papergrid_builder.specs.ForProofs.Kept.{found_of, parts_of};
+ghost use Rattle.papergrid_builder.specs.Layouts.{IsCellBy, IsFoundTable, IsNoFoundTable, IsPlacedBy, AreFoundSizes, totals_of};
+ghost use Rattle.papergrid_builder.specs.ForProofs.Kept.{found_of, found_parts};
 ghost use Rattle.papergrid_builder.specs.ForProofs.Sizes.{IsUnfound};
 ghost use Rattle.papergrid_builder.specs.ForProofs.Texts.{AreStarts, rows_lent, rows_told};
 
@@ -40,10 +40,10 @@ pub fn found_by(
 ) -> Result<(Found, (usize, usize)), BuilderError>
     requires in_range { AreInRange settings.now.items }
     requires starts { AreStarts (length cells.now) starts.now }
-    ensures ok { IfOk result (λ found. IsLaidOut settings.now.items
+    ensures ok { IfOk result (λ found. IsFoundTable settings.now.items
         (rows_told cells.now starts.now) sizing (found_of found.0)) }
-    ensures totals { IfOk result (λ found. found.1 ≡ totals_of (parts_of found.0)) }
-    ensures err { IfErr result (IsNotLaidOut settings.now.items
+    ensures totals { IfOk result (λ found. found.1 ≡ totals_of (found_parts found.0)) }
+    ensures err { IfErr result (IsNoFoundTable settings.now.items
         (rows_told cells.now starts.now) sizing) }
 {
     let texts = cells.texts(alloc)?;
@@ -59,10 +59,10 @@ fn found_in(
     sizing: Sizing,
 ) -> Result<(Found, (usize, usize)), BuilderError>
     requires { AreInRange settings.now.items }
-    ensures ok { IfOk result (λ found. IsLaidOut settings.now.items (rows_lent rows.now)
+    ensures ok { IfOk result (λ found. IsFoundTable settings.now.items (rows_lent rows.now)
         sizing (found_of found.0)) }
-    ensures totals { IfOk result (λ found. found.1 ≡ totals_of (parts_of found.0)) }
-    ensures err { IfErr result (IsNotLaidOut settings.now.items (rows_lent rows.now) sizing) }
+    ensures totals { IfOk result (λ found. found.1 ≡ totals_of (found_parts found.0)) }
+    ensures err { IfErr result (IsNoFoundTable settings.now.items (rows_lent rows.now) sizing) }
 {
     let config = configuration(alloc, settings)?;
     let certified = certified_by(alloc, &config, rows, sizing)?;
@@ -78,7 +78,7 @@ fn certified_by(
     rows: &[&[&str]],
     sizing: Sizing,
 ) -> Result<Certified, BuilderError>
-    ensures ok { IfOk result (λ certified. IsSized (rows_lent rows.now) sizing
+    ensures ok { IfOk result (λ certified. AreFoundSizes (rows_lent rows.now) sizing
         (found_of (record { config = config.now; certified = certified }))) }
     ensures err { IfErr result (IsUnfound config.now (rows_lent rows.now) sizing) }
 {
@@ -90,8 +90,8 @@ fn certified_by(
 /// The total width and the total height, with all lines.
 fn totals(alloc: Global, found: &Found) -> Result<(usize, usize), AllocError>
     requires { (direction : Direction) →
-        total_along (view_of (parts_of found.now)) direction < 2 ^ 64 }
-    ensures { IfOk result (λ totals. totals ≡ totals_of (parts_of found.now)) }
+        total_along (view_of (found_parts found.now)) direction < 2 ^ 64 }
+    ensures { IfOk result (λ totals. totals ≡ totals_of (found_parts found.now)) }
 {
     let table = table_of(alloc, found)?;
     Ok((table.width(), table.height()))
@@ -100,8 +100,8 @@ fn totals(alloc: Global, found: &Found) -> Result<(usize, usize), AllocError>
 /// The table of what was found.
 fn table_of(alloc: Global, found: &Found) -> Result<Table<'_>, AllocError>
     requires { (direction : Direction) →
-        total_along (view_of (parts_of found.now)) direction < 2 ^ 64 }
-    ensures { IfOk result (λ table. table ≡ parts_of found.now) }
+        total_along (view_of (found_parts found.now)) direction < 2 ^ 64 }
+    ensures { IfOk result (λ table. table ≡ found_parts found.now) }
 {
     let Certified {
         widths,
@@ -117,8 +117,8 @@ fn table_of(alloc: Global, found: &Found) -> Result<Table<'_>, AllocError>
 /// Where the cell at a position stands by what was found.
 pub fn place_by(alloc: Global, found: &Found, position: Position) -> Result<Place, BuilderError>
     requires { (direction : Direction) →
-        total_along (view_of (parts_of found.now)) direction < 2 ^ 64 }
-    ensures { IsPlacedBy (parts_of found.now) position result }
+        total_along (view_of (found_parts found.now)) direction < 2 ^ 64 }
+    ensures { IsPlacedBy (found_parts found.now) position result }
 {
     let table = table_of(alloc, found)?;
     match table.place(position) {
@@ -138,8 +138,8 @@ pub fn cell_by(
     line: usize,
 ) -> Result<Option<Position>, BuilderError>
     requires { (direction : Direction) →
-        total_along (view_of (parts_of found.now)) direction < 2 ^ 64 }
-    ensures { IsCellBy (parts_of found.now) column line result }
+        total_along (view_of (found_parts found.now)) direction < 2 ^ 64 }
+    ensures { IsCellBy (found_parts found.now) column line result }
 {
     let table = table_of(alloc, found)?;
     Ok(table.cell_at(column, line))

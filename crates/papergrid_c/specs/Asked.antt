@@ -7,7 +7,7 @@ use Rattle.papergrid_layout.specs.declared.sizing.Sizing.{Sizing}
 use Rattle.papergrid_layout.specs.declared.sizing.Sizing.TheVariants.{ByShares, Least}
 use Rattle.papergrid_draw.specs.Drawings.{Drawing}
 use Rattle.papergrid_grid.specs.Lined.{lined}
-use Rattle.papergrid_builder.specs.Layouts.{IsCellAnswer, IsLaidOut, IsNotLaidOut, IsPlaceAnswer, certificate_along, sizes_along, totals_of}
+use Rattle.papergrid_builder.specs.Layouts.{IsCellAnswer, IsFoundTable, IsNoFoundTable, IsPlaceAnswer, certificate_along, sizes_along, totals_of}
 use Rattle.papergrid_builder.specs.Pictures.{IsDrawingOf, IsNotDrawn}
 use Rattle.papergrid_builder.specs.Told.{FoundTable, ToldTable}
 use Rattle.papergrid_builder.specs.declared.error.BuilderError.{BuilderError}
@@ -33,13 +33,13 @@ sizing_of least = if least == 0 then ByShares else Least
 -- the total width and height by sizes that are found of the table and kept; or why there are none
 abbrev pub Estimates : Sizing → ToldTable → ℕ × ℕ → ToldTable → ℕ × ℕ → ℤ → Type 0
 Estimates sizing old lent new told result =
-    ((found : FoundTable) × IsLaidOut old.settings old.rows sizing found × (new ≡ record old { found = Some found })
+    ((found : FoundTable) × IsFoundTable old.settings old.rows sizing found × (new ≡ record old { found = Some found })
     × (told ≡ totals_of found.parts) × (result ≡ done))
-    ⊎ ((e : BuilderError) × IsNotLaidOut old.settings old.rows sizing e × (new ≡ old) × (told ≡ lent) × (result ≡ number_of e))
+    ⊎ ((e : BuilderError) × IsNoFoundTable old.settings old.rows sizing e × (new ≡ old) × (told ≡ lent) × (result ≡ number_of e))
 
 -- sizes that were found are those of the table as it is told
 abbrev pub AreCurrent : ToldTable → Type 0
-AreCurrent table = IfSome table.found (λ found. (sizing : Sizing) × IsLaidOut table.settings table.rows sizing found)
+AreCurrent table = IfSome table.found (λ found. (sizing : Sizing) × IsFoundTable table.settings table.rows sizing found)
 
 -- a screen rectangle as C has it
 abbrev pub place_for_c : Place → PapergridPlace
@@ -71,17 +71,17 @@ TellsCell column line table lent told result =
     (answer : Result (Option Position) BuilderError) × IsCellAnswer table.found column line answer × AreCurrent table × IsToldCell answer lent told result
 
 -- the cell of which an error speaks
-abbrev pub cell_of : BuilderError → PapergridPosition → PapergridPosition
-cell_of (OutOfTable p) lent = position_for_c p
-cell_of (NotTiled p) lent = position_for_c p
-cell_of e lent = lent
+abbrev pub cell_of_error : BuilderError → PapergridPosition → PapergridPosition
+cell_of_error (OutOfTable p) lent = position_for_c p
+cell_of_error (NotTiled p) lent = position_for_c p
+cell_of_error e lent = lent
 
 -- the picture is kept, and its length told; or why there is none, and the cell of which that speaks
-abbrev pub Draws : Sizing → ToldTable → ℕ × PapergridPosition → ToldTable → ℕ × PapergridPosition → ℤ → Type 0
-Draws sizing old lent new told result =
+abbrev pub DrawsPicture : Sizing → ToldTable → ℕ × PapergridPosition → ToldTable → ℕ × PapergridPosition → ℤ → Type 0
+DrawsPicture sizing old lent new told result =
     ((d : Drawing) × IsDrawingOf old.settings old.rows sizing d × (new ≡ record old { picture = lined d })
     × (told ≡ (length (lined d), lent.1)) × (result ≡ done))
-    ⊎ ((e : BuilderError) × IsNotDrawn old.settings old.rows sizing e × (new ≡ old) × (told ≡ (lent.0, cell_of e lent.1)) × (result ≡ number_of e))
+    ⊎ ((e : BuilderError) × IsNotDrawn old.settings old.rows sizing e × (new ≡ old) × (told ≡ (lent.0, cell_of_error e lent.1)) × (result ≡ number_of e))
 
 -- values written to the front of what is lent, where they fit
 abbrev pub TellsInFront : {A : Type 0} → List A → List A → List A → ℤ → Type 0

@@ -1,8 +1,8 @@
 -- What calls do to the table of a handle.
 use Rattle.std.specs.Prelude.{◌≡◌, ◌⊎◌, ℕ, ℤ, List, Option, None, Some}
 use Rattle.papergrid_config.specs.declared.setting.Setting.{Setting}
-use Rattle.papergrid_builder.specs.Calls.{AreNoRows, HasCell, HasRows, HasSetting, IsNoCell, IsNoSetting, IsNotTold, IsOutOfMemory}
-use Rattle.papergrid_builder.specs.Told.{ToldTable, empty_table, with_row_end}
+use Rattle.papergrid_builder.specs.Calls.{AreNoRows, GainsCell, GainsRows, GainsSetting, IsNoCell, IsNoSetting, IsNotTold, IsOutOfMemory}
+use Rattle.papergrid_builder.specs.Told.{ToldTable, blank_table, with_row_end}
 use Rattle.papergrid_builder.specs.declared.error.BuilderError.{BuilderError}
 use Rattle.papergrid_builder.specs.declared.error.BuilderError.TheVariants.{Memory}
 use Rattle.papergrid_c.specs.Numbers.{bad_value, done, no_table, number_of}
@@ -20,11 +20,11 @@ Ends Done Refused old new result =
 -- a table of which nothing was told; or memory is refused, and there is none
 abbrev pub Makes : Option ToldTable → ℤ → Type 0
 Makes None result = result ≡ number_of Memory
-Makes (Some table) result = (table ≡ empty_table) × (result ≡ done)
+Makes (Some table) result = (table ≡ blank_table) × (result ≡ done)
 
 -- one more cell of this text
 abbrev pub PushesCell : List ℕ → ToldTable → ToldTable → ℤ → Type 0
-PushesCell text old = Ends (HasCell text old) (IsNoCell text) old
+PushesCell text old = Ends (GainsCell text old) (IsNoCell text) old
 
 -- the next cell begins a new row
 abbrev pub EndsRow : ToldTable → ToldTable → ℤ → Type 0
@@ -32,13 +32,13 @@ EndsRow old = Ends (λ new. new ≡ with_row_end old) IsOutOfMemory old
 
 -- the rows that a text is cut into as more rows
 abbrev pub PushesRows : ℕ → ℕ → List ℕ → ToldTable → ToldTable → ℤ → Type 0
-PushesRows cell_end row_end text old = Ends (HasRows cell_end row_end text old) (AreNoRows cell_end row_end text) old
+PushesRows cell_end row_end text old = Ends (GainsRows cell_end row_end text old) (AreNoRows cell_end row_end text) old
 
 -- one more setting, which some JSON text says
 abbrev pub ReadsSetting : ToldTable → ToldTable → ℤ → Type 0
-ReadsSetting old = Ends (λ new. (setting : Setting) × HasSetting old new setting) IsNoSetting old
+ReadsSetting old = Ends (λ new. (setting : Setting) × GainsSetting old new setting) IsNoSetting old
 
 -- one more setting; none where the values make none
 abbrev pub Sets : Option Setting → ToldTable → ToldTable → ℤ → Type 0
 Sets None old new result = (new ≡ old) × (result ≡ bad_value)
-Sets (Some setting) old new result = Ends (λ after. HasSetting old after setting) (IsNotTold setting) old new result
+Sets (Some setting) old new result = Ends (λ after. GainsSetting old after setting) (IsNotTold setting) old new result

@@ -54,12 +54,12 @@ abbrev pub are_parts : ℕ → List ℕ → Bool
 are_parts count cs = length cs == count && list_all scalar cs
 
 -- the character with this number; 0 is none
-abbrev pub part_of : ℕ → Option ℕ
-part_of c = if c == 0 then None else if scalar c then Some c else None
+abbrev pub character_part : ℕ → Option ℕ
+character_part c = if c == 0 then None else if scalar c then Some c else None
 
 -- the character at a place of a list of numbers
 abbrev pub part_at : List ℕ → ℕ → Option ℕ
-part_at cs i = part_of (slice_index cs i)
+part_at cs i = character_part (slice_index cs i)
 
 -- the frame of these characters, in the order of the fields of `Borders`
 abbrev pub borders_setting : List ℕ → Option Setting

@@ -1,7 +1,7 @@
 //! The picture of a table.
 
 ghost use Rattle.std.specs.Prelude.{◌≡◌};
-ghost use Rattle.papergrid_c.specs.Asked.{AsksTable, Draws, TellsOfTable, TellsPicture, cell_of, sizing_of};
+ghost use Rattle.papergrid_c.specs.Asked.{AsksTable, DrawsPicture, TellsOfTable, TellsPicture, cell_of_error, sizing_of};
 
 use crate::handle::Handle;
 use crate::numbers::{DONE, NO_ROOM, NO_TABLE, number_of};
@@ -21,7 +21,7 @@ pub extern "C" fn papergrid_draw(
     length: &mut usize,
     at: &mut PapergridPosition,
 ) -> i32
-    ensures { TellsOfTable (Draws (sizing_of least)) handle.old.held (length.old, at.old)
+    ensures { TellsOfTable (DrawsPicture (sizing_of least)) handle.old.held (length.old, at.old)
         handle.new.held (length.new, at.new) result }
 {
     match handle.take(alloc) {
@@ -41,7 +41,7 @@ fn draw(
     length: &mut usize,
     at: &mut PapergridPosition,
 ) -> i32
-    ensures { Draws sizing builder.old (length.old, at.old) builder.new
+    ensures { DrawsPicture sizing builder.old (length.old, at.old) builder.new
         (length.new, at.new) result }
 {
     match builder.draw(alloc, sizing) {
@@ -58,7 +58,7 @@ fn draw(
 
 /// The cell of which an error speaks, or else the other.
 fn cell_of(error: BuilderError, other: PapergridPosition) -> PapergridPosition
-    ensures { result ≡ cell_of error other }
+    ensures { result ≡ cell_of_error error other }
 {
     match error {
         BuilderError::OutOfTable(position) | BuilderError::NotTiled(position) => {

@@ -17,6 +17,6 @@ IsOfDocument output =
     × ((d : Drawing) × IsDocumentDrawing document ByShares d × (output ≡ lined d))
 
 -- the text tells no table, or the table has no picture
-abbrev pub IsRefused : TableError → Type 0
-IsRefused (Unread e) = ⊤
-IsRefused (Undrawn e) = IsRefusal e
+abbrev pub IsTableRefused : TableError → Type 0
+IsTableRefused (Unread e) = ⊤
+IsTableRefused (Undrawn e) = IsRefusal e

@@ -16,12 +16,12 @@ abbrev pub cells_of : {A : Type 0} → List (Vec A Global) → List (List A)
 cells_of rows = map (λ row. row.items) rows
 
 -- the width and the height of a text, by its lines
-abbrev pub text_measure : Bor (List ℕ) → ℕ × ℕ
-text_measure text = line_measure (λ (t : Bor (List ℕ)). t.now) text
+abbrev pub lent_measure : Bor (List ℕ) → ℕ × ℕ
+lent_measure text = line_measure (λ (t : Bor (List ℕ)). t.now) text
 
 -- what the widths, or the heights, of rows of texts are found for, of so many columns and by a configuration
 abbrev pub texts_problem : SpannedConfig → ℕ → List (Vec (Bor (List ℕ)) Global) → Direction → Problem
-texts_problem config columns rows direction = problem_of (spanned_grid config) text_measure columns (cells_of rows) direction
+texts_problem config columns rows direction = problem_of (spanned_grid config) lent_measure columns (cells_of rows) direction
 
 -- the width and the number of lines that a text keeps
 abbrev pub kept_measure : Measured (Bor (List ℕ)) → ℕ × ℕ

@@ -10,7 +10,7 @@ ghost use Rattle.papergrid_walk.specs.Cells.{problem_of};
 ghost use Rattle.papergrid_maps.specs.Grids.{compact_grid};
 ghost use Rattle.papergrid_config.specs.Grids.{spanned_grid};
 ghost use Rattle.papergrid_walk.specs.Measures.{std_line_measure};
-ghost use Rattle.papergrid_checks.specs.Rows.{cells_of, kept_measure, text_measure};
+ghost use Rattle.papergrid_checks.specs.Rows.{cells_of, kept_measure, lent_measure};
 
 use papergrid::config::compact::CompactConfig;
 use papergrid::config::spanned::SpannedConfig;
@@ -59,8 +59,8 @@ pub fn of_crossing(
 ) -> Result<(Vec<usize>, Vec<usize>), LayoutError>
     ensures { let grid = spanned_grid config.now in
         MatchResult result
-        (λ sizes. AreBothLeast grid text_measure 3 (cells_of rows.now) sizes.0.items sizes.1.items)
-        (HaveNoLeast grid text_measure 3 (cells_of rows.now)) }
+        (λ sizes. AreBothLeast grid lent_measure 3 (cells_of rows.now) sizes.0.items sizes.1.items)
+        (HaveNoLeast grid lent_measure 3 (cells_of rows.now)) }
 {
     let mut dimension = LeastGridDimension::new(alloc);
     dimension.estimate(IterRecords::new(rows, 3, None), config)?;

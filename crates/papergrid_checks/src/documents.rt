@@ -2,7 +2,7 @@
 
 ghost use Rattle.std.specs.Prelude.{◌≡◌, IfErr, List, OnErr, OnOk, ℕ};
 ghost use Rattle.std.specs.Io.KnownBytes.{Appends};
-ghost use Rattle.papergrid_checks.specs.Documents.{IsOfDocument, IsRefused};
+ghost use Rattle.papergrid_checks.specs.Documents.{IsOfDocument, IsTableRefused};
 ghost use Rattle.papergrid_checks.specs.Written.{AppendsBeginning};
 
 use papergrid::grid::DrawError;
@@ -26,7 +26,7 @@ pub enum TableError {
 pub fn json_table<W: Sink>(alloc: Global, text: &[u8], writer: &mut W) -> Result<(), TableError>
     ensures picture { OnOk result ((output : List ℕ) × IsOfDocument output
         × Appends (W.contents writer.old) (W.contents writer.new) output) }
-    ensures nothing { IfErr result (λ e. IsRefused e → writer.new ≡ writer.old) }
+    ensures nothing { IfErr result (λ e. IsTableRefused e → writer.new ≡ writer.old) }
     ensures beginning { OnErr result (AppendsBeginning IsOfDocument
         (W.contents writer.old) (W.contents writer.new)) }
 {

@@ -6,7 +6,7 @@ ghost use Rattle.papergrid_layout.specs.Answers.{UnlessMemory};
 ghost use Rattle.papergrid_layout.specs.Places.{Covers, HasPlace, HaveAllPlaces, IsPlaced, table_by};
 ghost use Rattle.papergrid_layout.specs.Tables.{IsTableOf, line_position, view_of};
 ghost use Rattle.papergrid_layout.specs.declared.sizing.Sizing.TheVariants.{Least};
-ghost use Rattle.papergrid_checks.specs.Rows.{cells_of, text_measure};
+ghost use Rattle.papergrid_checks.specs.Rows.{cells_of, lent_measure};
 
 use papergrid::config::Position;
 use papergrid::config::spanned::SpannedConfig;
@@ -22,7 +22,7 @@ pub fn least_table<'a>(
     rows: &[Vec<&str>],
 ) -> Result<Table<'a>, LayoutError>
     ensures { UnlessMemory result
-        (IsTableOf config.now text_measure 3 (cells_of rows.now) Least result) }
+        (IsTableOf config.now lent_measure 3 (cells_of rows.now) Least result) }
 {
     Table::new(
         alloc,

@@ -8,7 +8,7 @@ ghost use Rattle.papergrid_config.specs.History.{HasSettingHistory};
 ghost use Rattle.papergrid_maps.specs.StoredMap.{stored_value};
 ghost use Rattle.papergrid_values.specs.declared.position.Position.{Position};
 ghost use Rattle.papergrid_checks.specs.Lines.{line_settings};
-ghost use Rattle.papergrid_checks.specs.Rows.{cells_of, text_measure};
+ghost use Rattle.papergrid_checks.specs.Rows.{cells_of, lent_measure};
 
 use papergrid::config::spanned::{Setting, SpannedConfig, Stopped};
 use papergrid::config::{
@@ -60,7 +60,7 @@ pub fn laid_out(
     rows: &[Vec<&str>],
 ) -> Result<IterGridDimension, LayoutError>
     requires { All (λ setting. is_in_range setting ≡ true) settings.items }
-    ensures { IsLaidOut (grid_of settings.items) text_measure 3 (cells_of rows.now) result }
+    ensures { IsLaidOut (grid_of settings.items) lent_measure 3 (cells_of rows.now) result }
 {
     layout(alloc, settings, IterRecords::new(rows, 3, None))
 }

@@ -9,7 +9,7 @@ ghost use Rattle.papergrid_values.specs.declared.direction.Direction.TheVariants
 ghost use Rattle.papergrid_walk.specs.Cells.{problem_of, side, visible_cells};
 ghost use Rattle.papergrid_config.specs.Grids.{spanned_grid};
 ghost use Rattle.papergrid_walk.specs.Measures.{line_measure};
-ghost use Rattle.papergrid_checks.specs.Rows.{cells_of, text_measure, texts_problem};
+ghost use Rattle.papergrid_checks.specs.Rows.{cells_of, lent_measure, texts_problem};
 
 use papergrid::config::spanned::SpannedConfig;
 use papergrid::dimension::iterable::IterGridDimension;
@@ -25,7 +25,7 @@ pub fn sizes(
     rows: &[Vec<&str>],
     config: &SpannedConfig,
 ) -> Result<(Vec<usize>, Vec<usize>), LayoutError>
-    ensures { AreBothSized (spanned_grid config.now) text_measure 3 (cells_of rows.now) result }
+    ensures { AreBothSized (spanned_grid config.now) lent_measure 3 (cells_of rows.now) result }
 {
     let mut dimension = IterGridDimension::new(alloc);
     dimension.estimate(IterRecords::new(rows, 3, None), config)?;
@@ -40,7 +40,7 @@ pub fn first_width(
 ) -> Result<usize, LayoutError>
     ensures { let problem = texts_problem config.now 3 rows.now Columns in
         MatchResult result (λ width. width ≡ slice_index (sizes_of problem) 0)
-        (IsBothRefused (spanned_grid config.now) text_measure 3 (cells_of rows.now)) }
+        (IsBothRefused (spanned_grid config.now) lent_measure 3 (cells_of rows.now)) }
 {
     let mut dimension = IterGridDimension::new(alloc);
     dimension.estimate(IterRecords::new(rows, 3, None), config)?;

@@ -9,7 +9,9 @@ use Rattle.papergrid.specs.Pictures.{IsRefusal}
 use Rattle.papergrid.specs.declared.running.RunFault.{RunFault}
 use Rattle.papergrid.specs.declared.running.RunFault.TheVariants as run_faults
 use Rattle.papergrid.proofs.PictureLemmas.{same-writer}
-use Rattle.papergrid_csv.specs.ForProofs.Drawn.{HasBegun, HasEnded, IsBrokenOff, IsSteady, Runs, end_refused}
+use Rattle.papergrid.specs.ForProofs.Drawn.{HasBegun, IsSteady}
+use Rattle.papergrid_draw.specs.ForProofs.Sinks.{HasEnded}
+use Rattle.papergrid_csv.specs.ForProofs.Drawn.{IsCsvBrokenOff, RunsCsv, end_refused}
 use Rattle.papergrid_csv.specs.declared.run.CsvEnd.{CsvEnd}
 use Rattle.papergrid_csv.specs.declared.run.CsvEnd.TheVariants.{Drawn, Refused}
 
@@ -20,7 +22,7 @@ appends-none (Some x) = sym (append-nil x)
 module _ {W : Type 0} (contents : W → Option (List ℕ)) (has_failed has_stalled : W → Bool) where
   -- a run whose output is so, where another way to say it follows
   pub runs-also : (IsSo IsAlso : CsvEnd → List ℕ → Type 0) → ((end : CsvEnd) (output : List ℕ) → IsSo end output → IsAlso end output) → (old new : W) (result : Result CsvEnd RunFault) →
-      Runs contents has_failed has_stalled IsSo old new result → Runs contents has_failed has_stalled IsAlso old new result
+      RunsCsv contents has_failed has_stalled IsSo old new result → RunsCsv contents has_failed has_stalled IsAlso old new result
   runs-also IsSo IsAlso follows old new (Ok end) so = (so.0, follows end so.0 so.1, so.2)
   runs-also IsSo IsAlso follows old new (Err fault) so = record {
     not_read = so.not_read;
@@ -33,7 +35,7 @@ module _ {W : Type 0} (contents : W → Option (List ℕ)) (has_failed has_stall
   }
 
   -- where an allocation failed, no write did
-  pub runs-steady : (IsSo : CsvEnd → List ℕ → Type 0) (old new : W) (result : Result CsvEnd RunFault) → Runs contents has_failed has_stalled IsSo old new result →
+  pub runs-steady : (IsSo : CsvEnd → List ℕ → Type 0) (old new : W) (result : Result CsvEnd RunFault) → RunsCsv contents has_failed has_stalled IsSo old new result →
       IsErrOf result run_faults.Memory → IsSteady contents has_failed has_stalled old new
   runs-steady IsSo old new (Ok end) so is = absurd (let none : ⊥ = cc in none)
   runs-steady IsSo old new (Err fault) so is =
@@ -41,18 +43,18 @@ module _ {W : Type 0} (contents : W → Option (List ℕ)) (has_failed has_stall
       elim so.steady [ inl write ↦ absurd (let none : ⊥ = cc in none) | inr steady ↦ steady ]
 
   -- what broke off was a picture, or nothing of it was written
-  pub runs-begun : (IsSo : CsvEnd → List ℕ → Type 0) (old new : W) (result : Result CsvEnd RunFault) → Runs contents has_failed has_stalled IsSo old new result →
+  pub runs-begun : (IsSo : CsvEnd → List ℕ → Type 0) (old new : W) (result : Result CsvEnd RunFault) → RunsCsv contents has_failed has_stalled IsSo old new result →
       OnErr result ((new ≡ old) ⊎ ((output : List ℕ) × IsSo Drawn output × HasBegun contents has_failed has_stalled old new output))
   runs-begun IsSo old new (Ok end) so = tt
   runs-begun IsSo old new (Err fault) so = so.beginning
 
   module _ (IsSo : CsvEnd → List ℕ → Type 0) where
     -- nothing was written, as it should be
-    pub run-silent : (w : W) (end : CsvEnd) → IsSo end [] → Runs contents has_failed has_stalled IsSo w w (Ok end)
+    pub run-silent : (w : W) (end : CsvEnd) → IsSo end [] → RunsCsv contents has_failed has_stalled IsSo w w (Ok end)
     run-silent w end so = ([], so, record { taken = appends-none (contents w); works = refl; moves = refl; silent = λ _. refl })
 
     -- memory was refused before
-    pub run-no_memory : (w : W) → IsBrokenOff contents has_failed has_stalled IsSo w w run_faults.Memory
+    pub run-no_memory : (w : W) → IsCsvBrokenOff contents has_failed has_stalled IsSo w w run_faults.Memory
     run-no_memory w = record {
       not_read = λ is. absurd (let none : ⊥ = cc in none);
       beginning = inl refl;
@@ -61,7 +63,7 @@ module _ {W : Type 0} (contents : W → Option (List ℕ)) (has_failed has_stall
     }
 
     -- an error came before anything was written
-    pub run-refused : (w : W) (e : DrawError) → e ≢ draw_errors.Write → (IsRefusal e → IsSo (Refused e) []) → Runs contents has_failed has_stalled IsSo w w (end_refused e)
+    pub run-refused : (w : W) (e : DrawError) → e ≢ draw_errors.Write → (IsRefusal e → IsSo (Refused e) []) → RunsCsv contents has_failed has_stalled IsSo w w (end_refused e)
     run-refused w (draw_errors.OutOfTable p) works so = run-silent w (Refused (draw_errors.OutOfTable p)) (so tt)
     run-refused w (draw_errors.NotTiled p) works so = run-silent w (Refused (draw_errors.NotTiled p)) (so tt)
     run-refused w (draw_errors.NoRoom p) works so = run-silent w (Refused (draw_errors.NoRoom p)) (so tt)
@@ -74,13 +76,13 @@ module _ {W : Type 0} (contents : W → Option (List ℕ)) (has_failed has_stall
 
     -- a picture broke off, or none of it was written
     module _ (old new : W) (output : List ℕ) (drawn : IsSo Drawn output) where
-      refused : (e : DrawError) → IsRefusal e → IsLeft old new e → IsSo (Refused e) [] → Runs contents has_failed has_stalled IsSo old new (Ok (Refused e))
+      refused : (e : DrawError) → IsRefusal e → IsLeft old new e → IsSo (Refused e) [] → RunsCsv contents has_failed has_stalled IsSo old new (Ok (Refused e))
       refused e named left so =
-          subst (λ w. Runs contents has_failed has_stalled IsSo old w (Ok (Refused e))) (sym (same-writer old new e named left)) (run-silent old (Refused e) so)
+          subst (λ w. RunsCsv contents has_failed has_stalled IsSo old w (Ok (Refused e))) (sym (same-writer old new e named left)) (run-silent old (Refused e) so)
 
       pub run-undrawn : (e : DrawError) → (IsRefusal e → IsSo (Refused e) []) → IsLeft old new e → HasBegun contents has_failed has_stalled old new output →
           (e ≡ draw_errors.Write → HasEnded contents has_failed has_stalled old new) → (e ≡ draw_errors.Write) ⊎ IsSteady contents has_failed has_stalled old new →
-          Runs contents has_failed has_stalled IsSo old new (end_refused e)
+          RunsCsv contents has_failed has_stalled IsSo old new (end_refused e)
       run-undrawn (draw_errors.OutOfTable p) so left begun write steady = refused (draw_errors.OutOfTable p) tt left (so tt)
       run-undrawn (draw_errors.NotTiled p) so left begun write steady = refused (draw_errors.NotTiled p) tt left (so tt)
       run-undrawn (draw_errors.NoRoom p) so left begun write steady = refused (draw_errors.NoRoom p) tt left (so tt)

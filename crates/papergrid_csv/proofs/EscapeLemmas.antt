@@ -5,7 +5,7 @@ use Rattle.std.specs.List.{list_any}
 use Rattle.std.proofs.lemmas.Bool.Decides.{nat_tests}
 use Rattle.std.proofs.lemmas.Grind.{flat_map-append}
 use Rattle.std.proofs.lemmas.Str.{encodes-append}
-use Rattle.papergrid_csv.specs.Spelling.{escaped, is_escaped, meant, spelled_character, unescaped}
+use Rattle.papergrid_csv.specs.Spelling.{escaped, is_escaped, meant, spelled_character, without_escapes}
 use Rattle.papergrid_csv.specs.ForProofs.Escapes.{after_backslash}
 use Rattle.papergrid_csv.specs.declared.reading.Format.{Format}
 use Rattle.papergrid_csv.specs.declared.reading.Format.TheVariants.{Tsv}
@@ -14,23 +14,23 @@ use Rattle.papergrid_csv.specs.declared.reading.Reading.{Reading}
 -- ---- what stands for what
 
 -- any other character stands for itself
-plain-first : (c : ℕ) (rest : List ℕ) → c ≢ 0x5C → unescaped (c ∷ rest) ≡ c ∷ unescaped rest
-unfolding unescaped
+plain-first : (c : ℕ) (rest : List ℕ) → c ≢ 0x5C → without_escapes (c ∷ rest) ≡ c ∷ without_escapes rest
+unfolding without_escapes
 plain-first c [] other = refl
 plain-first c (next ∷ rest) other =
     let test : (c == 0x5C) ≡ false = grind (arith, nat_tests) in
     rw test refl
 
-pair-first : (b : Bool) (c : ℕ) (rest : List ℕ) → is_escaped c ≡ b → unescaped (0x5C ∷ c ∷ rest) ≡ after_backslash c ++ unescaped rest
-unfolding unescaped
+pair-first : (b : Bool) (c : ℕ) (rest : List ℕ) → is_escaped c ≡ b → without_escapes (0x5C ∷ c ∷ rest) ≡ after_backslash c ++ without_escapes rest
+unfolding without_escapes
 pair-first true c rest is = rw is refl
 pair-first false c rest is =
     let other : c ≢ 0x5C = λ same. cc (subst (λ d. is_escaped d ≡ false) same is) in
     let plain = plain-first c rest other in
     rw (is, plain) refl
 
-none-escaped : (bs : List ℕ) → list_any (λ b. b == 0x5C) bs ≡ false → unescaped bs ≡ bs
-unfolding unescaped
+none-escaped : (bs : List ℕ) → list_any (λ b. b == 0x5C) bs ≡ false → without_escapes bs ≡ bs
+unfolding without_escapes
 none-escaped [] none = refl
 none-escaped (b ∷ bs) none =
     let first : (b == 0x5C) ≡ false = grind (arith, nat_tests) in
@@ -52,7 +52,7 @@ held_before held rest = cond held (0x5C ∷ rest) rest
 pub record IsSettled (reading : Reading) (yielded : List ℕ) (held : Bool) (text : List ℕ) : Type 0 where
   pub characters : List ℕ
   pub is : text ≡ encode_utf8_all (flat_map (spelled_character reading) characters)
-  pub left : (rest : List ℕ) → unescaped (yielded ++ rest) ≡ characters ++ unescaped (held_before held rest)
+  pub left : (rest : List ℕ) → without_escapes (yielded ++ rest) ≡ characters ++ without_escapes (held_before held rest)
 
 module _ (reading : Reading) where
   pub settled-none : IsSettled reading [] false []
@@ -75,8 +75,8 @@ module _ (reading : Reading) where
     characters = so.characters;
     is = so.is;
     left = λ rest.
-        ap unescaped (append_assoc yielded (c ∷ []) rest) ∙ so.left (c ∷ rest) ∙ ap (λ b. so.characters ++ unescaped (held_before b (c ∷ rest))) none
-        ∙ ap (λ d. so.characters ++ unescaped (d ∷ rest)) is;
+        ap without_escapes (append_assoc yielded (c ∷ []) rest) ∙ so.left (c ∷ rest) ∙ ap (λ b. so.characters ++ without_escapes (held_before b (c ∷ rest))) none
+        ∙ ap (λ d. so.characters ++ without_escapes (d ∷ rest)) is;
   }
 
   -- a character that stands for itself
@@ -86,9 +86,9 @@ module _ (reading : Reading) where
     characters = so.characters ++ c ∷ [];
     is = more-characters so.characters (c ∷ []) old new so.is (is ∙ ap (λ t. old ++ t) (one c));
     left = λ rest.
-        ap unescaped (append_assoc yielded (c ∷ []) rest) ∙ so.left (c ∷ rest) ∙ ap (λ b. so.characters ++ unescaped (held_before b (c ∷ rest))) none
-        ∙ ap (λ l. so.characters ++ l) (plain-first c rest other) ∙ sym (append_assoc so.characters (c ∷ []) (unescaped rest))
-        ∙ ap (λ b. (so.characters ++ c ∷ []) ++ unescaped (held_before b rest)) (sym none);
+        ap without_escapes (append_assoc yielded (c ∷ []) rest) ∙ so.left (c ∷ rest) ∙ ap (λ b. so.characters ++ without_escapes (held_before b (c ∷ rest))) none
+        ∙ ap (λ l. so.characters ++ l) (plain-first c rest other) ∙ sym (append_assoc so.characters (c ∷ []) (without_escapes rest))
+        ∙ ap (λ b. (so.characters ++ c ∷ []) ++ without_escapes (held_before b rest)) (sym none);
   }
 
   -- one after a backslash that was held
@@ -98,26 +98,26 @@ module _ (reading : Reading) where
     characters = so.characters ++ after_backslash c;
     is = more-characters so.characters (after_backslash c) old new so.is is;
     left = λ rest.
-        ap unescaped (append_assoc yielded (c ∷ []) rest) ∙ so.left (c ∷ rest) ∙ ap (λ b. so.characters ++ unescaped (held_before b (c ∷ rest))) some
-        ∙ ap (λ l. so.characters ++ l) (pair-first (is_escaped c) c rest refl) ∙ sym (append_assoc so.characters (after_backslash c) (unescaped rest));
+        ap without_escapes (append_assoc yielded (c ∷ []) rest) ∙ so.left (c ∷ rest) ∙ ap (λ b. so.characters ++ without_escapes (held_before b (c ∷ rest))) some
+        ∙ ap (λ l. so.characters ++ l) (pair-first (is_escaped c) c rest refl) ∙ sym (append_assoc so.characters (after_backslash c) (without_escapes rest));
   }
 
   -- all of them, where none is held
   pub settled-all : (yielded text : List ℕ) (held : Bool) → held ≡ false → IsSettled reading yielded held text →
-      text ≡ encode_utf8_all (flat_map (spelled_character reading) (unescaped yielded))
-  unfolding unescaped
+      text ≡ encode_utf8_all (flat_map (spelled_character reading) (without_escapes yielded))
+  unfolding without_escapes
   settled-all yielded text held none so =
       so.is ∙ ap (λ cs. encode_utf8_all (flat_map (spelled_character reading) cs))
-      (sym (ap unescaped (sym (append-nil yielded)) ∙ so.left [] ∙ ap (λ b. so.characters ++ unescaped (held_before b [])) none ∙ append-nil so.characters))
+      (sym (ap without_escapes (sym (append-nil yielded)) ∙ so.left [] ∙ ap (λ b. so.characters ++ without_escapes (held_before b [])) none ∙ append-nil so.characters))
 
   -- and with one that is
   pub settled-last : (yielded old new : List ℕ) (held : Bool) → held ≡ true → IsSettled reading yielded held old →
-      new ≡ old ++ encode_utf8_all (spelled_character reading 0x5C) → new ≡ encode_utf8_all (flat_map (spelled_character reading) (unescaped yielded))
-  unfolding unescaped
+      new ≡ old ++ encode_utf8_all (spelled_character reading 0x5C) → new ≡ encode_utf8_all (flat_map (spelled_character reading) (without_escapes yielded))
+  unfolding without_escapes
   settled-last yielded old new held some so is =
       more-characters so.characters (0x5C ∷ []) old new so.is (is ∙ ap (λ t. old ++ t) (one 0x5C))
       ∙ ap (λ cs. encode_utf8_all (flat_map (spelled_character reading) cs))
-      (sym (ap unescaped (sym (append-nil yielded)) ∙ so.left [] ∙ ap (λ b. so.characters ++ unescaped (held_before b [])) some))
+      (sym (ap without_escapes (sym (append-nil yielded)) ∙ so.left [] ∙ ap (λ b. so.characters ++ without_escapes (held_before b [])) some))
 
 -- ---- a backslash and what follows it
 

@@ -14,7 +14,7 @@ use Rattle.papergrid_values.specs.declared.position.Position.{Position}
 use Rattle.papergrid_draw.specs.Tiles.{IsFirstPosition}
 use Rattle.papergrid_csv.specs.Numbers.{field_in}
 use Rattle.papergrid_csv.specs.Rows.{row_texts}
-use Rattle.papergrid_csv.specs.Judging.{IsHidden, first_missing, is_found}
+use Rattle.papergrid_csv.specs.Judging.{IsFieldHidden, first_missing, is_found}
 use Rattle.papergrid_csv.specs.ForProofs.Judging.{IsEarlier, IsHiddenBy, IsHiddenIn}
 use Rattle.papergrid_csv.specs.declared.request.Alignment.{Alignment}
 use Rattle.papergrid_csv.specs.declared.request.ColumnName.{ColumnName}
@@ -111,14 +111,14 @@ module _ (spans : List Span) (rows : List (List (List ℕ))) (i : ℕ) (d : Span
   more-spans : take (i + 1) spans ≡ take i spans ++ get_or spans i d ∷ []
   more-spans = take_more spans i d within
 
-  hidden-splits : (p : Position) → IsHidden (take (i + 1) spans) rows p → IsHidden (take i spans) rows p ⊎ IsHiddenBy (get_or spans i d) rows p
+  hidden-splits : (p : Position) → IsFieldHidden (take (i + 1) spans) rows p → IsFieldHidden (take i spans) rows p ⊎ IsHiddenBy (get_or spans i d) rows p
   hidden-splits p h =
       elim (Contains-push_cases (take i spans) (get_or spans i d) h.span (subst (λ l. Contains l h.span) more-spans h.listed)) [
         | inl before ↦ inl (record { span = h.span; listed = before; under = h.under; field = h.field })
         | inr is ↦ inr (subst (λ s. IsHiddenBy s rows p) (sym is) (h.under, h.field))
       ]
 
-  hidden-before : (p : Position) → IsHidden (take i spans) rows p → IsHidden (take (i + 1) spans) rows p
+  hidden-before : (p : Position) → IsFieldHidden (take i spans) rows p → IsFieldHidden (take (i + 1) spans) rows p
   hidden-before p h = record {
     span = h.span;
     listed = subst (λ l. Contains l h.span) (sym more-spans) (Contains-append_left (take i spans) (get_or spans i d ∷ []) h.span h.listed);
@@ -126,7 +126,7 @@ module _ (spans : List Span) (rows : List (List (List ℕ))) (i : ℕ) (d : Span
     field = h.field;
   }
 
-  hidden-here : (p : Position) → IsHiddenBy (get_or spans i d) rows p → IsHidden (take (i + 1) spans) rows p
+  hidden-here : (p : Position) → IsHiddenBy (get_or spans i d) rows p → IsFieldHidden (take (i + 1) spans) rows p
   hidden-here p h = record {
     span = get_or spans i d;
     listed = subst (λ l. Contains l (get_or spans i d)) (sym more-spans) (Contains-push (take i spans) (get_or spans i d));
@@ -134,8 +134,8 @@ module _ (spans : List Span) (rows : List (List (List ℕ))) (i : ℕ) (d : Span
     field = h.1;
   }
 
-  pub span-next : (a b e : Option Position) → MatchOption a ((p : Position) → IsHidden (take i spans) rows p → ⊥) (IsFirstPosition (IsHidden (take i spans) rows)) →
+  pub span-next : (a b e : Option Position) → MatchOption a ((p : Position) → IsFieldHidden (take i spans) rows p → ⊥) (IsFirstPosition (IsFieldHidden (take i spans) rows)) →
       MatchOption b ((p : Position) → IsHiddenBy (get_or spans i d) rows p → ⊥) (IsFirstPosition (IsHiddenBy (get_or spans i d) rows)) → IsEarlier a b e →
-      MatchOption e ((p : Position) → IsHidden (take (i + 1) spans) rows p → ⊥) (IsFirstPosition (IsHidden (take (i + 1) spans) rows))
+      MatchOption e ((p : Position) → IsFieldHidden (take (i + 1) spans) rows p → ⊥) (IsFirstPosition (IsFieldHidden (take (i + 1) spans) rows))
   span-next a b e one two is =
-      joined (IsHidden (take i spans) rows) (IsHiddenBy (get_or spans i d) rows) (IsHidden (take (i + 1) spans) rows) hidden-splits hidden-before hidden-here a b e one two is
+      joined (IsFieldHidden (take i spans) rows) (IsHiddenBy (get_or spans i d) rows) (IsFieldHidden (take (i + 1) spans) rows) hidden-splits hidden-before hidden-here a b e one two is

@@ -12,7 +12,7 @@ use Rattle.csv.specs.declared.parser.Config.{Config}
 use Rattle.csv.specs.declared.parser.State.{State}
 use Rattle.csv.specs.declared.parser.State.TheVariants as states
 use Rattle.papergrid_csv.specs.Rows.{IsUnclosed, config_by, state_after}
-use Rattle.papergrid_csv.specs.ForProofs.Places.{place_after, place_at, plain_place}
+use Rattle.papergrid_csv.specs.ForProofs.Places.{place_after, place_behind, plain_place}
 use Rattle.papergrid_csv.specs.declared.quotes.Place.{Place}
 use Rattle.papergrid_csv.specs.declared.quotes.Place.TheVariants.{Field, Quote, Quoted, Start}
 use Rattle.papergrid_csv.specs.declared.reading.Format.{Format}
@@ -48,13 +48,13 @@ module _ (delimiter : ℕ) where
   one-step states.InComment byte usual = absurd (usual.1 refl)
   one-step states.AfterCr byte usual = grind (arith, nat_tests)
 
-  all-steps : (s : State) (bytes : List ℕ) → IsUsual s → (place_of (state_after config s bytes) ≡ place_at delimiter (place_of s) bytes) × IsUsual (state_after config s bytes)
-  unfolding state_after place_at
+  all-steps : (s : State) (bytes : List ℕ) → IsUsual s → (place_of (state_after config s bytes) ≡ place_behind delimiter (place_of s) bytes) × IsUsual (state_after config s bytes)
+  unfolding state_after place_behind
   all-steps s [] usual = (refl, usual)
   all-steps s (byte ∷ bytes) usual =
       let first = one-step s byte usual in
       let rest = all-steps (step config s byte).0 bytes first.1 in
-      (rest.0 ∙ ap (λ p. place_at delimiter p bytes) first.0, rest.1)
+      (rest.0 ∙ ap (λ p. place_behind delimiter p bytes) first.0, rest.1)
 
   is-quoted : (s : State) → IsUsual s → place_of s ≡ Quoted → s ≡ states.InQuoted
   is-quoted states.StartRecord usual is = cc
@@ -70,7 +70,7 @@ module _ (delimiter : ℕ) where
   usual-start = (λ is. cc, λ is. cc)
 
   -- a text ends between quotes by its places where it does by its states
-  ends-alike : (bytes : List ℕ) → (place_at delimiter Start bytes ≡ Quoted) ↔ (state_after config states.StartRecord bytes ≡ states.InQuoted)
+  ends-alike : (bytes : List ℕ) → (place_behind delimiter Start bytes ≡ Quoted) ↔ (state_after config states.StartRecord bytes ≡ states.InQuoted)
   ends-alike bytes =
       let all = all-steps states.StartRecord bytes usual-start in (
         (λ is. is-quoted (state_after config states.StartRecord bytes) all.1 (all.0 ∙ is)),
@@ -79,8 +79,8 @@ module _ (delimiter : ℕ) where
 
   -- ---- a text without quotes
 
-  no-quote : (place : Place) (bytes : List ℕ) → list_any (λ b. b == 34) bytes ≡ false → place ≢ Quoted → place_at delimiter place bytes ≢ Quoted
-  unfolding place_at
+  no-quote : (place : Place) (bytes : List ℕ) → list_any (λ b. b == 34) bytes ≡ false → place ≢ Quoted → place_behind delimiter place bytes ≢ Quoted
+  unfolding place_behind
   no-quote place [] none other = other
   no-quote place (byte ∷ bytes) none other =
       let first : (byte == 34) ≡ false = grind (arith, nat_tests) in
@@ -122,11 +122,11 @@ without-mark (a ∷ b ∷ c ∷ more) none = grind (arith, nat_tests)
 -- ---- what is told
 
 pub tells-quoted : (reading : Reading) (delimiter : ℕ) (input text : List ℕ) (told : Bool) → reading.format ≡ Csv delimiter → text ≡ strip_bom input →
-    IsTrue told ↔ (place_at delimiter Start text ≡ Quoted) → IsTrue told ↔ IsUnclosed reading input
+    IsTrue told ↔ (place_behind delimiter Start text ≡ Quoted) → IsTrue told ↔ IsUnclosed reading input
 tells-quoted reading delimiter input text told is stripped tells =
     let alike = ends-alike delimiter (strip_bom input) in
     let by = λ (f : Format). state_after (config_by f) states.StartRecord (strip_bom input) ≡ states.InQuoted in
-    let at = λ (t : List ℕ). place_at delimiter Start t ≡ Quoted in (
+    let at = λ (t : List ℕ). place_behind delimiter Start t ≡ Quoted in (
       (λ yes. subst by (sym is) (alike.0 (subst at stripped (tells.0 yes)))),
       (λ unclosed. tells.1 (subst at (sym stripped) (alike.1 (subst by is unclosed)))),
     )
@@ -166,19 +166,19 @@ tsv-closed reading input is unclosed =
 
 -- ---- byte by byte
 
-pub place-start : (delimiter : ℕ) → Start ≡ place_at delimiter Start []
-unfolding place_at
+pub place-start : (delimiter : ℕ) → Start ≡ place_behind delimiter Start []
+unfolding place_behind
 place-start delimiter = refl
 
-place-more : (delimiter : ℕ) (place : Place) (bytes : List ℕ) (byte : ℕ) → place_at delimiter place (bytes ++ byte ∷ []) ≡ place_after delimiter (place_at delimiter place bytes) byte
-unfolding place_at
+place-more : (delimiter : ℕ) (place : Place) (bytes : List ℕ) (byte : ℕ) → place_behind delimiter place (bytes ++ byte ∷ []) ≡ place_after delimiter (place_behind delimiter place bytes) byte
+unfolding place_behind
 place-more delimiter place [] byte = refl
 place-more delimiter place (b ∷ bytes) byte = place-more delimiter (place_after delimiter place b) bytes byte
 
-pub place-next : (delimiter : ℕ) (text : List ℕ) (i : ℕ) (place next : Place) → i < length text → place ≡ place_at delimiter Start (take i text) →
-    next ≡ place_after delimiter place (get_or text i 0) → next ≡ place_at delimiter Start (take (i + 1) text)
+pub place-next : (delimiter : ℕ) (text : List ℕ) (i : ℕ) (place next : Place) → i < length text → place ≡ place_behind delimiter Start (take i text) →
+    next ≡ place_after delimiter place (get_or text i 0) → next ≡ place_behind delimiter Start (take (i + 1) text)
 place-next delimiter text i place next within is step =
-    step ∙ ap (λ p. place_after delimiter p (get_or text i 0)) is ∙ sym (ap (place_at delimiter Start) (take_more text i 0 within) ∙ place-more delimiter Start (take i text) (get_or text i 0))
+    step ∙ ap (λ p. place_after delimiter p (get_or text i 0)) is ∙ sym (ap (place_behind delimiter Start) (take_more text i 0 within) ∙ place-more delimiter Start (take i text) (get_or text i 0))
 
 -- ---- from quote to quote
 
@@ -204,24 +204,24 @@ quote-found bs within =
     let found : get_or bs (quote-at bs) 0 ≡ 34 = let passes = passes_at_first (λ b. b == 34) bs 0 within in grind (arith, nat_tests) in
     sym (take-append-drop (quote-at bs) bs) ∙ ap (λ t. take (quote-at bs) bs ++ t) (drop_more bs (quote-at bs) 0 within) ∙ ap (λ c. take (quote-at bs) bs ++ (c ∷ drop (quote-at bs + 1) bs)) found
 
-place-append : (delimiter : ℕ) (place : Place) (xs ys : List ℕ) → place_at delimiter place (xs ++ ys) ≡ place_at delimiter (place_at delimiter place xs) ys
-unfolding place_at
+place-append : (delimiter : ℕ) (place : Place) (xs ys : List ℕ) → place_behind delimiter place (xs ++ ys) ≡ place_behind delimiter (place_behind delimiter place xs) ys
+unfolding place_behind
 place-append delimiter place [] ys = refl
 place-append delimiter place (x ∷ xs) ys = place-append delimiter (place_after delimiter place x) xs ys
 
-stays-quoted : (delimiter : ℕ) (bs : List ℕ) → list_any (λ b. b == 34) bs ≡ false → Quoted ≡ place_at delimiter Quoted bs
-unfolding place_at
+stays-quoted : (delimiter : ℕ) (bs : List ℕ) → list_any (λ b. b == 34) bs ≡ false → Quoted ≡ place_behind delimiter Quoted bs
+unfolding place_behind
 stays-quoted delimiter [] none = refl
 stays-quoted delimiter (b ∷ bs) none =
     let first : (b == 34) ≡ false = grind (arith, nat_tests) in
     let rest : list_any (λ b. b == 34) bs ≡ false = grind (arith, nat_tests) in
-    stays-quoted delimiter bs rest ∙ ap (λ v. place_at delimiter (cond v Quote Quoted) bs) (sym first)
+    stays-quoted delimiter bs rest ∙ ap (λ v. place_behind delimiter (cond v Quote Quoted) bs) (sym first)
 
-pub quoted-stays : (delimiter : ℕ) (place : Place) (bs : List ℕ) → list_any (λ b. b == 34) bs ≡ false → place ≡ Quoted → place ≡ place_at delimiter place bs
-quoted-stays delimiter place bs none is = is ∙ stays-quoted delimiter bs none ∙ ap (λ p. place_at delimiter p bs) (sym is)
+pub quoted-stays : (delimiter : ℕ) (place : Place) (bs : List ℕ) → list_any (λ b. b == 34) bs ≡ false → place ≡ Quoted → place ≡ place_behind delimiter place bs
+quoted-stays delimiter place bs none is = is ∙ stays-quoted delimiter bs none ∙ ap (λ p. place_behind delimiter p bs) (sym is)
 
-pub place-kept : (delimiter : ℕ) (place : Place) (bs : List ℕ) → length bs ≡ 0 → place ≡ place_at delimiter place bs
-unfolding place_at
+pub place-kept : (delimiter : ℕ) (place : Place) (bs : List ℕ) → length bs ≡ 0 → place ≡ place_behind delimiter place bs
+unfolding place_behind
 place-kept delimiter place [] none = refl
 place-kept delimiter place (b ∷ bs) none = absurd (omega arith)
 
@@ -240,28 +240,28 @@ any-last (x ∷ xs) b none =
     (ap (λ v. v || list_any (λ b. b == 34) xs) first ∙ more.0, more.1)
 
 pub past-last : (delimiter : ℕ) (place : Place) (bs : List ℕ) (last : ℕ) → list_any (λ b. b == 34) bs ≡ false → place ≢ Quoted → 0 < length bs → last ≡ get_or bs (length bs - 1) 0 →
-    plain_place delimiter last ≡ place_at delimiter place bs
+    plain_place delimiter last ≡ place_behind delimiter place bs
 past-last delimiter place bs last none other some is =
     let k : ℕ = length bs - 1 in
     let whole : bs ≡ take k bs ++ last ∷ [] =
     sym (take_all (k + 1) bs (omega arith)) ∙ take_more bs k 0 (omega arith) ∙ ap (λ c. take k bs ++ c ∷ []) (sym is) in
     let parts = any-last (take k bs) last (sym (ap (list_any (λ b. b == 34)) whole) ∙ none) in
-    plain-after delimiter (place_at delimiter place (take k bs)) last (no-quote delimiter place (take k bs) parts.0 other) parts.1
-    ∙ sym (place-more delimiter place (take k bs) last) ∙ sym (ap (place_at delimiter place) whole)
+    plain-after delimiter (place_behind delimiter place (take k bs)) last (no-quote delimiter place (take k bs) parts.0 other) parts.1
+    ∙ sym (place-more delimiter place (take k bs) last) ∙ sym (ap (place_behind delimiter place) whole)
 
-step-34 : (delimiter : ℕ) (p : Place) (left : List ℕ) → place_at delimiter p (34 ∷ left) ≡ place_at delimiter (place_after delimiter p 34) left
-unfolding place_at
+step-34 : (delimiter : ℕ) (p : Place) (left : List ℕ) → place_behind delimiter p (34 ∷ left) ≡ place_behind delimiter (place_after delimiter p 34) left
+unfolding place_behind
 step-34 delimiter p left = refl
 
 pub quote-next : (delimiter : ℕ) (rest : List ℕ) (place before next : Place) (left : List ℕ) (at : ℕ) → at ≡ quote-at rest → at < length rest → left ≡ take (length rest - (at + 1)) (drop (at + 1) rest) →
-    before ≡ place_at delimiter place (take at rest) → next ≡ place_after delimiter before 34 → place_at delimiter place rest ≡ place_at delimiter next left
+    before ≡ place_behind delimiter place (take at rest) → next ≡ place_after delimiter before 34 → place_behind delimiter place rest ≡ place_behind delimiter next left
 quote-next delimiter rest place before next left at is within left_is before_is next_is =
     let long = length-drop (at + 1) rest in
     let whole : left ≡ drop (at + 1) rest = left_is ∙ take_all (length rest - (at + 1)) (drop (at + 1) rest) (omega arith) in
     let split : rest ≡ take at rest ++ (34 ∷ left) =
     quote-found rest (omega arith) ∙ ap (λ k. take k rest ++ (34 ∷ drop (k + 1) rest)) (sym is) ∙ ap (λ t. take at rest ++ (34 ∷ t)) (sym whole) in
-    ap (place_at delimiter place) split ∙ place-append delimiter place (take at rest) (34 ∷ left) ∙ ap (λ p. place_at delimiter p (34 ∷ left)) (sym before_is)
-    ∙ step-34 delimiter before left ∙ ap (λ p. place_at delimiter p left) (sym next_is)
+    ap (place_behind delimiter place) split ∙ place-append delimiter place (take at rest) (34 ∷ left) ∙ ap (λ p. place_behind delimiter p (34 ∷ left)) (sym before_is)
+    ∙ step-34 delimiter before left ∙ ap (λ p. place_behind delimiter p left) (sym next_is)
 
 pub left-short : (bs : List ℕ) (n k : ℕ) → length bs < 2 ^ 64 → length (take n (drop k bs)) < 2 ^ 64
 left-short bs n k short =

@@ -20,9 +20,9 @@ use Rattle.csv.specs.declared.parser.State.{State}
 use Rattle.csv.specs.declared.parser.State.TheVariants as states
 use Rattle.csv.specs.declared.reader.Reader.{Reader}
 use Rattle.csv.proofs.ReadFacts.{rows-end, rows-more}
-use Rattle.papergrid_csv.specs.Rows.{AllAsLong, AreRowsOf, IsNextRecord, IsUnclosed, IsUnread, config_by, config_of, filled_up, greatest_length, row_texts}
+use Rattle.papergrid_csv.specs.Rows.{AllAsLong, AreRowsOf, IsNextRecord, IsUnclosed, IsUnread, config_by, config_of, with_empty_fields, greatest_length, row_texts}
 use Rattle.papergrid_csv.specs.Spelling.{spelled}
-use Rattle.papergrid_csv.specs.ForProofs.Read.{AreShown, AreShownFirst, has_other_length, unread_of}
+use Rattle.papergrid_csv.specs.ForProofs.Read.{AreShownFields, AreShownFirst, has_other_length, unread_of}
 use Rattle.papergrid_csv.specs.declared.reading.Format.{Format}
 use Rattle.papergrid_csv.specs.declared.reading.Format.TheVariants.{Csv, Tsv}
 use Rattle.papergrid_csv.specs.declared.reading.Reading.{Reading}
@@ -126,7 +126,7 @@ module _ {R : Type 0} (rem : R → Option (List ℕ)) (reading : Reading) (input
       )
 
   -- no record more
-  pub shown-end : (fields : List (List ℕ)) → ReadRecord rem old new false fields → AreShown reading input shown
+  pub shown-end : (fields : List (List ℕ)) → ReadRecord rem old new false fields → AreShownFields reading input shown
   shown-end fields read = record {
     records = first.records;
     read = (old.state, y, first.read, rows-end rem old new fields (config_of reading) y config source read);
@@ -208,15 +208,15 @@ greatest-map : (f : List (List ℕ) → List (List ℕ)) (rows : List (List (Lis
 greatest-map f [] same = refl
 greatest-map f (row ∷ rows) same = let more = greatest-map f rows same in let one = same row in omega (arith, one, more)
 
-pub rows-are : (reading : Reading) (input : List ℕ) (columns : ℕ) (shown rows : List (List (List ℕ))) → (IsUnclosed reading input → ⊥) → AreShown reading input shown →
-    columns ≡ greatest_length shown → rows ≡ map (filled_up columns) shown → AreRowsOf reading input columns rows
+pub rows-are : (reading : Reading) (input : List ℕ) (columns : ℕ) (shown rows : List (List (List ℕ))) → (IsUnclosed reading input → ⊥) → AreShownFields reading input shown →
+    columns ≡ greatest_length shown → rows ≡ map (with_empty_fields columns) shown → AreRowsOf reading input columns rows
 rows-are reading input columns shown rows closed so widest filled = record {
   records = so.records;
   closed = closed;
   read = so.read;
   may = so.may;
   widest = widest ∙ ap greatest_length so.are ∙ greatest-map (map (spelled reading)) so.records (λ row. length-map row (spelled reading));
-  shown = filled ∙ ap (map (filled_up columns)) so.are ∙ map-map (filled_up columns) (map (spelled reading)) so.records;
+  shown = filled ∙ ap (map (with_empty_fields columns)) so.are ∙ map-map (with_empty_fields columns) (map (spelled reading)) so.records;
 }
 
 pub max-of : (a b c : ℕ) → b ≡ c → ord_max nat_cmp a b ≡ max a c

@@ -14,7 +14,7 @@ use Rattle.papergrid_config.specs.Applied.{is_in_range}
 use Rattle.papergrid_config.specs.declared.setting.Setting.{Setting}
 use Rattle.papergrid_config.specs.declared.setting.Setting.TheVariants.{InsertHorizontalLine, SetAlignmentHorizontal, SetAlignmentVertical, SetBorders, SetColumnSpan, SetPadding, SetRowSpan}
 use Rattle.papergrid_csv.specs.Numbers.{is_numeric}
-use Rattle.papergrid_csv.specs.Requests.{column_alignment, columns_of, common_alignment, entry_settings, first_row, head_line, number_settings, rows_below, settings_of, span_settings}
+use Rattle.papergrid_csv.specs.Requests.{column_alignment, columns_named, common_alignment, entry_settings, first_row, head_line, number_settings, rows_below, settings_of, span_settings}
 use Rattle.papergrid_csv.specs.declared.request.Alignment.{Alignment}
 use Rattle.papergrid_csv.specs.declared.request.Alignment.TheVariants.{Auto, Fixed}
 use Rattle.papergrid_csv.specs.declared.request.ColumnName.{ColumnName}
@@ -46,7 +46,7 @@ module _ (P : Setting → Type 0) where
     module _ (request : Request) (columns : ℕ) (rows : List (List (List ℕ))) where
       entry-all : (entry : ColumnName × Alignment) → All P (entry_settings request columns rows entry)
       entry-all entry =
-          let named = columns_of (first_row rows) columns entry.0 in
+          let named = columns_named (first_row rows) columns entry.0 in
           All-map P (λ column. SetAlignmentHorizontal (Column column) (column_alignment (rows_below request.has_head rows) column entry.1)) named
           (λ k d within. aligned (Column (get_or named k d)) (column_alignment (rows_below request.has_head rows) (get_or named k d) entry.1))
 

@@ -9,8 +9,8 @@ use Rattle.std.proofs.lemmas.List.{length-map, length-replicate}
 use Rattle.std.proofs.lemmas.List.Elements.{All-append, All-cons, All-head, All-nil, All-tail}
 use Rattle.std.proofs.lemmas.Str.{IsUtf8-append, IsUtf8-from_ascii, IsUtf8-nil, encodes-append, scalars-chars}
 use Rattle.csv.specs.Records.{AllText}
-use Rattle.papergrid_csv.specs.Rows.{AreRowsOf, filled_up, greatest_length}
-use Rattle.papergrid_csv.specs.Spelling.{escaped, is_ascii_control, is_escaped, is_other_control, meant, spelled, spelled_character, spelled_in_line, spelled_other, spelled_tab, two_digits, unescaped}
+use Rattle.papergrid_csv.specs.Rows.{AreRowsOf, with_empty_fields, greatest_length}
+use Rattle.papergrid_csv.specs.Spelling.{escaped, is_ascii_control, is_escaped, is_other_control, meant, spelled, spelled_character, spelled_in_line, spelled_other, spelled_tab, two_digits, without_escapes}
 use Rattle.papergrid_csv.specs.declared.reading.Format.{Format}
 use Rattle.papergrid_csv.specs.declared.reading.Format.TheVariants.{Csv, Tsv}
 use Rattle.papergrid_csv.specs.declared.reading.Reading.{Reading}
@@ -70,18 +70,18 @@ escaped-scalar c is = by (c == 0x74) (c == 0x6E)
     by false true = refl
     by false false = is
 
-unescaped-scalars : (cs : List ℕ) → scalars cs ≡ true → scalars (unescaped cs) ≡ true
-unfolding unescaped
+unescaped-scalars : (cs : List ℕ) → scalars cs ≡ true → scalars (without_escapes cs) ≡ true
+unfolding without_escapes
 unescaped-scalars [] are = are
 unescaped-scalars (c ∷ []) are = are
 unescaped-scalars (c ∷ next ∷ rest) are =
     let first = and_parts (scalar c) (scalars (next ∷ rest)) are in
     let second = and_parts (scalar next) (scalars rest) first.1 in
-    by ((c == 0x5C) && is_escaped next) (scalars-more (escaped next) (unescaped rest) (escaped-scalar next second.0) (unescaped-scalars rest second.1))
-    (scalars-more c (unescaped (next ∷ rest)) first.0 (unescaped-scalars (next ∷ rest) first.1))
+    by ((c == 0x5C) && is_escaped next) (scalars-more (escaped next) (without_escapes rest) (escaped-scalar next second.0) (unescaped-scalars rest second.1))
+    (scalars-more c (without_escapes (next ∷ rest)) first.0 (unescaped-scalars (next ∷ rest) first.1))
   where
-    by : (b : Bool) → scalars (escaped next ∷ unescaped rest) ≡ true → scalars (c ∷ unescaped (next ∷ rest)) ≡ true →
-        scalars (cond b (escaped next ∷ unescaped rest) (c ∷ unescaped (next ∷ rest))) ≡ true
+    by : (b : Bool) → scalars (escaped next ∷ without_escapes rest) ≡ true → scalars (c ∷ without_escapes (next ∷ rest)) ≡ true →
+        scalars (cond b (escaped next ∷ without_escapes rest) (c ∷ without_escapes (next ∷ rest))) ≡ true
     by true pair plain = pair
     by false pair plain = plain
 
@@ -106,7 +106,7 @@ empty-utf8 zero = All-nil IsUtf8
 empty-utf8 (suc n) = All-cons IsUtf8 [] (replicate n []) IsUtf8-nil (empty-utf8 n)
 
 rows-utf8 : (reading : Reading) (columns : ℕ) (records : List (List (List ℕ))) → All AllText records →
-    All (All IsUtf8) (map (λ fields. filled_up columns (map (spelled reading) fields)) records)
+    All (All IsUtf8) (map (λ fields. with_empty_fields columns (map (spelled reading) fields)) records)
 rows-utf8 reading columns [] all = All-nil (All IsUtf8)
 rows-utf8 reading columns (fields ∷ records) all =
     All-cons (All IsUtf8) _ _
@@ -118,10 +118,10 @@ pub all-utf8 : (reading : Reading) (input : List ℕ) (columns : ℕ) (rows : Li
 all-utf8 reading input columns rows are = subst (All (All IsUtf8)) (sym are.shown) (rows-utf8 reading columns are.records are.may.texts)
 
 rows-filled : (reading : Reading) (columns : ℕ) (records : List (List (List ℕ))) → greatest_length records ≤ columns →
-    All (λ row. length row ≡ columns) (map (λ fields. filled_up columns (map (spelled reading) fields)) records)
+    All (λ row. length row ≡ columns) (map (λ fields. with_empty_fields columns (map (spelled reading) fields)) records)
 rows-filled reading columns [] within = All-nil (λ row. length row ≡ columns)
 rows-filled reading columns (fields ∷ records) within =
-    All-cons (λ row. length row ≡ columns) (filled_up columns (map (spelled reading) fields)) _
+    All-cons (λ row. length row ≡ columns) (with_empty_fields columns (map (spelled reading) fields)) _
     (let joined = length-append (map (spelled reading) fields) (replicate (columns - length (map (spelled reading) fields)) []) in
     let first = length-map fields (spelled reading) in
     let second : length (replicate {A = List ℕ} (columns - length (map (spelled reading) fields)) []) ≡ columns - length (map (spelled reading) fields) =

@@ -21,9 +21,9 @@ use Rattle.papergrid.specs.Layouts.{IsConfiguredBy}
 use Rattle.papergrid.specs.Pictures.{IsDrawingWith, IsRefusal, Undrawn, Unsized}
 use Rattle.papergrid_csv.specs.Pictures.{AreFitted, Faulty, IsCsvRun, IsCsvTable, IsConfigured, IsUnfitted, Unfitted}
 use Rattle.papergrid_csv.specs.Requests.{settings_of}
-use Rattle.papergrid_csv.specs.Rows.{AreRowsOf, IsUnread, row_texts, texts_of}
+use Rattle.papergrid_csv.specs.Rows.{AreRowsOf, IsUnread, row_texts, held_texts}
 use Rattle.papergrid_csv.specs.Shown.{AreCut}
-use Rattle.papergrid_csv.specs.ForProofs.Drawn.{AreFittingOf, Configured, Crossed, Faulted, Free, IsConfigRun, IsFitFaultOf, IsFree, IsKeptBy, IsRowsRun, IsSettingsRun, IsTableRun, Kept, Runs, Sized, end_refused, end_unread}
+use Rattle.papergrid_csv.specs.ForProofs.Drawn.{AreFittingOf, Configured, Crossed, Faulted, Free, IsConfigRun, IsFitFaultOf, IsFree, IsKeptBy, IsRowsRun, IsSettingsRun, IsTableRun, Kept, RunsCsv, Sized, end_refused, end_unread}
 use Rattle.papergrid_csv.specs.declared.reading.RowsError.{RowsError}
 use Rattle.papergrid_csv.specs.declared.reading.RowsError.TheVariants as rows_errors
 use Rattle.papergrid_csv.specs.declared.request.Request.{Request}
@@ -47,7 +47,7 @@ module _ {W : Type 0} (contents : W → Option (List ℕ)) (has_failed has_stall
   -- rows have no sizes
   pub unsized-run : (request : Request) (columns : ℕ) (texts : List (List (List ℕ))) (config : SpannedConfig) (w : W) (e : LayoutError) →
       UnlessMemoryError e (AreNoSizesBySizing config text_measure columns texts request.sizing e) →
-      Runs contents has_failed has_stalled (IsConfigRun request columns texts config) w w (end_refused (draw_error_of e))
+      RunsCsv contents has_failed has_stalled (IsConfigRun request columns texts config) w w (end_refused (draw_error_of e))
   unsized-run request columns texts config w (layout_errors.OutOfTable p) are =
       run-silent contents has_failed has_stalled (IsConfigRun request columns texts config) w (Refused (draw_errors.OutOfTable p))
       (Faulted (draw_errors.OutOfTable p) refl tt (Unsized (layout_errors.OutOfTable p) refl are) refl)
@@ -58,7 +58,7 @@ module _ {W : Type 0} (contents : W → Option (List ℕ)) (has_failed has_stall
 
   -- an input was not read
   pub unread-run : (request : Request) (input : List ℕ) (w : W) (e : RowsError) → IsUnread request.reading input e →
-      Runs contents has_failed has_stalled (IsCsvRun request input) w w (end_unread e)
+      RunsCsv contents has_failed has_stalled (IsCsvRun request input) w w (end_unread e)
   unread-run request input w (rows_errors.NotText count) is = run-silent contents has_failed has_stalled (IsCsvRun request input) w (NotText count) (is, refl)
   unread-run request input w rows_errors.Unclosed is = run-silent contents has_failed has_stalled (IsCsvRun request input) w Unclosed (is, refl)
   unread-run request input w (rows_errors.Ragged count fields) is = run-silent contents has_failed has_stalled (IsCsvRun request input) w (Ragged count fields) (is, refl)
@@ -79,15 +79,15 @@ unfitted-of (Some junctions) settings plain shape e told is = (plain, told, is)
 -- ---- rows
 
 -- by what settings are, and rows that are lent
-pub rows-run-of : (request : Request) (columns : ℕ) (rows : List (List (List ℕ))) → IsFree request rows → (held : Vec (Vec (Bor (List ℕ)) Global) Global) → AreCut request.cut rows (texts_of held) →
+pub rows-run-of : (request : Request) (columns : ℕ) (rows : List (List (List ℕ))) → IsFree request rows → (held : Vec (Vec (Bor (List ℕ)) Global) Global) → AreCut request.cut rows (held_texts held) →
     (lent : List (Vec (Bor (List ℕ)) Global)) → lent ≡ held.items → (settings : List Setting) → settings ≡ settings_of request columns rows →
     (end : CsvEnd) (output : List ℕ) → IsSettingsRun request settings (length lent, columns) columns (map row_texts lent) end output → IsRowsRun request columns rows end output
 rows-run-of request columns rows free held cut lent same_rows settings same_settings end output so =
-    let same : map row_texts lent ≡ texts_of held = ap (map row_texts) same_rows in
-    let counted : length lent ≡ length rows = sym (length-map lent row_texts) ∙ ap length same ∙ shown-length request.cut rows (texts_of held) cut in
+    let same : map row_texts lent ≡ held_texts held = ap (map row_texts) same_rows in
+    let counted : length lent ≡ length rows = sym (length-map lent row_texts) ∙ ap length same ∙ shown-length request.cut rows (held_texts held) cut in
     let by_settings = subst (λ s. IsSettingsRun request s (length lent, columns) columns (map row_texts lent) end output) same_settings so in
     let by_shape = subst (λ n. IsSettingsRun request (settings_of request columns rows) (n, columns) columns (map row_texts lent) end output) counted by_settings in
-    Free (texts_of held) free cut (subst (λ t. IsSettingsRun request (settings_of request columns rows) (length rows, columns) columns t end output) same by_shape)
+    Free (held_texts held) free cut (subst (λ t. IsSettingsRun request (settings_of request columns rows) (length rows, columns) columns t end output) same by_shape)
 
 -- ---- an input
 

@@ -13,7 +13,7 @@ use Rattle.std.specs.Str.Parse.{AllDigits}
 use Rattle.std.proofs.lemmas.Bool.Decides.{nat_tests}
 use Rattle.std.proofs.lemmas.Fmt.{digits_is_IsNumeral}
 use Rattle.std.proofs.lemmas.Str.{chars-IsAscii, encode_ascii, encodes-append}
-use Rattle.papergrid_csv.specs.Spelling.{is_ascii_control, is_other_control, meant, spelled, spelled_character, spelled_in_line, spelled_other, spelled_tab, two_digits, unescaped}
+use Rattle.papergrid_csv.specs.Spelling.{is_ascii_control, is_other_control, meant, spelled, spelled_character, spelled_in_line, spelled_other, spelled_tab, two_digits, without_escapes}
 use Rattle.papergrid_csv.specs.declared.reading.Format.{Format}
 use Rattle.papergrid_csv.specs.declared.reading.Format.TheVariants.{Csv, Tsv}
 use Rattle.papergrid_csv.specs.declared.reading.Reading.{Reading}
@@ -196,6 +196,6 @@ pub spelled-csv : (reading : Reading) (delimiter : ℕ) (field : List ℕ) → r
 unfolding spelled
 spelled-csv reading delimiter field is = ap (λ (format : Format). encode_utf8_all (flat_map (spelled_character reading) (meant format (chars field)))) (sym is)
 
-pub spelled-tsv : (reading : Reading) (field : List ℕ) → reading.format ≡ Tsv → encode_utf8_all (flat_map (spelled_character reading) (unescaped (chars field))) ≡ spelled reading field
+pub spelled-tsv : (reading : Reading) (field : List ℕ) → reading.format ≡ Tsv → encode_utf8_all (flat_map (spelled_character reading) (without_escapes (chars field))) ≡ spelled reading field
 unfolding spelled
 spelled-tsv reading field is = ap (λ (format : Format). encode_utf8_all (flat_map (spelled_character reading) (meant format (chars field)))) (sym is)

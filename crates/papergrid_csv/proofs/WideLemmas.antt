@@ -18,9 +18,9 @@ use Rattle.papergrid_layout.specs.Tables.{AreSizesBySizing}
 use Rattle.papergrid_layout.specs.declared.sizing.Sizing.{Sizing}
 use Rattle.papergrid_layout.specs.declared.sizing.Sizing.TheVariants.{ByShares, Least}
 use Rattle.papergrid_draw.specs.Drawings.{Drawing, layout_of}
-use Rattle.papergrid_draw.specs.Drawn.{drawn_lines, has_vertical}
+use Rattle.papergrid_draw.specs.Drawn.{drawn_lines, draws_vertical}
 use Rattle.papergrid_draw.specs.Laws.{pieces_of}
-use Rattle.papergrid_draw.specs.Separated.{AreApart, setting_separates, text_of}
+use Rattle.papergrid_draw.specs.Separated.{AreApart, setting_separates, pieces_text}
 use Rattle.papergrid_draw.specs.Tiles.{IsTiled}
 use Rattle.papergrid_draw.proofs.HonestLemmas.{texts-honest}
 use Rattle.papergrid_draw.proofs.SettingLemmas.{with-separators}
@@ -62,7 +62,7 @@ fitted-no-paddings (Some junctions) settings shape config fitted are = crossings
 -- a vertical line of the frame stands between columns, whatever crossings were fitted
 vertical-stays : (request : Request) (columns : ℕ) (rows : List (List (List ℕ))) (junctions : Option Junctions) (shape : ℕ × ℕ) (config : SpannedConfig) (fitted : List Setting) →
     AreFitted junctions (settings_of request columns rows) shape config fitted → IsConfiguredBy (settings_of request columns rows ++ fitted) config → IsSome request.frame.vertical →
-    (shown : List (List (List ℕ))) (widths heights : List ℕ) → (length heights, length widths) ≡ shape → (j : ℕ) → 0 < j → j < length widths → has_vertical (texts_drawing config shown widths heights) j ≡ true
+    (shown : List (List (List ℕ))) (widths heights : List ℕ) → (length heights, length widths) ≡ shape → (j : ℕ) → 0 < j → j < length widths → draws_vertical (texts_drawing config shown widths heights) j ≡ true
 vertical-stays request columns rows None shape config fitted are told some shown widths heights counted j above below =
     let plain : IsConfiguredBy (settings_of request columns rows) config =
     subst (λ s. IsConfiguredBy s config) (ap (λ l. settings_of request columns rows ++ l) are ∙ append-nil (settings_of request columns rows)) told in
@@ -97,14 +97,14 @@ module _ (request : Request) (input : List ℕ) (d : Drawing) (so : IsCsvDrawing
       ∙ padding-of request so.table.columns so.table.rows fitted (fitted-no-paddings request.junctions settings (table_shape so.table) so.config fitted so.configured.fit) p))) padded))
 
   pub csv-wide : IsSeparating request → (IsSome request.frame.vertical) ⊎ (0 < request.padding.left.size) →
-      All (λ line. width_of (text_of (pieces_of line)) ≡ total_along (layout_of d) Columns) (drawn_lines d)
+      All (λ line. width_of (pieces_text (pieces_of line)) ≡ total_along (layout_of d) Columns) (drawn_lines d)
   csv-wide separating stands =
       let told = settings-separate request separating so.table.columns so.table.rows in
       let crossed = fitted-separate request.junctions settings (table_shape so.table) so.config fitted separating.fitting so.configured.fit in
       let all : list_all setting_separates (settings ++ fitted) ≡ true = list_all-append setting_separates settings fitted ∙ rw (told, crossed) refl in
       let utf8 = at-position so.table.shown (shown-utf8 request.cut so.table.rows so.table.shown (all-utf8 request.reading input so.table.columns so.table.rows so.table.are) so.table.cut) in
       let tiled : IsTiled (layout_of it) = subst (λ (e : Drawing). IsTiled (layout_of e)) so.drawn.is so.tiled in
-      subst (λ (e : Drawing). All (λ line. width_of (text_of (pieces_of line)) ≡ total_along (layout_of e) Columns) (drawn_lines e)) (sym so.drawn.is)
+      subst (λ (e : Drawing). All (λ line. width_of (pieces_text (pieces_of line)) ≡ total_along (layout_of e) Columns) (drawn_lines e)) (sym so.drawn.is)
       (lines-wide it tiled
       (texts-honest it (λ text. text) so.table.shown (λ p _. lines-of-rows so.table.shown p) utf8)
       (with-separators it (settings ++ fitted) so.configured.told.told all)

@@ -9,7 +9,7 @@ use Rattle.papergrid_csv.specs.Requests.{settings_of}
 use Rattle.papergrid_csv.specs.Rows.{AreRowsOf, IsUnread}
 use Rattle.papergrid_csv.specs.Shown.{AreCut}
 use Rattle.papergrid_csv.specs.Within.{IsGreatestCut, IsLastCut, IsRunWithin, IsWiderWith, cut_request}
-use Rattle.papergrid_csv.specs.ForProofs.Drawn.{Configured, Crossed, Faulted, Free, IsBrokenOff, IsConfigRun, IsRowsRun, IsSettingsRun, Kept, Runs, Sized, end_unread}
+use Rattle.papergrid_csv.specs.ForProofs.Drawn.{Configured, Crossed, Faulted, Free, IsCsvBrokenOff, IsConfigRun, IsRowsRun, IsSettingsRun, Kept, RunsCsv, Sized, end_unread}
 use Rattle.papergrid_csv.specs.ForProofs.Within.{IsFirstCut, IsTried}
 use Rattle.papergrid_csv.specs.declared.reading.RowsError.{RowsError}
 use Rattle.papergrid_csv.specs.declared.reading.RowsError.TheVariants as rows_errors
@@ -52,11 +52,11 @@ module _ {W : Type 0} (contents : W → Option (List ℕ)) (has_failed has_stall
   -- ---- an input that is not read
 
   silent-within : (w : W) (end : CsvEnd) → IsCsvRun (cut_request asked width None) input end [] → ((found : ℕ) → end ≡ TooWide found → ⊥) →
-      Runs contents has_failed has_stalled (IsRunWithin asked width input None) w w (Ok end)
+      RunsCsv contents has_failed has_stalled (IsRunWithin asked width input None) w w (Ok end)
   silent-within w end so other =
       run-silent contents has_failed has_stalled (IsRunWithin asked width input None) w end (record { greatest = tt; run = so; last = λ found wide. absurd (other found wide) })
 
-  pub unread-within : (w : W) (e : RowsError) → IsUnread asked.reading input e → Runs contents has_failed has_stalled (IsRunWithin asked width input None) w w (end_unread e)
+  pub unread-within : (w : W) (e : RowsError) → IsUnread asked.reading input e → RunsCsv contents has_failed has_stalled (IsRunWithin asked width input None) w w (end_unread e)
   unread-within w (rows_errors.NotText count) is = silent-within w (NotText count) (is, refl) (λ found wide. cc)
   unread-within w rows_errors.Unclosed is = silent-within w Unclosed (is, refl) (λ found wide. cc)
   unread-within w (rows_errors.Ragged count fields) is = silent-within w (Ragged count fields) (is, refl) (λ found wide. cc)
@@ -66,7 +66,7 @@ module _ {W : Type 0} (contents : W → Option (List ℕ)) (has_failed has_stall
 
   -- a run that broke off drew the picture
   broken-within : (request : Request) (cut : Option ℕ) → request ≡ cut_request asked width cut → IsGreatestCut asked width input cut → (old new : W) (fault : RunFault) →
-      IsBrokenOff contents has_failed has_stalled (IsCsvRun request input) old new fault → IsBrokenOff contents has_failed has_stalled (IsRunWithin asked width input cut) old new fault
+      IsCsvBrokenOff contents has_failed has_stalled (IsCsvRun request input) old new fault → IsCsvBrokenOff contents has_failed has_stalled (IsRunWithin asked width input cut) old new fault
   broken-within request cut is greatest old new fault so = record {
     not_read = so.not_read;
     beginning = elim so.beginning [
@@ -83,14 +83,14 @@ module _ {W : Type 0} (contents : W → Option (List ℕ)) (has_failed has_stall
 
   module _ (columns : ℕ) (rows : List (List (List ℕ))) (are : AreRowsOf asked.reading input columns rows) where
     -- what a run of the rows of an input says of the input
-    input-run : (request : Request) → request.reading ≡ asked.reading → (old new : W) (result : Result CsvEnd RunFault) → Runs contents has_failed has_stalled (IsRowsRun request columns rows) old new result →
-        Runs contents has_failed has_stalled (IsCsvRun request input) old new result
+    input-run : (request : Request) → request.reading ≡ asked.reading → (old new : W) (result : Result CsvEnd RunFault) → RunsCsv contents has_failed has_stalled (IsRowsRun request columns rows) old new result →
+        RunsCsv contents has_failed has_stalled (IsCsvRun request input) old new result
     input-run request same old new result so =
         runs-also contents has_failed has_stalled (IsRowsRun request columns rows) (IsCsvRun request input)
         (csv-run-of request input columns rows (subst (λ reading. AreRowsOf reading input columns rows) (sym same) are)) old new result so
 
     -- fields stay as they are at first
-    pub tried-first : (old new : W) (end : CsvEnd) (first : ℕ) → Runs contents has_failed has_stalled (IsRowsRun (cut_request asked width None) columns rows) old new (Ok end) → IsFirstCut width rows first →
+    pub tried-first : (old new : W) (end : CsvEnd) (first : ℕ) → RunsCsv contents has_failed has_stalled (IsRowsRun (cut_request asked width None) columns rows) old new (Ok end) → IsFirstCut width rows first →
         IsTried contents has_failed has_stalled asked width input old new (cut_request asked width None) end first
     tried-first old new end first so is = record {
       is = refl;
@@ -109,8 +109,8 @@ module _ {W : Type 0} (contents : W → Option (List ℕ)) (has_failed has_stall
     }
 
     -- or their run broke off
-    pub broken-first : (old new : W) (fault : RunFault) → IsBrokenOff contents has_failed has_stalled (IsRowsRun (cut_request asked width None) columns rows) old new fault →
-        IsBrokenOff contents has_failed has_stalled (IsRunWithin asked width input None) old new fault
+    pub broken-first : (old new : W) (fault : RunFault) → IsCsvBrokenOff contents has_failed has_stalled (IsRowsRun (cut_request asked width None) columns rows) old new fault →
+        IsCsvBrokenOff contents has_failed has_stalled (IsRunWithin asked width input None) old new fault
     broken-first old new fault so = broken-within (cut_request asked width None) None refl tt old new fault (input-run (cut_request asked width None) refl old new (Err fault) so)
 
   module _ (old new : W) (request : Request) (end : CsvEnd) (left : ℕ) (tried : IsTried contents has_failed has_stalled asked width input old new request end left) where
@@ -158,15 +158,15 @@ module _ {W : Type 0} (contents : W → Option (List ℕ)) (has_failed has_stall
     next-request = ap (λ (r : Request). record r { cut = Some left }) tried.is
 
     module _ (columns : ℕ) (rows : List (List (List ℕ))) (are : AreRowsOf asked.reading input columns rows) where
-      next-run : (last : W) (result : Result CsvEnd RunFault) → Runs contents has_failed has_stalled (IsRowsRun (record request { cut = Some left }) columns rows) new last result →
-          (found : ℕ) → end ≡ TooWide found → Runs contents has_failed has_stalled (IsCsvRun (record request { cut = Some left }) input) old last result
+      next-run : (last : W) (result : Result CsvEnd RunFault) → RunsCsv contents has_failed has_stalled (IsRowsRun (record request { cut = Some left }) columns rows) new last result →
+          (found : ℕ) → end ≡ TooWide found → RunsCsv contents has_failed has_stalled (IsCsvRun (record request { cut = Some left }) input) old last result
       next-run last result so found wide =
-          subst (λ w. Runs contents has_failed has_stalled (IsCsvRun (record request { cut = Some left }) input) w last result) (same-writer found wide)
+          subst (λ w. RunsCsv contents has_failed has_stalled (IsCsvRun (record request { cut = Some left }) input) w last result) (same-writer found wide)
           (input-run columns rows are (record request { cut = Some left }) (ap (λ (r : Request). r.reading) tried.is) new last result so)
 
       -- it was tried
       pub tried-next : 0 < left → (found : ℕ) → end ≡ TooWide found → (last : W) (next : CsvEnd) →
-          Runs contents has_failed has_stalled (IsRowsRun (record request { cut = Some left }) columns rows) new last (Ok next) →
+          RunsCsv contents has_failed has_stalled (IsRowsRun (record request { cut = Some left }) columns rows) new last (Ok next) →
           IsTried contents has_failed has_stalled asked width input old last (record request { cut = Some left }) next (left - 1)
       tried-next some found wide last next so =
           let within = left-within in
@@ -180,8 +180,8 @@ module _ {W : Type 0} (contents : W → Option (List ℕ)) (has_failed has_stall
 
       -- or its run broke off
       pub broken-next : 0 < left → (found : ℕ) → end ≡ TooWide found → (last : W) (fault : RunFault) →
-          IsBrokenOff contents has_failed has_stalled (IsRowsRun (record request { cut = Some left }) columns rows) new last fault →
-          IsBrokenOff contents has_failed has_stalled (IsRunWithin asked width input (Some left)) old last fault
+          IsCsvBrokenOff contents has_failed has_stalled (IsRowsRun (record request { cut = Some left }) columns rows) new last fault →
+          IsCsvBrokenOff contents has_failed has_stalled (IsRunWithin asked width input (Some left)) old last fault
       broken-next some found wide last fault so =
           broken-within (record request { cut = Some left }) (Some left) next-request (next-greatest some found wide) old last fault (next-run last (Err fault) so found wide)
 
@@ -192,7 +192,7 @@ module _ {W : Type 0} (contents : W → Option (List ℕ)) (has_failed has_stall
     ]
 
     -- the run whose table is not too wide, or that of the last cut
-    pub run-within : ((found : ℕ) → end ≡ TooWide found → left ≡ 0) → Runs contents has_failed has_stalled (IsRunWithin asked width input request.cut) old new (Ok end)
+    pub run-within : ((found : ℕ) → end ≡ TooWide found → left ≡ 0) → RunsCsv contents has_failed has_stalled (IsRunWithin asked width input request.cut) old new (Ok end)
     run-within none = (
       tried.run.0,
       record { greatest = tried.greatest; run = subst (λ r. IsCsvRun r input end tried.run.0) tried.is tried.run.1; last = λ found wide. last-cut (none found wide) },

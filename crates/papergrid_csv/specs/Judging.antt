@@ -29,7 +29,7 @@ pub record IsUnder (span : Span) (p : Position) : Type 0 where
   pub other : p ≢ span.position
 
 -- one of these spans hides the field there, which is not empty
-pub record IsHidden (spans : List Span) (rows : List (List (List ℕ))) (p : Position) : Type 0 where
+pub record IsFieldHidden (spans : List Span) (rows : List (List (List ℕ))) (p : Position) : Type 0 where
   pub span : Span
   pub listed : Contains spans span
   pub under : IsUnder span p

@@ -13,7 +13,7 @@ use Rattle.papergrid_grid.specs.Lined.{lined}
 use Rattle.papergrid_grid.specs.declared.crossings.Junctions.{Junctions}
 use Rattle.papergrid.specs.Layouts.{IsConfiguredBy}
 use Rattle.papergrid.specs.Pictures.{IsDrawingWith, IsFaultWith, IsRefusal}
-use Rattle.papergrid_csv.specs.Judging.{IsHidden, first_missing}
+use Rattle.papergrid_csv.specs.Judging.{IsFieldHidden, first_missing}
 use Rattle.papergrid_csv.specs.Requests.{first_row, settings_of}
 use Rattle.papergrid_csv.specs.Rows.{AreRowsOf, IsUnread}
 use Rattle.papergrid_csv.specs.Shown.{AreCut}
@@ -30,7 +30,7 @@ pub record IsCsvTable (request : Request) (input : List ℕ) : Type 0 where
   pub shown : List (List (List ℕ))
   pub are : AreRowsOf request.reading input columns rows
   pub named : first_missing (first_row rows) request.columns.items ≡ None
-  pub seen : request.hides ≡ false → (p : Position) → IsHidden request.spans.items rows p → ⊥
+  pub seen : request.hides ≡ false → (p : Position) → IsFieldHidden request.spans.items rows p → ⊥
   pub cut : AreCut request.cut rows shown
 
 -- further settings, by which the crossings of a configuration fit the spans, in a table of so many rows and columns, where it
@@ -99,7 +99,7 @@ pub record HidesAt (request : Request) (input : List ℕ) (p : Position) : Type 
   pub are : AreRowsOf request.reading input columns rows
   pub named : first_missing (first_row rows) request.columns.items ≡ None
   pub forbidden : request.hides ≡ false
-  pub first : IsFirstPosition (IsHidden request.spans.items rows) p
+  pub first : IsFirstPosition (IsFieldHidden request.spans.items rows) p
 
 -- the first name of a request, in the entry with this number, that is of no column of an input
 pub record HasNoColumn (request : Request) (input : List ℕ) (entry : ℕ) : Type 0 where

@@ -49,9 +49,9 @@ abbrev pub first_row : List (List (List ℕ)) → List (List ℕ)
 first_row rows = get_or rows 0 []
 
 -- the columns of a table of so many that a name is of: each one whose first row has the text
-abbrev pub columns_of : List (List ℕ) → ℕ → ColumnName → List ℕ
-columns_of head columns (Number column) = column ∷ []
-columns_of head columns (Head text) =
+abbrev pub columns_named : List (List ℕ) → ℕ → ColumnName → List ℕ
+columns_named head columns (Number column) = column ∷ []
+columns_named head columns (Head text) =
     filter (λ column. bytes_eq (field_in column head) (string_bytes text)) (range_with_len 0 columns)
 
 -- the settings of a span
@@ -67,7 +67,7 @@ module _ (request : Request) (columns : ℕ) (rows : List (List (List ℕ))) whe
   abbrev pub entry_settings : ColumnName × Alignment → List Setting
   entry_settings entry =
       map (λ column. SetAlignmentHorizontal (Column column) (column_alignment (rows_below request.has_head rows) column entry.1))
-      (columns_of (first_row rows) columns entry.0)
+      (columns_named (first_row rows) columns entry.0)
 
   -- the settings of a table of these rows: the frame, the line below the head, the padding and the alignments of all cells,
   -- those of single columns, and the spans

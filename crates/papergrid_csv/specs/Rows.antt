@@ -49,8 +49,8 @@ greatest_length [] = 0
 greatest_length (row ∷ rows) = max (length row) (greatest_length rows)
 
 -- a row with empty fields up to this number
-abbrev pub filled_up : ℕ → List (List ℕ) → List (List ℕ)
-filled_up columns row = row ++ replicate (columns - length row) []
+abbrev pub with_empty_fields : ℕ → List (List ℕ) → List (List ℕ)
+with_empty_fields columns row = row ++ replicate (columns - length row) []
 
 -- of a text these are the rows of its table, with so many fields each: its records, each field as it is shown, with empty
 -- fields where a record has fewer than the longest
@@ -60,7 +60,7 @@ pub record AreRowsOf (reading : Reading) (input : List ℕ) (columns : ℕ) (row
   pub read : AreRecords (config_of reading) states.StartRecord (strip_bom input) records
   pub may : MayBeShown reading records
   pub widest : columns ≡ greatest_length records
-  pub shown : rows ≡ map (λ record_fields. filled_up columns (map (spelled reading) record_fields)) records
+  pub shown : rows ≡ map (λ record_fields. with_empty_fields columns (map (spelled reading) record_fields)) records
 
 -- these are the fields of the record of a text right after some that may be shown
 pub record IsNextRecord (reading : Reading) (input : List ℕ) (before : List (List (List ℕ))) (fields : List (List ℕ)) : Type 0 where
@@ -104,5 +104,5 @@ abbrev pub row_texts : Vec (Bor (List ℕ)) Global → List (List ℕ)
 row_texts row = map (λ text. text.now) row.items
 
 -- of each row
-abbrev pub texts_of : Vec (Vec (Bor (List ℕ)) Global) Global → List (List (List ℕ))
-texts_of rows = map row_texts rows.items
+abbrev pub held_texts : Vec (Vec (Bor (List ℕ)) Global) Global → List (List (List ℕ))
+held_texts rows = map row_texts rows.items

@@ -18,16 +18,16 @@ abbrev pub escaped : ℕ → ℕ
 escaped c = if c == 0x74 then 0x09 else (if c == 0x6E then 0x0A else c)
 
 -- the characters for which these stand, where a backslash may begin such a pair; any other backslash stands for itself
-unfoldable pub unescaped : List ℕ → List ℕ
-unescaped [] = []
-unescaped (c ∷ []) = c ∷ []
-unescaped (c ∷ next ∷ rest) =
-    if (c == 0x5C) && is_escaped next then escaped next ∷ unescaped rest else c ∷ unescaped (next ∷ rest)
+unfoldable pub without_escapes : List ℕ → List ℕ
+without_escapes [] = []
+without_escapes (c ∷ []) = c ∷ []
+without_escapes (c ∷ next ∷ rest) =
+    if (c == 0x5C) && is_escaped next then escaped next ∷ without_escapes rest else c ∷ without_escapes (next ∷ rest)
 
 -- the characters for which those of a field stand
 abbrev pub meant : Format → List ℕ → List ℕ
 meant (Csv delimiter) characters = characters
-meant Tsv characters = unescaped characters
+meant Tsv characters = without_escapes characters
 
 -- ---- how it is spelled
 

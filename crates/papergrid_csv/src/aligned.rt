@@ -6,8 +6,8 @@ ghost use Rattle.std.specs.Str.{bytes_eq};
 ghost use Rattle.papergrid_values.specs.declared.entity.Entity.TheVariants.{Column, Global};
 ghost use Rattle.papergrid_config.specs.declared.setting.Setting.TheVariants.{SetAlignmentHorizontal};
 ghost use Rattle.papergrid_csv.specs.Numbers.{field_in, is_numeric};
-ghost use Rattle.papergrid_csv.specs.Requests.{column_alignment, columns_of, common_alignment, entry_settings, first_row, number_settings, rows_below};
-ghost use Rattle.papergrid_csv.specs.Rows.{row_texts, texts_of};
+ghost use Rattle.papergrid_csv.specs.Requests.{column_alignment, columns_named, common_alignment, entry_settings, first_row, number_settings, rows_below};
+ghost use Rattle.papergrid_csv.specs.Rows.{row_texts, held_texts};
 
 use crate::number::{field_in, is_numeric};
 use crate::reading::Rows;
@@ -88,9 +88,10 @@ pub fn push_entries(
     below: &[Vec<&str>],
     settings: &mut Vec<Setting>,
 ) -> Result<(), AllocError>
-    requires { map row_texts below.now ≡ rows_below request.now.has_head (texts_of rows.now.rows) }
+    requires { map row_texts below.now
+        ≡ rows_below request.now.has_head (held_texts rows.now.rows) }
     ensures { OnOk result (settings.new.items ≡ settings.old.items
-        ++ flat_map (entry_settings request.now rows.now.columns (texts_of rows.now.rows))
+        ++ flat_map (entry_settings request.now rows.now.columns (held_texts rows.now.rows))
         request.now.columns.items) }
 {
     for (name, alignment) in &request.columns {
@@ -120,7 +121,7 @@ fn push_entry(
     ensures { OnOk result (settings.new.items ≡ settings.old.items
         ++ map (λ column. SetAlignmentHorizontal (Column column)
         (column_alignment (map row_texts below.now) column alignment))
-        (columns_of (first_row (texts_of rows.now.rows)) rows.now.columns name.now)) }
+        (columns_named (first_row (held_texts rows.now.rows)) rows.now.columns name.now)) }
 {
     match name {
         ColumnName::Number(column) => {
@@ -142,7 +143,8 @@ fn push_named(
     ensures { OnOk result (settings.new.items ≡ settings.old.items
         ++ map (λ column. SetAlignmentHorizontal (Column column)
         (column_alignment (map row_texts below.now) column alignment))
-        (filter (λ column. bytes_eq (field_in column (first_row (texts_of rows.now.rows))) text.now)
+        (filter
+        (λ column. bytes_eq (field_in column (first_row (held_texts rows.now.rows))) text.now)
         (range_with_len 0 rows.now.columns))) }
 {
     for column in 0..rows.columns {

@@ -6,7 +6,7 @@ ghost use Rattle.std.specs.Str.{bytes_eq};
 ghost use Rattle.papergrid_values.specs.Positions.{IsBefore};
 ghost use Rattle.papergrid_values.specs.declared.position.Position.{Position};
 ghost use Rattle.papergrid_draw.specs.Tiles.{IsFirstPosition};
-ghost use Rattle.papergrid_csv.specs.Judging.{IsHidden, first_missing, is_found};
+ghost use Rattle.papergrid_csv.specs.Judging.{IsFieldHidden, first_missing, is_found};
 ghost use Rattle.papergrid_csv.specs.Requests.{first_row};
 ghost use Rattle.papergrid_csv.specs.Rows.{row_texts};
 ghost use Rattle.papergrid_csv.specs.ForProofs.Judging.{IsEarlier, IsFirstColumn, IsHiddenBy, IsHiddenIn};
@@ -64,8 +64,8 @@ fn has_field(row: &[&str], text: &str) -> bool
 /// with the fields under each span.
 pub fn first_hidden(rows: &[Vec<&str>], spans: &[Span]) -> Option<Position>
     ensures { MatchOption result
-        ((p : Position) → IsHidden spans.now (map row_texts rows.now) p → ⊥)
-        (IsFirstPosition (IsHidden spans.now (map row_texts rows.now))) }
+        ((p : Position) → IsFieldHidden spans.now (map row_texts rows.now) p → ⊥)
+        (IsFirstPosition (IsFieldHidden spans.now (map row_texts rows.now))) }
 {
     let mut first = None;
     for span in spans {

@@ -7,7 +7,7 @@ ghost use Rattle.papergrid_layout.specs.Places.{total_along};
 ghost use Rattle.papergrid_draw.specs.Drawings.{Drawing, layout_of};
 ghost use Rattle.papergrid_draw.specs.Drawn.{drawn_lines};
 ghost use Rattle.papergrid_draw.specs.Laws.{pieces_of};
-ghost use Rattle.papergrid_draw.specs.Separated.{text_of};
+ghost use Rattle.papergrid_draw.specs.Separated.{pieces_text};
 ghost use Rattle.papergrid_draw.specs.declared.error.DrawError.{DrawError};
 ghost use Rattle.papergrid_draw.specs.declared.error.DrawError.TheVariants.{TooLarge};
 ghost use Rattle.papergrid_csv.specs.Pictures.{IsCsvDrawing, IsCsvRefused};
@@ -20,7 +20,7 @@ pub fn csv_lines_as_wide()
     ensures { (request : Request) (input : List ℕ) (d : Drawing) →
         IsCsvDrawing request input d → IsSeparating request →
         (IsSome request.frame.vertical) ⊎ (0 < request.padding.left.size) →
-        All (λ line. width_of (text_of (pieces_of line)) ≡ total_along (layout_of d) Columns)
+        All (λ line. width_of (pieces_text (pieces_of line)) ≡ total_along (layout_of d) Columns)
         (drawn_lines d) }
 {}
 

@@ -5,7 +5,7 @@ ghost use Rattle.std.specs.List.{list_any};
 ghost use Rattle.csv.specs.Reading.{strip_bom};
 ghost use Rattle.papergrid_csv.specs.Rows.{IsUnclosed};
 ghost use Rattle.papergrid_csv.specs.declared.quotes.Place.TheVariants.{Quoted, Start};
-ghost use Rattle.papergrid_csv.specs.ForProofs.Places.{place_after, place_at, plain_place};
+ghost use Rattle.papergrid_csv.specs.ForProofs.Places.{place_after, place_behind, plain_place};
 
 use crate::reading::{Format, Reading};
 use papergrid_text::search::find_byte;
@@ -46,7 +46,7 @@ fn without_bom(input: &[u8]) -> &[u8]
 /// Whether the text ends between the quotes of a field. It goes from quote to quote, and looks at no more than the byte
 /// before each.
 fn ends_quoted(delimiter: u8, text: &[u8]) -> bool
-    ensures { IsTrue result ↔ (place_at delimiter Start text.now ≡ Quoted) }
+    ensures { IsTrue result ↔ (place_behind delimiter Start text.now ≡ Quoted) }
 {
     let (mut place, mut rest) = (Place::Start, text);
     let mut at = find_byte(rest, b'"');
@@ -62,7 +62,7 @@ fn ends_quoted(delimiter: u8, text: &[u8]) -> bool
 /// Where the byte after these stands, of which none is a quote.
 fn place_past(delimiter: u8, place: Place, bytes: &[u8]) -> Place
     requires { list_any (λ b. b == 34) bytes.now ≡ false }
-    ensures { result ≡ place_at delimiter place bytes.now }
+    ensures { result ≡ place_behind delimiter place bytes.now }
 {
     if let Place::Quoted = place {
         return place;

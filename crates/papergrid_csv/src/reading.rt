@@ -3,9 +3,9 @@
 ghost use Rattle.std.specs.Prelude.{◌≡◌, ◌&&◌, ◌++◌, ◌∷◌, [], IfErr, IfOk, OnOk, map};
 ghost use Rattle.csv.specs.Reading.{error_kind};
 ghost use Rattle.csv.specs.Records.{fields_of};
-ghost use Rattle.papergrid_csv.specs.Rows.{AreRowsOf, IsUnclosed, IsUnread, config_by, filled_up, greatest_length, row_texts, texts_of};
+ghost use Rattle.papergrid_csv.specs.Rows.{AreRowsOf, IsUnclosed, IsUnread, config_by, with_empty_fields, greatest_length, row_texts, held_texts};
 ghost use Rattle.papergrid_csv.specs.Spelling.{spelled};
-ghost use Rattle.papergrid_csv.specs.ForProofs.Read.{AreShown, has_other_length, unread_of};
+ghost use Rattle.papergrid_csv.specs.ForProofs.Read.{AreShownFields, has_other_length, unread_of};
 
 use crate::quotes::is_unclosed;
 use crate::spelling::spell;
@@ -86,7 +86,7 @@ pub fn read_rows<'t>(
     input: &[u8],
 ) -> Result<Rows<'t>, RowsError>
     ensures rows { IfOk result (λ rows. AreRowsOf reading input.now rows.columns
-        (texts_of rows.rows)) }
+        (held_texts rows.rows)) }
     ensures unread { IfErr result (IsUnread reading input.now) }
 {
     if is_unclosed(reading, input) {
@@ -106,7 +106,7 @@ fn shown_records<'t>(
     input: &[u8],
 ) -> Result<Vec<Vec<&'t str>>, RowsError>
     requires { IsUnclosed reading input.now → ⊥ }
-    ensures shown { IfOk result (λ shown. AreShown reading input.now (texts_of shown)) }
+    ensures shown { IfOk result (λ shown. AreShownFields reading input.now (held_texts shown)) }
     ensures unread { IfErr result (IsUnread reading input.now) }
 {
     let mut reader = ReaderBuilder::new()
@@ -184,8 +184,8 @@ fn show_record<'t>(
     fields: &StringRecord,
     shown: &mut Vec<Vec<&'t str>>,
 ) -> Result<(), AllocError>
-    ensures { OnOk result (texts_of shown.new
-        ≡ texts_of shown.old ++ map (spelled reading) (fields_of fields.now) ∷ []) }
+    ensures { OnOk result (held_texts shown.new
+        ≡ held_texts shown.old ++ map (spelled reading) (fields_of fields.now) ∷ []) }
 {
     let row = shown_record(alloc, texts, reading, fields)?;
     shown.push(row)?;
@@ -225,8 +225,8 @@ fn filled_rows<'t>(
     rows: Vec<Vec<&'t str>>,
     columns: usize,
 ) -> Result<Vec<Vec<&'t str>>, AllocError>
-    ensures { IfOk result (λ filled. texts_of filled
-        ≡ map (filled_up columns) (texts_of rows.entry)) }
+    ensures { IfOk result (λ filled. held_texts filled
+        ≡ map (with_empty_fields columns) (held_texts rows.entry)) }
 {
     let mut filled = Vec::with_capacity(alloc, rows.len())?;
     for row in rows {
@@ -237,7 +237,8 @@ fn filled_rows<'t>(
 
 /// A row with empty fields up to this number.
 fn filled_up<'t>(row: Vec<&'t str>, columns: usize) -> Result<Vec<&'t str>, AllocError>
-    ensures { IfOk result (λ filled. row_texts filled ≡ filled_up columns (row_texts row.entry)) }
+    ensures { IfOk result (λ filled. row_texts filled
+        ≡ with_empty_fields columns (row_texts row.entry)) }
 {
     let mut filled = row;
     for _ in filled.len()..columns {

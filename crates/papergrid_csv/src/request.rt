@@ -7,7 +7,7 @@ ghost use Rattle.papergrid_values.specs.declared.entity.Entity.TheVariants.{Glob
 ghost use Rattle.papergrid_config.specs.declared.setting.Setting.TheVariants.{SetAlignmentVertical, SetBorders, SetPadding};
 ghost use Rattle.papergrid_layout.specs.declared.sizing.Sizing.TheVariants.{ByShares};
 ghost use Rattle.papergrid_csv.specs.Requests.{IsSeparating, head_line, settings_of, span_settings};
-ghost use Rattle.papergrid_csv.specs.Rows.{texts_of};
+ghost use Rattle.papergrid_csv.specs.Rows.{held_texts};
 ghost use Rattle.papergrid_csv.specs.declared.reading.Format.TheVariants.{Csv};
 ghost use Rattle.papergrid_csv.specs.declared.request.Alignment.TheVariants.{Fixed};
 ghost use Rattle.papergrid_csv.specs.declared.style.Style.TheVariants.{Plain};
@@ -134,7 +134,7 @@ pub fn settings(
     rows: &Rows<'_>,
 ) -> Result<Vec<Setting>, AllocError>
     ensures { IfOk result (λ settings. settings.items
-        ≡ settings_of request.now rows.now.columns (texts_of rows.now.rows)) }
+        ≡ settings_of request.now rows.now.columns (held_texts rows.now.rows)) }
 {
     let below = rows_below(request.has_head, &rows.rows);
     let mut settings = line_settings(alloc, request, rows.rows.len())?;

@@ -11,9 +11,9 @@ ghost use Rattle.papergrid_grid.specs.Crossings.{FitCrossings, IsFitFault};
 ghost use Rattle.papergrid.specs.Pictures.{IsRefusal, texts_drawing};
 ghost use Rattle.papergrid.specs.Runs.{IsWholeInput};
 ghost use Rattle.papergrid_csv.specs.Pictures.{IsCsvRun, IsNarrow, IsWide};
-ghost use Rattle.papergrid_csv.specs.Rows.{row_texts, texts_of};
+ghost use Rattle.papergrid_csv.specs.Rows.{row_texts, held_texts};
 ghost use Rattle.papergrid_csv.specs.declared.run.CsvEnd.TheVariants.{Drawn};
-ghost use Rattle.papergrid_csv.specs.ForProofs.Drawn.{AreFittingOf, IsConfigRun, IsFitFaultOf, IsFree, IsKeptBy, IsRowsRun, IsSettingsRun, IsTableRun, Runs, end_refused, end_unread};
+ghost use Rattle.papergrid_csv.specs.ForProofs.Drawn.{AreFittingOf, IsConfigRun, IsFitFaultOf, IsFree, IsKeptBy, IsRowsRun, IsSettingsRun, IsTableRun, RunsCsv, end_refused, end_unread};
 
 use crate::judging::{first_hidden, first_missing};
 use crate::reading::{Rows, RowsError, read_rows};
@@ -124,7 +124,7 @@ pub fn draw_input<W: Sink>(
     input: &[u8],
     writer: &mut W,
 ) -> Result<CsvEnd, RunFault>
-    ensures { Runs W.contents W.has_failed W.has_stalled (IsCsvRun request.now input.now)
+    ensures { RunsCsv W.contents W.has_failed W.has_stalled (IsCsvRun request.now input.now)
         writer.old writer.new result }
 {
     let texts = Bump::new(alloc);
@@ -153,8 +153,8 @@ pub fn draw_rows<W: Sink>(
     rows: &Rows<'_>,
     writer: &mut W,
 ) -> Result<CsvEnd, RunFault>
-    ensures { Runs W.contents W.has_failed W.has_stalled
-        (IsRowsRun request.now rows.now.columns (texts_of rows.now.rows))
+    ensures { RunsCsv W.contents W.has_failed W.has_stalled
+        (IsRowsRun request.now rows.now.columns (held_texts rows.now.rows))
         writer.old writer.new result }
 {
     if let Some(end) = judged(request, rows) {
@@ -173,8 +173,8 @@ pub fn draw_rows<W: Sink>(
 
 /// How a run ends that rows keep from their picture.
 fn judged(request: &Request, rows: &Rows<'_>) -> Option<CsvEnd>
-    ensures { MatchOption result (IsFree request.now (texts_of rows.now.rows))
-        (IsKeptBy request.now (texts_of rows.now.rows)) }
+    ensures { MatchOption result (IsFree request.now (held_texts rows.now.rows))
+        (IsKeptBy request.now (held_texts rows.now.rows)) }
 {
     if let Some(entry) = first_missing(&rows.rows, &request.columns) {
         return Some(CsvEnd::NoColumn(entry));
@@ -198,7 +198,7 @@ fn draw_records<W: Sink>(
     writer: &mut W,
 ) -> Result<CsvEnd, RunFault>
     requires { All (λ setting. is_in_range setting ≡ true) settings.items }
-    ensures { Runs W.contents W.has_failed W.has_stalled
+    ensures { RunsCsv W.contents W.has_failed W.has_stalled
         (IsSettingsRun request.now settings.items (length rows.now, columns) columns
         (map row_texts rows.now)) writer.old writer.new result }
 {
@@ -272,7 +272,7 @@ fn draw_configured<W: Sink>(
     rows: &[Vec<&str>],
     writer: &mut W,
 ) -> Result<CsvEnd, RunFault>
-    ensures { Runs W.contents W.has_failed W.has_stalled
+    ensures { RunsCsv W.contents W.has_failed W.has_stalled
         (IsConfigRun request.now columns (map row_texts rows.now) config.now)
         writer.old writer.new result }
 {
@@ -293,7 +293,7 @@ fn draw_table<W: Sink>(
 ) -> Result<CsvEnd, RunFault>
     requires { AllHaveRoom (texts_drawing table.now.config (map row_texts rows.now)
         table.now.widths table.now.heights) }
-    ensures { Runs W.contents W.has_failed W.has_stalled (IsTableRun request.now.max_width
+    ensures { RunsCsv W.contents W.has_failed W.has_stalled (IsTableRun request.now.max_width
         (texts_drawing table.now.config (map row_texts rows.now)
         table.now.widths table.now.heights)) writer.old writer.new result }
 {

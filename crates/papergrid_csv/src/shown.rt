@@ -3,7 +3,7 @@
 ghost use Rattle.std.specs.Prelude.{IfOk, map};
 ghost use Rattle.std.specs.List.{AllZip};
 ghost use Rattle.papergrid_csv.specs.Cutting.{IsCut};
-ghost use Rattle.papergrid_csv.specs.Rows.{row_texts, texts_of};
+ghost use Rattle.papergrid_csv.specs.Rows.{row_texts, held_texts};
 
 use crate::cutting::cut;
 use bumpalo::Bump;
@@ -17,7 +17,7 @@ pub fn cut_rows<'t>(
     rows: &[Vec<&'t str>],
 ) -> Result<Vec<Vec<&'t str>>, AllocError>
     ensures { IfOk result (λ shown. AllZip (AllZip (IsCut columns))
-        (map row_texts rows.now) (texts_of shown)) }
+        (map row_texts rows.now) (held_texts shown)) }
 {
     let mut shown = Vec::with_capacity(alloc, rows.len())?;
     for row in rows {

@@ -1,7 +1,7 @@
 //! What the fields of a text stand for, and how their characters are spelled.
 
 ghost use Rattle.std.specs.Prelude.{◌≡◌, ◌++◌, IfOk, OnOk, chars, encode_utf8_all, false, flat_map, replicate, string_bytes};
-ghost use Rattle.papergrid_csv.specs.Spelling.{is_ascii_control, is_other_control, meant, spelled, spelled_character, spelled_in_line, spelled_other, spelled_tab, unescaped};
+ghost use Rattle.papergrid_csv.specs.Spelling.{is_ascii_control, is_other_control, meant, spelled, spelled_character, spelled_in_line, spelled_other, spelled_tab, without_escapes};
 ghost use Rattle.papergrid_csv.specs.ForProofs.Escapes.{after_backslash};
 
 use crate::reading::{Format, Reading};
@@ -54,7 +54,8 @@ fn spell_characters<'t>(
 /// held until the next character comes.
 fn spell_meant<'t>(texts: &'t Bump, reading: Reading, field: &str) -> Result<&'t str, AllocError>
     ensures { IfOk result (λ text. text.now
-        ≡ encode_utf8_all (flat_map (spelled_character reading) (unescaped (chars field.now)))) }
+        ≡ encode_utf8_all
+        (flat_map (spelled_character reading) (without_escapes (chars field.now)))) }
 {
     let mut text = String::with_capacity(texts, field.len())?;
     let mut held = false;

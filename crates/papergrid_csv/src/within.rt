@@ -3,9 +3,9 @@
 ghost use Rattle.std.specs.Prelude.{◌≡◌, ◌⊎◌, ◌↔◌, ℕ, IfOk, IfSome, IsErrOf, IsTrue, List, OnErr, OnOk, false, take, true};
 ghost use Rattle.std.specs.Io.KnownBytes.{Appends, Consumes, IsAtEnd};
 ghost use Rattle.papergrid.specs.Runs.{IsWholeInput};
-ghost use Rattle.papergrid_csv.specs.Rows.{texts_of};
+ghost use Rattle.papergrid_csv.specs.Rows.{held_texts};
 ghost use Rattle.papergrid_csv.specs.Within.{IsRunWithin, cut_request};
-ghost use Rattle.papergrid_csv.specs.ForProofs.Drawn.{Runs};
+ghost use Rattle.papergrid_csv.specs.ForProofs.Drawn.{RunsCsv};
 ghost use Rattle.papergrid_csv.specs.ForProofs.Within.{IsFirstCut};
 ghost use Rattle.papergrid_csv.specs.declared.run.CsvEnd.TheVariants.{Drawn, TooWide};
 
@@ -93,7 +93,7 @@ fn draw_within<W: Sink>(
     input: &[u8],
     writer: &mut W,
 ) -> Result<CsvEnd, RunFault>
-    ensures runs { Runs W.contents W.has_failed W.has_stalled
+    ensures runs { RunsCsv W.contents W.has_failed W.has_stalled
         (IsRunWithin request.old width input.now request.new.cut)
         writer.old writer.new result }
     ensures request { request.new ≡ cut_request request.old width request.new.cut }
@@ -117,7 +117,7 @@ fn draw_within<W: Sink>(
 
 /// The first cut to try, of at most so many columns: each greater one of those changes no field.
 fn first_cut(width: usize, rows: &Rows<'_>) -> usize
-    ensures { IsFirstCut width (texts_of rows.now.rows) result }
+    ensures { IsFirstCut width (held_texts rows.now.rows) result }
 {
     width.min(widest_line(&rows.rows).saturating_sub(1).max(1))
 }

@@ -9,8 +9,8 @@ use Rattle.papergrid_values.specs.declared.position.Position.{Position}
 use Rattle.papergrid_layout.specs.Places.{IsVisibleCell, begin_along}
 use Rattle.papergrid_draw.specs.Contents.{block_at, content}
 use Rattle.papergrid_draw.specs.Drawings.{Drawing, layout_of}
-use Rattle.papergrid_draw.specs.Drawn.{column_pieces, column_stretch, has_vertical, owner_at, rule_line, stands_over, text_line, vertical_pieces}
-use Rattle.papergrid_draw.specs.Laws.{columns_of, stretch_pieces}
+use Rattle.papergrid_draw.specs.Drawn.{column_pieces, column_stretch, draws_vertical, owner_at, rule_line, stands_over, text_line, vertical_pieces}
+use Rattle.papergrid_draw.specs.Laws.{terminal_columns, stretch_pieces}
 use Rattle.papergrid_draw.specs.Pieces.{Piece}
 use Rattle.papergrid_draw.specs.Separated.{AreApartAfter, HasSeparators, IsHonest}
 use Rattle.papergrid_draw.specs.Tiles.{IsTiled}
@@ -52,7 +52,7 @@ module _ (count : ℕ) (first many : ℕ → ℕ) (drawn : ℕ → Bool) where
 
   some-line : (line body : List Piece) → (line ≡ [] → ⊥) → line ++ body ≡ [] → ⊥
   some-line [] body some = absurd (some refl)
-  some-line (piece ∷ line) body some = λ none. (let fewer = ap columns_of none in cc)
+  some-line (piece ∷ line) body some = λ none. (let fewer = ap terminal_columns none in cc)
 
   range-separate : (c : ℕ) (before pieces : List Piece) → IsReady c before → IsRange c pieces → AreSeparate (before ++ pieces)
   range-separate c before pieces ready range =
@@ -139,8 +139,8 @@ module _ (count : ℕ) (first many : ℕ → ℕ) (drawn : ℕ → Bool) where
 module _ (d : Drawing) (honest : IsHonest d) (separated : HasSeparators d) (apart : AreApartAfter d) (tiled : IsTiled (layout_of d)) where
   -- a cell after the line before it
   cell-range : (first many : ℕ → ℕ) (c n : ℕ) (o : Position) (line pieces : List Piece) → IsVisibleCell (layout_of d) o → o.col ≡ c →
-      many c ≡ (layout_of d).grid.span Columns o → pieces ≡ line ++ content (block_at d o) n → AreFills line → (has_vertical d c ≡ true → line ≡ [] → ⊥) →
-      IsRange d.shape.1 first many (has_vertical d) c pieces
+      many c ≡ (layout_of d).grid.span Columns o → pieces ≡ line ++ content (block_at d o) n → AreFills line → (draws_vertical d c ≡ true → line ≡ [] → ⊥) →
+      IsRange d.shape.1 first many (draws_vertical d) c pieces
   cell-range first many c n o line pieces cell here wide is fills drawn =
       let filled = separated.filled o cell in
       let measured = honest o cell in
@@ -153,7 +153,7 @@ module _ (d : Drawing) (honest : IsHonest d) (separated : HasSeparators d) (apar
         there = drawn;
         separate = content-separate (block_at d o) filled measured n;
         after = λ within. elim (apart o cell (omega (arith, within, end))) [
-          | inl vertical ↦ inl (ap (has_vertical d) (sym end) ∙ vertical)
+          | inl vertical ↦ inl (ap (draws_vertical d) (sym end) ∙ vertical)
           | inr padded ↦ inr (content-ends (block_at d o) filled measured padded n)
         ];
       }
@@ -162,10 +162,10 @@ module _ (d : Drawing) (honest : IsHonest d) (separated : HasSeparators d) (apar
   text-after r k row_in =
       let last = vertical-fills d separated r d.shape.1 k in
       separate-append (flat_map (column_pieces d r k) (range_with_len 0 d.shape.1)) (vertical_pieces d r d.shape.1 k)
-      (ranges-separate d.shape.1 (text_first d r) (text_many d r) (has_vertical d) (column_pieces d r k) (text-ranges d tiled r row_in) begun inside)
+      (ranges-separate d.shape.1 (text_first d r) (text_many d r) (draws_vertical d) (column_pieces d r k) (text-ranges d tiled r row_in) begun inside)
       (separate-fills (vertical_pieces d r d.shape.1 k) last) (fills-begin (vertical_pieces d r d.shape.1 k) last)
     where
-      begun : (c : ℕ) → c < d.shape.1 → text_first d r c ≡ c → IsRange d.shape.1 (text_first d r) (text_many d r) (has_vertical d) c (column_pieces d r k c)
+      begun : (c : ℕ) → c < d.shape.1 → text_first d r c ≡ c → IsRange d.shape.1 (text_first d r) (text_many d r) (draws_vertical d) c (column_pieces d r k c)
       begun c below first =
           let found = has-owner (layout_of d) tiled (position_of (r, c)) (row_in, below) in
           let o = found.0 in
@@ -173,7 +173,7 @@ module _ (d : Drawing) (honest : IsHonest d) (separated : HasSeparators d) (apar
           let here : o.col ≡ c = subst (λ owner. first_of owner c ≡ c) has.is first in
           cell-range (text_first d r) (text_many d r) c (text_start d r + k - begin_along (layout_of d) Rows o) o (vertical_pieces d r c k) (column_pieces d r k c)
           (cell-of (layout_of d) (position_of (r, c)) o has) here (ap (many_of (layout_of d)) has.is) (column-begun d r k c o has.is here)
-          (vertical-fills d separated r c k) (λ line none. (let one = ap columns_of (sym (vertical-there d r c k line) ∙ none) in omega arith))
+          (vertical-fills d separated r c k) (λ line none. (let one = ap terminal_columns (sym (vertical-there d r c k line) ∙ none) in omega arith))
 
       inside : (c : ℕ) → c < d.shape.1 → text_first d r c < c → column_pieces d r k c ≡ []
       inside c below left =
@@ -185,19 +185,19 @@ module _ (d : Drawing) (honest : IsHonest d) (separated : HasSeparators d) (apar
       let last = crossing-fills d separated i d.shape.1 in
       subst AreSeparate (sym (all-pieces d i))
       (separate-append (flat_map (rule_pieces d i) (range_with_len 0 d.shape.1)) (crossing_pieces d i d.shape.1)
-      (ranges-separate d.shape.1 (rule_first d i) (rule_many d i) (has_vertical d) (rule_pieces d i) (rule-ranges d tiled i) begun inside)
+      (ranges-separate d.shape.1 (rule_first d i) (rule_many d i) (draws_vertical d) (rule_pieces d i) (rule-ranges d tiled i) begun inside)
       (separate-fills (crossing_pieces d i d.shape.1) last) (fills-begin (crossing_pieces d i d.shape.1) last))
     where
-      crossed : (c : ℕ) → c < d.shape.1 → rule_first d i c ≡ c → has_vertical d c ≡ true → crossing_pieces d i c ≡ [] → ⊥
+      crossed : (c : ℕ) → c < d.shape.1 → rule_first d i c ≡ c → draws_vertical d c ≡ true → crossing_pieces d i c ≡ [] → ⊥
       crossed c below first line none =
           let free = crossing-free d tiled i c (λ _. first) (omega (arith, below)) in
-          let one = ap columns_of (sym (crossing-there d i c line free) ∙ none) in
+          let one = ap terminal_columns (sym (crossing-there d i c line free) ∙ none) in
           omega arith
 
-      begun : (c : ℕ) → c < d.shape.1 → rule_first d i c ≡ c → IsRange d.shape.1 (rule_first d i) (rule_many d i) (has_vertical d) c (rule_pieces d i c)
+      begun : (c : ℕ) → c < d.shape.1 → rule_first d i c ≡ c → IsRange d.shape.1 (rule_first d i) (rule_many d i) (draws_vertical d) c (rule_pieces d i c)
       begun c below first = in_case (stands_over d i c) refl
         where
-          in_case : (over : Bool) → stands_over d i c ≡ over → IsRange d.shape.1 (rule_first d i) (rule_many d i) (has_vertical d) c (rule_pieces d i c)
+          in_case : (over : Bool) → stands_over d i c ≡ over → IsRange d.shape.1 (rule_first d i) (rule_many d i) (draws_vertical d) c (rule_pieces d i c)
           in_case true over =
               let known = over-known d tiled i c below over in
               let o = known.0 in

@@ -10,8 +10,8 @@ use Rattle.papergrid_layout.specs.Places.{IsVisibleCell, begin_along}
 use Rattle.papergrid_draw.specs.Characters.{vertical}
 use Rattle.papergrid_draw.specs.Contents.{block_at, content}
 use Rattle.papergrid_draw.specs.Drawings.{Drawing, layout_of}
-use Rattle.papergrid_draw.specs.Drawn.{column_pieces, has_vertical, rule_line, stands_over, text_line, vertical_pieces}
-use Rattle.papergrid_draw.specs.Laws.{columns_of, stretch_pieces}
+use Rattle.papergrid_draw.specs.Drawn.{column_pieces, draws_vertical, rule_line, stands_over, text_line, vertical_pieces}
+use Rattle.papergrid_draw.specs.Laws.{terminal_columns, stretch_pieces}
 use Rattle.papergrid_draw.specs.Pieces.{Piece}
 use Rattle.papergrid_draw.specs.Separated.{AreApartBefore, HasSeparators, IsHonest}
 use Rattle.papergrid_draw.specs.Tiles.{IsTiled}
@@ -29,14 +29,14 @@ module _ (d : Drawing) (honest : IsHonest d) (separated : HasSeparators d) (apar
 
   -- a cell after the line before it
   cell-column : (c n : ℕ) (o : Position) (line : List Piece) → IsVisibleCell (layout_of d) o → o.col ≡ c → AreFills line →
-      (has_vertical d c ≡ true → (line ≡ [] → ⊥)) → IsColumn c (line ++ content (block_at d o) n)
+      (draws_vertical d c ≡ true → (line ≡ [] → ⊥)) → IsColumn c (line ++ content (block_at d o) n)
   cell-column c n o line cell here fills drawn =
       let filled = separated.filled o cell in
       let measured = honest o cell in
       record {
         separate = fills-separate line (content (block_at d o) n) fills (content-separate (block_at d o) filled measured n);
         begins = λ some. elim (apart o cell (omega (arith, some, here))) [
-          | inl vertical ↦ in_case line fills (drawn (ap (has_vertical d) (sym here) ∙ vertical))
+          | inl vertical ↦ in_case line fills (drawn (ap (draws_vertical d) (sym here) ∙ vertical))
           | inr padded ↦ begin-append line (content (block_at d o) n) (fills-begin line fills) (content-begins (block_at d o) filled measured padded n)
         ];
       }
@@ -58,7 +58,7 @@ module _ (d : Drawing) (honest : IsHonest d) (separated : HasSeparators d) (apar
               let here : o.col ≡ c = omega (arith, from, left) in
               subst (IsColumn c) (sym (column-begun d r k c o has.is here))
               (cell-column c (text_start d r + k - begin_along (layout_of d) Rows o) o (vertical_pieces d r c k) (cell-of (layout_of d) (position_of (r, c)) o has) here
-              (vertical-fills d separated r c k) (λ line none. (let one = ap columns_of (sym (vertical-there d r c k line) ∙ none) in omega arith)))
+              (vertical-fills d separated r c k) (λ line none. (let one = ap terminal_columns (sym (vertical-there d r c k line) ∙ none) in omega arith)))
         ]
 
     pub text-separate : (r k : ℕ) → r < d.shape.0 → AreSeparate (text_line d r k)
@@ -92,7 +92,7 @@ module _ (d : Drawing) (honest : IsHonest d) (separated : HasSeparators d) (apar
                   let free = crossing-free d tiled i c (λ _. first) (omega (arith, col_in)) in
                   subst (IsColumn c) (sym (ap (λ pieces. crossing_pieces d i c ++ pieces) (over-begun d i c o over has.is here)))
                   (cell-column c (row_start d i - begin_along (layout_of d) Rows o) o (crossing_pieces d i c) (cell-of (layout_of d) (position_of (i, c)) o has) here
-                  (crossing-fills d separated i c) (λ line none. (let one = ap columns_of (sym (crossing-there d i c line free) ∙ none) in omega arith)))
+                  (crossing-fills d separated i c) (λ line none. (let one = ap terminal_columns (sym (crossing-there d i c line free) ∙ none) in omega arith)))
             ]
 
     pub rule-separate : (i : ℕ) → AreSeparate (flat_map stretch_pieces (rule_line d i))

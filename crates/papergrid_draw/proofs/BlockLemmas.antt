@@ -8,7 +8,7 @@ use Rattle.papergrid_values.specs.declared.alignment.AlignmentVertical.{Alignmen
 use Rattle.papergrid_values.specs.declared.alignment.AlignmentVertical.TheVariants as vertical
 use Rattle.papergrid_draw.specs.Bytes.{colored, piece_bytes, pieces_bytes}
 use Rattle.papergrid_draw.specs.Contents as contents
-use Rattle.papergrid_draw.specs.Contents.{HasRoom, above, aligned_width, before, block_width, content, free_above, from_text, inner, is_blank, line_pieces, shown, shown_line, shown_lines}
+use Rattle.papergrid_draw.specs.Contents.{FitsPlace, above, aligned_width, before, block_width, content, free_above, from_text, inner, is_blank, line_pieces, shown, shown_line, shown_lines}
 use Rattle.papergrid_draw.specs.Pieces.{CellText, Justification, Padding, Piece, fill}
 use Rattle.papergrid_draw.specs.ForProofs.Blocks.{IsFound, IsShownRange, filled_up, to_text}
 use Rattle.papergrid_draw.specs.ForProofs.Pens.{fill_bytes}
@@ -169,15 +169,15 @@ module _ (b : contents.Block) (first count lines_above width : ℕ) (found : IsF
       ∙ get_or-drop first b.lines k ([], 0)
 
   -- it has room where no line is shown, or the greatest width leaves enough
-  room_from : (count ≡ 0) ⊎ (width + (b.look.padding.left.size + b.look.padding.right.size) ≤ b.width) → HasRoom b
+  room_from : (count ≡ 0) ⊎ (width + (b.look.padding.left.size + b.look.padding.right.size) ≤ b.width) → FitsPlace b
   room_from (inl none) = inl (no_line (shown b) (sym (count_is b.look.formatting.vertical_trim b.lines first count found.shown) ∙ none))
   room_from (inr enough) = inr (subst (λ n. n + (b.look.padding.left.size + b.look.padding.right.size) ≤ b.width) found.widest enough)
 
-  room_to : HasRoom b → (count ≡ 0) ⊎ (width + (b.look.padding.left.size + b.look.padding.right.size) ≤ b.width)
+  room_to : FitsPlace b → (count ≡ 0) ⊎ (width + (b.look.padding.left.size + b.look.padding.right.size) ≤ b.width)
   room_to (inl none) = inl (count_is b.look.formatting.vertical_trim b.lines first count found.shown ∙ ap length none)
   room_to (inr enough) = inr (subst (λ n. n + (b.look.padding.left.size + b.look.padding.right.size) ≤ b.width) (sym found.widest) enough)
 
-  pub room_is : (result : Bool) → (IsTrue result ↔ ((count ≡ 0) ⊎ (width + (b.look.padding.left.size + b.look.padding.right.size) ≤ b.width))) → IsTrue result ↔ HasRoom b
+  pub room_is : (result : Bool) → (IsTrue result ↔ ((count ≡ 0) ⊎ (width + (b.look.padding.left.size + b.look.padding.right.size) ≤ b.width))) → IsTrue result ↔ FitsPlace b
   room_is result told = (λ holds. room_from (told.0 holds), λ room. told.1 (room_to room))
 
   abbrev on_top : List Piece

@@ -11,7 +11,7 @@ use Rattle.papergrid_draw.specs.Colored.{AreInBlocks, Ink, inks_of, piece_ink, s
 use Rattle.papergrid_draw.specs.Drawn.{DrawnLine, OnLine, Over, RuleLine, Stretch, TextLine}
 use Rattle.papergrid_draw.specs.Laws.{pieces_of, stretch_pieces}
 use Rattle.papergrid_draw.specs.Pieces.{Piece}
-use Rattle.papergrid_draw.specs.Separated.{text_of}
+use Rattle.papergrid_draw.specs.Separated.{pieces_text}
 
 abbrev Color : Type 0
 Color = Option (List ℕ × List ℕ)
@@ -172,18 +172,18 @@ neither None color is = (refl, is)
 neither (Some own) color is = cc
 
 plain-pieces : (pieces : List Piece) (inks : List Ink) → All IsPlain (map piece_ink pieces ++ inks) →
-    (pieces_bytes pieces ≡ text_of pieces) × All IsPlain inks
+    (pieces_bytes pieces ≡ pieces_text pieces) × All IsPlain inks
 plain-pieces [] inks all = (refl, all)
 plain-pieces (piece ∷ pieces) inks all =
     let none : piece.color ≡ None = All-head IsPlain (piece_ink piece) (map piece_ink pieces ++ inks) all in
-    let rest : (pieces_bytes pieces ≡ text_of pieces) × All IsPlain inks =
+    let rest : (pieces_bytes pieces ≡ pieces_text pieces) × All IsPlain inks =
     plain-pieces pieces inks (All-tail IsPlain (piece_ink piece) (map piece_ink pieces ++ inks) all) in (
-      (λ i. colored (none i) piece.text ++ rest.0 i) ∙ ap (λ text. text ++ text_of pieces) (append-nil piece.text),
+      (λ i. colored (none i) piece.text ++ rest.0 i) ∙ ap (λ text. text ++ pieces_text pieces) (append-nil piece.text),
       rest.1,
     )
 
 plain-stretches : (stretches : List Stretch) → All IsPlain (flat_map stretch_inks stretches) →
-    rest_of None stretches ≡ text_of (flat_map stretch_pieces stretches)
+    rest_of None stretches ≡ pieces_text (flat_map stretch_pieces stretches)
 plain-stretches [] all = refl
 plain-stretches (OnLine mark ∷ more) all =
     let inks : List Ink = flat_map stretch_inks more in
@@ -194,18 +194,18 @@ plain-stretches (OnLine mark ∷ more) all =
     ∙ append_assoc mark.piece.text (stretches_bytes None more) (suffix_of (used_at_end None more))
     ∙ ap (λ bytes. mark.piece.text ++ bytes) (plain-stretches more (All-tail IsPlain ink inks all))
 plain-stretches (Over pieces ∷ more) all =
-    let both : (pieces_bytes pieces ≡ text_of pieces) × All IsPlain (flat_map stretch_inks more) =
+    let both : (pieces_bytes pieces ≡ pieces_text pieces) × All IsPlain (flat_map stretch_inks more) =
     plain-pieces pieces (flat_map stretch_inks more) all in
     append_assoc (pieces_bytes pieces) (stretches_bytes None more) (suffix_of (used_at_end None more))
     ∙ (λ i. both.0 i ++ plain-stretches more both.1 i)
     ∙ sym (flat_map-append (λ (piece : Piece). piece.text) pieces (flat_map stretch_pieces more))
 
-line-plain : (line : DrawnLine) → All IsPlain (inks_of line) → line_bytes line ≡ text_of (pieces_of line)
+line-plain : (line : DrawnLine) → All IsPlain (inks_of line) → line_bytes line ≡ pieces_text (pieces_of line)
 line-plain (TextLine pieces) all =
     (plain-pieces pieces [] (subst (All IsPlain) (sym (append-nil (map piece_ink pieces))) all)).0
 line-plain (RuleLine stretches) all = plain-stretches stretches all
 
 -- where no text of a line has a colour, its bytes are the texts alone
 pub all-plain : (lines : List DrawnLine) →
-    All (λ line. All (λ ink. ink.0 ≡ None) (inks_of line) → line_bytes line ≡ text_of (pieces_of line)) lines
+    All (λ line. All (λ ink. ink.0 ≡ None) (inks_of line) → line_bytes line ≡ pieces_text (pieces_of line)) lines
 all-plain lines k line below = line-plain (get_or lines k line)

@@ -11,9 +11,9 @@ use Rattle.papergrid_layout.proofs.PlaceSums.{line-before}
 use Rattle.papergrid_draw.specs.Characters.{vertical}
 use Rattle.papergrid_draw.specs.Contents.{block_at, content}
 use Rattle.papergrid_draw.specs.Drawings.{Drawing, layout_of}
-use Rattle.papergrid_draw.specs.Drawn.{after_these, column_pieces, content_from, has_vertical, owner_at, text_line, vertical_pieces}
+use Rattle.papergrid_draw.specs.Drawn.{after_these, column_pieces, content_from, draws_vertical, owner_at, text_line, vertical_pieces}
 use Rattle.papergrid_draw.specs.Faults.{AllHaveRoom}
-use Rattle.papergrid_draw.specs.Laws.{StandAt, columns_of}
+use Rattle.papergrid_draw.specs.Laws.{StandAt, terminal_columns}
 use Rattle.papergrid_draw.specs.Pieces.{Piece}
 use Rattle.papergrid_draw.specs.Tiles.{IsTiled}
 use Rattle.papergrid_draw.specs.ForProofs.Pages.{text_start}
@@ -33,14 +33,14 @@ module _ (d : Drawing) where
 
   -- ---- the pieces of a column
 
-  vertical_or_none : (piece : Piece) (line : Bool) → piece.columns ≡ 1 → columns_of (if line then piece ∷ [] else []) ≡ cond line 1 0
+  vertical_or_none : (piece : Piece) (line : Bool) → piece.columns ≡ 1 → terminal_columns (if line then piece ∷ [] else []) ≡ cond line 1 0
   vertical_or_none piece true one = ap (λ n. 0 + n) one
   vertical_or_none piece false one = refl
 
-  pub columns-vertical : (r j k : ℕ) → columns_of (vertical_pieces d r j k) ≡ cond (has_vertical d j) 1 0
-  columns-vertical r j k = vertical_or_none (vertical d.config d.shape (at r j) (d.heights r) k) (has_vertical d j) refl
+  pub columns-vertical : (r j k : ℕ) → terminal_columns (vertical_pieces d r j k) ≡ cond (draws_vertical d j) 1 0
+  columns-vertical r j k = vertical_or_none (vertical d.config d.shape (at r j) (d.heights r) k) (draws_vertical d j) refl
 
-  pub vertical-there : (r j k : ℕ) → has_vertical d j ≡ true → vertical_pieces d r j k ≡ vertical d.config d.shape (at r j) (d.heights r) k ∷ []
+  pub vertical-there : (r j k : ℕ) → draws_vertical d j ≡ true → vertical_pieces d r j k ≡ vertical d.config d.shape (at r j) (d.heights r) k ∷ []
   vertical-there r j k line = ap (λ b. if b then vertical d.config d.shape (at r j) (d.heights r) k ∷ [] else []) line
 
   -- the line of a cell that begins there, after the line before it
@@ -106,10 +106,10 @@ module _ (d : Drawing) where
             let here : o.col ≡ c = subst (λ owner. first_of owner c ≡ c) has.is first in
             let n = text_start d r + k - begin_along (layout_of d) Rows o in
             let wide : (layout_of d).grid.span Columns o ≡ text_many d r c = sym (ap (many_of (layout_of d)) has.is) in
-            ap columns_of (column-begun r k c o has.is here)
+            ap terminal_columns (column-begun r k c o has.is here)
             ∙ columns-append (vertical_pieces d r c k) (content (block_at d o) n)
             ∙ (λ i. columns-vertical r c k i + columns-content (block_at d o) (has-room d o room (cell-of (layout_of d) (at r c) o has)) n i)
-            ∙ (λ i. cond (has_vertical d c) 1 0 + extent (track_size (layout_of d) Columns) (track_line (layout_of d) Columns) (here i) (wide i));
+            ∙ (λ i. cond (draws_vertical d c) 1 0 + extent (track_size (layout_of d) Columns) (track_line (layout_of d) Columns) (here i) (wide i));
         inside = λ c below left.
             let found = has-owner (layout_of d) tiled (at r c) (row_in, below) in
             column-inside r k c found.0 found.1.is (subst (λ owner. first_of owner c < c) found.1.is left);
@@ -118,12 +118,12 @@ module _ (d : Drawing) where
       -- ---- what is left of a column, and the whole line
 
       pub columns-left : (r k c : ℕ) → r < d.shape.0 → c ≤ d.shape.1 → (c < d.shape.1 → text_first d r c ≡ c) →
-          columns_of (flat_map (column_pieces d r k) (range_with_len 0 c)) ≡ line_offset (track_size (layout_of d) Columns) (track_line (layout_of d) Columns) c
+          terminal_columns (flat_map (column_pieces d r k) (range_with_len 0 c)) ≡ line_offset (track_size (layout_of d) Columns) (track_line (layout_of d) Columns) c
       columns-left r k c row_in within begins =
           columns-before (track_size (layout_of d) Columns) (track_line (layout_of d) Columns) d.shape.1 (text_first d r) (text_many d r) (column_pieces d r k)
           (text-ranges r row_in) (text-filled r k row_in) c within begins
 
-      pub columns-text_line : (r k : ℕ) → r < d.shape.0 → columns_of (text_line d r k) ≡ total_along (layout_of d) Columns
+      pub columns-text_line : (r k : ℕ) → r < d.shape.0 → terminal_columns (text_line d r k) ≡ total_along (layout_of d) Columns
       columns-text_line r k row_in =
           columns-append (flat_map (column_pieces d r k) (range_with_len 0 d.shape.1)) (vertical_pieces d r d.shape.1 k)
           ∙ (λ i. columns-left r k d.shape.1 row_in (omega arith) (λ past. absurd (omega arith)) i + columns-vertical r d.shape.1 k i)
@@ -157,7 +157,7 @@ module _ (d : Drawing) where
           )
 
       -- a vertical line, beside which no cell covers both sides
-      pub line-in-text_line : (r k j : ℕ) → r < d.shape.0 → j ≤ d.shape.1 → has_vertical d j ≡ true → (j < d.shape.1 → text_first d r j ≡ j) →
+      pub line-in-text_line : (r k j : ℕ) → r < d.shape.0 → j ≤ d.shape.1 → draws_vertical d j ≡ true → (j < d.shape.1 → text_first d r j ≡ j) →
           StandAt (text_line d r k) (line_offset (track_size (layout_of d) Columns) (track_line (layout_of d) Columns) j)
           (vertical d.config d.shape (at r j) (d.heights r) k ∷ [])
       line-in-text_line r k j row_in within line begins = elim (cases_lt j d.shape.1) [

@@ -10,38 +10,38 @@ use Rattle.papergrid_values.specs.declared.alignment.AlignmentHorizontal.TheVari
 use Rattle.papergrid_values.specs.declared.position.Position.{Position}
 use Rattle.papergrid_layout.specs.Places.{IsVisibleCell}
 use Rattle.papergrid_draw.specs.Contents as contents
-use Rattle.papergrid_draw.specs.Contents.{HasRoom, above, before, block_at, block_width, content, free_above, free_before, from_text, inner, is_blank, line_pieces, shown, shown_line, shown_lines}
+use Rattle.papergrid_draw.specs.Contents.{FitsPlace, above, before, block_at, block_width, content, free_above, free_before, from_text, inner, is_blank, line_pieces, shown, shown_line, shown_lines}
 use Rattle.papergrid_draw.specs.Drawings.{Drawing, layout_of}
 use Rattle.papergrid_draw.specs.Faults.{AllHaveRoom}
-use Rattle.papergrid_draw.specs.Laws.{StandAt, columns_of, text_piece}
+use Rattle.papergrid_draw.specs.Laws.{StandAt, terminal_columns, text_piece}
 use Rattle.papergrid_draw.specs.Pieces.{Justification, Kind, Padding, Piece, fill, fill_text}
 use Rattle.papergrid_draw.proofs.BlockLemmas.{Line, free_above-le}
 
 -- ---- columns of pieces
 
-pub columns-append : (a b : List Piece) → columns_of (a ++ b) ≡ columns_of a + columns_of b
+pub columns-append : (a b : List Piece) → terminal_columns (a ++ b) ≡ terminal_columns a + terminal_columns b
 columns-append a b = sum_by-append (λ (piece : Piece). piece.columns) a b
 
-pub columns-cons : (piece : Piece) (pieces : List Piece) → columns_of (piece ∷ pieces) ≡ piece.columns + columns_of pieces
+pub columns-cons : (piece : Piece) (pieces : List Piece) → terminal_columns (piece ∷ pieces) ≡ piece.columns + terminal_columns pieces
 columns-cons piece pieces = sum_by-cons (λ (p : Piece). p.columns) piece pieces
 
-one_or_none : (none : Bool) (piece : Piece) → (piece.columns == 0) ≡ none → columns_of (if none then [] else (piece ∷ [])) ≡ piece.columns
+one_or_none : (none : Bool) (piece : Piece) → (piece.columns == 0) ≡ none → terminal_columns (if none then [] else (piece ∷ [])) ≡ piece.columns
 one_or_none true piece is = sym (eqb-true piece.columns 0 is)
 one_or_none false piece is = let one = columns-cons piece [] in omega (arith, one)
 
 -- what fills up takes as many as its characters
-pub columns-fill : (kind : Kind) (character n : ℕ) (color : Option (List ℕ × List ℕ)) → columns_of (fill kind character n color) ≡ n
+pub columns-fill : (kind : Kind) (character n : ℕ) (color : Option (List ℕ × List ℕ)) → terminal_columns (fill kind character n color) ≡ n
 columns-fill kind character n color =
     one_or_none (n == 0) (record { kind = kind; text = fill_text character n; columns = n; color = color }) refl
 
 columns-five : (a b : List Piece) (text : Piece) (c d : List Piece) →
-    columns_of (a ++ b ++ text ∷ c ++ d) ≡ columns_of a + (columns_of b + (text.columns + (columns_of c + columns_of d)))
+    terminal_columns (a ++ b ++ text ∷ c ++ d) ≡ terminal_columns a + (terminal_columns b + (text.columns + (terminal_columns c + terminal_columns d)))
 columns-five a b text c d =
     let joined : a ++ b ++ text ∷ c ++ d ≡ a ++ (b ++ (text ∷ (c ++ d))) = simp append_assoc in
-    ap columns_of joined
+    ap terminal_columns joined
     ∙ columns-append a (b ++ (text ∷ (c ++ d)))
-    ∙ ap (λ n. columns_of a + n) (columns-append b (text ∷ (c ++ d))
-    ∙ ap (λ n. columns_of b + n) (columns-cons text (c ++ d)
+    ∙ ap (λ n. terminal_columns a + n) (columns-append b (text ∷ (c ++ d))
+    ∙ ap (λ n. terminal_columns b + n) (columns-cons text (c ++ d)
     ∙ ap (λ n. text.columns + n) (columns-append c d)))
 
 -- ---- pieces that stand among others
@@ -116,7 +116,7 @@ module _ (b : contents.Block) where
     pub fits : before b line + line.1 ≤ inner b
 
   -- each has room there
-  pub line-fits : HasRoom b → (i : ℕ) → i < length (shown b) → FitsBetween (line_at i)
+  pub line-fits : FitsPlace b → (i : ℕ) → i < length (shown b) → FitsBetween (line_at i)
   line-fits (inl none) i below = let empty : length (shown b) ≡ 0 = ap length none in absurd (omega arith)
   line-fits (inr room) i below =
       let trims = b.look.formatting.horizontal_trim in
@@ -140,20 +140,20 @@ module _ (b : contents.Block) where
     abbrev right : List Piece
     right = fill Padding b.look.padding.right.fill b.look.padding.right.size b.look.padding_color.right
 
-    left-is : columns_of left ≡ b.look.padding.left.size
+    left-is : terminal_columns left ≡ b.look.padding.left.size
     left-is = columns-fill Padding b.look.padding.left.fill b.look.padding.left.size b.look.padding_color.left
 
-    start-is : columns_of start ≡ before b line
+    start-is : terminal_columns start ≡ before b line
     start-is = columns-fill Justification b.look.justification (before b line) b.look.justification_color
 
     -- it is as wide as the place
-    columns-line : FitsBetween line → columns_of (line_pieces b line) ≡ b.width
+    columns-line : FitsBetween line → terminal_columns (line_pieces b line) ≡ b.width
     columns-line between =
-        let parts : columns_of (line_pieces b line) ≡ columns_of left + (columns_of start + (line.1 + (columns_of rest + columns_of right))) =
+        let parts : terminal_columns (line_pieces b line) ≡ terminal_columns left + (terminal_columns start + (line.1 + (terminal_columns rest + terminal_columns right))) =
         columns-five left start (text_piece b line) rest right in
-        let rest-is : columns_of rest ≡ inner b - (before b line + line.1) =
+        let rest-is : terminal_columns rest ≡ inner b - (before b line + line.1) =
         columns-fill Justification b.look.justification (inner b - (before b line + line.1)) b.look.justification_color in
-        let right-is : columns_of right ≡ b.look.padding.right.size =
+        let right-is : terminal_columns right ≡ b.look.padding.right.size =
         columns-fill Padding b.look.padding.right.fill b.look.padding.right.size b.look.padding_color.right in
         omega (arith, parts, left-is, start-is, rest-is, right-is, between.sides, between.fits)
 
@@ -169,11 +169,11 @@ module _ (b : contents.Block) where
   -- ---- each line of a place
 
   -- is as wide as that
-  pub columns-content : HasRoom b → (k : ℕ) → columns_of (content b k) ≡ b.width
+  pub columns-content : FitsPlace b → (k : ℕ) → terminal_columns (content b k) ≡ b.width
   columns-content room k = in_case (nat_lt k (above b)) (nat_lt k (above b + length (shown b))) refl refl
     where
       in_case : (s t : Bool) → nat_lt k (above b) ≡ s → nat_lt k (above b + length (shown b)) ≡ t →
-          columns_of (if s then fill Padding b.look.padding.top.fill b.width b.look.padding_color.top
+          terminal_columns (if s then fill Padding b.look.padding.top.fill b.width b.look.padding_color.top
           else (if t then line_pieces b (line_at (k - above b))
           else fill Padding b.look.padding.bottom.fill b.width b.look.padding_color.bottom)) ≡ b.width
       in_case true t first second = columns-fill Padding b.look.padding.top.fill b.width b.look.padding_color.top
@@ -203,14 +203,14 @@ module _ (b : contents.Block) where
 -- ---- room
 
 -- a cell has room or not
-room_or : (b : contents.Block) → HasRoom b ⊎ (HasRoom b → ⊥)
+room_or : (b : contents.Block) → FitsPlace b ⊎ (FitsPlace b → ⊥)
 room_or b = elim (cases_lt b.width (block_width b.look.formatting.horizontal_trim b.lines + (b.look.padding.left.size + b.look.padding.right.size))) [
   | inl narrow ↦ by_lines narrow (shown b) refl
   | inr enough ↦ inl (inr enough)
 ]
   where
     by_lines : b.width < block_width b.look.formatting.horizontal_trim b.lines + (b.look.padding.left.size + b.look.padding.right.size) →
-        (lines : List Line) → shown b ≡ lines → HasRoom b ⊎ (HasRoom b → ⊥)
+        (lines : List Line) → shown b ≡ lines → FitsPlace b ⊎ (FitsPlace b → ⊥)
     by_lines narrow [] is = inl (inl is)
     by_lines narrow (line ∷ lines) is = inr (λ room. elim room [
       | inl none ↦ (let both : length (line ∷ lines) ≡ 0 = ap length (sym is ∙ none) in absurd (omega arith))
@@ -218,7 +218,7 @@ room_or b = elim (cases_lt b.width (block_width b.look.formatting.horizontal_tri
     ])
 
 -- so each visible cell has, if none lacks it
-pub has-room : (d : Drawing) (p : Position) → AllHaveRoom d → IsVisibleCell (layout_of d) p → HasRoom (block_at d p)
+pub has-room : (d : Drawing) (p : Position) → AllHaveRoom d → IsVisibleCell (layout_of d) p → FitsPlace (block_at d p)
 has-room d p all cell = elim (room_or (block_at d p)) [
   | inl room ↦ room
   | inr lacks ↦ absurd (all p (record { is_cell = cell; lacks = lacks }))

@@ -11,7 +11,7 @@ use Rattle.papergrid_text.proofs.Splits.{only_split}
 use Rattle.papergrid_layout.specs.Places.{total_along}
 use Rattle.papergrid_draw.specs.Bytes.{line_bytes}
 use Rattle.papergrid_draw.specs.Drawings.{Drawing, layout_of}
-use Rattle.papergrid_draw.specs.Drawn.{drawn_lines, has_horizontal, rule_lines}
+use Rattle.papergrid_draw.specs.Drawn.{drawn_lines, draws_horizontal, rule_lines}
 use Rattle.papergrid_draw.specs.Faults.{whole_height}
 use Rattle.papergrid_draw.specs.Margins.{printed, printed_lines}
 use Rattle.papergrid_draw.specs.ForProofs.Pages.{row_start, text_start}
@@ -27,8 +27,8 @@ drawn-count d =
     let both : length (drawn_lines d) ≡ length (first_rows d n) + length (rule_lines d n) =
     length-append (first_rows d n) (rule_lines d n) in
     let rows : length (first_rows d n) ≡ row_start d n = length-first_rows d n in
-    let rule : length (rule_lines d n) ≡ cond (has_horizontal d n) 1 0 = length-rule_lines d n in
-    let after : text_start d n ≡ row_start d n + cond (has_horizontal d n) 1 0 = text-after d n in
+    let rule : length (rule_lines d n) ≡ cond (draws_horizontal d n) 1 0 = length-rule_lines d n in
+    let after : text_start d n ≡ row_start d n + cond (draws_horizontal d n) 1 0 = text-after d n in
     let all : length (drawn_lines d) ≡ text_start d n = omega arith in
     all
 

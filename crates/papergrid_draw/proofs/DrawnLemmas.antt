@@ -10,9 +10,9 @@ use Rattle.papergrid_layout.specs.Places.{extent, line_offset, offset, total_alo
 use Rattle.papergrid_layout.proofs.MarkLemmas.{extent-end}
 use Rattle.papergrid_layout.proofs.PlaceSums.{line-before, offset-after}
 use Rattle.papergrid_draw.specs.Drawings.{Drawing, layout_of}
-use Rattle.papergrid_draw.specs.Drawn.{DrawnLine, RuleLine, TextLine, drawn_lines, has_horizontal, row_lines, rule_line, rule_lines, text_line}
+use Rattle.papergrid_draw.specs.Drawn.{DrawnLine, RuleLine, TextLine, drawn_lines, draws_horizontal, row_lines, rule_line, rule_lines, text_line}
 use Rattle.papergrid_draw.specs.Faults.{AllHaveRoom}
-use Rattle.papergrid_draw.specs.Laws.{columns_of, pieces_of}
+use Rattle.papergrid_draw.specs.Laws.{terminal_columns, pieces_of}
 use Rattle.papergrid_draw.specs.Tiles.{IsTiled}
 use Rattle.papergrid_draw.specs.ForProofs.Pages.{row_start, text_start}
 use Rattle.papergrid_draw.proofs.ColumnLemmas.{columns-text_line}
@@ -66,18 +66,18 @@ module _ (d : Drawing) where
 
   pub text_line-at : (r k : ℕ) → r < d.shape.0 → k < d.heights r → slice_get (drawn_lines d) (text_start d r + k) ≡ Some (TextLine (text_line d r k))
   text_line-at r k row_in below =
-      let n = cond (has_horizontal d r) 1 0 + k in
-      let at : text_start d r + k ≡ row_start d r + (cond (has_horizontal d r) 1 0 + k) = let after = text-after d r in omega (arith, after) in
-      let there : cond (has_horizontal d r) 1 0 + k ≡ length (rule_lines d r) + k = ap (λ m. m + k) (sym (length-rule_lines d r)) in
+      let n = cond (draws_horizontal d r) 1 0 + k in
+      let at : text_start d r + k ≡ row_start d r + (cond (draws_horizontal d r) 1 0 + k) = let after = text-after d r in omega (arith, after) in
+      let there : cond (draws_horizontal d r) 1 0 + k ≡ length (rule_lines d r) + k = ap (λ m. m + k) (sym (length-rule_lines d r)) in
       ap (slice_get (drawn_lines d)) at
       ∙ line-of-row r n (TextLine (text_line d r k)) row_in
       (get-right (rule_lines d r) (map (λ i. TextLine (text_line d r i)) (range_with_len 0 (d.heights r))) n k there
       ∙ get-mapped (λ i. TextLine (text_line d r i)) 0 (d.heights r) k k below (omega arith))
 
-  rule-there : (i : ℕ) → has_horizontal d i ≡ true → rule_lines d i ≡ RuleLine (rule_line d i) ∷ []
+  rule-there : (i : ℕ) → draws_horizontal d i ≡ true → rule_lines d i ≡ RuleLine (rule_line d i) ∷ []
   rule-there i line = ap (λ b. if b then RuleLine (rule_line d i) ∷ [] else []) line
 
-  pub rule_line-at : (i : ℕ) → i ≤ d.shape.0 → has_horizontal d i ≡ true → slice_get (drawn_lines d) (row_start d i) ≡ Some (RuleLine (rule_line d i))
+  pub rule_line-at : (i : ℕ) → i ≤ d.shape.0 → draws_horizontal d i ≡ true → slice_get (drawn_lines d) (row_start d i) ≡ Some (RuleLine (rule_line d i))
   rule_line-at i within line = elim (cases_lt i d.shape.0) [
     | inl before ↦
         ap (slice_get (drawn_lines d)) (let e : row_start d i ≡ row_start d i + 0 = omega arith in e)
@@ -95,7 +95,7 @@ module _ (d : Drawing) where
 
   module _ (P : DrawnLine → Type 0) (text : (r k : ℕ) → r < d.shape.0 → P (TextLine (text_line d r k))) (rule : (i : ℕ) → P (RuleLine (rule_line d i))) where
     of-rules : (i : ℕ) → All P (rule_lines d i)
-    of-rules i = in_case (has_horizontal d i)
+    of-rules i = in_case (draws_horizontal d i)
       where
         in_case : (line : Bool) → All P (if line then RuleLine (rule_line d i) ∷ [] else [])
         in_case true = All-cons P (RuleLine (rule_line d i)) [] (rule i) (All-nil P)
@@ -113,9 +113,9 @@ module _ (d : Drawing) where
         (All-joined P (row_lines d) 0 d.shape.0 (λ r below. of-row r (omega (arith, below)))) (of-rules d.shape.0)
 
   -- each is as wide as the table
-  pub all-wide : IsTiled (layout_of d) → AllHaveRoom d → All (λ line. columns_of (pieces_of line) ≡ total_along (layout_of d) Columns) (drawn_lines d)
+  pub all-wide : IsTiled (layout_of d) → AllHaveRoom d → All (λ line. terminal_columns (pieces_of line) ≡ total_along (layout_of d) Columns) (drawn_lines d)
   all-wide tiled room =
-      All-drawn (λ line. columns_of (pieces_of line) ≡ total_along (layout_of d) Columns)
+      All-drawn (λ line. terminal_columns (pieces_of line) ≡ total_along (layout_of d) Columns)
       (λ r k row_in. columns-text_line d tiled room r k row_in) (λ i. columns-rule_line d tiled i room)
 
 -- ---- what stands in a range of rows

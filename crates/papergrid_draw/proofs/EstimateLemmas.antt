@@ -21,7 +21,7 @@ use Rattle.papergrid_walk.specs.Measures.{line_measure}
 use Rattle.papergrid_layout.specs.Laws.{IsCellAt}
 use Rattle.papergrid_layout.specs.Places.{IsVisibleCell, extent, length_along, sum_from, track_line}
 use Rattle.papergrid_layout.proofs.PlaceLemmas.{has-placed}
-use Rattle.papergrid_draw.specs.Contents.{HasRoom, block_at, block_width, shown_lines}
+use Rattle.papergrid_draw.specs.Contents.{FitsPlace, block_at, block_width, shown_lines}
 use Rattle.papergrid_draw.specs.Drawings.{Drawing, layout_of}
 use Rattle.papergrid_draw.specs.Faults.{AllHaveRoom}
 use Rattle.papergrid_draw.specs.Laws.{AreLinesAt, AreMeasuredAt, AreNoWider}
@@ -152,7 +152,7 @@ module _ {C : Type 0} where
         ap (λ size. extent size line demand.start demand.span) same in
         omega arith
 
-    room-at : (p : Position) → IsVisibleCell (layout_of d) p → AreMeasuredAt measure rows p (d.lines p) → HasRoom (block_at d p)
+    room-at : (p : Position) → IsVisibleCell (layout_of d) p → AreMeasuredAt measure rows p (d.lines p) → FitsPlace (block_at d p)
     room-at p is lines =
         let look = (block_at d p).look in
         elim (cell-or-none rows p) [

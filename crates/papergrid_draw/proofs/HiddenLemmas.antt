@@ -10,7 +10,7 @@ use Rattle.papergrid_draw.specs.Bytes.{line_bytes}
 use Rattle.papergrid_draw.specs.Characters.{segment}
 use Rattle.papergrid_draw.specs.Contents.{block_at, content, look_of}
 use Rattle.papergrid_draw.specs.Drawings.{Drawing, layout_of}
-use Rattle.papergrid_draw.specs.Drawn.{OnLine, RuleLine, TextLine, after_these, column_pieces, column_stretch, content_from, crossing_stretch, drawn_lines, has_horizontal, over_line, owner_at, row_lines, rule_line, rule_lines, stands_over, text_line, vertical_pieces}
+use Rattle.papergrid_draw.specs.Drawn.{OnLine, RuleLine, TextLine, after_these, column_pieces, column_stretch, content_from, crossing_stretch, drawn_lines, draws_horizontal, over_line, owner_at, row_lines, rule_line, rule_lines, stands_over, text_line, vertical_pieces}
 use Rattle.papergrid_draw.specs.Margins.{printed, with_margins}
 use Rattle.papergrid_draw.specs.Pieces.{Piece}
 use Rattle.papergrid_draw.proofs.PageLemmas.{owner-behind, owner-shown}
@@ -101,7 +101,7 @@ module _ (d : Drawing) (lines : Position → List (List ℕ × ℕ)) (color : Po
       (λ c from below. ap (λ stretches. crossing_stretch d i c ++ stretches) (same-stretch i c (omega (arith, below)))))
 
   same-rules : (i : ℕ) → rule_lines d i ≡ rule_lines other i
-  same-rules i = ap (λ line. if has_horizontal d i then RuleLine line ∷ [] else []) (same-rule i)
+  same-rules i = ap (λ line. if draws_horizontal d i then RuleLine line ∷ [] else []) (same-rule i)
 
   -- ---- all lines
 

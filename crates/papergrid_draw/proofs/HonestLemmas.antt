@@ -12,7 +12,7 @@ use Rattle.papergrid_layout.specs.Laws.{IsCellAt}
 use Rattle.papergrid_layout.specs.Places.{IsVisibleCell}
 use Rattle.papergrid_draw.specs.Drawings.{Drawing, layout_of}
 use Rattle.papergrid_draw.specs.Laws.{AreLinesAt}
-use Rattle.papergrid_draw.specs.Separated.{IsHonest, IsMeasured}
+use Rattle.papergrid_draw.specs.Separated.{IsHonest, IsMeasuredLine}
 use Rattle.papergrid_draw.proofs.EstimateLemmas.{cell-or-none}
 
 -- a text cut at a newline
@@ -48,10 +48,10 @@ lines-utf8 : (text : List ℕ) → IsUtf8 text → All IsUtf8 (split_lines text)
 lines-utf8 text utf8 = parts-utf8 (split_lines text) (subst IsUtf8 (sym (join_with_byte-slice_split 10 text)) utf8)
 
 -- and with their widths they are as wide as is told
-all-measured : (parts : List (List ℕ)) → All IsUtf8 parts → All IsMeasured (map with_width parts)
-all-measured [] all = All-nil IsMeasured
+all-measured : (parts : List (List ℕ)) → All IsUtf8 parts → All IsMeasuredLine (map with_width parts)
+all-measured [] all = All-nil IsMeasuredLine
 all-measured (part ∷ parts) all =
-    All-cons IsMeasured (with_width part) (map with_width parts) (All-head IsUtf8 part parts all, refl) (all-measured parts (All-tail IsUtf8 part parts all))
+    All-cons IsMeasuredLine (with_width part) (map with_width parts) (All-head IsUtf8 part parts all, refl) (all-measured parts (All-tail IsUtf8 part parts all))
 
 pub texts-honest : {C : Type 0} (d : Drawing) (text : C → List ℕ) (rows : List (List C)) →
     ((p : Position) → IsVisibleCell (layout_of d) p → AreLinesAt text rows p (d.lines p)) →
@@ -60,7 +60,7 @@ texts-honest d text rows are utf8 p cell =
     let lines = are p cell in
     elim (cell-or-none rows p) [
       | inl here ↦
-          subst (All IsMeasured) (sym (lines.of_cell here.0 here.1))
+          subst (All IsMeasuredLine) (sym (lines.of_cell here.0 here.1))
           (all-measured (split_lines (text here.0)) (lines-utf8 (text here.0) (utf8 p here.0 here.1)))
-      | inr none ↦ subst (All IsMeasured) (sym (lines.of_none none)) (All-nil IsMeasured)
+      | inr none ↦ subst (All IsMeasuredLine) (sym (lines.of_none none)) (All-nil IsMeasuredLine)
     ]

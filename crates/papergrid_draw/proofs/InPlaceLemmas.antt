@@ -11,9 +11,9 @@ use Rattle.papergrid_layout.proofs.PointLemmas.{none-but-visible}
 use Rattle.papergrid_draw.specs.Characters.{Mark, crossing, segment, vertical}
 use Rattle.papergrid_draw.specs.Contents.{above, before, block_at, content, line_pieces, shown, shown_line}
 use Rattle.papergrid_draw.specs.Drawings.{Drawing, layout_of}
-use Rattle.papergrid_draw.specs.Drawn.{RuleLine, TextLine, drawn_lines, has_horizontal, has_vertical, owner_at, rule_line, stands_over, stands_over_crossing, text_line}
+use Rattle.papergrid_draw.specs.Drawn.{RuleLine, TextLine, drawn_lines, draws_horizontal, draws_vertical, owner_at, rule_line, stands_over, stands_over_crossing, text_line}
 use Rattle.papergrid_draw.specs.Faults.{AllHaveRoom}
-use Rattle.papergrid_draw.specs.Laws.{AreDrawnAt, StandAt, columns_of, pieces_of, text_piece}
+use Rattle.papergrid_draw.specs.Laws.{AreDrawnAt, StandAt, terminal_columns, pieces_of, text_piece}
 use Rattle.papergrid_draw.specs.Tiles.{IsTiled, Owns}
 use Rattle.papergrid_draw.specs.ForProofs.Pages.{row_start, text_start}
 use Rattle.papergrid_draw.specs.ForProofs.Ranges.{first_of, text_first}
@@ -26,7 +26,7 @@ use Rattle.papergrid_draw.proofs.TileLemmas.{has-owner, owns-owner}
 
 -- each line of a cell's place is as wide as that
 pub cells-wide : (d : Drawing) → AllHaveRoom d → (p : Position) → IsVisibleCell (layout_of d) p → (k : ℕ) →
-    columns_of (content (block_at d p) k) ≡ length_along (layout_of d) Columns p
+    terminal_columns (content (block_at d p) k) ≡ length_along (layout_of d) Columns p
 cells-wide d room p cell k = columns-content (block_at d p) (has-room d p room cell) k
 
 module _ (d : Drawing) (tiled : IsTiled (layout_of d)) (room : AllHaveRoom d) where
@@ -135,7 +135,7 @@ module _ (d : Drawing) (tiled : IsTiled (layout_of d)) (room : AllHaveRoom d) wh
         | inr from ↦ omega (arith, first, from, left)
       ]
 
-  pub vertical-drawn : (r j k : ℕ) → r < d.shape.0 → k < d.heights r → j ≤ d.shape.1 → has_vertical d j ≡ true →
+  pub vertical-drawn : (r j k : ℕ) → r < d.shape.0 → k < d.heights r → j ≤ d.shape.1 → draws_vertical d j ≡ true →
       (0 < j → j < d.shape.1 → owner_at d r (j - 1) ≢ owner_at d r j) →
       AreDrawnAt d (line_offset (track_size (layout_of d) Columns) (track_line (layout_of d) Columns) j)
       (offset (track_size (layout_of d) Rows) (track_line (layout_of d) Rows) r + k)
@@ -146,7 +146,7 @@ module _ (d : Drawing) (tiled : IsTiled (layout_of d)) (room : AllHaveRoom d) wh
     line-in-text_line d tiled room r k j row_in within line (begins-after r j row_in apart),
   )
 
-  pub segment-drawn : (i c : ℕ) → i ≤ d.shape.0 → c < d.shape.1 → has_horizontal d i ≡ true → stands_over d i c ≡ false →
+  pub segment-drawn : (i c : ℕ) → i ≤ d.shape.0 → c < d.shape.1 → draws_horizontal d i ≡ true → stands_over d i c ≡ false →
       AreDrawnAt d (offset (track_size (layout_of d) Columns) (track_line (layout_of d) Columns) c)
       (line_offset (track_size (layout_of d) Rows) (track_line (layout_of d) Rows) i)
       (map (λ (mark : Mark). mark.piece) (segment d.config d.shape (position_of (i, c)) (d.widths c)))
@@ -156,7 +156,7 @@ module _ (d : Drawing) (tiled : IsTiled (layout_of d)) (room : AllHaveRoom d) wh
     segment-in-rule_line d tiled i room c below free,
   )
 
-  pub crossing-drawn : (i j : ℕ) → i ≤ d.shape.0 → j ≤ d.shape.1 → has_horizontal d i ≡ true → has_vertical d j ≡ true → stands_over_crossing d i j ≡ false →
+  pub crossing-drawn : (i j : ℕ) → i ≤ d.shape.0 → j ≤ d.shape.1 → draws_horizontal d i ≡ true → draws_vertical d j ≡ true → stands_over_crossing d i j ≡ false →
       AreDrawnAt d (line_offset (track_size (layout_of d) Columns) (track_line (layout_of d) Columns) j)
       (line_offset (track_size (layout_of d) Rows) (track_line (layout_of d) Rows) i)
       ((crossing d.config d.shape (position_of (i, j))).piece ∷ [])

@@ -16,9 +16,9 @@ use Rattle.papergrid_draw.specs.Characters.{vertical}
 use Rattle.papergrid_draw.specs.Contents as contents
 use Rattle.papergrid_draw.specs.Contents.{content}
 use Rattle.papergrid_draw.specs.Drawings.{Drawing, layout_of}
-use Rattle.papergrid_draw.specs.Drawn.{column_pieces, has_vertical, text_line, vertical_pieces}
+use Rattle.papergrid_draw.specs.Drawn.{column_pieces, draws_vertical, text_line, vertical_pieces}
 use Rattle.papergrid_draw.specs.Pieces.{Piece}
-use Rattle.papergrid_draw.specs.ForProofs.Pages.{AreSlots, IsFrame, IsSlot, Texts, drawing_of, slot_of, text_start}
+use Rattle.papergrid_draw.specs.ForProofs.Pages.{AreSlots, IsFrame, IsSlot, Texts, drawing_of, slot_at, text_start}
 use Rattle.papergrid_draw.specs.declared.page.Frame.{Frame}
 use Rattle.papergrid_draw.specs.declared.page.Slot.{Slot}
 use Rattle.papergrid_draw.proofs.PageLemmas.{begins-before, column-none, column-some, slot-next}
@@ -52,12 +52,12 @@ column-more f n before between after so_far more =
 
 module _ (d : Drawing) where
   -- no vertical line adds nothing
-  pub vertical-none : (r j k : ℕ) (bytes : List ℕ) → has_vertical d j ≡ false → bytes ≡ bytes ++ pieces_bytes (vertical_pieces d r j k)
+  pub vertical-none : (r j k : ℕ) (bytes : List ℕ) → draws_vertical d j ≡ false → bytes ≡ bytes ++ pieces_bytes (vertical_pieces d r j k)
   vertical-none r j k bytes none =
       sym (ap (λ b. bytes ++ pieces_bytes (if b then vertical d.config d.shape (position_of (r, j)) (d.heights r) k ∷ [] else [])) none ∙ append-nil bytes)
 
   -- one adds its character
-  pub vertical-some : (r j k : ℕ) → has_vertical d j ≡ true →
+  pub vertical-some : (r j k : ℕ) → draws_vertical d j ≡ true →
       piece_bytes (vertical d.config d.shape (position_of (r, j)) (d.heights r) k) ≡ pieces_bytes (vertical_pieces d r j k)
   vertical-some r j k some =
       sym (ap (λ b. pieces_bytes (if b then vertical d.config d.shape (position_of (r, j)) (d.heights r) k ∷ [] else [])) some
@@ -89,7 +89,7 @@ module _ (d : Drawing) where
           is.0,
           is.1,
           ap (λ (s : Slot T). record { owner = s.owner; block = s.block; drawn = s.drawn + 1 }) is.2
-              ∙ sym (slot-next d is.0 c (text_start d r + k) begun) ∙ ap (slot_of d {T = T} is.0 c) y,
+              ∙ sym (slot-next d is.0 c (text_start d r + k) begun) ∙ ap (slot_at d {T = T} is.0 c) y,
         )
 
     -- fewer are drawn than the table has
@@ -139,5 +139,5 @@ module _ {parts : TableParts} {frame : Frame} (read : IsFrame parts frame) where
 
   -- whether a line is drawn before a column
   pub frame-line : (texts : Texts) (j : ℕ) (kept : Bool) → j ≤ frame.shape.1 → kept ≡ get_or frame.verticals.items j kept →
-      has_vertical (drawing_of parts texts) j ≡ kept
+      draws_vertical (drawing_of parts texts) j ≡ kept
   frame-line texts j kept within is = sym (is ∙ read.verticals texts j kept (let wide = frame-columns in omega (arith, within, wide)))

@@ -16,7 +16,7 @@ use Rattle.papergrid_draw.specs.Drawings.{Drawing, layout_of}
 use Rattle.papergrid_draw.specs.Drawn.{DrawnLine, drawn_lines}
 use Rattle.papergrid_draw.specs.Margins.{beside, is_beside, margin_line, printed_lines, whole_width, with_margins}
 use Rattle.papergrid_draw.specs.Pieces.{Padding, fill, fill_text}
-use Rattle.papergrid_draw.specs.ForProofs.Sheets.{left_of, margined, right_of}
+use Rattle.papergrid_draw.specs.ForProofs.Sheets.{left_margin_at, margined, right_margin_at}
 use Rattle.papergrid_draw.proofs.CountLemmas.{length-margined}
 use Rattle.papergrid_draw.proofs.DrawnLemmas.{get-left, get-right}
 use Rattle.papergrid_draw.proofs.PenLemmas.{fill_is}
@@ -122,8 +122,8 @@ margins-none d top bottom left right =
     let below : bottom_lines d ≡ [] =
     ap (λ n. replicate n (margin_line d.config.margin.bottom d.config.margin_color.bottom d.config.margin_offset.bottom (whole_width d))) bottom in
     let plain : (line : ℕ × List ℕ) → with_margins d line ≡ line.1 = λ line.
-    (let before : left_of d line.0 ≡ [] = beside-none d.config.margin.left d.config.margin_color.left d.config.margin_offset.left _ line.0 left in
-    let after : right_of d line.0 ≡ [] = beside-none d.config.margin.right d.config.margin_color.right d.config.margin_offset.right _ line.0 right in
+    (let before : left_margin_at d line.0 ≡ [] = beside-none d.config.margin.left d.config.margin_color.left d.config.margin_offset.left _ line.0 left in
+    let after : right_margin_at d line.0 ≡ [] = beside-none d.config.margin.right d.config.margin_color.right d.config.margin_offset.right _ line.0 right in
     (λ i. (before i ++ line.1) ++ after i) ∙ append-nil line.1) in
     (λ i. (above i ++ numbered-plain (with_margins d) plain 0 (map line_bytes (drawn_lines d)) i) ++ below i)
     ∙ append-nil (map line_bytes (drawn_lines d))

@@ -16,9 +16,9 @@ use Rattle.papergrid_layout.proofs.PlaceSums.{line-before}
 use Rattle.papergrid_draw.specs.Characters.{Mark, crossing, has_overrides, overridden_mark, plain_mark, segment, segment_character, segment_piece}
 use Rattle.papergrid_draw.specs.Contents.{block_at, content}
 use Rattle.papergrid_draw.specs.Drawings.{Drawing, layout_of}
-use Rattle.papergrid_draw.specs.Drawn.{OnLine, column_stretch, content_from, crossing_stretch, has_vertical, over_line, owner_at, rule_line, stands_over, stands_over_crossing}
+use Rattle.papergrid_draw.specs.Drawn.{OnLine, column_stretch, content_from, crossing_stretch, draws_vertical, over_line, owner_at, rule_line, stands_over, stands_over_crossing}
 use Rattle.papergrid_draw.specs.Faults.{AllHaveRoom}
-use Rattle.papergrid_draw.specs.Laws.{StandAt, columns_of, stretch_pieces}
+use Rattle.papergrid_draw.specs.Laws.{StandAt, terminal_columns, stretch_pieces}
 use Rattle.papergrid_draw.specs.Pieces.{Piece}
 use Rattle.papergrid_draw.specs.Tiles.{IsTiled}
 use Rattle.papergrid_draw.specs.ForProofs.Pages.{row_start}
@@ -41,20 +41,20 @@ pub pieces-on_line : (marks : List Mark) → flat_map stretch_pieces (map OnLine
 pieces-on_line [] = refl
 pieces-on_line (mark ∷ marks) = ap (λ more. mark.piece ∷ more) (pieces-on_line marks)
 
-one-each : (f : ℕ → Mark) → ((k : ℕ) → (f k).piece.columns ≡ 1) → (a n : ℕ) → columns_of (map (λ (mark : Mark). mark.piece) (map f (range_with_len a n))) ≡ n
+one-each : (f : ℕ → Mark) → ((k : ℕ) → (f k).piece.columns ≡ 1) → (a n : ℕ) → terminal_columns (map (λ (mark : Mark). mark.piece) (map f (range_with_len a n))) ≡ n
 one-each f one a zero = refl
 one-each f one a (suc n) =
-    let first : columns_of (map (λ (mark : Mark). mark.piece) (map f (range_with_len a (suc n)))) ≡ (f a).piece.columns + columns_of (map (λ (mark : Mark). mark.piece) (map f (range_with_len (a + 1) n))) =
+    let first : terminal_columns (map (λ (mark : Mark). mark.piece) (map f (range_with_len a (suc n)))) ≡ (f a).piece.columns + terminal_columns (map (λ (mark : Mark). mark.piece) (map f (range_with_len (a + 1) n))) =
     columns-cons (f a).piece (map (λ (mark : Mark). mark.piece) (map f (range_with_len (a + 1) n))) in
-    let more : columns_of (map (λ (mark : Mark). mark.piece) (map f (range_with_len (a + 1) n))) ≡ n = one-each f one (a + 1) n in
+    let more : terminal_columns (map (λ (mark : Mark). mark.piece) (map f (range_with_len (a + 1) n))) ≡ n = one-each f one (a + 1) n in
     omega (arith, one a)
 
 -- the horizontal line over a column is as wide as that
-columns-segment : (d : Drawing) (p : Position) (width : ℕ) → columns_of (map (λ (mark : Mark). mark.piece) (segment d.config d.shape p width)) ≡ width
+columns-segment : (d : Drawing) (p : Position) (width : ℕ) → terminal_columns (map (λ (mark : Mark). mark.piece) (segment d.config d.shape p width)) ≡ width
 columns-segment d p width = in_case (has_overrides (get d.config.horizontal_chars p)) (width == 0) refl
   where
     in_case : (overridden none : Bool) → (width == 0) ≡ none →
-        columns_of (map (λ (mark : Mark). mark.piece) (if overridden then map (overridden_mark d.config d.shape p width) (range_with_len 0 width)
+        terminal_columns (map (λ (mark : Mark). mark.piece) (if overridden then map (overridden_mark d.config d.shape p width) (range_with_len 0 width)
         else if none then [] else (plain_mark (segment_piece d.config d.shape p (segment_character d.config d.shape p) width) ∷ []))) ≡ width
     in_case true none is = one-each (overridden_mark d.config d.shape p width) (λ k. refl) 0 width
     in_case false true is = sym (eqb-true width 0 is)
@@ -84,15 +84,15 @@ module _ (d : Drawing) (i : ℕ) where
 
   -- ---- crossings
 
-  pub crossing-there : (j : ℕ) → has_vertical d j ≡ true → stands_over_crossing d i j ≡ false →
+  pub crossing-there : (j : ℕ) → draws_vertical d j ≡ true → stands_over_crossing d i j ≡ false →
       crossing_pieces j ≡ (crossing d.config d.shape (position_of (i, j))).piece ∷ []
   crossing-there j line free =
-      let shown : (has_vertical d j && not (stands_over_crossing d i j)) ≡ true = (λ k. line k && not (free k)) in
+      let shown : (draws_vertical d j && not (stands_over_crossing d i j)) ≡ true = (λ k. line k && not (free k)) in
       ap (flat_map stretch_pieces) (sym (crossing-some d i j shown))
 
-  pub crossing-away : (j : ℕ) → has_vertical d j ≡ false → crossing_pieces j ≡ []
+  pub crossing-away : (j : ℕ) → draws_vertical d j ≡ false → crossing_pieces j ≡ []
   crossing-away j none =
-      let shown : (has_vertical d j && not (stands_over_crossing d i j)) ≡ false = (λ k. none k && not (stands_over_crossing d i j)) in
+      let shown : (draws_vertical d j && not (stands_over_crossing d i j)) ≡ false = (λ k. none k && not (stands_over_crossing d i j)) in
       ap (flat_map stretch_pieces) (sym (crossing-none d i j shown))
 
   and-not : (line over : Bool) → over ≡ true → (line && not over) ≡ false
@@ -100,14 +100,14 @@ module _ (d : Drawing) (i : ℕ) where
   and-not false over is = refl
 
   pub crossing-covered : (j : ℕ) → stands_over_crossing d i j ≡ true → crossing_stretch d i j ≡ []
-  crossing-covered j over = sym (crossing-none d i j (and-not (has_vertical d j) (stands_over_crossing d i j) over))
+  crossing-covered j over = sym (crossing-none d i j (and-not (draws_vertical d j) (stands_over_crossing d i j) over))
 
-  columns-crossing : (j : ℕ) → stands_over_crossing d i j ≡ false → columns_of (crossing_pieces j) ≡ cond (has_vertical d j) 1 0
-  columns-crossing j free = in_case (has_vertical d j) refl
+  columns-crossing : (j : ℕ) → stands_over_crossing d i j ≡ false → terminal_columns (crossing_pieces j) ≡ cond (draws_vertical d j) 1 0
+  columns-crossing j free = in_case (draws_vertical d j) refl
     where
-      in_case : (line : Bool) → has_vertical d j ≡ line → columns_of (crossing_pieces j) ≡ cond line 1 0
-      in_case true line = ap columns_of (crossing-there j line free)
-      in_case false none = ap columns_of (crossing-away j none)
+      in_case : (line : Bool) → draws_vertical d j ≡ line → terminal_columns (crossing_pieces j) ≡ cond line 1 0
+      in_case true line = ap terminal_columns (crossing-there j line free)
+      in_case false none = ap terminal_columns (crossing-away j none)
 
   -- ---- columns
 
@@ -243,7 +243,7 @@ module _ (d : Drawing) (tiled : IsTiled (layout_of d)) (i : ℕ) where
     pub rule-filled : FillRanges (track_size (layout_of d) Columns) (track_line (layout_of d) Columns) d.shape.1 (rule_first d i) (rule_many d i) (rule_pieces d i)
     rule-filled = record {
       begun = λ c below first.
-          ap columns_of (parts d i c)
+          ap terminal_columns (parts d i c)
           ∙ columns-append (crossing_pieces d i c) (over_pieces d i c)
           ∙ (λ k. columns-crossing d i c (crossing-free c (λ _. first) (omega (arith, below))) k + of_column c below (stands_over d i c) refl first k);
       inside = λ c below left.
@@ -252,17 +252,17 @@ module _ (d : Drawing) (tiled : IsTiled (layout_of d)) (i : ℕ) where
     }
       where
         of_column : (c : ℕ) → c < d.shape.1 → (s : Bool) → stands_over d i c ≡ s → (if s then first_of (owner_at d i c) c else c) ≡ c →
-            columns_of (over_pieces d i c) ≡ extent (track_size (layout_of d) Columns) (track_line (layout_of d) Columns) c (if s then many_of (layout_of d) (owner_at d i c) else 1)
+            terminal_columns (over_pieces d i c) ≡ extent (track_size (layout_of d) Columns) (track_line (layout_of d) Columns) c (if s then many_of (layout_of d) (owner_at d i c) else 1)
         of_column c below true over first =
             let known = over-known c below over in
             let o = known.0 in
             let has = known.1.owns in
             let here : o.col ≡ c = subst (λ owner. first_of owner c ≡ c) has.is first in
-            ap columns_of (over-begun d i c o over has.is here)
+            ap terminal_columns (over-begun d i c o over has.is here)
             ∙ columns-content (block_at d o) (has-room d o room (cell-of (layout_of d) (position_of (i, c)) o has)) (row_start d i - begin_along (layout_of d) Rows o)
             ∙ (λ k. extent (track_size (layout_of d) Columns) (track_line (layout_of d) Columns) (here k) (many_of (layout_of d) (sym has.is k)))
         of_column c below false free first =
-            ap columns_of (over-free d i c free)
+            ap terminal_columns (over-free d i c free)
             ∙ columns-segment d (position_of (i, c)) (d.widths c)
             ∙ sym (extent-one (track_size (layout_of d) Columns) (track_line (layout_of d) Columns) c)
 
@@ -275,14 +275,14 @@ module _ (d : Drawing) (tiled : IsTiled (layout_of d)) (i : ℕ) where
     -- ---- what is left of a column, and the whole line
 
     columns-left : (c : ℕ) → c ≤ d.shape.1 → (c < d.shape.1 → rule_first d i c ≡ c) →
-        columns_of (flat_map (rule_pieces d i) (range_with_len 0 c)) ≡ line_offset (track_size (layout_of d) Columns) (track_line (layout_of d) Columns) c
+        terminal_columns (flat_map (rule_pieces d i) (range_with_len 0 c)) ≡ line_offset (track_size (layout_of d) Columns) (track_line (layout_of d) Columns) c
     columns-left c within begins =
         columns-before (track_size (layout_of d) Columns) (track_line (layout_of d) Columns) d.shape.1 (rule_first d i) (rule_many d i) (rule_pieces d i)
         rule-ranges rule-filled c within begins
 
-    pub columns-rule_line : columns_of (flat_map stretch_pieces (rule_line d i)) ≡ total_along (layout_of d) Columns
+    pub columns-rule_line : terminal_columns (flat_map stretch_pieces (rule_line d i)) ≡ total_along (layout_of d) Columns
     columns-rule_line =
-        ap columns_of (all-pieces d i)
+        ap terminal_columns (all-pieces d i)
         ∙ columns-append (flat_map (rule_pieces d i) (range_with_len 0 d.shape.1)) (crossing_pieces d i d.shape.1)
         ∙ (λ k. columns-left d.shape.1 (omega arith) (λ past. absurd (omega arith)) k + columns-crossing d i d.shape.1 (crossing-last d i d.shape.1 refl) k)
         ∙ sym (line-before (track_size (layout_of d) Columns) (track_line (layout_of d) Columns) d.shape.1)
@@ -339,7 +339,7 @@ module _ (d : Drawing) (tiled : IsTiled (layout_of d)) (i : ℕ) where
         (over-free d i c free) (over-stands c below first)
 
     -- a crossing, over which no cell stands
-    pub crossing-in-rule_line : (j : ℕ) → j ≤ d.shape.1 → has_vertical d j ≡ true → stands_over_crossing d i j ≡ false →
+    pub crossing-in-rule_line : (j : ℕ) → j ≤ d.shape.1 → draws_vertical d j ≡ true → stands_over_crossing d i j ≡ false →
         StandAt (flat_map stretch_pieces (rule_line d i)) (line_offset (track_size (layout_of d) Columns) (track_line (layout_of d) Columns) j)
         ((crossing d.config d.shape (position_of (i, j))).piece ∷ [])
     crossing-in-rule_line j within line free =

@@ -19,10 +19,10 @@ use Rattle.papergrid_layout.proofs.PlaceSums.{line-before, offset-next, offset-r
 use Rattle.papergrid_draw.specs.Contents as contents
 use Rattle.papergrid_draw.specs.Contents.{block_at, content, look_of}
 use Rattle.papergrid_draw.specs.Drawings.{Drawing, layout_of}
-use Rattle.papergrid_draw.specs.Drawn.{after_these, column_pieces, has_horizontal, owner_at, stands_over, stands_over_crossing, vertical_pieces}
+use Rattle.papergrid_draw.specs.Drawn.{after_these, column_pieces, draws_horizontal, owner_at, stands_over, stands_over_crossing, vertical_pieces}
 use Rattle.papergrid_draw.specs.Tiles.{IsTiled, owner, owns}
 use Rattle.papergrid_draw.proofs.TileLemmas.{test-over, test-over-crossing}
-use Rattle.papergrid_draw.specs.ForProofs.Pages.{row_start, slot_of, text_start}
+use Rattle.papergrid_draw.specs.ForProofs.Pages.{row_start, slot_at, text_start}
 
 -- ---- owners
 
@@ -55,7 +55,7 @@ module _ (d : Drawing) where
   -- ---- lines of the table
 
   -- a row's first text line comes after the horizontal line before it
-  pub text_start-after : (r : ℕ) → text_start d r ≡ row_start d r + cond (has_horizontal d r) 1 0
+  pub text_start-after : (r : ℕ) → text_start d r ≡ row_start d r + cond (draws_horizontal d r) 1 0
   text_start-after r = line-before (track_size (layout_of d) Rows) (track_line (layout_of d) Rows) r
 
   -- the next row begins after its lines
@@ -74,13 +74,13 @@ module _ (d : Drawing) where
 
   -- one more line of each cell is drawn
   pub slot-next : {T : Type 0} (o : Position) (c y : ℕ) → begin_along (layout_of d) Rows o ≤ y →
-      slot_of d {T = T} o c (y + 1) ≡ record { owner = o; block = (slot_of d {T = T} o c y).block; drawn = (slot_of d {T = T} o c y).drawn + 1 }
+      slot_at d {T = T} o c (y + 1) ≡ record { owner = o; block = (slot_at d {T = T} o c y).block; drawn = (slot_at d {T = T} o c y).drawn + 1 }
   slot-next {T} o c y le =
       let more : y + 1 - begin_along (layout_of d) Rows o ≡ y - begin_along (layout_of d) Rows o + 1 = omega (arith, le) in
-      ap (λ n. record { owner = o; block = (slot_of d {T = T} o c y).block; drawn = n }) more
+      ap (λ n. record { owner = o; block = (slot_at d {T = T} o c y).block; drawn = n }) more
 
   -- where nothing is kept to draw nothing is drawn
-  pub column-none : (T : Type 0) (r k c : ℕ) (o : Position) → owner_at d r c ≡ Some o → (slot_of d {T = T} o c (text_start d r + k)).block ≡ None → column_pieces d r k c ≡ []
+  pub column-none : (T : Type 0) (r k c : ℕ) (o : Position) → owner_at d r c ≡ Some o → (slot_at d {T = T} o c (text_start d r + k)).block ≡ None → column_pieces d r k c ≡ []
   column-none T r k c o is none = rw is (none_of (o.col == c) none)
     where
       none_of : (here : Bool) → (if here then Some (block_at d o) else None) ≡ None →
@@ -90,8 +90,8 @@ module _ (d : Drawing) where
       none_of false none = refl
 
   -- where a cell is kept, its line is drawn after the line before it
-  pub column-some : (T : Type 0) (r k c : ℕ) (o : Position) (b : contents.Block) → owner_at d r c ≡ Some o → (slot_of d {T = T} o c (text_start d r + k)).block ≡ Some b →
-      column_pieces d r k c ≡ vertical_pieces d r c k ++ content b (slot_of d {T = T} o c (text_start d r + k)).drawn
+  pub column-some : (T : Type 0) (r k c : ℕ) (o : Position) (b : contents.Block) → owner_at d r c ≡ Some o → (slot_at d {T = T} o c (text_start d r + k)).block ≡ Some b →
+      column_pieces d r k c ≡ vertical_pieces d r c k ++ content b (slot_at d {T = T} o c (text_start d r + k)).drawn
   column-some T r k c o b is some = rw is (some_of (o.col == c) some)
     where
       some_of : (here : Bool) → (if here then Some (block_at d o) else None) ≡ Some b →

@@ -27,7 +27,7 @@ use Rattle.papergrid_draw.specs.Characters.{vertical, vertical_character, vertic
 use Rattle.papergrid_draw.specs.Contents as contents
 use Rattle.papergrid_draw.specs.Contents.{block_at, content, look_of}
 use Rattle.papergrid_draw.specs.Drawings.{Drawing, layout_of}
-use Rattle.papergrid_draw.specs.Drawn.{after_these, column_pieces, content_from, has_vertical, owner_at, stands_over, stands_over_crossing, vertical_pieces}
+use Rattle.papergrid_draw.specs.Drawn.{after_these, column_pieces, content_from, draws_vertical, owner_at, stands_over, stands_over_crossing, vertical_pieces}
 use Rattle.papergrid_draw.specs.Pieces.{Line, fill_text}
 use Rattle.papergrid_draw.specs.Tiles.{IsTiled}
 use Rattle.papergrid_draw.specs.ForProofs.Pages.{AreSlots, IsFrame, IsSlot, Texts, drawing_of, text_start}
@@ -218,7 +218,7 @@ module _ (d : Drawing) (plain : IsPlain d.config) where
       (no-vertical (parts_of_borders d.config.colors) p d.shape.1 plain.lines.colors)
       ∙ unfound (override_at d.config.vertical_colors p) k height (plain.lines.vertical_colors p)
 
-  pub plain-vertical : (r c k character : ℕ) (q : Position) → has_vertical d c ≡ true → c ≡ q.col →
+  pub plain-vertical : (r c k character : ℕ) (q : Position) → draws_vertical d c ≡ true → c ≡ q.col →
       character ≡ unwrap_or (found_vertical (parts_of_borders d.config.characters) q d.shape.1) d.config.missing →
       pieces_bytes (vertical_pieces d r c k) ≡ character_bytes (Some character)
   plain-vertical r c k character q some same is =
@@ -228,7 +228,7 @@ module _ (d : Drawing) (plain : IsPlain d.config) where
       (plain-color p (d.heights r) k)
       ∙ ap (λ n. fill_text n 1) (plain-character p q (d.heights r) k same ∙ sym is)
 
-  pub plain-no-vertical : (r c k : ℕ) → has_vertical d c ≡ false → pieces_bytes (vertical_pieces d r c k) ≡ character_bytes None
+  pub plain-no-vertical : (r c k : ℕ) → draws_vertical d c ≡ false → pieces_bytes (vertical_pieces d r c k) ≡ character_bytes None
   plain-no-vertical r c k none =
       ap (λ b. pieces_bytes (if b then vertical d.config d.shape (position_of (r, c)) (d.heights r) k ∷ [] else [])) none
 

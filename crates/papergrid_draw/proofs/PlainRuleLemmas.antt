@@ -11,7 +11,7 @@ use Rattle.papergrid_tables.specs.BorderParts.{BorderParts, HasNoCellParts, foun
 use Rattle.papergrid_tables.specs.StoredBorders.{parts_of_borders}
 use Rattle.papergrid_draw.specs.Characters.{crossing, has_overrides, overridden_mark, plain_mark, segment, segment_character, segment_piece}
 use Rattle.papergrid_draw.specs.Drawings.{Drawing}
-use Rattle.papergrid_draw.specs.Drawn.{OnLine, column_stretch, crossing_stretch, has_vertical, rule_line}
+use Rattle.papergrid_draw.specs.Drawn.{OnLine, column_stretch, crossing_stretch, draws_vertical, rule_line}
 use Rattle.papergrid_draw.specs.Pieces.{Crossing, Line, fill_text}
 use Rattle.papergrid_draw.specs.ForProofs.Plain.{IsCommonRule, IsPlain}
 use Rattle.papergrid_draw.proofs.OverrideLemmas.{has_overrides-IsOverridden}
@@ -71,10 +71,10 @@ module _ (d : Drawing) (plain : IsPlain d.config) where
 
   -- what stands where a horizontal line crosses a vertical one
   pub plain-crossing-stretch : (i j : ℕ) → j ≤ d.shape.1 →
-      crossing_stretch d i j ≡ (if has_vertical d j then OnLine (crossing d.config d.shape (position_of (i, j))) ∷ [] else [])
+      crossing_stretch d i j ≡ (if draws_vertical d j then OnLine (crossing d.config d.shape (position_of (i, j))) ∷ [] else [])
   plain-crossing-stretch i j within =
-      ap (λ over. if has_vertical d j && not over then OnLine (crossing d.config d.shape (position_of (i, j))) ∷ [] else []) (plain-crossing d plain i j within)
-      ∙ ap (λ seen. if seen then OnLine (crossing d.config d.shape (position_of (i, j))) ∷ [] else []) (and-true (has_vertical d j))
+      ap (λ over. if draws_vertical d j && not over then OnLine (crossing d.config d.shape (position_of (i, j))) ∷ [] else []) (plain-crossing d plain i j within)
+      ∙ ap (λ seen. if seen then OnLine (crossing d.config d.shape (position_of (i, j))) ∷ [] else []) (and-true (draws_vertical d j))
 
   -- ---- lines between rows that have none of their own are the same
 
@@ -119,7 +119,7 @@ module _ (d : Drawing) (plain : IsPlain d.config) where
     crossing_stretch-same : (j : ℕ) → j ≤ d.shape.1 → crossing_stretch d i j ≡ crossing_stretch d k j
     crossing_stretch-same j within =
         plain-crossing-stretch i j within
-        ∙ ap (λ mark. if has_vertical d j then OnLine mark ∷ [] else []) (crossing-same j)
+        ∙ ap (λ mark. if draws_vertical d j then OnLine mark ∷ [] else []) (crossing-same j)
         ∙ sym (plain-crossing-stretch k j within)
 
     column_stretch-same : (c : ℕ) → c < d.shape.1 → column_stretch d i c ≡ column_stretch d k c

@@ -15,10 +15,10 @@ use Rattle.papergrid_layout.specs.Tables.{TableParts, line_position, view_of}
 use Rattle.papergrid_layout.proofs.PlaceSums.{line-before, offset-next, offset-rises}
 use Rattle.papergrid_draw.specs.Bytes.{line_bytes}
 use Rattle.papergrid_draw.specs.Drawings.{Drawing, layout_of}
-use Rattle.papergrid_draw.specs.Drawn.{DrawnLine, RuleLine, TextLine, drawn_lines, has_horizontal, row_lines, rule_line, rule_lines, text_line}
+use Rattle.papergrid_draw.specs.Drawn.{DrawnLine, RuleLine, TextLine, drawn_lines, draws_horizontal, row_lines, rule_line, rule_lines, text_line}
 use Rattle.papergrid_draw.specs.Margins.{beside, margin_line, printed, printed_lines, whole_width, with_margins}
-use Rattle.papergrid_draw.specs.ForProofs.Pages.{AreSet, AreSlots, IsFrame, IsSlot, Texts, drawing_of, row_start, text_start}
-use Rattle.papergrid_draw.specs.ForProofs.Sheets.{AtRow, AtRule, AtText, IsCutOff, Writes, WritesLines, left_of, lines_after, margined, right_of, separator, text_lines}
+use Rattle.papergrid_draw.specs.ForProofs.Pages.{AreSlotsSet, AreSlots, IsFrame, IsSlot, Texts, drawing_of, row_start, text_start}
+use Rattle.papergrid_draw.specs.ForProofs.Sheets.{AtRow, AtRule, AtText, IsCutOff, Writes, WritesLines, left_margin_at, lines_after, margined, right_margin_at, separator, first_text_lines}
 use Rattle.papergrid_draw.specs.declared.page.Frame.{Frame}
 use Rattle.papergrid_draw.specs.declared.page.Slot.{Slot}
 use Rattle.papergrid_draw.specs.declared.sheet.Sheet.{Sheet}
@@ -27,7 +27,7 @@ use Rattle.papergrid_draw.specs.declared.error.DrawError.{DrawError}
 
 module _ (d : Drawing) where
   abbrev drawn : ℕ → ℕ
-  drawn r = cond (has_horizontal d r) 1 0
+  drawn r = cond (draws_horizontal d r) 1 0
 
   -- ---- where rows begin
 
@@ -41,7 +41,7 @@ module _ (d : Drawing) where
       omega arith
 
   -- a line that is drawn is one of all
-  pub rule-within : (r : ℕ) → r ≤ d.shape.0 → has_horizontal d r ≡ true → row_start d r < total_along (layout_of d) Rows
+  pub rule-within : (r : ℕ) → r ≤ d.shape.0 → draws_horizontal d r ≡ true → row_start d r < total_along (layout_of d) Rows
   rule-within r le is =
       let at : text_start d r ≡ row_start d r + drawn r = text-after r in
       let one : drawn r ≡ 1 = ap (λ b. cond {A = ℕ} b 1 0) is in
@@ -57,22 +57,22 @@ module _ (d : Drawing) where
 
   -- ---- how many lines there are
 
-  length-rule : (r : ℕ) (is : Bool) → has_horizontal d r ≡ is → length (rule_lines d r) ≡ cond is 1 0
+  length-rule : (r : ℕ) (is : Bool) → draws_horizontal d r ≡ is → length (rule_lines d r) ≡ cond is 1 0
   length-rule r true e = rw e
   length-rule r false e = rw e
 
   pub length-rule_lines : (r : ℕ) → length (rule_lines d r) ≡ drawn r
-  length-rule_lines r = length-rule r (has_horizontal d r) refl
+  length-rule_lines r = length-rule r (draws_horizontal d r) refl
 
-  pub length-text_lines : (r k : ℕ) → length (text_lines d r k) ≡ k
+  pub length-text_lines : (r k : ℕ) → length (first_text_lines d r k) ≡ k
   length-text_lines r k = length-map-range_with_len _ 0 k
 
-  pub text_lines-more : (r k : ℕ) → text_lines d r (k + 1) ≡ text_lines d r k ++ TextLine (text_line d r k) ∷ []
+  pub text_lines-more : (r k : ℕ) → first_text_lines d r (k + 1) ≡ first_text_lines d r k ++ TextLine (text_line d r k) ∷ []
   text_lines-more r k = map-range_with_len_more (λ i. TextLine (text_line d r i)) 0 k k (omega arith)
 
   length-row_lines : (r : ℕ) → length (row_lines d r) ≡ drawn r + d.heights r
   length-row_lines r =
-      let whole : length (row_lines d r) ≡ length (rule_lines d r) + length (text_lines d r (d.heights r)) = length-append (rule_lines d r) (text_lines d r (d.heights r)) in
+      let whole : length (row_lines d r) ≡ length (rule_lines d r) + length (first_text_lines d r (d.heights r)) = length-append (rule_lines d r) (first_text_lines d r (d.heights r)) in
       omega (arith, length-rule_lines r, length-text_lines r (d.heights r))
 
   -- the lines of the first rows
@@ -122,11 +122,11 @@ module _ (d : Drawing) where
   module _ {W : Type 0} (takes breaks : W → List ℕ → W → Type 0) where
     -- a line between its margins
     pub one-margined : {A : Type 0} (a b : W) (begun after : Bool) (y z : ℕ) (line : DrawnLine) (first second : List ℕ) (r : Result A DrawError) → z ≡ y →
-        first ≡ separator begun ++ left_of d y → second ≡ first ++ line_bytes line → Writes takes breaks a b (second ++ right_of d z) r → OnOk r (after ≡ true) →
+        first ≡ separator begun ++ left_margin_at d y → second ≡ first ++ line_bytes line → Writes takes breaks a b (second ++ right_margin_at d z) r → OnOk r (after ≡ true) →
         WritesLines takes breaks a b begun after (margined d y (line ∷ [])) r
     one-margined a b begun after y z line first second r same starts goes writes done =
-        lines-beside takes breaks a b begun after (left_of d y) (line_bytes line) (right_of d y) first second r starts goes
-        (subst (λ k. Writes takes breaks a b (second ++ right_of d k) r) same writes) done
+        lines-beside takes breaks a b begun after (left_margin_at d y) (line_bytes line) (right_margin_at d y) first second r starts goes
+        (subst (λ k. Writes takes breaks a b (second ++ right_margin_at d k) r) same writes) done
 
     -- the lines with their margins, where there are some before others
     pub margined-lines : {A B : Type 0} (a b c : W) (p q s : Bool) (y z : ℕ) (xs ys : List DrawnLine) (x : A) (r : Result B DrawError) → z ≡ y + length xs →
@@ -144,23 +144,23 @@ module _ (d : Drawing) where
 
     -- one more text line of a row
     pub text_lines-next : {A B : Type 0} (a b c : W) (p q s : Bool) (y z r k : ℕ) (x : A) (result : Result B DrawError) → z ≡ y + k →
-        WritesLines takes breaks a b p q (margined d y (text_lines d r k)) (Ok x) → WritesLines takes breaks b c q s (margined d z (TextLine (text_line d r k) ∷ [])) result →
-        WritesLines takes breaks a c p s (margined d y (text_lines d r (k + 1))) result
+        WritesLines takes breaks a b p q (margined d y (first_text_lines d r k)) (Ok x) → WritesLines takes breaks b c q s (margined d z (TextLine (text_line d r k) ∷ [])) result →
+        WritesLines takes breaks a c p s (margined d y (first_text_lines d r (k + 1))) result
     text_lines-next {B = B} a b c p q s y z r k x result at first second =
         subst (λ lines. WritesLines takes breaks {A = B} a c p s (margined d y lines) result) (sym (text_lines-more r k))
-        (margined-lines a b c p q s y z (text_lines d r k) (TextLine (text_line d r k) ∷ []) x result (at ∙ ap (λ n. y + n) (sym (length-text_lines r k))) first second)
+        (margined-lines a b c p q s y z (first_text_lines d r k) (TextLine (text_line d r k) ∷ []) x result (at ∙ ap (λ n. y + n) (sym (length-text_lines r k))) first second)
 
     -- or not all of it was written
     pub text_lines-cut : {A B : Type 0} (a b c : W) (p q s t : Bool) (y z r k n : ℕ) (x : A) (error : DrawError) → z ≡ y + k → k < n →
-        WritesLines takes breaks a b p q (margined d y (text_lines d r k)) (Ok x) → WritesLines takes breaks {A = B} b c q s (margined d z (TextLine (text_line d r k) ∷ [])) (Err error) →
-        WritesLines takes breaks {A = B} a c p t (margined d y (text_lines d r n)) (Err error)
+        WritesLines takes breaks a b p q (margined d y (first_text_lines d r k)) (Ok x) → WritesLines takes breaks {A = B} b c q s (margined d z (TextLine (text_line d r k) ∷ [])) (Err error) →
+        WritesLines takes breaks {A = B} a c p t (margined d y (first_text_lines d r n)) (Err error)
     text_lines-cut {B = B} a b c p q s t y z r k n x error at l first second =
         let later = map (λ i. TextLine (text_line d r i)) (range_with_len (0 + (k + 1)) (n - (k + 1))) in
         subst (λ lines. WritesLines takes breaks {A = B} a c p t (margined d y lines) (Err error))
         (sym (map-append (λ i. TextLine (text_line d r i)) (range_with_len 0 (k + 1)) (range_with_len (0 + (k + 1)) (n - (k + 1))))
         ∙ ap (map (λ i. TextLine (text_line d r i))) (sym (range_with_len-append 0 (k + 1) (n - (k + 1))))
-        ∙ ap (text_lines d r) (let e : k + 1 + (n - (k + 1)) ≡ n = omega arith in e))
-        (margined-cut {A = B} a c p s t y (text_lines d r (k + 1)) later error (text_lines-next a b c p q s y z r k x (Err error) at first second))
+        ∙ ap (first_text_lines d r) (let e : k + 1 + (n - (k + 1)) ≡ n = omega arith in e))
+        (margined-cut {A = B} a c p s t y (first_text_lines d r (k + 1)) later error (text_lines-next a b c p q s y z r k x (Err error) at first second))
 
     -- one more row
     pub first_rows-next : {A B : Type 0} (a b c : W) (p q s : Bool) (z r : ℕ) (x : A) (result : Result B DrawError) → z ≡ row_start d r →
@@ -189,14 +189,14 @@ module _ (d : Drawing) where
 
   -- ---- slots
 
-  pub slots-none : {T : Type 0} (slots : List (Slot T)) → length slots ≡ d.shape.1 → AreSet d 0 0 slots
+  pub slots-none : {T : Type 0} (slots : List (Slot T)) → length slots ≡ d.shape.1 → AreSlotsSet d 0 0 slots
   slots-none slots each = record {
     each = each;
     taken = λ j other within l. absurd (omega (arith, l));
     above = λ j other within le l. absurd (omega (arith, l));
   }
 
-  pub slots-set : {T : Type 0} (r c : ℕ) (slots : List (Slot T)) → c ≡ d.shape.1 → AreSet d r c slots → AreSlots d r (λ _. row_start d r) slots
+  pub slots-set : {T : Type 0} (r c : ℕ) (slots : List (Slot T)) → c ≡ d.shape.1 → AreSlotsSet d r c slots → AreSlots d r (λ _. row_start d r) slots
   slots-set r c slots all are = record {
     each = are.each;
     kept = λ j other within. are.taken j other within (omega (arith, within));
@@ -207,7 +207,7 @@ module _ (d : Drawing) where
   slots-at r y z slots e are = subst (λ k. AreSlots d r (λ _. k) slots) e are
 
   -- those of a row are kept for the next one
-  pub slots-next : {T : Type 0} (r : ℕ) (slots : List (Slot T)) → AreSlots d r (λ _. row_start d (r + 1)) slots → AreSet d (r + 1) 0 slots
+  pub slots-next : {T : Type 0} (r : ℕ) (slots : List (Slot T)) → AreSlots d r (λ _. row_start d (r + 1)) slots → AreSlotsSet d (r + 1) 0 slots
   slots-next r slots are = record {
     each = are.each;
     taken = λ j other within l. absurd (omega (arith, l));
@@ -223,10 +223,10 @@ module _ (parts : TableParts) (texts : Texts) (frame : Frame) where
 
   -- no line is drawn before a row
   pub text-unruled : {T : Type 0} (r : ℕ) (sheet : Sheet) (slots : List (Slot T)) → AtRule parts texts frame r sheet slots → r < length parts.heights →
-      has_horizontal its r ≡ false → AtText parts texts frame r 0 sheet slots
+      draws_horizontal its r ≡ false → AtText parts texts frame r 0 sheet slots
   text-unruled r sheet slots at l none =
-      let after : text_start its r ≡ row_start its r + cond (has_horizontal its r) 1 0 = text-after its r in
-      let zero_lines : cond {A = ℕ} (has_horizontal its r) 1 0 ≡ 0 = ap (λ b. cond {A = ℕ} b 1 0) none in
+      let after : text_start its r ≡ row_start its r + cond (draws_horizontal its r) 1 0 = text-after its r in
+      let zero_lines : cond {A = ℕ} (draws_horizontal its r) 1 0 ≡ 0 = ap (λ b. cond {A = ℕ} b 1 0) none in
       record {
         frame_is = at.frame_is;
         row_in = l;
@@ -236,10 +236,10 @@ module _ (parts : TableParts) (texts : Texts) (frame : Frame) where
 
   -- one is, and is written
   pub text-ruled : {T : Type 0} (r : ℕ) (sheet later : Sheet) (slots drawn_over : List (Slot T)) → AtRule parts texts frame r sheet slots → r < length parts.heights →
-      has_horizontal its r ≡ true → later.written ≡ sheet.written + 1 → AreSlots its r (λ _. text_start its r) drawn_over → AtText parts texts frame r 0 later drawn_over
+      draws_horizontal its r ≡ true → later.written ≡ sheet.written + 1 → AreSlots its r (λ _. text_start its r) drawn_over → AtText parts texts frame r 0 later drawn_over
   text-ruled r sheet later slots drawn_over at l is more kept =
-      let after : text_start its r ≡ row_start its r + cond (has_horizontal its r) 1 0 = text-after its r in
-      let one_line : cond {A = ℕ} (has_horizontal its r) 1 0 ≡ 1 = ap (λ b. cond {A = ℕ} b 1 0) is in
+      let after : text_start its r ≡ row_start its r + cond (draws_horizontal its r) 1 0 = text-after its r in
+      let one_line : cond {A = ℕ} (draws_horizontal its r) 1 0 ≡ 1 = ap (λ b. cond {A = ℕ} b 1 0) is in
       record {
         frame_is = at.frame_is;
         row_in = l;
@@ -267,7 +267,7 @@ module _ (parts : TableParts) (texts : Texts) (frame : Frame) where
 
   -- the cells of a row are taken
   pub rule-comes : {T : Type 0} (r : ℕ) (sheet : Sheet) (slots taken : List (Slot T)) → AtRow parts texts frame r sheet slots → r < length parts.heights →
-      AreSet its r (length parts.widths) taken → AtRule parts texts frame r sheet taken
+      AreSlotsSet its r (length parts.widths) taken → AtRule parts texts frame r sheet taken
   rule-comes r sheet slots taken at l are = record {
     frame_is = at.frame_is;
     row_in = (let le : r ≤ length parts.heights = omega arith in le);
@@ -307,7 +307,7 @@ some-where false y = refl
 
 -- whether there is a horizontal line
 pub line-told : (parts t : TableParts) (texts : Texts) (r : ℕ) (found : Option ℕ) (is : Bool) → t ≡ parts → r ≤ length parts.heights →
-    found ≡ line_position (view_of t) Rows r → is_some found ≡ is → has_horizontal (drawing_of parts texts) r ≡ is
+    found ≡ line_position (view_of t) Rows r → is_some found ≡ is → draws_horizontal (drawing_of parts texts) r ≡ is
 line-told parts t texts r found is same le at some =
     let has = track_line (view_of parts) Rows r in
     let within : leb r (length parts.heights) ≡ true = le-leb r (length parts.heights) le in
@@ -315,10 +315,10 @@ line-told parts t texts r found is same le at some =
     ∙ ap is_some (sym (at ∙ ap (λ p. line_position (view_of p) Rows r) same)) ∙ some
 
 -- one that is there
-pub rule_lines-one : (d : Drawing) (r : ℕ) → has_horizontal d r ≡ true → RuleLine (rule_line d r) ∷ [] ≡ rule_lines d r
+pub rule_lines-one : (d : Drawing) (r : ℕ) → draws_horizontal d r ≡ true → RuleLine (rule_line d r) ∷ [] ≡ rule_lines d r
 rule_lines-one d r is = ap (λ b. if b then RuleLine (rule_line d r) ∷ [] else []) (sym is)
 
-pub rule_lines-none : (d : Drawing) (r : ℕ) → has_horizontal d r ≡ false → [] ≡ rule_lines d r
+pub rule_lines-none : (d : Drawing) (r : ℕ) → draws_horizontal d r ≡ false → [] ≡ rule_lines d r
 rule_lines-none d r isnt = ap (λ b. if b then RuleLine (rule_line d r) ∷ [] else []) (sym isnt)
 
 -- what a slice of a vector became is the vector

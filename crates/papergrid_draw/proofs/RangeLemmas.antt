@@ -6,7 +6,7 @@ use Rattle.std.proofs.lemmas.List.Concat.{flat_map-append}
 use Rattle.papergrid_tracks.proofs.LoopLemmas.{range_with_len-append}
 use Rattle.papergrid_layout.specs.Places.{extent, line_offset, offset}
 use Rattle.papergrid_layout.proofs.PlaceSums.{line-before, offset-after, offset-next}
-use Rattle.papergrid_draw.specs.Laws.{columns_of}
+use Rattle.papergrid_draw.specs.Laws.{terminal_columns}
 use Rattle.papergrid_draw.specs.Pieces.{Piece}
 use Rattle.papergrid_draw.specs.ForProofs.Ranges.{AreRanges, FillRanges}
 use Rattle.papergrid_draw.proofs.ContentLemmas.{columns-append}
@@ -40,15 +40,15 @@ module _ (size : ℕ → ℕ) (line : ℕ → Bool) (count : ℕ) (first many : 
   abbrev drawn : ℕ → ℕ
   drawn c = cond (line c) 1 0
 
-  columns-more : (c : ℕ) → columns_of (before (c + 1)) ≡ columns_of (before c) + columns_of (pieces c)
-  columns-more c = ap columns_of (range-more pieces c) ∙ columns-append (before c) (pieces c)
+  columns-more : (c : ℕ) → terminal_columns (before (c + 1)) ≡ terminal_columns (before c) + terminal_columns (pieces c)
+  columns-more c = ap terminal_columns (range-more pieces c) ∙ columns-append (before c) (pieces c)
 
   -- with those of a column they take what is up to the end of its range
   abbrev UpToEnd : ℕ → Type 0
-  UpToEnd c = columns_of (before (c + 1)) ≡ offset size line (first c) + extent size line (first c) (many c)
+  UpToEnd c = terminal_columns (before (c + 1)) ≡ offset size line (first c) + extent size line (first c) (many c)
 
   -- where another range begins next, they take what is up to the line before that
-  next-begins : (c : ℕ) → c < count → UpToEnd c → (c + 1 < count → first (c + 1) ≡ c + 1) → columns_of (before (c + 1)) ≡ line_offset size line (c + 1)
+  next-begins : (c : ℕ) → c < count → UpToEnd c → (c + 1 < count → first (c + 1) ≡ c + 1) → terminal_columns (before (c + 1)) ≡ line_offset size line (c + 1)
   next-begins c below so_far begins =
       let in_range = ranges.within c below in
       let from : first c ≤ c = in_range.0 in
@@ -70,21 +70,21 @@ module _ (size : ℕ → ℕ) (line : ℕ → Bool) (count : ℕ) (first many : 
 
   one-more : (c : ℕ) → c + 1 < count → UpToEnd c → UpToEnd (c + 1)
   one-more c below so_far =
-      let more : columns_of (before (c + 1 + 1)) ≡ columns_of (before (c + 1)) + columns_of (pieces (c + 1)) = columns-more (c + 1) in
+      let more : terminal_columns (before (c + 1 + 1)) ≡ terminal_columns (before (c + 1)) + terminal_columns (pieces (c + 1)) = columns-more (c + 1) in
       let in_range = ranges.within (c + 1) below in
       let from : first (c + 1) ≤ c + 1 = in_range.0 in
       let to : c + 1 < first (c + 1) + many (c + 1) = in_range.1 in
       elim (cases_lt (first (c + 1)) (c + 1)) [
         | inl behind ↦
             let same = ranges.shared (c + 1) c below (omega arith) (omega arith) in
-            let none : columns_of (pieces (c + 1)) ≡ 0 = ap columns_of (filled.inside (c + 1) below behind) in
+            let none : terminal_columns (pieces (c + 1)) ≡ 0 = ap terminal_columns (filled.inside (c + 1) below behind) in
             let ends : offset size line (first c) + extent size line (first c) (many c) ≡ offset size line (first (c + 1)) + extent size line (first (c + 1)) (many (c + 1)) =
             (λ i. offset size line (same.0 i) + extent size line (same.0 i) (same.1 i)) in
             omega (arith, so_far)
         | inr here ↦
             let begins : first (c + 1) ≡ c + 1 = omega arith in
-            let reached : columns_of (before (c + 1)) ≡ line_offset size line (c + 1) = next-begins c (omega arith) so_far (λ _. begins) in
-            let own : columns_of (pieces (c + 1)) ≡ drawn (c + 1) + extent size line (c + 1) (many (c + 1)) = filled.begun (c + 1) below begins in
+            let reached : terminal_columns (before (c + 1)) ≡ line_offset size line (c + 1) = next-begins c (omega arith) so_far (λ _. begins) in
+            let own : terminal_columns (pieces (c + 1)) ≡ drawn (c + 1) + extent size line (c + 1) (many (c + 1)) = filled.begun (c + 1) below begins in
             let at : offset size line (c + 1) ≡ line_offset size line (c + 1) + drawn (c + 1) = line-before size line (c + 1) in
             let ends : offset size line (first (c + 1)) + extent size line (first (c + 1)) (many (c + 1)) ≡ offset size line (c + 1) + extent size line (c + 1) (many (c + 1)) =
             ap (λ k. offset size line k + extent size line k (many (c + 1))) begins in
@@ -93,11 +93,11 @@ module _ (size : ℕ → ℕ) (line : ℕ → Bool) (count : ℕ) (first many : 
 
   up-to-end : (c : ℕ) → c < count → UpToEnd c
   up-to-end zero below =
-      let more : columns_of (before (0 + 1)) ≡ columns_of (before 0) + columns_of (pieces 0) = columns-more 0 in
-      let none : columns_of (before 0) ≡ 0 = refl in
+      let more : terminal_columns (before (0 + 1)) ≡ terminal_columns (before 0) + terminal_columns (pieces 0) = columns-more 0 in
+      let none : terminal_columns (before 0) ≡ 0 = refl in
       let from : first 0 ≤ 0 = (ranges.within 0 below).0 in
       let begins : first 0 ≡ 0 = omega arith in
-      let own : columns_of (pieces 0) ≡ drawn 0 + extent size line 0 (many 0) = filled.begun 0 below begins in
+      let own : terminal_columns (pieces 0) ≡ drawn 0 + extent size line 0 (many 0) = filled.begun 0 below begins in
       let at : offset size line 0 ≡ line_offset size line 0 + drawn 0 = line-before size line 0 in
       let nothing : line_offset size line 0 ≡ 0 = refl in
       let ends : offset size line (first 0) + extent size line (first 0) (many 0) ≡ offset size line 0 + extent size line 0 (many 0) =
@@ -108,9 +108,9 @@ module _ (size : ℕ → ℕ) (line : ℕ → Bool) (count : ℕ) (first many : 
       (one-more c (omega arith) (up-to-end c (omega arith)))
 
   -- those before the column that a range begins in take what is up to the line before that, and so do those of all columns
-  pub columns-before : (c : ℕ) → c ≤ count → (c < count → first c ≡ c) → columns_of (before c) ≡ line_offset size line c
+  pub columns-before : (c : ℕ) → c ≤ count → (c < count → first c ≡ c) → terminal_columns (before c) ≡ line_offset size line c
   columns-before zero within begins = refl
   columns-before (suc c) within begins =
       let next : c + 1 ≡ suc c = omega arith in
-      subst (λ n. columns_of (before n) ≡ line_offset size line n) next
+      subst (λ n. terminal_columns (before n) ≡ line_offset size line n) next
       (next-begins c (omega arith) (up-to-end c (omega arith)) (λ more. subst (λ n. first n ≡ n) (sym next) (begins (omega arith))))

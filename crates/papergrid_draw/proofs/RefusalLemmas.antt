@@ -6,11 +6,11 @@ use Rattle.papergrid_draw.specs.Drawings.{Drawing, layout_of}
 use Rattle.papergrid_draw.specs.Faults.{AllHaveRoom, whole_height}
 use Rattle.papergrid_draw.specs.Margins.{whole_width}
 use Rattle.papergrid_draw.specs.Tiles.{IsTileFault, IsTiled}
-use Rattle.papergrid_draw.specs.ForProofs.Sheets.{IsRefusal, IsRoomFault}
+use Rattle.papergrid_draw.specs.ForProofs.Sheets.{IsDrawRefusal, IsRoomFault}
 use Rattle.papergrid_draw.specs.declared.error.DrawError.{DrawError}
 use Rattle.papergrid_draw.specs.declared.error.DrawError.TheVariants.{Memory, NoRoom, NotTiled, OutOfTable, TooLarge, Write}
 
-pub tile-refusal : (d : Drawing) (e : DrawError) → IsTileFault (layout_of d) e → IsRefusal d e
+pub tile-refusal : (d : Drawing) (e : DrawError) → IsTileFault (layout_of d) e → IsDrawRefusal d e
 tile-refusal d (OutOfTable p) is = (is, λ same. cc)
 tile-refusal d (NotTiled p) is = (is, λ same. cc)
 tile-refusal d (NoRoom p) is = absurd is
@@ -18,7 +18,7 @@ tile-refusal d TooLarge is = absurd is
 tile-refusal d (Memory e) is = (tt, λ same. cc)
 tile-refusal d Write is = absurd is
 
-pub room-refusal : (d : Drawing) (e : DrawError) → IsTiled (layout_of d) → IsRoomFault d e → IsRefusal d e
+pub room-refusal : (d : Drawing) (e : DrawError) → IsTiled (layout_of d) → IsRoomFault d e → IsDrawRefusal d e
 room-refusal d (OutOfTable p) tiled is = absurd is
 room-refusal d (NotTiled p) tiled is = absurd is
 room-refusal d (NoRoom p) tiled is = ((tiled, is), λ same. cc)
@@ -28,7 +28,7 @@ room-refusal d Write tiled is = absurd is
 
 -- no width was found
 pub large-refusal : (d : Drawing) (found : Option ℕ) (e : DrawError) → IsTiled (layout_of d) → AllHaveRoom d →
-    SomeIff found ((whole_width d < 2 ^ 64) × (whole_height d < 2 ^ 64)) (whole_width d) → Err e ≡ ok_or found TooLarge → IsRefusal d e
+    SomeIff found ((whole_width d < 2 ^ 64) × (whole_height d < 2 ^ 64)) (whole_width d) → Err e ≡ ok_or found TooLarge → IsDrawRefusal d e
 large-refusal d None e tiled room none at =
     let same : TooLarge ≡ e = cc in
     let large : (2 ^ 64 ≤ whole_width d) ⊎ (2 ^ 64 ≤ whole_height d) = elim (cases_lt (whole_width d) (2 ^ 64)) [
@@ -38,7 +38,7 @@ large-refusal d None e tiled room none at =
       ]
       | inr wide ↦ inl wide
     ] in
-    subst (IsRefusal d) same ((tiled, room, large), λ other. cc)
+    subst (IsDrawRefusal d) same ((tiled, room, large), λ other. cc)
 large-refusal d (Some n) e tiled room some at = absurd (cc)
 
 -- the width that was found

@@ -16,9 +16,9 @@ use Rattle.papergrid_draw.specs.Characters.{crossing, segment}
 use Rattle.papergrid_draw.specs.Contents as contents
 use Rattle.papergrid_draw.specs.Contents.{block_at, content}
 use Rattle.papergrid_draw.specs.Drawings.{Drawing, layout_of}
-use Rattle.papergrid_draw.specs.Drawn.{OnLine, Stretch, column_stretch, content_from, crossing_stretch, has_horizontal, has_vertical, over_line, owner_at, rule_line, stands_over, stands_over_crossing}
+use Rattle.papergrid_draw.specs.Drawn.{OnLine, Stretch, column_stretch, content_from, crossing_stretch, draws_horizontal, draws_vertical, over_line, owner_at, rule_line, stands_over, stands_over_crossing}
 use Rattle.papergrid_draw.specs.Tiles.{IsTiled}
-use Rattle.papergrid_draw.specs.ForProofs.Pages.{IsFrame, IsSlot, Texts, drawing_of, row_start, slot_of, text_start}
+use Rattle.papergrid_draw.specs.ForProofs.Pages.{IsFrame, IsSlot, Texts, drawing_of, row_start, slot_at, text_start}
 use Rattle.papergrid_draw.specs.ForProofs.Pens.{AddsStretches, stretches_over}
 use Rattle.papergrid_draw.specs.declared.page.Frame.{Frame}
 use Rattle.papergrid_draw.specs.declared.page.Slot.{Slot}
@@ -36,11 +36,11 @@ past-all false b e x = refl
 
 module _ (d : Drawing) (i j : ℕ) where
   -- none is seen where no line is, or where a cell stands over it
-  pub crossing-none : (has_vertical d j && not (stands_over_crossing d i j)) ≡ false → [] ≡ crossing_stretch d i j
+  pub crossing-none : (draws_vertical d j && not (stands_over_crossing d i j)) ≡ false → [] ≡ crossing_stretch d i j
   crossing-none none = sym (ap (λ shown. if shown then OnLine (crossing d.config d.shape (position_of (i, j))) ∷ [] else []) none)
 
   -- else it is
-  pub crossing-some : (has_vertical d j && not (stands_over_crossing d i j)) ≡ true → OnLine (crossing d.config d.shape (position_of (i, j))) ∷ [] ≡ crossing_stretch d i j
+  pub crossing-some : (draws_vertical d j && not (stands_over_crossing d i j)) ≡ true → OnLine (crossing d.config d.shape (position_of (i, j))) ∷ [] ≡ crossing_stretch d i j
   crossing-some some = sym (ap (λ shown. if shown then OnLine (crossing d.config d.shape (position_of (i, j))) ∷ [] else []) some)
 
   -- no cell stands over one after the last column
@@ -54,11 +54,11 @@ module _ (d : Drawing) where
   -- ---- lines of the table
 
   -- the first text line of a row comes next after the horizontal line before it
-  text_start-next : (r : ℕ) → has_horizontal d r ≡ true → text_start d r ≡ row_start d r + 1
+  text_start-next : (r : ℕ) → draws_horizontal d r ≡ true → text_start d r ≡ row_start d r + 1
   text_start-next r line = text_start-after d r ∙ ap (λ drawn. row_start d r + cond {A = ℕ} drawn 1 0) line
 
   -- a horizontal line is one of the lines of the table
-  line-within : (r : ℕ) → r ≤ d.shape.0 → has_horizontal d r ≡ true → row_start d r < total_along (layout_of d) Rows
+  line-within : (r : ℕ) → r ≤ d.shape.0 → draws_horizontal d r ≡ true → row_start d r < total_along (layout_of d) Rows
   line-within r within line =
       let next : text_start d r ≡ row_start d r + 1 = text_start-next r line in
       let rises : text_start d r ≤ total_along (layout_of d) Rows =
@@ -83,7 +83,7 @@ module _ (d : Drawing) where
       omega (arith, drawn)
 
   -- one more line of a cell that stands over the line is drawn
-  pub slot-over : {T : Type 0} (r c : ℕ) (slot new : Slot T) → has_horizontal d r ≡ true → slot.owner.row < r → IsSlot d r c (row_start d r) slot →
+  pub slot-over : {T : Type 0} (r c : ℕ) (slot new : Slot T) → draws_horizontal d r ≡ true → slot.owner.row < r → IsSlot d r c (row_start d r) slot →
       new ≡ record { owner = slot.owner; block = slot.block; drawn = slot.drawn + 1 } → IsSlot d r c (text_start d r) new
   slot-over {T} r c slot new line above is more =
       let o = is.0 in
@@ -94,7 +94,7 @@ module _ (d : Drawing) where
         more
             ∙ ap (λ (s : Slot T). record { owner = s.owner; block = s.block; drawn = s.drawn + 1 }) is.2
             ∙ sym (slot-next d {T = T} o c (row_start d r) (over-begins r o over))
-            ∙ ap (λ y. slot_of d {T = T} o c y) (sym (text_start-next r line)),
+            ∙ ap (λ y. slot_at d {T = T} o c y) (sym (text_start-next r line)),
       )
 
   -- none of one that begins below it
@@ -109,7 +109,7 @@ module _ (d : Drawing) where
       let none : row_start d r - begin_along (layout_of d) Rows o ≡ text_start d r - begin_along (layout_of d) Rows o = omega (arith, begins, after) in (
         o,
         is.1,
-        is.2 ∙ ap (λ n. record { owner = o; block = (slot_of d {T = T} o c 0).block; drawn = n }) none,
+        is.2 ∙ ap (λ n. record { owner = o; block = (slot_at d {T = T} o c 0).block; drawn = n }) none,
       )
 
   over_or-none : (here : Bool) (b : contents.Block) (k : ℕ) → stretches_over (if here then Some b else None) k ≡ over_line d (if here then Some (content b k) else None)
@@ -158,12 +158,12 @@ module _ (parts : TableParts) (frame : Frame) (read : IsFrame parts frame) where
   column-there slots col each below = let inside = column-in col below in omega (arith, each, inside)
 
   -- the lines of the table are those of these parts
-  pub line-read : (other : TableParts) (texts told : Texts) (r : ℕ) → IsFrame other frame → has_horizontal (drawing_of other told) r ≡ true →
-      has_horizontal (drawing_of parts texts) r ≡ true
-  line-read other texts told r also line = subst (λ (t : TableParts). has_horizontal (drawing_of t texts) r ≡ true) (sym also.table ∙ read.table) line
+  pub line-read : (other : TableParts) (texts told : Texts) (r : ℕ) → IsFrame other frame → draws_horizontal (drawing_of other told) r ≡ true →
+      draws_horizontal (drawing_of parts texts) r ≡ true
+  line-read other texts told r also line = subst (λ (t : TableParts). draws_horizontal (drawing_of t texts) r ≡ true) (sym also.table ∙ read.table) line
 
   -- the lines of a cell that are drawn before a horizontal line are fewer than those of the table
-  pub drawn-below : {T : Type 0} (texts : Texts) (r c : ℕ) (slot : Slot T) → r < length parts.heights → has_horizontal (drawing_of parts texts) r ≡ true →
+  pub drawn-below : {T : Type 0} (texts : Texts) (r c : ℕ) (slot : Slot T) → r < length parts.heights → draws_horizontal (drawing_of parts texts) r ≡ true →
       IsSlot (drawing_of parts texts) r c (row_start (drawing_of parts texts) r) slot → slot.drawn < frame.height
   drawn-below texts r c slot below line is =
       let d = drawing_of parts texts in

@@ -17,7 +17,7 @@ use Rattle.papergrid_layout.specs.Places.{begin_along, line_offset, track_line, 
 use Rattle.papergrid_draw.specs.Bytes.{line_bytes}
 use Rattle.papergrid_draw.specs.Characters.{Mark, has_overrides, plain_mark, segment, segment_character, segment_piece, vertical}
 use Rattle.papergrid_draw.specs.Drawings.{Drawing, layout_of}
-use Rattle.papergrid_draw.specs.Drawn.{OnLine, RuleLine, TextLine, after_these, column_stretch, content_from, crossing_stretch, drawn_lines, has_horizontal, has_vertical, over_line, owner_at, rule_line, rule_lines, stands_over, text_line, vertical_pieces}
+use Rattle.papergrid_draw.specs.Drawn.{OnLine, RuleLine, TextLine, after_these, column_stretch, content_from, crossing_stretch, drawn_lines, draws_horizontal, draws_vertical, over_line, owner_at, rule_line, rule_lines, stands_over, text_line, vertical_pieces}
 use Rattle.papergrid_draw.specs.Margins.{printed, with_margins}
 use Rattle.papergrid_draw.specs.Pieces.{Line, fill_text}
 use Rattle.papergrid_draw.proofs.OverrideLemmas.{has_overrides-IsOverridden, tells_overrides}
@@ -55,7 +55,7 @@ module _ (d : Drawing) (x : SpannedConfig) where
     }
 
     same-verticals : (r j k : ℕ) → vertical_pieces other r j k ≡ vertical_pieces d r j k
-    same-verticals r j k = ap (λ piece. if has_vertical d j then piece ∷ [] else []) (same-vertical (position_of (r, j)) (d.heights r) k)
+    same-verticals r j k = ap (λ piece. if draws_vertical d j then piece ∷ [] else []) (same-vertical (position_of (r, j)) (d.heights r) k)
 
     -- some character is overridden by one as by the other
     same-overridden : (p : Position) → has_overrides (get x.horizontal_chars p) ≡ has_overrides (get d.config.horizontal_chars p)
@@ -90,7 +90,7 @@ module _ (d : Drawing) (x : SpannedConfig) where
     same-rule i = λ k. flat_map (λ c. crossing_stretch d i c ++ same-stretch i c k) (range_with_len 0 d.shape.1) ++ crossing_stretch d i d.shape.1
 
     same-rules : (i : ℕ) → rule_lines other i ≡ rule_lines d i
-    same-rules i = ap (λ line. if has_horizontal d i then RuleLine line ∷ [] else []) (same-rule i)
+    same-rules i = ap (λ line. if draws_horizontal d i then RuleLine line ∷ [] else []) (same-rule i)
 
     same-lines : drawn_lines other ≡ drawn_lines d
     same-lines = λ i.

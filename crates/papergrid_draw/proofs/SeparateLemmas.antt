@@ -12,10 +12,10 @@ use Rattle.papergrid_draw.specs.Characters.{Mark, crossing, crossing_character, 
 use Rattle.papergrid_draw.specs.Contents as contents
 use Rattle.papergrid_draw.specs.Contents.{above, before, block_at, content, inner, line_pieces, shown}
 use Rattle.papergrid_draw.specs.Drawings.{Drawing}
-use Rattle.papergrid_draw.specs.Drawn.{OnLine, has_vertical, stands_over_crossing, vertical_pieces}
-use Rattle.papergrid_draw.specs.Laws.{columns_of, stretch_pieces, text_piece}
+use Rattle.papergrid_draw.specs.Drawn.{OnLine, draws_vertical, stands_over_crossing, vertical_pieces}
+use Rattle.papergrid_draw.specs.Laws.{terminal_columns, stretch_pieces, text_piece}
 use Rattle.papergrid_draw.specs.Pieces.{Justification, Padding, Piece, fill}
-use Rattle.papergrid_draw.specs.Separated.{HasSeparators, IsMeasured, fills_of}
+use Rattle.papergrid_draw.specs.Separated.{HasSeparators, IsMeasuredLine, fills_of}
 use Rattle.papergrid_draw.proofs.BlockLemmas.{Line}
 use Rattle.papergrid_draw.proofs.ContentLemmas.{All-shown, columns-fill, line_at}
 use Rattle.papergrid_draw.proofs.OverLemmas.{crossing_pieces}
@@ -23,7 +23,7 @@ use Rattle.papergrid_draw.proofs.WideLemmas.{AreFills, AreSeparate, Begins, Ends
 
 -- ---- a cell
 
-module _ (b : contents.Block) (filled : All IsSeparator (fills_of b.look)) (honest : All IsMeasured b.lines) where
+module _ (b : contents.Block) (filled : All IsSeparator (fills_of b.look)) (honest : All IsMeasuredLine b.lines) where
   left-fills : AreFills (fill Padding b.look.padding.left.fill b.look.padding.left.size b.look.padding_color.left)
   left-fills = fills-fill Padding b.look.padding.left.fill b.look.padding.left.size b.look.padding_color.left (filled 0 0 (omega arith))
 
@@ -65,7 +65,7 @@ module _ (b : contents.Block) (filled : All IsSeparator (fills_of b.look)) (hone
     line-begins : 0 < b.look.padding.left.size → Begins (line_pieces b line)
     line-begins some =
         let wide = columns-fill Padding b.look.padding.left.fill b.look.padding.left.size b.look.padding_color.left in
-        in_case left (λ none. (let narrow = ap columns_of none in omega (arith, some))) left-fills
+        in_case left (λ none. (let narrow = ap terminal_columns none in omega (arith, some))) left-fills
       where
         in_case : (front : List Piece) → (front ≡ [] → ⊥) → AreFills front → Begins (front ++ start ++ text_piece b line ∷ rest ++ right)
         in_case [] none fills = absurd (none refl)
@@ -75,13 +75,13 @@ module _ (b : contents.Block) (filled : All IsSeparator (fills_of b.look)) (hone
     line-ends : 0 < b.look.padding.right.size → Ends (line_pieces b line)
     line-ends some =
         let wide = columns-fill Padding b.look.padding.right.fill b.look.padding.right.size b.look.padding_color.right in
-        end-after ((left ++ start) ++ text_piece b line ∷ rest) right (λ none. (let narrow = ap columns_of none in omega (arith, some)))
+        end-after ((left ++ start) ++ text_piece b line ∷ rest) right (λ none. (let narrow = ap terminal_columns none in omega (arith, some)))
         (fills-end right right-fills)
 
   -- ---- a line of its place
 
   line-told : (i : ℕ) → i < length (shown b) → IsTold (line_at b i).0 (line_at b i).1
-  line-told i below = shown-told b.look.formatting.horizontal_trim (get_or (shown b) i ([], 0)) (All-shown IsMeasured b.look.formatting.vertical_trim b.lines honest i ([], 0) below)
+  line-told i below = shown-told b.look.formatting.horizontal_trim (get_or (shown b) i ([], 0)) (All-shown IsMeasuredLine b.look.formatting.vertical_trim b.lines honest i ([], 0) below)
 
   content-is : (P : List Piece → Type 0) → ((pieces : List Piece) → AreFills pieces → P pieces) →
       ((i : ℕ) → i < length (shown b) → P (line_pieces b (line_at b i))) → (k : ℕ) → P (content b k)
@@ -112,7 +112,7 @@ module _ (b : contents.Block) (filled : All IsSeparator (fills_of b.look)) (hone
 
 module _ (d : Drawing) (separated : HasSeparators d) where
   pub vertical-fills : (r j k : ℕ) → AreFills (vertical_pieces d r j k)
-  vertical-fills r j k = in_case (has_vertical d j)
+  vertical-fills r j k = in_case (draws_vertical d j)
     where
       in_case : (line : Bool) → AreFills (if line then vertical d.config d.shape (position_of (r, j)) (d.heights r) k ∷ [] else [])
       in_case true = (
@@ -123,7 +123,7 @@ module _ (d : Drawing) (separated : HasSeparators d) where
       in_case false = tt
 
   pub crossing-fills : (i j : ℕ) → AreFills (crossing_pieces d i j)
-  crossing-fills i j = in_case (has_vertical d j && not (stands_over_crossing d i j))
+  crossing-fills i j = in_case (draws_vertical d j && not (stands_over_crossing d i j))
     where
       in_case : (line : Bool) → AreFills (flat_map stretch_pieces (if line then OnLine (crossing d.config d.shape (position_of (i, j))) ∷ [] else []))
       in_case true = (

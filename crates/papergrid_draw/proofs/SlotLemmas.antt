@@ -9,14 +9,14 @@ use Rattle.papergrid_values.specs.declared.position.Position.{Position}
 use Rattle.papergrid_values.specs.Positions.{position_of}
 use Rattle.papergrid_values.specs.declared.direction.Direction.TheVariants.{Columns, Rows}
 use Rattle.papergrid_draw.specs.Drawings.{Drawing, layout_of}
-use Rattle.papergrid_draw.specs.Tiles.{IsInTable, IsTiled}
+use Rattle.papergrid_draw.specs.Tiles.{IsTablePosition, IsTiled}
 use Rattle.papergrid_layout.specs.Places.{IsInsideTable, begin_along}
 use Rattle.papergrid_draw.specs.Contents as contents
 use Rattle.papergrid_draw.specs.Contents.{block_at}
 use Rattle.papergrid_draw.proofs.PageLemmas.{owner-behind, text_start-after}
 use Rattle.papergrid_draw.proofs.TileLemmas.{owner-above, owner-itself, owner-known, owner-left, owner-over}
 use Rattle.papergrid_draw.specs.Drawn.{owner_at}
-use Rattle.papergrid_draw.specs.ForProofs.Pages.{AreSet, AreSlots, IsSlot, row_start, text_start}
+use Rattle.papergrid_draw.specs.ForProofs.Pages.{AreSlotsSet, AreSlots, IsSlot, row_start, text_start}
 use Rattle.papergrid_draw.specs.declared.page.Slot.{Slot}
 
 -- below the next number are those below a number, and that
@@ -68,8 +68,8 @@ module _ {T : Type 0} (d : Drawing) where
       slots-same r _ _ slots (λ c inside. ap (λ b. cond {A = ℕ} b after before) (lt-ltb c col (omega (arith, past, inside)))) are
 
   -- a cell of the row is taken
-  pub set-taken : (r col : ℕ) (slots : List (Slot T)) (slot : Slot T) → col < d.shape.1 → AreSet d r col slots → IsSlot d r col (row_start d r) slot →
-      AreSet d r (col + 1) (set slots col slot)
+  pub set-taken : (r col : ℕ) (slots : List (Slot T)) (slot : Slot T) → col < d.shape.1 → AreSlotsSet d r col slots → IsSlot d r col (row_start d r) slot →
+      AreSlotsSet d r (col + 1) (set slots col slot)
   set-taken r col slots slot inside are is = record {
     each = length-set slots col slot ∙ are.each;
     taken = λ j other within before. elim (cases_eq j col) [
@@ -81,8 +81,8 @@ module _ {T : Type 0} (d : Drawing) where
   }
 
   -- that of the row above still covers the column
-  pub set-stays : (r col : ℕ) (slots : List (Slot T)) → AreSet d r col slots → ((other : Slot T) → IsSlot d r col (row_start d r) (get_or slots col other)) →
-      AreSet d r (col + 1) slots
+  pub set-stays : (r col : ℕ) (slots : List (Slot T)) → AreSlotsSet d r col slots → ((other : Slot T) → IsSlot d r col (row_start d r) (get_or slots col other)) →
+      AreSlotsSet d r (col + 1) slots
   set-stays r col slots are is = record {
     each = are.each;
     taken = λ j other within before. elim (cases_eq j col) [
@@ -95,20 +95,20 @@ module _ {T : Type 0} (d : Drawing) where
   -- ---- the owner of a position, by what is kept
 
   -- what is kept in the column is the owner of the position above
-  pub kept-above : (r c : ℕ) (slots : List (Slot T)) (other : Slot T) → c < d.shape.1 → AreSet d r c slots → 0 < r →
+  pub kept-above : (r c : ℕ) (slots : List (Slot T)) (other : Slot T) → c < d.shape.1 → AreSlotsSet d r c slots → 0 < r →
       owner_at d (r - 1) c ≡ Some (get_or slots c other).owner
   kept-above r c slots other inside are begun =
       let is = are.above c other inside (omega arith) begun in
       is.1 ∙ ap (λ (s : Slot T). Some s.owner) (sym is.2)
 
   -- and in the column before that of the position on the left
-  pub kept-left : (r c : ℕ) (slots : List (Slot T)) (other : Slot T) → c < d.shape.1 → AreSet d r c slots → 0 < c →
+  pub kept-left : (r c : ℕ) (slots : List (Slot T)) (other : Slot T) → c < d.shape.1 → AreSlotsSet d r c slots → 0 < c →
       owner_at d r (c - 1) ≡ Some (get_or slots (c - 1) other).owner
   kept-left r c slots other inside are begun =
       let is = are.taken (c - 1) other (omega arith) (omega arith) in
       is.1 ∙ ap (λ (s : Slot T). Some s.owner) (sym is.2)
 
-  module _ (tiled : IsTiled (layout_of d)) (r c : ℕ) (slots : List (Slot T)) (inside : IsInTable (layout_of d) (position_of (r, c))) (are : AreSet d r c slots) where
+  module _ (tiled : IsTiled (layout_of d)) (r c : ℕ) (slots : List (Slot T)) (inside : IsTablePosition (layout_of d) (position_of (r, c))) (are : AreSlotsSet d r c slots) where
     -- where the cell above reaches the row
     pub found-above : (other : Slot T) → (get_or slots c other).owner.row < r →
         r - (get_or slots c other).owner.row < (layout_of d).grid.span Rows (get_or slots c other).owner →
@@ -144,7 +144,7 @@ module _ {T : Type 0} (d : Drawing) where
     -- ---- what is kept once a cell is taken
 
     -- the cell that covers a position and begins above its row is kept there already
-    pub kept-stays : (o : Position) → owner_at d r c ≡ Some o → o.row < r → AreSet d r (c + 1) slots
+    pub kept-stays : (o : Position) → owner_at d r c ≡ Some o → o.row < r → AreSlotsSet d r (c + 1) slots
     kept-stays o is above =
         let begun : 0 < r = omega arith in
         let same = (owner-over (layout_of d) tiled r c o begun inside is).1 above in
@@ -155,7 +155,7 @@ module _ {T : Type 0} (d : Drawing) where
     -- one that begins in the row is kept with its block where it begins
     pub kept-new : (o : Position) (block : Option contents.Block) → owner_at d r c ≡ Some o → (o.row < r → ⊥) →
         block ≡ (if o.col == c then Some (block_at d o) else None) →
-        AreSet d r (c + 1) (set slots c (record { owner = o; block = block; drawn = 0 }))
+        AreSlotsSet d r (c + 1) (set slots c (record { owner = o; block = block; drawn = 0 }))
     kept-new o block is not_above is_block =
         let behind = owner-behind (layout_of d) (position_of (r, c)) o is in
         let level : o.row ≡ r = elim (cases_lt o.row r) [ inl less ↦ absurd (not_above less) | inr past ↦ omega (arith, past, behind.0) ] in

@@ -12,7 +12,7 @@ use Rattle.papergrid_draw.specs.Characters.{Mark, crossing, segment, vertical}
 use Rattle.papergrid_draw.specs.Contents as contents
 use Rattle.papergrid_draw.specs.Contents.{above, before, block_at, content, inner, line_pieces, shown, shown_line}
 use Rattle.papergrid_draw.specs.Drawings.{Drawing, layout_of}
-use Rattle.papergrid_draw.specs.Drawn.{OnLine, after_these, column_pieces, content_from, drawn_lines, has_vertical, over_line, owner_at, rule_line, stands_over, stands_over_crossing, text_line, vertical_pieces}
+use Rattle.papergrid_draw.specs.Drawn.{OnLine, after_these, column_pieces, content_from, drawn_lines, draws_vertical, over_line, owner_at, rule_line, stands_over, stands_over_crossing, text_line, vertical_pieces}
 use Rattle.papergrid_draw.specs.Laws.{pieces_of, stretch_pieces, text_piece}
 use Rattle.papergrid_draw.specs.Pieces.{Justification, Kind, Padding, Piece, fill, fill_text}
 use Rattle.papergrid_draw.specs.Separated.{fills_of}
@@ -29,14 +29,14 @@ module _ (d : Drawing) where
   -- ---- lines of the table
 
   of-vertical : (r j k : ℕ) → AreOfTable (vertical_pieces d r j k)
-  of-vertical r j k = in_case (has_vertical d j)
+  of-vertical r j k = in_case (draws_vertical d j)
     where
       in_case : (line : Bool) → AreOfTable (if line then vertical d.config d.shape (position_of (r, j)) (d.heights r) k ∷ [] else [])
       in_case true = All-cons (IsOfTable d) _ [] (OfVertical (position_of (r, j)) k refl) (All-nil (IsOfTable d))
       in_case false = All-nil (IsOfTable d)
 
   of-crossing : (i j : ℕ) → AreOfTable (crossing_pieces d i j)
-  of-crossing i j = in_case (has_vertical d j && not (stands_over_crossing d i j))
+  of-crossing i j = in_case (draws_vertical d j && not (stands_over_crossing d i j))
     where
       in_case : (line : Bool) → AreOfTable (flat_map stretch_pieces (if line then OnLine (crossing d.config d.shape (position_of (i, j))) ∷ [] else []))
       in_case true = All-cons (IsOfTable d) _ [] (OfCrossing (position_of (i, j)) refl) (All-nil (IsOfTable d))

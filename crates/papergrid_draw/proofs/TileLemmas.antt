@@ -18,7 +18,7 @@ use Rattle.papergrid_maps.specs.Hidden.{AreAnchorsOf}
 use Rattle.papergrid_maps.specs.declared.anchors.Anchor.{Anchor}
 use Rattle.papergrid_maps.proofs.HiddenLemmas.{position-same}
 use Rattle.papergrid_layout.specs.Places.{IsVisibleCell, Overflows, TableView}
-use Rattle.papergrid_draw.specs.Tiles.{IsInTable, IsTiled, Owns, owner, owns}
+use Rattle.papergrid_draw.specs.Tiles.{IsTablePosition, IsTiled, Owns, owner, owns}
 use Rattle.papergrid_draw.specs.ForProofs.Tiles.{HasOwner}
 
 -- ---- the first position that passes a test
@@ -129,19 +129,19 @@ module _ (table : TableView) (tiled : IsTiled table) where
   abbrev at : ℕ → ℕ → Position
   at r c = position_of (r, c)
 
-  ends-within : (p : Position) (direction : Direction) → table.grid.shows p ≡ true → IsInTable table p → Overflows table p direction → ⊥
+  ends-within : (p : Position) (direction : Direction) → table.grid.shows p ≡ true → IsTablePosition table p → Overflows table p direction → ⊥
   ends-within p direction shown inside out =
       tiled.within p (record { visible = shown; row_in = inside.0; col_in = inside.1 }, direction, out)
 
   -- what covers a position of the table is its owner
-  pub owns-owner : (p q : Position) → IsInTable table q → Owns table p q → owner table q ≡ Some p
+  pub owns-owner : (p q : Position) → IsTablePosition table q → Owns table p q → owner table q ≡ Some p
   owns-owner p q inside is =
       let once = tiled.once q inside in
       let same : p ≡ once.0 = once.2 p is in
       owner-only table q p is (λ other also. once.2 other also ∙ sym same)
 
   -- each has one
-  pub has-owner : (q : Position) → IsInTable table q → (p : Position) × HasOwner table q p
+  pub has-owner : (q : Position) → IsTablePosition table q → (p : Position) × HasOwner table q p
   has-owner q inside =
       let once = tiled.once q inside in
       let p = once.0 in
@@ -149,7 +149,7 @@ module _ (table : TableView) (tiled : IsTiled table) where
       let left : p.col ≤ q.col = once.1.covers.after_left in
       let row_in : q.row < table.shape.0 = inside.0 in
       let col_in : q.col < table.shape.1 = inside.1 in
-      let own : IsInTable table p = (omega arith, omega arith) in (
+      let own : IsTablePosition table p = (omega arith, omega arith) in (
         p,
         record {
           is = owner-only table q p once.1 once.2;
@@ -168,7 +168,7 @@ module _ (table : TableView) (tiled : IsTiled table) where
       )
 
   -- what is known of a position that is told to be the owner
-  pub owner-known : (q p : Position) → IsInTable table q → owner table q ≡ Some p → HasOwner table q p
+  pub owner-known : (q p : Position) → IsTablePosition table q → owner table q ≡ Some p → HasOwner table q p
   owner-known q p inside is =
       let found = has-owner q inside in
       subst (HasOwner table q) (same_Some found.0 p (sym found.1.is ∙ is)) found.1
@@ -182,7 +182,7 @@ module _ (table : TableView) (tiled : IsTiled table) where
   -- ---- the owner of a position by those above and left of it
 
   -- that of the position above, if its cell reaches the row
-  pub owner-above : (r c : ℕ) (above : Position) → 0 < r → IsInTable table (at r c) → owner table (at (r - 1) c) ≡ Some above →
+  pub owner-above : (r c : ℕ) (above : Position) → 0 < r → IsTablePosition table (at r c) → owner table (at (r - 1) c) ≡ Some above →
       r - above.row < table.grid.span Rows above → owner table (at r c) ≡ Some above
   owner-above r c above begun inside is reaches =
       let row_in : r < table.shape.0 = inside.0 in
@@ -199,7 +199,7 @@ module _ (table : TableView) (tiled : IsTiled table) where
       })
 
   -- that of the position on the left, if its cell reaches the column
-  pub owner-left : (r c : ℕ) (left : Position) → 0 < c → IsInTable table (at r c) → owner table (at r (c - 1)) ≡ Some left →
+  pub owner-left : (r c : ℕ) (left : Position) → 0 < c → IsTablePosition table (at r c) → owner table (at r (c - 1)) ≡ Some left →
       c - left.col < table.grid.span Columns left → owner table (at r c) ≡ Some left
   owner-left r c left begun inside is reaches =
       let col_in : c < table.shape.1 = inside.1 in
@@ -217,7 +217,7 @@ module _ (table : TableView) (tiled : IsTiled table) where
 
   -- else its own cell, where that of the position above does not reach the row, and the one on the left, if it begins in
   -- the row, not the column
-  pub owner-itself : (r c : ℕ) → IsInTable table (at r c) →
+  pub owner-itself : (r c : ℕ) → IsTablePosition table (at r c) →
       ((above : Position) → 0 < r → owner table (at (r - 1) c) ≡ Some above → r - above.row < table.grid.span Rows above → ⊥) →
       ((left : Position) → 0 < c → owner table (at r (c - 1)) ≡ Some left → left.row ≡ r → c - left.col < table.grid.span Columns left → ⊥) →
       HasOwner table (at r c) (at r c)
@@ -250,7 +250,7 @@ module _ (table : TableView) (tiled : IsTiled table) where
   -- ---- one owner on both sides of a line
 
   -- above and below line i
-  pub owner-over : (i c : ℕ) (o : Position) → 0 < i → IsInTable table (at i c) → owner table (at i c) ≡ Some o →
+  pub owner-over : (i c : ℕ) (o : Position) → 0 < i → IsTablePosition table (at i c) → owner table (at i c) ≡ Some o →
       (owner table (at (i - 1) c) ≡ owner table (at i c)) ↔ (o.row < i)
   owner-over i c o begun inside is =
       let row_in : i < table.shape.0 = inside.0 in
@@ -273,7 +273,7 @@ module _ (table : TableView) (tiled : IsTiled table) where
       )
 
   -- on both sides of the lines i and j where they cross
-  pub owner-over-crossing : (i j : ℕ) (o : Position) → 0 < i → 0 < j → IsInTable table (at i j) → owner table (at i j) ≡ Some o →
+  pub owner-over-crossing : (i j : ℕ) (o : Position) → 0 < i → 0 < j → IsTablePosition table (at i j) → owner table (at i j) ≡ Some o →
       (owner table (at (i - 1) (j - 1)) ≡ owner table (at i j)) ↔ ((o.row < i) × (o.col < j))
   owner-over-crossing i j o begun begun' inside is =
       let row_in : i < table.shape.0 = inside.0 in
@@ -302,14 +302,14 @@ module _ (table : TableView) (tiled : IsTiled table) where
       )
 
   -- the tests of these
-  pub test-over : (i c : ℕ) (o : Position) → 0 < i → IsInTable table (at i c) → owner table (at i c) ≡ Some o →
+  pub test-over : (i c : ℕ) (o : Position) → 0 < i → IsTablePosition table (at i c) → owner table (at i c) ≡ Some o →
       option_eq position_eq (owner table (at (i - 1) c)) (owner table (at i c)) ≡ nat_lt o.row i
   test-over i c o begun inside is =
       let same = same-owner (owner table (at (i - 1) c)) (owner table (at i c)) o is in
       let over = owner-over i c o begun inside is in
       ltb_from_iff ((λ h. over.0 (same.0 h)), (λ h. same.1 (over.1 h)))
 
-  pub test-over-crossing : (i j : ℕ) (o : Position) → 0 < i → 0 < j → IsInTable table (at i j) → owner table (at i j) ≡ Some o →
+  pub test-over-crossing : (i j : ℕ) (o : Position) → 0 < i → 0 < j → IsTablePosition table (at i j) → owner table (at i j) ≡ Some o →
       option_eq position_eq (owner table (at (i - 1) (j - 1))) (owner table (at i j)) ≡ (nat_lt o.row i && nat_lt o.col j)
   test-over-crossing i j o begun begun' inside is =
       let same = same-owner (owner table (at (i - 1) (j - 1))) (owner table (at i j)) o is in

@@ -15,7 +15,7 @@ use Rattle.papergrid_maps.proofs.HiddenLemmas.{not-hidden-visible, position-same
 use Rattle.papergrid_walk.specs.ForProofs.Shown.{anchor_in}
 use Rattle.papergrid_walk.specs.ForProofs.Visits.{shows_turn}
 use Rattle.papergrid_layout.specs.Places.{IsVisibleCell, TableView}
-use Rattle.papergrid_draw.specs.Tiles.{AreWithin, IsInTable, IsOwnedOnce, IsTileFault, IsTiled, Owns}
+use Rattle.papergrid_draw.specs.Tiles.{AreWithin, IsTablePosition, IsOwnedOnce, IsTileFault, IsTiled, Owns}
 use Rattle.papergrid_draw.specs.declared.error.DrawError.TheVariants.{NotTiled}
 use Rattle.papergrid_draw.specs.declared.tiles.Tiling.{Tiling}
 use Rattle.papergrid_draw.specs.ForProofs.Tiles.{AreFree, AreOwnedBefore, AreRaised, HasTiled, IsOwnedUntil, IsUntil, OwnsBefore}
@@ -215,7 +215,7 @@ module _ (table : TableView) where
       ]
 
   -- a visible cell of the table ends in it, where all do
-  pub cell-ends : (p : Position) → AreWithin table → IsInTable table p → table.grid.shows p ≡ true →
+  pub cell-ends : (p : Position) → AreWithin table → IsTablePosition table p → table.grid.shows p ≡ true →
       (p.col + table.grid.span Columns p ≤ table.shape.1) × (p.row + table.grid.span Rows p ≤ table.shape.0)
   cell-ends p within inside shown =
       let cell : IsVisibleCell table p = record { visible = shown; row_in = inside.0; col_in = inside.1 } in (
@@ -230,7 +230,7 @@ module _ (table : TableView) where
       )
 
   -- the visible cell that is found at one
-  pub found-ends : (p : Position) (anchor : Anchor) → AreWithin table → IsInTable table p →
+  pub found-ends : (p : Position) (anchor : Anchor) → AreWithin table → IsTablePosition table p →
       Some anchor ≡ (if table.grid.shows p then Some (anchor_in table.grid p) else None) →
       (table.grid.shows p ≡ true) × (anchor ≡ anchor_in table.grid p)
       × (p.col + anchor.cols ≤ table.shape.1) × (p.row + anchor.rows ≤ table.shape.0)
@@ -381,7 +381,7 @@ module _ (table : TableView) where
 
     -- a hidden position that no cell before it covers is the first that is covered by none
     pub fault-none : (r c : ℕ) (until : List ℕ) → let here = position_of (r, c) in
-        IsInTable table here → AreWithin table → table.grid.shows here ≡ false → slice_index until c ≤ r →
+        IsTablePosition table here → AreWithin table → table.grid.shows here ≡ false → slice_index until c ≤ r →
         AreOwnedBefore table r c until → IsTileFault table (NotTiled here)
     fault-none r c until inside within hidden past owned =
         let here = position_of (r, c) in (
@@ -400,7 +400,7 @@ module _ (table : TableView) where
 
     -- the first column of a visible cell that a cell before it covers is the first that is covered by two
     pub fault-two : (r c d : ℕ) (until : List ℕ) → let here = position_of (r, c) in
-        IsInTable table here → AreWithin table → table.grid.shows here ≡ true → c ≤ d → d < c + table.grid.span Columns here →
+        IsTablePosition table here → AreWithin table → table.grid.shows here ≡ true → c ≤ d → d < c + table.grid.span Columns here →
         AreFree until r c d → r < slice_index until d →
         AreOwnedBefore table r c until → IsTileFault table (NotTiled (position_of (r, d)))
     fault-two r c d until inside within shown from to free below owned =

@@ -14,7 +14,7 @@ use Rattle.papergrid_draw.specs.Colored.{AreAlikeButColors, uncolored}
 use Rattle.papergrid_draw.specs.Contents as contents
 use Rattle.papergrid_draw.specs.Contents.{above, before, block_at, content, inner, line_pieces, shown, shown_line}
 use Rattle.papergrid_draw.specs.Drawings.{Drawing, layout_of}
-use Rattle.papergrid_draw.specs.Drawn.{DrawnLine, OnLine, RuleLine, TextLine, after_these, column_pieces, content_from, drawn_lines, has_horizontal, has_vertical, over_line, owner_at, row_lines, rule_line, rule_lines, stands_over, stands_over_crossing, text_line, vertical_pieces}
+use Rattle.papergrid_draw.specs.Drawn.{DrawnLine, OnLine, RuleLine, TextLine, after_these, column_pieces, content_from, drawn_lines, draws_horizontal, draws_vertical, over_line, owner_at, row_lines, rule_line, rule_lines, stands_over, stands_over_crossing, text_line, vertical_pieces}
 use Rattle.papergrid_draw.specs.Laws.{pieces_of, stretch_pieces, text_piece}
 use Rattle.papergrid_draw.specs.Pieces.{Justification, Kind, Padding, Piece, fill, fill_text}
 use Rattle.papergrid_draw.proofs.BlockLemmas.{Line}
@@ -147,7 +147,7 @@ module _ (d : Drawing) (y : SpannedConfig) (color : Position → Option (List �
   -- ---- lines of the table
 
   alike-vertical : (r j k : ℕ) → AreAlike (vertical_pieces d r j k) (vertical_pieces other r j k)
-  alike-vertical r j k = in_case (has_vertical d j)
+  alike-vertical r j k = in_case (draws_vertical d j)
     where
       in_case : (line : Bool) → AreAlike
           (if line then vertical d.config d.shape (position_of (r, j)) (d.heights r) k ∷ [] else [])
@@ -156,7 +156,7 @@ module _ (d : Drawing) (y : SpannedConfig) (color : Position → Option (List �
       in_case false = refl
 
   alike-crossing : (i j : ℕ) → AreAlike (crossing_pieces d i j) (crossing_pieces other i j)
-  alike-crossing i j = in_case (has_vertical d j && not (stands_over_crossing d i j))
+  alike-crossing i j = in_case (draws_vertical d j && not (stands_over_crossing d i j))
     where
       in_case : (line : Bool) → AreAlike
           (flat_map stretch_pieces (if line then OnLine (crossing d.config d.shape (position_of (i, j))) ∷ [] else []))
@@ -233,7 +233,7 @@ module _ (d : Drawing) (y : SpannedConfig) (color : Position → Option (List �
   plain_line line = map uncolored (pieces_of line)
 
   alike-rules : (i : ℕ) → map plain_line (rule_lines d i) ≡ map plain_line (rule_lines other i)
-  alike-rules i = in_case (has_horizontal d i)
+  alike-rules i = in_case (draws_horizontal d i)
     where
       in_case : (line : Bool) → map plain_line (if line then RuleLine (rule_line d i) ∷ [] else []) ≡ map plain_line (if line then RuleLine (rule_line other i) ∷ [] else [])
       in_case true = ap (λ pieces. pieces ∷ []) (alike-rule i)

@@ -7,9 +7,9 @@ use Rattle.papergrid_text.specs.Text.{width_of}
 use Rattle.papergrid_text.proofs.JoinedLemmas.{IsSpelled, trimmed-spelled, utf8-spelled, width-before_separator, width-last, width-separators}
 use Rattle.papergrid_text.proofs.Widths.{width_of-nil}
 use Rattle.papergrid_draw.specs.Contents.{shown_line}
-use Rattle.papergrid_draw.specs.Laws.{columns_of}
+use Rattle.papergrid_draw.specs.Laws.{terminal_columns}
 use Rattle.papergrid_draw.specs.Pieces.{Kind, Piece, fill, fill_text}
-use Rattle.papergrid_draw.specs.Separated.{IsMeasured, text_of}
+use Rattle.papergrid_draw.specs.Separated.{IsMeasuredLine, pieces_text}
 use Rattle.papergrid_draw.proofs.BlockLemmas.{Line}
 use Rattle.papergrid_draw.proofs.ContentLemmas.{columns-cons}
 
@@ -153,11 +153,11 @@ fills-fill kind character n color separates =
 -- ---- texts
 
 -- a text that is told by its bytes
-pub told-of : (line : Line) → IsMeasured line → IsTold line.0 line.1
+pub told-of : (line : Line) → IsMeasuredLine line → IsTold line.0 line.1
 told-of line is = record { spelled = utf8-spelled line.0 is.0; wide = is.1 }
 
 -- and one that is shown without white space at its ends
-pub shown-told : (trims : Bool) (line : Line) → IsMeasured line → IsTold (shown_line trims line).0 (shown_line trims line).1
+pub shown-told : (trims : Bool) (line : Line) → IsMeasuredLine line → IsTold (shown_line trims line).0 (shown_line trims line).1
 shown-told true line is = record { spelled = trimmed-spelled line.0; wide = refl }
 shown-told false line is = told-of line is
 
@@ -172,29 +172,29 @@ width-fill piece rest is =
 
 -- a text adds its columns where nothing or a separator comes after it
 width-text : (text : List ℕ) (columns : ℕ) (pieces : List Piece) → IsTold text columns → Begins pieces →
-    width_of (text ++ text_of pieces) ≡ columns + width_of (text_of pieces)
+    width_of (text ++ pieces_text pieces) ≡ columns + width_of (pieces_text pieces)
 width-text text columns [] told begins =
     let alone = width-last text in
     let none = width_of-nil in
     let wide = told.wide in
     omega arith
 width-text text columns (piece ∷ pieces) told begins =
-    let before : width_of (text ++ (fill_text begins.character begins.count ++ text_of pieces)) ≡ width_of text + (begins.count + width_of (text_of pieces)) =
-    width-before_separator text begins.character begins.count (text_of pieces) told.spelled begins.separates begins.some in
-    let joined : width_of (text ++ (piece.text ++ text_of pieces)) ≡ width_of (text ++ (fill_text begins.character begins.count ++ text_of pieces)) =
-    ap (λ t. width_of (text ++ (t ++ text_of pieces))) begins.text in
-    let own : width_of (piece.text ++ text_of pieces) ≡ piece.columns + width_of (text_of pieces) = width-fill piece (text_of pieces) begins in
+    let before : width_of (text ++ (fill_text begins.character begins.count ++ pieces_text pieces)) ≡ width_of text + (begins.count + width_of (pieces_text pieces)) =
+    width-before_separator text begins.character begins.count (pieces_text pieces) told.spelled begins.separates begins.some in
+    let joined : width_of (text ++ (piece.text ++ pieces_text pieces)) ≡ width_of (text ++ (fill_text begins.character begins.count ++ pieces_text pieces)) =
+    ap (λ t. width_of (text ++ (t ++ pieces_text pieces))) begins.text in
+    let own : width_of (piece.text ++ pieces_text pieces) ≡ piece.columns + width_of (pieces_text pieces) = width-fill piece (pieces_text pieces) begins in
     let many = begins.columns in
     let wide = told.wide in
     omega arith
 
 -- the columns of all
-pub width-pieces : (pieces : List Piece) → AreSeparate pieces → width_of (text_of pieces) ≡ columns_of pieces
+pub width-pieces : (pieces : List Piece) → AreSeparate pieces → width_of (pieces_text pieces) ≡ terminal_columns pieces
 width-pieces [] separate = width_of-nil
 width-pieces (piece ∷ pieces) separate =
     let more = width-pieces pieces separate.1 in
     let all = columns-cons piece pieces in
     elim separate.0 [
-      | inl is ↦ let own = width-fill piece (text_of pieces) is in omega arith
+      | inl is ↦ let own = width-fill piece (pieces_text pieces) is in omega arith
       | inr told ↦ let own = width-text piece.text piece.columns pieces told.0 told.1 in omega arith
     ]

@@ -9,7 +9,7 @@ use Rattle.papergrid_draw.specs.Drawings.{Drawing, layout_of}
 use Rattle.papergrid_draw.specs.Drawn.{DrawnLine, drawn_lines, rule_line, text_line}
 use Rattle.papergrid_draw.specs.Faults.{AllHaveRoom}
 use Rattle.papergrid_draw.specs.Laws.{pieces_of, stretch_pieces}
-use Rattle.papergrid_draw.specs.Separated.{AreApart, HasSeparators, IsHonest, text_of}
+use Rattle.papergrid_draw.specs.Separated.{AreApart, HasSeparators, IsHonest, pieces_text}
 use Rattle.papergrid_draw.specs.Tiles.{IsTiled}
 use Rattle.papergrid_draw.proofs.AfterLemmas.{rule-after, text-after}
 use Rattle.papergrid_draw.proofs.BeforeLemmas.{rule-separate, text-separate}
@@ -36,6 +36,6 @@ module _ (d : Drawing) (tiled : IsTiled (layout_of d)) (honest : IsHonest d) (se
   all-apart = All-drawn d IsApart text-apart line-apart
 
   -- each takes the columns that its pieces tell
-  pub lines-wide : AllHaveRoom d → All (λ line. width_of (text_of (pieces_of line)) ≡ total_along (layout_of d) Columns) (drawn_lines d)
+  pub lines-wide : AllHaveRoom d → All (λ line. width_of (pieces_text (pieces_of line)) ≡ total_along (layout_of d) Columns) (drawn_lines d)
   lines-wide room = λ k line below.
       width-pieces (pieces_of (get_or (drawn_lines d) k line)) (all-apart k line below) ∙ all-wide d tiled room k line below

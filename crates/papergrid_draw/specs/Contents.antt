@@ -138,8 +138,8 @@ module _ (b : Block) where
       else fill Padding b.look.padding.bottom.fill b.width b.look.padding_color.bottom
 
   -- it has room: no line is shown, or the widest one with the paddings beside it is no wider than its place
-  abbrev pub HasRoom : Type 0
-  HasRoom = (shown ≡ [])
+  abbrev pub FitsPlace : Type 0
+  FitsPlace = (shown ≡ [])
       ⊎ (block_width b.look.formatting.horizontal_trim b.lines
       + (b.look.padding.left.size + b.look.padding.right.size) ≤ b.width)
 

@@ -25,12 +25,12 @@ pub data DrawnLine : Type 0 where
 
 module _ (d : Drawing) where
   -- whether there is a vertical line before column j, or after the last
-  abbrev pub has_vertical : ℕ → Bool
-  has_vertical j = track_line (layout_of d) Columns j
+  abbrev pub draws_vertical : ℕ → Bool
+  draws_vertical j = track_line (layout_of d) Columns j
 
   -- whether there is a horizontal line before row i, or after the last
-  abbrev pub has_horizontal : ℕ → Bool
-  has_horizontal i = track_line (layout_of d) Rows i
+  abbrev pub draws_horizontal : ℕ → Bool
+  draws_horizontal i = track_line (layout_of d) Rows i
 
   -- the owner of a position
   abbrev pub owner_at : ℕ → ℕ → Option Position
@@ -45,7 +45,7 @@ module _ (d : Drawing) where
   -- the vertical line before column j in line k of row r, if there is one
   abbrev pub vertical_pieces : ℕ → ℕ → ℕ → List Piece
   vertical_pieces r j k =
-      if has_vertical j then vertical d.config d.shape (position_of (r, j)) (d.heights r) k ∷ [] else []
+      if draws_vertical j then vertical d.config d.shape (position_of (r, j)) (d.heights r) k ∷ [] else []
 
   -- the pieces of a cell, after these; nothing where there is no cell
   abbrev pub after_these : List Piece → Option (List Piece) → List Piece
@@ -75,7 +75,7 @@ module _ (d : Drawing) where
   -- where the lines i and j cross, if line j is there and no cell stands over it
   abbrev pub crossing_stretch : ℕ → ℕ → List Stretch
   crossing_stretch i j =
-      if has_vertical j && not (stands_over_crossing i j) then OnLine (crossing d.config d.shape (position_of (i, j))) ∷ [] else []
+      if draws_vertical j && not (stands_over_crossing i j) then OnLine (crossing d.config d.shape (position_of (i, j))) ∷ [] else []
 
   -- the line of a cell that stands over a horizontal line, if it begins here
   abbrev pub over_line : Option (List Piece) → List Stretch
@@ -97,7 +97,7 @@ module _ (d : Drawing) where
 
   -- the horizontal line i, if there is one
   abbrev pub rule_lines : ℕ → List DrawnLine
-  rule_lines i = if has_horizontal i then RuleLine (rule_line i) ∷ [] else []
+  rule_lines i = if draws_horizontal i then RuleLine (rule_line i) ∷ [] else []
 
   -- row r: the line before it, and its lines
   abbrev pub row_lines : ℕ → List DrawnLine

@@ -3,7 +3,7 @@ use Rattle.std.specs.Prelude.{◌^◌, ◌+◌, ◌≤◌, ◌⊎◌, ⊤, ℕ}
 use Rattle.papergrid_values.specs.declared.direction.Direction.TheVariants.{Rows}
 use Rattle.papergrid_values.specs.declared.position.Position.{Position}
 use Rattle.papergrid_layout.specs.Places.{IsVisibleCell, total_along}
-use Rattle.papergrid_draw.specs.Contents.{HasRoom, block_at}
+use Rattle.papergrid_draw.specs.Contents.{FitsPlace, block_at}
 use Rattle.papergrid_draw.specs.Drawings.{Drawing, layout_of}
 use Rattle.papergrid_draw.specs.Margins.{whole_width}
 use Rattle.papergrid_draw.specs.Tiles.{IsFirstPosition, IsTileFault, IsTiled}
@@ -18,7 +18,7 @@ module _ (d : Drawing) where
   -- a visible cell whose text has no room in its place
   pub record HasNoRoom (p : Position) : Type 0 where
     pub is_cell : IsVisibleCell (layout_of d) p
-    pub lacks : HasRoom (block_at d p) → ⊥
+    pub lacks : FitsPlace (block_at d p) → ⊥
 
   -- each visible cell has room
   abbrev pub AllHaveRoom : Type 0

@@ -21,13 +21,13 @@ pieces_of (TextLine pieces) = pieces
 pieces_of (RuleLine stretches) = flat_map stretch_pieces stretches
 
 -- the columns of a terminal that pieces count for
-abbrev pub columns_of : List Piece → ℕ
-columns_of pieces = sum_by (λ (piece : Piece). piece.columns) pieces
+abbrev pub terminal_columns : List Piece → ℕ
+terminal_columns pieces = sum_by (λ (piece : Piece). piece.columns) pieces
 
 -- among the pieces of a line some stand together, from column x on
 abbrev pub StandAt : List Piece → ℕ → List Piece → Type 0
 StandAt line x pieces =
-    (front : List Piece) × (back : List Piece) × (line ≡ front ++ (pieces ++ back)) × (columns_of front ≡ x)
+    (front : List Piece) × (back : List Piece) × (line ≡ front ++ (pieces ++ back)) × (terminal_columns front ≡ x)
 
 -- in line y of the table, counted from its top, some pieces stand together, from column x on
 abbrev pub AreDrawnAt : Drawing → ℕ → ℕ → List Piece → Type 0

@@ -16,16 +16,16 @@ use Rattle.papergrid_layout.specs.Places.{IsVisibleCell}
 use Rattle.papergrid_draw.specs.Characters.{crossing_character, segment_character, vertical_character}
 use Rattle.papergrid_draw.specs.Contents.{Look, look_of}
 use Rattle.papergrid_draw.specs.Drawings.{Drawing, layout_of}
-use Rattle.papergrid_draw.specs.Drawn.{has_vertical}
+use Rattle.papergrid_draw.specs.Drawn.{draws_vertical}
 use Rattle.papergrid_draw.specs.Pieces.{Piece}
 
 -- the texts of pieces, joined
-abbrev pub text_of : List Piece → List ℕ
-text_of pieces = flat_map (λ (piece : Piece). piece.text) pieces
+abbrev pub pieces_text : List Piece → List ℕ
+pieces_text pieces = flat_map (λ (piece : Piece). piece.text) pieces
 
 -- a line of a cell is UTF-8, and as wide as is told
-abbrev pub IsMeasured : List ℕ × ℕ → Type 0
-IsMeasured line = IsUtf8 line.0 × (line.1 ≡ width_of line.0)
+abbrev pub IsMeasuredLine : List ℕ × ℕ → Type 0
+IsMeasuredLine line = IsUtf8 line.0 × (line.1 ≡ width_of line.0)
 
 -- the characters that stand on all sides of a text in the place of its cell
 abbrev pub fills_of : Look → List ℕ
@@ -36,7 +36,7 @@ fills_of look =
 module _ (d : Drawing) where
   -- so are all lines of visible cells
   abbrev pub IsHonest : Type 0
-  IsHonest = (p : Position) → IsVisibleCell (layout_of d) p → All IsMeasured (d.lines p)
+  IsHonest = (p : Position) → IsVisibleCell (layout_of d) p → All IsMeasuredLine (d.lines p)
 
   -- all characters but those of texts are separators
   pub record HasSeparators : Type 0 where
@@ -54,14 +54,14 @@ module _ (d : Drawing) where
   abbrev pub AreApartBefore : Type 0
   AreApartBefore =
       (p : Position) → IsVisibleCell (layout_of d) p → 0 < p.col →
-      (has_vertical d p.col ≡ true) ⊎ (0 < (look_of d.config p).padding.left.size)
+      (draws_vertical d p.col ≡ true) ⊎ (0 < (look_of d.config p).padding.left.size)
 
   -- after each visible cell but those that end with the last column does
   abbrev pub AreApartAfter : Type 0
   AreApartAfter =
       (p : Position) → IsVisibleCell (layout_of d) p →
       let end = p.col + (layout_of d).grid.span Columns p in
-      end < d.shape.1 → (has_vertical d end ≡ true) ⊎ (0 < (look_of d.config p).padding.right.size)
+      end < d.shape.1 → (draws_vertical d end ≡ true) ⊎ (0 < (look_of d.config p).padding.right.size)
 
   -- one or the other
   abbrev pub AreApart : Type 0

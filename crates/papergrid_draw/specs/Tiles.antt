@@ -31,8 +31,8 @@ module _ (table : TableView) where
   owner q = find (λ p. owns p q) (positions_in Global (q.row + 1) (q.col + 1))
 
   -- a position of the table
-  abbrev pub IsInTable : Position → Type 0
-  IsInTable q = (q.row < table.shape.0) × (q.col < table.shape.1)
+  abbrev pub IsTablePosition : Position → Type 0
+  IsTablePosition q = (q.row < table.shape.0) × (q.col < table.shape.1)
 
   -- a visible cell of the table ends past its last column or its last row
   abbrev pub EndsOutside : Position → Type 0
@@ -49,11 +49,11 @@ module _ (table : TableView) where
   -- the visible cells tile the table: each ends in it, and just one covers each position
   pub record IsTiled : Type 0 where
     pub within : AreWithin
-    pub once : (q : Position) → IsInTable q → IsOwnedOnce q
+    pub once : (q : Position) → IsTablePosition q → IsOwnedOnce q
 
   -- a position of the table that no visible cell covers, or that two do
   abbrev pub IsUntiled : Position → Type 0
-  IsUntiled q = IsInTable q × (IsOwnedOnce q → ⊥)
+  IsUntiled q = IsTablePosition q × (IsOwnedOnce q → ⊥)
 
   -- why they do not: the first cell that ends outside, or else the first position without just one owner; memory may be
   -- refused in place of any answer

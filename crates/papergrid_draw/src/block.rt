@@ -3,7 +3,7 @@
 ghost use Rattle.std.specs.Prelude.{◌≡◌, ◌+◌, ◌-◌, ◌++◌, ◌<◌, ◌≤◌, ◌↔◌, ◌⊎◌, ℕ, List, [], IsTrue, OnOk, drop, false, length, option_map, slice_index_or, string_bytes, take};
 ghost use Rattle.papergrid_values.specs.Colors.{texts_of};
 ghost use Rattle.papergrid_draw.specs.Bytes.{pieces_bytes};
-ghost use Rattle.papergrid_draw.specs.Contents.{HasRoom, aligned_width, before, block_width, content, free_above, free_before, from_text, inner, is_blank, line_pieces, lines_of, shown_line};
+ghost use Rattle.papergrid_draw.specs.Contents.{FitsPlace, aligned_width, before, block_width, content, free_above, free_before, from_text, inner, is_blank, line_pieces, lines_of, shown_line};
 ghost use Rattle.papergrid_draw.specs.ForProofs.Blocks.{IsShownRange, filled_up, to_text};
 ghost use Rattle.papergrid_draw.specs.ForProofs.Looks.{look_seen};
 
@@ -310,7 +310,7 @@ impl<'a, T: Cell> Block<'a, T> {
     /// Whether it has room for its text: no line is shown, or the widest with the paddings beside it
     /// is no wider than its place.
     pub fn has_room(&self) -> bool
-        ensures { IsTrue result ↔ HasRoom self.now }
+        ensures { IsTrue result ↔ FitsPlace self.now }
     {
         let padding = self.look.padding;
         has_room_for(

@@ -22,12 +22,12 @@ ghost use Rattle.papergrid_draw.specs.Characters.{crossing, segment, vertical};
 ghost use Rattle.papergrid_draw.specs.Colored.{AreAlikeButColors, AreInBlocks, inks_of, uncolored};
 ghost use Rattle.papergrid_draw.specs.Contents.{Block, above, before, block_at, content, shown, shown_line};
 ghost use Rattle.papergrid_draw.specs.Drawings.{Drawing, layout_of};
-ghost use Rattle.papergrid_draw.specs.Drawn.{DrawnLine, drawn_lines, has_horizontal, has_vertical, owner_at, stands_over, stands_over_crossing};
+ghost use Rattle.papergrid_draw.specs.Drawn.{DrawnLine, drawn_lines, draws_horizontal, draws_vertical, owner_at, stands_over, stands_over_crossing};
 ghost use Rattle.papergrid_draw.specs.Faults.{AllHaveRoom, whole_height};
-ghost use Rattle.papergrid_draw.specs.Laws.{AreDrawnAt, AreLinesAt, AreMeasuredAt, columns_of, pieces_of, text_piece};
+ghost use Rattle.papergrid_draw.specs.Laws.{AreDrawnAt, AreLinesAt, AreMeasuredAt, terminal_columns, pieces_of, text_piece};
 ghost use Rattle.papergrid_draw.specs.Margins.{margin_line, printed, printed_lines, whole_width, with_margins};
 ghost use Rattle.papergrid_draw.specs.Pieces.{fill_text};
-ghost use Rattle.papergrid_draw.specs.Separated.{AreApart, HasSeparators, IsHonest, setting_separates, text_of};
+ghost use Rattle.papergrid_draw.specs.Separated.{AreApart, HasSeparators, IsHonest, setting_separates, pieces_text};
 ghost use Rattle.papergrid_draw.specs.Sources.{IsOfCell, IsOfTable};
 ghost use Rattle.papergrid_draw.specs.Tiles.{IsTiled};
 
@@ -47,7 +47,7 @@ pub fn lines_of_pictures()
 /// Of a tiled table in which each text has room, the pieces of each line take exactly the columns of the table.
 pub fn columns_of_lines()
     ensures { (d : Drawing) → IsTiled (layout_of d) → AllHaveRoom d →
-        All (λ line. columns_of (pieces_of line) ≡ total_along (layout_of d) Columns)
+        All (λ line. terminal_columns (pieces_of line) ≡ total_along (layout_of d) Columns)
         (drawn_lines d) }
 {}
 
@@ -56,7 +56,7 @@ pub fn columns_of_lines()
 pub fn lines_as_wide()
     ensures { (d : Drawing) → IsTiled (layout_of d) → AllHaveRoom d →
         IsHonest d → HasSeparators d → AreApart d →
-        All (λ line. width_of (text_of (pieces_of line)) ≡ total_along (layout_of d) Columns)
+        All (λ line. width_of (pieces_text (pieces_of line)) ≡ total_along (layout_of d) Columns)
         (drawn_lines d) }
 {}
 
@@ -84,7 +84,7 @@ pub fn cells_in_place()
         (content (block_at d p) k) }
     ensures width { (d : Drawing) → AllHaveRoom d →
         (p : Position) → IsVisibleCell (layout_of d) p → (k : ℕ) →
-        columns_of (content (block_at d p) k) ≡ length_along (layout_of d) Columns p }
+        terminal_columns (content (block_at d p) k) ≡ length_along (layout_of d) Columns p }
 {}
 
 /// Each line of the table stands where no cell is: a vertical line in each line of a row, but inside of a cell that
@@ -92,20 +92,20 @@ pub fn cells_in_place()
 /// are, but inside of one that spans both.
 pub fn lines_in_place()
     ensures vertical { (d : Drawing) → IsTiled (layout_of d) → AllHaveRoom d → (r j k : ℕ) →
-        r < d.shape.0 → k < d.heights r → j ≤ d.shape.1 → has_vertical d j ≡ true →
+        r < d.shape.0 → k < d.heights r → j ≤ d.shape.1 → draws_vertical d j ≡ true →
         (0 < j → j < d.shape.1 → owner_at d r (j - 1) ≢ owner_at d r j) →
         AreDrawnAt d
         (line_offset (track_size (layout_of d) Columns) (track_line (layout_of d) Columns) j)
         (offset (track_size (layout_of d) Rows) (track_line (layout_of d) Rows) r + k)
         (vertical d.config d.shape (position_of (r, j)) (d.heights r) k ∷ []) }
     ensures horizontal { (d : Drawing) → IsTiled (layout_of d) → AllHaveRoom d → (i c : ℕ) →
-        i ≤ d.shape.0 → c < d.shape.1 → has_horizontal d i ≡ true → stands_over d i c ≡ false →
+        i ≤ d.shape.0 → c < d.shape.1 → draws_horizontal d i ≡ true → stands_over d i c ≡ false →
         AreDrawnAt d
         (offset (track_size (layout_of d) Columns) (track_line (layout_of d) Columns) c)
         (line_offset (track_size (layout_of d) Rows) (track_line (layout_of d) Rows) i)
         (map (λ mark. mark.piece) (segment d.config d.shape (position_of (i, c)) (d.widths c))) }
     ensures crossing { (d : Drawing) → IsTiled (layout_of d) → AllHaveRoom d → (i j : ℕ) →
-        i ≤ d.shape.0 → j ≤ d.shape.1 → has_horizontal d i ≡ true → has_vertical d j ≡ true →
+        i ≤ d.shape.0 → j ≤ d.shape.1 → draws_horizontal d i ≡ true → draws_vertical d j ≡ true →
         stands_over_crossing d i j ≡ false →
         AreDrawnAt d
         (line_offset (track_size (layout_of d) Columns) (track_line (layout_of d) Columns) j)
@@ -179,7 +179,7 @@ pub fn colors_in_blocks()
     ensures blocks { (d : Drawing) →
         All (λ line. AreInBlocks (inks_of line) (line_bytes line)) (drawn_lines d) }
     ensures none { (d : Drawing) → All (λ line. All (λ ink. ink.0 ≡ None) (inks_of line) →
-        line_bytes line ≡ text_of (pieces_of line)) (drawn_lines d) }
+        line_bytes line ≡ pieces_text (pieces_of line)) (drawn_lines d) }
 {}
 
 /// Margins stand round the lines of the table: as many lines above and below as the margins have, each of the columns

@@ -9,9 +9,9 @@ ghost use Rattle.papergrid_layout.specs.Tables.{TableParts};
 ghost use Rattle.papergrid_draw.specs.Bytes.{pieces_bytes, rule_bytes};
 ghost use Rattle.papergrid_draw.specs.Contents.{block_at, lines_of};
 ghost use Rattle.papergrid_draw.specs.Drawings.{layout_of};
-ghost use Rattle.papergrid_draw.specs.Drawn.{column_pieces, column_stretch, crossing_stretch, has_horizontal, owner_at, rule_line, text_line, vertical_pieces};
+ghost use Rattle.papergrid_draw.specs.Drawn.{column_pieces, column_stretch, crossing_stretch, draws_horizontal, owner_at, rule_line, text_line, vertical_pieces};
 ghost use Rattle.papergrid_draw.specs.Tiles.{IsTiled};
-ghost use Rattle.papergrid_draw.specs.ForProofs.Pages.{AreSet, AreSlots, IsFrame, IsSlot, Texts, drawing_of, row_start, text_start};
+ghost use Rattle.papergrid_draw.specs.ForProofs.Pages.{AreSlotsSet, AreSlots, IsFrame, IsSlot, Texts, drawing_of, row_start, text_start};
 ghost use Rattle.papergrid_draw.specs.ForProofs.Pens.{AddsStretches, stretches_over};
 
 use crate::block::Block;
@@ -75,10 +75,10 @@ impl<'a> Frame<'a> {
     /// The owner of a position, by the cells that cover the columns of the row above, and of its own row before it.
     fn owner<T: Cell>(&self, slots: &[Slot<'a, T>], position: Position) -> Position
         requires { (parts : TableParts) × (texts : Texts) × IsFrame parts self.now
-            × AreSet (drawing_of parts texts) position.row position.col slots.now
+            × AreSlotsSet (drawing_of parts texts) position.row position.col slots.now
             × (position.col < length parts.widths) }
         ensures { (parts : TableParts) (texts : Texts) → IsFrame parts self.now →
-            AreSet (drawing_of parts texts) position.row position.col slots.now →
+            AreSlotsSet (drawing_of parts texts) position.row position.col slots.now →
             IsTiled (layout_of (drawing_of parts texts)) → position.row < length parts.heights →
             position.col < length parts.widths →
             owner_at (drawing_of parts texts) position.row position.col ≡ Some result }
@@ -125,14 +125,14 @@ impl<'a> Frame<'a> {
         color: Option<ANSIStr<'a>>,
     )
         requires { (parts : TableParts) × (texts : Texts) × IsFrame parts self.now
-            × AreSet (drawing_of parts texts) position.row position.col slots.old
+            × AreSlotsSet (drawing_of parts texts) position.row position.col slots.old
             × (position.col < length parts.widths) }
         ensures { (parts : TableParts) (texts : Texts) → IsFrame parts self.now →
-            AreSet (drawing_of parts texts) position.row position.col slots.old →
+            AreSlotsSet (drawing_of parts texts) position.row position.col slots.old →
             IsTiled (layout_of (drawing_of parts texts)) → position.row < length parts.heights →
             position.col < length parts.widths → texts.lines position ≡ lines_of T.lines cell →
             texts.color position ≡ option_map texts_of color.entry →
-            AreSet (drawing_of parts texts) position.row (position.col + 1) slots.new }
+            AreSlotsSet (drawing_of parts texts) position.row (position.col + 1) slots.new }
     {
         let owner = self.owner(slots, position);
         if owner.row < position.row {
@@ -313,7 +313,7 @@ impl<'a> Frame<'a> {
     ) -> Result<(), AllocError>
         requires { (parts : TableParts) × (texts : Texts) × IsFrame parts self.now
             × (position.col < length parts.widths)
-            × (has_horizontal (drawing_of parts texts) position.row ≡ true)
+            × (draws_horizontal (drawing_of parts texts) position.row ≡ true)
             × (position.row < length parts.heights →
             IsSlot (drawing_of parts texts) position.row position.col
             (row_start (drawing_of parts texts) position.row) slot.old) }
@@ -327,7 +327,7 @@ impl<'a> Frame<'a> {
             (column_stretch (drawing_of parts texts) position.row position.col)) }
         ensures kept { OnOk result ((parts : TableParts) (texts : Texts) → IsFrame parts self.now →
             position.row < length parts.heights →
-            has_horizontal (drawing_of parts texts) position.row ≡ true →
+            draws_horizontal (drawing_of parts texts) position.row ≡ true →
             IsSlot (drawing_of parts texts) position.row position.col
             (row_start (drawing_of parts texts) position.row) slot.old →
             IsSlot (drawing_of parts texts) position.row position.col
@@ -349,7 +349,7 @@ impl<'a> Frame<'a> {
     ) -> Result<(), AllocError>
         requires { (parts : TableParts) × (texts : Texts) × IsFrame parts self.now
             × (length slots.old ≡ length parts.widths)
-            × (has_horizontal (drawing_of parts texts) row ≡ true)
+            × (draws_horizontal (drawing_of parts texts) row ≡ true)
             × (row < length parts.heights → AreSlots (drawing_of parts texts) row
             (λ _. row_start (drawing_of parts texts) row) slots.old) }
         ensures bytes { OnOk result ((parts : TableParts) (texts : Texts) → IsFrame parts self.now →
@@ -359,7 +359,7 @@ impl<'a> Frame<'a> {
             string_bytes line.new ≡ string_bytes line.old
             ++ rule_bytes (rule_line (drawing_of parts texts) row)) }
         ensures kept { OnOk result ((parts : TableParts) (texts : Texts) → IsFrame parts self.now →
-            row < length parts.heights → has_horizontal (drawing_of parts texts) row ≡ true →
+            row < length parts.heights → draws_horizontal (drawing_of parts texts) row ≡ true →
             AreSlots (drawing_of parts texts) row
             (λ _. row_start (drawing_of parts texts) row) slots.old →
             AreSlots (drawing_of parts texts) row

@@ -5,7 +5,7 @@ ghost use Rattle.papergrid_draw.specs.Drawings.{drawn_of};
 ghost use Rattle.papergrid_draw.specs.Drawn.{TextLine, drawn_lines, row_lines, rule_lines, text_line};
 ghost use Rattle.papergrid_draw.specs.ForProofs.Pages.{IsFrame, Texts, drawing_of, row_start, text_start};
 ghost use Rattle.papergrid_draw.specs.ForProofs.Plain.{ArePlainLines, IsPlain};
-ghost use Rattle.papergrid_draw.specs.ForProofs.Sheets.{WritesLines, margined, text_lines};
+ghost use Rattle.papergrid_draw.specs.ForProofs.Sheets.{WritesLines, margined, first_text_lines};
 
 use crate::delivery::Delivery;
 use crate::error::DrawError;
@@ -150,7 +150,7 @@ where
         sheet.old.written ≡ text_start d row }
     ensures lines { let d = drawn_of S.lines S.color frame.now.table.now cells.now in
         WritesLines D.takes D.breaks writer.old writer.new sheet.old.begun sheet.new.begun
-        (margined d (text_start d row) (text_lines d row (d.heights row))) result }
+        (margined d (text_start d row) (first_text_lines d row (d.heights row))) result }
     ensures written { let d = drawn_of S.lines S.color frame.now.table.now cells.now in
         OnOk result (sheet.new.written ≡ text_start d row + d.heights row) }
 {

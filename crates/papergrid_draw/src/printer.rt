@@ -13,7 +13,7 @@ ghost use Rattle.papergrid_draw.specs.Faults.{AllHaveRoom, IsDrawFault, whole_he
 ghost use Rattle.papergrid_draw.specs.Margins.{printed, printed_lines, whole_width};
 ghost use Rattle.papergrid_draw.specs.Tiles.{IsTiled};
 ghost use Rattle.papergrid_draw.specs.ForProofs.Pages.{IsFrame, Texts, drawing_of};
-ghost use Rattle.papergrid_draw.specs.ForProofs.Sheets.{IsPrepared, IsRefusal, Writes, WritesLines, margined};
+ghost use Rattle.papergrid_draw.specs.ForProofs.Sheets.{IsPrepared, IsDrawRefusal, Writes, WritesLines, margined};
 ghost use Rattle.papergrid_draw.specs.declared.error.DrawError.TheVariants.{Memory, Write};
 
 use crate::delivery::{Delivery, ToSink, ToText};
@@ -159,7 +159,7 @@ where
     requires { room ≡ Room.Known → AllHaveRoom (drawn_of S.lines S.color table.now cells.now) }
     ensures ok { IfOk result
         (IsPrepared table.now (drawn_of S.lines S.color table.now cells.now)) }
-    ensures err { IfErr result (IsRefusal (drawn_of S.lines S.color table.now cells.now)) }
+    ensures err { IfErr result (IsDrawRefusal (drawn_of S.lines S.color table.now cells.now)) }
 {
     let config = table.config();
     check_tiles(alloc, config, table.shape())?;

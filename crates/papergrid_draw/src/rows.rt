@@ -6,7 +6,7 @@ ghost use Rattle.papergrid_draw.specs.Drawn.{TextLine, rule_lines, text_line};
 ghost use Rattle.papergrid_draw.specs.Margins.{margin_line};
 ghost use Rattle.papergrid_draw.specs.Tiles.{IsTiled};
 ghost use Rattle.papergrid_draw.specs.ForProofs.Pages.{IsFrame, Texts, drawing_of};
-ghost use Rattle.papergrid_draw.specs.ForProofs.Sheets.{AtRule, AtText, Writes, WritesLines, left_of, margined, right_of, separator, text_lines};
+ghost use Rattle.papergrid_draw.specs.ForProofs.Sheets.{AtRule, AtText, Writes, WritesLines, left_margin_at, margined, right_margin_at, separator, first_text_lines};
 
 use crate::delivery::Delivery;
 use crate::error::DrawError;
@@ -98,7 +98,7 @@ pub fn draw_text_lines<'a, T: Cell, D: Delivery<W>, W>(
         AtText parts texts frame.now row 0 sheet.old slots.old →
         WritesLines D.takes D.breaks writer.old writer.new
         sheet.old.begun sheet.new.begun (margined (drawing_of parts texts) sheet.old.written
-        (text_lines (drawing_of parts texts) row (slice_index parts.heights row))) result }
+        (first_text_lines (drawing_of parts texts) row (slice_index parts.heights row))) result }
     ensures kept { OnOk result ((parts : TableParts) (texts : Texts) →
         AtText parts texts frame.now row 0 sheet.old slots.old →
         AtText parts texts frame.now row (slice_index parts.heights row) sheet.new slots.new) }
@@ -138,7 +138,7 @@ fn draw_text_line<'a, T: Cell, D: Delivery<W>, W>(
 pub fn begin_beside(frame: &Frame<'_>, sheet: &mut Sheet) -> Result<(), AllocError>
     ensures line { OnOk result ((parts : TableParts) (texts : Texts) → IsFrame parts frame.now →
         string_bytes sheet.new.line ≡ separator sheet.old.begun
-        ++ left_of (drawing_of parts texts) sheet.old.written) }
+        ++ left_margin_at (drawing_of parts texts) sheet.old.written) }
     ensures written { sheet.new.written ≡ sheet.old.written }
     ensures begun { sheet.new.begun ≡ sheet.old.begun }
 {
@@ -168,7 +168,7 @@ pub fn end_beside<D: Delivery<W>, W>(
     requires { sheet.old.written < 2 ^ 64 - 1 }
     ensures bytes { (parts : TableParts) (texts : Texts) → IsFrame parts frame.now →
         Writes D.takes D.breaks writer.old writer.new
-        (string_bytes sheet.old.line ++ right_of (drawing_of parts texts) sheet.old.written)
+        (string_bytes sheet.old.line ++ right_margin_at (drawing_of parts texts) sheet.old.written)
         result }
     ensures written { OnOk result (sheet.new.written ≡ sheet.old.written + 1) }
     ensures begun { OnOk result (sheet.new.begun ≡ true) }

@@ -5,8 +5,8 @@ ghost use Rattle.papergrid_layout.specs.Tables.{view_of};
 ghost use Rattle.papergrid_draw.specs.Drawings.{drawn_of};
 ghost use Rattle.papergrid_draw.specs.Drawn.{drawn_lines, row_lines};
 ghost use Rattle.papergrid_draw.specs.Tiles.{IsTiled};
-ghost use Rattle.papergrid_draw.specs.ForProofs.Pages.{AreSet, IsFrame};
-ghost use Rattle.papergrid_draw.specs.ForProofs.Sheets.{AtRow, WritesLines, margined, texts_of};
+ghost use Rattle.papergrid_draw.specs.ForProofs.Pages.{AreSlotsSet, IsFrame};
+ghost use Rattle.papergrid_draw.specs.ForProofs.Sheets.{AtRow, WritesLines, margined, told_texts};
 
 use crate::delivery::Delivery;
 use crate::error::DrawError;
@@ -73,12 +73,12 @@ where
     S::Cell: Drop,
     requires tiled { IsTiled (view_of frame.now.table.now) }
     requires row_in { row < length frame.now.table.now.heights }
-    requires comes { AtRow frame.now.table.now (texts_of S.lines S.color cells.now) frame.now
+    requires comes { AtRow frame.now.table.now (told_texts S.lines S.color cells.now) frame.now
         row sheet.old slots.old }
     ensures lines { let d = drawn_of S.lines S.color frame.now.table.now cells.now in
         WritesLines D.takes D.breaks writer.old writer.new
         sheet.old.begun sheet.new.begun (margined d sheet.old.written (row_lines d row)) result }
-    ensures kept { OnOk result (AtRow frame.now.table.now (texts_of S.lines S.color cells.now)
+    ensures kept { OnOk result (AtRow frame.now.table.now (told_texts S.lines S.color cells.now)
         frame.now (row + 1) sheet.new slots.new) }
 {
     set_row(frame, cells, slots, row)?;
@@ -98,9 +98,9 @@ where
     requires frame { IsFrame frame.now.table.now frame.now }
     requires tiled { IsTiled (view_of frame.now.table.now) }
     requires row_in { row < length frame.now.table.now.heights }
-    requires comes { AreSet (drawn_of S.lines S.color frame.now.table.now cells.now)
+    requires comes { AreSlotsSet (drawn_of S.lines S.color frame.now.table.now cells.now)
         row 0 slots.old }
-    ensures { OnOk result (AreSet (drawn_of S.lines S.color frame.now.table.now cells.now)
+    ensures { OnOk result (AreSlotsSet (drawn_of S.lines S.color frame.now.table.now cells.now)
         row (length frame.now.table.now.widths) slots.new) }
 {
     for col in 0..frame.shape.1 {

@@ -5,7 +5,7 @@ ghost use Rattle.papergrid_maps.specs.Grids.{Grid};
 ghost use Rattle.papergrid_config.specs.Grids.{spanned_grid};
 ghost use Rattle.papergrid_walk.specs.ForProofs.Shown.{Shows, anchor_in};
 ghost use Rattle.papergrid_layout.specs.Places.{TableView};
-ghost use Rattle.papergrid_draw.specs.Tiles.{AreWithin, IsInTable, IsTileFault, IsTiled, EndsOutside};
+ghost use Rattle.papergrid_draw.specs.Tiles.{AreWithin, IsTablePosition, IsTileFault, IsTiled, EndsOutside};
 ghost use Rattle.papergrid_draw.specs.ForProofs.Tiles.{AreFree, AreRaised, HasTiled};
 
 use crate::error::DrawError;
@@ -101,14 +101,14 @@ struct Tiling {
 impl Tiling {
     /// Passes a position that just one visible cell covers.
     fn visit(&mut self, alloc: Global, position: Position) -> Result<(), DrawError>
-        requires walk { (table : TableView) × IsInTable table position
+        requires walk { (table : TableView) × IsTablePosition table position
             × HasTiled table position.row position.col self.old }
         requires row_in { position.row < 2 ^ 64 - 1 }
         requires col_in { position.col < 2 ^ 64 - 1 }
-        ensures ok { IfOk result (λ _. (table : TableView) → IsInTable table position →
+        ensures ok { IfOk result (λ _. (table : TableView) → IsTablePosition table position →
             HasTiled table position.row position.col self.old →
             HasTiled table position.row (position.col + 1) self.new) }
-        ensures err { IfErr result (λ e. (table : TableView) → IsInTable table position →
+        ensures err { IfErr result (λ e. (table : TableView) → IsTablePosition table position →
             HasTiled table position.row position.col self.old → IsTileFault table e) }
     {
         let Position { row, col } = position;

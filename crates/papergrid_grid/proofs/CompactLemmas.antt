@@ -16,7 +16,7 @@ use Rattle.papergrid_draw.specs.declared.error.DrawError.{DrawError}
 use Rattle.papergrid_draw.specs.declared.error.DrawError.TheVariants.{Memory, TooLarge}
 use Rattle.papergrid_grid.specs.Cells.{lines_at}
 use Rattle.papergrid_grid.specs.Compact.{AreRowsTooHigh, IsCompactDrawing, IsCompactFault, IsCompactTable, compact_height, first_line}
-use Rattle.papergrid_grid.specs.Sized.{UnlessMemory, drawing_of_rows, parts_of, texts_at}
+use Rattle.papergrid_grid.specs.Sized.{UnlessMemoryFails, drawing_of_rows, parts_of, texts_at}
 use Rattle.papergrid_grid.specs.declared.equal_rows.CompactTable.{CompactTable}
 use Rattle.papergrid_grid.proofs.GridLemmas.{drawn_rows, unless_memory}
 
@@ -69,9 +69,9 @@ module _ {T : Type 0} (text : T → List ℕ) (tells : List (List T) → Type 0)
   -- so, where they are not drawn, this is why
   pub refused : (color : Position → Option (List ℕ × List ℕ)) (e : DrawError) →
       ((error : AllocError) × (e ≡ Memory error)) ⊎ ((e ≡ TooLarge) × AreRowsTooHigh tells compact) →
-      UnlessMemory e ((d : Drawing) × IsCompactDrawing text tells columns compact widths color d × IsCompactFault d e)
+      UnlessMemoryFails e ((d : Drawing) × IsCompactDrawing text tells columns compact widths color d × IsCompactFault d e)
   refused color e (inl (error, is)) =
-      subst (λ x. UnlessMemory x ((d : Drawing) × IsCompactDrawing text tells columns compact widths color d × IsCompactFault d x)) (sym is) tt
+      subst (λ x. UnlessMemoryFails x ((d : Drawing) × IsCompactDrawing text tells columns compact widths color d × IsCompactFault d x)) (sym is) tt
   refused color e (inr (is, high)) =
       let drawn = drawn_too_large color high in unless_memory e (drawn.0, drawn.1, inl (is, drawn.2))
 

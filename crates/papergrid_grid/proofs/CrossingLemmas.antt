@@ -17,11 +17,11 @@ use Rattle.papergrid_config.specs.declared.spanned.SpannedConfig.{SpannedConfig}
 use Rattle.papergrid_config.proofs.SameLemmas.{exact_option}
 use Rattle.papergrid_draw.specs.Characters.{crossing_character}
 use Rattle.papergrid_draw.specs.Drawings.{Drawing}
-use Rattle.papergrid_draw.specs.Drawn.{has_horizontal, has_vertical, owner_at}
+use Rattle.papergrid_draw.specs.Drawn.{draws_horizontal, draws_vertical, owner_at}
 use Rattle.papergrid_draw.specs.Tiles.{owner}
 use Rattle.papergrid_draw.proofs.TilingLemmas.{not-before}
 use Rattle.papergrid_grid.specs.Crossings.{BecomesBy, FitCrossings, IsSeenCrossing, SetsCrossing, bare_drawing, junction, junction_at}
-use Rattle.papergrid_grid.specs.ForProofs.Crossings.{AreFitted, FitsAlready, HasMark, IsMark, mark_at, marked_character, setting_of}
+use Rattle.papergrid_grid.specs.ForProofs.Crossings.{AreFittedBefore, FitsAlready, HasMark, IsMark, mark_at, marked_character, setting_of}
 use Rattle.papergrid_grid.specs.declared.crossings.Junctions.{Junctions}
 use Rattle.papergrid_grid.proofs.CornerLemmas.{differ, found-new, horizontal-same, mark_at-push, missing-same, vertical-same}
 
@@ -128,7 +128,7 @@ module _ (config : SpannedConfig) (shape : ℕ × ℕ) (junctions : Junctions) w
   abbrev IsFit : List (Position × ℕ) → ℕ → ℕ → Type 0
   IsFit marks r c = junction_at junctions bare r c ≡ Some (marked_character config shape marks (position_of (r, c)))
 
-  pub fitted-start : AreFitted config shape junctions 0 0 []
+  pub fitted-start : AreFittedBefore config shape junctions 0 0 []
   fitted-start = record {
     marks = [];
     are = refl;
@@ -138,8 +138,8 @@ module _ (config : SpannedConfig) (shape : ℕ × ℕ) (junctions : Junctions) w
   }
 
   -- a crossing that is left as it is
-  pub fitted-pass : (i j : ℕ) (settings : List Setting) → AreFitted config shape junctions i j settings → FitsAlready config shape junctions i j →
-      AreFitted config shape junctions i (j + 1) settings
+  pub fitted-pass : (i j : ℕ) (settings : List Setting) → AreFittedBefore config shape junctions i j settings → FitsAlready config shape junctions i j →
+      AreFittedBefore config shape junctions i (j + 1) settings
   fitted-pass i j settings fitted already =
       let unmarked : mark_at fitted.marks (position_of (i, j)) ≡ None = fitted.later (position_of (i, j)) (not-before (position_of (i, j))) in
       let here : IsSeenCrossing bare i j → IsFit fitted.marks i j = λ seen.
@@ -158,8 +158,8 @@ module _ (config : SpannedConfig) (shape : ℕ × ℕ) (junctions : Junctions) w
 
   -- one that is given another character
   pub fitted-push : (i j character : ℕ) (settings : List Setting) → i ≤ shape.0 → j ≤ shape.1 → shape.0 + 1 < 2 ^ 64 → shape.1 + 1 < 2 ^ 64 →
-      AreFitted config shape junctions i j settings → HasMark config shape junctions i j character →
-      AreFitted config shape junctions i (j + 1) (settings ++ setting_of (position_of (i, j), character) ∷ [])
+      AreFittedBefore config shape junctions i j settings → HasMark config shape junctions i j character →
+      AreFittedBefore config shape junctions i (j + 1) (settings ++ setting_of (position_of (i, j), character) ∷ [])
   fitted-push i j character settings in_rows in_columns rows columns fitted has =
       let mark : Position × ℕ = (position_of (i, j), character) in
       let marks = fitted.marks ++ mark ∷ [] in
@@ -195,7 +195,7 @@ module _ (config : SpannedConfig) (shape : ℕ × ℕ) (junctions : Junctions) w
 
   -- the end of a line
   pub fitted-turn : (i j : ℕ) (settings : List Setting) → ((c : ℕ) → j ≤ c → IsSeenCrossing bare i c → ⊥) →
-      AreFitted config shape junctions i j settings → AreFitted config shape junctions (i + 1) 0 settings
+      AreFittedBefore config shape junctions i j settings → AreFittedBefore config shape junctions (i + 1) 0 settings
   fitted-turn i j settings none fitted = record {
     marks = fitted.marks;
     are = fitted.are;
@@ -223,11 +223,11 @@ module _ (config : SpannedConfig) (shape : ℕ × ℕ) (junctions : Junctions) w
   pub none-past : (i c : ℕ) → shape.1 + 1 ≤ c → IsSeenCrossing bare i c → ⊥
   none-past i c past seen = omega (arith, past, seen.col)
 
-  pub none-without : (i c : ℕ) → has_horizontal bare i ≡ false → IsSeenCrossing bare i c → ⊥
+  pub none-without : (i c : ℕ) → draws_horizontal bare i ≡ false → IsSeenCrossing bare i c → ⊥
   none-without i c none seen = false≢true (sym none ∙ seen.horizontal)
 
   -- in an empty table neither
-  pub fitted-empty : (i : ℕ) → (shape.0 ≡ 0) ⊎ (shape.1 ≡ 0) → AreFitted config shape junctions i 0 []
+  pub fitted-empty : (i : ℕ) → (shape.0 ≡ 0) ⊎ (shape.1 ≡ 0) → AreFittedBefore config shape junctions i 0 []
   fitted-empty i none = record {
     marks = [];
     are = refl;
@@ -259,7 +259,7 @@ before-end : (i j rows : ℕ) → i ≤ rows → IsBefore (position_of (i, j)) (
 before-end i j rows within = inl (omega (arith, within))
 
 module _ (junctions : Junctions) (settings : List Setting) where
-  fit-seen : (d : Drawing) → AreFitted d.config d.shape junctions (d.shape.0 + 1) 0 settings → (new : SpannedConfig) → BecomesBy d.config new settings →
+  fit-seen : (d : Drawing) → AreFittedBefore d.config d.shape junctions (d.shape.0 + 1) 0 settings → (new : SpannedConfig) → BecomesBy d.config new settings →
       (i j : ℕ) → IsSeenCrossing d i j → junction_at junctions d i j ≡ Some (crossing_character new d.shape (position_of (i, j)))
   fit-seen d fitted new becomes i j seen =
       let by : BecomesBy d.config new (map setting_of fitted.marks) = subst (BecomesBy d.config new) fitted.are becomes in
@@ -270,7 +270,7 @@ module _ (junctions : Junctions) (settings : List Setting) where
       ∙ ap (λ o. Some (unwrap_or o d.config.missing)) (sym found)
       ∙ ap (λ m. Some (unwrap_or (found_intersection (parts_of_borders new.characters) p d.shape.0 d.shape.1) m)) (sym missing)
 
-  module _ (config : SpannedConfig) (shape : ℕ × ℕ) (fitted : AreFitted config shape junctions (shape.0 + 1) 0 settings) where
+  module _ (config : SpannedConfig) (shape : ℕ × ℕ) (fitted : AreFittedBefore config shape junctions (shape.0 + 1) 0 settings) where
     by-marks : (new : SpannedConfig) → BecomesBy config new settings → BecomesBy config new (map setting_of fitted.marks)
     by-marks new becomes = subst (BecomesBy config new) fitted.are becomes
 
@@ -284,9 +284,9 @@ module _ (junctions : Junctions) (settings : List Setting) where
       lines = λ new becomes d e d_config e_config d_shape e_shape n.
           let by = by-marks new becomes in
           let lined : (x : Drawing) → (y : SpannedConfig) → x.config ≡ y → x.shape ≡ shape →
-          (has_vertical x n ≡ has_vertical (bare_drawing y shape) n) × (has_horizontal x n ≡ has_horizontal (bare_drawing y shape) n) = λ x y is same. (
-            ap (λ (c : SpannedConfig). has_vertical (bare_drawing c x.shape) n) is ∙ ap (λ (s : ℕ × ℕ). has_vertical (bare_drawing y s) n) same,
-            ap (λ (c : SpannedConfig). has_horizontal (bare_drawing c x.shape) n) is ∙ ap (λ (s : ℕ × ℕ). has_horizontal (bare_drawing y s) n) same,
+          (draws_vertical x n ≡ draws_vertical (bare_drawing y shape) n) × (draws_horizontal x n ≡ draws_horizontal (bare_drawing y shape) n) = λ x y is same. (
+            ap (λ (c : SpannedConfig). draws_vertical (bare_drawing c x.shape) n) is ∙ ap (λ (s : ℕ × ℕ). draws_vertical (bare_drawing y s) n) same,
+            ap (λ (c : SpannedConfig). draws_horizontal (bare_drawing c x.shape) n) is ∙ ap (λ (s : ℕ × ℕ). draws_horizontal (bare_drawing y s) n) same,
           ) in
           let of_d = lined d config d_config d_shape in
           let of_e = lined e new e_config e_shape in (
@@ -294,9 +294,9 @@ module _ (junctions : Junctions) (settings : List Setting) where
             of_e.1 ∙ horizontal-same config new fitted.marks by shape junctions fitted.each n ∙ sym of_d.1,
           );
       fit = λ new becomes d is same i j seen.
-          let at : AreFitted d.config d.shape junctions (d.shape.0 + 1) 0 settings =
-          subst (λ (c : SpannedConfig). AreFitted c d.shape junctions (d.shape.0 + 1) 0 settings) (sym is)
-          (subst (λ (s : ℕ × ℕ). AreFitted config s junctions (s.0 + 1) 0 settings) (sym same) fitted) in
+          let at : AreFittedBefore d.config d.shape junctions (d.shape.0 + 1) 0 settings =
+          subst (λ (c : SpannedConfig). AreFittedBefore c d.shape junctions (d.shape.0 + 1) 0 settings) (sym is)
+          (subst (λ (s : ℕ × ℕ). AreFittedBefore config s junctions (s.0 + 1) 0 settings) (sym same) fitted) in
           let becomes' = subst (λ (c : SpannedConfig). BecomesBy c new settings) (sym is) becomes in
           fit-seen d at new becomes' i j seen ∙ ap (λ (s : ℕ × ℕ). Some (crossing_character new s (position_of (i, j)))) same;
     }

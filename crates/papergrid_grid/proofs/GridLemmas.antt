@@ -9,7 +9,7 @@ use Rattle.papergrid_draw.specs.Faults.{IsDrawFault}
 use Rattle.papergrid_draw.specs.declared.error.DrawError.{DrawError}
 use Rattle.papergrid_draw.specs.declared.error.DrawError.TheVariants.{Memory, NoRoom, NotTiled, OutOfTable, TooLarge, Write}
 use Rattle.papergrid_grid.specs.Cells.{lines_at, text_lines}
-use Rattle.papergrid_grid.specs.Sized.{IsGridFault, UnlessMemory, drawing_of_rows, parts_of, texts_at}
+use Rattle.papergrid_grid.specs.Sized.{IsGridFault, UnlessMemoryFails, drawing_of_rows, parts_of, texts_at}
 use Rattle.papergrid_grid.proofs.HeldLemmas.{lines_of_texts}
 
 -- as any table
@@ -69,7 +69,7 @@ pub drawn_texts : {T C K : Type 0} (text : T → List ℕ) (texts : K → List �
 drawn_texts = drawn_rows text_lines
 
 -- what is so is so unless an allocation failed
-pub unless_memory : (e : DrawError) {P : Type 0} → P → UnlessMemory e P
+pub unless_memory : (e : DrawError) {P : Type 0} → P → UnlessMemoryFails e P
 unless_memory (Memory e) is = tt
 unless_memory (OutOfTable p) is = is
 unless_memory (NotTiled p) is = is

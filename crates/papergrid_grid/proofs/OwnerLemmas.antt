@@ -8,7 +8,7 @@ use Rattle.papergrid_values.specs.Positions.{position_of}
 use Rattle.papergrid_values.specs.declared.direction.Direction.TheVariants.{Columns, Rows}
 use Rattle.papergrid_values.specs.declared.position.Position.{Position}
 use Rattle.papergrid_layout.specs.Places.{TableView}
-use Rattle.papergrid_draw.specs.Tiles.{IsInTable, IsTiled, owner}
+use Rattle.papergrid_draw.specs.Tiles.{IsTablePosition, IsTiled, owner}
 use Rattle.papergrid_draw.proofs.PageLemmas.{owner-behind}
 use Rattle.papergrid_draw.proofs.TileLemmas.{owner-itself}
 
@@ -26,7 +26,7 @@ module _ (table : TableView) where
   ]
 
   -- where the cells above and on the left do not reach a position, it owns itself
-  pub owns-itself : (row col : ℕ) (above left : Position) → IsTiled table → IsInTable table (position_of (row, col)) →
+  pub owns-itself : (row col : ℕ) (above left : Position) → IsTiled table → IsTablePosition table (position_of (row, col)) →
       (0 < row → owner table (position_of (row - 1, col)) ≡ Some above) → (0 < col → owner table (position_of (row, col - 1)) ≡ Some left) →
       ((above.row < row) × (row - above.row < table.grid.span Rows above) → ⊥) →
       ((left.row ≡ row) × (left.col < col) × (col - left.col < table.grid.span Columns left) → ⊥) →

@@ -16,7 +16,7 @@ use Rattle.papergrid_config.specs.declared.setting.Setting.TheVariants.{SetBorde
 use Rattle.papergrid_config.specs.declared.spanned.SpannedConfig.{SpannedConfig}
 use Rattle.papergrid_draw.specs.Characters.{crossing_character}
 use Rattle.papergrid_draw.specs.Drawings.{Drawing, layout_of}
-use Rattle.papergrid_draw.specs.Drawn.{has_horizontal, has_vertical, owner_at, stands_over, stands_over_crossing}
+use Rattle.papergrid_draw.specs.Drawn.{draws_horizontal, draws_vertical, owner_at, stands_over, stands_over_crossing}
 use Rattle.papergrid_draw.specs.Tiles.{IsTileFault, IsTiled}
 use Rattle.papergrid_draw.specs.declared.error.DrawError.{DrawError}
 use Rattle.papergrid_draw.specs.declared.error.DrawError.TheVariants.{TooLarge}
@@ -25,12 +25,12 @@ use Rattle.papergrid_grid.specs.declared.crossings.Junctions.{Junctions}
 module _ (d : Drawing) where
   -- the vertical line j is seen in row r: it is there, and no cell of the row goes over it
   abbrev pub is_seen_down : ℕ → ℕ → Bool
-  is_seen_down r j = nat_lt r d.shape.0 && (has_vertical d j
+  is_seen_down r j = nat_lt r d.shape.0 && (draws_vertical d j
       && not (nat_lt 0 j && (nat_lt j d.shape.1 && option_eq position_eq (owner_at d r (j - 1)) (owner_at d r j))))
 
   -- the horizontal line i is seen in column c: it is there, and no cell of the column goes over it
   abbrev pub is_seen_across : ℕ → ℕ → Bool
-  is_seen_across i c = nat_lt c d.shape.1 && (has_horizontal d i && not (stands_over d i c))
+  is_seen_across i c = nat_lt c d.shape.1 && (draws_horizontal d i && not (stands_over d i c))
 
   -- the vertical line j is seen above its crossing with line i: in the row above
   abbrev pub is_seen_above : ℕ → ℕ → Bool
@@ -46,8 +46,8 @@ module _ (d : Drawing) where
     pub has_columns : 0 < d.shape.1
     pub row : i ≤ d.shape.0
     pub col : j ≤ d.shape.1
-    pub horizontal : has_horizontal d i ≡ true
-    pub vertical : has_vertical d j ≡ true
+    pub horizontal : draws_horizontal d i ≡ true
+    pub vertical : draws_vertical d j ≡ true
     pub free : stands_over_crossing d i j ≡ false
 
 module _ (junctions : Junctions) where
@@ -129,7 +129,7 @@ pub record FitCrossings (config : SpannedConfig) (shape : ℕ × ℕ) (junctions
   pub keeps : (new : SpannedConfig) → BecomesBy config new settings → DifferInCrossings config new
   pub lines : (new : SpannedConfig) → BecomesBy config new settings → (d e : Drawing) → d.config ≡ config → e.config ≡ new →
       d.shape ≡ shape → e.shape ≡ shape → (n : ℕ) →
-      (has_vertical e n ≡ has_vertical d n) × (has_horizontal e n ≡ has_horizontal d n)
+      (draws_vertical e n ≡ draws_vertical d n) × (draws_horizontal e n ≡ draws_horizontal d n)
   pub fit : (new : SpannedConfig) → BecomesBy config new settings → (d : Drawing) → d.config ≡ config → d.shape ≡ shape →
       (i j : ℕ) → IsSeenCrossing d i j →
       junction_at junctions d i j ≡ Some (crossing_character new shape (position_of (i, j)))

@@ -45,10 +45,10 @@ abbrev pub IsGridFault : TableParts → Drawing → DrawError → Type 0
 IsGridFault parts d e = ((e ≡ TooLarge) × IsTotalTooLarge (view_of parts)) ⊎ IsDrawFault d e
 
 -- P, unless an allocation failed
-abbrev pub UnlessMemory : DrawError → Type 0 → Type 0
-UnlessMemory (Memory e) P = ⊤
-UnlessMemory (OutOfTable p) P = P
-UnlessMemory (NotTiled p) P = P
-UnlessMemory (NoRoom p) P = P
-UnlessMemory TooLarge P = P
-UnlessMemory Write P = P
+abbrev pub UnlessMemoryFails : DrawError → Type 0 → Type 0
+UnlessMemoryFails (Memory e) P = ⊤
+UnlessMemoryFails (OutOfTable p) P = P
+UnlessMemoryFails (NotTiled p) P = P
+UnlessMemoryFails (NoRoom p) P = P
+UnlessMemoryFails TooLarge P = P
+UnlessMemoryFails Write P = P

@@ -9,7 +9,7 @@ ghost use Rattle.papergrid_draw.specs.Drawings.{Drawing};
 ghost use Rattle.papergrid_draw.specs.Margins.{printed};
 ghost use Rattle.papergrid_draw.specs.declared.error.DrawError.TheVariants.{Memory, Write};
 ghost use Rattle.papergrid_grid.specs.Compact.{IsCompactDrawing, IsCompactFault};
-ghost use Rattle.papergrid_grid.specs.Sized.{HasSizes, UnlessMemory, texts_at};
+ghost use Rattle.papergrid_grid.specs.Sized.{HasSizes, UnlessMemoryFails, texts_at};
 
 use crate::color::AsANSIStr;
 use crate::equal_rows::{EqualRows, LineCells, compact_table};
@@ -106,7 +106,7 @@ where
             (D.width_of self.entry.dimension.now)
             (texts_at C.Color.texts C.color_at self.entry.colors.now) d
             × WritesInCalls F.write_str_gives writer.old (printed d) writer.new) }
-        ensures fault { IfErr result (λ e. UnlessMemory e ((d : Drawing)
+        ensures fault { IfErr result (λ e. UnlessMemoryFails e ((d : Drawing)
             × IsCompactDrawing R.Iter.Cell.text
             (R.tells self.entry.records) (R.columns self.entry.records) self.entry.config
             (D.width_of self.entry.dimension.now)
@@ -157,7 +157,7 @@ where
             × Appends (W.contents sink.old) (W.contents sink.new) (printed d)) }
         ensures works { OnOk result (W.has_failed sink.new ≡ W.has_failed sink.old) }
         ensures moves { OnOk result (W.has_stalled sink.new ≡ W.has_stalled sink.old) }
-        ensures fault { IfErr result (λ e. UnlessMemory e ((d : Drawing)
+        ensures fault { IfErr result (λ e. UnlessMemoryFails e ((d : Drawing)
             × IsCompactDrawing R.Iter.Cell.text
             (R.tells self.entry.records) (R.columns self.entry.records) self.entry.config
             (D.width_of self.entry.dimension.now)
@@ -210,7 +210,7 @@ where
             (D.width_of self.entry.dimension.now)
             (texts_at C.Color.texts C.color_at self.entry.colors.now) d
             × (string_bytes string ≡ printed d)) }
-        ensures fault { IfErr result (λ e. UnlessMemory e ((d : Drawing)
+        ensures fault { IfErr result (λ e. UnlessMemoryFails e ((d : Drawing)
             × IsCompactDrawing R.Iter.Cell.text
             (R.tells self.entry.records) (R.columns self.entry.records) self.entry.config
             (D.width_of self.entry.dimension.now)

@@ -5,10 +5,10 @@ ghost use Rattle.papergrid_values.specs.Positions.{position_of};
 ghost use Rattle.papergrid_config.specs.Grids.{spanned_grid};
 ghost use Rattle.papergrid_layout.specs.Places.{TableView};
 ghost use Rattle.papergrid_draw.specs.Drawings.{layout_of};
-ghost use Rattle.papergrid_draw.specs.Drawn.{has_horizontal, has_vertical, stands_over, stands_over_crossing};
-ghost use Rattle.papergrid_draw.specs.Tiles.{IsInTable, IsTiled, owner};
+ghost use Rattle.papergrid_draw.specs.Drawn.{draws_horizontal, draws_vertical, stands_over, stands_over_crossing};
+ghost use Rattle.papergrid_draw.specs.Tiles.{IsTablePosition, IsTiled, owner};
 ghost use Rattle.papergrid_grid.specs.Crossings.{AreOfFrame, FitCrossings, IsFitFault, bare_drawing, junction, junction_at};
-ghost use Rattle.papergrid_grid.specs.ForProofs.Crossings.{AreFitted, AreOwners, FitsAlready, HasMark, IsLine, goes_over};
+ghost use Rattle.papergrid_grid.specs.ForProofs.Crossings.{AreFittedBefore, AreOwners, FitsAlready, HasMark, IsCrossingLine, goes_over};
 
 use papergrid_config::{Setting, SpannedConfig};
 use papergrid_draw::{DrawError, check_tiles};
@@ -84,7 +84,7 @@ fn next_owner(
     position: Position,
 ) -> Position
     ensures { (table : TableView) → table.grid ≡ spanned_grid config.now → IsTiled table →
-        IsInTable table position →
+        IsTablePosition table position →
         (0 < position.row →
         owner table (position_of (position.row - 1, position.col)) ≡ Some above) →
         (0 < position.col →
@@ -143,7 +143,7 @@ impl Line<'_> {
 
     /// Whether one cell stands over it in a column.
     fn is_under(&self, column: usize) -> bool
-        requires line { IsLine self.now }
+        requires line { IsCrossingLine self.now }
         requires inside { column < self.now.shape.1 }
         ensures { result ≡ stands_over
             (bare_drawing self.now.config.now self.now.shape) self.now.row column }
@@ -153,7 +153,7 @@ impl Line<'_> {
 
     /// Whether one cell stands over its crossing with a vertical line.
     fn is_crossing_under(&self, column: usize) -> bool
-        requires { IsLine self.now }
+        requires { IsCrossingLine self.now }
         ensures { result ≡ stands_over_crossing
             (bare_drawing self.now.config.now self.now.shape) self.now.row column }
     {
@@ -165,10 +165,10 @@ impl Line<'_> {
 
     /// The character that joins the lines which meet at a crossing.
     fn joining(&self, junctions: &Junctions, column: usize) -> Option<char>
-        requires line { IsLine self.now }
-        requires horizontal { has_horizontal
+        requires line { IsCrossingLine self.now }
+        requires horizontal { draws_horizontal
             (bare_drawing self.now.config.now self.now.shape) self.now.row ≡ true }
-        requires vertical { has_vertical
+        requires vertical { draws_vertical
             (bare_drawing self.now.config.now self.now.shape) column ≡ true }
         requires inside { column ≤ self.now.shape.1 }
         ensures { result ≡ junction_at junctions.now
@@ -183,8 +183,8 @@ impl Line<'_> {
 
     /// The character that a crossing is to be given, if it has another one.
     fn wanted(&self, junctions: &Junctions, column: usize) -> Option<char>
-        requires line { IsLine self.now }
-        requires horizontal { has_horizontal
+        requires line { IsCrossingLine self.now }
+        requires horizontal { draws_horizontal
             (bare_drawing self.now.config.now self.now.shape) self.now.row ≡ true }
         requires inside { column ≤ self.now.shape.1 }
         ensures { MatchOption result
@@ -215,14 +215,14 @@ impl Line<'_> {
         column: usize,
         settings: &mut Vec<Setting>,
     ) -> Result<(), AllocError>
-        requires line { IsLine self.now }
-        requires horizontal { has_horizontal
+        requires line { IsCrossingLine self.now }
+        requires horizontal { draws_horizontal
             (bare_drawing self.now.config.now self.now.shape) self.now.row ≡ true }
         requires inside { column ≤ self.now.shape.1 }
         requires room { (self.now.shape.0 + 1 < 2 ^ 64) × (self.now.shape.1 + 1 < 2 ^ 64) }
-        requires fitted { AreFitted self.now.config.now self.now.shape junctions.now
+        requires fitted { AreFittedBefore self.now.config.now self.now.shape junctions.now
             self.now.row column settings.old.items }
-        ensures { OnOk result (AreFitted self.now.config.now self.now.shape junctions.now
+        ensures { OnOk result (AreFittedBefore self.now.config.now self.now.shape junctions.now
             self.now.row (column + 1) settings.new.items) }
     {
         let Some(character) = self.wanted(junctions, column) else {
@@ -242,11 +242,11 @@ impl Line<'_> {
 
     /// Adds the settings of its crossings.
     fn fit(&self, junctions: &Junctions, settings: &mut Vec<Setting>) -> Result<(), AllocError>
-        requires line { IsLine self.now }
+        requires line { IsCrossingLine self.now }
         requires room { (self.now.shape.0 + 1 < 2 ^ 64) × (self.now.shape.1 + 1 < 2 ^ 64) }
-        requires fitted { AreFitted self.now.config.now self.now.shape junctions.now
+        requires fitted { AreFittedBefore self.now.config.now self.now.shape junctions.now
             self.now.row 0 settings.old.items }
-        ensures { OnOk result (AreFitted self.now.config.now self.now.shape junctions.now
+        ensures { OnOk result (AreFittedBefore self.now.config.now self.now.shape junctions.now
             (self.now.row + 1) 0 settings.new.items) }
     {
         if !self.config.has_horizontal(self.row, self.shape.0) {
@@ -268,7 +268,7 @@ fn fit_lines(
 ) -> Result<Vec<Setting>, AllocError>
     requires tiled { IsTiled (layout_of (bare_drawing config.now shape)) }
     requires room { (shape.0 + 1 < 2 ^ 64) × (shape.1 + 1 < 2 ^ 64) }
-    ensures { IfOk result (λ settings. AreFitted config.now shape junctions.now
+    ensures { IfOk result (λ settings. AreFittedBefore config.now shape junctions.now
         (shape.0 + 1) 0 settings.items) }
 {
     let first = Position { row: 0, col: 0 };

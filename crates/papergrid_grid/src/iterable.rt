@@ -8,7 +8,7 @@ ghost use Rattle.papergrid_draw.specs.Deliveries.{IsLeftOff};
 ghost use Rattle.papergrid_draw.specs.Margins.{printed};
 ghost use Rattle.papergrid_draw.specs.declared.error.DrawError.TheVariants.{Memory, Write};
 ghost use Rattle.papergrid_grid.specs.Cells.{text_lines};
-ghost use Rattle.papergrid_grid.specs.Sized.{HasSizes, IsGridFault, UnlessMemory, drawing_of_rows, parts_of, texts_at};
+ghost use Rattle.papergrid_grid.specs.Sized.{HasSizes, IsGridFault, UnlessMemoryFails, drawing_of_rows, parts_of, texts_at};
 
 use crate::cells::TextCells;
 use crate::color::AsANSIStr;
@@ -92,7 +92,7 @@ where
             WritesInCalls F.write_str_gives writer.old
             (printed (drawing_of_rows (λ cell. text_lines (R.Iter.Cell.text cell)) parts cells
             (texts_at C.Color.texts C.color_at self.entry.colors.now))) writer.new)) }
-        ensures fault { IfErr result (λ e. UnlessMemory e ((cells : List (List R.Iter.Cell))
+        ensures fault { IfErr result (λ e. UnlessMemoryFails e ((cells : List (List R.Iter.Cell))
             × R.tells self.entry.records cells × (
             let parts = parts_of self.entry.config.now (D.width_of self.entry.dimension.now)
             (D.height_of self.entry.dimension.now)
@@ -151,7 +151,7 @@ where
             (texts_at C.Color.texts C.color_at self.entry.colors.now))))) }
         ensures works { OnOk result (W.has_failed sink.new ≡ W.has_failed sink.old) }
         ensures moves { OnOk result (W.has_stalled sink.new ≡ W.has_stalled sink.old) }
-        ensures fault { IfErr result (λ e. UnlessMemory e ((cells : List (List R.Iter.Cell))
+        ensures fault { IfErr result (λ e. UnlessMemoryFails e ((cells : List (List R.Iter.Cell))
             × R.tells self.entry.records cells × (
             let parts = parts_of self.entry.config.now (D.width_of self.entry.dimension.now)
             (D.height_of self.entry.dimension.now)
@@ -210,7 +210,7 @@ where
             string_bytes string ≡ printed (drawing_of_rows
             (λ cell. text_lines (R.Iter.Cell.text cell)) parts cells
             (texts_at C.Color.texts C.color_at self.entry.colors.now))))) }
-        ensures fault { IfErr result (λ e. UnlessMemory e ((cells : List (List R.Iter.Cell))
+        ensures fault { IfErr result (λ e. UnlessMemoryFails e ((cells : List (List R.Iter.Cell))
             × R.tells self.entry.records cells × (
             let parts = parts_of self.entry.config.now (D.width_of self.entry.dimension.now)
             (D.height_of self.entry.dimension.now)

@@ -22,10 +22,11 @@ use Rattle.papergrid_text.proofs.RowSteps.{told_by}
 use Rattle.papergrid.specs.Estimates.{text_measure}
 use Rattle.papergrid.specs.Layouts.{IsConfiguredBy}
 use Rattle.papergrid.specs.Pictures.{IsRefusal}
-use Rattle.papergrid.specs.ForProofs.Drawn.{HasEnded, IsSteady}
+use Rattle.papergrid.specs.ForProofs.Drawn.{IsSteady}
+use Rattle.papergrid_draw.specs.ForProofs.Sinks.{HasEnded}
 use Rattle.papergrid.proofs.PictureLemmas.{no-sizes-seen, room-in, same-writer, sizes-seen}
-use Rattle.papergrid_json.specs.Pictures.{AreNoSizesOf, AreSizesOf, IsDocumentDrawing, IsDocumentFault, IsDocumentTable, IsDrawingWith, IsFaultWith, Undrawn, Unsized, texts_of}
-use Rattle.papergrid_json.specs.ForProofs.Drawn.{Draws, IsUndrawn}
+use Rattle.papergrid_json.specs.Pictures.{AreNoSizesOf, AreSizesOf, IsDocumentDrawing, IsDocumentFault, IsDocumentTable, IsDocumentDrawingWith, IsDocumentFaultWith, Undrawn, Unsized, document_texts}
+use Rattle.papergrid_json.specs.ForProofs.Drawn.{DrawsLines, AreLinesUndrawn}
 use Rattle.papergrid_json.specs.declared.document.Document.{Document}
 use Rattle.papergrid_json.specs.declared.document.OwnSizes.{OwnSizes}
 
@@ -60,21 +61,21 @@ module _ (document : Document) (sizing : Sizing) (config : SpannedConfig) where
       × IsTableOf config (λ x. text_measure (string_bytes (view x))) columns cells sizing result) → UnlessMemory result (IsDocumentTable document sizing config result)
   table-found view rows columns (Ok table) none same counted so =
       let texts = told_by view string_bytes (λ row. row.items) so.0 rows so.1 ∙ ap (map (λ row. map string_bytes row.items)) same in
-      let sized = sizes-seen (λ x. string_bytes (view x)) config columns so.0 (texts_of document) texts sizing table.widths table.heights so.2.1 in (
+      let sized = sizes-seen (λ x. string_bytes (view x)) config columns so.0 (document_texts document) texts sizing table.widths table.heights so.2.1 in (
         so.2.0,
         subst (λ s. AreSizesOf document sizing config s table.widths table.heights) (sym none)
-            (subst (λ n. AreSizesBySizing config text_measure n (texts_of document) sizing table.widths table.heights) counted sized),
+            (subst (λ n. AreSizesBySizing config text_measure n (document_texts document) sizing table.widths table.heights) counted sized),
       )
   table-found view rows columns (Err (layout_errors.OutOfTable p)) none same counted so =
       let texts = told_by view string_bytes (λ row. row.items) so.0 rows so.1 ∙ ap (map (λ row. map string_bytes row.items)) same in
-      let unsized = no-sizes-seen (λ x. string_bytes (view x)) config columns so.0 (texts_of document) texts sizing (layout_errors.OutOfTable p) so.2 in
+      let unsized = no-sizes-seen (λ x. string_bytes (view x)) config columns so.0 (document_texts document) texts sizing (layout_errors.OutOfTable p) so.2 in
       subst (λ s. AreNoSizesOf document sizing config s (layout_errors.OutOfTable p)) (sym none)
-      (subst (λ n. AreNoSizesBySizing config text_measure n (texts_of document) sizing (layout_errors.OutOfTable p)) counted unsized)
+      (subst (λ n. AreNoSizesBySizing config text_measure n (document_texts document) sizing (layout_errors.OutOfTable p)) counted unsized)
   table-found view rows columns (Err layout_errors.TooLarge) none same counted so =
       let texts = told_by view string_bytes (λ row. row.items) so.0 rows so.1 ∙ ap (map (λ row. map string_bytes row.items)) same in
-      let unsized = no-sizes-seen (λ x. string_bytes (view x)) config columns so.0 (texts_of document) texts sizing layout_errors.TooLarge so.2 in
+      let unsized = no-sizes-seen (λ x. string_bytes (view x)) config columns so.0 (document_texts document) texts sizing layout_errors.TooLarge so.2 in
       subst (λ s. AreNoSizesOf document sizing config s layout_errors.TooLarge) (sym none)
-      (subst (λ n. AreNoSizesBySizing config text_measure n (texts_of document) sizing layout_errors.TooLarge) counted unsized)
+      (subst (λ n. AreNoSizesBySizing config text_measure n (document_texts document) sizing layout_errors.TooLarge) counted unsized)
   table-found view rows columns (Err (layout_errors.Memory e)) none same counted so = tt
 
   -- what is drawn of rows that are lent, by a table
@@ -90,7 +91,7 @@ module _ (document : Document) (sizing : Sizing) (config : SpannedConfig) where
 
   -- it is the drawing with the sizes of the table
   pub drawing-by : (rows : List (Vec (String Global) Global)) (parts : TableParts) → rows ≡ document.rows.items → IsDocumentTable document sizing config (Ok parts) →
-      IsDrawingWith document sizing config (rows_drawn rows parts)
+      IsDocumentDrawingWith document sizing config (rows_drawn rows parts)
   drawing-by rows parts same so = record {
     widths = parts.widths;
     heights = parts.heights;
@@ -110,14 +111,14 @@ module _ (document : Document) (sizing : Sizing) (config : SpannedConfig) where
       AllHaveRoom (rows_drawn rows parts)
   room-found rows parts same so none =
       let sized = subst (λ s. AreSizesOf document sizing config s parts.widths parts.heights) none so.1 in
-      let by_parts = subst (λ c. AreSizesBySizing c text_measure document.columns (texts_of document) sizing parts.widths parts.heights) (sym so.0) sized in
+      let by_parts = subst (λ c. AreSizesBySizing c text_measure document.columns (document_texts document) sizing parts.widths parts.heights) (sym so.0) sized in
       room-in parts.config document.columns (map (λ row. map string_bytes row.items) rows) sizing parts.widths parts.heights _
       (subst (λ held. AreSizesBySizing parts.config text_measure document.columns (map (λ row. map string_bytes row.items) held) sizing parts.widths parts.heights) (sym same) by_parts)
 
   -- what is known of a call that draws it
   module _ {W : Type 0} (contents : W → Option (List ℕ)) (has_failed has_stalled : W → Bool) where
     abbrev IsSoUndrawn : W → W → DrawError → Type 0
-    IsSoUndrawn old new e = IsUndrawn contents has_failed has_stalled (IsDrawingWith document sizing config) (IsFaultWith document sizing config) old new e
+    IsSoUndrawn old new e = AreLinesUndrawn contents has_failed has_stalled (IsDocumentDrawingWith document sizing config) (IsDocumentFaultWith document sizing config) old new e
 
     -- there are no sizes
     pub unsized : (w : W) (e : LayoutError) → UnlessMemoryError e (AreNoSizesOf document sizing config document.sizes e) → IsSoUndrawn w w (draw_error_of e)
@@ -129,7 +130,7 @@ module _ (document : Document) (sizing : Sizing) (config : SpannedConfig) where
       steady = inr (refl, refl);
     }
       where
-        named : (e : LayoutError) → UnlessMemoryError e (AreNoSizesOf document sizing config document.sizes e) → IsRefusal (draw_error_of e) → IsFaultWith document sizing config (draw_error_of e)
+        named : (e : LayoutError) → UnlessMemoryError e (AreNoSizesOf document sizing config document.sizes e) → IsRefusal (draw_error_of e) → IsDocumentFaultWith document sizing config (draw_error_of e)
         named (layout_errors.OutOfTable p) are is = Unsized (layout_errors.OutOfTable p) refl are
         named layout_errors.TooLarge are is = Unsized layout_errors.TooLarge refl are
         named (layout_errors.Memory e) are is = absurd is
@@ -140,13 +141,13 @@ module _ (document : Document) (sizing : Sizing) (config : SpannedConfig) where
         never (layout_errors.Memory e) is = cc
 
     -- there are, and it was drawn with them, or not
-    pub drawn-so : {A : Type 0} (d : Drawing) → IsDrawingWith document sizing config d → (old new : W) (result : Result A DrawError) →
+    pub drawn-so : {A : Type 0} (d : Drawing) → IsDocumentDrawingWith document sizing config d → (old new : W) (result : Result A DrawError) →
         OnOk result (Appends (contents old) (contents new) (lined d)) → OnOk result (has_failed new ≡ has_failed old) → OnOk result (has_stalled new ≡ has_stalled old) →
         IfErr result (IsDrawFault d) → IfErr result (λ e. (e ≡ draw_errors.Write) ⊎ ((error : AllocError) × (e ≡ draw_errors.Memory error)) ⊎ (new ≡ old)) →
         OnErr result ((n : ℕ) × Appends (contents old) (contents new) (take n (lined d))) →
         (IsErrOf result draw_errors.Write → HasEnded contents has_failed has_stalled old new) →
         IfErr result (λ e. (e ≡ draw_errors.Write) ⊎ IsSteady contents has_failed has_stalled old new) →
-        Draws contents has_failed has_stalled (IsDrawingWith document sizing config) (IsFaultWith document sizing config) old new result
+        DrawsLines contents has_failed has_stalled (IsDocumentDrawingWith document sizing config) (IsDocumentFaultWith document sizing config) old new result
     drawn-so d is old new (Ok x) taken works moves fault nothing begun write steady = (d, is, record { taken = taken; works = works; moves = moves })
     drawn-so d is old new (Err e) taken works moves fault nothing begun write steady = record {
       fault = λ named. Undrawn d is fault;
@@ -159,7 +160,7 @@ module _ (document : Document) (sizing : Sizing) (config : SpannedConfig) where
     -- by a configuration that the settings tell
     module _ (told : IsConfiguredBy document.settings.items config) {A : Type 0} (old new : W) where
       abbrev So : Result A DrawError → Type 0
-      So result = Draws contents has_failed has_stalled (IsDrawingWith document sizing config) (IsFaultWith document sizing config) old new result
+      So result = DrawsLines contents has_failed has_stalled (IsDocumentDrawingWith document sizing config) (IsDocumentFaultWith document sizing config) old new result
 
       pub draw-picture : (result : Result A DrawError) → So result →
           OnOk result ((d : Drawing) × IsDocumentDrawing document sizing d × Appends (contents old) (contents new) (lined d))

@@ -18,8 +18,8 @@ use Rattle.papergrid_json.specs.declared.document.Document.{Document}
 use Rattle.papergrid_json.specs.declared.document.OwnSizes.{OwnSizes}
 
 -- the texts of a document, row by row
-abbrev pub texts_of : Document → List (List (List ℕ))
-texts_of document = map (λ row. map string_bytes row.items) document.rows.items
+abbrev pub document_texts : Document → List (List (List ℕ))
+document_texts document = map (λ row. map string_bytes row.items) document.rows.items
 
 -- its drawing by a configuration, with these widths and heights: its texts, in its colours
 abbrev pub document_drawing : SpannedConfig → Document → List ℕ → List ℕ → Drawing
@@ -28,7 +28,7 @@ document_drawing config document widths heights = record {
   widths = slice_index widths;
   heights = slice_index heights;
   shape = (length heights, length widths);
-  lines = lines_at text_lines (texts_of document);
+  lines = lines_at text_lines (document_texts document);
   color = get position_cmp document.colors;
 }
 
@@ -36,12 +36,12 @@ module _ (document : Document) (sizing : Sizing) where
   module _ (config : SpannedConfig) where
     -- its widths and heights: those of its own, else those that are chosen so
     abbrev pub AreSizesOf : Option OwnSizes → List ℕ → List ℕ → Type 0
-    AreSizesOf None widths heights = AreSizesBySizing config text_measure document.columns (texts_of document) sizing widths heights
+    AreSizesOf None widths heights = AreSizesBySizing config text_measure document.columns (document_texts document) sizing widths heights
     AreSizesOf (Some own) widths heights = (widths ≡ own.widths.items) × (heights ≡ own.heights.items)
 
     -- why it has none: there are none that are chosen so, or those of its own come to too much
     abbrev pub AreNoSizesOf : Option OwnSizes → LayoutError → Type 0
-    AreNoSizesOf None e = AreNoSizesBySizing config text_measure document.columns (texts_of document) sizing e
+    AreNoSizesOf None e = AreNoSizesBySizing config text_measure document.columns (document_texts document) sizing e
     AreNoSizesOf (Some own) e =
         (e ≡ TooLarge) × IsTotalTooLarge (view_of (record { config = config; widths = own.widths.items; heights = own.heights.items }))
 
@@ -51,21 +51,21 @@ module _ (document : Document) (sizing : Sizing) where
     IsDocumentTable (Err e) = AreNoSizesOf document.sizes e
 
     -- its drawing with such sizes
-    pub record IsDrawingWith (d : Drawing) : Type 0 where
+    pub record IsDocumentDrawingWith (d : Drawing) : Type 0 where
       pub widths : List ℕ
       pub heights : List ℕ
       pub sized : AreSizesOf document.sizes widths heights
       pub is : d ≡ document_drawing config document widths heights
 
     -- why it has none: there are no sizes, or it can't be drawn with them
-    pub data IsFaultWith (e : DrawError) : Type 0 where
-      Unsized : (error : LayoutError) → e ≡ draw_error_of error → AreNoSizesOf document.sizes error → IsFaultWith e
-      Undrawn : (d : Drawing) → IsDrawingWith d → IsDrawFault d e → IsFaultWith e
+    pub data IsDocumentFaultWith (e : DrawError) : Type 0 where
+      Unsized : (error : LayoutError) → e ≡ draw_error_of error → AreNoSizesOf document.sizes error → IsDocumentFaultWith e
+      Undrawn : (d : Drawing) → IsDocumentDrawingWith d → IsDrawFault d e → IsDocumentFaultWith e
 
   -- its drawing by a configuration that its settings tell
   abbrev pub IsDocumentDrawing : Drawing → Type 0
-  IsDocumentDrawing d = (config : SpannedConfig) × IsConfiguredBy document.settings.items config × IsDrawingWith config d
+  IsDocumentDrawing d = (config : SpannedConfig) × IsConfiguredBy document.settings.items config × IsDocumentDrawingWith config d
 
   -- why it has none
   abbrev pub IsDocumentFault : DrawError → Type 0
-  IsDocumentFault e = (config : SpannedConfig) × IsConfiguredBy document.settings.items config × IsFaultWith config e
+  IsDocumentFault e = (config : SpannedConfig) × IsConfiguredBy document.settings.items config × IsDocumentFaultWith config e

@@ -10,8 +10,8 @@ ghost use Rattle.papergrid_layout.specs.Answers.{UnlessMemory};
 ghost use Rattle.papergrid.specs.Layouts.{IsConfiguredBy};
 ghost use Rattle.papergrid.specs.Pictures.{IsRefusal};
 ghost use Rattle.papergrid_json.specs.Documents.{AreInRange};
-ghost use Rattle.papergrid_json.specs.Pictures.{IsDocumentDrawing, IsDocumentFault, IsDocumentTable, IsDrawingWith, IsFaultWith};
-ghost use Rattle.papergrid_json.specs.ForProofs.Drawn.{Draws};
+ghost use Rattle.papergrid_json.specs.Pictures.{IsDocumentDrawing, IsDocumentFault, IsDocumentTable, IsDocumentDrawingWith, IsDocumentFaultWith};
+ghost use Rattle.papergrid_json.specs.ForProofs.Drawn.{DrawsLines};
 
 use crate::document::Document;
 use papergrid_config::laws::history_decides;
@@ -86,9 +86,9 @@ fn draw_by<W: Sink>(
     sizing: Sizing,
     sink: &mut W,
 ) -> Result<(), DrawError>
-    ensures { Draws W.contents W.has_failed W.has_stalled
-        (IsDrawingWith document.now sizing config.now)
-        (IsFaultWith document.now sizing config.now) sink.old sink.new result }
+    ensures { DrawsLines W.contents W.has_failed W.has_stalled
+        (IsDocumentDrawingWith document.now sizing config.now)
+        (IsDocumentFaultWith document.now sizing config.now) sink.old sink.new result }
 {
     let table = document_table(alloc, config, document, sizing)?;
     let cells = TextCells {

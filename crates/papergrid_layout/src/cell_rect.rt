@@ -21,23 +21,24 @@ use papergrid_values::{Direction, Position};
 /// or the last row, else `TooLarge` where along a direction the sizes with all lines come to more
 /// than the greatest `usize`.
 pub fn place<D: Dimension>(
-    dim: &D,
-    cfg: &SpannedConfig,
+    dimension: &D,
+    config: &SpannedConfig,
     shape: (usize, usize),
     pos: Position,
 ) -> Result<Place, PlaceError>
-    requires columns { (column : ℕ) → column < shape.1 → D.has_column dim.now column }
-    requires rows { (row : ℕ) → row < shape.0 → D.has_row dim.now row }
-    ensures exact { let table = table_by cfg.now (D.width_of dim.now) (D.height_of dim.now) shape in
+    requires columns { (column : ℕ) → column < shape.1 → D.has_column dimension.now column }
+    requires rows { (row : ℕ) → row < shape.0 → D.has_row dimension.now row }
+    ensures exact { let table = table_by config.now (D.width_of dimension.now)
+        (D.height_of dimension.now) shape in
         IsPlaced table pos result }
-    ensures within { let table = table_by cfg.now (D.width_of dim.now)
-        (D.height_of dim.now) shape in
+    ensures within { let table = table_by config.now (D.width_of dimension.now)
+        (D.height_of dimension.now) shape in
         IfOk result (EndsWithin table) }
 {
     let (rows, columns) = shape;
-    let across = Ruler::new(dim, cfg, Direction::Columns, columns);
-    let down = Ruler::new(dim, cfg, Direction::Rows, rows);
-    if !cfg.is_visible(pos) {
+    let across = Ruler::new(dimension, config, Direction::Columns, columns);
+    let down = Ruler::new(dimension, config, Direction::Rows, rows);
+    if !config.is_visible(pos) {
         return Err(PlaceError::Hidden);
     }
     if across.overflows(pos) || down.overflows(pos) {

@@ -31,27 +31,28 @@ impl Placing {
     /// Before the first position of a table whose totals fit.
     fn new<D: Dimension>(
         alloc: Global,
-        dim: &D,
-        cfg: &SpannedConfig,
+        dimension: &D,
+        config: &SpannedConfig,
         shape: (usize, usize),
     ) -> Result<Placing, AllocError>
-        requires columns { (column : ℕ) → column < shape.1 → D.has_column dim.now column }
-        requires rows { (row : ℕ) → row < shape.0 → D.has_row dim.now row }
-        requires fit { let table = table_by cfg.now (D.width_of dim.now)
-            (D.height_of dim.now) shape in
+        requires columns { (column : ℕ) → column < shape.1 → D.has_column dimension.now column }
+        requires rows { (row : ℕ) → row < shape.0 → D.has_row dimension.now row }
+        requires fit { let table = table_by config.now (D.width_of dimension.now)
+            (D.height_of dimension.now) shape in
             (direction : Direction) → total_along table direction < 2 ^ 64 }
-        ensures { let table = table_by cfg.now (D.width_of dim.now) (D.height_of dim.now) shape in
+        ensures { let table = table_by config.now (D.width_of dimension.now)
+            (D.height_of dimension.now) shape in
             IfOk result (HasPlaced table 0 0) }
     {
         let (rows, columns) = shape;
-        let across = Ruler::new(dim, cfg, Direction::Columns, columns);
-        let down = Ruler::new(dim, cfg, Direction::Rows, rows);
+        let across = Ruler::new(dimension, config, Direction::Columns, columns);
+        let down = Ruler::new(dimension, config, Direction::Rows, rows);
         Ok(Placing {
             marks: PerDirection {
                 columns: across.marks(alloc)?,
                 rows: down.marks(alloc)?,
             },
-            sweep: sweep_of(alloc, cfg)?,
+            sweep: sweep_of(alloc, config)?,
             places: Vec::new(alloc),
         })
     }
@@ -126,18 +127,20 @@ impl Placing {
 /// never refused.
 pub fn places<D: Dimension>(
     alloc: Global,
-    dim: &D,
-    cfg: &SpannedConfig,
+    dimension: &D,
+    config: &SpannedConfig,
     shape: (usize, usize),
 ) -> Result<Vec<(Position, Place)>, LayoutError>
-    requires columns { (column : ℕ) → column < shape.1 → D.has_column dim.now column }
-    requires rows { (row : ℕ) → row < shape.0 → D.has_row dim.now row }
-    ensures ok { let table = table_by cfg.now (D.width_of dim.now) (D.height_of dim.now) shape in
+    requires columns { (column : ℕ) → column < shape.1 → D.has_column dimension.now column }
+    requires rows { (row : ℕ) → row < shape.0 → D.has_row dimension.now row }
+    ensures ok { let table = table_by config.now (D.width_of dimension.now)
+        (D.height_of dimension.now) shape in
         IfOk result (λ places. HaveAllPlaces table places.items) }
-    ensures err { let table = table_by cfg.now (D.width_of dim.now) (D.height_of dim.now) shape in
+    ensures err { let table = table_by config.now (D.width_of dimension.now)
+        (D.height_of dimension.now) shape in
         IfErr result (ArePlacesRefused table) }
-    ensures within { let table = table_by cfg.now (D.width_of dim.now)
-        (D.height_of dim.now) shape in
+    ensures within { let table = table_by config.now (D.width_of dimension.now)
+        (D.height_of dimension.now) shape in
         IfOk result (λ places. All (λ x. EndsWithin table x.1) places.items) }
     ensures empty { (shape.0 ≡ 0) ⊎ (shape.1 ≡ 0) → IsOkAnd result (λ places. places.items ≡ []) }
 {
@@ -148,14 +151,14 @@ pub fn places<D: Dimension>(
     // The totals are those of all screen rectangles, so where they are too large the first
     // cell decides.
     let first = Position { row: 0, col: 0 };
-    match place(dim, cfg, shape, first) {
+    match place(dimension, config, shape, first) {
         Ok(_) => {}
         Err(PlaceError::OutOfTable) => return Err(LayoutError::OutOfTable(first)),
         Err(PlaceError::TooLarge) => return Err(LayoutError::TooLarge),
         // No position stands above or left of the first one.
         Err(PlaceError::Hidden) => unreachable!(),
     }
-    let mut placing = Placing::new(alloc, dim, cfg, shape)?;
+    let mut placing = Placing::new(alloc, dimension, config, shape)?;
     placing.visit_rows(alloc, shape)?;
     Ok(placing.places)
 }

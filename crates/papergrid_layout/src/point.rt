@@ -16,8 +16,8 @@ use papergrid_values::{Direction, Position};
 /// the rectangle of each cell that stands over these.
 #[derive(Clone, Copy)]
 struct Point<'a, D> {
-    dim: &'a D,
-    cfg: &'a SpannedConfig,
+    dimension: &'a D,
+    config: &'a SpannedConfig,
     shape: (usize, usize),
     column: usize,
     line: usize,
@@ -29,23 +29,24 @@ impl<'a, D: Dimension> Point<'a, D> {
     /// not by their spans alone.
     fn is_under(&self, pos: Position) -> bool
         requires columns { (column : ℕ) → column < self.now.shape.1 →
-            D.has_column self.now.dim.now column }
-        requires rows { (row : ℕ) → row < self.now.shape.0 → D.has_row self.now.dim.now row }
+            D.has_column self.now.dimension.now column }
+        requires rows { (row : ℕ) → row < self.now.shape.0 → D.has_row self.now.dimension.now row }
         requires before { (pos.row ≤ self.now.within.row) × (pos.col ≤ self.now.within.col) }
-        requires reach { let table = table_by self.now.cfg.now (D.width_of self.now.dim.now)
-            (D.height_of self.now.dim.now) self.now.shape in
+        requires reach { let table = table_by self.now.config.now
+            (D.width_of self.now.dimension.now)
+            (D.height_of self.now.dimension.now) self.now.shape in
             LiesInEach table self.now.column self.now.line self.now.within }
-        ensures { let table = table_by self.now.cfg.now (D.width_of self.now.dim.now)
-            (D.height_of self.now.dim.now) self.now.shape in
+        ensures { let table = table_by self.now.config.now (D.width_of self.now.dimension.now)
+            (D.height_of self.now.dimension.now) self.now.shape in
             IsTrue result ↔ StandsOver table self.now.column self.now.line pos }
     {
-        if self.within.col - pos.col >= self.cfg.span(Direction::Columns, pos) {
+        if self.within.col - pos.col >= self.config.span(Direction::Columns, pos) {
             return false;
         }
-        if self.within.row - pos.row >= self.cfg.span(Direction::Rows, pos) {
+        if self.within.row - pos.row >= self.config.span(Direction::Rows, pos) {
             return false;
         }
-        match place(self.dim, self.cfg, self.shape, pos) {
+        match place(self.dimension, self.config, self.shape, pos) {
             Ok(place) => place.covers(self.column, self.line),
             Err(_) => false,
         }
@@ -54,14 +55,15 @@ impl<'a, D: Dimension> Point<'a, D> {
     /// The first position of a row whose cell stands over the point.
     fn first_in_row(&self, row: usize) -> Option<Position>
         requires columns { (column : ℕ) → column < self.now.shape.1 →
-            D.has_column self.now.dim.now column }
-        requires rows { (row : ℕ) → row < self.now.shape.0 → D.has_row self.now.dim.now row }
+            D.has_column self.now.dimension.now column }
+        requires rows { (row : ℕ) → row < self.now.shape.0 → D.has_row self.now.dimension.now row }
         requires before { row ≤ self.now.within.row }
-        requires reach { let table = table_by self.now.cfg.now (D.width_of self.now.dim.now)
-            (D.height_of self.now.dim.now) self.now.shape in
+        requires reach { let table = table_by self.now.config.now
+            (D.width_of self.now.dimension.now)
+            (D.height_of self.now.dimension.now) self.now.shape in
             LiesInEach table self.now.column self.now.line self.now.within }
-        ensures { let table = table_by self.now.cfg.now (D.width_of self.now.dim.now)
-            (D.height_of self.now.dim.now) self.now.shape in
+        ensures { let table = table_by self.now.config.now (D.width_of self.now.dimension.now)
+            (D.height_of self.now.dimension.now) self.now.shape in
             let IsUnder = StandsOver table self.now.column self.now.line in
             MatchOption result ((q : Position) → q.row ≡ row → IsUnder q → ⊥)
             (λ p. (p.row ≡ row) × IsUnder p × ((q : Position) → q.row ≡ row → q.col < p.col →
@@ -79,13 +81,14 @@ impl<'a, D: Dimension> Point<'a, D> {
     /// The first position, by row and then by column, whose cell stands over the point.
     fn first(&self) -> Option<Position>
         requires columns { (column : ℕ) → column < self.now.shape.1 →
-            D.has_column self.now.dim.now column }
-        requires rows { (row : ℕ) → row < self.now.shape.0 → D.has_row self.now.dim.now row }
-        requires reach { let table = table_by self.now.cfg.now (D.width_of self.now.dim.now)
-            (D.height_of self.now.dim.now) self.now.shape in
+            D.has_column self.now.dimension.now column }
+        requires rows { (row : ℕ) → row < self.now.shape.0 → D.has_row self.now.dimension.now row }
+        requires reach { let table = table_by self.now.config.now
+            (D.width_of self.now.dimension.now)
+            (D.height_of self.now.dimension.now) self.now.shape in
             LiesInEach table self.now.column self.now.line self.now.within }
-        ensures { let table = table_by self.now.cfg.now (D.width_of self.now.dim.now)
-            (D.height_of self.now.dim.now) self.now.shape in
+        ensures { let table = table_by self.now.config.now (D.width_of self.now.dimension.now)
+            (D.height_of self.now.dimension.now) self.now.shape in
             IsFirstOver table self.now.column self.now.line result }
     {
         for row in 0..=self.within.row {
@@ -107,20 +110,21 @@ impl<'a, D: Dimension> Point<'a, D> {
 ///
 /// Condition: the dimension has a width for each of the columns and a height for each of the rows.
 pub fn cell_at<D: Dimension>(
-    dim: &D,
-    cfg: &SpannedConfig,
+    dimension: &D,
+    config: &SpannedConfig,
     shape: (usize, usize),
     column: usize,
     line: usize,
 ) -> Option<Position>
-    requires columns { (column : ℕ) → column < shape.1 → D.has_column dim.now column }
-    requires rows { (row : ℕ) → row < shape.0 → D.has_row dim.now row }
-    ensures { let table = table_by cfg.now (D.width_of dim.now) (D.height_of dim.now) shape in
+    requires columns { (column : ℕ) → column < shape.1 → D.has_column dimension.now column }
+    requires rows { (row : ℕ) → row < shape.0 → D.has_row dimension.now row }
+    ensures { let table = table_by config.now (D.width_of dimension.now)
+        (D.height_of dimension.now) shape in
         IsFirstOver table column line result }
 {
     let (rows, columns) = shape;
-    let across = Ruler::new(dim, cfg, Direction::Columns, columns);
-    let down = Ruler::new(dim, cfg, Direction::Rows, rows);
+    let across = Ruler::new(dimension, config, Direction::Columns, columns);
+    let down = Ruler::new(dimension, config, Direction::Rows, rows);
     let _width = across.total()?;
     let _height = down.total()?;
     let within = Position {
@@ -128,14 +132,14 @@ pub fn cell_at<D: Dimension>(
         col: across.number_at(column)?,
     };
     let point = Point {
-        dim,
-        cfg,
+        dimension,
+        config,
         shape,
         column,
         line,
         within,
     };
-    if cfg.is_visible(within) {
+    if config.is_visible(within) {
         return point.is_under(within).then_some(within);
     }
     point.first()

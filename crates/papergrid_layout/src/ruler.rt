@@ -17,7 +17,7 @@ use std::alloc::{AllocError, Global};
 /// the table has so many tracks.
 #[derive(Clone, Copy)]
 pub struct Ruler<'a, D, S> {
-    pub dim: &'a D,
+    pub dimension: &'a D,
     pub settings: &'a S,
     pub direction: Direction,
     pub count: usize,
@@ -25,16 +25,21 @@ pub struct Ruler<'a, D, S> {
 
 impl<'a, D: Dimension, S: ConfigView> Ruler<'a, D, S> {
     /// Of so many tracks, by these sizes and settings.
-    pub fn new(dim: &'a D, settings: &'a S, direction: Direction, count: usize) -> Ruler<'a, D, S>
+    pub fn new(
+        dimension: &'a D,
+        settings: &'a S,
+        direction: Direction,
+        count: usize,
+    ) -> Ruler<'a, D, S>
         ensures { result ≡ record {
-          dim = dim.entry;
+          dimension = dimension.entry;
           settings = settings.entry;
           direction = direction;
           count = count;
         } }
     {
         Ruler {
-            dim,
+            dimension,
             settings,
             direction,
             count,
@@ -43,14 +48,15 @@ impl<'a, D: Dimension, S: ConfigView> Ruler<'a, D, S> {
 
     /// The width of a column, or the height of a row.
     fn size(&self, i: usize) -> usize
-        requires { has_along (D.has_column self.now.dim.now)
-            (D.has_row self.now.dim.now) self.now.direction i }
-        ensures { result ≡ size_along (D.width_of self.now.dim.now) (D.height_of self.now.dim.now)
+        requires { has_along (D.has_column self.now.dimension.now)
+            (D.has_row self.now.dimension.now) self.now.direction i }
+        ensures { result ≡ size_along (D.width_of self.now.dimension.now)
+            (D.height_of self.now.dimension.now)
             self.now.direction i }
     {
         match self.direction {
-            Direction::Columns => self.dim.get_width(i),
-            Direction::Rows => self.dim.get_height(i),
+            Direction::Columns => self.dimension.get_width(i),
+            Direction::Rows => self.dimension.get_height(i),
         }
     }
 
@@ -71,14 +77,14 @@ impl<'a, D: Dimension, S: ConfigView> Ruler<'a, D, S> {
     fn offset_from(&self, start: usize, from: usize, end: usize) -> Option<usize>
         requires order { start ≤ end }
         requires sizes { (i : ℕ) → i < end →
-            has_along (D.has_column self.now.dim.now)
-            (D.has_row self.now.dim.now) self.now.direction i }
-        requires from { let size = size_along (D.width_of self.now.dim.now)
-            (D.height_of self.now.dim.now) self.now.direction in
+            has_along (D.has_column self.now.dimension.now)
+            (D.has_row self.now.dimension.now) self.now.direction i }
+        requires from { let size = size_along (D.width_of self.now.dimension.now)
+            (D.height_of self.now.dimension.now) self.now.direction in
             let line = (S.grid self.now.settings.now).draws self.now.direction self.now.count in
             from ≡ offset size line start }
-        ensures { let size = size_along (D.width_of self.now.dim.now)
-            (D.height_of self.now.dim.now) self.now.direction in
+        ensures { let size = size_along (D.width_of self.now.dimension.now)
+            (D.height_of self.now.dimension.now) self.now.direction in
             let line = (S.grid self.now.settings.now).draws self.now.direction self.now.count in
             let found = offset size line end in
             SomeIff result (found < 2 ^ 64) found }
@@ -106,10 +112,10 @@ impl<'a, D: Dimension, S: ConfigView> Ruler<'a, D, S> {
         requires inside { let span = (S.grid self.now.settings.now).span self.now.direction pos in
             along self.now.direction pos + span ≤ self.now.count }
         requires sizes { (i : ℕ) → i < self.now.count →
-            has_along (D.has_column self.now.dim.now)
-            (D.has_row self.now.dim.now) self.now.direction i }
-        ensures { let size = size_along (D.width_of self.now.dim.now)
-            (D.height_of self.now.dim.now) self.now.direction in
+            has_along (D.has_column self.now.dimension.now)
+            (D.has_row self.now.dimension.now) self.now.direction i }
+        ensures { let size = size_along (D.width_of self.now.dimension.now)
+            (D.height_of self.now.dimension.now) self.now.direction in
             let line = (S.grid self.now.settings.now).draws self.now.direction self.now.count in
             let start = along self.now.direction pos in
             let span = (S.grid self.now.settings.now).span self.now.direction pos in
@@ -128,10 +134,10 @@ impl<'a, D: Dimension, S: ConfigView> Ruler<'a, D, S> {
     /// The total of all sizes and lines, if it fits.
     pub fn total(&self) -> Option<usize>
         requires { (i : ℕ) → i < self.now.count →
-            has_along (D.has_column self.now.dim.now)
-            (D.has_row self.now.dim.now) self.now.direction i }
-        ensures { let size = size_along (D.width_of self.now.dim.now)
-            (D.height_of self.now.dim.now) self.now.direction in
+            has_along (D.has_column self.now.dimension.now)
+            (D.has_row self.now.dimension.now) self.now.direction i }
+        ensures { let size = size_along (D.width_of self.now.dimension.now)
+            (D.height_of self.now.dimension.now) self.now.direction in
             let line = (S.grid self.now.settings.now).draws self.now.direction self.now.count in
             let found = total size line self.now.count in
             SomeIff result (found < 2 ^ 64) found }
@@ -142,14 +148,14 @@ impl<'a, D: Dimension, S: ConfigView> Ruler<'a, D, S> {
     /// Where each track begins and ends, where the total fits.
     pub fn marks(&self, alloc: Global) -> Result<Marks, AllocError>
         requires sizes { (i : ℕ) → i < self.now.count →
-            has_along (D.has_column self.now.dim.now)
-            (D.has_row self.now.dim.now) self.now.direction i }
-        requires fits { let size = size_along (D.width_of self.now.dim.now)
-            (D.height_of self.now.dim.now) self.now.direction in
+            has_along (D.has_column self.now.dimension.now)
+            (D.has_row self.now.dimension.now) self.now.direction i }
+        requires fits { let size = size_along (D.width_of self.now.dimension.now)
+            (D.height_of self.now.dimension.now) self.now.direction in
             let line = (S.grid self.now.settings.now).draws self.now.direction self.now.count in
             total size line self.now.count < 2 ^ 64 }
-        ensures { let size = size_along (D.width_of self.now.dim.now)
-            (D.height_of self.now.dim.now) self.now.direction in
+        ensures { let size = size_along (D.width_of self.now.dimension.now)
+            (D.height_of self.now.dimension.now) self.now.direction in
             let line = (S.grid self.now.settings.now).draws self.now.direction self.now.count in
             IfOk result (AreMarks size line self.now.count) }
     {
@@ -169,14 +175,14 @@ impl<'a, D: Dimension, S: ConfigView> Ruler<'a, D, S> {
     /// where it lies before the first begin or not before the end of the table.
     pub fn number_at(&self, point: usize) -> Option<usize>
         requires sizes { (i : ℕ) → i < self.now.count →
-            has_along (D.has_column self.now.dim.now)
-            (D.has_row self.now.dim.now) self.now.direction i }
-        requires fits { let size = size_along (D.width_of self.now.dim.now)
-            (D.height_of self.now.dim.now) self.now.direction in
+            has_along (D.has_column self.now.dimension.now)
+            (D.has_row self.now.dimension.now) self.now.direction i }
+        requires fits { let size = size_along (D.width_of self.now.dimension.now)
+            (D.height_of self.now.dimension.now) self.now.direction in
             let line = (S.grid self.now.settings.now).draws self.now.direction self.now.count in
             total size line self.now.count < 2 ^ 64 }
-        ensures { let size = size_along (D.width_of self.now.dim.now)
-            (D.height_of self.now.dim.now) self.now.direction in
+        ensures { let size = size_along (D.width_of self.now.dimension.now)
+            (D.height_of self.now.dimension.now) self.now.direction in
             let line = (S.grid self.now.settings.now).draws self.now.direction self.now.count in
             MatchOption result ((point < offset size line 0)
             ⊎ (offset size line self.now.count ≤ point))

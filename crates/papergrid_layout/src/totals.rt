@@ -14,17 +14,18 @@ use papergrid_values::Direction;
 
 /// The total along a direction, of so many tracks.
 fn total_along<D: Dimension>(
-    dim: &D,
-    cfg: &SpannedConfig,
+    dimension: &D,
+    config: &SpannedConfig,
     direction: Direction,
     count: usize,
 ) -> Result<usize, LayoutError>
-    requires { (i : ℕ) → i < count → has_along (D.has_column dim.now)
-        (D.has_row dim.now) direction i }
-    ensures { let size = size_along (D.width_of dim.now) (D.height_of dim.now) direction in
-        IsTotalOf (total size ((spanned_grid cfg.now).draws direction count) count) result }
+    requires { (i : ℕ) → i < count → has_along (D.has_column dimension.now)
+        (D.has_row dimension.now) direction i }
+    ensures { let size = size_along (D.width_of dimension.now)
+        (D.height_of dimension.now) direction in
+        IsTotalOf (total size ((spanned_grid config.now).draws direction count) count) result }
 {
-    let ruler = Ruler::new(dim, cfg, direction, count);
+    let ruler = Ruler::new(dimension, config, direction, count);
     ruler.total().ok_or(LayoutError::TooLarge)
 }
 
@@ -37,15 +38,15 @@ fn total_along<D: Dimension>(
 ///
 /// `TooLarge` where that comes to more than the greatest `usize`, and no other one.
 pub fn total_width<D: Dimension>(
-    dim: &D,
-    cfg: &SpannedConfig,
+    dimension: &D,
+    config: &SpannedConfig,
     columns: usize,
 ) -> Result<usize, LayoutError>
-    requires { (column : ℕ) → column < columns → D.has_column dim.now column }
-    ensures { IsTotalOf (total (D.width_of dim.now)
-        ((spanned_grid cfg.now).draws Columns columns) columns) result }
+    requires { (column : ℕ) → column < columns → D.has_column dimension.now column }
+    ensures { IsTotalOf (total (D.width_of dimension.now)
+        ((spanned_grid config.now).draws Columns columns) columns) result }
 {
-    total_along(dim, cfg, Direction::Columns, columns)
+    total_along(dimension, config, Direction::Columns, columns)
 }
 
 /// The height of a table of so many rows, in lines: the sum of the heights and of the horizontal
@@ -57,13 +58,13 @@ pub fn total_width<D: Dimension>(
 ///
 /// `TooLarge` where that comes to more than the greatest `usize`, and no other one.
 pub fn total_height<D: Dimension>(
-    dim: &D,
-    cfg: &SpannedConfig,
+    dimension: &D,
+    config: &SpannedConfig,
     rows: usize,
 ) -> Result<usize, LayoutError>
-    requires { (row : ℕ) → row < rows → D.has_row dim.now row }
-    ensures { IsTotalOf (total (D.height_of dim.now)
-        ((spanned_grid cfg.now).draws Rows rows) rows) result }
+    requires { (row : ℕ) → row < rows → D.has_row dimension.now row }
+    ensures { IsTotalOf (total (D.height_of dimension.now)
+        ((spanned_grid config.now).draws Rows rows) rows) result }
 {
-    total_along(dim, cfg, Direction::Rows, rows)
+    total_along(dimension, config, Direction::Rows, rows)
 }

@@ -11,5 +11,5 @@ use Rattle.papergrid_config.specs.Grids.{spanned_grid}
 use Rattle.papergrid_walk.specs.Measures.{line_measure}
 
 -- what the widths of the columns are found for
-abbrev pub columns_of : SpannedConfig → VecRecords (String Global) → Problem
-columns_of config records = problem_of (spanned_grid config) (line_measure string_bytes) (column_count records) (map (λ row. row.items) (rows_held records).items) Columns
+abbrev pub columns_problem : SpannedConfig → VecRecords (String Global) → Problem
+columns_problem config records = problem_of (spanned_grid config) (line_measure string_bytes) (column_count records) (map (λ row. row.items) (rows_held records).items) Columns

@@ -1,10 +1,11 @@
 -- What calls that draw do to a writer.
-use Rattle.std.specs.Prelude.{◌≡◌, ◌≢◌, ◌⊎◌, ℕ, Bool, false, true, List, Option, Result, Ok, Err, take}
+use Rattle.std.specs.Prelude.{◌≡◌, ◌≢◌, ◌⊎◌, ℕ, Bool, List, Option, Result, Ok, Err, take}
 use Rattle.std.specs.Io.KnownBytes.{Appends}
 use Rattle.papergrid_values.specs.declared.position.Position.{Position}
 use Rattle.papergrid_draw.specs.Drawings.{Drawing}
 use Rattle.papergrid_draw.specs.declared.error.DrawError.{DrawError}
 use Rattle.papergrid_draw.specs.declared.error.DrawError.TheVariants as draw_errors
+use Rattle.papergrid_draw.specs.ForProofs.Sinks.{HasEnded}
 use Rattle.papergrid.specs.Pictures.{IsRefusal}
 use Rattle.papergrid.specs.declared.running.RunEnd.{RunEnd}
 use Rattle.papergrid.specs.declared.running.RunFault.{RunFault}
@@ -13,7 +14,7 @@ use Rattle.papergrid.specs.declared.running.RunFault.TheVariants as run_faults
 -- a writer, by what it tells
 module _ {W : Type 0} (contents : W → Option (List ℕ)) (has_failed has_stalled : W → Bool) where
   -- all of a text was taken
-  pub record IsTaken (old new : W) (text : List ℕ) : Type 0 where
+  pub record IsWritten (old new : W) (text : List ℕ) : Type 0 where
     pub taken : Appends (contents old) (contents new) text
     pub works : has_failed new ≡ has_failed old
     pub moves : has_stalled new ≡ has_stalled old
@@ -21,10 +22,6 @@ module _ {W : Type 0} (contents : W → Option (List ℕ)) (has_failed has_stall
   -- a beginning of it was
   abbrev pub HasBegun : W → W → List ℕ → Type 0
   HasBegun old new text = (n : ℕ) × Appends (contents old) (contents new) (take n text)
-
-  -- what is known of a writer that did not take all
-  abbrev pub HasEnded : W → W → Type 0
-  HasEnded old new = (has_failed new ≡ true) ⊎ (has_stalled old ≡ false → has_stalled new ≡ true)
 
   -- it neither failed nor stalled anew
   abbrev pub IsSteady : W → W → Type 0
@@ -36,13 +33,13 @@ module _ {W : Type 0} (contents : W → Option (List ℕ)) (has_failed has_stall
       pub fault : IsRefusal e → IsFault e
       pub nothing : IsRefusal e → new ≡ old
       pub beginning : (new ≡ old) ⊎ ((d : Drawing) × IsDrawn d × HasBegun old new (text_of d))
-      pub write : e ≡ draw_errors.Write → HasEnded old new
+      pub write : e ≡ draw_errors.Write → HasEnded contents has_failed has_stalled old new
       pub steady : (e ≡ draw_errors.Write) ⊎ IsSteady old new
       pub room : (p : Position) → e ≢ draw_errors.NoRoom p
 
     -- the text of such a drawing was written, or why it was not
     abbrev pub Draws : {A : Type 0} → W → W → Result A DrawError → Type 0
-    Draws old new (Ok x) = (d : Drawing) × IsDrawn d × IsTaken old new (text_of d)
+    Draws old new (Ok x) = (d : Drawing) × IsDrawn d × IsWritten old new (text_of d)
     Draws old new (Err e) = IsUndrawn old new e
 
   module _ (IsOutput : RunEnd → List ℕ → Type 0) where
@@ -50,10 +47,10 @@ module _ {W : Type 0} (contents : W → Option (List ℕ)) (has_failed has_stall
     pub record IsBrokenOff (old new : W) (fault : RunFault) : Type 0 where
       pub not_read : fault ≢ run_faults.Read
       pub beginning : (new ≡ old) ⊎ ((end : RunEnd) × ((output : List ℕ) × IsOutput end output × HasBegun old new output))
-      pub write : fault ≡ run_faults.Write → HasEnded old new
+      pub write : fault ≡ run_faults.Write → HasEnded contents has_failed has_stalled old new
       pub steady : (fault ≡ run_faults.Write) ⊎ IsSteady old new
 
     -- a run wrote an output, and ended accordingly, or it broke off
     abbrev pub Runs : W → W → Result RunEnd RunFault → Type 0
-    Runs old new (Ok end) = (output : List ℕ) × IsOutput end output × IsTaken old new output
+    Runs old new (Ok end) = (output : List ℕ) × IsOutput end output × IsWritten old new output
     Runs old new (Err fault) = IsBrokenOff old new fault

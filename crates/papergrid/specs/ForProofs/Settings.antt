@@ -7,7 +7,8 @@ use Rattle.papergrid_config.specs.declared.setting.Setting.{Setting}
 use Rattle.papergrid_config.specs.declared.setting.Setting.TheVariants.{SetPadding, SetColumnSpan, SetRowSpan, SetBorders, InsertVerticalLine, InsertHorizontalLine, RemoveVerticalLine, RemoveHorizontalLine}
 use Rattle.papergrid.specs.declared.script_setting.ScriptSetting.{ScriptSetting}
 use Rattle.papergrid.specs.declared.script_setting.ScriptSetting.TheVariants.{Padding, ColumnSpan, RowSpan, Border, VerticalLine, HorizontalLine, NoVerticalLine, NoHorizontalLine}
-use Rattle.papergrid.specs.Grammar.{horizontal_main, spaces, vertical_main}
+use Rattle.papergrid_maps.specs.Compact.{spaces}
+use Rattle.papergrid.specs.Grammar.{horizontal_main, vertical_main}
 
 -- so many spaces on each side
 abbrev pub spaced_sides : Sides ℕ → Sides Indent

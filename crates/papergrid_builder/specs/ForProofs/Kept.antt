@@ -5,19 +5,19 @@ use Rattle.papergrid_layout.specs.Certificates.{places_of}
 use Rattle.papergrid_layout.specs.Tables.{TableParts}
 use Rattle.papergrid_layout.specs.declared.sizing.Sizing.{Sizing}
 use Rattle.papergrid_json.specs.Documents.{AreInRange}
-use Rattle.papergrid_builder.specs.Layouts.{IsLaidOut}
+use Rattle.papergrid_builder.specs.Layouts.{IsFoundTable}
 use Rattle.papergrid_builder.specs.Told.{FoundTable, ToldTable}
 use Rattle.papergrid_builder.specs.ForProofs.Texts.{AreStarts, rows_told}
 use Rattle.papergrid_builder.specs.declared.found.Found.{Found}
 
 -- the sizes that were found, with their configuration
-abbrev pub parts_of : Found → TableParts
-parts_of found = record { config = found.config; widths = found.certified.widths.items; heights = found.certified.heights.items }
+abbrev pub found_parts : Found → TableParts
+found_parts found = record { config = found.config; widths = found.certified.widths.items; heights = found.certified.heights.items }
 
 -- what was found
 abbrev pub found_of : Found → FoundTable
 found_of found = record {
-  parts = parts_of found;
+  parts = found_parts found;
   width_certificate = places_of found.certified.width_witness;
   height_certificate = places_of found.certified.height_witness;
 }
@@ -36,4 +36,4 @@ told_by settings cells starts goes_on found picture = record {
 pub record IsKept (settings : List Setting) (cells : List (List ℕ)) (starts : List ℕ) (found : Option Found) : Type 0 where
   pub in_range : AreInRange settings
   pub within : AreStarts (length cells) starts
-  pub current : IfSome found (λ f. (sizing : Sizing) × IsLaidOut settings (rows_told cells starts) sizing (found_of f))
+  pub current : IfSome found (λ f. (sizing : Sizing) × IsFoundTable settings (rows_told cells starts) sizing (found_of f))

@@ -20,9 +20,9 @@ module _ (config : SpannedConfig) (rows : List (List (List ℕ))) (sizing : Sizi
   IsUnfound e = ⊥
 
   -- why there is no picture; an allocation may fail
-  abbrev pub IsUndrawn : BuilderError → Type 0
-  IsUndrawn (OutOfTable p) = IsFaultWith (longest rows) rows sizing config (draw_errors.OutOfTable p)
-  IsUndrawn (NotTiled p) = IsFaultWith (longest rows) rows sizing config (draw_errors.NotTiled p)
-  IsUndrawn TooLarge = IsFaultWith (longest rows) rows sizing config draw_errors.TooLarge
-  IsUndrawn Memory = ⊤
-  IsUndrawn e = ⊥
+  abbrev pub IsPictureRefused : BuilderError → Type 0
+  IsPictureRefused (OutOfTable p) = IsFaultWith (longest rows) rows sizing config (draw_errors.OutOfTable p)
+  IsPictureRefused (NotTiled p) = IsFaultWith (longest rows) rows sizing config (draw_errors.NotTiled p)
+  IsPictureRefused TooLarge = IsFaultWith (longest rows) rows sizing config draw_errors.TooLarge
+  IsPictureRefused Memory = ⊤
+  IsPictureRefused e = ⊥

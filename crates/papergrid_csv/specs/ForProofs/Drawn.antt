@@ -1,11 +1,13 @@
 -- What calls that draw the table of a CSV text do to a writer.
-use Rattle.std.specs.Prelude.{◌≡◌, ◌≢◌, ◌⊎◌, ℕ, Bool, false, true, List, [], Option, None, Some, Result, Ok, Err, length, take}
+use Rattle.std.specs.Prelude.{◌≡◌, ◌≢◌, ◌⊎◌, ℕ, Bool, false, List, [], Option, None, Some, Result, Ok, Err, length}
 use Rattle.std.specs.Io.KnownBytes.{Appends}
 use Rattle.papergrid_values.specs.declared.direction.Direction.TheVariants.{Columns}
 use Rattle.papergrid_values.specs.declared.position.Position.{Position}
 use Rattle.papergrid_config.specs.declared.setting.Setting.{Setting}
 use Rattle.papergrid_config.specs.declared.spanned.SpannedConfig.{SpannedConfig}
 use Rattle.papergrid_layout.specs.Places.{total_along}
+use Rattle.papergrid.specs.ForProofs.Drawn.{HasBegun, IsSteady}
+use Rattle.papergrid_draw.specs.ForProofs.Sinks.{HasEnded}
 use Rattle.papergrid_draw.specs.Drawings.{Drawing, layout_of}
 use Rattle.papergrid_draw.specs.Faults.{IsDrawFault}
 use Rattle.papergrid_draw.specs.Tiles.{IsFirstPosition, IsTiled}
@@ -17,7 +19,7 @@ use Rattle.papergrid_grid.specs.declared.crossings.Junctions.{Junctions}
 use Rattle.papergrid.specs.Pictures.{IsDrawingWith, IsFaultWith, IsRefusal}
 use Rattle.papergrid.specs.declared.running.RunFault.{RunFault}
 use Rattle.papergrid.specs.declared.running.RunFault.TheVariants as run_faults
-use Rattle.papergrid_csv.specs.Judging.{IsHidden, first_missing}
+use Rattle.papergrid_csv.specs.Judging.{IsFieldHidden, first_missing}
 use Rattle.papergrid_csv.specs.Pictures.{IsConfigured, IsNarrow, IsUnfitted, IsWide}
 use Rattle.papergrid_csv.specs.Requests.{first_row, settings_of}
 use Rattle.papergrid_csv.specs.Shown.{AreCut}
@@ -66,13 +68,13 @@ pub data IsSettingsRun (request : Request) (settings : List Setting) (shape : �
 -- nothing keeps rows from their picture
 pub record IsFree (request : Request) (rows : List (List (List ℕ))) : Type 0 where
   pub named : first_missing (first_row rows) request.columns.items ≡ None
-  pub seen : request.hides ≡ false → (p : Position) → IsHidden request.spans.items rows p → ⊥
+  pub seen : request.hides ≡ false → (p : Position) → IsFieldHidden request.spans.items rows p → ⊥
 
 -- a name or a span does
 abbrev pub IsKeptBy : Request → List (List (List ℕ)) → CsvEnd → Type 0
 IsKeptBy request rows (NoColumn entry) = first_missing (first_row rows) request.columns.items ≡ Some entry
 IsKeptBy request rows (Hides p) =
-    (first_missing (first_row rows) request.columns.items ≡ None) × (request.hides ≡ false) × IsFirstPosition (IsHidden request.spans.items rows) p
+    (first_missing (first_row rows) request.columns.items ≡ None) × (request.hides ≡ false) × IsFirstPosition (IsFieldHidden request.spans.items rows) p
 IsKeptBy request rows _ = ⊥
 
 -- of rows
@@ -98,33 +100,21 @@ IsFitFaultOf (Some junctions) config shape e = IsFitFault config shape e
 -- a writer, by what it tells
 module _ {W : Type 0} (contents : W → Option (List ℕ)) (has_failed has_stalled : W → Bool) where
   -- all of a text was taken; where nothing is drawn the writer is as it was
-  pub record IsTaken (end : CsvEnd) (old new : W) (text : List ℕ) : Type 0 where
+  pub record IsWrittenAs (end : CsvEnd) (old new : W) (text : List ℕ) : Type 0 where
     pub taken : Appends (contents old) (contents new) text
     pub works : has_failed new ≡ has_failed old
     pub moves : has_stalled new ≡ has_stalled old
     pub silent : (end ≡ Drawn → ⊥) → new ≡ old
 
-  -- a beginning of it was
-  abbrev pub HasBegun : W → W → List ℕ → Type 0
-  HasBegun old new text = (n : ℕ) × Appends (contents old) (contents new) (take n text)
-
-  -- what is known of a writer that did not take all
-  abbrev pub HasEnded : W → W → Type 0
-  HasEnded old new = (has_failed new ≡ true) ⊎ (has_stalled old ≡ false → has_stalled new ≡ true)
-
-  -- it neither failed nor stalled anew
-  abbrev pub IsSteady : W → W → Type 0
-  IsSteady old new = (has_failed new ≡ has_failed old) × (has_stalled new ≡ has_stalled old)
-
   module _ (IsOutput : CsvEnd → List ℕ → Type 0) where
     -- a run that broke off
-    pub record IsBrokenOff (old new : W) (fault : RunFault) : Type 0 where
+    pub record IsCsvBrokenOff (old new : W) (fault : RunFault) : Type 0 where
       pub not_read : fault ≢ run_faults.Read
-      pub beginning : (new ≡ old) ⊎ ((output : List ℕ) × IsOutput Drawn output × HasBegun old new output)
-      pub write : fault ≡ run_faults.Write → HasEnded old new
-      pub steady : (fault ≡ run_faults.Write) ⊎ IsSteady old new
+      pub beginning : (new ≡ old) ⊎ ((output : List ℕ) × IsOutput Drawn output × HasBegun contents has_failed has_stalled old new output)
+      pub write : fault ≡ run_faults.Write → HasEnded contents has_failed has_stalled old new
+      pub steady : (fault ≡ run_faults.Write) ⊎ IsSteady contents has_failed has_stalled old new
 
     -- a run wrote an output, and ended accordingly, or it broke off
-    abbrev pub Runs : W → W → Result CsvEnd RunFault → Type 0
-    Runs old new (Ok end) = (output : List ℕ) × IsOutput end output × IsTaken end old new output
-    Runs old new (Err fault) = IsBrokenOff old new fault
+    abbrev pub RunsCsv : W → W → Result CsvEnd RunFault → Type 0
+    RunsCsv old new (Ok end) = (output : List ℕ) × IsOutput end output × IsWrittenAs end old new output
+    RunsCsv old new (Err fault) = IsCsvBrokenOff old new fault

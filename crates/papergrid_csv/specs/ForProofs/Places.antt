@@ -15,6 +15,6 @@ place_after delimiter Quoted byte = if byte == 34 then Quote else Quoted
 place_after delimiter Quote byte = if byte == 34 then Quoted else plain_place delimiter byte
 
 -- after these bytes
-unfoldable pub place_at : ℕ → Place → List ℕ → Place
-place_at delimiter place [] = place
-place_at delimiter place (byte ∷ bytes) = place_at delimiter (place_after delimiter place byte) bytes
+unfoldable pub place_behind : ℕ → Place → List ℕ → Place
+place_behind delimiter place [] = place
+place_behind delimiter place (byte ∷ bytes) = place_behind delimiter (place_after delimiter place byte) bytes

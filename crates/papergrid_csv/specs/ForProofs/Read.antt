@@ -12,7 +12,7 @@ use Rattle.papergrid_csv.specs.declared.reading.RowsError.{RowsError}
 use Rattle.papergrid_csv.specs.declared.reading.RowsError.TheVariants.{Memory, NotText}
 
 -- these are the fields of the records of a text, as they are shown
-pub record AreShown (reading : Reading) (input : List ℕ) (shown : List (List (List ℕ))) : Type 0 where
+pub record AreShownFields (reading : Reading) (input : List ℕ) (shown : List (List (List ℕ))) : Type 0 where
   pub records : List (List (List ℕ))
   pub read : AreRecords (config_of reading) states.StartRecord (strip_bom input) records
   pub may : MayBeShown reading records

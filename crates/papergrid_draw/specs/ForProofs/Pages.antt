@@ -6,7 +6,7 @@ use Rattle.papergrid_layout.specs.Places.{begin_along, line_offset, offset, tota
 use Rattle.papergrid_layout.specs.Tables.{TableParts, view_of}
 use Rattle.papergrid_draw.specs.Contents.{block_at}
 use Rattle.papergrid_draw.specs.Drawings.{Drawing, layout_of}
-use Rattle.papergrid_draw.specs.Drawn.{has_vertical, owner_at}
+use Rattle.papergrid_draw.specs.Drawn.{draws_vertical, owner_at}
 use Rattle.papergrid_draw.specs.ForProofs.Looks.{IsLookedUp}
 use Rattle.papergrid_draw.specs.declared.page.Frame.{Frame}
 use Rattle.papergrid_draw.specs.declared.page.Slot.{Slot}
@@ -37,7 +37,7 @@ pub record IsFrame (parts : TableParts) (frame : Frame) : Type 0 where
   pub looks : IsLookedUp parts.config frame.looks
   pub many : length frame.verticals.items ≡ length parts.widths + 1
   pub verticals : (texts : Texts) (j : ℕ) (other : Bool) → j ≤ length parts.widths →
-      slice_index_or frame.verticals.items j other ≡ has_vertical (drawing_of parts texts) j
+      slice_index_or frame.verticals.items j other ≡ draws_vertical (drawing_of parts texts) j
 
 module _ (d : Drawing) where
   -- the line of the table on which row r begins, with the horizontal line before it
@@ -49,8 +49,8 @@ module _ (d : Drawing) where
   text_start r = offset (track_size (layout_of d) Rows) (track_line (layout_of d) Rows) r
 
   -- what is kept in column c of the cell at o that covers it, where line y of the table comes next
-  abbrev pub slot_of : {T : Type 0} → Position → ℕ → ℕ → Slot T
-  slot_of o c y = record {
+  abbrev pub slot_at : {T : Type 0} → Position → ℕ → ℕ → Slot T
+  slot_at o c y = record {
     owner = o;
     block = if o.col == c then Some (block_at d o) else None;
     drawn = y - begin_along (layout_of d) Rows o;
@@ -58,7 +58,7 @@ module _ (d : Drawing) where
 
   -- what is kept in column c of row r, where line y comes next
   abbrev pub IsSlot : {T : Type 0} → ℕ → ℕ → ℕ → Slot T → Type 0
-  IsSlot r c y slot = (o : Position) × (owner_at d r c ≡ Some o) × (slot ≡ slot_of o c y)
+  IsSlot r c y slot = (o : Position) × (owner_at d r c ≡ Some o) × (slot ≡ slot_at o c y)
 
   -- so in each column of row r, where in column c line y c comes next
   pub record AreSlots {T : Type 0} (r : ℕ) (y : ℕ → ℕ) (slots : List (Slot T)) : Type 0 where
@@ -66,7 +66,7 @@ module _ (d : Drawing) where
     pub kept : (c : ℕ) (other : Slot T) → c < d.shape.1 → IsSlot r c (y c) (slice_index_or slots c other)
 
   -- the cells of row r are taken up to column c, and from there on those of the row above are still kept
-  pub record AreSet {T : Type 0} (r c : ℕ) (slots : List (Slot T)) : Type 0 where
+  pub record AreSlotsSet {T : Type 0} (r c : ℕ) (slots : List (Slot T)) : Type 0 where
     pub each : length slots ≡ d.shape.1
     pub taken : (j : ℕ) (other : Slot T) → j < d.shape.1 → j < c →
         IsSlot r j (row_start r) (slice_index_or slots j other)

@@ -5,7 +5,7 @@ use Rattle.papergrid_values.specs.declared.position.Position.{Position}
 use Rattle.papergrid_layout.specs.Places.{TableView, extent}
 use Rattle.papergrid_draw.specs.Drawings.{Drawing, layout_of}
 use Rattle.papergrid_draw.specs.Drawn.{owner_at, stands_over}
-use Rattle.papergrid_draw.specs.Laws.{columns_of}
+use Rattle.papergrid_draw.specs.Laws.{terminal_columns}
 use Rattle.papergrid_draw.specs.Pieces.{Piece}
 
 -- of so many columns, column c lies in a range that begins in column `first c` and has `many c`
@@ -21,7 +21,7 @@ pub record AreRanges (count : ℕ) (first many : ℕ → ℕ) : Type 0 where
 pub record FillRanges (size : ℕ → ℕ) (line : ℕ → Bool) (count : ℕ) (first many : ℕ → ℕ)
     (pieces : ℕ → List Piece) : Type 0 where
   pub begun : (c : ℕ) → c < count → first c ≡ c →
-      columns_of (pieces c) ≡ cond (line c) 1 0 + extent size line c (many c)
+      terminal_columns (pieces c) ≡ cond (line c) 1 0 + extent size line c (many c)
   pub inside : (c : ℕ) → c < count → first c < c → pieces c ≡ []
 
 -- the first column of an owner's range, or that of a column alone where there is no owner

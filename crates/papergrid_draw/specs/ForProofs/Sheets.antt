@@ -14,7 +14,7 @@ use Rattle.papergrid_draw.specs.Faults.{HasNoRoom, IsDrawFault}
 use Rattle.papergrid_draw.specs.Margins.{beside, whole_width, with_margins}
 use Rattle.papergrid_draw.specs.Deliveries.{BreaksOff, TakesBeginning}
 use Rattle.papergrid_draw.specs.Tiles.{IsFirstPosition, IsTiled}
-use Rattle.papergrid_draw.specs.ForProofs.Pages.{AreSet, AreSlots, IsFrame, Texts, drawing_of, row_start, text_start}
+use Rattle.papergrid_draw.specs.ForProofs.Pages.{AreSlotsSet, AreSlots, IsFrame, Texts, drawing_of, row_start, text_start}
 use Rattle.papergrid_draw.specs.declared.error.DrawError.{DrawError}
 use Rattle.papergrid_draw.specs.declared.error.DrawError.TheVariants.{Memory, NoRoom, NotTiled, OutOfTable, TooLarge, Write}
 use Rattle.papergrid_draw.specs.declared.page.Frame.{Frame}
@@ -64,17 +64,17 @@ module _ {W : Type 0} (takes breaks : W → List ℕ → W → Type 0) where
 -- ---- the lines of a table
 
 -- what is told of cells
-abbrev pub texts_of : {C : Type 0} → (C → Position → List (List ℕ × ℕ)) → (C → Position → Option (List ℕ × List ℕ)) → C → Texts
-texts_of lines color cells = record { lines = lines cells; color = color cells }
+abbrev pub told_texts : {C : Type 0} → (C → Position → List (List ℕ × ℕ)) → (C → Position → Option (List ℕ × List ℕ)) → C → Texts
+told_texts lines color cells = record { lines = lines cells; color = color cells }
 
 module _ (d : Drawing) where
   -- what stands left and right of line y
-  abbrev pub left_of : ℕ → List ℕ
-  left_of y = beside d.config.margin.left d.config.margin_color.left d.config.margin_offset.left
+  abbrev pub left_margin_at : ℕ → List ℕ
+  left_margin_at y = beside d.config.margin.left d.config.margin_color.left d.config.margin_offset.left
       (total_along (layout_of d) Rows) y
 
-  abbrev pub right_of : ℕ → List ℕ
-  right_of y = beside d.config.margin.right d.config.margin_color.right d.config.margin_offset.right
+  abbrev pub right_margin_at : ℕ → List ℕ
+  right_margin_at y = beside d.config.margin.right d.config.margin_color.right d.config.margin_offset.right
       (total_along (layout_of d) Rows) y
 
   -- lines with their margins, from line y on
@@ -82,8 +82,8 @@ module _ (d : Drawing) where
   margined y lines = map (with_margins d) (enumerate_from y (map line_bytes lines))
 
   -- the first k text lines of row r
-  abbrev pub text_lines : ℕ → ℕ → List DrawnLine
-  text_lines r k = map (λ i. TextLine (text_line d r i)) (range_with_len 0 k)
+  abbrev pub first_text_lines : ℕ → ℕ → List DrawnLine
+  first_text_lines r k = map (λ i. TextLine (text_line d r i)) (range_with_len 0 k)
 
 -- a table, whose texts may be any, is drawn: its frame, its lines that are written, and its slots
 module _ (parts : TableParts) (texts : Texts) (frame : Frame) where
@@ -107,7 +107,7 @@ module _ (parts : TableParts) (texts : Texts) (frame : Frame) where
   pub record AtRow {T : Type 0} (r : ℕ) (sheet : Sheet) (slots : List (Slot T)) : Type 0 where
     pub frame_is : IsFrame parts frame
     pub written : sheet.written ≡ row_start (drawing_of parts texts) r
-    pub kept : AreSet (drawing_of parts texts) r 0 slots
+    pub kept : AreSlotsSet (drawing_of parts texts) r 0 slots
 
 -- ---- room
 
@@ -131,5 +131,5 @@ pub record IsPrepared (parts : TableParts) (d : Drawing) (read : Frame × ℕ) :
   pub wide : read.1 ≡ whole_width d
 
 -- why it is not drawn, but for a failed writer
-abbrev pub IsRefusal : Drawing → DrawError → Type 0
-IsRefusal d e = IsDrawFault d e × (e ≢ Write)
+abbrev pub IsDrawRefusal : Drawing → DrawError → Type 0
+IsDrawRefusal d e = IsDrawFault d e × (e ≢ Write)

@@ -7,7 +7,7 @@ use Rattle.papergrid_maps.specs.declared.anchors.Anchor.{Anchor}
 use Rattle.papergrid_walk.specs.ForProofs.Shown.{Shows}
 use Rattle.papergrid_walk.specs.ForProofs.Swept.{Walk}
 use Rattle.papergrid_layout.specs.Places.{TableView}
-use Rattle.papergrid_draw.specs.Tiles.{AreWithin, IsInTable, IsOwnedOnce, EndsOutside, Owns, owner}
+use Rattle.papergrid_draw.specs.Tiles.{AreWithin, IsTablePosition, IsOwnedOnce, EndsOutside, Owns, owner}
 use Rattle.papergrid_draw.specs.declared.tiles.Tiling.{Tiling}
 
 -- the cell at p is the owner of q, and no other visible cell covers that; p is a cell of the table, and ends in it
@@ -15,7 +15,7 @@ pub record HasOwner (table : TableView) (q p : Position) : Type 0 where
   pub is : owner table q ≡ Some p
   pub owns : Owns table p q
   pub alone : (other : Position) → Owns table other q → other ≡ p
-  pub in_table : IsInTable table p
+  pub in_table : IsTablePosition table p
   pub across : p.col + table.grid.span Columns p ≤ table.shape.1
   pub down : p.row + table.grid.span Rows p ≤ table.shape.0
 
@@ -40,7 +40,7 @@ module _ (table : TableView) (r c : ℕ) where
   pub record AreOwnedBefore (until : List ℕ) : Type 0 where
     pub each : length until ≡ table.shape.1
     pub are : (d : ℕ) → d < table.shape.1 → IsUntil d (slice_index until d)
-    pub once : (q : Position) → IsInTable table q → IsBefore q (position_of (r, c)) → IsOwnedOnce table q
+    pub once : (q : Position) → IsTablePosition table q → IsBefore q (position_of (r, c)) → IsOwnedOnce table q
 
 -- the columns of a range have numbers no greater than the row
 abbrev pub AreFree : List ℕ → ℕ → ℕ → ℕ → Type 0

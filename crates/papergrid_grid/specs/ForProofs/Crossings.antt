@@ -31,7 +31,7 @@ module _ (table : TableView) where
       && option_eq position_eq (owner table (position_of (r, j - 1))) (owner table (position_of (r, j))))
 
 -- the owners above and below the line are those of the table
-pub record IsLine (line : Line) : Type 0 where
+pub record IsCrossingLine (line : Line) : Type 0 where
   pub within : line.row ≤ line.shape.0
   pub many_above : length line.above.now ≡ line.shape.1
   pub many_below : length line.below.now ≡ line.shape.1
@@ -75,7 +75,7 @@ module _ (config : SpannedConfig) (shape : ℕ × ℕ) where
       pub other : crossing_character config shape mark.0 ≢ mark.1
 
     -- the crossings before (i, j), by row and then by column, are fitted, and no later one is marked
-    pub record AreFitted (i j : ℕ) (settings : List Setting) : Type 0 where
+    pub record AreFittedBefore (i j : ℕ) (settings : List Setting) : Type 0 where
       pub marks : List (Position × ℕ)
       pub are : settings ≡ map setting_of marks
       pub each : All IsMark marks

@@ -2,7 +2,7 @@
 
 ghost use Rattle.std.specs.Prelude.{IfOk};
 ghost use Rattle.papergrid_tracks.specs.Answers.{AreSizes, IsTotal};
-ghost use Rattle.papergrid_layout_checks.specs.Strings.{columns_of};
+ghost use Rattle.papergrid_layout_checks.specs.Strings.{columns_problem};
 
 use papergrid_config::SpannedConfig;
 use papergrid_layout::{Estimate, IterGridDimension, LayoutError, total_width};
@@ -14,7 +14,7 @@ pub fn of_held(
     records: VecRecords<String>,
     config: &SpannedConfig,
 ) -> Result<Vec<usize>, LayoutError>
-    ensures { IfOk result (λ widths. AreSizes (columns_of config.now records) widths.items) }
+    ensures { IfOk result (λ widths. AreSizes (columns_problem config.now records) widths.items) }
 {
     match IterGridDimension::width(alloc, records, config) {
         Ok(widths) => Ok(widths),
@@ -27,7 +27,8 @@ pub fn of_lent(
     records: &VecRecords<String>,
     config: &SpannedConfig,
 ) -> Result<Vec<usize>, LayoutError>
-    ensures { IfOk result (λ widths. AreSizes (columns_of config.now records.now) widths.items) }
+    ensures { IfOk result (λ widths.
+        AreSizes (columns_problem config.now records.now) widths.items) }
 {
     match IterGridDimension::width(alloc, records, config) {
         Ok(widths) => Ok(widths),
@@ -41,7 +42,7 @@ pub fn width_by_estimate(
     records: VecRecords<String>,
     config: &SpannedConfig,
 ) -> Result<usize, LayoutError>
-    ensures { IfOk result (λ width. IsTotal (columns_of config.now records) width) }
+    ensures { IfOk result (λ width. IsTotal (columns_problem config.now records) width) }
 {
     let columns = records.count_columns();
     let mut dimension = IterGridDimension::new(alloc);

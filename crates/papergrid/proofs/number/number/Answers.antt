@@ -6,12 +6,12 @@ use Rattle.std.specs.Str.{all_ascii_digits}
 use Rattle.std.specs.Str.Parse.{digits_value}
 use Rattle.std.proofs.lemmas.Bool.Decides.{nat_tests}
 use Rattle.std.proofs.lemmas.Str.Parse.{parse_digits, numerals_by_value, tells_all_ascii_digits}
-use Rattle.papergrid.specs.Grammar.{number_of}
+use Rattle.papergrid.specs.Grammar.{number_said}
 use Rattle.papergrid.proofs.number.number.Goals as goal
 
 read : {E : Type 0} (bs : List ℕ) (r : Result ℕ E) → all_ascii_digits bs ≡ true
-    → OkIff r ((0 < length bs) × (digits_value 10 bs < 2 ^ 64)) (digits_value 10 bs) → result_ok r ≡ number_of bs
-unfolding number_of
+    → OkIff r ((0 < length bs) × (digits_value 10 bs < 2 ^ 64)) (digits_value 10 bs) → result_ok r ≡ number_said bs
+unfolding number_said
 read bs (Ok x) digits told = grind (arith, nat_tests)
 read bs (Err e) digits told = grind (arith, nat_tests)
 
@@ -19,8 +19,8 @@ same : (bs : List ℕ) → list_all is_ascii_digit bs ≡ all_ascii_digits bs
 same [] = refl
 same (b ∷ bs) = ap (λ rest. is_ascii_digit b && rest) (same bs)
 
-none : (bs : List ℕ) → list_all is_ascii_digit bs ≡ false → None ≡ number_of bs
-unfolding number_of
+none : (bs : List ℕ) → list_all is_ascii_digit bs ≡ false → None ≡ number_said bs
+unfolding number_said
 none bs h = let e : all_ascii_digits bs ≡ false = sym (same bs) ∙ h in rw e refl
 
 pub returns-then-not-all_digits : goal.returns-then-not-all_digits

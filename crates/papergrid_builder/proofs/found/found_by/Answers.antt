@@ -1,5 +1,5 @@
 use Rattle.std.proofs.Common.{◌≡◌, ◌∙◌, IfErr, IfOk, ap, subst}
-use Rattle.papergrid_builder.specs.Layouts.{IsLaidOut, IsNotLaidOut}
+use Rattle.papergrid_builder.specs.Layouts.{IsFoundTable, IsNoFoundTable}
 use Rattle.papergrid_builder.specs.ForProofs.Kept.{found_of}
 use Rattle.papergrid_builder.specs.ForProofs.Texts.{rows_lent, rows_told, texts_lent}
 use Rattle.papergrid_builder.proofs.TextLemmas.{starts-lent}
@@ -12,10 +12,10 @@ pub returns-clause-ok : goal.returns-clause-ok
 returns-clause-ok c =
     let lent : rows_lent c.deref-2.result.now ≡ rows_told c.args.cells.now c.args.starts.now =
     ap rows_lent c.deref-2.ensures.value ∙ c.in_ok-rows.ensures ∙ ap (λ cells. rows_told cells c.args.starts.now) (ap texts_lent c.deref.ensures.value ∙ c.in_ok-texts.ensures) in
-    subst (λ rows. IfOk c.found_in.result (λ found. IsLaidOut c.args.settings.now.items rows c.args.sizing (found_of found.0))) lent c.found_in.ensures.ok
+    subst (λ rows. IfOk c.found_in.result (λ found. IsFoundTable c.args.settings.now.items rows c.args.sizing (found_of found.0))) lent c.found_in.ensures.ok
 
 pub returns-clause-err : goal.returns-clause-err
 returns-clause-err c =
     let lent : rows_lent c.deref-2.result.now ≡ rows_told c.args.cells.now c.args.starts.now =
     ap rows_lent c.deref-2.ensures.value ∙ c.in_ok-rows.ensures ∙ ap (λ cells. rows_told cells c.args.starts.now) (ap texts_lent c.deref.ensures.value ∙ c.in_ok-texts.ensures) in
-    subst (λ rows. IfErr c.found_in.result (IsNotLaidOut c.args.settings.now.items rows c.args.sizing)) lent c.found_in.ensures.err
+    subst (λ rows. IfErr c.found_in.result (IsNoFoundTable c.args.settings.now.items rows c.args.sizing)) lent c.found_in.ensures.err

@@ -1,6 +1,6 @@
 use Rattle.std.proofs.Common.{w32}
 use Rattle.std.proofs.lemmas.Int.{to_z-of_z}
-use Rattle.papergrid_builder.specs.Calls.{AreNoRows, HasRows}
+use Rattle.papergrid_builder.specs.Calls.{AreNoRows, GainsRows}
 use Rattle.papergrid_c.proofs.CallLemmas.{ended}
 use Rattle.papergrid_c.proofs.told.papergrid_push_rows.Goals as goal
 
@@ -8,7 +8,7 @@ use Rattle.papergrid_c.proofs.told.papergrid_push_rows.Goals as goal
 pub returns-in-Some : goal.returns-in-Some
 returns-in-Some c =
     let told = c.push_rows-answer.ensures in
-    let pushed = ended (HasRows c.args.cell_end c.args.row_end c.args.text.now c.deref_mut.result.now) (AreNoRows c.args.cell_end c.args.row_end c.args.text.now)
+    let pushed = ended (GainsRows c.args.cell_end c.args.row_end c.args.text.now c.deref_mut.result.now) (AreNoRows c.args.cell_end c.args.row_end c.args.text.now)
     c.deref_mut.result.now c.push_rows-answer.new.self c.number.result c.push_rows-answer.result told.ok told.refused told.err c.number.ensures in
     rw (c.in-Some.ensures.builder, to_z-of_z w32 c.number.result (record { sfits = c.number.type_inv }))
     (c.push_rows-answer.new.self, c.of.ensures, rw c.deref_mut.ensures.value at pushed)

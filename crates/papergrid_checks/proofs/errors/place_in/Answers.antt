@@ -1,6 +1,6 @@
 use Rattle.papergrid_tracks.specs.Answers.{AreSizes}
 use Rattle.papergrid_config.specs.Grids.{spanned_grid}
-use Rattle.papergrid_checks.specs.Rows.{cells_of, text_measure}
+use Rattle.papergrid_checks.specs.Rows.{cells_of, lent_measure}
 use Rattle.papergrid_checks.proofs.RowLemmas.{both_told}
 use Rattle.papergrid_checks.proofs.errors.place_in.Goals as goal
 
@@ -8,5 +8,5 @@ pub returns : goal.returns
 returns c =
     let gave = rw c.in_ok-context.ensures at c.estimate.ensures.ok in
     let told = rw c.new.ensures at gave in
-    let both = both_told (spanned_grid c.args.config.now) (λ cell. cell.now) text_measure 3 (cells_of c.args.rows.now) told.0 told.1 AreSizes c.estimate.new.self.widths c.estimate.new.self.heights told.2 in
+    let both = both_told (spanned_grid c.args.config.now) (λ cell. cell.now) lent_measure 3 (cells_of c.args.rows.now) told.0 told.1 AreSizes c.estimate.new.self.widths c.estimate.new.self.heights told.2 in
     (c.estimate.new.self.widths, c.estimate.new.self.heights, both, c.in_ok-place.ensures.exact)

@@ -1,9 +1,9 @@
 use Rattle.papergrid.specs.Grids.{grid_of}
-use Rattle.papergrid_checks.specs.Rows.{cells_of, text_measure}
+use Rattle.papergrid_checks.specs.Rows.{cells_of, lent_measure}
 use Rattle.papergrid_checks.proofs.RowLemmas.{laid_told}
 use Rattle.papergrid_checks.proofs.settings.laid_out.Goals as goal
 
 pub returns : goal.returns
 returns c =
     let told = rw c.new.ensures at c.layout.ensures.sizes in
-    laid_told (grid_of c.args.settings.items) (λ cell. cell.now) text_measure 3 (cells_of c.args.rows.now) _ told
+    laid_told (grid_of c.args.settings.items) (λ cell. cell.now) lent_measure 3 (cells_of c.args.rows.now) _ told

@@ -3,7 +3,7 @@ use Rattle.std.proofs.lemmas.List.{take_all}
 use Rattle.std.specs.Prelude.{MatchOption}
 use Rattle.papergrid_values.specs.declared.position.Position.{Position}
 use Rattle.papergrid_draw.specs.Tiles.{IsFirstPosition}
-use Rattle.papergrid_csv.specs.Judging.{IsHidden}
+use Rattle.papergrid_csv.specs.Judging.{IsFieldHidden}
 use Rattle.papergrid_csv.specs.Rows.{row_texts}
 use Rattle.papergrid_csv.proofs.JudgingLemmas.{span-next}
 use Rattle.papergrid_csv.proofs.judging.first_hidden.Goals as goal
@@ -15,5 +15,5 @@ loop-span-preserved c =
 
 pub returns : goal.returns
 returns c =
-    subst (λ spans. MatchOption c.loop-span.first ((p : Position) → IsHidden spans (map row_texts c.args.rows.now) p → ⊥) (IsFirstPosition (IsHidden spans (map row_texts c.args.rows.now))))
+    subst (λ spans. MatchOption c.loop-span.first ((p : Position) → IsFieldHidden spans (map row_texts c.args.rows.now) p → ⊥) (IsFirstPosition (IsFieldHidden spans (map row_texts c.args.rows.now))))
     (take_all c.loop-span.span-index c.args.spans.now c.loop-span-test.false) c.loop-span.invariant

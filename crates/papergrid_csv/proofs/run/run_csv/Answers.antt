@@ -1,6 +1,6 @@
 use Rattle.std.proofs.Common.{◌∙◌, subst}
 use Rattle.papergrid_csv.specs.Pictures.{IsCsvRun}
-use Rattle.papergrid_csv.specs.ForProofs.Drawn.{Runs}
+use Rattle.papergrid_csv.specs.ForProofs.Drawn.{RunsCsv}
 use Rattle.papergrid_csv.proofs.DrawLemmas.{runs-begun, runs-steady}
 use Rattle.papergrid_csv.proofs.run.run_csv.Goals as goal
 
@@ -18,5 +18,5 @@ pub returns-clause-beginning : goal.returns-clause-beginning
 returns-clause-beginning g c =
     runs-begun g.W.Sink.contents g.W.Sink.has_failed g.W.Sink.has_stalled (IsCsvRun c.args.request.now c.in_ok-input.field-0.items)
     c.args.writer.now c.draw_input.new.writer c.draw_input.result
-    (subst (λ input. Runs g.W.Sink.contents g.W.Sink.has_failed g.W.Sink.has_stalled (IsCsvRun c.args.request.now input) c.args.writer.now c.draw_input.new.writer c.draw_input.result)
+    (subst (λ input. RunsCsv g.W.Sink.contents g.W.Sink.has_failed g.W.Sink.has_stalled (IsCsvRun c.args.request.now input) c.args.writer.now c.draw_input.new.writer c.draw_input.result)
     c.as_slice.ensures.value c.draw_input.ensures)

@@ -2,7 +2,7 @@ use Rattle.std.proofs.Common.{map, subst}
 use Rattle.std.specs.List.{AllZip}
 use Rattle.std.proofs.lemmas.List.{take_all}
 use Rattle.papergrid_csv.specs.Cutting.{IsCut}
-use Rattle.papergrid_csv.specs.Rows.{row_texts, texts_of}
+use Rattle.papergrid_csv.specs.Rows.{row_texts, held_texts}
 use Rattle.papergrid_csv.proofs.ShownLemmas.{zip-next}
 use Rattle.papergrid_csv.proofs.shown.cut_rows.Goals as goal
 
@@ -14,5 +14,5 @@ loop-row-preserved c =
 
 pub returns : goal.returns
 returns c =
-    subst (λ rows. AllZip (AllZip (IsCut c.args.columns)) (map row_texts rows) (texts_of c.loop-row.shown))
+    subst (λ rows. AllZip (AllZip (IsCut c.args.columns)) (map row_texts rows) (held_texts c.loop-row.shown))
     (take_all c.loop-row.row-index c.args.rows.now c.loop-row-test.false) c.loop-row.invariant

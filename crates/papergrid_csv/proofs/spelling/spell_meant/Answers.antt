@@ -3,7 +3,7 @@ use Rattle.std.specs.Prelude.{string_bytes}
 use Rattle.std.proofs.lemmas.Bool.Decides.{nat_tests}
 use Rattle.std.proofs.lemmas.Iterator.{YieldsList-from_chars}
 use Rattle.std.proofs.lemmas.Iterator.Consumers.{YieldsList-end}
-use Rattle.papergrid_csv.specs.Spelling.{unescaped}
+use Rattle.papergrid_csv.specs.Spelling.{without_escapes}
 use Rattle.papergrid_csv.proofs.EscapeLemmas.{all_spelled, settled-all, settled-last, settled-pair, settled-plain}
 use Rattle.papergrid_csv.proofs.spelling.spell_meant.Goals as goal
 use Rattle.papergrid_csv.proofs.spelling.spell_meant.Goals.{then-held-2+in_ok-push_spelled-2, else-held-2}
@@ -19,10 +19,10 @@ loop-c-preserved c =
 pub returns : goal.returns
 returns c =
     let end = YieldsList-end (YieldsList-from_chars c.args.field.now c.utf8.field cc) c.loop-c.yielded _ c.loop-c.yielded_by _ _ c.in-None.is c.next.ensures.steps in
-    let all : string_bytes c.if-held-2.text ≡ all_spelled c.args.reading (unescaped c.loop-c.yielded) =
+    let all : string_bytes c.if-held-2.text ≡ all_spelled c.args.reading (without_escapes c.loop-c.yielded) =
     elim c.if-held-2.branch [
       | then-held-2+in_ok-push_spelled-2 w ↦
           ap string_bytes w.text-is ∙ settled-last c.args.reading c.loop-c.yielded _ _ c.loop-c.held w.if-held-2.true c.loop-c.invariant w.in_ok-push_spelled-2.ensures
       | else-held-2 w ↦ ap string_bytes w.text-is ∙ settled-all c.args.reading c.loop-c.yielded _ c.loop-c.held w.if-held-2.false c.loop-c.invariant
     ] in
-    c.into_bump_str.ensures ∙ all ∙ ap (λ cs. all_spelled c.args.reading (unescaped cs)) (sym (map-id c.loop-c.yielded) ∙ end.0)
+    c.into_bump_str.ensures ∙ all ∙ ap (λ cs. all_spelled c.args.reading (without_escapes cs)) (sym (map-id c.loop-c.yielded) ∙ end.0)

@@ -1,6 +1,6 @@
 use Rattle.std.proofs.Common.{◌∙◌, subst}
 use Rattle.papergrid_csv.specs.Within.{IsRunWithin}
-use Rattle.papergrid_csv.specs.ForProofs.Drawn.{Runs}
+use Rattle.papergrid_csv.specs.ForProofs.Drawn.{RunsCsv}
 use Rattle.papergrid_csv.proofs.DrawLemmas.{runs-begun, runs-steady}
 use Rattle.papergrid_csv.proofs.within.run_csv_within.Goals as goal
 
@@ -18,5 +18,5 @@ pub returns-clause-beginning : goal.returns-clause-beginning
 returns-clause-beginning g c =
     runs-begun g.W.Sink.contents g.W.Sink.has_failed g.W.Sink.has_stalled (IsRunWithin c.args.request.now c.args.width c.in_ok-input.field-0.items c.draw_within.new.request.cut)
     c.args.writer.now c.draw_within.new.writer c.draw_within.result
-    (subst (λ input. Runs g.W.Sink.contents g.W.Sink.has_failed g.W.Sink.has_stalled (IsRunWithin c.args.request.now c.args.width input c.draw_within.new.request.cut) c.args.writer.now c.draw_within.new.writer c.draw_within.result)
+    (subst (λ input. RunsCsv g.W.Sink.contents g.W.Sink.has_failed g.W.Sink.has_stalled (IsRunWithin c.args.request.now c.args.width input c.draw_within.new.request.cut) c.args.writer.now c.draw_within.new.writer c.draw_within.result)
     c.as_slice.ensures.value c.draw_within.ensures.runs)

@@ -2,7 +2,7 @@ use Rattle.std.proofs.Common.{arith}
 use Rattle.papergrid_values.specs.Positions.{position_of}
 use Rattle.papergrid_draw.specs.Drawings.{drawn_of}
 use Rattle.papergrid_draw.specs.ForProofs.Pages.{IsSlot, text_start}
-use Rattle.papergrid_draw.specs.ForProofs.Sheets.{texts_of}
+use Rattle.papergrid_draw.specs.ForProofs.Sheets.{told_texts}
 use Rattle.papergrid_draw.proofs.PlainLemmas.{one-more, plain-inside, plain-slot}
 use Rattle.papergrid_draw.proofs.RuleLemmas.{column-in, columns-all}
 use Rattle.papergrid_draw.proofs.plain.plain_slots.Goals as goal
@@ -10,7 +10,7 @@ use Rattle.papergrid_draw.proofs.plain.plain_slots.Goals as goal
 pub loop-col-preserved : goal.loop-col-preserved
 loop-col-preserved g c =
     let parts = c.args.frame.now.table.now in
-    let texts = texts_of g.S.Cells.lines g.S.Cells.color c.args.cells.now in
+    let texts = told_texts g.S.Cells.lines g.S.Cells.color c.args.cells.now in
     let d = drawn_of g.S.Cells.lines g.S.Cells.color parts c.args.cells.now in
     let row = c.args.row in
     let col = c.loop-col.col in

@@ -6,7 +6,7 @@ use Rattle.papergrid_values.specs.declared.direction.Direction.TheVariants.{Rows
 use Rattle.papergrid_draw.specs.Drawings.{drawn_of}
 use Rattle.papergrid_draw.specs.Drawn.{TextLine, text_line}
 use Rattle.papergrid_draw.specs.ForProofs.Pages.{text_start}
-use Rattle.papergrid_draw.specs.ForProofs.Sheets.{WritesLines, margined, texts_of}
+use Rattle.papergrid_draw.specs.ForProofs.Sheets.{WritesLines, margined, told_texts}
 use Rattle.papergrid_draw.proofs.SheetLemmas.{lines-refused}
 use Rattle.papergrid_draw.proofs.PrinterLemmas.{one-margined, text-within}
 use Rattle.papergrid_draw.proofs.plain_rows.draw_low_row.Goals as goal
@@ -32,7 +32,7 @@ end_beside-requires g c =
 pub returns-clause-lines : goal.returns-clause-lines
 returns-clause-lines g c =
     let parts = c.args.frame.now.table.now in
-    let texts = texts_of g.S.Cells.lines g.S.Cells.color c.args.cells.now in
+    let texts = told_texts g.S.Cells.lines g.S.Cells.color c.args.cells.now in
     let d = drawn_of g.S.Cells.lines g.S.Cells.color parts c.args.cells.now in
     subst (λ y. WritesLines g.D.Delivery.takes g.D.Delivery.breaks c.args.writer.now c.end_beside.new.writer c.args.sheet.now.begun c.end_beside.new.sheet.begun
     (margined d y (TextLine (text_line d c.args.row 0) ∷ [])) c.end_beside.result) c.requires.start

@@ -3,7 +3,7 @@ use Rattle.std.proofs.lemmas.Result.{err_from_is_err_and}
 use Rattle.papergrid_draw.specs.Drawings.{drawn_of}
 use Rattle.papergrid_draw.specs.Drawn.{rule_lines}
 use Rattle.papergrid_draw.specs.ForProofs.Pages.{row_start}
-use Rattle.papergrid_draw.specs.ForProofs.Sheets.{WritesLines, margined, texts_of}
+use Rattle.papergrid_draw.specs.ForProofs.Sheets.{WritesLines, margined, told_texts}
 use Rattle.papergrid_draw.proofs.SheetLemmas.{lines-none, lines-refused}
 use Rattle.papergrid_draw.proofs.PrinterLemmas.{drawn-all, drawn-cut, first_rows-next}
 use Rattle.papergrid_draw.proofs.plain_rows.draw_plain_rows.Goals as goal
@@ -46,7 +46,7 @@ draw_plain_rule-requires-clause-start g c = λ texts.
 pub returns : goal.returns
 returns g c =
     let parts = c.args.frame.now.table.now in
-    let texts = texts_of g.S.Cells.lines g.S.Cells.color c.args.cells.now in
+    let texts = told_texts g.S.Cells.lines g.S.Cells.color c.args.cells.now in
     let d = drawn_of g.S.Cells.lines g.S.Cells.color parts c.args.cells.now in
     let last : c.loop-row.row ≡ c.args.frame.now.shape.0 = omega arith in
     let end : c.loop-row.row ≡ length parts.heights = omega (arith, ap (λ s. s.0) c.requires.frame.shape) in

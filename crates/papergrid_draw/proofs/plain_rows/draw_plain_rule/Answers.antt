@@ -3,7 +3,7 @@ use Rattle.std.proofs.lemmas.Result.{err_from_is_err_and, on_ok_weaker}
 use Rattle.papergrid_layout.specs.Places.{total_along}
 use Rattle.papergrid_layout.specs.Tables.{view_of}
 use Rattle.papergrid_values.specs.declared.direction.Direction.TheVariants.{Rows}
-use Rattle.papergrid_draw.specs.Drawn.{RuleLine, has_horizontal, rule_line}
+use Rattle.papergrid_draw.specs.Drawn.{RuleLine, draws_horizontal, rule_line}
 use Rattle.papergrid_draw.specs.ForProofs.Pages.{Texts, drawing_of, row_start}
 use Rattle.papergrid_draw.specs.ForProofs.Sheets.{WritesLines, margined}
 use Rattle.papergrid_draw.proofs.SheetLemmas.{lines-none, lines-refused}
@@ -14,7 +14,7 @@ pub returns-then-is_none-clause-lines : goal.returns-then-is_none-clause-lines
 returns-then-is_none-clause-lines g c = λ texts.
     let parts = c.args.frame.now.table.now in
     let d = drawing_of parts texts in
-    let hasnt : has_horizontal d c.args.row ≡ false =
+    let hasnt : draws_horizontal d c.args.row ≡ false =
     line-told parts parts texts c.args.row c.horizontal_at.result false refl c.requires.row_in c.horizontal_at.ensures c.if-is_none.ensures in
     subst (λ lines. WritesLines g.D.Delivery.takes g.D.Delivery.breaks {A = Unit {0}} c.args.writer.now c.args.writer.now c.args.sheet.now.begun c.args.sheet.now.begun
     (margined d (row_start d c.args.row) lines) (Ok tt))
@@ -24,9 +24,9 @@ pub returns-then-is_none-clause-written : goal.returns-then-is_none-clause-writt
 returns-then-is_none-clause-written g c = λ texts below.
     let parts = c.args.frame.now.table.now in
     let d = drawing_of parts texts in
-    let hasnt : has_horizontal d c.args.row ≡ false =
+    let hasnt : draws_horizontal d c.args.row ≡ false =
     line-told parts parts texts c.args.row c.horizontal_at.result false refl c.requires.row_in c.horizontal_at.ensures c.if-is_none.ensures in
-    let none : cond {A = ℕ} (has_horizontal d c.args.row) 1 0 ≡ 0 = ap (λ b. cond {A = ℕ} b 1 0) hasnt in
+    let none : cond {A = ℕ} (draws_horizontal d c.args.row) 1 0 ≡ 0 = ap (λ b. cond {A = ℕ} b 1 0) hasnt in
     omega (arith, c.requires.start texts, text-after d c.args.row, none)
 
 pub returns-in_err-begin_beside-clause-lines : goal.returns-in_err-begin_beside-clause-lines
@@ -44,7 +44,7 @@ end_beside-requires g c =
     let parts = c.args.frame.now.table.now in
     let texts : Texts = record { lines = λ _. []; color = λ _. None } in
     let d = drawing_of parts texts in
-    let has : has_horizontal d c.args.row ≡ true =
+    let has : draws_horizontal d c.args.row ≡ true =
     line-told parts parts texts c.args.row c.horizontal_at.result true refl c.requires.row_in c.horizontal_at.ensures c.if-is_none.ensures in
     let within : row_start d c.args.row < total_along (view_of parts) Rows = rule-within d c.args.row c.requires.row_in has in
     omega (arith, within, c.requires.frame.fit, c.requires.start texts, c.in_ok-begin_beside.ensures.written)
@@ -53,7 +53,7 @@ pub returns-clause-lines : goal.returns-clause-lines
 returns-clause-lines g c = λ texts.
     let parts = c.args.frame.now.table.now in
     let d = drawing_of parts texts in
-    let has : has_horizontal d c.args.row ≡ true =
+    let has : draws_horizontal d c.args.row ≡ true =
     line-told parts parts texts c.args.row c.horizontal_at.result true refl c.requires.row_in c.horizontal_at.ensures c.if-is_none.ensures in
     subst (λ lines. WritesLines g.D.Delivery.takes g.D.Delivery.breaks c.args.writer.now c.end_beside.new.writer c.args.sheet.now.begun c.end_beside.new.sheet.begun
     (margined d (row_start d c.args.row) lines) c.end_beside.result)
@@ -71,8 +71,8 @@ pub returns-clause-written : goal.returns-clause-written
 returns-clause-written g c = on_ok_weaker c.end_beside.result (λ more texts below.
     let parts = c.args.frame.now.table.now in
     let d = drawing_of parts texts in
-    let has : has_horizontal d c.args.row ≡ true =
+    let has : draws_horizontal d c.args.row ≡ true =
     line-told parts parts texts c.args.row c.horizontal_at.result true refl c.requires.row_in c.horizontal_at.ensures c.if-is_none.ensures in
-    let one : cond {A = ℕ} (has_horizontal d c.args.row) 1 0 ≡ 1 = ap (λ b. cond {A = ℕ} b 1 0) has in
+    let one : cond {A = ℕ} (draws_horizontal d c.args.row) 1 0 ≡ 1 = ap (λ b. cond {A = ℕ} b 1 0) has in
     omega (arith, more, c.in_ok-begin_beside.ensures.written, c.requires.start texts, text-after d c.args.row, one))
     c.end_beside.ensures.written

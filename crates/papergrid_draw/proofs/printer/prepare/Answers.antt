@@ -5,7 +5,7 @@ use Rattle.papergrid_layout.specs.Tables.{TableParts, view_of}
 use Rattle.papergrid_draw.specs.Drawings.{drawn_of}
 use Rattle.papergrid_draw.specs.Faults.{AllHaveRoom}
 use Rattle.papergrid_draw.specs.Tiles.{IsTiled}
-use Rattle.papergrid_draw.specs.ForProofs.Sheets.{IsRoomFault, texts_of}
+use Rattle.papergrid_draw.specs.ForProofs.Sheets.{IsRoomFault, told_texts}
 use Rattle.papergrid_draw.proofs.RefusalLemmas.{large-refusal, room-refusal, tile-refusal, width-found}
 use Rattle.papergrid_draw.proofs.printer.prepare.Goals as goal
 
@@ -39,11 +39,11 @@ returns-in_err-width-clause-err g c =
     let tiled = c.in_ok-check_tiles.ensures.ok (view_of c.args.table.now) (ap spanned_grid (sym c.config-config.ensures)) (sym c.shape.ensures) in
     let room : AllHaveRoom d = subst (λ (t : TableParts). AllHaveRoom (drawn_of g.S.Cells.lines g.S.Cells.color t c.args.cells.now)) c.in_ok-frame.ensures.table c.in_ok-find_room.ensures.ok in
     let p = err_from_is_err_and c.from_residual-in_err-width.result c.from_residual-in_err-width.ensures.1 in
-    rw (p.1, p.2) (large-refusal d c.whole_width.result _ tiled room (c.whole_width.ensures (texts_of g.S.Cells.lines g.S.Cells.color c.args.cells.now)) c.in_err-width.ensures.value)
+    rw (p.1, p.2) (large-refusal d c.whole_width.result _ tiled room (c.whole_width.ensures (told_texts g.S.Cells.lines g.S.Cells.color c.args.cells.now)) c.in_err-width.ensures.value)
 
 pub returns-clause-ok : goal.returns-clause-ok
 returns-clause-ok g c = record {
   frame_is = c.in_ok-frame.ensures;
   tiled = c.in_ok-check_tiles.ensures.ok (view_of c.args.table.now) (ap spanned_grid (sym c.config-config.ensures)) (sym c.shape.ensures);
-  wide = width-found c.whole_width.result _ _ _ (c.whole_width.ensures (texts_of g.S.Cells.lines g.S.Cells.color c.args.cells.now)) c.in_ok-width.ensures.value;
+  wide = width-found c.whole_width.result _ _ _ (c.whole_width.ensures (told_texts g.S.Cells.lines g.S.Cells.color c.args.cells.now)) c.in_ok-width.ensures.value;
 }

@@ -5,9 +5,9 @@ use Rattle.papergrid_config.specs.Grids.{spanned_grid}
 use Rattle.papergrid_walk.specs.ForProofs.Shown.{anchor_in}
 use Rattle.papergrid_layout.specs.Places.{IsVisibleCell}
 use Rattle.papergrid_layout.specs.Tables.{view_of}
-use Rattle.papergrid_draw.specs.Contents.{HasRoom, block_at}
+use Rattle.papergrid_draw.specs.Contents.{FitsPlace, block_at}
 use Rattle.papergrid_draw.specs.Drawings.{drawn_of}
-use Rattle.papergrid_draw.specs.ForProofs.Sheets.{texts_of}
+use Rattle.papergrid_draw.specs.ForProofs.Sheets.{told_texts}
 use Rattle.papergrid_draw.proofs.RoomLemmas.{first-without, inside-of, room-more, shown-of}
 use Rattle.papergrid_draw.proofs.room.check_cell.Goals as goal
 
@@ -33,7 +33,7 @@ returns-in_default-clause-ok g c =
     let shown : table.grid.shows p ≡ true =
     shown-of (table.grid.shows p) (anchor_in table.grid p) c.in_ok-visible_anchor.field-0 true (c.in_ok-visible_anchor.ensures.visible table.grid c.requires.shows) c.if-is_none.ensures in
     let cell : IsVisibleCell table p = record { visible = shown; row_in = c.requires.row_in; col_in = c.requires.col_in } in
-    absurd (none-some _ (sym c.in_default.is ∙ c.block.ensures c.args.frame.now.table.now (texts_of g.S.Cells.lines g.S.Cells.color c.args.cells.now) c.requires.frame (inside-of table p c.requires.tiled cell)
+    absurd (none-some _ (sym c.in_default.is ∙ c.block.ensures c.args.frame.now.table.now (told_texts g.S.Cells.lines g.S.Cells.color c.args.cells.now) c.requires.frame (inside-of table p c.requires.tiled cell)
     c.in_ok-cell.ensures c.color.ensures))
 
 pub returns-then-not-has_room-clause-err : goal.returns-then-not-has_room-clause-err
@@ -44,11 +44,11 @@ returns-then-not-has_room-clause-err g c =
     let shown : table.grid.shows p ≡ true =
     shown-of (table.grid.shows p) (anchor_in table.grid p) c.in_ok-visible_anchor.field-0 true (c.in_ok-visible_anchor.ensures.visible table.grid c.requires.shows) c.if-is_none.ensures in
     let cell : IsVisibleCell table p = record { visible = shown; row_in = c.requires.row_in; col_in = c.requires.col_in } in
-    let told = c.block.ensures c.args.frame.now.table.now (texts_of g.S.Cells.lines g.S.Cells.color c.args.cells.now) c.requires.frame (inside-of table p c.requires.tiled cell)
+    let told = c.block.ensures c.args.frame.now.table.now (told_texts g.S.Cells.lines g.S.Cells.color c.args.cells.now) c.requires.frame (inside-of table p c.requires.tiled cell)
     c.in_ok-cell.ensures c.color.ensures in
     let same : c.in-Some.block ≡ block_at d p = cc (told, c.in-Some.is) in
-    let told_none : (IsTrue false → HasRoom c.in-Some.block) × (HasRoom c.in-Some.block → IsTrue false) = c.if-not-has_room.ensures in
-    first-without d p (record { is_cell = cell; lacks = λ room. false≢true (told_none.1 (subst HasRoom (sym same) room)) }) c.requires.before
+    let told_none : (IsTrue false → FitsPlace c.in-Some.block) × (FitsPlace c.in-Some.block → IsTrue false) = c.if-not-has_room.ensures in
+    first-without d p (record { is_cell = cell; lacks = λ room. false≢true (told_none.1 (subst FitsPlace (sym same) room)) }) c.requires.before
 
 pub returns-clause-shows : goal.returns-clause-shows
 returns-clause-shows g c = c.in_ok-visible_anchor.ensures.later (spanned_grid c.args.frame.now.table.now.config) c.requires.shows
@@ -61,8 +61,8 @@ returns-clause-ok g c =
     let shown : table.grid.shows p ≡ true =
     shown-of (table.grid.shows p) (anchor_in table.grid p) c.in_ok-visible_anchor.field-0 true (c.in_ok-visible_anchor.ensures.visible table.grid c.requires.shows) c.if-is_none.ensures in
     let cell : IsVisibleCell table p = record { visible = shown; row_in = c.requires.row_in; col_in = c.requires.col_in } in
-    let told = c.block.ensures c.args.frame.now.table.now (texts_of g.S.Cells.lines g.S.Cells.color c.args.cells.now) c.requires.frame (inside-of table p c.requires.tiled cell)
+    let told = c.block.ensures c.args.frame.now.table.now (told_texts g.S.Cells.lines g.S.Cells.color c.args.cells.now) c.requires.frame (inside-of table p c.requires.tiled cell)
     c.in_ok-cell.ensures c.color.ensures in
     let same : c.in-Some.block ≡ block_at d p = cc (told, c.in-Some.is) in
-    let told_room : (IsTrue true → HasRoom c.in-Some.block) × (HasRoom c.in-Some.block → IsTrue true) = c.if-not-has_room.ensures in
-    room-more d p.row p.col c.requires.before (λ none. none.lacks (subst HasRoom same (told_room.0 refl)))
+    let told_room : (IsTrue true → FitsPlace c.in-Some.block) × (FitsPlace c.in-Some.block → IsTrue true) = c.if-not-has_room.ensures in
+    room-more d p.row p.col c.requires.before (λ none. none.lacks (subst FitsPlace same (told_room.0 refl)))

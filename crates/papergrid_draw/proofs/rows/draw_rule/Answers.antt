@@ -3,7 +3,7 @@ use Rattle.std.proofs.lemmas.Result.{err_from_is_err_and, on_ok_weaker}
 use Rattle.papergrid_layout.specs.Places.{total_along}
 use Rattle.papergrid_layout.specs.Tables.{view_of}
 use Rattle.papergrid_values.specs.declared.direction.Direction.TheVariants.{Rows}
-use Rattle.papergrid_draw.specs.Drawn.{RuleLine, has_horizontal, rule_line}
+use Rattle.papergrid_draw.specs.Drawn.{RuleLine, draws_horizontal, rule_line}
 use Rattle.papergrid_draw.specs.ForProofs.Pages.{drawing_of, row_start}
 use Rattle.papergrid_draw.specs.ForProofs.Sheets.{WritesLines, margined}
 use Rattle.papergrid_draw.proofs.SheetLemmas.{lines-none, lines-refused}
@@ -13,7 +13,7 @@ use Rattle.papergrid_draw.proofs.rows.draw_rule.Goals as goal
 pub returns-then-is_none-clause-lines : goal.returns-then-is_none-clause-lines
 returns-then-is_none-clause-lines g c = λ parts texts at tiled.
     let d = drawing_of parts texts in
-    let hasnt : has_horizontal d c.args.row ≡ false =
+    let hasnt : draws_horizontal d c.args.row ≡ false =
     line-told parts c.args.frame.now.table.now texts c.args.row c.horizontal_at.result false at.frame_is.table at.row_in c.horizontal_at.ensures c.if-is_none.ensures in
     subst (λ lines. WritesLines g.D.Delivery.takes g.D.Delivery.breaks {A = Unit {0}} c.args.writer.now
     c.args.writer.now c.args.sheet.now.begun c.args.sheet.now.begun
@@ -34,7 +34,7 @@ pub push_rule_line-requires : goal.push_rule_line-requires
 push_rule_line-requires g c =
     let told = c.requires in
     let at = told.2 in
-    let has : has_horizontal (drawing_of told.0 told.1) c.args.row ≡ true =
+    let has : draws_horizontal (drawing_of told.0 told.1) c.args.row ≡ true =
     line-told told.0 c.args.frame.now.table.now told.1 c.args.row c.horizontal_at.result true at.frame_is.table at.row_in c.horizontal_at.ensures c.if-is_none.ensures in
     (told.0, told.1, at.frame_is, at.each, has, at.kept)
 
@@ -48,7 +48,7 @@ end_beside-requires g c =
     let told = c.requires in
     let at = told.2 in
     let d = drawing_of told.0 told.1 in
-    let has : has_horizontal d c.args.row ≡ true =
+    let has : draws_horizontal d c.args.row ≡ true =
     line-told told.0 c.args.frame.now.table.now told.1 c.args.row c.horizontal_at.result true at.frame_is.table at.row_in c.horizontal_at.ensures c.if-is_none.ensures in
     let within : row_start d c.args.row < total_along (view_of told.0) Rows = rule-within d c.args.row at.row_in has in
     omega (arith, within, at.frame_is.fit, at.written, c.in_ok-begin_beside.ensures.written)
@@ -56,7 +56,7 @@ end_beside-requires g c =
 pub returns-clause-lines : goal.returns-clause-lines
 returns-clause-lines g c = λ parts texts at tiled.
     let d = drawing_of parts texts in
-    let has : has_horizontal d c.args.row ≡ true =
+    let has : draws_horizontal d c.args.row ≡ true =
     line-told parts c.args.frame.now.table.now texts c.args.row c.horizontal_at.result true at.frame_is.table at.row_in c.horizontal_at.ensures c.if-is_none.ensures in
     subst (λ lines. WritesLines g.D.Delivery.takes g.D.Delivery.breaks c.args.writer.now c.end_beside.new.writer c.args.sheet.now.begun c.end_beside.new.sheet.begun (margined d c.args.sheet.now.written lines) c.end_beside.result)
     (rule_lines-one d c.args.row has)
@@ -71,7 +71,7 @@ pub returns-clause-kept : goal.returns-clause-kept
 returns-clause-kept g c =
     on_ok_weaker c.end_beside.result
     (λ more parts texts at l.
-    let has : has_horizontal (drawing_of parts texts) c.args.row ≡ true =
+    let has : draws_horizontal (drawing_of parts texts) c.args.row ≡ true =
     line-told parts c.args.frame.now.table.now texts c.args.row c.horizontal_at.result true at.frame_is.table at.row_in c.horizontal_at.ensures c.if-is_none.ensures in
     text-ruled parts texts c.args.frame.now c.args.row c.args.sheet.now c.end_beside.new.sheet c.args.slots.now c.push_rule_line.new.slots at l has
     (more ∙ ap (λ n. n + 1) c.in_ok-begin_beside.ensures.written) (c.in_ok-push_rule_line.ensures.kept parts texts at.frame_is l has (at.kept l)))

@@ -2,7 +2,7 @@ use Rattle.std.proofs.Common.{◌≡◌, ◌<◌, Ok, subst, ap, arith, slice_in
 use Rattle.std.proofs.lemmas.Result.{err_from_is_err_and}
 use Rattle.papergrid_layout.specs.Tables.{TableParts}
 use Rattle.papergrid_draw.specs.ForProofs.Pages.{drawing_of}
-use Rattle.papergrid_draw.specs.ForProofs.Sheets.{AtText, WritesLines, margined, text_lines}
+use Rattle.papergrid_draw.specs.ForProofs.Sheets.{AtText, WritesLines, margined, first_text_lines}
 use Rattle.papergrid_draw.proofs.SheetLemmas.{lines-none}
 use Rattle.papergrid_draw.proofs.PrinterLemmas.{text_lines-cut, text_lines-next}
 use Rattle.papergrid_draw.proofs.rows.draw_text_lines.Goals as goal
@@ -42,7 +42,7 @@ returns-clause-lines g c = λ parts texts at.
     let last : c.loop-k.k ≡ slice_index parts.heights c.args.row =
     omega (arith, c.get_height-k-end.ensures, ap (λ (t : TableParts). slice_index t.heights c.args.row) at.frame_is.table) in
     subst (λ k. WritesLines g.D.Delivery.takes g.D.Delivery.breaks {A = Unit {0}} c.args.writer.now c.loop-k.writer c.args.sheet.now.begun c.loop-k.sheet.begun
-    (margined d c.args.sheet.now.written (text_lines d c.args.row k)) (Ok tt)) last (c.loop-k.invariant parts texts at).lines
+    (margined d c.args.sheet.now.written (first_text_lines d c.args.row k)) (Ok tt)) last (c.loop-k.invariant parts texts at).lines
 
 pub returns-clause-kept : goal.returns-clause-kept
 returns-clause-kept g c = λ parts texts at.

@@ -2,7 +2,7 @@ use Rattle.std.proofs.Common.{◌≡◌, ◌∙◌, ◌+◌, ◌<◌, Ok, drop, 
 use Rattle.std.proofs.lemmas.Result.{err_from_is_err_and}
 use Rattle.papergrid_draw.specs.Drawings.{drawn_of}
 use Rattle.papergrid_draw.specs.Drawn.{rule_lines}
-use Rattle.papergrid_draw.specs.ForProofs.Sheets.{AtRow, WritesLines, margined, texts_of}
+use Rattle.papergrid_draw.specs.ForProofs.Sheets.{AtRow, WritesLines, margined, told_texts}
 use Rattle.papergrid_draw.proofs.SheetLemmas.{lines-none, lines-refused}
 use Rattle.papergrid_draw.proofs.PrinterLemmas.{drawn-all, drawn-cut, first_rows-next, row-first, rule-last, whole-back}
 use Rattle.papergrid_draw.proofs.spanned.draw_spanned_rows.Goals as goal
@@ -14,7 +14,7 @@ returns-in_err-slots g c =
 
 pub loop-row-init : goal.loop-row-init
 loop-row-init g c = record {
-  comes = row-first c.args.frame.now.table.now (texts_of g.S.Cells.lines g.S.Cells.color c.args.cells.now) c.args.frame.now c.args.sheet.now c.in_ok-slots.slots.items
+  comes = row-first c.args.frame.now.table.now (told_texts g.S.Cells.lines g.S.Cells.color c.args.cells.now) c.args.frame.now c.args.sheet.now c.in_ok-slots.slots.items
       c.requires.frame c.requires.start (c.in_ok-slots.ensures ∙ ap (λ s. s.1) c.requires.frame.shape);
   lines = lines-none g.D.Delivery.takes g.D.Delivery.breaks _ _ tt;
 }
@@ -30,7 +30,7 @@ returns-in_err-draw_row g c =
 pub loop-row-preserved : goal.loop-row-preserved
 loop-row-preserved g c =
     let parts = c.args.frame.now.table.now in
-    let texts = texts_of g.S.Cells.lines g.S.Cells.color c.args.cells.now in
+    let texts = told_texts g.S.Cells.lines g.S.Cells.color c.args.cells.now in
     let d = drawn_of g.S.Cells.lines g.S.Cells.color parts c.args.cells.now in
     let same : c.loop-row.slots.len ≡ length c.draw_row.new.slots =
     omega (arith, c.loop-row.slots.ok.0, c.draw_row.auto.slots, ap (λ s. length s) c.as_mut_slice.ensures.value) in
@@ -43,7 +43,7 @@ loop-row-preserved g c =
 pub draw_rule-requires : goal.draw_rule-requires
 draw_rule-requires g c =
     let parts = c.args.frame.now.table.now in
-    let texts = texts_of g.S.Cells.lines g.S.Cells.color c.args.cells.now in
+    let texts = told_texts g.S.Cells.lines g.S.Cells.color c.args.cells.now in
     let last : c.loop-row.row ≡ c.args.frame.now.shape.0 = omega arith in
     let end : c.loop-row.row ≡ length parts.heights = omega (arith, ap (λ s. s.0) c.requires.frame.shape) in (
       parts,
@@ -55,7 +55,7 @@ draw_rule-requires g c =
 pub returns : goal.returns
 returns g c =
     let parts = c.args.frame.now.table.now in
-    let texts = texts_of g.S.Cells.lines g.S.Cells.color c.args.cells.now in
+    let texts = told_texts g.S.Cells.lines g.S.Cells.color c.args.cells.now in
     let d = drawn_of g.S.Cells.lines g.S.Cells.color parts c.args.cells.now in
     let last : c.loop-row.row ≡ c.args.frame.now.shape.0 = omega arith in
     let end : c.loop-row.row ≡ length parts.heights = omega (arith, ap (λ s. s.0) c.requires.frame.shape) in

@@ -3,7 +3,7 @@ use Rattle.std.proofs.lemmas.List.{with_items_is}
 use Rattle.papergrid_layout.specs.Places.{TableView}
 use Rattle.papergrid_draw.specs.Drawings.{layout_of}
 use Rattle.papergrid_grid.specs.Crossings.{bare_drawing}
-use Rattle.papergrid_grid.specs.ForProofs.Crossings.{AreFitted, AreOwners}
+use Rattle.papergrid_grid.specs.ForProofs.Crossings.{AreFittedBefore, AreOwners}
 use Rattle.papergrid_grid.proofs.CrossingLemmas.{fitted-start}
 use Rattle.papergrid_grid.proofs.crossings.fit_lines.Goals as goal
 
@@ -12,7 +12,7 @@ loop-row-init c = (
   c.in_ok-above.ensures.len,
   c.in_ok-below.ensures.len,
   (λ none. absurd (omega (arith, none))),
-  subst (AreFitted c.args.config.now c.args.shape c.args.junctions.now 0 0) (sym c.new-settings.ensures.items)
+  subst (AreFittedBefore c.args.config.now c.args.shape c.args.junctions.now 0 0) (sym c.new-settings.ensures.items)
       (fitted-start c.args.config.now c.args.shape c.args.junctions.now),
 )
 

@@ -1,6 +1,6 @@
 use Rattle.std.proofs.Common.{Some, subst}
 use Rattle.std.proofs.lemmas.Result.{err_from_is_err_and}
-use Rattle.papergrid_builder.specs.Layouts.{IsLaidOut, IsNotLaidOut}
+use Rattle.papergrid_builder.specs.Layouts.{IsFoundTable, IsNoFoundTable}
 use Rattle.papergrid_builder.specs.Told.{ToldTable}
 use Rattle.papergrid_builder.specs.ForProofs.Kept.{found_of}
 use Rattle.papergrid_builder.specs.ForProofs.Texts.{rows_told}
@@ -9,9 +9,9 @@ use Rattle.papergrid_builder.proofs.builder.Builder.estimate.Goals as goal
 pub returns-in_err-found-clause-fault : goal.returns-in_err-found-clause-fault
 returns-in_err-found-clause-fault c =
     let p = err_from_is_err_and c.from_residual.result c.from_residual.ensures.1 in
-    let told = subst (λ starts. IsNotLaidOut c.self.inside.settings.items (rows_told c.self.inside.cells starts) c.args.sizing c.in_err-found.field-0.0) c.deref.ensures.value
+    let told = subst (λ starts. IsNoFoundTable c.self.inside.settings.items (rows_told c.self.inside.cells starts) c.args.sizing c.in_err-found.field-0.0) c.deref.ensures.value
     c.in_err-found.ensures.err in
-    rw (p.1, p.2) (subst (λ (t : ToldTable). IsNotLaidOut t.settings t.rows c.args.sizing c.in_err-found.field-0.0) c.self.view_is told)
+    rw (p.1, p.2) (subst (λ (t : ToldTable). IsNoFoundTable t.settings t.rows c.args.sizing c.in_err-found.field-0.0) c.self.view_is told)
 
 pub invariant_of-self : goal.invariant_of-self
 invariant_of-self c =
@@ -21,7 +21,7 @@ invariant_of-self c =
       within = c.self.invariant.within;
       current = (
         c.args.sizing,
-        subst (λ starts. IsLaidOut c.self.inside.settings.items (rows_told c.self.inside.cells starts) c.args.sizing found) c.deref.ensures.value
+        subst (λ starts. IsFoundTable c.self.inside.settings.items (rows_told c.self.inside.cells starts) c.args.sizing found) c.deref.ensures.value
             c.in_ok-found.ensures.ok,
       );
     }
@@ -29,10 +29,10 @@ invariant_of-self c =
 pub returns-clause-ok : goal.returns-clause-ok
 returns-clause-ok c =
     let found = found_of c.in_ok-found.found in
-    let told = subst (λ starts. IsLaidOut c.self.inside.settings.items (rows_told c.self.inside.cells starts) c.args.sizing found) c.deref.ensures.value
+    let told = subst (λ starts. IsFoundTable c.self.inside.settings.items (rows_told c.self.inside.cells starts) c.args.sizing found) c.deref.ensures.value
     c.in_ok-found.ensures.ok in (
       found,
-      subst (λ (t : ToldTable). IsLaidOut t.settings t.rows c.args.sizing found) c.self.view_is told,
+      subst (λ (t : ToldTable). IsFoundTable t.settings t.rows c.args.sizing found) c.self.view_is told,
       c.in_ok-found.ensures.totals,
       λ i. record {
         settings = (c.self.view_is i).settings;

@@ -3,7 +3,7 @@ use Rattle.std.specs.Prelude.{not}
 use Rattle.std.proofs.lemmas.Bool.{and_from, and_left, and_right, not_from_false, not_from_true}
 use Rattle.std.proofs.lemmas.Result.{on_ok_weaker}
 use Rattle.papergrid_draw.specs.Characters.{crossing}
-use Rattle.papergrid_draw.specs.Drawn.{OnLine, has_vertical, stands_over_crossing}
+use Rattle.papergrid_draw.specs.Drawn.{OnLine, draws_vertical, stands_over_crossing}
 use Rattle.papergrid_draw.specs.ForProofs.Pages.{drawing_of}
 use Rattle.papergrid_draw.specs.ForProofs.Pens.{AddsStretches}
 use Rattle.papergrid_draw.proofs.LineLemmas.{frame-columns, frame-line}
@@ -25,7 +25,7 @@ returns-then-not-index c = λ parts texts read tiled inside owner.
       | then-is_over w ↦ w.hidden-is ∙ ap (λ asked. asked && nat_lt c.args.owner.col col) (sym w.if-is_over.true)
       | else-is_over w ↦ w.hidden-is ∙ w.if-is_over.false ∙ ap (λ asked. asked && nat_lt c.args.owner.col col) (sym w.if-is_over.false)
     ] in
-    let none : (has_vertical d col && not (stands_over_crossing d row col)) ≡ false = elim c.then-not-index.branch [
+    let none : (draws_vertical d col && not (stands_over_crossing d row col)) ≡ false = elim c.then-not-index.branch [
       | then-not-index-via-then-not-index w ↦ and_left _ _ (line ∙ w.if-not-index.true)
       | then-not-index-via-else-not-index+then-hidden w ↦ and_right _ _ (not_from_true _ (over ∙ sym hidden ∙ w.if-hidden.true))
     ] in

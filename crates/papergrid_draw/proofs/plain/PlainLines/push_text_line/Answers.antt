@@ -5,7 +5,7 @@ use Rattle.papergrid_draw.specs.Bytes.{pieces_bytes}
 use Rattle.papergrid_draw.specs.Contents.{block_at, content}
 use Rattle.papergrid_draw.specs.Drawings.{drawn_of}
 use Rattle.papergrid_draw.specs.Drawn.{column_pieces, vertical_pieces}
-use Rattle.papergrid_draw.specs.ForProofs.Sheets.{texts_of}
+use Rattle.papergrid_draw.specs.ForProofs.Sheets.{told_texts}
 use Rattle.papergrid_draw.proofs.LineLemmas.{added-pieces, column-more, frame-columns, line-done}
 use Rattle.papergrid_draw.proofs.PlainLemmas.{plain-column}
 use Rattle.papergrid_draw.proofs.RuleLemmas.{columns-all}
@@ -17,7 +17,7 @@ push_vertical-requires g c = (c.args.frame.now.table.now, c.requires.own, (let w
 pub loop-col-preserved : goal.loop-col-preserved
 loop-col-preserved g c =
     let parts = c.args.frame.now.table.now in
-    let texts = texts_of g.S.Cells.lines g.S.Cells.color c.args.cells.now in
+    let texts = told_texts g.S.Cells.lines g.S.Cells.color c.args.cells.now in
     let d = drawn_of g.S.Cells.lines g.S.Cells.color parts c.args.cells.now in
     let row = c.args.row in
     let col = c.loop-col.col in
@@ -36,7 +36,7 @@ push_vertical-requires-2 g c = (c.args.frame.now.table.now, c.requires.own, (let
 pub returns : goal.returns
 returns g c = on_ok_weaker c.push_vertical-2.result (λ added.
     let parts = c.args.frame.now.table.now in
-    let texts = texts_of g.S.Cells.lines g.S.Cells.color c.args.cells.now in
+    let texts = told_texts g.S.Cells.lines g.S.Cells.color c.args.cells.now in
     let wide : c.args.frame.now.shape.1 ≡ length parts.widths = frame-columns c.requires.frame in
     let within : c.args.frame.now.shape.1 ≤ length parts.widths = omega (arith, wide) in
     let all = columns-all parts c.args.frame.now c.requires.frame c.loop-col.col c.loop-col-test.false c.loop-col.auto.col-end in

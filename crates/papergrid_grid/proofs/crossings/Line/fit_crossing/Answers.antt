@@ -3,7 +3,7 @@ use Rattle.papergrid_values.specs.Positions.{position_of}
 use Rattle.papergrid_values.specs.declared.border.Border.{Border}
 use Rattle.papergrid_config.specs.declared.setting.Setting.{Setting}
 use Rattle.papergrid_config.specs.declared.setting.Setting.TheVariants.{SetBorder}
-use Rattle.papergrid_grid.specs.ForProofs.Crossings.{AreFitted}
+use Rattle.papergrid_grid.specs.ForProofs.Crossings.{AreFittedBefore}
 use Rattle.papergrid_grid.proofs.CrossingLemmas.{fitted-pass, fitted-push}
 use Rattle.papergrid_grid.proofs.crossings.Line.fit_crossing.Goals as goal
 
@@ -21,5 +21,5 @@ returns c =
     before ++ SetBorder (position_of (line.row, c.args.column)) (record border { left_top_corner = Some character }) ∷ [] in
     let fitted = fitted-push line.config.now line.shape c.args.junctions.now line.row c.args.column character before
     c.requires.line.within c.requires.inside c.requires.room.0 c.requires.room.1 c.requires.fitted c.in-Some.ensures in
-    subst (AreFitted line.config.now line.shape c.args.junctions.now line.row (c.args.column + 1))
+    subst (AreFittedBefore line.config.now line.shape c.args.junctions.now line.row (c.args.column + 1))
     (sym (c.in_ok-push.ensures.items ∙ ap set c.empty.ensures)) fitted

@@ -17,7 +17,7 @@ marks-requires-2-clause-fits g c = rw c.new-down.ensures (c.requires.fit Rows)
 
 pub returns : goal.returns
 returns g c =
-    let table = table_by c.args.cfg.now (g.D.Dimension.width_of c.args.dim.now) (g.D.Dimension.height_of c.args.dim.now) c.args.shape in
+    let table = table_by c.args.config.now (g.D.Dimension.width_of c.args.dimension.now) (g.D.Dimension.height_of c.args.dimension.now) c.args.shape in
     record {
       fit = c.requires.fit;
       marked = record { wide = rw c.new-across.ensures at c.in_ok-marks.ensures; high = rw c.new-down.ensures at c.in_ok-marks-2.ensures };

@@ -10,7 +10,7 @@ loop-col-preserved g c = λ q same below over.
     elim (cases_lt q.col c.loop-col.col) [
       | inl left ↦ c.loop-col.invariant q same left over
       | inr from ↦ false≢true (sym c.if-is_under.false ∙ c.is_under.ensures.1
-          (subst (StandsOver (table_by point.cfg.now (g.D.Dimension.width_of point.dim.now) (g.D.Dimension.height_of point.dim.now) point.shape) point.column point.line)
+          (subst (StandsOver (table_by point.config.now (g.D.Dimension.width_of point.dimension.now) (g.D.Dimension.height_of point.dimension.now) point.shape) point.column point.line)
           (position-same q (record { row = c.args.row; col = c.loop-col.col }) same (omega arith)) over))
     ]
 
@@ -21,6 +21,6 @@ returns-else-is_under g c = λ q same over.
     elim (cases_lt q.col c.loop-col.col) [
       | inl left ↦ c.loop-col.invariant q same left over
       | inr from ↦ false≢true (sym c.if-is_under.false ∙ c.is_under.ensures.1
-          (subst (StandsOver (table_by point.cfg.now (g.D.Dimension.width_of point.dim.now) (g.D.Dimension.height_of point.dim.now) point.shape) point.column point.line)
+          (subst (StandsOver (table_by point.config.now (g.D.Dimension.width_of point.dimension.now) (g.D.Dimension.height_of point.dimension.now) point.shape) point.column point.line)
           (position-same q (record { row = c.args.row; col = c.loop-col.col }) same (omega arith)) over))
     ]

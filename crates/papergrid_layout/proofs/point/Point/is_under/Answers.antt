@@ -7,6 +7,6 @@ pub returns-in-Err : goal.returns-in-Err
 returns-in-Err g c =
     let table = c.args.self.now in (
       λ t. absurd (false≢true t),
-      λ over. absurd (refused-none (table_by table.cfg.now (g.D.Dimension.width_of table.dim.now) (g.D.Dimension.height_of table.dim.now) table.shape)
+      λ over. absurd (refused-none (table_by table.config.now (g.D.Dimension.width_of table.dimension.now) (g.D.Dimension.height_of table.dimension.now) table.shape)
           c.args.pos c.in-Err.field-0 _ c.in-Err.ensures.exact over.placed),
     )

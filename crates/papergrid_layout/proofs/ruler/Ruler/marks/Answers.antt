@@ -17,7 +17,7 @@ overflow_add-begin g c =
 
 pub loop-i-preserved : goal.loop-i-preserved
 loop-i-preserved g c =
-    let size = size_along (g.D.Dimension.width_of c.args.self.now.dim.now) (g.D.Dimension.height_of c.args.self.now.dim.now) c.args.self.now.direction in
+    let size = size_along (g.D.Dimension.width_of c.args.self.now.dimension.now) (g.D.Dimension.height_of c.args.self.now.dimension.now) c.args.self.now.direction in
     let line = (g.S.ConfigView.grid c.args.self.now.settings.now).draws c.args.self.now.direction c.args.self.now.count in
     let next = next-begin size line c.args.self.now.count c.loop-i.i c.loop-i.begin c.size.result c.line.result (omega arith) c.loop-i.invariant.reached c.size.ensures c.line.ensures in
     let here = c.loop-i.invariant.reached in

@@ -4,7 +4,7 @@ use Rattle.papergrid_layout.proofs.ruler.Ruler.marks.Given as goal
 
 abbrev pub invariant-loop-i : goal.invariant-loop-i
 invariant-loop-i g l =
-    let size = size_along (g.D.Dimension.width_of l.self.dim.now) (g.D.Dimension.height_of l.self.dim.now) l.self.direction in
+    let size = size_along (g.D.Dimension.width_of l.self.dimension.now) (g.D.Dimension.height_of l.self.dimension.now) l.self.direction in
     let line = (g.S.ConfigView.grid l.self.settings.now).draws l.self.direction l.self.count in
     record {
       reached : l.begin ≡ offset size line l.i;

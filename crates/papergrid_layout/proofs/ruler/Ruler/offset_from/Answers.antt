@@ -24,7 +24,7 @@ loop-i-preserved g c =
 
 pub returns : goal.returns
 returns g c =
-    let size = size_along (g.D.Dimension.width_of c.args.self.now.dim.now) (g.D.Dimension.height_of c.args.self.now.dim.now) c.args.self.now.direction in
+    let size = size_along (g.D.Dimension.width_of c.args.self.now.dimension.now) (g.D.Dimension.height_of c.args.self.now.dimension.now) c.args.self.now.direction in
     let line = (g.S.ConfigView.grid c.args.self.now.settings.now).draws c.args.self.now.direction c.args.self.now.count in
     let last : offset size line c.loop-i.i ≡ offset size line c.args.end = ap (offset size line) (let e : c.loop-i.i ≡ c.args.end = omega arith in e) in
     (omega (arith, last, c.loop-i.invariant.reached, c.loop-i.invariant.fits), omega (arith, last, c.loop-i.invariant.reached))

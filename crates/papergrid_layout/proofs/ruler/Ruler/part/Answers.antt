@@ -29,7 +29,7 @@ overflow_sub-result-2 g c =
 
 pub returns : goal.returns
 returns g c =
-    let size = size_along (g.D.Dimension.width_of c.args.self.now.dim.now) (g.D.Dimension.height_of c.args.self.now.dim.now) c.args.self.now.direction in
+    let size = size_along (g.D.Dimension.width_of c.args.self.now.dimension.now) (g.D.Dimension.height_of c.args.self.now.dimension.now) c.args.self.now.direction in
     let line = (g.S.ConfigView.grid c.args.self.now.settings.now).draws c.args.self.now.direction c.args.self.now.count in
     let part = part-of size line c.number_of-start.result c.span.result c.in_ok-offset.offset c.in_ok-next.next c.line-2.result c.span.ensures.positive c.in_ok-offset.ensures.1 c.in_ok-next.ensures.1 c.line-2.ensures in
     let first = c.in_ok-offset.ensures.1 ∙ ap (offset size line) c.number_of-start.ensures in
