@@ -20,7 +20,7 @@ pub fn number(spelled: &str) -> Option<usize>
 }
 
 /// The number that the byte spells alone.
-#[tactic(auto, unfolding(crate::specs::Grammar::number_of))]
+#[tactic(auto, unfolding(crate::specs::Grammar::number_said))]
 fn one_digit(byte: u8) -> Option<usize>
     ensures { result ≡ number_said (byte ∷ []) }
 {

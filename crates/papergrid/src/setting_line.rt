@@ -10,7 +10,7 @@ use crate::script_setting::ScriptSetting;
 use papergrid_values::{Entity, Position, Sides};
 
 /// The setting of a keyword, and of what stands after it and a space.
-#[tactic(auto, unfolding(crate::specs::Grammar::setting_of))]
+#[tactic(auto, unfolding(crate::specs::Grammar::keyword_setting))]
 pub fn line_setting(keyword: &str, rest: &str) -> Option<ScriptSetting>
     ensures { option_map setting_told result ≡ keyword_setting keyword.now rest.now }
 {
@@ -70,7 +70,7 @@ fn sides(spelled: &str) -> Option<Sides<usize>>
 }
 
 /// The entity that the text spells: `*`, `c` or `r` with a number, or a row and a column with a comma.
-#[tactic(auto, unfolding(crate::specs::Grammar::entity_of))]
+#[tactic(auto, unfolding(crate::specs::Grammar::entity_said))]
 fn entity(spelled: &str) -> Option<Entity>
     ensures { result ≡ entity_said spelled.now }
 {
