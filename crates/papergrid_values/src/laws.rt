@@ -23,6 +23,7 @@ ghost use Rattle.papergrid_values.specs.declared.entity_iterator.EntityIterator.
 ghost use Rattle.papergrid_values.specs.declared.indent.Indent.{Indent};
 ghost use Rattle.papergrid_values.specs.declared.formatting.Formatting.{Formatting};
 ghost use Rattle.papergrid_values.specs.declared.offset.Offset.{Offset};
+ghost use Rattle.papergrid_values.specs.declared.per_direction.PerDirection.{PerDirection};
 ghost use Rattle.papergrid_values.specs.Borders.{border_parts, border_with, frame_parts, frame_with};
 ghost use Rattle.papergrid_values.specs.Entities.{positions};
 ghost use Rattle.papergrid_values.specs.Lines.{horizontal_parts, horizontal_with, vertical_parts, vertical_with};
@@ -34,8 +35,8 @@ ghost use Rattle.papergrid_values.specs.Positions.{IsBefore, count_of};
 
 use crate::{
     ANSIBuf, ANSIFmt, ANSIStr, AlignmentHorizontal, AlignmentVertical, Border, Borders, Direction,
-    Entity, EntityIterator, Formatting, HorizontalLine, Indent, Offset, Position, Sides,
-    VerticalLine,
+    Entity, EntityIterator, Formatting, HorizontalLine, Indent, Offset, PerDirection, Position,
+    Sides, VerticalLine,
 };
 use std::cmp::Ordering;
 use std::hash::Hash;
@@ -50,10 +51,12 @@ pub fn global_positions()
     ensures rising { (rows cols : ℕ) → AllPairs IsBefore (positions Global rows cols) }
 {}
 
-/// A clone of a border, of a frame, of a line or of four sides equals its original where clones of
-/// the parts equal theirs.
+/// A clone of a border, of a frame, of a line, of four sides or of both directions equals its
+/// original where clones of the parts equal theirs.
 pub fn equal_clones<T: Clone>()
     requires { (x y : T) → T.is_clone x y → y ≡ x }
+    ensures both { (x y : PerDirection T) →
+        ⟦<PerDirection<T> as Clone>⟧.is_clone x y → y ≡ x }
     ensures sides { (x y : Sides T) → ⟦<Sides<T> as Clone>⟧.is_clone x y → y ≡ x }
     ensures borders { (x y : Border T) → ⟦<Border<T> as Clone>⟧.is_clone x y → y ≡ x }
     ensures frames { (x y : Borders T) → ⟦<Borders<T> as Clone>⟧.is_clone x y → y ≡ x }
@@ -102,6 +105,9 @@ pub fn ordered_by_parts<T: Ord>()
 
 /// Values with parts of one type are equal where each part equals the other's.
 pub fn equal_by_parts<T: PartialEq>()
+    ensures both { (x y : PerDirection T) →
+        ⟦<PerDirection<T> as PartialEq>⟧.eq x y
+        ≡ pointwise T.eq (x.columns ∷ x.rows ∷ []) (y.columns ∷ y.rows ∷ []) }
     ensures sides { (x y : Sides T) →
         ⟦<Sides<T> as PartialEq>⟧.eq x y ≡ pointwise T.eq (sides_parts x) (sides_parts y) }
     ensures borders { (x y : Border T) →
