@@ -55,9 +55,9 @@ module _ {A B : Type 0} (grid : Grid) (v : A → B) (f : B → ℕ × ℕ) (colu
   refused_on too_large holds (Err error) e is told = subst (IsBothRefusedWhere grid f columns rows too_large) (sym is) (both_refused too_large e told)
 
   -- the sizes along both directions, as a dimension hands them out
-  pub sizes_told : {V : Type 0} (items : V → List ℕ) (holds : Problem → List ℕ → Type 0) (across down : List ℕ) (wide high : V) → items wide ≡ across → items high ≡ down
-      → (cells : List (List A)) × (map (map v) cells ≡ rows) × HoldAlong grid (λ x. f (v x)) columns cells holds across down → HoldAlong grid f columns rows holds (items wide) (items high)
-  sizes_told items holds across down wide high widths heights told =
+  pub sizes_told : (holds : Problem → List ℕ → Type 0) (across down wide high : List ℕ) → wide ≡ across → high ≡ down
+      → (cells : List (List A)) × (map (map v) cells ≡ rows) × HoldAlong grid (λ x. f (v x)) columns cells holds across down → HoldAlong grid f columns rows holds wide high
+  sizes_told holds across down wide high widths heights told =
       let both = both_told told.0 told.1 holds across down told.2 in
       record { widths = rw widths both.widths; heights = rw heights both.heights }
 

@@ -8,4 +8,4 @@ pub returns-in_err-estimate : goal.returns-in_err-estimate
 returns-in_err-estimate c = refused_on (spanned_grid c.args.config.now) (λ cell. cell.now) lent_measure 3 (cells_of c.args.rows.now) AreLeastTooLarge _ _ _ c.from_residual.ensures.1 (rw c.new.ensures at c.in_err-estimate.ensures.err)
 
 pub returns : goal.returns
-returns c = sizes_told (spanned_grid c.args.config.now) (λ cell. cell.now) lent_measure 3 (cells_of c.args.rows.now) (λ sizes. sizes.items) AreLeastSizes _ _ _ _ c.get_values.ensures.widths c.get_values.ensures.heights (rw c.new.ensures at c.in_ok-estimate.ensures.ok)
+returns c = sizes_told (spanned_grid c.args.config.now) (λ cell. cell.now) lent_measure 3 (cells_of c.args.rows.now) AreLeastSizes _ _ _ _ c.get_values.ensures.widths c.get_values.ensures.heights (rw c.new.ensures at c.in_ok-estimate.ensures.ok)

@@ -13,4 +13,4 @@ returns-in_err-estimate c =
 pub returns : goal.returns
 returns c =
     let records = c.args.records.now in
-    sizes_told (spanned_grid c.args.config.now) (λ cell. cell.now) kept_measure (column_count records) (cells_of (rows_held records).items) (λ sizes. sizes.items) AreSizes _ _ _ _ c.get_values.ensures.widths c.get_values.ensures.heights c.in_ok-estimate.ensures.ok
+    sizes_told (spanned_grid c.args.config.now) (λ cell. cell.now) kept_measure (column_count records) (cells_of (rows_held records).items) AreSizes _ _ _ _ c.get_values.ensures.widths c.get_values.ensures.heights c.in_ok-estimate.ensures.ok
