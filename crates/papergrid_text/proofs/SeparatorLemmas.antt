@@ -5,12 +5,13 @@ use Rattle.std.specs.List.{list_all, range_with_len}
 use Rattle.std.proofs.lemmas.Bool.{and_parts, not-true, or_cases}
 use Rattle.std.proofs.lemmas.Bool.Decides.{nat_tests}
 use Rattle.unicode_width.specs.Kind.{is_ligature_transparent, is_text_presentation_base, kind}
+use Rattle.unicode_width.specs.declared.kind.Kind.{Kind}
 use Rattle.unicode_width.specs.declared.state.After.{After}
 use Rattle.unicode_width.specs.declared.state.After.TheVariants.{Nothing, LineFeed, EmojiModifier, RegionalIndicator, RegionalIndicators, Emoji, ZwjEmoji, KeycapZwjEmoji, IndicatorZwj, EvenIndicatorsZwj, OddIndicatorsZwj, TagEnd, TagDigit1, TagDigit2, TagDigit3, TagLetter1, TagLetter2, TagLetter3, TagLetter4, TagLetter5, TagLetter6, KiratE, KiratAi, Alef, Solidus, SolidusAlef, Lamed, ZwjLamed, Ya, ZwjYa, VowelZwjYa, Tifinagh, ZwjTifinagh, JoinerTifinagh, LisuTone, OrkhonI, ZwjOrkhonI, KhmerLetter}
 use Rattle.unicode_width.specs.declared.state.State.{State}
-use Rattle.unicode_width.specs.Width.{Reading, alone, if_kept, in_context, is_emoji_variation_base, joins, past_emoji, past_selectors, plain, read_before, step, str_width}
+use Rattle.unicode_width.specs.Width.{Reading, alone, before_alef, before_joiner, if_kept, in_context, is_emoji, is_emoji_variation_base, is_lam, joins, past_emoji, past_selectors, plain, read_before, step, str_width}
 use Rattle.unicode_width.proofs.Computing.{unicode_width}
-use Rattle.papergrid_width.proofs.RangeLemmas.{Ones, has_kind, own_alone}
+use Rattle.papergrid_width.proofs.RangeLemmas.{Ones, has_kind, line_kind, own_alone}
 use Rattle.papergrid_text.specs.Separators.{IsSeparator, begins_keycap, is_separator}
 use Rattle.papergrid_text.proofs.TrimLemmas.{of_range, read-append, read-shifted}
 
@@ -40,18 +41,23 @@ ascii_separates c total s low keyless =
 abbrev are_lines : (ℕ → Bool) → Bool
 are_lines test = list_all test (range_with_len 0x2500 0x80)
 
--- no emoji, no mark, and of one column
+-- no emoji, no mark, no letter
 abbrev is_line_alone : ℕ → Bool
 is_line_alone c =
-    not (is_emoji_variation_base c) && (not (is_text_presentation_base c) && (not (is_ligature_transparent c) && has_kind Ones (kind c)))
+    not (is_emoji_variation_base c) && (not (is_text_presentation_base c) && (not (is_ligature_transparent c) && not (is_lam c)))
 
 lines_alone : are_lines is_line_alone ≡ true
 unfolding unicode_width is_text_presentation_base
 lines_alone = refl
 
--- none joins what follows
-lines_join_none : (after : After) → are_lines (λ c. not (is_some (joins false after c))) ≡ true
-unfolding unicode_width
+-- what is computed of each of them: that none joins what follows, but for what their kind tells
+joins_by_number : After → ℕ → Bool
+joins_by_number Alef c = false
+joins_by_number ZwjEmoji c = false
+joins_by_number after c = is_some (joins false after c)
+
+lines_join_none : (after : After) → are_lines (λ c. not (joins_by_number after c)) ≡ true
+unfolding unicode_width joins_by_number
 lines_join_none Nothing = refl
 lines_join_none LineFeed = refl
 lines_join_none EmojiModifier = refl
@@ -97,6 +103,8 @@ record IsLine (c : ℕ) : Type 0 where
   base : is_emoji_variation_base c ≡ false
   presented : is_text_presentation_base c ≡ false
   seen : is_ligature_transparent c ≡ false
+  letter : is_lam c ≡ false
+  kind_one : has_kind Ones (kind c) ≡ true
   own : alone false c ≡ (1, plain)
 
 -- what a test tells of a line
@@ -108,21 +116,42 @@ is_line c inside =
     let known = and_parts _ _ (of_lines is_line_alone c lines_alone inside) in
     let more = and_parts _ _ known.1 in
     let last = and_parts _ _ more.1 in
+    let from : 0x2500 ≤ c = grind (arith, nat_tests) in
+    let to : c < 0x2580 = grind (arith, nat_tests) in
+    let one = line_kind c from to in
     record {
-      from = grind (arith, nat_tests);
-      to = grind (arith, nat_tests);
+      from = from;
+      to = to;
       base = not-true (is_emoji_variation_base c) known.0;
       presented = not-true (is_text_presentation_base c) more.0;
       seen = not-true (is_ligature_transparent c) last.0;
-      own = own_alone Ones c last.1;
+      letter = not-true (is_lam c) last.1;
+      kind_one = one;
+      own = own_alone Ones c one;
     }
 
 none_from : {A : Type 0} (found : Option A) → not (is_some found) ≡ true → found ≡ None
 none_from None none = refl
 none_from (Some a) none = cc
 
-line_joins_none : (c : ℕ) (after : After) → is_in_range 0x2500 0x257F c ≡ true → joins false after c ≡ None
-line_joins_none c after inside = none_from (joins false after c) (of_lines (λ c. not (is_some (joins false after c))) c (lines_join_none after) inside)
+-- what takes one column is no emoji
+one_no_emoji : (k : Kind) → has_kind Ones k ≡ true → is_emoji k ≡ false
+one_no_emoji k one = grind arith
+
+line_before_joiner : (c : ℕ) → IsLine c → before_joiner c ≡ None
+line_before_joiner c line =
+    let from = line.from in let to = line.to in let no_emoji = one_no_emoji (kind c) line.kind_one in
+    grind (arith, nat_tests)
+
+line_before_alef : (c : ℕ) → IsLine c → before_alef false c ≡ None
+unfolding before_alef
+line_before_alef c line = let letter = line.letter in let own = line.own in grind arith
+
+line_joins_none : (c : ℕ) (after : After) → is_in_range 0x2500 0x257F c ≡ true → IsLine c → joins false after c ≡ None
+unfolding joins joins_by_number
+line_joins_none c Alef inside line = line_before_alef c line
+line_joins_none c ZwjEmoji inside line = line_before_joiner c line
+line_joins_none c after inside line = none_from (joins false after c) (of_lines (λ c. not (joins_by_number after c)) c (lines_join_none after) inside)
 
 line_past_selectors : (c total : ℕ) (after : After) → IsLine c → joins false after c ≡ None → past_selectors false c total after ≡ (total + 1, plain)
 unfolding past_selectors
@@ -142,7 +171,7 @@ line_separates c total s inside =
     let line = is_line c inside in
     let base = line.base in
     let alone : (s : State) → past_emoji false c total s ≡ (total + 1, plain) = λ (s : State).
-    line_past_emoji c total s line (line_in_context c total s line (line_past_selectors c total s.after line (line_joins_none c s.after inside))) in
+    line_past_emoji c total s line (line_in_context c total s line (line_past_selectors c total s.after line (line_joins_none c s.after inside line))) in
     let here = alone s in
     let kept = alone (record (if_kept s) { emoji = false }) in
     grind arith

@@ -1,5 +1,5 @@
 -- What all characters of some ranges are, as the tables tell.
-use Rattle.std.proofs.Common.{◌≡◌, ℕ, Bool, true, false, not, ◌&&◌, ◌||◌, List, [], ◌∷◌, refl, arith}
+use Rattle.std.proofs.Common.{◌≤◌, ◌<◌, ◌≡◌, ℕ, Bool, true, false, not, ◌&&◌, ◌||◌, List, [], ◌∷◌, refl, arith}
 use Rattle.std.proofs.lemmas.Bool.{false≢true}
 use Rattle.std.proofs.lemmas.Bool.Decides.{nat_tests}
 use Rattle.ucd_table.specs.Rows.{Range, in_ranges}
@@ -188,6 +188,11 @@ all_have_kind Modifiers = first Modifiers [] (others Indicators Modifiers [] fro
 -- a character of the ranges has a kind of its group
 pub kind_in : (group : Group) (c : ℕ) → in_ranges (ranges_of group) c ≡ true → has_kind group (kind c) ≡ true
 kind_in group c = passes (ranges_of group) (λ c. has_kind group (kind c)) c (all_have_kind group)
+
+-- so has each line of a box
+pub line_kind : (c : ℕ) → 0x2500 ≤ c → c < 0x2580 → has_kind Ones (kind c) ≡ true
+unfolding in_ranges
+line_kind c from to = kind_in Ones c (grind (arith, nat_tests))
 
 -- what a kind of the group adds
 pub own_by_kind : (group : Group) (c : ℕ) (k : Kind) → has_kind group k ≡ true → of_kind false c k ≡ own_of group
