@@ -375,14 +375,22 @@ impl<T: Clone> Clone for BorderTable<T> {
     ghost is_clone = { λ s t. ((x y : T) → T.is_clone x y → y ≡ x) → t ≡ s };
 
     fn clone(&self) -> Result<BorderTable<T>, AllocError> {
+        let global = self.global.clone()?;
+        let horizontal_lines = self.horizontal_lines.clone()?;
+        let vertical_lines = self.vertical_lines.clone()?;
+        let horizontal_edges = self.horizontal_edges.clone()?;
+        let vertical_edges = self.vertical_edges.clone()?;
+        let corners = self.corners.clone()?;
+        // The frame is last: of its many parts none has to be let go where another clone fails.
+        let frame = self.frame.clone()?;
         Ok(BorderTable {
-            global: self.global.clone()?,
-            frame: self.frame.clone()?,
-            horizontal_lines: self.horizontal_lines.clone()?,
-            vertical_lines: self.vertical_lines.clone()?,
-            horizontal_edges: self.horizontal_edges.clone()?,
-            vertical_edges: self.vertical_edges.clone()?,
-            corners: self.corners.clone()?,
+            global,
+            frame,
+            horizontal_lines,
+            vertical_lines,
+            horizontal_edges,
+            vertical_edges,
+            corners,
         })
     }
 }
