@@ -9,4 +9,5 @@ pub mod MadeTables
 pub mod OffsetEqual
 pub mod OverrideHistory
 pub mod PartCopies
+pub mod RoomLemmas
 pub mod HistoryEqual

@@ -1,10 +1,15 @@
-use Rattle.std.proofs.Common.{arith}
+-- Each part that is written leaves room for the next one.
+use Rattle.papergrid_tables.proofs.RoomLemmas.{one_corner}
 use Rattle.papergrid_tables.proofs.border_parts.put_border.Goals as goal
 
+pub put-requires-5-clause-room : goal.put-requires-5-clause-room
+put-requires-5-clause-room g c = one_corner 3 c.args.corners.now c.requires.room_corners
+
+pub put-requires-6-clause-room : goal.put-requires-6-clause-room
+put-requires-6-clause-room g c = one_corner 2 c.put-5.new.self (c.put-5.ensures.room 3 c.requires.room_corners)
+
 pub put-requires-7-clause-room : goal.put-requires-7-clause-room
-put-requires-7-clause-room g c =
-    let room = c.put-6.ensures.room 2 (c.put-5.ensures.room 3 c.requires.room_corners) in
-    (omega arith, omega arith, omega arith)
+put-requires-7-clause-room g c = one_corner 1 c.put-6.new.self (c.put-6.ensures.room 2 (c.put-5.ensures.room 3 c.requires.room_corners))
 
 pub put-requires-8-clause-room : goal.put-requires-8-clause-room
 put-requires-8-clause-room g c = c.put-7.ensures.room 1 (c.put-6.ensures.room 2 (c.put-5.ensures.room 3 c.requires.room_corners))
