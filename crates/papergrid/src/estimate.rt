@@ -1,12 +1,13 @@
 //! The sizes of a table, its totals with lines, and the cells that certify the sizes.
 
-ghost use Rattle.std.specs.Prelude.{◌≡◌, ◌+◌, ◌<◌, ◌^◌, List, length, sum};
+ghost use Rattle.std.specs.Prelude.{◌≡◌, ◌+◌, ◌<◌, ◌^◌, length, sum};
 ghost use Rattle.papergrid_values.specs.declared.direction.Direction.TheVariants.{Columns, Rows};
 ghost use Rattle.papergrid_config.specs.Grids.{spanned_grid};
 ghost use Rattle.papergrid_walk.specs.Measures.{line_measure};
 ghost use Rattle.papergrid_layout.specs.Answers.{UnlessMemory};
 ghost use Rattle.papergrid.specs.Estimates.{estimate_by};
 ghost use Rattle.papergrid.specs.ForProofs.Seen.{GivesEstimate, total_with_lines};
+ghost use Rattle.papergrid_text.specs.Records.{TellsRows};
 
 use papergrid_config::SpannedConfig;
 use papergrid_layout::certificates::{Certified, certify};
@@ -41,10 +42,9 @@ where
     R: Records + Drop,
     <<R as Records>::Iter as IntoRecords>::Cell: AsStr + Drop,
     requires { R.is_lawful records }
-    ensures { GivesEstimate result (λ answer. (cells : List (List R.Iter.Cell))
-        × R.tells records cells
-        × (answer ≡ estimate_by sizing (spanned_grid config.now) (line_measure R.Iter.Cell.text)
-        (R.columns records) cells)) }
+    ensures { GivesEstimate result (λ answer. TellsRows R.tells records (λ cells.
+        (answer ≡ estimate_by sizing (spanned_grid config.now) (line_measure R.Iter.Cell.text)
+        (R.columns records) cells))) }
 {
     let certified = certify(alloc, records, config, sizing)?;
     Ok(with_totals(certified, config))

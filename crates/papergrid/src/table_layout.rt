@@ -1,6 +1,6 @@
 //! The layout of records by a list of settings.
 
-ghost use Rattle.std.specs.Prelude.{◌≡◌, All, IfErr, IfOk, List, true};
+ghost use Rattle.std.specs.Prelude.{◌≡◌, All, IfErr, IfOk, true};
 ghost use Rattle.papergrid_config.specs.Applied.{is_in_range};
 ghost use Rattle.papergrid_config.specs.declared.spanned.SpannedConfig.{SpannedConfig};
 ghost use Rattle.papergrid_config.specs.Grids.{spanned_grid};
@@ -8,6 +8,7 @@ ghost use Rattle.papergrid_walk.specs.Measures.{line_measure};
 ghost use Rattle.papergrid_layout.specs.Answers.{UnlessMemory};
 ghost use Rattle.papergrid.specs.Layouts.{IsConfiguredBy, IsLaidOut, IsLaidOutLeast};
 ghost use Rattle.papergrid.specs.Grids.{grid_of};
+ghost use Rattle.papergrid_text.specs.Records.{TellsRows};
 
 use papergrid_config::laws::history_decides;
 use papergrid_config::{Setting, SpannedConfig};
@@ -37,14 +38,14 @@ where
     <<R as Records>::Iter as IntoRecords>::Cell: AsStr + Drop,
     requires lawful { R.is_lawful records }
     requires in_range { All (λ setting. is_in_range setting ≡ true) settings.items }
-    ensures sizes { UnlessMemory result ((cells : List (List R.Iter.Cell)) × R.tells records cells
-        × IsLaidOut (grid_of settings.items) (line_measure R.Iter.Cell.text)
-        (R.columns records) cells result) }
+    ensures sizes { UnlessMemory result (TellsRows R.tells records (λ cells.
+        IsLaidOut (grid_of settings.items) (line_measure R.Iter.Cell.text)
+        (R.columns records) cells result)) }
     // So by a configuration that the settings tell, and that holds for each cell what they decide.
     ensures settings { UnlessMemory result ((config : SpannedConfig)
         × IsConfiguredBy settings.items config
-        × ((cells : List (List R.Iter.Cell)) × R.tells records cells
-        × IsLaidOut (spanned_grid config) (line_measure R.Iter.Cell.text)
+        × TellsRows R.tells records (λ cells.
+        IsLaidOut (spanned_grid config) (line_measure R.Iter.Cell.text)
         (R.columns records) cells result)) }
 {
     let config = configuration(alloc, settings)?;
@@ -71,14 +72,14 @@ where
     <<R as Records>::Iter as IntoRecords>::Cell: AsStr + Drop,
     requires lawful { R.is_lawful records }
     requires in_range { All (λ setting. is_in_range setting ≡ true) settings.items }
-    ensures sizes { UnlessMemory result ((cells : List (List R.Iter.Cell)) × R.tells records cells
-        × IsLaidOutLeast (grid_of settings.items) (line_measure R.Iter.Cell.text)
-        (R.columns records) cells result) }
+    ensures sizes { UnlessMemory result (TellsRows R.tells records (λ cells.
+        IsLaidOutLeast (grid_of settings.items) (line_measure R.Iter.Cell.text)
+        (R.columns records) cells result)) }
     // So by a configuration that the settings tell, and that holds for each cell what they decide.
     ensures settings { UnlessMemory result ((config : SpannedConfig)
         × IsConfiguredBy settings.items config
-        × ((cells : List (List R.Iter.Cell)) × R.tells records cells
-        × IsLaidOutLeast (spanned_grid config) (line_measure R.Iter.Cell.text)
+        × TellsRows R.tells records (λ cells.
+        IsLaidOutLeast (spanned_grid config) (line_measure R.Iter.Cell.text)
         (R.columns records) cells result)) }
 {
     let config = configuration(alloc, settings)?;

@@ -1,6 +1,6 @@
 //! Certificates: made and checked, and those of a stranger.
 
-ghost use Rattle.std.specs.Prelude.{◌↔◌, IsTrue, List, MatchResult};
+ghost use Rattle.std.specs.Prelude.{◌↔◌, IsTrue, MatchResult};
 ghost use Rattle.papergrid_tracks.specs.Answers.{IsAccepted, IsRefused};
 ghost use Rattle.papergrid_tracks.specs.Fits.{IsLeast};
 ghost use Rattle.papergrid_tracks.specs.Ranges.{IsLaminar};
@@ -9,6 +9,7 @@ ghost use Rattle.papergrid_walk.specs.Cells.{problem_of};
 ghost use Rattle.papergrid_config.specs.Grids.{spanned_grid};
 ghost use Rattle.papergrid_walk.specs.Measures.{line_measure};
 ghost use Rattle.papergrid_checks.specs.Rows.{texts_problem};
+ghost use Rattle.papergrid_text.specs.Records.{TellsRows};
 
 use papergrid::config::Position;
 use papergrid::config::spanned::SpannedConfig;
@@ -43,12 +44,12 @@ where
     R: Records + Drop,
     <<R as Records>::Iter as IntoRecords>::Cell: AsStr + Drop,
     requires { R.is_lawful records }
-    ensures { (rows : List (List R.Iter.Cell)) × R.tells records rows
-        × (let measure = line_measure R.Iter.Cell.text in
+    ensures { TellsRows R.tells records (λ rows.
+        (let measure = line_measure R.Iter.Cell.text in
         let grid = spanned_grid config.now in
         let problem = problem_of grid measure (R.columns records) rows Columns in
         (IsTrue result ↔ IsAccepted problem widths.now cells.now)
-        × (IsTrue result → IsLeast problem widths.now)) }
+        × (IsTrue result → IsLeast problem widths.now))) }
 {
     check_width_witness(records, config, widths, cells)
 }

@@ -10,6 +10,7 @@ ghost use Rattle.papergrid_walk.specs.Cells.{problem_of, side, visible_cells};
 ghost use Rattle.papergrid_config.specs.Grids.{spanned_grid};
 ghost use Rattle.papergrid_walk.specs.Measures.{line_measure};
 ghost use Rattle.papergrid_checks.specs.Rows.{cells_of, lent_measure, texts_problem};
+ghost use Rattle.papergrid_text.specs.Records.{TellsRows};
 
 use papergrid::config::spanned::SpannedConfig;
 use papergrid::dimension::iterable::IterGridDimension;
@@ -73,16 +74,16 @@ where
     requires { R.is_lawful records }
     ensures fits { let grid = spanned_grid config.now in
         let measure = line_measure R.Iter.Cell.text in
-        UnlessMemory result ((cells : List (List R.Iter.Cell)) × R.tells records cells
-        × Answers (λ problem total. (widths : List ℕ) × (sum widths ≤ total) × Fits problem widths)
-        (problem_of grid measure (R.columns records) cells Columns) result) }
+        UnlessMemory result (TellsRows R.tells records (λ cells.
+        Answers (λ problem total. (widths : List ℕ) × (sum widths ≤ total) × Fits problem widths)
+        (problem_of grid measure (R.columns records) cells Columns) result)) }
     ensures covers { let grid = spanned_grid config.now in
         let measure = line_measure R.Iter.Cell.text in
-        UnlessMemory result ((cells : List (List R.Iter.Cell)) × R.tells records cells
-        × MatchResult result (λ total. All (λ cell.
+        UnlessMemory result (TellsRows R.tells records (λ cells.
+        MatchResult result (λ total. All (λ cell.
         side Columns (measure cell.1) + grid.before Columns cell.0 + grid.after Columns cell.0
         ≤ total) (visible_cells grid cells))
-        (IsRefused (problem_of grid measure (R.columns records) cells Columns))) }
+        (IsRefused (problem_of grid measure (R.columns records) cells Columns)))) }
 {
     total_covers_cells::<<<R as Records>::Iter as IntoRecords>::Cell>();
     IterGridDimension::width_total(alloc, records, config)

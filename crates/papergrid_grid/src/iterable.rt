@@ -9,6 +9,7 @@ ghost use Rattle.papergrid_draw.specs.Margins.{printed};
 ghost use Rattle.papergrid_draw.specs.declared.error.DrawError.TheVariants.{Memory, Write};
 ghost use Rattle.papergrid_grid.specs.Cells.{text_lines};
 ghost use Rattle.papergrid_grid.specs.Sized.{HasSizes, IsGridFault, UnlessMemoryFails, drawing_of_rows, parts_of, texts_at};
+ghost use Rattle.papergrid_text.specs.Records.{TellsRows};
 
 use crate::cells::TextCells;
 use crate::color::AsANSIStr;
@@ -84,16 +85,15 @@ where
         requires rows { (cells : List (List R.Iter.Cell)) → R.tells self.records cells →
             HasSizes (D.has_row self.dimension.now) (length cells) }
         requires columns { HasSizes (D.has_column self.dimension.now) (R.columns self.records) }
-        ensures picture { OnOk result ((cells : List (List R.Iter.Cell))
-            × R.tells self.entry.records cells × (
+        ensures picture { OnOk result (TellsRows R.tells self.entry.records (λ cells.
             let parts = parts_of self.entry.config.now (D.width_of self.entry.dimension.now)
             (D.height_of self.entry.dimension.now)
             (length cells, R.columns self.entry.records) in
             WritesInCalls F.write_str_gives writer.old
             (printed (drawing_of_rows (λ cell. text_lines (R.Iter.Cell.text cell)) parts cells
             (texts_at C.Color.texts C.color_at self.entry.colors.now))) writer.new)) }
-        ensures fault { IfErr result (λ e. UnlessMemoryFails e ((cells : List (List R.Iter.Cell))
-            × R.tells self.entry.records cells × (
+        ensures fault { IfErr result (λ e. UnlessMemoryFails e
+            (TellsRows R.tells self.entry.records (λ cells.
             let parts = parts_of self.entry.config.now (D.width_of self.entry.dimension.now)
             (D.height_of self.entry.dimension.now)
             (length cells, R.columns self.entry.records) in
@@ -102,14 +102,13 @@ where
             (texts_at C.Color.texts C.color_at self.entry.colors.now)) e))) }
         ensures left { IfErr result (λ e.
             ((error : AllocError) × (e ≡ Memory error) × (writer.new ≡ writer.old))
-            ⊎ ((cells : List (List R.Iter.Cell))
-            × R.tells self.entry.records cells × (
+            ⊎ TellsRows R.tells self.entry.records (λ cells.
             let parts = parts_of self.entry.config.now (D.width_of self.entry.dimension.now)
             (D.height_of self.entry.dimension.now)
             (length cells, R.columns self.entry.records) in
             IsLeftOff F.write_str_gives (λ _ _ _. ⊤) writer.old
             (printed (drawing_of_rows (λ cell. text_lines (R.Iter.Cell.text cell)) parts cells
-            (texts_at C.Color.texts C.color_at self.entry.colors.now))) writer.new e))) }
+            (texts_at C.Color.texts C.color_at self.entry.colors.now))) writer.new e)) }
     {
         let IterGrid {
             records,
@@ -141,8 +140,7 @@ where
         requires rows { (cells : List (List R.Iter.Cell)) → R.tells self.records cells →
             HasSizes (D.has_row self.dimension.now) (length cells) }
         requires columns { HasSizes (D.has_column self.dimension.now) (R.columns self.records) }
-        ensures picture { OnOk result ((cells : List (List R.Iter.Cell))
-            × R.tells self.entry.records cells × (
+        ensures picture { OnOk result (TellsRows R.tells self.entry.records (λ cells.
             let parts = parts_of self.entry.config.now (D.width_of self.entry.dimension.now)
             (D.height_of self.entry.dimension.now)
             (length cells, R.columns self.entry.records) in
@@ -151,8 +149,8 @@ where
             (texts_at C.Color.texts C.color_at self.entry.colors.now))))) }
         ensures works { OnOk result (W.has_failed sink.new ≡ W.has_failed sink.old) }
         ensures moves { OnOk result (W.has_stalled sink.new ≡ W.has_stalled sink.old) }
-        ensures fault { IfErr result (λ e. UnlessMemoryFails e ((cells : List (List R.Iter.Cell))
-            × R.tells self.entry.records cells × (
+        ensures fault { IfErr result (λ e. UnlessMemoryFails e
+            (TellsRows R.tells self.entry.records (λ cells.
             let parts = parts_of self.entry.config.now (D.width_of self.entry.dimension.now)
             (D.height_of self.entry.dimension.now)
             (length cells, R.columns self.entry.records) in
@@ -161,14 +159,14 @@ where
             (texts_at C.Color.texts C.color_at self.entry.colors.now)) e))) }
         ensures nothing { IfErr result (λ e. (e ≡ Write)
             ⊎ ((error : AllocError) × (e ≡ Memory error)) ⊎ (sink.new ≡ sink.old)) }
-        ensures beginning { OnErr result ((sink.new ≡ sink.old) ⊎ ((cells : List (List R.Iter.Cell))
-            × R.tells self.entry.records cells × (
+        ensures beginning { OnErr result ((sink.new ≡ sink.old)
+            ⊎ TellsRows R.tells self.entry.records (λ cells.
             let parts = parts_of self.entry.config.now (D.width_of self.entry.dimension.now)
             (D.height_of self.entry.dimension.now)
             (length cells, R.columns self.entry.records) in
             (n : ℕ) × Appends (W.contents sink.old) (W.contents sink.new)
             (take n (printed (drawing_of_rows (λ cell. text_lines (R.Iter.Cell.text cell))
-            parts cells (texts_at C.Color.texts C.color_at self.entry.colors.now))))))) }
+            parts cells (texts_at C.Color.texts C.color_at self.entry.colors.now)))))) }
         ensures write { IsErrOf result DrawError.Write → (W.has_failed sink.new ≡ true)
             ⊎ (W.has_stalled sink.old ≡ false → W.has_stalled sink.new ≡ true) }
     {
@@ -202,16 +200,15 @@ where
         requires rows { (cells : List (List R.Iter.Cell)) → R.tells self.records cells →
             HasSizes (D.has_row self.dimension.now) (length cells) }
         requires columns { HasSizes (D.has_column self.dimension.now) (R.columns self.records) }
-        ensures picture { IfOk result (λ string. ((cells : List (List R.Iter.Cell))
-            × R.tells self.entry.records cells × (
+        ensures picture { IfOk result (λ string. TellsRows R.tells self.entry.records (λ cells.
             let parts = parts_of self.entry.config.now (D.width_of self.entry.dimension.now)
             (D.height_of self.entry.dimension.now)
             (length cells, R.columns self.entry.records) in
             string_bytes string ≡ printed (drawing_of_rows
             (λ cell. text_lines (R.Iter.Cell.text cell)) parts cells
-            (texts_at C.Color.texts C.color_at self.entry.colors.now))))) }
-        ensures fault { IfErr result (λ e. UnlessMemoryFails e ((cells : List (List R.Iter.Cell))
-            × R.tells self.entry.records cells × (
+            (texts_at C.Color.texts C.color_at self.entry.colors.now)))) }
+        ensures fault { IfErr result (λ e. UnlessMemoryFails e
+            (TellsRows R.tells self.entry.records (λ cells.
             let parts = parts_of self.entry.config.now (D.width_of self.entry.dimension.now)
             (D.height_of self.entry.dimension.now)
             (length cells, R.columns self.entry.records) in

@@ -1,9 +1,10 @@
 //! What is found along one direction.
 
-ghost use Rattle.std.specs.Prelude.{◌≡◌, List};
+ghost use Rattle.std.specs.Prelude.{◌≡◌};
 ghost use Rattle.papergrid_tracks.specs.Answers.{AnswersWhere};
 ghost use Rattle.papergrid_walk.specs.Cells.{count_along, problem_of};
 ghost use Rattle.papergrid_layout.specs.Answers.{UnlessMemory};
+ghost use Rattle.papergrid_text.specs.Records.{TellsRows};
 
 use papergrid_maps::ConfigView;
 use papergrid_text::{IntoRecords, Records};
@@ -62,9 +63,9 @@ where
     M: Measure<<<R as Records>::Iter as IntoRecords>::Cell>,
     <<R as Records>::Iter as IntoRecords>::Cell: Drop,
     requires { R.is_lawful records }
-    ensures { UnlessMemory result ((cells : List (List R.Iter.Cell)) × R.tells records cells
-        × AnswersWhere T.too_large (T.solves certify) (problem_of (S.grid settings.now) M.measured
-        (R.columns records) cells direction) result) }
+    ensures { UnlessMemory result (TellsRows R.tells records (λ cells.
+        AnswersWhere T.too_large (T.solves certify) (problem_of (S.grid settings.now) M.measured
+        (R.columns records) cells direction) result)) }
 {
     let columns = records.count_columns();
     let (kept, rows) = gather::<M, R, S>(alloc, records, settings, direction)?;

@@ -8,6 +8,7 @@ ghost use Rattle.papergrid_config.specs.Grids.{spanned_grid};
 ghost use Rattle.papergrid_layout.specs.Answers.{AnswersBothWhere, AreTooLargeBy, UnlessMemory};
 ghost use Rattle.papergrid_layout.specs.ForProofs.Earlier.{earlier, earlier_of};
 ghost use Rattle.papergrid_layout.specs.ForProofs.Solved.{IsSolvedWith};
+ghost use Rattle.papergrid_text.specs.Records.{TellsRows};
 
 use crate::along::Along;
 use crate::sizing::Sizing;
@@ -111,9 +112,9 @@ where
     M: Measure<<<R as Records>::Iter as IntoRecords>::Cell>,
     <<R as Records>::Iter as IntoRecords>::Cell: Drop,
     requires { R.is_lawful records }
-    ensures { UnlessMemory result ((cells : List (List R.Iter.Cell)) × R.tells records cells
-        × AnswersBothWhere (S.grid settings.now) M.measured
-        (R.columns records) cells T.too_large (T.solves certify) result) }
+    ensures { UnlessMemory result (TellsRows R.tells records (λ cells.
+        AnswersBothWhere (S.grid settings.now) M.measured
+        (R.columns records) cells T.too_large (T.solves certify) result)) }
 {
     let columns = records.count_columns();
     let (both, rows) = gather_both::<M, R, S>(alloc, records, settings)?;
@@ -135,9 +136,9 @@ pub fn solve_by<R: Records + Drop>(
 where
     <<R as Records>::Iter as IntoRecords>::Cell: AsStr + Drop,
     requires { R.is_lawful records }
-    ensures { UnlessMemory result ((cells : List (List R.Iter.Cell)) × R.tells records cells
-        × AnswersBothWhere (spanned_grid config.now) (line_measure R.Iter.Cell.text)
-        (R.columns records) cells (AreTooLargeBy sizing) (IsSolvedWith sizing certify) result) }
+    ensures { UnlessMemory result (TellsRows R.tells records (λ cells.
+        AnswersBothWhere (spanned_grid config.now) (line_measure R.Iter.Cell.text)
+        (R.columns records) cells (AreTooLargeBy sizing) (IsSolvedWith sizing certify) result)) }
 {
     match sizing {
         Sizing::ByShares => solve_both::<ByShares, ByLines, _, _>(alloc, records, config, certify),

@@ -1,7 +1,6 @@
 //! The cells that certify that the sizes of records whose cells are texts are least, alone or with the sizes, and the
 //! checkers of such cells.
 
-ghost use Rattle.std.specs.Prelude.{List};
 ghost use Rattle.papergrid_values.specs.declared.direction.Direction.TheVariants.{Columns, Rows};
 ghost use Rattle.papergrid_tracks.specs.Answers.{Answers, IsCertificateOrNone};
 ghost use Rattle.papergrid_tracks.specs.LeastAnswers.{IsLeastCertified};
@@ -10,6 +9,7 @@ ghost use Rattle.papergrid_config.specs.Grids.{spanned_grid};
 ghost use Rattle.papergrid_walk.specs.Measures.{line_measure};
 ghost use Rattle.papergrid_layout.specs.Answers.{UnlessMemory};
 ghost use Rattle.papergrid_layout.specs.Certificates.{IsCertifiedBy, IsChecked};
+ghost use Rattle.papergrid_text.specs.Records.{TellsRows};
 
 use crate::along::solve_along;
 use crate::both::solve_by;
@@ -42,10 +42,10 @@ pub fn width_witness<R: Records + Drop>(
 where
     <<R as Records>::Iter as IntoRecords>::Cell: AsStr + Drop,
     requires { R.is_lawful records }
-    ensures { UnlessMemory result ((cells : List (List R.Iter.Cell)) × R.tells records cells
-        × Answers IsCertificateOrNone
+    ensures { UnlessMemory result (TellsRows R.tells records (λ cells.
+        Answers IsCertificateOrNone
         (problem_of (spanned_grid config.now) (line_measure R.Iter.Cell.text)
-        (R.columns records) cells Columns) result) }
+        (R.columns records) cells Columns) result)) }
 {
     solve_along::<ByShares, ByLines, _, _>(alloc, records, config, Direction::Columns, true).map(
         |found| found.certificate,
@@ -69,10 +69,10 @@ pub fn height_witness<R: Records + Drop>(
 where
     <<R as Records>::Iter as IntoRecords>::Cell: AsStr + Drop,
     requires { R.is_lawful records }
-    ensures { UnlessMemory result ((cells : List (List R.Iter.Cell)) × R.tells records cells
-        × Answers IsCertificateOrNone
+    ensures { UnlessMemory result (TellsRows R.tells records (λ cells.
+        Answers IsCertificateOrNone
         (problem_of (spanned_grid config.now) (line_measure R.Iter.Cell.text)
-        (R.columns records) cells Rows) result) }
+        (R.columns records) cells Rows) result)) }
 {
     solve_along::<ByShares, ByLines, _, _>(alloc, records, config, Direction::Rows, true).map(
         |found| found.certificate,
@@ -95,9 +95,9 @@ pub fn check_width_witness<R: Records + Drop>(
 where
     <<R as Records>::Iter as IntoRecords>::Cell: AsStr + Drop,
     requires { R.is_lawful records }
-    ensures { (cells : List (List R.Iter.Cell)) × R.tells records cells
-        × IsChecked (problem_of (spanned_grid config.now) (line_measure R.Iter.Cell.text)
-        (R.columns records) cells Columns) widths.now list.now result }
+    ensures { TellsRows R.tells records (λ cells.
+        IsChecked (problem_of (spanned_grid config.now) (line_measure R.Iter.Cell.text)
+        (R.columns records) cells Columns) widths.now list.now result) }
 {
     check::<ByLines, R, SpannedConfig>(records, config, Direction::Columns, widths, list)
 }
@@ -118,9 +118,9 @@ pub fn check_height_witness<R: Records + Drop>(
 where
     <<R as Records>::Iter as IntoRecords>::Cell: AsStr + Drop,
     requires { R.is_lawful records }
-    ensures { (cells : List (List R.Iter.Cell)) × R.tells records cells
-        × IsChecked (problem_of (spanned_grid config.now) (line_measure R.Iter.Cell.text)
-        (R.columns records) cells Rows) heights.now list.now result }
+    ensures { TellsRows R.tells records (λ cells.
+        IsChecked (problem_of (spanned_grid config.now) (line_measure R.Iter.Cell.text)
+        (R.columns records) cells Rows) heights.now list.now result) }
 {
     check::<ByLines, R, SpannedConfig>(records, config, Direction::Rows, heights, list)
 }
@@ -143,9 +143,9 @@ pub fn width_certificate<R: Records + Drop>(
 where
     <<R as Records>::Iter as IntoRecords>::Cell: AsStr + Drop,
     requires { R.is_lawful records }
-    ensures { UnlessMemory result ((cells : List (List R.Iter.Cell)) × R.tells records cells
-        × IsLeastCertified (problem_of (spanned_grid config.now) (line_measure R.Iter.Cell.text)
-        (R.columns records) cells Columns) result) }
+    ensures { UnlessMemory result (TellsRows R.tells records (λ cells.
+        IsLeastCertified (problem_of (spanned_grid config.now) (line_measure R.Iter.Cell.text)
+        (R.columns records) cells Columns) result)) }
 {
     certificate_along(alloc, records, config, Direction::Columns)
 }
@@ -167,9 +167,9 @@ pub fn height_certificate<R: Records + Drop>(
 where
     <<R as Records>::Iter as IntoRecords>::Cell: AsStr + Drop,
     requires { R.is_lawful records }
-    ensures { UnlessMemory result ((cells : List (List R.Iter.Cell)) × R.tells records cells
-        × IsLeastCertified (problem_of (spanned_grid config.now) (line_measure R.Iter.Cell.text)
-        (R.columns records) cells Rows) result) }
+    ensures { UnlessMemory result (TellsRows R.tells records (λ cells.
+        IsLeastCertified (problem_of (spanned_grid config.now) (line_measure R.Iter.Cell.text)
+        (R.columns records) cells Rows) result)) }
 {
     certificate_along(alloc, records, config, Direction::Rows)
 }
@@ -184,9 +184,9 @@ fn certificate_along<R: Records + Drop>(
 where
     <<R as Records>::Iter as IntoRecords>::Cell: AsStr + Drop,
     requires { R.is_lawful records }
-    ensures { UnlessMemory result ((cells : List (List R.Iter.Cell)) × R.tells records cells
-        × IsLeastCertified (problem_of (spanned_grid config.now) (line_measure R.Iter.Cell.text)
-        (R.columns records) cells direction) result) }
+    ensures { UnlessMemory result (TellsRows R.tells records (λ cells.
+        IsLeastCertified (problem_of (spanned_grid config.now) (line_measure R.Iter.Cell.text)
+        (R.columns records) cells direction) result)) }
 {
     let found = solve_along::<ByLeastTotal, ByLines, _, _>(
         alloc, records, config, direction, true,
@@ -228,9 +228,9 @@ pub fn certify<R: Records + Drop>(
 where
     <<R as Records>::Iter as IntoRecords>::Cell: AsStr + Drop,
     requires { R.is_lawful records }
-    ensures { UnlessMemory result ((cells : List (List R.Iter.Cell)) × R.tells records cells
-        × IsCertifiedBy (spanned_grid config.now) (line_measure R.Iter.Cell.text)
-        (R.columns records) cells sizing result) }
+    ensures { UnlessMemory result (TellsRows R.tells records (λ cells.
+        IsCertifiedBy (spanned_grid config.now) (line_measure R.Iter.Cell.text)
+        (R.columns records) cells sizing result)) }
 {
     let PerDirection { columns, rows } = solve_by(alloc, records, config, sizing, true)?;
     Ok(Certified {

@@ -1,11 +1,12 @@
 //! The check that sizes along one direction are least, by a list of positions.
 
-ghost use Rattle.std.specs.Prelude.{◌≡◌, ◌+◌, ◌^◌, ◌<◌, ◌≤◌, ◌⊎◌, ◌∷◌, [], ⊤, List, length};
+ghost use Rattle.std.specs.Prelude.{◌≡◌, ◌+◌, ◌^◌, ◌<◌, ◌≤◌, ◌⊎◌, ◌∷◌, [], ⊤, length};
 ghost use Rattle.papergrid_tracks.specs.ForProofs.Checks.{AreBounded, IsCandidate};
 ghost use Rattle.papergrid_walk.specs.Cells.{demands_by, demands_of, problem_of};
 ghost use Rattle.papergrid_layout.specs.Certificates.{IsChecked};
 ghost use Rattle.papergrid_layout.specs.ForProofs.Checking.{AreShown, ChecksBy, ChecksMore, IsShownCandidate, check_more, check_none};
 ghost use Rattle.std.proofs.Common.{◌∙◌, ap, refl};
+ghost use Rattle.papergrid_text.specs.Records.{TellsRows};
 
 use crate::along::{Along, count_of};
 use papergrid_maps::ConfigView;
@@ -142,10 +143,10 @@ where
     requires shown { IsShownCandidate (S.grid settings.now) candidate.now }
     ensures bounded { AreBounded candidate.now.places.now result.0 }
     ensures checks { let grid = S.grid settings.now in
-        (cells : List (List R.Iter.Cell)) × R.tells records cells
-        × ChecksBy grid candidate.now result.0
+        TellsRows R.tells records (λ cells.
+        ChecksBy grid candidate.now result.0
         (demands_of candidate.now.direction grid M.measured cells)
-        × (result.1 ≡ length cells) }
+        × (result.1 ≡ length cells)) }
 {
     let mut checker = Checker::<M, S> {
         settings,
@@ -172,10 +173,10 @@ where
     requires ordered { IsCandidate ((S.grid settings.now).span candidate.now.direction)
         candidate.now }
     requires shown { IsShownCandidate (S.grid settings.now) candidate.now }
-    ensures { (cells : List (List R.Iter.Cell)) × R.tells records cells
-        × IsChecked (problem_of (S.grid settings.now) M.measured
+    ensures { TellsRows R.tells records (λ cells.
+        IsChecked (problem_of (S.grid settings.now) M.measured
         (R.columns records) cells candidate.now.direction) candidate.now.sizes.now
-        candidate.now.places.now result }
+        candidate.now.places.now result) }
 {
     let columns = records.count_columns();
     let axis = Along {
@@ -203,9 +204,9 @@ where
     requires lawful { R.is_lawful records }
     requires reason { (length sizes.now < length places.now)
         ⊎ (AreShown (S.grid settings.now) places.now → ⊥) }
-    ensures { (cells : List (List R.Iter.Cell)) × R.tells records cells
-        × IsChecked (problem_of (S.grid settings.now) M.measured
-        (R.columns records) cells direction) sizes.now places.now result }
+    ensures { TellsRows R.tells records (λ cells.
+        IsChecked (problem_of (S.grid settings.now) M.measured
+        (R.columns records) cells direction) sizes.now places.now result) }
 {
     let candidate = Candidate {
         direction,
@@ -233,9 +234,9 @@ where
     M: Measure<<<R as Records>::Iter as IntoRecords>::Cell>,
     <<R as Records>::Iter as IntoRecords>::Cell: Drop,
     requires { R.is_lawful records }
-    ensures { (cells : List (List R.Iter.Cell)) × R.tells records cells
-        × IsChecked (problem_of (S.grid settings.now) M.measured
-        (R.columns records) cells direction) sizes.now places.now result }
+    ensures { TellsRows R.tells records (λ cells.
+        IsChecked (problem_of (S.grid settings.now) M.measured
+        (R.columns records) cells direction) sizes.now places.now result) }
 {
     if places.len() > sizes.len() {
         return refuse::<M, R, S>(records, settings, direction, sizes, places);

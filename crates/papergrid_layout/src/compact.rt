@@ -1,13 +1,14 @@
 //! The sizes of records whose cells are all visible, alike and in one row and column each. Source:
 //! `dimension/compact.rs`.
 
-ghost use Rattle.std.specs.Prelude.{◌≡◌, [], List};
+ghost use Rattle.std.specs.Prelude.{◌≡◌, []};
 ghost use Rattle.papergrid_values.specs.declared.direction.Direction.TheVariants.{Columns, Rows};
 ghost use Rattle.papergrid_maps.specs.Grids.{compact_grid};
 ghost use Rattle.papergrid_walk.specs.Measures.{std_line_measure};
 ghost use Rattle.papergrid_tracks.specs.Answers.{IsSized};
 ghost use Rattle.papergrid_walk.specs.Cells.{problem_of};
 ghost use Rattle.papergrid_layout.specs.Answers.{AreBothSized, UnlessMemory};
+ghost use Rattle.papergrid_text.specs.Records.{TellsRows};
 
 use crate::along::solve_along;
 use crate::both::solve_both;
@@ -56,9 +57,9 @@ impl CompactGridDimension {
     where
         <<R as Records>::Iter as IntoRecords>::Cell: AsStr + Drop,
         requires { R.is_lawful records }
-        ensures { UnlessMemory result ((cells : List (List R.Iter.Cell)) × R.tells records cells
-            × IsSized (problem_of (compact_grid config.now) (std_line_measure R.Iter.Cell.text)
-            (R.columns records) cells Columns) result) }
+        ensures { UnlessMemory result (TellsRows R.tells records (λ cells.
+            IsSized (problem_of (compact_grid config.now) (std_line_measure R.Iter.Cell.text)
+            (R.columns records) cells Columns) result)) }
     {
         solve_along::<ByShares, ByStdLines, _, _>(
             alloc,
@@ -86,9 +87,9 @@ impl CompactGridDimension {
     where
         <<R as Records>::Iter as IntoRecords>::Cell: AsStr + Drop,
         requires { R.is_lawful records }
-        ensures { UnlessMemory result ((cells : List (List R.Iter.Cell)) × R.tells records cells
-            × IsSized (problem_of (compact_grid config.now) (std_line_measure R.Iter.Cell.text)
-            (R.columns records) cells Rows) result) }
+        ensures { UnlessMemory result (TellsRows R.tells records (λ cells.
+            IsSized (problem_of (compact_grid config.now) (std_line_measure R.Iter.Cell.text)
+            (R.columns records) cells Rows) result)) }
     {
         solve_along::<ByShares, ByStdLines, _, _>(
             alloc,
@@ -117,9 +118,9 @@ impl CompactGridDimension {
     where
         <<R as Records>::Iter as IntoRecords>::Cell: AsStr + Drop,
         requires { R.is_lawful records }
-        ensures { UnlessMemory result ((cells : List (List R.Iter.Cell)) × R.tells records cells
-            × AreBothSized (compact_grid config.now) (std_line_measure R.Iter.Cell.text)
-            (R.columns records) cells result) }
+        ensures { UnlessMemory result (TellsRows R.tells records (λ cells.
+            AreBothSized (compact_grid config.now) (std_line_measure R.Iter.Cell.text)
+            (R.columns records) cells result)) }
     {
         let found = solve_both::<ByShares, ByStdLines, _, _>(alloc, records, config, false)?;
         let PerDirection { columns, rows } = found;
@@ -154,9 +155,9 @@ impl<R: Records + Drop> Estimate<R, CompactConfig> for CompactGridDimension
 where
     <<R as Records>::Iter as IntoRecords>::Cell: AsStr + Drop,
 {
-    ghost use Rattle.std.specs.Prelude.{List};
     ghost use Rattle.papergrid_values.specs.declared.direction.Direction.TheVariants.{Columns};
     ghost use Rattle.papergrid_maps.specs.Grids.{compact_grid};
+    ghost use Rattle.papergrid_text.specs.Records.{TellsRows};
     ghost use Rattle.papergrid_walk.specs.Measures.{std_line_measure};
     ghost use Rattle.papergrid_tracks.specs.Answers.{AreSizes, IsRefused};
     ghost use Rattle.papergrid_walk.specs.Cells.{problem_of};
@@ -164,14 +165,14 @@ where
 
     ghost accepts = { R.is_lawful };
 
-    ghost is_estimate = { λ d records config. (cells : List (List R.Iter.Cell)) × R.tells records cells
-        × AreSizes (problem_of (compact_grid config) (std_line_measure R.Iter.Cell.text)
-        (R.columns records) cells Columns) d.widths };
+    ghost is_estimate = { λ d records config. TellsRows R.tells records (λ cells.
+        AreSizes (problem_of (compact_grid config) (std_line_measure R.Iter.Cell.text)
+        (R.columns records) cells Columns) d.widths) };
 
     ghost is_refused = { λ _ records config error. UnlessMemoryError error
-        ((cells : List (List R.Iter.Cell)) × R.tells records cells
-        × IsRefused (problem_of (compact_grid config) (std_line_measure R.Iter.Cell.text)
-        (R.columns records) cells Columns) error) };
+        (TellsRows R.tells records (λ cells.
+        IsRefused (problem_of (compact_grid config) (std_line_measure R.Iter.Cell.text)
+        (R.columns records) cells Columns) error)) };
 
     fn estimate(&mut self, records: R, config: &CompactConfig) -> Result<(), LayoutError> {
         let widths = CompactGridDimension::width(self.alloc, records, config)?;

@@ -1,12 +1,13 @@
 //! The sizes of records whose cells are texts. Source: `dimension/iterable.rs`.
 
-ghost use Rattle.std.specs.Prelude.{◌≡◌, [], List};
+ghost use Rattle.std.specs.Prelude.{◌≡◌, []};
 ghost use Rattle.papergrid_values.specs.declared.direction.Direction.TheVariants.{Columns, Rows};
 ghost use Rattle.papergrid_config.specs.Grids.{spanned_grid};
 ghost use Rattle.papergrid_walk.specs.Measures.{line_measure};
 ghost use Rattle.papergrid_tracks.specs.Answers.{Answers, IsSized, IsTotal};
 ghost use Rattle.papergrid_walk.specs.Cells.{problem_of};
 ghost use Rattle.papergrid_layout.specs.Answers.{UnlessMemory};
+ghost use Rattle.papergrid_text.specs.Records.{TellsRows};
 
 use crate::along::solve_along;
 use crate::both::solve_both;
@@ -62,9 +63,9 @@ impl IterGridDimension {
     where
         <<R as Records>::Iter as IntoRecords>::Cell: AsStr + Drop,
         requires { R.is_lawful records }
-        ensures { UnlessMemory result ((cells : List (List R.Iter.Cell)) × R.tells records cells
-            × IsSized (problem_of (spanned_grid config.now) (line_measure R.Iter.Cell.text)
-            (R.columns records) cells Columns) result) }
+        ensures { UnlessMemory result (TellsRows R.tells records (λ cells.
+            IsSized (problem_of (spanned_grid config.now) (line_measure R.Iter.Cell.text)
+            (R.columns records) cells Columns) result)) }
     {
         let found = solve_along::<ByShares, ByLines, _, _>(
             alloc,
@@ -92,9 +93,9 @@ impl IterGridDimension {
     where
         <<R as Records>::Iter as IntoRecords>::Cell: AsStr + Drop,
         requires { R.is_lawful records }
-        ensures { UnlessMemory result ((cells : List (List R.Iter.Cell)) × R.tells records cells
-            × IsSized (problem_of (spanned_grid config.now) (line_measure R.Iter.Cell.text)
-            (R.columns records) cells Rows) result) }
+        ensures { UnlessMemory result (TellsRows R.tells records (λ cells.
+            IsSized (problem_of (spanned_grid config.now) (line_measure R.Iter.Cell.text)
+            (R.columns records) cells Rows) result)) }
     {
         let found = solve_along::<ByShares, ByLines, _, _>(
             alloc,
@@ -122,9 +123,9 @@ impl IterGridDimension {
     where
         <<R as Records>::Iter as IntoRecords>::Cell: AsStr + Drop,
         requires { R.is_lawful records }
-        ensures { UnlessMemory result ((cells : List (List R.Iter.Cell)) × R.tells records cells
-            × Answers IsTotal (problem_of (spanned_grid config.now) (line_measure R.Iter.Cell.text)
-            (R.columns records) cells Columns) result) }
+        ensures { UnlessMemory result (TellsRows R.tells records (λ cells.
+            Answers IsTotal (problem_of (spanned_grid config.now) (line_measure R.Iter.Cell.text)
+            (R.columns records) cells Columns) result)) }
     {
         total_along(alloc, records, config, Direction::Columns)
     }
@@ -145,9 +146,9 @@ impl IterGridDimension {
     where
         <<R as Records>::Iter as IntoRecords>::Cell: AsStr + Drop,
         requires { R.is_lawful records }
-        ensures { UnlessMemory result ((cells : List (List R.Iter.Cell)) × R.tells records cells
-            × Answers IsTotal (problem_of (spanned_grid config.now) (line_measure R.Iter.Cell.text)
-            (R.columns records) cells Rows) result) }
+        ensures { UnlessMemory result (TellsRows R.tells records (λ cells.
+            Answers IsTotal (problem_of (spanned_grid config.now) (line_measure R.Iter.Cell.text)
+            (R.columns records) cells Rows) result)) }
     {
         total_along(alloc, records, config, Direction::Rows)
     }
@@ -176,9 +177,9 @@ fn total_along<R: Records + Drop>(
 where
     <<R as Records>::Iter as IntoRecords>::Cell: AsStr + Drop,
     requires { R.is_lawful records }
-    ensures { UnlessMemory result ((cells : List (List R.Iter.Cell)) × R.tells records cells
-        × Answers IsTotal (problem_of (spanned_grid config.now) (line_measure R.Iter.Cell.text)
-        (R.columns records) cells direction) result) }
+    ensures { UnlessMemory result (TellsRows R.tells records (λ cells.
+        Answers IsTotal (problem_of (spanned_grid config.now) (line_measure R.Iter.Cell.text)
+        (R.columns records) cells direction) result)) }
 {
     let found = solve_along::<ByShares, ByLines, _, _>(alloc, records, config, direction, false)?;
     Ok(found.total)
@@ -208,21 +209,21 @@ impl<R: Records + Drop> Estimate<R, SpannedConfig> for IterGridDimension
 where
     <<R as Records>::Iter as IntoRecords>::Cell: AsStr + Drop,
 {
-    ghost use Rattle.std.specs.Prelude.{List};
     ghost use Rattle.papergrid_config.specs.Grids.{spanned_grid};
+    ghost use Rattle.papergrid_text.specs.Records.{TellsRows};
     ghost use Rattle.papergrid_walk.specs.Measures.{line_measure};
     ghost use Rattle.papergrid_layout.specs.Answers.{AreBothSizes, IsBothRefused, UnlessMemoryError};
 
     ghost accepts = { R.is_lawful };
 
-    ghost is_estimate = { λ d records config. (cells : List (List R.Iter.Cell)) × R.tells records cells
-        × AreBothSizes (spanned_grid config) (line_measure R.Iter.Cell.text)
-        (R.columns records) cells d.widths d.heights };
+    ghost is_estimate = { λ d records config. TellsRows R.tells records (λ cells.
+        AreBothSizes (spanned_grid config) (line_measure R.Iter.Cell.text)
+        (R.columns records) cells d.widths d.heights) };
 
     ghost is_refused = { λ d records config error. UnlessMemoryError error
-        ((cells : List (List R.Iter.Cell)) × R.tells records cells
-        × IsBothRefused (spanned_grid config) (line_measure R.Iter.Cell.text)
-        (R.columns records) cells error) };
+        (TellsRows R.tells records (λ cells.
+        IsBothRefused (spanned_grid config) (line_measure R.Iter.Cell.text)
+        (R.columns records) cells error)) };
 
     fn estimate(&mut self, records: R, config: &SpannedConfig) -> Result<(), LayoutError> {
         let found = solve_both::<ByShares, ByLines, _, _>(self.alloc, records, config, false);

@@ -1,12 +1,13 @@
 //! The least sizes of records whose cells are texts, whatever spans cross.
 
-ghost use Rattle.std.specs.Prelude.{◌≡◌, [], List};
+ghost use Rattle.std.specs.Prelude.{◌≡◌, []};
 ghost use Rattle.papergrid_values.specs.declared.direction.Direction.TheVariants.{Columns, Rows};
 ghost use Rattle.papergrid_config.specs.Grids.{spanned_grid};
 ghost use Rattle.papergrid_walk.specs.Measures.{line_measure};
 ghost use Rattle.papergrid_tracks.specs.LeastAnswers.{IsLeastSized, IsLeastTotal, LeastAnswers};
 ghost use Rattle.papergrid_walk.specs.Cells.{problem_of};
 ghost use Rattle.papergrid_layout.specs.Answers.{UnlessMemory};
+ghost use Rattle.papergrid_text.specs.Records.{TellsRows};
 
 use crate::along::solve_along;
 use crate::both::solve_both;
@@ -62,9 +63,9 @@ impl LeastGridDimension {
     where
         <<R as Records>::Iter as IntoRecords>::Cell: AsStr + Drop,
         requires { R.is_lawful records }
-        ensures { UnlessMemory result ((cells : List (List R.Iter.Cell)) × R.tells records cells
-            × IsLeastSized (problem_of (spanned_grid config.now) (line_measure R.Iter.Cell.text)
-            (R.columns records) cells Columns) result) }
+        ensures { UnlessMemory result (TellsRows R.tells records (λ cells.
+            IsLeastSized (problem_of (spanned_grid config.now) (line_measure R.Iter.Cell.text)
+            (R.columns records) cells Columns) result)) }
     {
         sizes_along(alloc, records, config, Direction::Columns)
     }
@@ -86,9 +87,9 @@ impl LeastGridDimension {
     where
         <<R as Records>::Iter as IntoRecords>::Cell: AsStr + Drop,
         requires { R.is_lawful records }
-        ensures { UnlessMemory result ((cells : List (List R.Iter.Cell)) × R.tells records cells
-            × IsLeastSized (problem_of (spanned_grid config.now) (line_measure R.Iter.Cell.text)
-            (R.columns records) cells Rows) result) }
+        ensures { UnlessMemory result (TellsRows R.tells records (λ cells.
+            IsLeastSized (problem_of (spanned_grid config.now) (line_measure R.Iter.Cell.text)
+            (R.columns records) cells Rows) result)) }
     {
         sizes_along(alloc, records, config, Direction::Rows)
     }
@@ -109,10 +110,10 @@ impl LeastGridDimension {
     where
         <<R as Records>::Iter as IntoRecords>::Cell: AsStr + Drop,
         requires { R.is_lawful records }
-        ensures { UnlessMemory result ((cells : List (List R.Iter.Cell)) × R.tells records cells
-            × LeastAnswers IsLeastTotal (problem_of (spanned_grid config.now)
+        ensures { UnlessMemory result (TellsRows R.tells records (λ cells.
+            LeastAnswers IsLeastTotal (problem_of (spanned_grid config.now)
             (line_measure R.Iter.Cell.text)
-            (R.columns records) cells Columns) result) }
+            (R.columns records) cells Columns) result)) }
     {
         total_along(alloc, records, config, Direction::Columns)
     }
@@ -133,10 +134,10 @@ impl LeastGridDimension {
     where
         <<R as Records>::Iter as IntoRecords>::Cell: AsStr + Drop,
         requires { R.is_lawful records }
-        ensures { UnlessMemory result ((cells : List (List R.Iter.Cell)) × R.tells records cells
-            × LeastAnswers IsLeastTotal (problem_of (spanned_grid config.now)
+        ensures { UnlessMemory result (TellsRows R.tells records (λ cells.
+            LeastAnswers IsLeastTotal (problem_of (spanned_grid config.now)
             (line_measure R.Iter.Cell.text)
-            (R.columns records) cells Rows) result) }
+            (R.columns records) cells Rows) result)) }
     {
         total_along(alloc, records, config, Direction::Rows)
     }
@@ -165,9 +166,9 @@ fn sizes_along<R: Records + Drop>(
 where
     <<R as Records>::Iter as IntoRecords>::Cell: AsStr + Drop,
     requires { R.is_lawful records }
-    ensures { UnlessMemory result ((cells : List (List R.Iter.Cell)) × R.tells records cells
-        × IsLeastSized (problem_of (spanned_grid config.now) (line_measure R.Iter.Cell.text)
-        (R.columns records) cells direction) result) }
+    ensures { UnlessMemory result (TellsRows R.tells records (λ cells.
+        IsLeastSized (problem_of (spanned_grid config.now) (line_measure R.Iter.Cell.text)
+        (R.columns records) cells direction) result)) }
 {
     solve_along::<ByLeastTotal, ByLines, _, _>(alloc, records, config, direction, false).map(
         |found| found.sizes,
@@ -184,10 +185,10 @@ fn total_along<R: Records + Drop>(
 where
     <<R as Records>::Iter as IntoRecords>::Cell: AsStr + Drop,
     requires { R.is_lawful records }
-    ensures { UnlessMemory result ((cells : List (List R.Iter.Cell)) × R.tells records cells
-        × LeastAnswers IsLeastTotal (problem_of (spanned_grid config.now)
+    ensures { UnlessMemory result (TellsRows R.tells records (λ cells.
+        LeastAnswers IsLeastTotal (problem_of (spanned_grid config.now)
         (line_measure R.Iter.Cell.text)
-        (R.columns records) cells direction) result) }
+        (R.columns records) cells direction) result)) }
 {
     let found = solve_along::<ByLeastTotal, ByLines, _, _>(
         alloc, records, config, direction, false,
@@ -219,21 +220,21 @@ impl<R: Records + Drop> Estimate<R, SpannedConfig> for LeastGridDimension
 where
     <<R as Records>::Iter as IntoRecords>::Cell: AsStr + Drop,
 {
-    ghost use Rattle.std.specs.Prelude.{List};
     ghost use Rattle.papergrid_config.specs.Grids.{spanned_grid};
+    ghost use Rattle.papergrid_text.specs.Records.{TellsRows};
     ghost use Rattle.papergrid_walk.specs.Measures.{line_measure};
     ghost use Rattle.papergrid_layout.specs.Answers.{AreBothLeast, HaveNoLeast, UnlessMemoryError};
 
     ghost accepts = { R.is_lawful };
 
-    ghost is_estimate = { λ d records config. (cells : List (List R.Iter.Cell)) × R.tells records cells
-        × AreBothLeast (spanned_grid config) (line_measure R.Iter.Cell.text)
-        (R.columns records) cells d.widths d.heights };
+    ghost is_estimate = { λ d records config. TellsRows R.tells records (λ cells.
+        AreBothLeast (spanned_grid config) (line_measure R.Iter.Cell.text)
+        (R.columns records) cells d.widths d.heights) };
 
     ghost is_refused = { λ d records config error. UnlessMemoryError error
-        ((cells : List (List R.Iter.Cell)) × R.tells records cells
-        × HaveNoLeast (spanned_grid config) (line_measure R.Iter.Cell.text)
-        (R.columns records) cells error) };
+        (TellsRows R.tells records (λ cells.
+        HaveNoLeast (spanned_grid config) (line_measure R.Iter.Cell.text)
+        (R.columns records) cells error)) };
 
     fn estimate(&mut self, records: R, config: &SpannedConfig) -> Result<(), LayoutError> {
         let found = solve_both::<ByLeastTotal, ByLines, _, _>(self.alloc, records, config, false);

@@ -1,12 +1,13 @@
 //! The sizes of records whose cells know their width and their lines. Source: `dimension/peekable.rs`.
 
-ghost use Rattle.std.specs.Prelude.{◌≡◌, [], List, length};
+ghost use Rattle.std.specs.Prelude.{◌≡◌, [], length};
 ghost use Rattle.papergrid_values.specs.declared.direction.Direction.TheVariants.{Columns, Rows};
 ghost use Rattle.papergrid_config.specs.Grids.{spanned_grid};
 ghost use Rattle.papergrid_walk.specs.Measures.{cell_measure};
 ghost use Rattle.papergrid_tracks.specs.Answers.{IsSized};
 ghost use Rattle.papergrid_walk.specs.Cells.{problem_of};
 ghost use Rattle.papergrid_layout.specs.Answers.{AreBothSized, UnlessMemory};
+ghost use Rattle.papergrid_text.specs.Records.{TellsRows};
 
 use crate::along::solve_along;
 use crate::both::solve_both;
@@ -57,10 +58,10 @@ impl PeekableGridDimension {
     where
         <<R as Records>::Iter as IntoRecords>::Cell: Cell + Drop,
         requires { R.is_lawful records }
-        ensures { UnlessMemory result ((cells : List (List R.Iter.Cell)) × R.tells records cells
-            × IsSized (problem_of (spanned_grid config.now)
+        ensures { UnlessMemory result (TellsRows R.tells records (λ cells.
+            IsSized (problem_of (spanned_grid config.now)
             (cell_measure R.Iter.Cell.width R.Iter.Cell.lines)
-            (R.columns records) cells Columns) result) }
+            (R.columns records) cells Columns) result)) }
     {
         let found = solve_along::<ByShares, ByCell, _, _>(
             alloc,
@@ -88,10 +89,10 @@ impl PeekableGridDimension {
     where
         <<R as Records>::Iter as IntoRecords>::Cell: Cell + Drop,
         requires { R.is_lawful records }
-        ensures { UnlessMemory result ((cells : List (List R.Iter.Cell)) × R.tells records cells
-            × IsSized (problem_of (spanned_grid config.now)
+        ensures { UnlessMemory result (TellsRows R.tells records (λ cells.
+            IsSized (problem_of (spanned_grid config.now)
             (cell_measure R.Iter.Cell.width R.Iter.Cell.lines)
-            (R.columns records) cells Rows) result) }
+            (R.columns records) cells Rows) result)) }
     {
         let found = solve_along::<ByShares, ByCell, _, _>(
             alloc,
@@ -122,9 +123,9 @@ impl PeekableGridDimension {
     where
         <<R as Records>::Iter as IntoRecords>::Cell: Cell + Drop,
         requires { R.is_lawful records }
-        ensures { UnlessMemory result ((cells : List (List R.Iter.Cell)) × R.tells records cells
-            × AreBothSized (spanned_grid config.now)
-            (cell_measure R.Iter.Cell.width R.Iter.Cell.lines) (R.columns records) cells result) }
+        ensures { UnlessMemory result (TellsRows R.tells records (λ cells.
+            AreBothSized (spanned_grid config.now)
+            (cell_measure R.Iter.Cell.width R.Iter.Cell.lines) (R.columns records) cells result)) }
     {
         let found = solve_both::<ByShares, ByCell, _, _>(alloc, records, config, false)?;
         let PerDirection { columns, rows } = found;
@@ -169,21 +170,21 @@ impl<R: Records + Drop> Estimate<R, SpannedConfig> for PeekableGridDimension
 where
     <<R as Records>::Iter as IntoRecords>::Cell: Cell + Drop,
 {
-    ghost use Rattle.std.specs.Prelude.{List};
     ghost use Rattle.papergrid_config.specs.Grids.{spanned_grid};
+    ghost use Rattle.papergrid_text.specs.Records.{TellsRows};
     ghost use Rattle.papergrid_walk.specs.Measures.{cell_measure};
     ghost use Rattle.papergrid_layout.specs.Answers.{AreBothSizes, IsBothRefused, UnlessMemoryError};
 
     ghost accepts = { R.is_lawful };
 
-    ghost is_estimate = { λ d records config. (cells : List (List R.Iter.Cell)) × R.tells records cells
-        × AreBothSizes (spanned_grid config) (cell_measure R.Iter.Cell.width R.Iter.Cell.lines)
-        (R.columns records) cells d.widths d.heights };
+    ghost is_estimate = { λ d records config. TellsRows R.tells records (λ cells.
+        AreBothSizes (spanned_grid config) (cell_measure R.Iter.Cell.width R.Iter.Cell.lines)
+        (R.columns records) cells d.widths d.heights) };
 
     ghost is_refused = { λ d records config error. UnlessMemoryError error
-        ((cells : List (List R.Iter.Cell)) × R.tells records cells
-        × IsBothRefused (spanned_grid config) (cell_measure R.Iter.Cell.width R.Iter.Cell.lines)
-        (R.columns records) cells error) };
+        (TellsRows R.tells records (λ cells.
+        IsBothRefused (spanned_grid config) (cell_measure R.Iter.Cell.width R.Iter.Cell.lines)
+        (R.columns records) cells error)) };
 
     fn estimate(&mut self, records: R, config: &SpannedConfig) -> Result<(), LayoutError> {
         let found = solve_both::<ByShares, ByCell, _, _>(self.alloc, records, config, false);

@@ -1,6 +1,6 @@
 //! A table as one value: a configuration with the sizes of its columns and rows.
 
-ghost use Rattle.std.specs.Prelude.{◌≡◌, ◌+◌, ◌<◌, ◌≤◌, ◌↔◌, ◌⊎◌, ◌&&◌, [], List, All, IfErr, IfOk, IsTrue, length, nat_le};
+ghost use Rattle.std.specs.Prelude.{◌≡◌, ◌+◌, ◌<◌, ◌≤◌, ◌↔◌, ◌⊎◌, ◌&&◌, [], All, IfErr, IfOk, IsTrue, length, nat_le};
 ghost use Rattle.std.specs.Option.{SomeIff};
 ghost use Rattle.std.specs.Result.{IsOkAnd};
 ghost use Rattle.papergrid_values.specs.declared.direction.Direction.{Direction};
@@ -9,6 +9,7 @@ ghost use Rattle.papergrid_walk.specs.Measures.{line_measure};
 ghost use Rattle.papergrid_layout.specs.Answers.{UnlessMemory};
 ghost use Rattle.papergrid_layout.specs.Places.{EndsWithin, HaveAllPlaces, IsFirstOver, IsTrackAt, StandsOver, place_at, total_along, track_count, track_line, track_size};
 ghost use Rattle.papergrid_layout.specs.Tables.{AreNotPlacedIn, IsPlacedIn, IsTable, IsTableOf, line_position, view_of};
+ghost use Rattle.papergrid_text.specs.Records.{TellsRows};
 
 use crate::both::solve_by;
 use crate::cell_rects::places;
@@ -83,9 +84,9 @@ impl<'a> Table<'a> {
     where
         <<R as Records>::Iter as IntoRecords>::Cell: AsStr + Drop,
         requires { R.is_lawful records }
-        ensures { UnlessMemory result ((cells : List (List R.Iter.Cell)) × R.tells records cells
-            × IsTableOf config.now (line_measure R.Iter.Cell.text)
-            (R.columns records) cells sizing result) }
+        ensures { UnlessMemory result (TellsRows R.tells records (λ cells.
+            IsTableOf config.now (line_measure R.Iter.Cell.text)
+            (R.columns records) cells sizing result)) }
     {
         let PerDirection { columns, rows } = solve_by(alloc, records, config, sizing, false)?;
         Table::from_sizes(alloc, config, columns.sizes, rows.sizes)

@@ -27,3 +27,7 @@ pub record GivesRows {W S Row T Cell : Type 0} (into : W → S → Type 0) (step
   pub rows : List Row
   pub walk : Gives into steps w rows
   pub each : AllZip (Gives row_into row_steps) rows cells
+
+-- records tell rows of which P holds
+abbrev pub TellsRows : {R Cell : Type 0} → (R → List (List Cell) → Type 0) → R → (List (List Cell) → Type 0) → Type 0
+TellsRows {Cell = Cell} tells records P = (rows : List (List Cell)) × tells records rows × P rows

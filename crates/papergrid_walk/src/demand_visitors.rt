@@ -1,6 +1,6 @@
 //! What visible cells need, along a direction or along both.
 
-ghost use Rattle.std.specs.Prelude.{◌≡◌, ℕ, ◌+◌, ◌-◌, ◌<◌, ◌≤◌, ◌^◌, ◌∷◌, [], ⊤, if◌then◌else◌, IfOk, IfSome, List, None, OnOk, Some, length};
+ghost use Rattle.std.specs.Prelude.{◌≡◌, ℕ, ◌+◌, ◌-◌, ◌<◌, ◌≤◌, ◌^◌, ◌∷◌, [], ⊤, if◌then◌else◌, IfOk, IfSome, None, OnOk, Some, length};
 ghost use Rattle.papergrid_values.specs.declared.direction.Direction.TheVariants.{Columns, Rows};
 ghost use Rattle.papergrid_tracks.specs.ForProofs.Demands.{AddsDemands, AreGathered};
 ghost use Rattle.papergrid_walk.specs.Cells.{demands_by, count_along, demands_of};
@@ -13,6 +13,7 @@ ghost use Rattle.papergrid_walk.specs.ForProofs.Pairs.{AddsBoth, AreBothGathered
 ghost use Rattle.papergrid_walk.specs.ForProofs.Shown.{Shows, anchor_in};
 ghost use Rattle.papergrid_walk.specs.ForProofs.Visits.{adds_more, adds_none, shows_turn};
 ghost use Rattle.std.proofs.Common.{◌∙◌, ap, refl};
+ghost use Rattle.papergrid_text.specs.Records.{TellsRows};
 
 use crate::Sweep;
 use crate::known::KnownPaddings;
@@ -275,10 +276,10 @@ where
     M: Measure<<<R as Records>::Iter as IntoRecords>::Cell>,
     <<R as Records>::Iter as IntoRecords>::Cell: Drop,
     requires { R.is_lawful records }
-    ensures { IfOk result (λ found. (cells : List (List R.Iter.Cell)) × R.tells records cells
-        × AreGathered (count_along direction (R.columns records) (length cells)) found.0
+    ensures { IfOk result (λ found. TellsRows R.tells records (λ cells.
+        AreGathered (count_along direction (R.columns records) (length cells)) found.0
         (demands_of direction (S.grid settings.now) M.measured cells)
-        × (found.1 ≡ length cells)) }
+        × (found.1 ≡ length cells))) }
 {
     let limit = limit_of(direction, records.count_columns());
     let mut minimums = DemandVisitor::<M, S> {
@@ -301,9 +302,9 @@ where
     M: Measure<<<R as Records>::Iter as IntoRecords>::Cell>,
     <<R as Records>::Iter as IntoRecords>::Cell: Drop,
     requires { R.is_lawful records }
-    ensures { IfOk result (λ found. (cells : List (List R.Iter.Cell)) × R.tells records cells
-        × AreBothGathered (S.grid settings.now) M.measured (R.columns records) cells found.0
-        × (found.1 ≡ length cells)) }
+    ensures { IfOk result (λ found. TellsRows R.tells records (λ cells.
+        AreBothGathered (S.grid settings.now) M.measured (R.columns records) cells found.0
+        × (found.1 ≡ length cells))) }
 {
     let columns = records.count_columns();
     let mut minimums = BothDemandVisitor::<M, S> {

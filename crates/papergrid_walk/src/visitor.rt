@@ -1,7 +1,7 @@
 //! The one walk over records: a visitor takes each cell with its position.
 
 ghost use Rattle.std.specs.Prelude.{◌≡◌, ℕ, ◌+◌, ◌++◌, ◌-◌, ◌<◌, ◌^◌, ◌∷◌, [], ⊤, IfOk, List, OnErr, OnOk, length};
-ghost use Rattle.papergrid_text.specs.Records.{Gives, WalkIsShort};
+ghost use Rattle.papergrid_text.specs.Records.{Gives, TellsRows, WalkIsShort};
 ghost use Rattle.papergrid_values.specs.declared.position.Position.{Position};
 ghost use Rattle.papergrid_walk.specs.Cells.{positioned_cells, placed_row};
 
@@ -84,8 +84,8 @@ where
     requires lawful { R.is_lawful records }
     requires ready { V.ready visitor.old 0 0 }
     ensures consumed { IfOk result
-        (λ rows. (cells : List (List R.Iter.Cell)) × R.tells records cells
-        × V.consumed visitor.old visitor.new (positioned_cells cells) × (rows ≡ length cells)) }
+        (λ rows. TellsRows R.tells records (λ cells.
+        V.consumed visitor.old visitor.new (positioned_cells cells) × (rows ≡ length cells))) }
     ensures fails { OnErr result V.may_fail }
 {
     let mut count = 0usize;

@@ -1,8 +1,9 @@
 //! A consumer of any lawful records: their contracts suffice for an exact answer.
 
-ghost use Rattle.std.specs.Prelude.{◌≡◌, List, map, IfOk};
+ghost use Rattle.std.specs.Prelude.{◌≡◌, map, IfOk};
 ghost use Rattle.papergrid_layout_checks.specs.ColumnWidths.{greatest_widths, raised_widths};
 ghost use Rattle.papergrid_text.specs.Text.{text_width};
+ghost use Rattle.papergrid_text.specs.Records.{TellsRows};
 
 use papergrid_text::records::{IntoRecords, Records};
 use papergrid_text::string::get_text_width;
@@ -15,9 +16,9 @@ pub fn widest<R: Records + Drop>(alloc: Global, records: R) -> Result<Vec<usize>
 where
     <<R as Records>::Iter as IntoRecords>::Cell: AsStr + Drop,
     requires { R.is_lawful records }
-    ensures { IfOk result (λ widths. (cells : List (List R.Iter.Cell)) × R.tells records cells
-        × (widths.items ≡ greatest_widths (R.columns records)
-        (map (map (λ cell. text_width (R.Iter.Cell.text cell))) cells))) }
+    ensures { IfOk result (λ widths. TellsRows R.tells records (λ cells.
+        (widths.items ≡ greatest_widths (R.columns records)
+        (map (map (λ cell. text_width (R.Iter.Cell.text cell))) cells)))) }
 {
     let columns = records.count_columns();
     let mut widths = vec![in alloc; 0usize; columns]?;

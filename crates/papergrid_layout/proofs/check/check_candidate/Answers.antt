@@ -14,10 +14,10 @@ returns g c =
     let found = c.check_rows-rows.ensures.checks in
     let demands = demands_of candidate.direction grid measured found.0 in
     let distinct = AreDistinct-demands candidate.direction grid measured found.0 in
-    let same = c.count_of-count.ensures ∙ (λ k. count_along candidate.direction (c.count_columns-columns.ensures k) (found.3 k)) in (
+    let same = c.count_of-count.ensures ∙ (λ k. count_along candidate.direction (c.count_columns-columns.ensures k) (found.2.1 k)) in (
       found.0,
       found.1,
       subst (λ n. IsChecked (problem_with grid measured candidate.direction n found.0) candidate.sizes.now candidate.places.now c.accepts.result) same
           (checked-of (λ n. problem_of_demands (grid.draws candidate.direction n) c.count_of-count.result demands) candidate.sizes.now candidate.places.now c.accepts.result c.count_of-count.result (λ n. refl)
-          (c.accepts.ensures.exact demands distinct found.2) (c.accepts.ensures.least demands distinct found.2)),
+          (c.accepts.ensures.exact demands distinct found.2.0) (c.accepts.ensures.least demands distinct found.2.0)),
     )

@@ -13,9 +13,11 @@ returns g c =
     let first = subst (λ n. HoldsDemands n c.new-2.result []) (c.limit_of-limit.ensures ∙ ap (limit_along c.args.direction) c.count_columns.ensures) c.new-2.ensures in (
       found.0,
       found.1,
-      AreGathered-demands c.args.direction grid g.M.Measure.measured columns found.0 c.walk.new.visitor.kept
-          (count-le c.args.direction columns (length found.0) (omega (arith, found.3)))
-          (subst (λ l. HoldsDemands (limit_along c.args.direction columns) c.walk.new.visitor.kept (demands_of c.args.direction l g.M.Measure.measured found.0))
-          (ap g.S.ConfigView.grid c.in_ok-new.ensures.0) (found.2.2 (limit_along c.args.direction columns) [] first)),
-      found.3,
+      (
+        AreGathered-demands c.args.direction grid g.M.Measure.measured columns found.0 c.walk.new.visitor.kept
+            (count-le c.args.direction columns (length found.0) (omega (arith, found.2.1)))
+            (subst (λ l. HoldsDemands (limit_along c.args.direction columns) c.walk.new.visitor.kept (demands_of c.args.direction l g.M.Measure.measured found.0))
+            (ap g.S.ConfigView.grid c.in_ok-new.ensures.0) (found.2.0.2 (limit_along c.args.direction columns) [] first)),
+        found.2.1,
+      ),
     )

@@ -52,6 +52,5 @@ returns-clause-consumed g c =
     let many = same ∙ zip_length _ c.loop-row.yielded so_far.0 so_far.1 in (
       so_far.0,
       c.iter_rows-row-items.ensures.told so_far.0 record { rows = c.loop-row.yielded; walk = record { iterator = c.into_iter-row-iterator.result; made = c.into_iter-row-iterator.ensures.into_iter_gives; walked = (c.next.new.self, (c.loop-row.row-iterator, c.loop-row.yielded_by, c.in-None.ensures.steps)) }; each = so_far.1 },
-      so_far.2,
-      many,
+      (so_far.2, many),
     )
