@@ -1,10 +1,10 @@
 //! Where the cells and the lines of a table stand.
 
-ghost use Rattle.std.specs.Prelude.{◌≡◌, ◌<◌, ℕ, IfOk, IfSome};
+ghost use Rattle.std.specs.Prelude.{◌≡◌, IfOk, IfSome};
 ghost use Rattle.papergrid_values.specs.declared.direction.Direction.TheVariants.{Columns};
 ghost use Rattle.papergrid_layout.specs.Answers.{UnlessMemory};
 ghost use Rattle.papergrid_layout.specs.Places.{Covers, HasPlace, HaveAllPlaces, IsPlaced, table_by};
-ghost use Rattle.papergrid_layout.specs.Tables.{IsTableOf, line_position, view_of};
+ghost use Rattle.papergrid_layout.specs.Tables.{HasSizes, IsTableOf, line_position, view_of};
 ghost use Rattle.papergrid_layout.specs.declared.sizing.Sizing.TheVariants.{Least};
 ghost use Rattle.papergrid_checks.specs.Rows.{cells_of, lent_measure};
 
@@ -63,8 +63,8 @@ pub fn place_of<D: Dimension>(
     shape: (usize, usize),
     position: Position,
 ) -> Result<Place, PlaceError>
-    requires columns { (column : ℕ) → column < shape.1 → D.has_column sizes.now column }
-    requires rows { (row : ℕ) → row < shape.0 → D.has_row sizes.now row }
+    requires columns { HasSizes (D.has_column sizes.now) shape.1 }
+    requires rows { HasSizes (D.has_row sizes.now) shape.0 }
     ensures { let table = table_by config.now (D.width_of sizes.now)
         (D.height_of sizes.now) shape in
         IsPlaced table position result }

@@ -1,5 +1,5 @@
 -- The table of sizes that a dimension has, and its drawing.
-use Rattle.std.specs.Prelude.{◌≡◌, ◌<◌, ◌⊎◌, ⊤, ℕ, List, Option, map, option_map}
+use Rattle.std.specs.Prelude.{◌≡◌, ◌⊎◌, ⊤, ℕ, List, Option, map, option_map}
 use Rattle.std.specs.List.{range_with_len}
 use Rattle.papergrid_values.specs.declared.position.Position.{Position}
 use Rattle.papergrid_config.specs.declared.spanned.SpannedConfig.{SpannedConfig}
@@ -19,10 +19,6 @@ parts_of config widths heights shape = record {
   widths = map widths (range_with_len 0 shape.1);
   heights = map heights (range_with_len 0 shape.0);
 }
-
--- there is a size for each of so many tracks
-abbrev pub HasSizes : (ℕ → Type 0) → ℕ → Type 0
-HasSizes has count = (track : ℕ) → track < count → has track
 
 -- how many rows and columns records tell that hold theirs
 abbrev pub shape_told : {T : Type 0} → VecRecords T → ℕ × ℕ

@@ -9,7 +9,8 @@ ghost use Rattle.papergrid_draw.specs.Drawings.{Drawing};
 ghost use Rattle.papergrid_draw.specs.Margins.{printed};
 ghost use Rattle.papergrid_draw.specs.declared.error.DrawError.TheVariants.{Memory, Write};
 ghost use Rattle.papergrid_grid.specs.Compact.{IsCompactDrawing, IsCompactFault};
-ghost use Rattle.papergrid_grid.specs.Sized.{HasSizes, UnlessMemoryFails, texts_at};
+ghost use Rattle.papergrid_layout.specs.Tables.{HasSizes};
+ghost use Rattle.papergrid_grid.specs.Sized.{UnlessMemoryFails, texts_at};
 
 use crate::color::AsANSIStr;
 use crate::equal_rows::{EqualRows, LineCells, compact_table};

@@ -8,7 +8,8 @@ ghost use Rattle.papergrid_draw.specs.Deliveries.{IsLeftOff};
 ghost use Rattle.papergrid_draw.specs.Margins.{printed};
 ghost use Rattle.papergrid_draw.specs.declared.error.DrawError.TheVariants.{Memory, Write};
 ghost use Rattle.papergrid_grid.specs.Cells.{text_lines};
-ghost use Rattle.papergrid_grid.specs.Sized.{HasSizes, IsGridFault, UnlessMemoryFails, drawing_of_rows, parts_of, texts_at};
+ghost use Rattle.papergrid_layout.specs.Tables.{HasSizes};
+ghost use Rattle.papergrid_grid.specs.Sized.{IsGridFault, UnlessMemoryFails, drawing_of_rows, parts_of, texts_at};
 ghost use Rattle.papergrid_text.specs.Records.{TellsRows};
 
 use crate::cells::TextCells;

@@ -8,7 +8,8 @@ ghost use Rattle.papergrid_text.specs.HeldRows.{rows_held};
 ghost use Rattle.papergrid_draw.specs.Deliveries.{IsLeftOff};
 ghost use Rattle.papergrid_draw.specs.Margins.{printed};
 ghost use Rattle.papergrid_draw.specs.declared.error.DrawError.TheVariants.{Memory, Write};
-ghost use Rattle.papergrid_grid.specs.Sized.{HasSizes, IsGridFault, cells_held, drawing_of_rows, parts_of, shape_told, texts_at};
+ghost use Rattle.papergrid_layout.specs.Tables.{HasSizes};
+ghost use Rattle.papergrid_grid.specs.Sized.{IsGridFault, cells_held, drawing_of_rows, parts_of, shape_told, texts_at};
 
 use crate::cells::RecordCells;
 use crate::color::AsANSIStr;

@@ -7,7 +7,8 @@ ghost use Rattle.papergrid_draw.specs.Deliveries.{IsLeftOff};
 ghost use Rattle.papergrid_draw.specs.Drawings.{drawn_of};
 ghost use Rattle.papergrid_draw.specs.Margins.{printed};
 ghost use Rattle.papergrid_draw.specs.declared.error.DrawError.TheVariants.{Memory, Write};
-ghost use Rattle.papergrid_grid.specs.Sized.{HasSizes, IsGridFault, parts_of};
+ghost use Rattle.papergrid_layout.specs.Tables.{HasSizes};
+ghost use Rattle.papergrid_grid.specs.Sized.{IsGridFault, parts_of};
 
 use crate::sized::sized_table;
 use papergrid_config::SpannedConfig;

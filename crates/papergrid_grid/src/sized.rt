@@ -2,8 +2,8 @@
 
 ghost use Rattle.std.specs.Prelude.{◌≡◌, IfOk, map};
 ghost use Rattle.std.specs.List.{range_with_len};
-ghost use Rattle.papergrid_layout.specs.Tables.{IsTable};
-ghost use Rattle.papergrid_grid.specs.Sized.{HasSizes, parts_of};
+ghost use Rattle.papergrid_layout.specs.Tables.{HasSizes, IsTable};
+ghost use Rattle.papergrid_grid.specs.Sized.{parts_of};
 
 use papergrid_config::SpannedConfig;
 use papergrid_layout::{Dimension, LayoutError, Table};

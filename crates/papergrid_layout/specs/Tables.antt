@@ -61,3 +61,7 @@ abbrev pub line_position : TableView → Direction → ℕ → Option ℕ
 line_position table direction i =
     if nat_le i (track_count table direction) && track_line table direction i
     then Some (line_offset (track_size table direction) (track_line table direction) i) else None
+
+-- there is a size for each of so many tracks
+abbrev pub HasSizes : (ℕ → Type 0) → ℕ → Type 0
+HasSizes has count = (track : ℕ) → track < count → has track

@@ -1,7 +1,8 @@
 //! The screen rectangle of one cell.
 
-ghost use Rattle.std.specs.Prelude.{◌<◌, ℕ, IfOk};
+ghost use Rattle.std.specs.Prelude.{IfOk};
 ghost use Rattle.papergrid_layout.specs.Places.{EndsWithin, IsPlaced, table_by};
+ghost use Rattle.papergrid_layout.specs.Tables.{HasSizes};
 
 use crate::dimension::Dimension;
 use crate::rect::{Place, PlaceError};
@@ -26,8 +27,8 @@ pub fn place<D: Dimension>(
     shape: (usize, usize),
     pos: Position,
 ) -> Result<Place, PlaceError>
-    requires columns { (column : ℕ) → column < shape.1 → D.has_column dimension.now column }
-    requires rows { (row : ℕ) → row < shape.0 → D.has_row dimension.now row }
+    requires columns { HasSizes (D.has_column dimension.now) shape.1 }
+    requires rows { HasSizes (D.has_row dimension.now) shape.0 }
     ensures exact { let table = table_by config.now (D.width_of dimension.now)
         (D.height_of dimension.now) shape in
         IsPlaced table pos result }

@@ -1,10 +1,11 @@
 //! The screen rectangles of all visible cells.
 
-ghost use Rattle.std.specs.Prelude.{◌≡◌, ◌+◌, ◌-◌, ◌<◌, ◌≤◌, ◌^◌, ◌⊎◌, [], ℕ, All, IfErr, IfOk};
+ghost use Rattle.std.specs.Prelude.{◌≡◌, ◌+◌, ◌-◌, ◌<◌, ◌≤◌, ◌^◌, ◌⊎◌, [], All, IfErr, IfOk};
 ghost use Rattle.std.specs.Result.{IsOkAnd};
 ghost use Rattle.papergrid_values.specs.declared.direction.Direction.{Direction};
 ghost use Rattle.papergrid_layout.specs.Places.{ArePlacesRefused, EndsWithin, HaveAllPlaces, TableView, table_by, total_along};
 ghost use Rattle.papergrid_layout.specs.ForProofs.Placing.{HasPlaced};
+ghost use Rattle.papergrid_layout.specs.Tables.{HasSizes};
 
 use crate::cell_rect::place;
 use crate::dimension::Dimension;
@@ -35,8 +36,8 @@ impl Placing {
         config: &SpannedConfig,
         shape: (usize, usize),
     ) -> Result<Placing, AllocError>
-        requires columns { (column : ℕ) → column < shape.1 → D.has_column dimension.now column }
-        requires rows { (row : ℕ) → row < shape.0 → D.has_row dimension.now row }
+        requires columns { HasSizes (D.has_column dimension.now) shape.1 }
+        requires rows { HasSizes (D.has_row dimension.now) shape.0 }
         requires fit { let table = table_by config.now (D.width_of dimension.now)
             (D.height_of dimension.now) shape in
             (direction : Direction) → total_along table direction < 2 ^ 64 }
@@ -131,8 +132,8 @@ pub fn places<D: Dimension>(
     config: &SpannedConfig,
     shape: (usize, usize),
 ) -> Result<Vec<(Position, Place)>, LayoutError>
-    requires columns { (column : ℕ) → column < shape.1 → D.has_column dimension.now column }
-    requires rows { (row : ℕ) → row < shape.0 → D.has_row dimension.now row }
+    requires columns { HasSizes (D.has_column dimension.now) shape.1 }
+    requires rows { HasSizes (D.has_row dimension.now) shape.0 }
     ensures ok { let table = table_by config.now (D.width_of dimension.now)
         (D.height_of dimension.now) shape in
         IfOk result (λ places. HaveAllPlaces table places.items) }

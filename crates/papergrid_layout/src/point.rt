@@ -1,9 +1,10 @@
 //! The cell at a point of a table as it is printed.
 
-ghost use Rattle.std.specs.Prelude.{◌≡◌, ◌<◌, ◌≤◌, ◌↔◌, ℕ, IsTrue, MatchOption};
+ghost use Rattle.std.specs.Prelude.{◌≡◌, ◌<◌, ◌≤◌, ◌↔◌, IsTrue, MatchOption};
 ghost use Rattle.papergrid_values.specs.declared.position.Position.{Position};
 ghost use Rattle.papergrid_layout.specs.Places.{IsFirstOver, StandsOver, table_by};
 ghost use Rattle.papergrid_layout.specs.ForProofs.Points.{LiesInEach};
+ghost use Rattle.papergrid_layout.specs.Tables.{HasSizes};
 
 use crate::cell_rect::place;
 use crate::dimension::Dimension;
@@ -28,9 +29,8 @@ impl<'a, D: Dimension> Point<'a, D> {
     /// Whether the cell at a position, none below or right of the one within, stands over the point. Most do
     /// not by their spans alone.
     fn is_under(&self, pos: Position) -> bool
-        requires columns { (column : ℕ) → column < self.now.shape.1 →
-            D.has_column self.now.dimension.now column }
-        requires rows { (row : ℕ) → row < self.now.shape.0 → D.has_row self.now.dimension.now row }
+        requires columns { HasSizes (D.has_column self.now.dimension.now) self.now.shape.1 }
+        requires rows { HasSizes (D.has_row self.now.dimension.now) self.now.shape.0 }
         requires before { (pos.row ≤ self.now.within.row) × (pos.col ≤ self.now.within.col) }
         requires reach { let table = table_by self.now.config.now
             (D.width_of self.now.dimension.now)
@@ -54,9 +54,8 @@ impl<'a, D: Dimension> Point<'a, D> {
 
     /// The first position of a row whose cell stands over the point.
     fn first_in_row(&self, row: usize) -> Option<Position>
-        requires columns { (column : ℕ) → column < self.now.shape.1 →
-            D.has_column self.now.dimension.now column }
-        requires rows { (row : ℕ) → row < self.now.shape.0 → D.has_row self.now.dimension.now row }
+        requires columns { HasSizes (D.has_column self.now.dimension.now) self.now.shape.1 }
+        requires rows { HasSizes (D.has_row self.now.dimension.now) self.now.shape.0 }
         requires before { row ≤ self.now.within.row }
         requires reach { let table = table_by self.now.config.now
             (D.width_of self.now.dimension.now)
@@ -80,9 +79,8 @@ impl<'a, D: Dimension> Point<'a, D> {
 
     /// The first position, by row and then by column, whose cell stands over the point.
     fn first(&self) -> Option<Position>
-        requires columns { (column : ℕ) → column < self.now.shape.1 →
-            D.has_column self.now.dimension.now column }
-        requires rows { (row : ℕ) → row < self.now.shape.0 → D.has_row self.now.dimension.now row }
+        requires columns { HasSizes (D.has_column self.now.dimension.now) self.now.shape.1 }
+        requires rows { HasSizes (D.has_row self.now.dimension.now) self.now.shape.0 }
         requires reach { let table = table_by self.now.config.now
             (D.width_of self.now.dimension.now)
             (D.height_of self.now.dimension.now) self.now.shape in
@@ -116,8 +114,8 @@ pub fn cell_at<D: Dimension>(
     column: usize,
     line: usize,
 ) -> Option<Position>
-    requires columns { (column : ℕ) → column < shape.1 → D.has_column dimension.now column }
-    requires rows { (row : ℕ) → row < shape.0 → D.has_row dimension.now row }
+    requires columns { HasSizes (D.has_column dimension.now) shape.1 }
+    requires rows { HasSizes (D.has_row dimension.now) shape.0 }
     ensures { let table = table_by config.now (D.width_of dimension.now)
         (D.height_of dimension.now) shape in
         IsFirstOver table column line result }

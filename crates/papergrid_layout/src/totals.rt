@@ -1,10 +1,11 @@
 //! How wide and how high a table is, by the sizes of any dimension.
 
-ghost use Rattle.std.specs.Prelude.{◌<◌, ℕ};
+ghost use Rattle.std.specs.Prelude.{};
 ghost use Rattle.papergrid_values.specs.declared.direction.Direction.TheVariants.{Columns, Rows};
 ghost use Rattle.papergrid_config.specs.Grids.{spanned_grid};
 ghost use Rattle.papergrid_layout.specs.Places.{IsTotalOf, size_along, total};
 ghost use Rattle.papergrid_layout.specs.ForProofs.Rulers.{has_along};
+ghost use Rattle.papergrid_layout.specs.Tables.{HasSizes};
 
 use crate::dimension::Dimension;
 use crate::ruler::Ruler;
@@ -19,8 +20,8 @@ fn total_along<D: Dimension>(
     direction: Direction,
     count: usize,
 ) -> Result<usize, LayoutError>
-    requires { (i : ℕ) → i < count → has_along (D.has_column dimension.now)
-        (D.has_row dimension.now) direction i }
+    requires { HasSizes (has_along (D.has_column dimension.now) (D.has_row dimension.now)
+        direction) count }
     ensures { let size = size_along (D.width_of dimension.now)
         (D.height_of dimension.now) direction in
         IsTotalOf (total size ((spanned_grid config.now).draws direction count) count) result }
@@ -42,7 +43,7 @@ pub fn total_width<D: Dimension>(
     config: &SpannedConfig,
     columns: usize,
 ) -> Result<usize, LayoutError>
-    requires { (column : ℕ) → column < columns → D.has_column dimension.now column }
+    requires { HasSizes (D.has_column dimension.now) columns }
     ensures { IsTotalOf (total (D.width_of dimension.now)
         ((spanned_grid config.now).draws Columns columns) columns) result }
 {
@@ -62,7 +63,7 @@ pub fn total_height<D: Dimension>(
     config: &SpannedConfig,
     rows: usize,
 ) -> Result<usize, LayoutError>
-    requires { (row : ℕ) → row < rows → D.has_row dimension.now row }
+    requires { HasSizes (D.has_row dimension.now) rows }
     ensures { IsTotalOf (total (D.height_of dimension.now)
         ((spanned_grid config.now).draws Rows rows) rows) result }
 {
