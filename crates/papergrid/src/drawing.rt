@@ -1,6 +1,6 @@
 //! Tables drawn: of records by a list of settings, and of a script.
 
-ghost use Rattle.std.specs.Prelude.{◌≡◌, ◌≢◌, ◌⊎◌, ◌↔◌, ◌∷◌, ◌++◌, [], ℕ, All, IfErr, IfOk, IfSome, IsErrOf, List, OnErr, OnOk, codes, decimal, false, map, take, true};
+ghost use Rattle.std.specs.Prelude.{◌≡◌, ◌≢◌, ◌⊎◌, ◌↔◌, ℕ, All, IfErr, IfOk, IfSome, IsErrOf, List, OnErr, OnOk, false, take, true};
 ghost use Rattle.std.specs.Io.KnownBytes.{Appends, Consumes, IsAtEnd};
 ghost use Rattle.papergrid_values.specs.declared.position.Position.{Position};
 ghost use Rattle.papergrid_text.specs.HeldRows.{column_count};
@@ -11,10 +11,9 @@ ghost use Rattle.papergrid_draw.specs.declared.error.DrawError.TheVariants.{Memo
 ghost use Rattle.papergrid_grid.specs.Lined.{lined};
 ghost use Rattle.papergrid.specs.Pictures.{IsDrawingBy, IsDrawingWith, IsFaultWith, IsPictureFault, IsPictureRun, IsRefusal, IsTablePicture, refusal_line, texts_held};
 ghost use Rattle.papergrid.specs.Runs.{IsWholeInput};
-ghost use Rattle.papergrid.specs.Scripts.{Table, table_of};
+ghost use Rattle.papergrid.specs.Scripts.{Table};
 ghost use Rattle.papergrid.specs.ForProofs.Drawn.{Draws, Runs};
-ghost use Rattle.papergrid.specs.ForProofs.ScriptSeen.{row_texts_of, rows_seen, table_seen};
-ghost use Rattle.papergrid.specs.ForProofs.Settings.{setting_told};
+ghost use Rattle.papergrid.specs.ForProofs.ScriptSeen.{rows_seen, table_seen};
 ghost use Rattle.papergrid.specs.declared.running.RunFault.TheVariants.{Read};
 ghost use Rattle.papergrid.specs.declared.running.RunFault.TheVariants as run_faults;
 

@@ -48,8 +48,7 @@ impl Model for Builder {
 }
 
 impl Builder {
-    ghost use Rattle.std.specs.Prelude.{◌≡◌, ◌↔◌, ◌⊎◌, ◌<◌, All, Err, IfErr, IfOk, IfSome, IsUtf8, OnErr, OnOk, Some, false, option_and_then, option_map, true};
-    ghost use Rattle.papergrid_config.specs.Applied.{is_in_range};
+    ghost use Rattle.std.specs.Prelude.{◌≡◌, ◌<◌, Err, IfErr, IfOk, IfSome, OnErr, OnOk, Some, false, option_and_then, option_map, true};
     ghost use Rattle.papergrid_config.specs.declared.setting.Setting.{Setting};
     ghost use Rattle.papergrid_draw.specs.Drawings.{Drawing};
     ghost use Rattle.papergrid_grid.specs.Lined.{lined};

@@ -1,6 +1,6 @@
 //! The texts of many cells, in one text.
 
-ghost use Rattle.std.specs.Prelude.{◌≡◌, ◌∷◌, ◌++◌, [], All, IfOk, IsUtf8, OnErr, OnOk, length, map, take};
+ghost use Rattle.std.specs.Prelude.{◌≡◌, ◌∷◌, ◌++◌, [], IfOk, OnErr, OnOk, length, map, take};
 
 use std::alloc::{AllocError, Global};
 use std::marker::Model;

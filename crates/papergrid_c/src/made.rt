@@ -3,7 +3,7 @@
 ghost use Rattle.std.specs.Prelude.{◌≡◌, ◌<◌, length};
 ghost use lib.Utf8.{scalar};
 ghost use Rattle.std.specs.List.{list_all};
-ghost use Rattle.papergrid_c.specs.Settings.{alignment_setting, are_parts, blanks, border_setting, borders_setting, entity_of, horizontal_line_setting, horizontal_of, padding_setting, part_at, vertical_line_setting, vertical_of, vertical_setting};
+ghost use Rattle.papergrid_c.specs.Settings.{alignment_setting, are_parts, border_setting, borders_setting, entity_of, horizontal_line_setting, horizontal_of, padding_setting, part_at, vertical_line_setting, vertical_of, vertical_setting};
 
 use crate::structs::PapergridEntity;
 use papergrid_config::Setting;

@@ -1,6 +1,6 @@
 //! What is asked of the table of a CSV text.
 
-ghost use Rattle.std.specs.Prelude.{◌≡◌, ◌⊎◌, ◌∷◌, ◌++◌, [], IfOk, IsSome, None, OnOk, false, flat_map, length, true};
+ghost use Rattle.std.specs.Prelude.{◌≡◌, ◌⊎◌, ◌∷◌, ◌++◌, [], IfOk, IsSome, None, OnOk, false, flat_map, true};
 ghost use Rattle.papergrid_values.specs.declared.alignment.AlignmentHorizontal.TheVariants.{Left};
 ghost use Rattle.papergrid_values.specs.declared.alignment.AlignmentVertical.TheVariants.{Top};
 ghost use Rattle.papergrid_values.specs.declared.entity.Entity.TheVariants.{Global};

@@ -1,6 +1,6 @@
 //! What a table of equally high rows is drawn from: the first line of each text, and one height for all rows.
 
-ghost use Rattle.std.specs.Prelude.{◌≡◌, ◌≢◌, ◌≤◌, ◌⊎◌, ◌^◌, ⊤, ℕ, IfErr, IfOk, map, option_map};
+ghost use Rattle.std.specs.Prelude.{◌≡◌, ◌≢◌, ◌≤◌, ◌⊎◌, ◌^◌, ⊤, IfErr, IfOk, map, option_map};
 ghost use Rattle.papergrid_draw.specs.declared.error.DrawError.TheVariants.{Memory, TooLarge};
 ghost use Rattle.papergrid_grid.specs.Cells.{lines_at};
 ghost use Rattle.papergrid_grid.specs.Compact.{AreRowsTooHigh, IsCompactTable, compact_height, first_line, first_text};

@@ -1,6 +1,6 @@
 //! Rows of cells, held.
 
-ghost use Rattle.std.specs.Prelude.{◌≡◌, ⊤, IfOk, map};
+ghost use Rattle.std.specs.Prelude.{⊤, IfOk, map};
 ghost use Rattle.papergrid_text.specs.Records.{Gives, WalkIsShort};
 
 use papergrid_text::{IntoRecords, Records};

@@ -1,6 +1,6 @@
 //! The check that sizes along one direction are least, by a list of positions.
 
-ghost use Rattle.std.specs.Prelude.{◌≡◌, ◌+◌, ◌^◌, ◌<◌, ◌≤◌, ◌⊎◌, ◌∷◌, [], ⊤, length};
+ghost use Rattle.std.specs.Prelude.{◌≡◌, ◌+◌, ◌^◌, ◌<◌, ◌≤◌, ◌⊎◌, ◌∷◌, [], length};
 ghost use Rattle.papergrid_tracks.specs.ForProofs.Checks.{AreBounded, IsCandidate};
 ghost use Rattle.papergrid_walk.specs.Cells.{demands_by, demands_of, problem_of};
 ghost use Rattle.papergrid_layout.specs.Certificates.{IsChecked};

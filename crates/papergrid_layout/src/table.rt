@@ -41,7 +41,6 @@ pub struct Table<'a> {
 }
 
 impl<'a> Model for Table<'a> {
-    ghost use Rattle.papergrid_config.specs.Grids.{spanned_grid};
     ghost use Rattle.papergrid_config.specs.contracts.spanned.SpannedConfig.{the_row};
     ghost use Rattle.papergrid_layout.specs.Tables.{TableParts, view_of};
     ghost use Rattle.papergrid_layout.specs.ForProofs.Tables.{IsMeasured, parts_code};

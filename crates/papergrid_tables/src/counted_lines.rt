@@ -1,6 +1,6 @@
 //! Lines by number, with how many of them have each end set.
 
-ghost use Rattle.std.specs.Prelude.{◌≡◌, ◌+◌, ◌<◌, ◌≤◌, ◌^◌, ◌==◌, ◌&&◌, ◌||◌, [], ℕ, Bool, Some, None, OnOk, OnErr, IfOk, is_some, nat_eq, nat_lt, option_copied};
+ghost use Rattle.std.specs.Prelude.{◌≡◌, ◌+◌, ◌<◌, ◌≤◌, ◌^◌, ◌==◌, ◌&&◌, ◌||◌, [], ℕ, Bool, Some, None, OnOk, OnErr, IfOk, is_some, nat_eq, option_copied};
 ghost use Rattle.std.specs.HashMap.{IsUnchanged, Updates, get as map_get};
 ghost use Rattle.papergrid_tables.specs.ForProofs.CountedLines.{AreEndsCounted, is_end_set, reaches};
 ghost use Rattle.papergrid_tables.specs.ForProofs.Counts.{one_if};

@@ -109,7 +109,7 @@ impl<T> ExactRecords for VecRecords<T> {
 // The rows held, whatever the counts tell, have the cells that may be read. A line may be read where the
 // cell has it.
 impl<T: Cell> PeekableRecords for VecRecords<T> {
-    ghost use Rattle.std.specs.Prelude.{◌≡◌, ◌<◌, [], length, slice_index_or, MatchOption};
+    ghost use Rattle.std.specs.Prelude.{◌≡◌, ◌<◌, [], length, slice_index_or};
     ghost use Rattle.papergrid_text.specs.Held.{HasCell, HoldsOfCell, IsPlainCell, cell_text};
     ghost use Rattle.papergrid_text.specs.HeldRows.{rows_held};
 

@@ -1,5 +1,5 @@
 use Rattle.std.proofs.lemmas.Result.{err_from_is_err_and}
-use Rattle.papergrid_tracks.specs.Answers.{IsCertificateOrNone, AreSizesTooLarge}
+use Rattle.papergrid_tracks.specs.Answers.{AreSizesTooLarge}
 use Rattle.papergrid_values.specs.declared.direction.Direction.TheVariants.{Columns}
 use Rattle.papergrid_config.specs.Grids.{spanned_grid}
 use Rattle.papergrid_checks.specs.Rows.{cells_of, lent_measure}
