@@ -3,7 +3,7 @@ use Rattle.std.proofs.Common.{◌≡◌, ◌∙◌, ℕ, Err, Global, IfErr, Lis
 use Rattle.std.proofs.lemmas.List.{length-map}
 use Rattle.papergrid_values.specs.declared.position.Position.{Position}
 use Rattle.papergrid_config.specs.declared.spanned.SpannedConfig.{SpannedConfig}
-use Rattle.papergrid_layout.specs.Tables.{TableParts}
+use Rattle.papergrid_layout.specs.Tables.{HasSizes, TableParts}
 use Rattle.papergrid_draw.specs.Drawings.{Drawing, drawn_of}
 use Rattle.papergrid_draw.specs.Faults.{IsDrawFault}
 use Rattle.papergrid_draw.specs.declared.error.DrawError.{DrawError}
@@ -80,3 +80,8 @@ unless_memory Write is = is
 -- what holds of the error that a `?` returns holds of the result
 pub at_exit : {A E : Type 0} (r : Result A E) (x : E) (Q : E → Type 0) → (y : E) × (r ≡ Err y) × (y ≡ x) → Q x → IfErr r Q
 at_exit r x Q (y, is, same) holds = subst (λ s. IfErr s Q) (sym is) (subst Q (sym same) holds)
+
+-- sizes for rows that are told are sizes for those that are held
+pub sized_rows : {A B : Type 0} (has : ℕ → Type 0) (held : A → B) (rows : List A) (count : ℕ) →
+    count ≡ length rows → HasSizes has (length (map held rows)) → HasSizes has count
+sized_rows has held rows count same = subst (HasSizes has) (length-map rows held ∙ sym same)

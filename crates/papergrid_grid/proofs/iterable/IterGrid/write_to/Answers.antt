@@ -1,9 +1,10 @@
-use Rattle.std.proofs.Common.{◌≡◌, ℕ, IfErr, OnErr, OnOk, arith, inr, length, take}
+use Rattle.std.proofs.Common.{◌≡◌, IfErr, OnErr, OnOk, arith, inr, length, subst, sym, take, ℕ}
 use Rattle.std.specs.Io.KnownBytes.{Appends}
 use Rattle.std.proofs.lemmas.Result.{IfErr-weaker, on_err_weaker, on_ok_weaker}
 use Rattle.papergrid_draw.specs.Margins.{printed}
+use Rattle.papergrid_layout.specs.Tables.{HasSizes}
 use Rattle.papergrid_grid.specs.Sized.{IsGridFault}
-use Rattle.papergrid_grid.proofs.GridLemmas.{drawn_texts, unless_memory}
+use Rattle.papergrid_grid.proofs.GridLemmas.{drawn_texts, sized_rows, unless_memory}
 use Rattle.papergrid_grid.proofs.iterable.IterGrid.write_to.Goals as goal
 
 pub returns-clause-fault : goal.returns-clause-fault
@@ -35,3 +36,10 @@ returns-clause-beginning g c =
     (g.D.Dimension.width_of grid.dimension.now) (g.D.Dimension.height_of grid.dimension.now)
     (λ parts d. OnErr c.write_sized.result ((n : ℕ) × Appends (g.W.Sink.contents c.args.sink.now) (g.W.Sink.contents c.write_sized.new.sink) (take n (printed d))))
     _ _ _ _ _ grid.colors.now count c.count_columns-columns.ensures c.as_slice.ensures.value c.write_sized.ensures.beginning)
+
+pub write_sized-requires-clause-rows : goal.write_sized-requires-clause-rows
+write_sized-requires-clause-rows g c =
+    sized_rows (g.D.Dimension.has_row c.args.self.dimension.now) _ c.in_ok-rows.rows.items c.len.result (omega (arith, c.len.ensures)) (c.requires.rows _ c.in_ok-rows.ensures)
+
+pub write_sized-requires-clause-columns : goal.write_sized-requires-clause-columns
+write_sized-requires-clause-columns g c = subst (HasSizes (g.D.Dimension.has_column c.args.self.dimension.now)) (sym c.count_columns-columns.ensures) c.requires.columns
