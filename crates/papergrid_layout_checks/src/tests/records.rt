@@ -145,13 +145,19 @@ fn is_pushed(alloc: Global) -> Result<bool, AllocError> {
     let copy = records.clone()?;
     let is_same = copy == records;
     records.push(Vec::new(alloc))?;
-    let is_pushed = copy < records
-        && (records.len(), records.count_rows()) == (3, 2)
-        && Records::count_columns(&&records) == 2;
+    let is_pushed = copy < records && are_counted(&records);
+    Ok(is_same && is_pushed && are_counted_anew(records))
+}
+
+fn are_counted(records: &VecRecords<String>) -> bool {
+    (records.len(), records.count_rows()) == (3, 2) && Records::count_columns(&records) == 2
+}
+
+fn are_counted_anew(records: VecRecords<String>) -> bool {
     let rows: Vec<Vec<String>> = records.into();
     let is_list = rows.count_rows() == 3 && ExactRecords::count_rows(&rows.as_slice()) == 3;
     let again: VecRecords<String> = rows.into();
-    Ok(is_same && is_pushed && is_list && again.count_rows() == 3)
+    is_list && again.count_rows() == 3
 }
 
 #[test]

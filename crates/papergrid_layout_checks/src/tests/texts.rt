@@ -1,6 +1,6 @@
 //! Counts of long runs, and what measured texts keep where they are moved, cloned, compared and hashed.
 
-use papergrid_text::string::{count_lines, get_lines};
+use papergrid_text::string::{Lines, count_lines, get_lines};
 use papergrid_text::{Cell, StrWithWidth, Text, count_byte};
 use std::alloc::{AllocError, Global};
 use std::borrow::CowStr;
@@ -26,17 +26,18 @@ fn byte_counts(rt: HostRuntime) {
     assert!(rt; are_counted(rt.alloc()) == Ok(true));
 }
 
+fn is_next(lines: &mut Lines<'_>, line: Option<&str>) -> bool {
+    lines.next() == line
+}
+
 // The lines stay at their end.
 #[test]
 fn lines_end(rt: HostRuntime) {
     let mut lines = get_lines("\na\n");
-    assert!(rt;
-        lines.next() == Some("")
-            && lines.next() == Some("a")
-            && lines.next() == Some("")
-            && lines.next().is_none()
-            && lines.next().is_none()
-    );
+    let are_lines = is_next(&mut lines, Some(""))
+        && is_next(&mut lines, Some("a"))
+        && is_next(&mut lines, Some(""));
+    assert!(rt; are_lines && is_next(&mut lines, None) && is_next(&mut lines, None));
 }
 
 /// A text of two lines that was measured.
@@ -44,24 +45,31 @@ fn measured(alloc: Global) -> Result<Text<String>, AllocError> {
     Text::new(alloc, String::from_str(alloc, "a\nbc")?)
 }
 
+/// The line `bc`, as a text of its own.
+fn owned_line(alloc: Global) -> Result<StrWithWidth<'static>, AllocError> {
+    Ok(StrWithWidth::new(CowStr::Owned(String::from_str(alloc, "bc")?), 2))
+}
+
 /// The lines `a` and `bc`, as texts of their own.
 pub fn given_lines(alloc: Global) -> Result<Vec<StrWithWidth<'static>>, AllocError> {
     let mut lines = Vec::new(alloc);
     lines.push(StrWithWidth::new(CowStr::Borrowed("a"), 1))?;
-    lines.push(StrWithWidth::new(CowStr::Owned(String::from_str(alloc, "bc")?), 2))?;
+    lines.push(owned_line(alloc)?)?;
     Ok(lines)
 }
 
+fn is_kept(text: &Text<String>) -> bool {
+    text.count_lines() == 2
+        && text.line(1) == "bc"
+        && text.line_width(1) == 2
+        && text.as_str() == "a\nbc"
+}
+
 fn is_moved_and_cloned(alloc: Global) -> Result<bool, AllocError> {
-    let first = Text::new(alloc, String::from_str(alloc, "a\nbc")?)?;
+    let first = measured(alloc)?;
     let moved = first;
     let copy = moved.clone()?;
-    Ok(
-        moved.line(1) == "bc"
-            && copy.line(1) == "bc"
-            && copy.line_width(1) == 2
-            && copy.as_str() == "a\nbc",
-    )
+    Ok(is_kept(&moved) && is_kept(&copy))
 }
 
 #[test]
@@ -88,17 +96,24 @@ fn hash_of<T: Hash>(value: &T) -> u64 {
     state.finish()
 }
 
+/// The same text as one of these lines.
+fn exact(alloc: Global, lines: Vec<StrWithWidth<'static>>) -> Result<Text<String>, AllocError> {
+    Ok(Text::exact(String::from_str(alloc, "a\nbc")?, 2, lines))
+}
+
+fn are_alike(text: &Text<String>, other: &Text<String>) -> bool {
+    text == other && text.cmp(other) == Ordering::Equal && hash_of(text) == hash_of(other)
+}
+
+fn is_less(text: &Text<String>, other: &Text<String>) -> bool {
+    text < other && text != other
+}
+
 fn is_new_exact(alloc: Global) -> Result<bool, AllocError> {
     let first = measured(alloc)?;
-    let given = Text::exact(String::from_str(alloc, "a\nbc")?, 2, given_lines(alloc)?);
-    let fewer = Text::exact(String::from_str(alloc, "a\nbc")?, 2, Vec::new(alloc));
-    Ok(
-        first == given
-            && first.cmp(&given) == Ordering::Equal
-            && hash_of(&first) == hash_of(&given)
-            && fewer < first
-            && fewer != first,
-    )
+    let given = exact(alloc, given_lines(alloc)?)?;
+    let fewer = exact(alloc, Vec::new(alloc))?;
+    Ok(are_alike(&first, &given) && is_less(&fewer, &first))
 }
 
 #[test]
@@ -107,10 +122,14 @@ fn new_equals_exact(rt: HostRuntime) {
 }
 
 fn are_lines_by_width(alloc: Global) -> Result<bool, AllocError> {
+    let owned = owned_line(alloc)?;
     let lent = StrWithWidth::new(CowStr::Borrowed("bc"), 2);
-    let owned = StrWithWidth::new(CowStr::Owned(String::from_str(alloc, "bc")?), 2);
     let copy = lent.clone()?;
-    Ok(lent == owned && copy < StrWithWidth::new(CowStr::Borrowed("bc"), 3))
+    Ok(lent == owned && is_narrow(&copy))
+}
+
+fn is_narrow(line: &StrWithWidth<'_>) -> bool {
+    *line < StrWithWidth::new(CowStr::Borrowed("bc"), 3)
 }
 
 #[test]

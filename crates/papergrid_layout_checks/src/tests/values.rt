@@ -60,15 +60,20 @@ fn position_sums(rt: HostRuntime) {
     );
 }
 
+fn are_in_order(sides: Sides<u8>) -> bool {
+    sides.fold(0u64, |a, x| a * 10 + u64::from(x)) == 1234
+        && (sides.left, sides.right, sides.top, sides.bottom) == (1, 2, 3, 4)
+}
+
+fn are_mapped(sides: Sides<u8>) -> bool {
+    sides.convert_into::<u32>() == Sides::new(1u32, 2, 3, 4)
+        && sides.map(|n| n % 2 == 0) == Sides::new(false, true, false, true)
+}
+
 #[test]
 fn four_sides(rt: HostRuntime) {
     let sides = Sides::new(1u8, 2, 3, 4);
-    assert!(rt;
-        sides.fold(0u64, |a, x| a * 10 + u64::from(x)) == 1234
-            && (sides.left, sides.right, sides.top, sides.bottom) == (1, 2, 3, 4)
-            && sides.convert_into::<u32>() == Sides::new(1u32, 2, 3, 4)
-            && sides.map(|n| n % 2 == 0) == Sides::new(false, true, false, true)
-    );
+    assert!(rt; are_in_order(sides) && are_mapped(sides));
 }
 
 #[test]
@@ -131,34 +136,20 @@ fn frames(rt: HostRuntime) {
 
 #[test]
 fn lines_across(rt: HostRuntime) {
-    let (across, empty) = (
-        HorizontalLine::new(Some(1u8), Some(2), Some(3), Some(4)),
-        HorizontalLine::<u8>::default(),
-    );
+    let across = HorizontalLine::new(Some(1u8), Some(2), Some(3), Some(4));
+    assert!(rt; across == HorizontalLine::full(1, 2, 3, 4) && !across.is_empty());
     let filled = HorizontalLine::filled(1u8);
-    assert!(rt;
-        across == HorizontalLine::full(1, 2, 3, 4)
-            && !across.is_empty()
-            && filled == HorizontalLine::full(1, 1, 1, 1)
-            && !filled.is_empty()
-            && empty == HorizontalLine::empty()
-            && empty.is_empty()
-    );
+    assert!(rt; filled == HorizontalLine::full(1, 1, 1, 1) && !filled.is_empty());
+    let empty = HorizontalLine::<u8>::default();
+    assert!(rt; empty == HorizontalLine::empty() && empty.is_empty());
 }
 
 #[test]
 fn lines_down(rt: HostRuntime) {
-    let (down, empty) = (
-        VerticalLine::new(Some(1u8), Some(2), Some(3), Some(4)),
-        VerticalLine::<u8>::default(),
-    );
+    let down = VerticalLine::new(Some(1u8), Some(2), Some(3), Some(4));
+    assert!(rt; down == VerticalLine::full(1, 2, 3, 4) && !down.is_empty());
     let filled = VerticalLine::filled(1u8);
-    assert!(rt;
-        down == VerticalLine::full(1, 2, 3, 4)
-            && !down.is_empty()
-            && filled == VerticalLine::full(1, 1, 1, 1)
-            && !filled.is_empty()
-            && empty == VerticalLine::empty()
-            && empty.is_empty()
-    );
+    assert!(rt; filled == VerticalLine::full(1, 1, 1, 1) && !filled.is_empty());
+    let empty = VerticalLine::<u8>::default();
+    assert!(rt; empty == VerticalLine::empty() && empty.is_empty());
 }
