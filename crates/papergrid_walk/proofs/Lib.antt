@@ -5,3 +5,6 @@ pub mod Distinct
 pub mod ShownLemmas
 pub mod Steps
 pub mod FilterLemmas
+pub mod Kept
+pub mod AnchorAt
+pub mod SideLemmas
