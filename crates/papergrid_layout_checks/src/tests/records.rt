@@ -57,15 +57,26 @@ fn are_of_slices(alloc: Global) -> Result<bool, AllocError> {
 }
 
 fn are_of_texts(alloc: Global) -> Result<bool, AllocError> {
+    Ok(are(of_texts(alloc, rows_of_one(alloc)?, 1), &[3]))
+}
+
+fn rows_of_one(alloc: Global) -> Result<Vec<Vec<Text<String>>>, AllocError> {
     let text = Text::new(alloc, String::from_str(alloc, "xyz\nab")?)?;
-    let rows = vec![in alloc; vec![in alloc; text]?]?;
-    Ok(are(of_texts(alloc, rows, 1), &[3]))
+    Ok(vec![in alloc; vec![in alloc; text]?]?)
+}
+
+#[test]
+fn widths_of_vectors(rt: HostRuntime) {
+    assert!(rt; are_of_vectors(rt.alloc()) == Ok(true));
+}
+
+#[test]
+fn widths_of_slices(rt: HostRuntime) {
+    assert!(rt; are_of_slices(rt.alloc()) == Ok(true));
 }
 
 #[test]
 fn widths_of_texts(rt: HostRuntime) {
-    assert!(rt; are_of_vectors(rt.alloc()) == Ok(true));
-    assert!(rt; are_of_slices(rt.alloc()) == Ok(true));
     assert!(rt; are_of_texts(rt.alloc()) == Ok(true));
 }
 

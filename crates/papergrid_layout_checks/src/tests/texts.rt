@@ -13,12 +13,14 @@ fn are_counted(alloc: Global) -> Result<bool, AllocError> {
     let mut newlines = String::new(alloc);
     let mut are = true;
     for count in 0..66usize {
-        are = are
-            && count_byte(newlines.as_bytes(), b'\n') == count
-            && count_lines(newlines.as_str()) == count + 1;
+        are = are && is_counted(newlines.as_str(), count);
         newlines.push('\n')?;
     }
     Ok(are)
+}
+
+fn is_counted(newlines: &str, count: usize) -> bool {
+    count_byte(newlines.as_bytes(), b'\n') == count && count_lines(newlines) == count + 1
 }
 
 #[test]

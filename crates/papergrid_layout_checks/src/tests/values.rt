@@ -38,26 +38,33 @@ fn collected_walk(rt: HostRuntime) {
     assert!(rt; is_walked(rt.alloc()));
 }
 
-#[test]
-fn position_sums(rt: HostRuntime) {
-    let mut place = at(1, 2) + at(3, 4);
-    assert!(rt;
-        place == at(4, 6)
-            && place - at(4, 1) == at(0, 5)
-            && place - (4, 1) == at(0, 5)
-            && place + (1, 0) == at(5, 6)
-    );
+fn are_sums() -> bool {
+    let place = at(1, 2) + at(3, 4);
+    place == at(4, 6)
+        && place - at(4, 1) == at(0, 5)
+        && place - (4, 1) == at(0, 5)
+        && place + (1, 0) == at(5, 6)
+}
+
+fn is_moved() -> bool {
+    let mut place = at(4, 6);
     place += at(1, 1);
     place += (0, 2);
-    assert!(rt; place == at(5, 9));
+    let is_added = place == at(5, 9);
     place -= at(5, 0);
     place -= (0, 8);
-    assert!(rt;
-        place == at(0, 1)
-            && <(usize, usize)>::from(place) == (0, 1)
-            && Entity::from(place) == Entity::Cell(0, 1)
-            && Entity::from((0, 1)) == Entity::Cell(0, 1)
-    );
+    is_added && place == at(0, 1)
+}
+
+fn are_converted(place: Position) -> bool {
+    <(usize, usize)>::from(place) == (0, 1)
+        && Entity::from(place) == Entity::Cell(0, 1)
+        && Entity::from((0, 1)) == Entity::Cell(0, 1)
+}
+
+#[test]
+fn position_sums(rt: HostRuntime) {
+    assert!(rt; are_sums() && is_moved() && are_converted(at(0, 1)));
 }
 
 fn are_in_order(sides: Sides<u8>) -> bool {
@@ -77,13 +84,17 @@ fn four_sides(rt: HostRuntime) {
 }
 
 #[test]
-fn empty_sides_and_defaults(rt: HostRuntime) {
+fn empty_sides(rt: HostRuntime) {
     assert!(rt;
         Sides::<Option<u8>>::new(None, None, None, None).is_empty()
             && !Sides::new(None, None, None, Some(1u8)).is_empty()
             && !Indent::new(2, 'x').is_empty()
             && Indent::spaced(0).is_empty()
     );
+}
+
+#[test]
+fn defaults(rt: HostRuntime) {
     assert!(rt;
         Sides::default() == Sides::filled(Indent::zero())
             && Position::default() == at(0, 0)
@@ -91,16 +102,17 @@ fn empty_sides_and_defaults(rt: HostRuntime) {
     );
 }
 
+fn is_of_parts(border: Border<u8>) -> bool {
+    let [top, bottom, left, right] = [Some(1), Some(2), Some(3), Some(4)];
+    border == Border::new(top, bottom, left, right, Some(5), Some(7), Some(6), Some(8))
+}
+
 #[test]
 fn cell_borders(rt: HostRuntime) {
     let border = Border::full(1u8, 2, 3, 4, 5, 6, 7, 8);
-    let [top, bottom, left, right] = [Some(1), Some(2), Some(3), Some(4)];
-    let parts = Border::new(top, bottom, left, right, Some(5), Some(7), Some(6), Some(8));
-    assert!(rt;
-        border == parts
-            && border.map(|n| n / 2) == Border::full(0, 1, 1, 2, 2, 3, 3, 4)
-            && border.convert::<u16>() == Border::full(1u16, 2, 3, 4, 5, 6, 7, 8)
-    );
+    assert!(rt; is_of_parts(border));
+    assert!(rt; border.map(|n| n / 2) == Border::full(0, 1, 1, 2, 2, 3, 3, 4));
+    assert!(rt; border.convert::<u16>() == Border::full(1u16, 2, 3, 4, 5, 6, 7, 8));
 }
 
 #[test]
