@@ -1,5 +1,5 @@
 -- Boundaries that are laid from the end back.
-use Rattle.std.proofs.Common.{◌≡◌, ◌≢◌, ℕ, zero, suc, ◌+◌, ◌-◌, ◌<◌, ◌≤◌, ◌∙◌, min, inl, inr, List, length, get_or, set, ap, arith}
+use Rattle.std.proofs.Common.{◌≡◌, ◌≢◌, ℕ, zero, suc, ◌+◌, ◌-◌, ◌<◌, ◌≤◌, ◌∙◌, min, inl, inr, List, length, get_or, set, refl, ap, arith}
 use Rattle.std.specs.Prelude.{All}
 use Rattle.std.proofs.lemmas.Bool.{cases_eq, cases_lt}
 use Rattle.std.proofs.lemmas.List.{get_or_default, get_or-set_same, get_or-set_other, length-set}
@@ -41,6 +41,19 @@ pub record LaidFrom (base : List ℕ) (cells : List Demand) (k a total : ℕ) (b
   pub earlier : (j : ℕ) (d : Demand) → k ≤ j → j < length cells → (get_or cells j d).start ≤ a
   pub above : (boundary : ℕ → ℕ) → AreLaid base cells boundary → boundary (length base) ≤ total → (i : ℕ) → a ≤ i → i ≤ length base → boundary i ≤ get_or boundaries i 0
 
+-- before the first cell
+pub LaidFrom-none : (base : List ℕ) (cells : List Demand) (boundaries : List ℕ) → All (IsInTable (length base)) cells → length boundaries ≡ length base + 1 →
+    LaidFrom base cells 0 (length base) (get_or boundaries (length base) 0) boundaries
+LaidFrom-none base cells boundaries table one_more = record {
+  one_more = one_more;
+  within = omega arith;
+  last = refl;
+  steps = λ i from l. absurd (omega arith);
+  apart = λ j d l. absurd (omega arith);
+  earlier = λ j d from l. let within : end_of (get_or cells j d) ≤ length base = (table j d l).ends_within in omega arith;
+  above = λ boundary are le i from l. let e : i ≡ length base = omega arith in rw e le;
+}
+
 -- one step of the loop: boundaries laid back to the start of the next cell, as `mid`
 module _ (base : List ℕ) (cells : List Demand) (table : All (IsInTable (length base)) cells) (sorted : AreLaterFirst cells) (k a total : ℕ) (boundaries mid : List ℕ) (listed : k < length cells)
     (laid_from : LaidFrom base cells k a total boundaries) (same : length mid ≡ length boundaries) (after : (i : ℕ) → a ≤ i → get_or mid i 0 ≡ get_or boundaries i 0)
@@ -74,16 +87,22 @@ module _ (base : List ℕ) (cells : List Demand) (table : All (IsInTable (length
       let q : boundary (get_or cells k no_cell).start + (get_or cells k no_cell).minimum ≤ boundary (end_of (get_or cells k no_cell)) = are.apart k no_cell listed in
       omega arith
 
+  pub end-in_mid : end_of (get_or cells k no_cell) < length mid
+  end-in_mid =
+      let le : end_of (get_or cells k no_cell) ≤ length base = within in
+      let one_more : length boundaries ≡ length base + 1 = laid_from.one_more in
+      omega arith
+
+  pub start-in_mid : (get_or cells k no_cell).start < length mid
+  start-in_mid = let l : end_of (get_or cells k no_cell) < length mid = end-in_mid in omega arith
+
   module _ (top : ℕ) (fits : (get_or cells k no_cell).minimum ≤ get_or mid (end_of (get_or cells k no_cell)) 0)
       (pulled : top ≡ min (get_or mid (get_or cells k no_cell).start 0) (get_or mid (end_of (get_or cells k no_cell)) 0 - (get_or cells k no_cell).minimum)) where
     abbrev moved : List ℕ
     moved = set mid (get_or cells k no_cell).start top
 
     there : get_or moved (get_or cells k no_cell).start 0 ≡ min (get_or mid (get_or cells k no_cell).start 0) (get_or mid (end_of (get_or cells k no_cell)) 0 - (get_or cells k no_cell).minimum)
-    there =
-        let one_more : length boundaries ≡ length base + 1 = laid_from.one_more in
-        let le : end_of (get_or cells k no_cell) ≤ length base = within in
-        get_or-set_same mid (get_or cells k no_cell).start top 0 (omega arith) ∙ pulled
+    there = get_or-set_same mid (get_or cells k no_cell).start top 0 start-in_mid ∙ pulled
 
     elsewhere : (i : ℕ) → i ≢ (get_or cells k no_cell).start → get_or moved i 0 ≡ get_or mid i 0
     elsewhere i ne = get_or-set_other mid (get_or cells k no_cell).start i top 0 ne
@@ -181,3 +200,82 @@ module _ (base : List ℕ) (cells : List Demand) (k a total : ℕ) (boundaries w
         let small : a ≤ length base = laid_from.within in
         above-more base boundary (λ i. get_or whole i 0) a 0 (λ i from' l'. are.steps i from' (omega arith)) (omega arith) laid i (omega arith) (omega arith)
   ]
+
+  pub AreLaid-back : AreLaid base cells (λ i. get_or whole i 0)
+  AreLaid-back = record { steps = steps-back; apart = λ j d l. apart-back (get_or cells j d) (laid_from.apart j d (omega arith)) }
+    where
+      steps-back : AreSteps base 0 (length base) (λ i. get_or whole i 0)
+      steps-back i from l = elim (cases_lt i a) [
+        | inl early ↦ let s : get_or whole (i + 1) 0 ≡ get_or whole i 0 + get_or base i 0 = laid i from early in omega arith
+        | inr late ↦
+            let s : get_or boundaries i 0 + get_or base i 0 ≤ get_or boundaries (i + 1) 0 = laid_from.steps i late l in
+            let p : get_or whole i 0 ≡ get_or boundaries i 0 = after i late in
+            let q : get_or whole (i + 1) 0 ≡ get_or boundaries (i + 1) 0 = after (i + 1) (omega arith) in
+            omega arith
+      ]
+
+      apart-back : (d : Demand) → (a ≤ d.start) × (get_or boundaries d.start 0 + d.minimum ≤ get_or boundaries (end_of d) 0) → get_or whole d.start 0 + d.minimum ≤ get_or whole (end_of d) 0
+      apart-back d known =
+          let starts : a ≤ d.start = known.0 in
+          let apart : get_or boundaries d.start 0 + d.minimum ≤ get_or boundaries (end_of d) 0 = known.1 in
+          let p : get_or whole d.start 0 ≡ get_or boundaries d.start 0 = after d.start starts in
+          let q : get_or whole (end_of d) 0 ≡ get_or boundaries (end_of d) 0 = after (end_of d) (omega arith) in
+          omega arith
+
+-- boundaries laid back from track `to` down to i, each before the next by the minimum size of the track between alone
+pub record LaidBackTo (base old : List ℕ) (from to i : ℕ) (boundaries : List ℕ) : Type 0 where
+  pub same_length : length boundaries ≡ length old
+  pub after : (k : ℕ) → to ≤ k → get_or boundaries k 0 ≡ get_or old k 0
+  pub laid : (k : ℕ) → i ≤ k → k < to → get_or boundaries (k + 1) 0 ≡ get_or boundaries k 0 + get_or base k 0
+  pub above : (boundary : ℕ → ℕ) → AreSteps base from to boundary → boundary to ≤ get_or old to 0 → boundary i ≤ get_or boundaries i 0
+
+-- one more boundary, that before track i
+module _ (base old : List ℕ) (from to i : ℕ) (boundaries : List ℕ) (left : from < i) (within : i ≤ to) (laid_back : LaidBackTo base old from to i boundaries)
+    (boundary : ℕ → ℕ) (are : AreSteps base from to boundary) (room : boundary to ≤ get_or old to 0) where
+  pub base-fits : get_or base (i - 1) 0 ≤ get_or boundaries i 0
+  base-fits =
+      let here : boundary i ≤ get_or boundaries i 0 = laid_back.above boundary are room in
+      let step : boundary (i - 1) + get_or base (i - 1) 0 ≤ boundary (i - 1 + 1) = are (i - 1) (omega arith) (omega arith) in
+      let e : boundary (i - 1 + 1) ≡ boundary i = ap boundary (let s : i - 1 + 1 ≡ i = omega arith in s) in
+      omega arith
+
+  module _ (listed : i < length boundaries) where
+    abbrev more : List ℕ
+    more = set boundaries (i - 1) (get_or boundaries i 0 - get_or base (i - 1) 0)
+
+    new-here : get_or more (i - 1) 0 ≡ get_or boundaries i 0 - get_or base (i - 1) 0
+    new-here = get_or-set_same boundaries (i - 1) (get_or boundaries i 0 - get_or base (i - 1) 0) 0 (omega arith)
+
+    kept : (k : ℕ) → k ≢ i - 1 → get_or more k 0 ≡ get_or boundaries k 0
+    kept k ne = get_or-set_other boundaries (i - 1) k (get_or boundaries i 0 - get_or base (i - 1) 0) 0 ne
+
+    laid-more : (k : ℕ) → i - 1 ≤ k → k < to → get_or more (k + 1) 0 ≡ get_or more k 0 + get_or base k 0
+    laid-more k from' l = elim (cases_eq k (i - 1)) [
+      | inl e ↦
+          let fits : get_or base (i - 1) 0 ≤ get_or boundaries i 0 = base-fits in
+          let next : get_or more (i - 1 + 1) 0 ≡ get_or boundaries (i - 1 + 1) 0 = kept (i - 1 + 1) (omega arith) in
+          let same : get_or boundaries (i - 1 + 1) 0 ≡ get_or boundaries i 0 = ap (λ k. get_or boundaries k 0) (let s : i - 1 + 1 ≡ i = omega arith in s) in
+          let new : get_or more (i - 1) 0 ≡ get_or boundaries i 0 - get_or base (i - 1) 0 = new-here in
+          rw e (omega arith)
+      | inr ne ↦
+          let x : get_or more k 0 ≡ get_or boundaries k 0 = kept k ne in
+          let y : get_or more (k + 1) 0 ≡ get_or boundaries (k + 1) 0 = kept (k + 1) (omega arith) in
+          let z : get_or boundaries (k + 1) 0 ≡ get_or boundaries k 0 + get_or base k 0 = laid_back.laid k (omega arith) l in
+          omega arith
+    ]
+
+    above-one_more : (other : ℕ → ℕ) → AreSteps base from to other → other to ≤ get_or old to 0 → other (i - 1) ≤ get_or more (i - 1) 0
+    above-one_more other steps le =
+        let top : other i ≤ get_or boundaries i 0 = laid_back.above other steps le in
+        let step : other (i - 1) + get_or base (i - 1) 0 ≤ other (i - 1 + 1) = steps (i - 1) (omega arith) (omega arith) in
+        let e : other (i - 1 + 1) ≡ other i = ap other (let s : i - 1 + 1 ≡ i = omega arith in s) in
+        let new : get_or more (i - 1) 0 ≡ get_or boundaries i 0 - get_or base (i - 1) 0 = new-here in
+        omega arith
+
+    pub LaidBackTo-more : (j : ℕ) → j ≡ i - 1 → LaidBackTo base old from to j more
+    LaidBackTo-more j e = rw e record {
+      same_length = length-set boundaries (i - 1) (get_or boundaries i 0 - get_or base (i - 1) 0) ∙ laid_back.same_length;
+      after = λ k le. kept k (omega arith) ∙ laid_back.after k le;
+      laid = laid-more;
+      above = above-one_more;
+    }

@@ -33,12 +33,15 @@ boundaries-apart sizes d =
     let e : range_sum sizes d ≡ within (λ i. get_or sizes i 0) d = range_sum-within sizes d in
     omega arith
 
-boundaries-rise : (sizes : List ℕ) (i : ℕ) → boundaries_of sizes i ≤ boundaries_of sizes (i + 1)
-boundaries-rise sizes i =
+pub boundaries-next : (sizes : List ℕ) (i : ℕ) → boundaries_of sizes (i + 1) ≡ boundaries_of sizes i + get_or sizes i 0
+boundaries-next sizes i =
     let a : sum (take (suc i) sizes) ≡ upto (λ i. get_or sizes i 0) i + get_or sizes i 0 = sum-take (suc i) sizes in
     let b : sum (take i sizes) ≡ upto (λ i. get_or sizes i 0) i = sum-take i sizes in
     let e : i + 1 ≡ suc i = omega arith in
     rw e (omega arith)
+
+boundaries-rise : (sizes : List ℕ) (i : ℕ) → boundaries_of sizes i ≤ boundaries_of sizes (i + 1)
+boundaries-rise sizes i = let e : boundaries_of sizes (i + 1) ≡ boundaries_of sizes i + get_or sizes i 0 = boundaries-next sizes i in omega arith
 
 pub AreBoundaries-boundaries_of : (line : ℕ → Bool) (n : ℕ) (demands : List Demand) (sizes : List ℕ) → Fits (problem_of_demands line n demands) sizes → AreBoundaries (net_minimum line) n demands (boundaries_of sizes)
 AreBoundaries-boundaries_of line n demands sizes fits = record {

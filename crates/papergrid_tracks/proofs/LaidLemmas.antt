@@ -121,6 +121,17 @@ pub record LaidTo (base : List ℕ) (cells : List Demand) (k a : ℕ) (boundarie
   pub later : (j : ℕ) (d : Demand) → k ≤ j → j < length cells → a ≤ end_of (get_or cells j d)
   pub below : (boundary : ℕ → ℕ) → AreLaid base cells boundary → (i : ℕ) → i ≤ a → get_or boundaries i 0 ≤ boundary i
 
+-- before the first cell, where the first boundary is at 0
+pub LaidTo-none : (base : List ℕ) (cells : List Demand) (boundaries : List ℕ) → length boundaries ≡ length base + 1 → get_or boundaries 0 0 ≡ 0 → LaidTo base cells 0 0 boundaries
+LaidTo-none base cells boundaries one_more first = record {
+  one_more = one_more;
+  within = omega arith;
+  steps = λ i from l. absurd (omega arith);
+  apart = λ j d l. absurd (omega arith);
+  later = λ j d from l. omega arith;
+  below = λ boundary are i l. let e : i ≡ 0 = omega arith in rw e (omega arith);
+}
+
 -- one step of the loop: boundaries laid on up to the end of the next cell, as `mid`
 module _ (base : List ℕ) (cells : List Demand) (table : All (IsInTable (length base)) cells) (sorted : IsNonDecreasingBy end_of cells) (k a : ℕ) (boundaries mid : List ℕ) (listed : k < length cells)
     (laid_to : LaidTo base cells k a boundaries) (same : length mid ≡ length boundaries) (before : (i : ℕ) → i ≤ a → get_or mid i 0 ≡ get_or boundaries i 0)
@@ -136,18 +147,21 @@ module _ (base : List ℕ) (cells : List Demand) (table : All (IsInTable (length
       let r : boundary (end_of (get_or cells k no_cell)) ≤ boundary (length base) = steps-rise base 0 (length base) boundary are.steps (end_of (get_or cells k no_cell)) (length base) (omega arith) within (omega arith) in
       omega arith
 
+  pub end-in_mid : end_of (get_or cells k no_cell) < length mid
+  end-in_mid =
+      let within : end_of (get_or cells k no_cell) ≤ length base = (table k no_cell listed).ends_within in
+      let one_more : length boundaries ≡ length base + 1 = laid_to.one_more in
+      omega arith
+
+  pub start-in_mid : (get_or cells k no_cell).start < length mid
+  start-in_mid = let l : end_of (get_or cells k no_cell) < length mid = end-in_mid in omega arith
+
   module _ (top : ℕ) (pushed : top ≡ max (get_or mid (end_of (get_or cells k no_cell)) 0) (get_or mid (get_or cells k no_cell).start 0 + (get_or cells k no_cell).minimum)) where
     abbrev moved : List ℕ
     moved = set mid (end_of (get_or cells k no_cell)) top
 
-    room : end_of (get_or cells k no_cell) < length mid
-    room =
-        let within : end_of (get_or cells k no_cell) ≤ length base = (table k no_cell listed).ends_within in
-        let one_more : length boundaries ≡ length base + 1 = laid_to.one_more in
-        omega arith
-
     there : get_or moved (end_of (get_or cells k no_cell)) 0 ≡ max (get_or mid (end_of (get_or cells k no_cell)) 0) (get_or mid (get_or cells k no_cell).start 0 + (get_or cells k no_cell).minimum)
-    there = get_or-set_same mid (end_of (get_or cells k no_cell)) top 0 room ∙ pushed
+    there = get_or-set_same mid (end_of (get_or cells k no_cell)) top 0 end-in_mid ∙ pushed
 
     elsewhere : (i : ℕ) → i ≢ end_of (get_or cells k no_cell) → get_or moved i 0 ≡ get_or mid i 0
     elsewhere i ne = get_or-set_other mid (end_of (get_or cells k no_cell)) i top 0 ne
@@ -175,3 +189,24 @@ module _ (base : List ℕ) (cells : List Demand) (k a : ℕ) (boundaries whole :
   below-whole boundary are =
       below-more base (length base) boundary (λ i. get_or whole i 0) a (length base) are.steps (omega arith)
       (λ i l. let e : get_or whole i 0 ≡ get_or boundaries i 0 = before i l in let b : get_or boundaries i 0 ≤ boundary i = laid_to.below boundary are i l in omega arith) laid
+
+  pub AreLaid-whole : AreLaid base cells (λ i. get_or whole i 0)
+  AreLaid-whole = record { steps = steps-whole; apart = λ j d l. apart-whole (get_or cells j d) (laid_to.apart j d (omega arith)) }
+    where
+      steps-whole : AreSteps base 0 (length base) (λ i. get_or whole i 0)
+      steps-whole i from l = elim (cases_lt i a) [
+        | inl early ↦
+            let s : get_or boundaries i 0 + get_or base i 0 ≤ get_or boundaries (i + 1) 0 = laid_to.steps i from early in
+            let p : get_or whole i 0 ≡ get_or boundaries i 0 = before i (omega arith) in
+            let q : get_or whole (i + 1) 0 ≡ get_or boundaries (i + 1) 0 = before (i + 1) (omega arith) in
+            omega arith
+        | inr late ↦ let s : get_or whole (i + 1) 0 ≡ get_or whole i 0 + get_or base i 0 = laid i late l in omega arith
+      ]
+
+      apart-whole : (d : Demand) → (end_of d ≤ a) × (get_or boundaries d.start 0 + d.minimum ≤ get_or boundaries (end_of d) 0) → get_or whole d.start 0 + d.minimum ≤ get_or whole (end_of d) 0
+      apart-whole d known =
+          let ends : end_of d ≤ a = known.0 in
+          let apart : get_or boundaries d.start 0 + d.minimum ≤ get_or boundaries (end_of d) 0 = known.1 in
+          let p : get_or whole d.start 0 ≡ get_or boundaries d.start 0 = before d.start (omega arith) in
+          let q : get_or whole (end_of d) 0 ≡ get_or boundaries (end_of d) 0 = before (end_of d) ends in
+          omega arith

@@ -7,6 +7,7 @@ pub mod CandidateLemmas
 pub mod CertificateLemmas
 pub mod Certified
 pub mod CheckLemmas
+pub mod CountLemmas
 pub mod Counting
 pub mod CriticalPathLemmas
 pub mod DemandLemmas
@@ -19,6 +20,7 @@ pub mod FollowedLemmas
 pub mod Greatest
 pub mod Groups
 pub mod GrowLemmas
+pub mod GrowingLoop
 pub mod HighestLemmas
 pub mod LaidLemmas
 pub mod LaminarLemmas
@@ -27,6 +29,7 @@ pub mod LastLoops
 pub mod LeastDemandLemmas
 pub mod LeastLemmas
 pub mod LoopLemmas
+pub mod LowerLemmas
 pub mod LowestLemmas
 pub mod Orders
 pub mod OutLemmas
