@@ -13,13 +13,14 @@ returns c =
 pub loop-i-init : goal.loop-i-init
 loop-i-init c = LoweredTo-none c.args.sizes.now c.args.highest_position.now
 
+-- The next boundary is not named by the step that gives it, so that code that gives another one is refused for what it gives.
 pub overflow_sub-sizes : goal.overflow_sub-sizes
 overflow_sub-sizes c =
-    boundary-rises c.args.sizes.now c.args.highest_position.now c.loop-i.i c.loop-i.sizes c.loop-i.given c.loop-i.boundary c.saturating_add-given.result c.min-next.result c.loop-i.invariant
-    (c.requires.rise c.loop-i.i c.loop-i-test.true) (omega (arith, c.type_inv.highest_position (c.loop-i.i + 1))) c.saturating_add-given.ensures c.min-next.ensures
+    boundary-rises c.args.sizes.now c.args.highest_position.now c.loop-i.i c.loop-i.sizes c.loop-i.given c.loop-i.boundary c.saturating_add-given.result _ c.loop-i.invariant
+    (c.requires.rise c.loop-i.i c.loop-i-test.true) (omega (arith, c.type_inv.highest_position (c.loop-i.i + 1))) c.saturating_add-given.ensures (omega arith)
 
 pub loop-i-preserved : goal.loop-i-preserved
 loop-i-preserved c =
-    LoweredTo-more c.args.sizes.now c.args.highest_position.now c.loop-i.i c.loop-i.sizes c.loop-i.given c.loop-i.boundary c.saturating_add-given.result c.min-next.result c.loop-i.invariant
-    (c.requires.rise c.loop-i.i c.loop-i-test.true) (omega (arith, c.type_inv.highest_position (c.loop-i.i + 1))) c.saturating_add-given.ensures c.min-next.ensures
+    LoweredTo-more c.args.sizes.now c.args.highest_position.now c.loop-i.i c.loop-i.sizes c.loop-i.given c.loop-i.boundary c.saturating_add-given.result _ c.loop-i.invariant
+    (c.requires.rise c.loop-i.i c.loop-i-test.true) (omega (arith, c.type_inv.highest_position (c.loop-i.i + 1))) c.saturating_add-given.ensures (omega arith)
     c.loop-i-test.true
