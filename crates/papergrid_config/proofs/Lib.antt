@@ -1,4 +1,5 @@
 pub mod Applied
+pub mod Called
 pub mod ChangedLemmas
 pub mod Cleared
 pub mod Closures

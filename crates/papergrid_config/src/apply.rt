@@ -113,7 +113,7 @@ impl SpannedConfig {
             Setting::RemoveBorderColor(pos, shape) => self.remove_border_color(pos, shape),
             Setting::RemoveColumnSpans => self.remove_column_spans(),
             Setting::RemoveRowSpans => self.remove_row_spans(),
-            _ => {}
+            _ => unreachable!(),
         }
     }
 }

@@ -3,11 +3,12 @@ use Rattle.std.proofs.lemmas.Bool.{false≢true}
 use Rattle.papergrid_config.specs.ForProofs.Growing.{may_grow_by}
 use Rattle.papergrid_config.specs.declared.setting.Setting.{Setting}
 use Rattle.papergrid_config.specs.declared.setting.Setting.TheVariants.{SetMargin, SetMarginColor, SetMarginOffset, RemoveBorders, RemoveBordersColors, RemoveColorLineHorizontal, RemoveColorLineVertical, RemoveHorizontalChars, RemoveVerticalChars, SetBorders, SetBorderDefault, SetBordersColor, SetBorderColorDefault, SetBordersMissing, InsertHorizontalLine, RemoveHorizontalLine, InsertVerticalLine, RemoveVerticalLine, SetHorizontalChar, RemoveOverriddenHorizontal, SetVerticalChar, RemoveOverriddenVertical, SetHorizontalCharColor, SetVerticalCharColor, SetPadding, SetPaddingColor, SetTrimHorizontal, SetTrimVertical, SetLineAlignment, SetAlignmentHorizontal, SetAlignmentVertical, SetJustification, SetJustificationColor, SetBorder, SetBorderColor, RemoveBorder, RemoveBorderColor, SetColumnSpan, SetRowSpan, RemoveColumnSpans, RemoveRowSpans}
+use Rattle.papergrid_config.proofs.Called.{others_as, told_as}
 use Rattle.papergrid_config.proofs.spanned.SpannedConfig.apply_free.Goals as goal
 
 -- a setting of no arm would be one that may grow
-pub returns : goal.returns
-returns c = absurd (no_other c.args.setting refl)
+pub unreachable-requires : goal.unreachable-requires
+unreachable-requires c = absurd (no_other c.args.setting refl)
   where
     no_other : (setting : Setting) → c.args.setting ≡ setting → ⊥
     no_other (SetMargin x) e = c.in_default.not-SetMargin x e
@@ -51,3 +52,137 @@ returns c = absurd (no_other c.args.setting refl)
     no_other (SetRowSpan x y) e = false≢true (sym c.requires.free ∙ ap may_grow_by e)
     no_other RemoveColumnSpans e = c.in_default.not-RemoveColumnSpans e
     no_other RemoveRowSpans e = c.in_default.not-RemoveRowSpans e
+
+-- ---- each call does what is told of the setting that it is
+
+pub returns-in-SetMargin : goal.returns-in-SetMargin
+returns-in-SetMargin c = record {
+  told = told_as c.in-SetMargin.is c.set_margin.ensures.told;
+  others = others_as c.args.self.now c.set_margin.new.self c.in-SetMargin.is c.set_margin.ensures.others;
+}
+
+pub returns-in-SetMarginColor : goal.returns-in-SetMarginColor
+returns-in-SetMarginColor c = record {
+  told = told_as c.in-SetMarginColor.is c.set_margin_color.ensures.told;
+  others = others_as c.args.self.now c.set_margin_color.new.self c.in-SetMarginColor.is c.set_margin_color.ensures.others;
+}
+
+pub returns-in-SetMarginOffset : goal.returns-in-SetMarginOffset
+returns-in-SetMarginOffset c = record {
+  told = told_as c.in-SetMarginOffset.is c.set_margin_offset.ensures.told;
+  others = others_as c.args.self.now c.set_margin_offset.new.self c.in-SetMarginOffset.is c.set_margin_offset.ensures.others;
+}
+
+pub returns-in-RemoveBorders : goal.returns-in-RemoveBorders
+returns-in-RemoveBorders c = record {
+  told = told_as c.in-RemoveBorders.is c.remove_borders.ensures.told;
+  others = others_as c.args.self.now c.remove_borders.new.self c.in-RemoveBorders.is c.remove_borders.ensures.others;
+}
+
+pub returns-in-RemoveBordersColors : goal.returns-in-RemoveBordersColors
+returns-in-RemoveBordersColors c = record {
+  told = told_as c.in-RemoveBordersColors.is c.remove_borders_colors.ensures.told;
+  others = others_as c.args.self.now c.remove_borders_colors.new.self c.in-RemoveBordersColors.is c.remove_borders_colors.ensures.others;
+}
+
+pub returns-in-RemoveColorLineHorizontal : goal.returns-in-RemoveColorLineHorizontal
+returns-in-RemoveColorLineHorizontal c = record {
+  told = told_as c.in-RemoveColorLineHorizontal.is c.remove_color_line_horizontal.ensures.told;
+  others = others_as c.args.self.now c.remove_color_line_horizontal.new.self c.in-RemoveColorLineHorizontal.is c.remove_color_line_horizontal.ensures.others;
+}
+
+pub returns-in-RemoveColorLineVertical : goal.returns-in-RemoveColorLineVertical
+returns-in-RemoveColorLineVertical c = record {
+  told = told_as c.in-RemoveColorLineVertical.is c.remove_color_line_vertical.ensures.told;
+  others = others_as c.args.self.now c.remove_color_line_vertical.new.self c.in-RemoveColorLineVertical.is c.remove_color_line_vertical.ensures.others;
+}
+
+pub returns-in-RemoveHorizontalChars : goal.returns-in-RemoveHorizontalChars
+returns-in-RemoveHorizontalChars c = record {
+  told = told_as c.in-RemoveHorizontalChars.is c.remove_horizontal_chars.ensures.told;
+  others = others_as c.args.self.now c.remove_horizontal_chars.new.self c.in-RemoveHorizontalChars.is c.remove_horizontal_chars.ensures.others;
+}
+
+pub returns-in-RemoveVerticalChars : goal.returns-in-RemoveVerticalChars
+returns-in-RemoveVerticalChars c = record {
+  told = told_as c.in-RemoveVerticalChars.is c.remove_vertical_chars.ensures.told;
+  others = others_as c.args.self.now c.remove_vertical_chars.new.self c.in-RemoveVerticalChars.is c.remove_vertical_chars.ensures.others;
+}
+
+pub returns-in-SetBorders : goal.returns-in-SetBorders
+returns-in-SetBorders c = record {
+  told = told_as c.in-SetBorders.is c.set_borders.ensures.told;
+  others = others_as c.args.self.now c.set_borders.new.self c.in-SetBorders.is c.set_borders.ensures.others;
+}
+
+pub returns-in-SetBorderDefault : goal.returns-in-SetBorderDefault
+returns-in-SetBorderDefault c = record {
+  told = told_as c.in-SetBorderDefault.is c.set_border_default.ensures.told;
+  others = others_as c.args.self.now c.set_border_default.new.self c.in-SetBorderDefault.is c.set_border_default.ensures.others;
+}
+
+pub returns-in-SetBordersColor : goal.returns-in-SetBordersColor
+returns-in-SetBordersColor c = record {
+  told = told_as c.in-SetBordersColor.is c.set_borders_color.ensures.told;
+  others = others_as c.args.self.now c.set_borders_color.new.self c.in-SetBordersColor.is c.set_borders_color.ensures.others;
+}
+
+pub returns-in-SetBorderColorDefault : goal.returns-in-SetBorderColorDefault
+returns-in-SetBorderColorDefault c = record {
+  told = told_as c.in-SetBorderColorDefault.is c.set_border_color_default.ensures.told;
+  others = others_as c.args.self.now c.set_border_color_default.new.self c.in-SetBorderColorDefault.is c.set_border_color_default.ensures.others;
+}
+
+pub returns-in-SetBordersMissing : goal.returns-in-SetBordersMissing
+returns-in-SetBordersMissing c = record {
+  told = told_as c.in-SetBordersMissing.is c.set_borders_missing.ensures.told;
+  others = others_as c.args.self.now c.set_borders_missing.new.self c.in-SetBordersMissing.is c.set_borders_missing.ensures.others;
+}
+
+pub returns-in-RemoveHorizontalLine : goal.returns-in-RemoveHorizontalLine
+returns-in-RemoveHorizontalLine c = record {
+  told = told_as c.in-RemoveHorizontalLine.is c.remove_horizontal_line.ensures.told;
+  others = others_as c.args.self.now c.remove_horizontal_line.new.self c.in-RemoveHorizontalLine.is c.remove_horizontal_line.ensures.others;
+}
+
+pub returns-in-RemoveVerticalLine : goal.returns-in-RemoveVerticalLine
+returns-in-RemoveVerticalLine c = record {
+  told = told_as c.in-RemoveVerticalLine.is c.remove_vertical_line.ensures.told;
+  others = others_as c.args.self.now c.remove_vertical_line.new.self c.in-RemoveVerticalLine.is c.remove_vertical_line.ensures.others;
+}
+
+pub returns-in-RemoveOverriddenHorizontal : goal.returns-in-RemoveOverriddenHorizontal
+returns-in-RemoveOverriddenHorizontal c = record {
+  told = told_as c.in-RemoveOverriddenHorizontal.is c.remove_overridden_horizontal.ensures.told;
+  others = others_as c.args.self.now c.remove_overridden_horizontal.new.self c.in-RemoveOverriddenHorizontal.is c.remove_overridden_horizontal.ensures.others;
+}
+
+pub returns-in-RemoveOverriddenVertical : goal.returns-in-RemoveOverriddenVertical
+returns-in-RemoveOverriddenVertical c = record {
+  told = told_as c.in-RemoveOverriddenVertical.is c.remove_overridden_vertical.ensures.told;
+  others = others_as c.args.self.now c.remove_overridden_vertical.new.self c.in-RemoveOverriddenVertical.is c.remove_overridden_vertical.ensures.others;
+}
+
+pub returns-in-RemoveBorder : goal.returns-in-RemoveBorder
+returns-in-RemoveBorder c = record {
+  told = told_as c.in-RemoveBorder.is c.remove_border.ensures.told;
+  others = others_as c.args.self.now c.remove_border.new.self c.in-RemoveBorder.is c.remove_border.ensures.others;
+}
+
+pub returns-in-RemoveBorderColor : goal.returns-in-RemoveBorderColor
+returns-in-RemoveBorderColor c = record {
+  told = told_as c.in-RemoveBorderColor.is c.remove_border_color.ensures.told;
+  others = others_as c.args.self.now c.remove_border_color.new.self c.in-RemoveBorderColor.is c.remove_border_color.ensures.others;
+}
+
+pub returns-in-RemoveColumnSpans : goal.returns-in-RemoveColumnSpans
+returns-in-RemoveColumnSpans c = record {
+  told = told_as c.in-RemoveColumnSpans.is c.remove_column_spans.ensures.told;
+  others = others_as c.args.self.now c.remove_column_spans.new.self c.in-RemoveColumnSpans.is c.remove_column_spans.ensures.others;
+}
+
+pub returns-in-RemoveRowSpans : goal.returns-in-RemoveRowSpans
+returns-in-RemoveRowSpans c = record {
+  told = told_as c.in-RemoveRowSpans.is c.remove_row_spans.ensures.told;
+  others = others_as c.args.self.now c.remove_row_spans.new.self c.in-RemoveRowSpans.is c.remove_row_spans.ensures.others;
+}
