@@ -15,6 +15,7 @@ use papergrid_tables::BorderTable;
 use papergrid_values::{ANSIBuf, Border, Borders, HorizontalLine, Position, VerticalLine};
 use std::alloc::AllocError;
 use std::collections::HashMap;
+use std::mem;
 
 impl SpannedConfig {
     /// Sets the characters of the frame.
@@ -91,7 +92,8 @@ impl SpannedConfig {
         ensures told { AddsSetting self.old self.new RemoveBordersColors }
         ensures others { self.new ≡ record self.old { colors = self.new.colors } }
     {
-        self.colors = BorderTable::new(self.alloc);
+        // By `drop`, since an assignment's drop of the old table is proved field by field.
+        drop(mem::replace(&mut self.colors, BorderTable::new(self.alloc)));
     }
 
     /// Sets the characters round a cell that are set here, and leaves the others. Where an
