@@ -8,4 +8,5 @@ pub mod EqualLemmas
 pub mod FoundLemmas
 pub mod GridLemmas
 pub mod ViewLemmas
+pub mod Reached
 pub mod SameLemmas

@@ -19,8 +19,10 @@ impl SpannedConfig {
     pub fn get_vertical(&self, pos: Position, count: usize) -> Option<char>
         ensures { result ≡ shown_vertical self.now.characters self.now.missing pos count }
     {
-        let found = self.characters.get_vertical(pos, count).copied();
-        found.or_else(|| self.has_vertical(pos.col, count).then_some(self.missing))
+        match self.characters.get_vertical(pos, count) {
+            Some(character) => Some(*character),
+            None => self.has_vertical(pos.col, count).then_some(self.missing),
+        }
     }
 
     /// The character of the horizontal line at a row and a column, where there are so many rows,
@@ -28,8 +30,10 @@ impl SpannedConfig {
     pub fn get_horizontal(&self, pos: Position, count: usize) -> Option<char>
         ensures { result ≡ shown_horizontal self.now.characters self.now.missing pos count }
     {
-        let found = self.characters.get_horizontal(pos, count).copied();
-        found.or_else(|| self.has_horizontal(pos.row, count).then_some(self.missing))
+        match self.characters.get_horizontal(pos, count) {
+            Some(character) => Some(*character),
+            None => self.has_horizontal(pos.row, count).then_some(self.missing),
+        }
     }
 
     /// The character where two lines cross, in a table of so many rows and columns: the one found
