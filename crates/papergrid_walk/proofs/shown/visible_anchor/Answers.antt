@@ -1,7 +1,7 @@
 use Rattle.std.proofs.Common.{◌∙◌, ap, arith, subst, sym, Some}
 use Rattle.std.proofs.lemmas.Bool.{false≢true}
 use Rattle.papergrid_maps.specs.Hidden.{IsHidden, AreAnchorsOf}
-use Rattle.papergrid_walk.proofs.ShownLemmas.{anchor_found}
+use Rattle.papergrid_walk.proofs.ShownLemmas.{anchor_found, hidden_in, shows_on}
 use Rattle.papergrid_walk.proofs.shown.visible_anchor.Goals as goal
 
 pub is_hidden-requires-clause-ahead : goal.is_hidden-requires-clause-ahead
@@ -13,3 +13,16 @@ returns-clause-visible c = λ grid so_far.
     let shown = (so_far.anchors.hide c.args.pos).1 (λ hidden.
     false≢true (sym c.if-is_hidden.false ∙ c.is_hidden.ensures.hidden.1 (subst (λ anchors. IsHidden anchors c.args.pos) (sym c.in_ok-make_room.ensures.anchors) hidden))) in
     rw shown (ap (λ a. Some a) (anchor_found grid c.is_hidden.new.self.anchors c.args.pos c.anchor_at.result are c.anchor_at.ensures))
+
+pub returns-clause-later : goal.returns-clause-later
+returns-clause-later c = λ grid so_far.
+    shows_on grid c.args.walk.now c.is_hidden.new.self c.args.pos (c.is_hidden.ensures.anchors ∙ c.in_ok-make_room.ensures.anchors) c.is_hidden.ensures.later so_far
+
+pub returns-then-is_hidden : goal.returns-then-is_hidden
+returns-then-is_hidden c = record {
+  visible = λ grid so_far.
+      hidden_in grid c.args.walk.now.anchors c.args.pos _ so_far.anchors
+      (subst (λ anchors. IsHidden anchors c.args.pos) c.in_ok-make_room.ensures.anchors (c.is_hidden.ensures.hidden.0 c.if-is_hidden.true));
+  later = λ grid so_far.
+      shows_on grid c.args.walk.now c.is_hidden.new.self c.args.pos (c.is_hidden.ensures.anchors ∙ c.in_ok-make_room.ensures.anchors) c.is_hidden.ensures.later so_far;
+}
