@@ -1,7 +1,7 @@
 -- A list of calls that is made one by one.
-use Rattle.std.proofs.Common.{length, take, arith, ◌+◌, ◌≡◌, ℕ, Bool, true, false, List, [], ◌∷◌, ◌++◌, Some, refl, sym, ap, subst, ◌∙◌, append_assoc}
+use Rattle.std.proofs.Common.{length, take, arith, ◌+◌, ◌^◌, ◌≡◌, ◌<◌, ◌≤◌, Fits, w64, ℕ, Bool, true, false, List, [], ◌∷◌, ◌++◌, Some, refl, sym, ap, subst, ◌∙◌, append_assoc}
 use Rattle.std.specs.List.{All, slice_get}
-use Rattle.std.proofs.lemmas.List.{length-append, take-append-le, take_all}
+use Rattle.std.proofs.lemmas.List.{append-nil, length-append, take-append-le, take_all}
 use Rattle.std.proofs.lemmas.List.Elements.{All-get_or}
 use Rattle.std.proofs.lemmas.Option.{get_or_from_slice_get, slice_get_within}
 
@@ -36,6 +36,12 @@ module _ {C : Type 0} where
 
   pub holds_at : (P : C → Type 0) (calls : List C) (n : ℕ) (call : C) → slice_get calls n ≡ Some call → All P calls → P call
   holds_at P calls n call is all = subst P (get_or_from_slice_get calls n call call is) (All-get_or P calls n call (slice_get_within calls n call is) all)
+
+  pub all_told : {Told : List C → Type 0} {calls left all : List C} {done : ℕ} → left ≡ [] → AppliedSoFar Told calls left all done → Told all
+  all_told {Told = Told} {calls = calls} is so_far = subst Told (sym (append-nil calls) ∙ ap (λ xs. calls ++ xs) (sym is) ∙ so_far.split) so_far.told
+
+  pub next_fits : (calls : List C) (n count room : ℕ) (call : C) → slice_get calls n ≡ Some call → count ≡ length calls → count ≤ room → room < 2 ^ 63 → Fits w64 (n + 1)
+  next_fits calls n count room call is counted within small = omega (arith, counted, within, small, slice_get_within calls n call is)
 
 pub true_from : (b : Bool) → (b ≡ false → false ≡ true) → b ≡ true
 true_from true contradicts = refl

@@ -1,4 +1,4 @@
-use Rattle.std.proofs.Common.{◌≡◌, Bool, true, false, ◌&&◌, refl}
+use Rattle.std.proofs.Common.{append_assoc, ◌≡◌, Bool, true, false, ◌&&◌, refl}
 use Rattle.std.specs.declared.cmp.Ordering.{Ordering}
 use Rattle.std.specs.declared.cmp.Ordering.TheVariants.{Less, Equal, Greater}
 use Rattle.std.specs.Ordering.{ordering_then}
@@ -18,3 +18,9 @@ returns-clause-ordered c x y = rw then_equal
 
 pub returns-clause-equal : goal.returns-clause-equal
 returns-clause-equal c x y = rw and_true
+
+pub returns-clause-hashed : goal.returns-clause-hashed
+returns-clause-hashed c x = simp append_assoc
+
+pub returns-clause-cloned : goal.returns-clause-cloned
+returns-clause-cloned c x y = λ same. same

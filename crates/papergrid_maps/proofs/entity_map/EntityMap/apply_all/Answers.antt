@@ -1,13 +1,27 @@
-use Rattle.std.proofs.Common.{◌≡◌, Some, false}
+use Rattle.std.proofs.Common.{◌≡◌, [], Some, false, subst, sym, ◌∙◌}
 use Rattle.std.specs.List.{slice_get}
+use Rattle.std.specs.Vec.Iter.{into_iter_items}
+use Rattle.std.proofs.lemmas.List.{nil_from_length}
 use Rattle.std.proofs.lemmas.Option.{slice_get_within}
 use Rattle.papergrid_maps.specs.MapCalls.{may_grow}
-use Rattle.papergrid_maps.proofs.Applied.{applied_more, holds_at, next_call, told_so_far, true_from}
+use Rattle.papergrid_maps.specs.StoredMap.{AppendsCalls}
+use Rattle.papergrid_maps.proofs.Applied.{all_told, applied_more, holds_at, next_call, next_fits, told_so_far, true_from}
 use Rattle.papergrid_maps.proofs.MapHistory.{appends_more}
 use Rattle.papergrid_maps.proofs.entity_map.EntityMap.apply_all.Goals as goal
 
 pub loop-call-preserved : goal.loop-call-preserved
 loop-call-preserved g c = applied_more c.in-Some.call c.in-Some.ensures.steps.0 (appends_more _ _ c.loop-call.invariant.told c.in-Ok.ensures.ok) c.loop-call.invariant
+
+pub overflow_add-done : goal.overflow_add-done
+overflow_add-done g c = next_fits c.args.calls.items c.loop-call.done c.args.calls.len c.args.calls.cap c.in-Some.call
+    (next_call c.in-Some.call c.in-Some.ensures.steps.0 c.into_iter-call-iterator.ensures.into_iter_gives.0 c.loop-call.invariant)
+    c.args.calls.ok.0 c.args.calls.ok.1 c.args.calls.small
+
+pub returns-clause-ok : goal.returns-clause-ok
+returns-clause-ok g c =
+    let none : into_iter_items c.loop-call.call-iterator ≡ [] =
+    nil_from_length _ (sym c.loop-call.call-iterator.rest.ok.0 ∙ c.in-None.ensures.steps.0) in
+    subst (AppendsCalls _ _) c.into_iter-call-iterator.ensures.into_iter_gives.0 (all_told none c.loop-call.invariant)
 
 pub returns-in-Err-clause-err : goal.returns-in-Err-clause-err
 returns-in-Err-clause-err g c = rw (c.in-Err.ensures.err, ← c.into_iter-call-iterator.ensures.into_iter_gives.0) (told_so_far c.loop-call.invariant)
