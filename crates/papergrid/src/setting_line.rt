@@ -16,8 +16,12 @@ pub fn line_setting(keyword: &str, rest: &str) -> Option<ScriptSetting>
 {
     match keyword {
         "pad" => padding(rest),
-        "colspan" => placed_span(rest).map(|(pos, span)| ScriptSetting::ColumnSpan(pos, span)),
-        "rowspan" => placed_span(rest).map(|(pos, span)| ScriptSetting::RowSpan(pos, span)),
+        "colspan" => placed_span(rest).map(|(position, span)| ScriptSetting::ColumnSpan(
+            position, span,
+        )),
+        "rowspan" => placed_span(rest).map(|(position, span)| ScriptSetting::RowSpan(
+            position, span,
+        )),
         "border" => character(rest).map(ScriptSetting::Border),
         "vline" => placed_character(rest).map(|(col, c)| ScriptSetting::VerticalLine(col, c)),
         "hline" => placed_character(rest).map(|(row, c)| ScriptSetting::HorizontalLine(row, c)),

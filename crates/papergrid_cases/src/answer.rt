@@ -60,11 +60,11 @@ impl Answer {
         }
     }
 
-    pub fn position(&mut self, pos: Position) {
+    pub fn position(&mut self, position: Position) {
         self.space();
-        self.digits(pos.row);
+        self.digits(position.row);
         self.push(",");
-        self.digits(pos.col);
+        self.digits(position.col);
     }
 
     /// The mark of a value, or `_` for none.

@@ -80,77 +80,82 @@ fn ask_borders(config: &SpannedConfig, word: &str, words: &mut Words<'_>, answer
 fn ask_cell(
     config: &SpannedConfig,
     word: &str,
-    pos: Position,
+    position: Position,
     words: &mut Words<'_>,
     answer: &mut Answer,
 ) {
     match word {
-        "get_padding" => answer.indents(config.get_padding(pos)),
+        "get_padding" => answer.indents(config.get_padding(position)),
         "get_padding_color" => {
-            let colors = config.get_padding_color(pos);
+            let colors = config.get_padding_color(position);
             let (left, right) = (colors.left.as_ref(), colors.right.as_ref());
             answer.colors([left, right, colors.top.as_ref(), colors.bottom.as_ref()]);
         }
-        "get_justification" => answer.character(Some(config.get_justification(pos))),
-        "get_justification_color" => answer.mark(config.get_justification_color(pos)),
+        "get_justification" => answer.character(Some(config.get_justification(position))),
+        "get_justification_color" => answer.mark(config.get_justification_color(position)),
         "get_alignment_horizontal" => {
-            answer.alignment_horizontal(*config.get_alignment_horizontal(pos));
+            answer.alignment_horizontal(*config.get_alignment_horizontal(position));
         }
-        "get_alignment_vertical" => answer.alignment_vertical(*config.get_alignment_vertical(pos)),
+        "get_alignment_vertical" => answer.alignment_vertical(*config.get_alignment_vertical(
+            position,
+        )),
         "get_formatting" => {
-            let formatting = config.get_formatting(pos);
+            let formatting = config.get_formatting(position);
             answer.flag(formatting.horizontal_trim);
             answer.flag(formatting.vertical_trim);
             answer.flag(formatting.allow_lines_alignment);
         }
-        "get_column_span" => answer.found_number(config.get_column_span(pos)),
-        "get_row_span" => answer.found_number(config.get_row_span(pos)),
-        _ => ask_cell_flags(config, word, pos, words, answer),
+        "get_column_span" => answer.found_number(config.get_column_span(position)),
+        "get_row_span" => answer.found_number(config.get_row_span(position)),
+        _ => ask_cell_flags(config, word, position, words, answer),
     }
 }
 
 fn ask_cell_flags(
     config: &SpannedConfig,
     word: &str,
-    pos: Position,
+    position: Position,
     words: &mut Words<'_>,
     answer: &mut Answer,
 ) {
     answer.flag(match word {
-        "get_trim_horizonal" => config.get_trim_horizonal(pos),
-        "get_trim_vertical" => config.get_trim_vertical(pos),
-        "get_line_alignment" => config.get_line_alignment(pos),
-        "is_overridden_horizontal" => config.is_overridden_horizontal(pos),
-        "is_overridden_vertical" => config.is_overridden_vertical(pos),
-        "is_cell_visible" => config.is_cell_visible(pos),
-        "is_cell_covered_by_column_span" => config.is_cell_covered_by_column_span(pos),
-        "is_cell_covered_by_row_span" => config.is_cell_covered_by_row_span(pos),
-        "is_cell_covered_by_both_spans" => config.is_cell_covered_by_both_spans(pos),
-        _ => return ask_lines(config, word, pos, words, answer),
+        "get_trim_horizonal" => config.get_trim_horizonal(position),
+        "get_trim_vertical" => config.get_trim_vertical(position),
+        "get_line_alignment" => config.get_line_alignment(position),
+        "is_overridden_horizontal" => config.is_overridden_horizontal(position),
+        "is_overridden_vertical" => config.is_overridden_vertical(position),
+        "is_cell_visible" => config.is_cell_visible(position),
+        "is_cell_covered_by_column_span" => config.is_cell_covered_by_column_span(position),
+        "is_cell_covered_by_row_span" => config.is_cell_covered_by_row_span(position),
+        "is_cell_covered_by_both_spans" => config.is_cell_covered_by_both_spans(position),
+        _ => return ask_lines(config, word, position, words, answer),
     });
 }
 
 fn ask_lines(
     config: &SpannedConfig,
     word: &str,
-    pos: Position,
+    position: Position,
     words: &mut Words<'_>,
     answer: &mut Answer,
 ) {
     match word {
-        "get_intersection" => return answer.character(config.get_intersection(pos, words.pair())),
+        "get_intersection" => return answer.character(config.get_intersection(
+            position,
+            words.pair(),
+        )),
         "get_intersection_color" => {
-            return answer.mark(config.get_intersection_color(pos, words.pair()));
+            return answer.mark(config.get_intersection_color(position, words.pair()));
         }
         _ => {}
     }
     let number = words.number();
     match word {
-        "get_vertical" => answer.character(config.get_vertical(pos, number)),
-        "get_horizontal" => answer.character(config.get_horizontal(pos, number)),
-        "get_vertical_color" => answer.mark(config.get_vertical_color(pos, number)),
-        "get_horizontal_color" => answer.mark(config.get_horizontal_color(pos, number)),
-        _ => ask_overrides(config, word, pos, number, words, answer),
+        "get_vertical" => answer.character(config.get_vertical(position, number)),
+        "get_horizontal" => answer.character(config.get_horizontal(position, number)),
+        "get_vertical_color" => answer.mark(config.get_vertical_color(position, number)),
+        "get_horizontal_color" => answer.mark(config.get_horizontal_color(position, number)),
+        _ => ask_overrides(config, word, position, number, words, answer),
     }
 }
 
@@ -158,7 +163,7 @@ fn ask_lines(
 fn ask_overrides(
     config: &SpannedConfig,
     word: &str,
-    pos: Position,
+    position: Position,
     offset: usize,
     words: &mut Words<'_>,
     answer: &mut Answer,
@@ -166,11 +171,15 @@ fn ask_overrides(
     let end = words.number();
     match word {
         "lookup_horizontal_char" => {
-            answer.character(config.lookup_horizontal_char(pos, offset, end));
+            answer.character(config.lookup_horizontal_char(position, offset, end));
         }
-        "lookup_vertical_char" => answer.character(config.lookup_vertical_char(pos, offset, end)),
-        "lookup_horizontal_color" => answer.mark(config.lookup_horizontal_color(pos, offset, end)),
-        "lookup_vertical_color" => answer.mark(config.lookup_vertical_color(pos, offset, end)),
+        "lookup_vertical_char" => answer.character(config.lookup_vertical_char(
+            position, offset, end,
+        )),
+        "lookup_horizontal_color" => answer.mark(config.lookup_horizontal_color(
+            position, offset, end,
+        )),
+        "lookup_vertical_color" => answer.mark(config.lookup_vertical_color(position, offset, end)),
         _ => words.lacks("a question"),
     }
 }

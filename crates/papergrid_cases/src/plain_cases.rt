@@ -67,8 +67,8 @@ fn walk(words: &mut Words<'_>, answer: &mut Answer) {
     let entity = words.entity();
     let (rows, columns) = words.pair();
     let mut walk = entity.iter(rows, columns);
-    for pos in walk.by_ref() {
-        answer.position(pos);
+    for position in walk.by_ref() {
+        answer.position(position);
     }
     answer.word(if walk.next().is_some() { "more" } else { "end" });
 }

@@ -120,9 +120,9 @@ impl<'a> Words<'a> {
         ensures row { result.row + 1 < 2 ^ 64 }
         ensures col { result.col + 1 < 2 ^ 64 }
     {
-        let pos = self.position();
-        if pos.row < usize::MAX && pos.col < usize::MAX {
-            return pos;
+        let position = self.position();
+        if position.row < usize::MAX && position.col < usize::MAX {
+            return position;
         }
         self.lacks("a row and a column that have next ones");
         Position { row: 0, col: 0 }

@@ -63,27 +63,27 @@ fn of_entities(word: &str, words: &mut Words<'_>) -> Option<Setting> {
 }
 
 fn of_cells(word: &str, words: &mut Words<'_>) -> Option<Setting> {
-    let pos = words.position();
+    let position = words.position();
     Some(match word {
-        "set_border" => Setting::SetBorder(pos, border(words)),
-        "set_border_color" => Setting::SetBorderColor(pos, border(words)),
-        "remove_border" => Setting::RemoveBorder(pos, words.pair()),
-        "remove_border_color" => Setting::RemoveBorderColor(pos, words.pair()),
-        "set_column_span" => Setting::SetColumnSpan(pos, words.number()),
-        "set_row_span" => Setting::SetRowSpan(pos, words.number()),
-        "remove_overridden_horizontal" => Setting::RemoveOverriddenHorizontal(pos),
-        "remove_overridden_vertical" => Setting::RemoveOverriddenVertical(pos),
+        "set_border" => Setting::SetBorder(position, border(words)),
+        "set_border_color" => Setting::SetBorderColor(position, border(words)),
+        "remove_border" => Setting::RemoveBorder(position, words.pair()),
+        "remove_border_color" => Setting::RemoveBorderColor(position, words.pair()),
+        "set_column_span" => Setting::SetColumnSpan(position, words.number()),
+        "set_row_span" => Setting::SetRowSpan(position, words.number()),
+        "remove_overridden_horizontal" => Setting::RemoveOverriddenHorizontal(position),
+        "remove_overridden_vertical" => Setting::RemoveOverriddenVertical(position),
         "set_horizontal_char" => {
-            Setting::SetHorizontalChar(pos, Offset::next(words), words.character())
+            Setting::SetHorizontalChar(position, Offset::next(words), words.character())
         }
         "set_vertical_char" => {
-            Setting::SetVerticalChar(pos, Offset::next(words), words.character())
+            Setting::SetVerticalChar(position, Offset::next(words), words.character())
         }
         "set_horizontal_char_color" => {
-            Setting::SetHorizontalCharColor(pos, Offset::next(words), color(words)?)
+            Setting::SetHorizontalCharColor(position, Offset::next(words), color(words)?)
         }
         "set_vertical_char_color" => {
-            Setting::SetVerticalCharColor(pos, Offset::next(words), color(words)?)
+            Setting::SetVerticalCharColor(position, Offset::next(words), color(words)?)
         }
         _ => {
             words.lacks("a setting");

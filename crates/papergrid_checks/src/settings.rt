@@ -32,7 +32,7 @@ pub fn blanks() -> Sides<Indent>
 /// A border of `+`, a first cell over two columns, and a blank left and right of each text.
 pub fn one_by_one(alloc: Global) -> Result<SpannedConfig, AllocError>
     ensures { IfOk result (λ config.
-        (pos : Position) → (stored_value config.padding pos).left.size ≡ 1) }
+        (position : Position) → (stored_value config.padding position).left.size ≡ 1) }
 {
     let mut config = SpannedConfig::new(alloc);
     config.set_borders(Borders::filled('+'));

@@ -66,8 +66,8 @@ justification_color_calls other = []
 
 -- for the characters of borders and lines
 abbrev pub character_calls : Setting → List (lines.BorderCall ℕ)
-character_calls (SetBorder pos border) = lines.InsertBorder pos border ∷ []
-character_calls (RemoveBorder pos shape) = lines.RemoveBorder pos ∷ []
+character_calls (SetBorder position border) = lines.InsertBorder position border ∷ []
+character_calls (RemoveBorder position shape) = lines.RemoveBorder position ∷ []
 character_calls (InsertHorizontalLine row line) = lines.InsertHorizontalLine row line ∷ []
 character_calls (RemoveHorizontalLine row count) = lines.RemoveHorizontalLine row ∷ []
 character_calls (InsertVerticalLine col line) = lines.InsertVerticalLine col line ∷ []
@@ -79,8 +79,8 @@ character_calls other = []
 
 -- for the colours of borders and lines
 abbrev pub color_calls : Setting → List (lines.BorderCall ANSIBuf)
-color_calls (SetBorderColor pos border) = lines.InsertBorder pos border ∷ []
-color_calls (RemoveBorderColor pos shape) = lines.RemoveBorder pos ∷ []
+color_calls (SetBorderColor position border) = lines.InsertBorder position border ∷ []
+color_calls (RemoveBorderColor position shape) = lines.RemoveBorder position ∷ []
 color_calls (SetBordersColor frame) = lines.SetBorders frame ∷ []
 color_calls (SetBorderColorDefault color) = lines.Clear ∷ lines.SetGlobal color ∷ []
 color_calls RemoveBordersColors = lines.Clear ∷ []
@@ -90,27 +90,27 @@ color_calls other = []
 
 -- for single characters on horizontal lines
 abbrev pub horizontal_char_calls : Setting → List (overrides.OffsetCall ℕ)
-horizontal_char_calls (SetHorizontalChar pos offset c) = overrides.SetAt pos offset c ∷ []
-horizontal_char_calls (RemoveOverriddenHorizontal pos) = overrides.RemoveAt pos ∷ []
+horizontal_char_calls (SetHorizontalChar position offset c) = overrides.SetAt position offset c ∷ []
+horizontal_char_calls (RemoveOverriddenHorizontal position) = overrides.RemoveAt position ∷ []
 horizontal_char_calls RemoveHorizontalChars = overrides.RemoveAll ∷ []
 horizontal_char_calls other = []
 
 -- for single characters on vertical lines
 abbrev pub vertical_char_calls : Setting → List (overrides.OffsetCall ℕ)
-vertical_char_calls (SetVerticalChar pos offset c) = overrides.SetAt pos offset c ∷ []
-vertical_char_calls (RemoveOverriddenVertical pos) = overrides.RemoveAt pos ∷ []
+vertical_char_calls (SetVerticalChar position offset c) = overrides.SetAt position offset c ∷ []
+vertical_char_calls (RemoveOverriddenVertical position) = overrides.RemoveAt position ∷ []
 vertical_char_calls RemoveVerticalChars = overrides.RemoveAll ∷ []
 vertical_char_calls other = []
 
 -- for the colours of single characters on horizontal lines
 abbrev pub horizontal_color_calls : Setting → List (overrides.OffsetCall ANSIBuf)
-horizontal_color_calls (SetHorizontalCharColor pos offset color) = overrides.SetAt pos offset color ∷ []
+horizontal_color_calls (SetHorizontalCharColor position offset color) = overrides.SetAt position offset color ∷ []
 horizontal_color_calls RemoveColorLineHorizontal = overrides.RemoveAll ∷ []
 horizontal_color_calls other = []
 
 -- for the colours of single characters on vertical lines
 abbrev pub vertical_color_calls : Setting → List (overrides.OffsetCall ANSIBuf)
-vertical_color_calls (SetVerticalCharColor pos offset color) = overrides.SetAt pos offset color ∷ []
+vertical_color_calls (SetVerticalCharColor position offset color) = overrides.SetAt position offset color ∷ []
 vertical_color_calls RemoveColorLineVertical = overrides.RemoveAll ∷ []
 vertical_color_calls other = []
 
@@ -118,8 +118,8 @@ vertical_color_calls other = []
 
 -- for the spans
 abbrev pub span_calls : Setting → List spans.SpanCall
-span_calls (SetColumnSpan pos n) = spans.SetSpan Columns pos n ∷ []
-span_calls (SetRowSpan pos n) = spans.SetSpan Rows pos n ∷ []
+span_calls (SetColumnSpan position n) = spans.SetSpan Columns position n ∷ []
+span_calls (SetRowSpan position n) = spans.SetSpan Rows position n ∷ []
 span_calls RemoveColumnSpans = spans.RemoveSpans Columns ∷ []
 span_calls RemoveRowSpans = spans.RemoveSpans Rows ∷ []
 span_calls other = []

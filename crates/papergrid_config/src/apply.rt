@@ -26,13 +26,17 @@ impl SpannedConfig {
         match setting {
             Setting::InsertHorizontalLine(row, line) => self.insert_horizontal_line(row, line),
             Setting::InsertVerticalLine(col, line) => self.insert_vertical_line(col, line),
-            Setting::SetHorizontalChar(pos, offset, c) => self.set_horizontal_char(pos, offset, c),
-            Setting::SetVerticalChar(pos, offset, c) => self.set_vertical_char(pos, offset, c),
-            Setting::SetHorizontalCharColor(pos, offset, color) => {
-                self.set_horizontal_char_color(pos, offset, color)
+            Setting::SetHorizontalChar(position, offset, c) => self.set_horizontal_char(
+                position, offset, c,
+            ),
+            Setting::SetVerticalChar(position, offset, c) => self.set_vertical_char(
+                position, offset, c,
+            ),
+            Setting::SetHorizontalCharColor(position, offset, color) => {
+                self.set_horizontal_char_color(position, offset, color)
             }
-            Setting::SetVerticalCharColor(pos, offset, color) => {
-                self.set_vertical_char_color(pos, offset, color)
+            Setting::SetVerticalCharColor(position, offset, color) => {
+                self.set_vertical_char_color(position, offset, color)
             }
             Setting::SetPadding(entity, padding) => self.set_padding(entity, padding),
             Setting::SetPaddingColor(entity, colors) => self.set_padding_color(entity, colors),
@@ -47,10 +51,10 @@ impl SpannedConfig {
             }
             Setting::SetJustification(entity, c) => self.set_justification(entity, c),
             Setting::SetJustificationColor(entity, c) => self.set_justification_color(entity, c),
-            Setting::SetBorder(pos, border) => self.set_border(pos, border),
-            Setting::SetBorderColor(pos, border) => self.set_border_color(pos, border),
-            Setting::SetColumnSpan(pos, span) => self.set_column_span(pos, span),
-            Setting::SetRowSpan(pos, span) => self.set_row_span(pos, span),
+            Setting::SetBorder(position, border) => self.set_border(position, border),
+            Setting::SetBorderColor(position, border) => self.set_border_color(position, border),
+            Setting::SetColumnSpan(position, span) => self.set_column_span(position, span),
+            Setting::SetRowSpan(position, span) => self.set_row_span(position, span),
             other => {
                 self.apply_free(other);
                 Ok(())
@@ -107,10 +111,16 @@ impl SpannedConfig {
             Setting::SetBordersMissing(c) => self.set_borders_missing(c),
             Setting::RemoveHorizontalLine(row, count) => self.remove_horizontal_line(row, count),
             Setting::RemoveVerticalLine(col, count) => self.remove_vertical_line(col, count),
-            Setting::RemoveOverriddenHorizontal(pos) => self.remove_overridden_horizontal(pos),
-            Setting::RemoveOverriddenVertical(pos) => self.remove_overridden_vertical(pos),
-            Setting::RemoveBorder(pos, shape) => self.remove_border(pos, shape),
-            Setting::RemoveBorderColor(pos, shape) => self.remove_border_color(pos, shape),
+            Setting::RemoveOverriddenHorizontal(position) => self.remove_overridden_horizontal(
+                position,
+            ),
+            Setting::RemoveOverriddenVertical(position) => self.remove_overridden_vertical(
+                position,
+            ),
+            Setting::RemoveBorder(position, shape) => self.remove_border(position, shape),
+            Setting::RemoveBorderColor(position, shape) => self.remove_border_color(
+                position, shape,
+            ),
             Setting::RemoveColumnSpans => self.remove_column_spans(),
             Setting::RemoveRowSpans => self.remove_row_spans(),
             _ => unreachable!(),

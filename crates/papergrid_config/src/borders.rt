@@ -99,75 +99,76 @@ impl SpannedConfig {
     /// Sets the characters round a cell that are set here, and leaves the others. Where an
     /// allocation fails the configuration is as it was. Condition: the next row and column exist in
     /// `usize`.
-    pub fn set_border(&mut self, pos: Position, border: Border<char>) -> Result<(), AllocError>
-        requires row { pos.row + 1 < 2 ^ 64 }
-        requires col { pos.col + 1 < 2 ^ 64 }
-        ensures ok { OnOk result (AddsSetting self.old self.new (SetBorder pos border)) }
+    pub fn set_border(&mut self, position: Position, border: Border<char>) -> Result<(), AllocError>
+        requires row { position.row + 1 < 2 ^ 64 }
+        requires col { position.col + 1 < 2 ^ 64 }
+        ensures ok { OnOk result (AddsSetting self.old self.new (SetBorder position border)) }
         ensures err { OnErr result (self.new ≡ self.old) }
         ensures others { self.new ≡ record self.old { characters = self.new.characters } }
     {
-        self.characters.insert_border(pos, border)
+        self.characters.insert_border(position, border)
     }
 
     /// Sets the colours round a cell that are set here, and leaves the others. Where an allocation
     /// fails the configuration is as it was. Condition: the next row and column exist in `usize`.
     pub fn set_border_color(
         &mut self,
-        pos: Position,
+        position: Position,
         border: Border<ANSIBuf>,
     ) -> Result<(), AllocError>
-        requires row { pos.row + 1 < 2 ^ 64 }
-        requires col { pos.col + 1 < 2 ^ 64 }
-        ensures ok { OnOk result (AddsSetting self.old self.new (SetBorderColor pos border)) }
+        requires row { position.row + 1 < 2 ^ 64 }
+        requires col { position.col + 1 < 2 ^ 64 }
+        ensures ok { OnOk result (AddsSetting self.old self.new (SetBorderColor position border)) }
         ensures err { OnErr result (self.new ≡ self.old) }
         ensures others { self.new ≡ record self.old { colors = self.new.colors } }
     {
-        self.colors.insert_border(pos, border)
+        self.colors.insert_border(position, border)
     }
 
     /// The characters found round a cell, in a table of so many rows and columns. The missing
     /// character is not among them. Condition: the next row and column exist in `usize`.
-    pub fn get_border(&self, pos: Position, shape: (usize, usize)) -> Border<char>
-        requires row { pos.row + 1 < 2 ^ 64 }
-        requires col { pos.col + 1 < 2 ^ 64 }
-        ensures { result ≡ found_border (parts_of_borders self.now.characters) pos shape.0 shape.1 }
+    pub fn get_border(&self, position: Position, shape: (usize, usize)) -> Border<char>
+        requires row { position.row + 1 < 2 ^ 64 }
+        requires col { position.col + 1 < 2 ^ 64 }
+        ensures { result
+            ≡ found_border (parts_of_borders self.now.characters) position shape.0 shape.1 }
     {
-        self.characters.get_border(pos, shape).copied()
+        self.characters.get_border(position, shape).copied()
     }
 
     /// The colours found round a cell, in a table of so many rows and columns. Condition: the next
     /// row and column exist in `usize`.
-    pub fn get_border_color(&self, pos: Position, shape: (usize, usize)) -> Border<&ANSIBuf>
-        requires row { pos.row + 1 < 2 ^ 64 }
-        requires col { pos.col + 1 < 2 ^ 64 }
+    pub fn get_border_color(&self, position: Position, shape: (usize, usize)) -> Border<&ANSIBuf>
+        requires row { position.row + 1 < 2 ^ 64 }
+        requires col { position.col + 1 < 2 ^ 64 }
         ensures { border_map (λ part. part.now) result
-            ≡ found_border (parts_of_borders self.now.colors) pos shape.0 shape.1 }
+            ≡ found_border (parts_of_borders self.now.colors) position shape.0 shape.1 }
     {
-        self.colors.get_border(pos, shape)
+        self.colors.get_border(position, shape)
     }
 
     /// Removes the characters round a cell: of the edges and corners, not of lines, the frame or
     /// all lines. The shape (rows, columns) decides nothing. Condition: the next row and column exist
     /// in `usize`.
-    pub fn remove_border(&mut self, pos: Position, shape: (usize, usize))
-        requires row { pos.row + 1 < 2 ^ 64 }
-        requires col { pos.col + 1 < 2 ^ 64 }
-        ensures told { AddsSetting self.old self.new (RemoveBorder pos shape) }
+    pub fn remove_border(&mut self, position: Position, shape: (usize, usize))
+        requires row { position.row + 1 < 2 ^ 64 }
+        requires col { position.col + 1 < 2 ^ 64 }
+        ensures told { AddsSetting self.old self.new (RemoveBorder position shape) }
         ensures others { self.new ≡ record self.old { characters = self.new.characters } }
     {
-        self.characters.remove_border(pos, shape);
+        self.characters.remove_border(position, shape);
     }
 
     /// Removes the colours round a cell: of the edges and corners, not of lines, the frame or all
     /// lines. The shape (rows, columns) decides nothing. Condition: the next row and column exist in
     /// `usize`.
-    pub fn remove_border_color(&mut self, pos: Position, shape: (usize, usize))
-        requires row { pos.row + 1 < 2 ^ 64 }
-        requires col { pos.col + 1 < 2 ^ 64 }
-        ensures told { AddsSetting self.old self.new (RemoveBorderColor pos shape) }
+    pub fn remove_border_color(&mut self, position: Position, shape: (usize, usize))
+        requires row { position.row + 1 < 2 ^ 64 }
+        requires col { position.col + 1 < 2 ^ 64 }
+        ensures told { AddsSetting self.old self.new (RemoveBorderColor position shape) }
         ensures others { self.new ≡ record self.old { colors = self.new.colors } }
     {
-        self.colors.remove_border(pos, shape);
+        self.colors.remove_border(position, shape);
     }
 
     /// Sets the horizontal line above a row, in place of the one stored. Where an allocation fails

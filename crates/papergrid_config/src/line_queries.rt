@@ -16,61 +16,68 @@ use papergrid_values::{ANSIBuf, Position};
 impl SpannedConfig {
     /// The character of the vertical line at a row and a column, where there are so many columns:
     /// the one found in the table of characters, or else the missing one where the line is there.
-    pub fn get_vertical(&self, pos: Position, count: usize) -> Option<char>
-        ensures { result ≡ shown_vertical self.now.characters self.now.missing pos count }
+    pub fn get_vertical(&self, position: Position, count: usize) -> Option<char>
+        ensures { result ≡ shown_vertical self.now.characters self.now.missing position count }
     {
-        match self.characters.get_vertical(pos, count) {
+        match self.characters.get_vertical(position, count) {
             Some(character) => Some(*character),
-            None => self.has_vertical(pos.col, count).then_some(self.missing),
+            None if self.has_vertical(position.col, count) => Some(self.missing),
+            None => None,
         }
     }
 
     /// The character of the horizontal line at a row and a column, where there are so many rows,
     /// likewise.
-    pub fn get_horizontal(&self, pos: Position, count: usize) -> Option<char>
-        ensures { result ≡ shown_horizontal self.now.characters self.now.missing pos count }
+    pub fn get_horizontal(&self, position: Position, count: usize) -> Option<char>
+        ensures { result ≡ shown_horizontal self.now.characters self.now.missing position count }
     {
-        match self.characters.get_horizontal(pos, count) {
+        match self.characters.get_horizontal(position, count) {
             Some(character) => Some(*character),
-            None => self.has_horizontal(pos.row, count).then_some(self.missing),
+            None if self.has_horizontal(position.row, count) => Some(self.missing),
+            None => None,
         }
     }
 
     /// The character where two lines cross, in a table of so many rows and columns: the one found
     /// in the table of characters, or else the missing one where both lines are there.
-    pub fn get_intersection(&self, pos: Position, shape: (usize, usize)) -> Option<char>
-        ensures { result ≡ shown_intersection self.now.characters self.now.missing pos shape }
+    pub fn get_intersection(&self, position: Position, shape: (usize, usize)) -> Option<char>
+        ensures { result ≡ shown_intersection self.now.characters self.now.missing position shape }
     {
-        match self.characters.get_intersection(pos, shape) {
+        match self.characters.get_intersection(position, shape) {
             Some(character) => Some(*character),
-            None if self.has_horizontal(pos.row, shape.0) && self.has_vertical(pos.col, shape.1) =>
-                { Some(self.missing) }
+            None
+                if self.has_horizontal(position.row, shape.0)
+                    && self.has_vertical(position.col, shape.1) => { Some(self.missing) }
             None => None,
         }
     }
 
     /// The colour of the vertical line at a row and a column, where there are so many columns.
-    pub fn get_vertical_color(&self, pos: Position, count: usize) -> Option<&ANSIBuf>
+    pub fn get_vertical_color(&self, position: Position, count: usize) -> Option<&ANSIBuf>
         ensures { option_copied result
-            ≡ found_vertical (parts_of_borders self.now.colors) pos count }
+            ≡ found_vertical (parts_of_borders self.now.colors) position count }
     {
-        self.colors.get_vertical(pos, count)
+        self.colors.get_vertical(position, count)
     }
 
     /// The colour of the horizontal line at a row and a column, where there are so many rows.
-    pub fn get_horizontal_color(&self, pos: Position, count: usize) -> Option<&ANSIBuf>
+    pub fn get_horizontal_color(&self, position: Position, count: usize) -> Option<&ANSIBuf>
         ensures { option_copied result
-            ≡ found_horizontal (parts_of_borders self.now.colors) pos count }
+            ≡ found_horizontal (parts_of_borders self.now.colors) position count }
     {
-        self.colors.get_horizontal(pos, count)
+        self.colors.get_horizontal(position, count)
     }
 
     /// The colour where two lines cross, in a table of so many rows and columns.
-    pub fn get_intersection_color(&self, pos: Position, shape: (usize, usize)) -> Option<&ANSIBuf>
+    pub fn get_intersection_color(
+        &self,
+        position: Position,
+        shape: (usize, usize),
+    ) -> Option<&ANSIBuf>
         ensures { option_copied result
-            ≡ found_intersection (parts_of_borders self.now.colors) pos shape.0 shape.1 }
+            ≡ found_intersection (parts_of_borders self.now.colors) position shape.0 shape.1 }
     {
-        self.colors.get_intersection(pos, shape)
+        self.colors.get_intersection(position, shape)
     }
 
     /// Whether there is a vertical line at a column, where there are so many columns.

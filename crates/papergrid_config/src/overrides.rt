@@ -17,41 +17,47 @@ impl SpannedConfig {
     /// an allocation fails the configuration is as it was.
     pub fn set_horizontal_char(
         &mut self,
-        pos: Position,
+        position: Position,
         offset: Offset,
         character: char,
     ) -> Result<(), AllocError>
         ensures ok { OnOk result (AddsSetting self.old self.new
-            (SetHorizontalChar pos offset character)) }
+            (SetHorizontalChar position offset character)) }
         ensures err { OnErr result (self.new ≡ self.old) }
         ensures others { self.new ≡
             record self.old { horizontal_chars = self.new.horizontal_chars } }
     {
-        self.horizontal_chars.set(pos, offset, character)
+        self.horizontal_chars.set(position, offset, character)
     }
 
     /// The character set at an offset of the line above a cell, where the line is so long, both in
     /// columns of a terminal.
-    pub fn lookup_horizontal_char(&self, pos: Position, offset: usize, end: usize) -> Option<char>
-        ensures { result ≡ found_override (override_at self.now.horizontal_chars pos) offset end }
+    pub fn lookup_horizontal_char(
+        &self,
+        position: Position,
+        offset: usize,
+        end: usize,
+    ) -> Option<char>
+        ensures { result
+            ≡ found_override (override_at self.now.horizontal_chars position) offset end }
     {
-        self.horizontal_chars.lookup(pos, offset, end).copied()
+        self.horizontal_chars.lookup(position, offset, end).copied()
     }
 
     /// Whether a character is set on the line above a cell.
-    pub fn is_overridden_horizontal(&self, pos: Position) -> bool
-        ensures { IsTrue result ↔ IsOverridden self.now.horizontal_chars pos }
+    pub fn is_overridden_horizontal(&self, position: Position) -> bool
+        ensures { IsTrue result ↔ IsOverridden self.now.horizontal_chars position }
     {
-        self.horizontal_chars.is_overridden(pos)
+        self.horizontal_chars.is_overridden(position)
     }
 
     /// Removes the characters set on the line above a cell.
-    pub fn remove_overridden_horizontal(&mut self, pos: Position)
-        ensures told { AddsSetting self.old self.new (RemoveOverriddenHorizontal pos) }
+    pub fn remove_overridden_horizontal(&mut self, position: Position)
+        ensures told { AddsSetting self.old self.new (RemoveOverriddenHorizontal position) }
         ensures others { self.new ≡
             record self.old { horizontal_chars = self.new.horizontal_chars } }
     {
-        self.horizontal_chars.remove(pos);
+        self.horizontal_chars.remove(position);
     }
 
     /// Removes the characters set on the lines above cells.
@@ -67,31 +73,31 @@ impl SpannedConfig {
     /// allocation fails the configuration is as it was.
     pub fn set_horizontal_char_color(
         &mut self,
-        pos: Position,
+        position: Position,
         offset: Offset,
         color: ANSIBuf,
     ) -> Result<(), AllocError>
         ensures ok { OnOk result
-            (AddsSetting self.old self.new (SetHorizontalCharColor pos offset color)) }
+            (AddsSetting self.old self.new (SetHorizontalCharColor position offset color)) }
         ensures err { OnErr result (self.new ≡ self.old) }
         ensures others { self.new ≡
             record self.old { horizontal_colors = self.new.horizontal_colors } }
     {
-        self.horizontal_colors.set(pos, offset, color)
+        self.horizontal_colors.set(position, offset, color)
     }
 
     /// The colour set at an offset of the line above a cell, where the line is so long, both in
     /// columns of a terminal.
     pub fn lookup_horizontal_color(
         &self,
-        pos: Position,
+        position: Position,
         offset: usize,
         end: usize,
     ) -> Option<&ANSIBuf>
         ensures { option_copied result
-            ≡ found_override (override_at self.now.horizontal_colors pos) offset end }
+            ≡ found_override (override_at self.now.horizontal_colors position) offset end }
     {
-        self.horizontal_colors.lookup(pos, offset, end)
+        self.horizontal_colors.lookup(position, offset, end)
     }
 
     /// Removes the colours set on the lines above cells.
@@ -107,39 +113,45 @@ impl SpannedConfig {
     /// fails the configuration is as it was.
     pub fn set_vertical_char(
         &mut self,
-        pos: Position,
+        position: Position,
         offset: Offset,
         character: char,
     ) -> Result<(), AllocError>
         ensures ok { OnOk result (AddsSetting self.old self.new
-            (SetVerticalChar pos offset character)) }
+            (SetVerticalChar position offset character)) }
         ensures err { OnErr result (self.new ≡ self.old) }
         ensures others { self.new ≡ record self.old { vertical_chars = self.new.vertical_chars } }
     {
-        self.vertical_chars.set(pos, offset, character)
+        self.vertical_chars.set(position, offset, character)
     }
 
     /// The character set at an offset of the line left of a cell, where the line is so long, both in
     /// lines.
-    pub fn lookup_vertical_char(&self, pos: Position, offset: usize, end: usize) -> Option<char>
-        ensures { result ≡ found_override (override_at self.now.vertical_chars pos) offset end }
+    pub fn lookup_vertical_char(
+        &self,
+        position: Position,
+        offset: usize,
+        end: usize,
+    ) -> Option<char>
+        ensures { result
+            ≡ found_override (override_at self.now.vertical_chars position) offset end }
     {
-        self.vertical_chars.lookup(pos, offset, end).copied()
+        self.vertical_chars.lookup(position, offset, end).copied()
     }
 
     /// Whether a character is set on the line left of a cell.
-    pub fn is_overridden_vertical(&self, pos: Position) -> bool
-        ensures { IsTrue result ↔ IsOverridden self.now.vertical_chars pos }
+    pub fn is_overridden_vertical(&self, position: Position) -> bool
+        ensures { IsTrue result ↔ IsOverridden self.now.vertical_chars position }
     {
-        self.vertical_chars.is_overridden(pos)
+        self.vertical_chars.is_overridden(position)
     }
 
     /// Removes the characters set on the line left of a cell.
-    pub fn remove_overridden_vertical(&mut self, pos: Position)
-        ensures told { AddsSetting self.old self.new (RemoveOverriddenVertical pos) }
+    pub fn remove_overridden_vertical(&mut self, position: Position)
+        ensures told { AddsSetting self.old self.new (RemoveOverriddenVertical position) }
         ensures others { self.new ≡ record self.old { vertical_chars = self.new.vertical_chars } }
     {
-        self.vertical_chars.remove(pos);
+        self.vertical_chars.remove(position);
     }
 
     /// Removes the characters set on the lines left of cells.
@@ -154,30 +166,30 @@ impl SpannedConfig {
     /// the configuration is as it was.
     pub fn set_vertical_char_color(
         &mut self,
-        pos: Position,
+        position: Position,
         offset: Offset,
         color: ANSIBuf,
     ) -> Result<(), AllocError>
         ensures ok { OnOk result (AddsSetting self.old self.new
-            (SetVerticalCharColor pos offset color)) }
+            (SetVerticalCharColor position offset color)) }
         ensures err { OnErr result (self.new ≡ self.old) }
         ensures others { self.new ≡ record self.old { vertical_colors = self.new.vertical_colors } }
     {
-        self.vertical_colors.set(pos, offset, color)
+        self.vertical_colors.set(position, offset, color)
     }
 
     /// The colour set at an offset of the line left of a cell, where the line is so long, both in
     /// lines.
     pub fn lookup_vertical_color(
         &self,
-        pos: Position,
+        position: Position,
         offset: usize,
         end: usize,
     ) -> Option<&ANSIBuf>
         ensures { option_copied result
-            ≡ found_override (override_at self.now.vertical_colors pos) offset end }
+            ≡ found_override (override_at self.now.vertical_colors position) offset end }
     {
-        self.vertical_colors.lookup(pos, offset, end)
+        self.vertical_colors.lookup(position, offset, end)
     }
 
     /// Removes the colours set on the lines left of cells.

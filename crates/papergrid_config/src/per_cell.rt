@@ -31,11 +31,11 @@ impl SpannedConfig {
     }
 
     /// The room round a cell, in columns of a terminal (left, right) and lines (top, bottom).
-    pub fn get_padding(&self, pos: Position) -> &Sides<Indent>
-        ensures stored { result.now ≡ stored_value self.now.padding pos }
-        ensures effective { IsEffectiveAt self.now pos effective.padding result.now }
+    pub fn get_padding(&self, position: Position) -> &Sides<Indent>
+        ensures stored { result.now ≡ stored_value self.now.padding position }
+        ensures effective { IsEffectiveAt self.now position effective.padding result.now }
     {
-        self.padding.get(pos)
+        self.padding.get(position)
     }
 
     /// The room that is set for an entity itself: of a cell without that of its column and of its row.
@@ -71,11 +71,11 @@ impl SpannedConfig {
     }
 
     /// The colours of the room round a cell.
-    pub fn get_padding_color(&self, pos: Position) -> &Sides<Option<ANSIBuf>>
-        ensures stored { result.now ≡ stored_value self.now.padding_color pos }
-        ensures effective { IsEffectiveAt self.now pos effective.padding_color result.now }
+    pub fn get_padding_color(&self, position: Position) -> &Sides<Option<ANSIBuf>>
+        ensures stored { result.now ≡ stored_value self.now.padding_color position }
+        ensures effective { IsEffectiveAt self.now position effective.padding_color result.now }
     {
-        self.padding_color.get(pos)
+        self.padding_color.get(position)
     }
 
     /// Sets whether spaces of an entity's texts are trimmed left and right. Where an allocation
@@ -90,11 +90,11 @@ impl SpannedConfig {
     }
 
     /// Whether spaces of a cell's text are trimmed left and right. The name is the original's.
-    pub fn get_trim_horizonal(&self, pos: Position) -> bool
-        ensures stored { result ≡ stored_value self.now.trim_horizontal pos }
-        ensures effective { IsEffectiveAt self.now pos effective.trim_horizontal result }
+    pub fn get_trim_horizonal(&self, position: Position) -> bool
+        ensures stored { result ≡ stored_value self.now.trim_horizontal position }
+        ensures effective { IsEffectiveAt self.now position effective.trim_horizontal result }
     {
-        *self.trim_horizontal.get(pos)
+        *self.trim_horizontal.get(position)
     }
 
     /// Sets whether blank lines of an entity's texts are trimmed at the top and the bottom. Where
@@ -110,11 +110,11 @@ impl SpannedConfig {
     }
 
     /// Whether blank lines of a cell's text are trimmed at the top and the bottom.
-    pub fn get_trim_vertical(&self, pos: Position) -> bool
-        ensures stored { result ≡ stored_value self.now.trim_vertical pos }
-        ensures effective { IsEffectiveAt self.now pos effective.trim_vertical result }
+    pub fn get_trim_vertical(&self, position: Position) -> bool
+        ensures stored { result ≡ stored_value self.now.trim_vertical position }
+        ensures effective { IsEffectiveAt self.now position effective.trim_vertical result }
     {
-        *self.trim_vertical.get(pos)
+        *self.trim_vertical.get(position)
     }
 
     /// Sets whether each line of an entity's texts is aligned by itself. Where an allocation
@@ -129,26 +129,26 @@ impl SpannedConfig {
     }
 
     /// Whether each line of a cell's text is aligned by itself.
-    pub fn get_line_alignment(&self, pos: Position) -> bool
-        ensures stored { result ≡ stored_value self.now.line_alignment pos }
-        ensures effective { IsEffectiveAt self.now pos effective.line_alignment result }
+    pub fn get_line_alignment(&self, position: Position) -> bool
+        ensures stored { result ≡ stored_value self.now.line_alignment position }
+        ensures effective { IsEffectiveAt self.now position effective.line_alignment result }
     {
-        *self.line_alignment.get(pos)
+        *self.line_alignment.get(position)
     }
 
     /// The three flags of a cell's text.
-    pub fn get_formatting(&self, pos: Position) -> Formatting
+    pub fn get_formatting(&self, position: Position) -> Formatting
         ensures stored { result ≡ record {
-          horizontal_trim = stored_value self.now.trim_horizontal pos;
-          vertical_trim = stored_value self.now.trim_vertical pos;
-          allow_lines_alignment = stored_value self.now.line_alignment pos;
+          horizontal_trim = stored_value self.now.trim_horizontal position;
+          vertical_trim = stored_value self.now.trim_vertical position;
+          allow_lines_alignment = stored_value self.now.line_alignment position;
         } }
-        ensures effective { IsEffectiveAt self.now pos effective.formatting result }
+        ensures effective { IsEffectiveAt self.now position effective.formatting result }
     {
         Formatting::new(
-            self.get_trim_horizonal(pos),
-            self.get_trim_vertical(pos),
-            self.get_line_alignment(pos),
+            self.get_trim_horizonal(position),
+            self.get_trim_vertical(position),
+            self.get_line_alignment(position),
         )
     }
 
@@ -170,11 +170,12 @@ impl SpannedConfig {
     }
 
     /// Where a cell's text stands between left and right.
-    pub fn get_alignment_horizontal(&self, pos: Position) -> &AlignmentHorizontal
-        ensures stored { result.now ≡ stored_value self.now.alignment_horizontal pos }
-        ensures effective { IsEffectiveAt self.now pos effective.alignment_horizontal result.now }
+    pub fn get_alignment_horizontal(&self, position: Position) -> &AlignmentHorizontal
+        ensures stored { result.now ≡ stored_value self.now.alignment_horizontal position }
+        ensures effective { IsEffectiveAt self.now position effective.alignment_horizontal
+            result.now }
     {
-        self.alignment_horizontal.get(pos)
+        self.alignment_horizontal.get(position)
     }
 
     /// Sets where an entity's texts stand between top and bottom. Where an allocation fails
@@ -195,11 +196,12 @@ impl SpannedConfig {
     }
 
     /// Where a cell's text stands between top and bottom.
-    pub fn get_alignment_vertical(&self, pos: Position) -> &AlignmentVertical
-        ensures stored { result.now ≡ stored_value self.now.alignment_vertical pos }
-        ensures effective { IsEffectiveAt self.now pos effective.alignment_vertical result.now }
+    pub fn get_alignment_vertical(&self, position: Position) -> &AlignmentVertical
+        ensures stored { result.now ≡ stored_value self.now.alignment_vertical position }
+        ensures effective { IsEffectiveAt self.now position effective.alignment_vertical
+            result.now }
     {
-        self.alignment_vertical.get(pos)
+        self.alignment_vertical.get(position)
     }
 
     /// Sets the character that fills up the lines of an entity's texts. Where an allocation fails
@@ -215,11 +217,11 @@ impl SpannedConfig {
     }
 
     /// The character that fills up the lines of a cell's text.
-    pub fn get_justification(&self, pos: Position) -> char
-        ensures stored { result ≡ stored_value self.now.justification pos }
-        ensures effective { IsEffectiveAt self.now pos effective.justification result }
+    pub fn get_justification(&self, position: Position) -> char
+        ensures stored { result ≡ stored_value self.now.justification position }
+        ensures effective { IsEffectiveAt self.now position effective.justification result }
     {
-        *self.justification.get(pos)
+        *self.justification.get(position)
     }
 
     /// Sets the colour of that character. Where an allocation fails the configuration is as it was;
@@ -240,11 +242,11 @@ impl SpannedConfig {
     }
 
     /// The colour of that character.
-    pub fn get_justification_color(&self, pos: Position) -> Option<&ANSIBuf>
-        ensures stored { option_copied result ≡ stored_value self.now.justification_color pos }
-        ensures effective { IsEffectiveAt self.now pos effective.justification_color
+    pub fn get_justification_color(&self, position: Position) -> Option<&ANSIBuf>
+        ensures stored { option_copied result ≡ stored_value self.now.justification_color position }
+        ensures effective { IsEffectiveAt self.now position effective.justification_color
             (option_copied result) }
     {
-        self.justification_color.get(pos).as_ref()
+        self.justification_color.get(position).as_ref()
     }
 }

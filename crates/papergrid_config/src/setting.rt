@@ -82,19 +82,22 @@ impl Clone for Setting {
             ),
             Setting::InsertVerticalLine(col, line) => Setting::InsertVerticalLine(*col, *line),
             Setting::RemoveVerticalLine(col, count) => Setting::RemoveVerticalLine(*col, *count),
-            Setting::SetHorizontalChar(pos, offset, c) => Setting::SetHorizontalChar(
-                *pos, *offset, *c,
+            Setting::SetHorizontalChar(position, offset, c) => Setting::SetHorizontalChar(
+                *position, *offset, *c,
             ),
-            Setting::RemoveOverriddenHorizontal(pos) => Setting::RemoveOverriddenHorizontal(*pos),
-            Setting::SetVerticalChar(pos, offset, c) => Setting::SetVerticalChar(*pos, *offset, *c),
-            Setting::RemoveOverriddenVertical(pos) => Setting::RemoveOverriddenVertical(*pos),
-            Setting::SetHorizontalCharColor(pos, offset, color) => Setting::SetHorizontalCharColor(
-                *pos,
-                *offset,
-                color.clone()?,
+            Setting::RemoveOverriddenHorizontal(position) => Setting::RemoveOverriddenHorizontal(
+                *position,
             ),
-            Setting::SetVerticalCharColor(pos, offset, color) => Setting::SetVerticalCharColor(
-                *pos,
+            Setting::SetVerticalChar(position, offset, c) => Setting::SetVerticalChar(
+                *position, *offset, *c,
+            ),
+            Setting::RemoveOverriddenVertical(position) => Setting::RemoveOverriddenVertical(
+                *position,
+            ),
+            Setting::SetHorizontalCharColor(position, offset, color) =>
+                Setting::SetHorizontalCharColor(*position, *offset, color.clone()?),
+            Setting::SetVerticalCharColor(position, offset, color) => Setting::SetVerticalCharColor(
+                *position,
                 *offset,
                 color.clone()?,
             ),
@@ -117,15 +120,17 @@ impl Clone for Setting {
                 *entity,
                 color.clone()?,
             ),
-            Setting::SetBorder(pos, border) => Setting::SetBorder(*pos, *border),
-            Setting::SetBorderColor(pos, colors) => Setting::SetBorderColor(
-                *pos,
+            Setting::SetBorder(position, border) => Setting::SetBorder(*position, *border),
+            Setting::SetBorderColor(position, colors) => Setting::SetBorderColor(
+                *position,
                 same_border(colors)?,
             ),
-            Setting::RemoveBorder(pos, shape) => Setting::RemoveBorder(*pos, *shape),
-            Setting::RemoveBorderColor(pos, shape) => Setting::RemoveBorderColor(*pos, *shape),
-            Setting::SetColumnSpan(pos, span) => Setting::SetColumnSpan(*pos, *span),
-            Setting::SetRowSpan(pos, span) => Setting::SetRowSpan(*pos, *span),
+            Setting::RemoveBorder(position, shape) => Setting::RemoveBorder(*position, *shape),
+            Setting::RemoveBorderColor(position, shape) => Setting::RemoveBorderColor(
+                *position, *shape,
+            ),
+            Setting::SetColumnSpan(position, span) => Setting::SetColumnSpan(*position, *span),
+            Setting::SetRowSpan(position, span) => Setting::SetRowSpan(*position, *span),
             Setting::RemoveColumnSpans => Setting::RemoveColumnSpans,
             Setting::RemoveRowSpans => Setting::RemoveRowSpans,
         })
@@ -163,18 +168,18 @@ impl Setting {
         ensures { result ≡ is_in_range self.now }
     {
         match self {
-            Setting::SetBorder(pos, _)
-            | Setting::SetBorderColor(pos, _)
-            | Setting::RemoveBorder(pos, _)
-            | Setting::RemoveBorderColor(pos, _) => has_neighbours(*pos),
+            Setting::SetBorder(position, _)
+            | Setting::SetBorderColor(position, _)
+            | Setting::RemoveBorder(position, _)
+            | Setting::RemoveBorderColor(position, _) => has_neighbours(*position),
             _ => true,
         }
     }
 }
 
 // Whether the next row and the next column exist.
-fn has_neighbours(pos: Position) -> bool
-    ensures { result ≡ has_neighbours pos }
+fn has_neighbours(position: Position) -> bool
+    ensures { result ≡ has_neighbours position }
 {
-    pos.row < usize::MAX && pos.col < usize::MAX
+    position.row < usize::MAX && position.col < usize::MAX
 }

@@ -24,45 +24,45 @@ impl SpannedConfig {
     /// Sets the number of columns that a cell spans: 0 does nothing and 1 removes the span that is
     /// stored, so that neither allocates or fails. Where an allocation fails the configuration is
     /// as it was.
-    pub fn set_column_span(&mut self, pos: Position, span: usize) -> Result<(), AllocError>
-        ensures ok { OnOk result (AddsSetting self.old self.new (SetColumnSpan pos span)) }
+    pub fn set_column_span(&mut self, position: Position, span: usize) -> Result<(), AllocError>
+        ensures ok { OnOk result (AddsSetting self.old self.new (SetColumnSpan position span)) }
         ensures err { OnErr result (self.new ≡ self.old) }
         ensures small { span < 2 → IsOk result }
         ensures others { self.new ≡ record self.old {
           spans = record self.old.spans { columns = self.new.spans.columns };
         } }
     {
-        self.spans.set_column(pos, span)
+        self.spans.set_column(position, span)
     }
 
     /// Sets the number of rows that a cell spans: 0 does nothing and 1 removes the span that is
     /// stored, so that neither allocates or fails. Where an allocation fails the configuration is
     /// as it was.
-    pub fn set_row_span(&mut self, pos: Position, span: usize) -> Result<(), AllocError>
-        ensures ok { OnOk result (AddsSetting self.old self.new (SetRowSpan pos span)) }
+    pub fn set_row_span(&mut self, position: Position, span: usize) -> Result<(), AllocError>
+        ensures ok { OnOk result (AddsSetting self.old self.new (SetRowSpan position span)) }
         ensures err { OnErr result (self.new ≡ self.old) }
         ensures small { span < 2 → IsOk result }
         ensures others { self.new ≡ record self.old {
           spans = record self.old.spans { rows = self.new.spans.rows };
         } }
     {
-        self.spans.set_row(pos, span)
+        self.spans.set_row(position, span)
     }
 
     /// The column span stored at a position, of 2 or more: a number of columns.
-    pub fn get_column_span(&self, pos: Position) -> Option<usize>
-        ensures stored { result ≡ value_at self.now.spans.columns pos }
+    pub fn get_column_span(&self, position: Position) -> Option<usize>
+        ensures stored { result ≡ value_at self.now.spans.columns position }
         ensures from_two { IfSome result (λ n. 2 ≤ n) }
     {
-        self.spans.get_column(pos)
+        self.spans.get_column(position)
     }
 
     /// The row span stored at a position, of 2 or more: a number of rows.
-    pub fn get_row_span(&self, pos: Position) -> Option<usize>
-        ensures stored { result ≡ value_at self.now.spans.rows pos }
+    pub fn get_row_span(&self, position: Position) -> Option<usize>
+        ensures stored { result ≡ value_at self.now.spans.rows position }
         ensures from_two { IfSome result (λ n. 2 ≤ n) }
     {
-        self.spans.get_row(pos)
+        self.spans.get_row(position)
     }
 
     /// All column spans that are stored, or out of memory.
@@ -137,11 +137,11 @@ impl SpannedConfig {
 
     /// Whether the position lies in no rectangle of another anchor. An anchor need not be a cell
     /// of the table, and a hidden one still hides.
-    pub fn is_cell_visible(&self, pos: Position) -> bool
-        ensures visible { IsTrue result ↔ IsVisible (span_along self.now.spans) pos }
-        ensures test { result ≡ is_visible self.now.spans pos }
+    pub fn is_cell_visible(&self, position: Position) -> bool
+        ensures visible { IsTrue result ↔ IsVisible (span_along self.now.spans) position }
+        ensures test { result ≡ is_visible self.now.spans position }
     {
-        self.spans.is_visible(pos)
+        self.spans.is_visible(position)
     }
 
     /// Whether all of the positions are visible. Each span is looked at once. Condition: the columns
@@ -154,23 +154,23 @@ impl SpannedConfig {
     }
 
     /// Whether the position stands right of an anchor, in its row and its rectangle.
-    pub fn is_cell_covered_by_column_span(&self, pos: Position) -> bool
-        ensures { IsTrue result ↔ IsCoveredByColumn (span_along self.now.spans) pos }
+    pub fn is_cell_covered_by_column_span(&self, position: Position) -> bool
+        ensures { IsTrue result ↔ IsCoveredByColumn (span_along self.now.spans) position }
     {
-        self.spans.covered_by_column(pos)
+        self.spans.covered_by_column(position)
     }
 
     /// Whether the position stands below an anchor, in its column and its rectangle.
-    pub fn is_cell_covered_by_row_span(&self, pos: Position) -> bool
-        ensures { IsTrue result ↔ IsCoveredByRow (span_along self.now.spans) pos }
+    pub fn is_cell_covered_by_row_span(&self, position: Position) -> bool
+        ensures { IsTrue result ↔ IsCoveredByRow (span_along self.now.spans) position }
     {
-        self.spans.covered_by_row(pos)
+        self.spans.covered_by_row(position)
     }
 
     /// Whether the position stands below and right of an anchor, in its rectangle.
-    pub fn is_cell_covered_by_both_spans(&self, pos: Position) -> bool
-        ensures { IsTrue result ↔ IsCoveredByBoth (span_along self.now.spans) pos }
+    pub fn is_cell_covered_by_both_spans(&self, position: Position) -> bool
+        ensures { IsTrue result ↔ IsCoveredByBoth (span_along self.now.spans) position }
     {
-        self.spans.covered_by_both(pos)
+        self.spans.covered_by_both(position)
     }
 }

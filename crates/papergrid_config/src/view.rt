@@ -16,8 +16,8 @@ impl ConfigView for SpannedConfig {
     ghost grid = { spanned_grid };
 
     // Each visible position is looked for in all spans.
-    fn is_visible(&self, pos: Position) -> bool {
-        self.is_cell_visible(pos)
+    fn is_visible(&self, position: Position) -> bool {
+        self.is_cell_visible(position)
     }
 
     // Each span is looked at once.
@@ -29,10 +29,10 @@ impl ConfigView for SpannedConfig {
         self.anchors()
     }
 
-    fn span(&self, direction: Direction, pos: Position) -> usize {
+    fn span(&self, direction: Direction, position: Position) -> usize {
         let stored = match direction {
-            Direction::Columns => self.get_column_span(pos),
-            Direction::Rows => self.get_row_span(pos),
+            Direction::Columns => self.get_column_span(position),
+            Direction::Rows => self.get_row_span(position),
         };
         match stored {
             Some(span) => span,
@@ -45,12 +45,12 @@ impl ConfigView for SpannedConfig {
         self.spans_end_within(direction, count)
     }
 
-    fn padding_before(&self, direction: Direction, pos: Position) -> usize {
-        size_before(direction, self.get_padding(pos))
+    fn padding_before(&self, direction: Direction, position: Position) -> usize {
+        size_before(direction, self.get_padding(position))
     }
 
-    fn padding_after(&self, direction: Direction, pos: Position) -> usize {
-        size_after(direction, self.get_padding(pos))
+    fn padding_after(&self, direction: Direction, position: Position) -> usize {
+        size_after(direction, self.get_padding(position))
     }
 
     ghost set_for = { λ s entity. option_map sizes (held_for s.padding entity) };

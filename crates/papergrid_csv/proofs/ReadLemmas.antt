@@ -169,7 +169,7 @@ module _ {R : Type 0} (rem : R → Option (List ℕ)) (reading : Reading) (input
 
   -- no record, for this reason
   pub shown-unread : (kind : ErrorKind) → ExplainsRead rem old new true kind → IsUnread reading input (unread_of kind (length shown))
-  shown-unread (kinds.Utf8 pos err) why =
+  shown-unread (kinds.Utf8 position err) why =
       let next = read-next (config_of reading) old.state new.state y (pending_of (rem new.rdr) new) true why.1 (rw (config, source) at why.2) refl in
       record {
         before = first.records;
@@ -179,10 +179,10 @@ module _ {R : Type 0} (rem : R → Option (List ℕ)) (reading : Reading) (input
         is_bad = why.3;
       }
   shown-unread (kinds.Io e) why = tt
-  shown-unread (kinds.UnequalLengths pos expected len) why = tt
+  shown-unread (kinds.UnequalLengths position expected len) why = tt
   shown-unread kinds.OutOfMemory why = tt
   shown-unread (kinds.Serialize text) why = tt
-  shown-unread (kinds.Deserialize pos err) why = tt
+  shown-unread (kinds.Deserialize position err) why = tt
 
 -- ---- the greatest length so far
 

@@ -21,27 +21,27 @@ use Rattle.papergrid_layout.specs.ForProofs.Checking.{AreShown, ChecksMore, chec
 module _ (grid : Grid) (candidate : Candidate) where
   module _ {C : Type 0} (measure : C → ℕ × ℕ) where
     -- a hidden cell is passed over
-    pub check_hidden : (checked : Checked) (pos : Position) (cell : C) → grid.shows pos ≡ false →
-        ChecksMore grid candidate checked checked (demands_by candidate.direction grid measure ((pos, cell) ∷ []))
-    check_hidden checked pos cell f = rw f (check_none grid candidate checked)
+    pub check_hidden : (checked : Checked) (position : Position) (cell : C) → grid.shows position ≡ false →
+        ChecksMore grid candidate checked checked (demands_by candidate.direction grid measure ((position, cell) ∷ []))
+    check_hidden checked position cell f = rw f (check_none grid candidate checked)
 
     -- a visible one is not
-    pub check_shown : (old new : Checked) (pos : Position) (cell : C) (size minimum : ℕ) → grid.shows pos ≡ true →
-        size ≡ side candidate.direction (measure cell) → minimum ≡ size + grid.before candidate.direction pos + grid.after candidate.direction pos →
-        ChecksMore grid candidate old new (demand_of candidate.direction pos (grid.span candidate.direction pos) minimum ∷ []) →
-        ChecksMore grid candidate old new (demands_by candidate.direction grid measure ((pos, cell) ∷ []))
-    check_shown old new pos cell size minimum t measured same more =
-        let whole = same ∙ ap (λ n. n + grid.before candidate.direction pos + grid.after candidate.direction pos) measured in
-        rw t (subst (λ n. ChecksMore grid candidate old new (demand_of candidate.direction pos (grid.span candidate.direction pos) n ∷ [])) whole more)
+    pub check_shown : (old new : Checked) (position : Position) (cell : C) (size minimum : ℕ) → grid.shows position ≡ true →
+        size ≡ side candidate.direction (measure cell) → minimum ≡ size + grid.before candidate.direction position + grid.after candidate.direction position →
+        ChecksMore grid candidate old new (demand_of candidate.direction position (grid.span candidate.direction position) minimum ∷ []) →
+        ChecksMore grid candidate old new (demands_by candidate.direction grid measure ((position, cell) ∷ []))
+    check_shown old new position cell size minimum t measured same more =
+        let whole = same ∙ ap (λ n. n + grid.before candidate.direction position + grid.after candidate.direction position) measured in
+        rw t (subst (λ n. ChecksMore grid candidate old new (demand_of candidate.direction position (grid.span candidate.direction position) n ∷ [])) whole more)
 
     -- one that changes nothing may be either
-    pub check_same : (old new : Checked) (pos : Position) (cell : C) (size minimum : ℕ) → new ≡ old →
-        size ≡ side candidate.direction (measure cell) → minimum ≡ size + grid.before candidate.direction pos + grid.after candidate.direction pos →
-        ChecksMore grid candidate old new (demand_of candidate.direction pos (grid.span candidate.direction pos) minimum ∷ []) →
-        ChecksMore grid candidate old old (demands_by candidate.direction grid measure ((pos, cell) ∷ []))
-    check_same old new pos cell size minimum unchanged measured same more = elim (cases_Bool (grid.shows pos)) [
-      | inl t ↦ check_shown old old pos cell size minimum t measured same (subst (λ kept. ChecksMore grid candidate old kept (demand_of candidate.direction pos (grid.span candidate.direction pos) minimum ∷ [])) unchanged more)
-      | inr f ↦ check_hidden old pos cell f
+    pub check_same : (old new : Checked) (position : Position) (cell : C) (size minimum : ℕ) → new ≡ old →
+        size ≡ side candidate.direction (measure cell) → minimum ≡ size + grid.before candidate.direction position + grid.after candidate.direction position →
+        ChecksMore grid candidate old new (demand_of candidate.direction position (grid.span candidate.direction position) minimum ∷ []) →
+        ChecksMore grid candidate old old (demands_by candidate.direction grid measure ((position, cell) ∷ []))
+    check_same old new position cell size minimum unchanged measured same more = elim (cases_Bool (grid.shows position)) [
+      | inl t ↦ check_shown old old position cell size minimum t measured same (subst (λ kept. ChecksMore grid candidate old kept (demand_of candidate.direction position (grid.span candidate.direction position) minimum ∷ [])) unchanged more)
+      | inr f ↦ check_hidden old position cell f
     ]
 
 -- what is found of a table with as many tracks as sizes holds of the table itself, since the sizes are as many

@@ -71,8 +71,8 @@ fn conclude<T: Solver, M: Measure<C>, C, S: ConfigView>(
         AnswersBothWhere (S.grid settings.now) M.measured columns cells T.too_large
         (T.solves certify) result }
 {
-    if let Some(pos) = find_out_of_both(columns, rows, both) {
-        return Err(LayoutError::OutOfTable(pos));
+    if let Some(position) = find_out_of_both(columns, rows, both) {
+        return Err(LayoutError::OutOfTable(position));
     }
     let across = Along {
         settings,

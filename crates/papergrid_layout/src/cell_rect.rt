@@ -25,13 +25,13 @@ pub fn place<D: Dimension>(
     dimension: &D,
     config: &SpannedConfig,
     shape: (usize, usize),
-    pos: Position,
+    position: Position,
 ) -> Result<Place, PlaceError>
     requires columns { HasSizes (D.has_column dimension.now) shape.1 }
     requires rows { HasSizes (D.has_row dimension.now) shape.0 }
     ensures exact { let table = table_by config.now (D.width_of dimension.now)
         (D.height_of dimension.now) shape in
-        IsPlaced table pos result }
+        IsPlaced table position result }
     ensures within { let table = table_by config.now (D.width_of dimension.now)
         (D.height_of dimension.now) shape in
         IfOk result (EndsWithin table) }
@@ -39,13 +39,13 @@ pub fn place<D: Dimension>(
     let (rows, columns) = shape;
     let across = Ruler::new(dimension, config, Direction::Columns, columns);
     let down = Ruler::new(dimension, config, Direction::Rows, rows);
-    if !config.is_visible(pos) {
+    if !config.is_visible(position) {
         return Err(PlaceError::Hidden);
     }
-    if across.overflows(pos) || down.overflows(pos) {
+    if across.overflows(position) || down.overflows(position) {
         return Err(PlaceError::OutOfTable);
     }
-    match (across.part(pos), down.part(pos)) {
+    match (across.part(position), down.part(position)) {
         (Some((left, width)), Some((top, height))) => Ok(Place {
             left,
             top,

@@ -59,24 +59,24 @@ impl Placing {
     }
 
     /// Adds the position to those that it met, if that is visible.
-    fn visit(&mut self, alloc: Global, pos: Position) -> Result<(), LayoutError>
-        requires placed { (table : TableView) × HasPlaced table pos.row pos.col self.old }
-        requires row_in { pos.row < 2 ^ 64 - 1 }
-        requires col_in { pos.col < 2 ^ 64 - 1 }
+    fn visit(&mut self, alloc: Global, position: Position) -> Result<(), LayoutError>
+        requires placed { (table : TableView) × HasPlaced table position.row position.col self.old }
+        requires row_in { position.row < 2 ^ 64 - 1 }
+        requires col_in { position.col < 2 ^ 64 - 1 }
         ensures ok { IfOk result (λ _. (table : TableView) →
-            HasPlaced table pos.row pos.col self.old →
-            HasPlaced table pos.row (pos.col + 1) self.new) }
+            HasPlaced table position.row position.col self.old →
+            HasPlaced table position.row (position.col + 1) self.new) }
         ensures err { IfErr result (λ error. (table : TableView) →
-            pos.row < table.shape.0 → pos.col < table.shape.1 →
-            HasPlaced table pos.row pos.col self.old → ArePlacesRefused table error) }
+            position.row < table.shape.0 → position.col < table.shape.1 →
+            HasPlaced table position.row position.col self.old → ArePlacesRefused table error) }
     {
-        let Some(anchor) = visible_anchor(&mut self.sweep, alloc, pos)? else {
+        let Some(anchor) = visible_anchor(&mut self.sweep, alloc, position)? else {
             return Ok(());
         };
         let Some(place) = place_of(&self.marks, anchor) else {
-            return Err(LayoutError::OutOfTable(pos));
+            return Err(LayoutError::OutOfTable(position));
         };
-        match self.places.push((pos, place)) {
+        match self.places.push((position, place)) {
             Ok(()) => Ok(()),
             Err(refused) => Err(AllocError::from(refused).into()),
         }

@@ -23,30 +23,30 @@ use std::marker::PhantomData;
 fn minimum_along<S: ConfigView>(
     settings: &S,
     direction: Direction,
-    pos: Position,
+    position: Position,
     size: usize,
 ) -> u128
     ensures sum { let grid = S.grid settings.now in
-        result ≡ size + grid.before direction pos + grid.after direction pos }
+        result ≡ size + grid.before direction position + grid.after direction position }
     ensures small { result ≤ 2 ^ 66 }
 {
-    let before = settings.padding_before(direction, pos);
-    let after = settings.padding_after(direction, pos);
+    let before = settings.padding_before(direction, position);
+    let after = settings.padding_after(direction, position);
     wide_minimum(size, before, after)
 }
 
 /// Whether the cell at a position is visible. Where the list is in order this is known of the listed
 /// cells, and no span is looked at.
-fn is_shown<S: ConfigView>(settings: &S, candidate: &Candidate<'_>, pos: Position) -> bool
+fn is_shown<S: ConfigView>(settings: &S, candidate: &Candidate<'_>, position: Position) -> bool
     requires ordered { IsCandidate ((S.grid settings.now).span candidate.now.direction)
         candidate.now }
     requires shown { IsShownCandidate (S.grid settings.now) candidate.now }
-    ensures { result ≡ (S.grid settings.now).shows pos }
+    ensures { result ≡ (S.grid settings.now).shows position }
 {
-    if candidate.is_ordered && count_listed(candidate, pos) > 0 {
+    if candidate.is_ordered && count_listed(candidate, position) > 0 {
         return true;
     }
-    settings.is_visible(pos)
+    settings.is_visible(position)
 }
 
 /// What is kept of the cells met and of one more, if that is visible. Whether it is may take a look at
@@ -55,7 +55,7 @@ fn check_cell<M: Measure<C>, C, S: ConfigView>(
     checked: Checked,
     settings: &S,
     candidate: &Candidate<'_>,
-    pos: Position,
+    position: Position,
     cell: &C,
 ) -> Checked
     requires bounded { AreBounded candidate.now.places.now checked }
@@ -65,7 +65,7 @@ fn check_cell<M: Measure<C>, C, S: ConfigView>(
     ensures bounded { AreBounded candidate.now.places.now result }
     ensures checks { let grid = S.grid settings.now in
         ChecksMore grid candidate.now checked result
-        (demands_by candidate.now.direction grid M.measured ((pos, cell.now) ∷ [])) }
+        (demands_by candidate.now.direction grid M.measured ((position, cell.now) ∷ [])) }
 {
     let axis = Along {
         settings,
@@ -73,12 +73,12 @@ fn check_cell<M: Measure<C>, C, S: ConfigView>(
         count: candidate.sizes.len(),
     };
     let size = M::measure_along(candidate.direction, cell);
-    let minimum = minimum_along(settings, candidate.direction, pos, size);
-    let visited = visit(checked, candidate, &axis, pos, minimum);
+    let minimum = minimum_along(settings, candidate.direction, position, size);
+    let visited = visit(checked, candidate, &axis, position, minimum);
     if is_unchanged(checked, visited) {
         return checked;
     }
-    if is_shown(settings, candidate, pos) {
+    if is_shown(settings, candidate, position) {
         visited
     } else {
         checked

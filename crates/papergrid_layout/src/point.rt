@@ -28,25 +28,26 @@ struct Point<'a, D> {
 impl<'a, D: Dimension> Point<'a, D> {
     /// Whether the cell at a position, none below or right of the one within, stands over the point. Most do
     /// not by their spans alone.
-    fn is_under(&self, pos: Position) -> bool
+    fn is_under(&self, position: Position) -> bool
         requires columns { HasSizes (D.has_column self.now.dimension.now) self.now.shape.1 }
         requires rows { HasSizes (D.has_row self.now.dimension.now) self.now.shape.0 }
-        requires before { (pos.row ≤ self.now.within.row) × (pos.col ≤ self.now.within.col) }
+        requires before { (position.row ≤ self.now.within.row)
+            × (position.col ≤ self.now.within.col) }
         requires reach { let table = table_by self.now.config.now
             (D.width_of self.now.dimension.now)
             (D.height_of self.now.dimension.now) self.now.shape in
             LiesInEach table self.now.column self.now.line self.now.within }
         ensures { let table = table_by self.now.config.now (D.width_of self.now.dimension.now)
             (D.height_of self.now.dimension.now) self.now.shape in
-            IsTrue result ↔ StandsOver table self.now.column self.now.line pos }
+            IsTrue result ↔ StandsOver table self.now.column self.now.line position }
     {
-        if self.within.col - pos.col >= self.config.span(Direction::Columns, pos) {
+        if self.within.col - position.col >= self.config.span(Direction::Columns, position) {
             return false;
         }
-        if self.within.row - pos.row >= self.config.span(Direction::Rows, pos) {
+        if self.within.row - position.row >= self.config.span(Direction::Rows, position) {
             return false;
         }
-        match place(self.dimension, self.config, self.shape, pos) {
+        match place(self.dimension, self.config, self.shape, position) {
             Ok(place) => place.covers(self.column, self.line),
             Err(_) => false,
         }
@@ -69,9 +70,9 @@ impl<'a, D: Dimension> Point<'a, D> {
             IsUnder q → ⊥)) }
     {
         for col in 0..=self.within.col {
-            let pos = Position { row, col };
-            if self.is_under(pos) {
-                return Some(pos);
+            let position = Position { row, col };
+            if self.is_under(position) {
+                return Some(position);
             }
         }
         None

@@ -98,33 +98,34 @@ impl<'a, D: Dimension, S: ConfigView> Ruler<'a, D, S> {
     }
 
     /// Whether the range of the cell at a position ends past the last track.
-    pub fn overflows(&self, pos: Position) -> bool
-        ensures { let span = (S.grid self.now.settings.now).span self.now.direction pos in
-            result ≡ nat_lt self.now.count (along self.now.direction pos + span) }
+    pub fn overflows(&self, position: Position) -> bool
+        ensures { let span = (S.grid self.now.settings.now).span self.now.direction position in
+            result ≡ nat_lt self.now.count (along self.now.direction position + span) }
     {
-        let start = self.direction.number_of(pos);
-        let span = self.settings.span(self.direction, pos);
+        let start = self.direction.number_of(position);
+        let span = self.settings.span(self.direction, position);
         self.count < start || self.count - start < span
     }
 
     /// Where the cell at a position begins and how long it is, if the total of all sizes and lines fits.
-    pub fn part(&self, pos: Position) -> Option<(usize, usize)>
-        requires inside { let span = (S.grid self.now.settings.now).span self.now.direction pos in
-            along self.now.direction pos + span ≤ self.now.count }
+    pub fn part(&self, position: Position) -> Option<(usize, usize)>
+        requires inside { let grid = S.grid self.now.settings.now in
+            let span = grid.span self.now.direction position in
+            along self.now.direction position + span ≤ self.now.count }
         requires sizes { (i : ℕ) → i < self.now.count →
             has_along (D.has_column self.now.dimension.now)
             (D.has_row self.now.dimension.now) self.now.direction i }
         ensures { let size = size_along (D.width_of self.now.dimension.now)
             (D.height_of self.now.dimension.now) self.now.direction in
             let line = (S.grid self.now.settings.now).draws self.now.direction self.now.count in
-            let start = along self.now.direction pos in
-            let span = (S.grid self.now.settings.now).span self.now.direction pos in
+            let start = along self.now.direction position in
+            let span = (S.grid self.now.settings.now).span self.now.direction position in
             SomeIff result (total size line self.now.count < 2 ^ 64)
             (offset size line start, extent size line start span) }
     {
         let count = self.count;
-        let start = self.direction.number_of(pos);
-        let end = start + self.settings.span(self.direction, pos);
+        let start = self.direction.number_of(position);
+        let end = start + self.settings.span(self.direction, position);
         let offset = self.offset_from(0, self.line(0), start)?;
         let next = self.offset_from(start, offset, end)?;
         let _total = self.offset_from(end, next, count)?;

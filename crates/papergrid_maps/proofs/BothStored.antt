@@ -53,46 +53,46 @@ not_stored d (Some n) other h = absurd (none_is_not_some h)
 
 -- ---- one position changes
 
-module _ (d : Direction) (own own' others : Position → Option ℕ) (both both' : Position → Option Extent) (pos : Position)
+module _ (d : Direction) (own own' others : Position → Option ℕ) (both both' : Position → Option Extent) (position : Position)
     (stored : (p : Position) → both p ≡ extent_stored d (own p) (others p)) where
-  changes : (w : Option ℕ) (e : Option Extent) → ((p : Position) → own' p ≡ cond (eq_by_cmp position_cmp p pos) w (own p)) → ((p : Position) → both' p ≡ cond (eq_by_cmp position_cmp pos p) e (both p))
-      → e ≡ extent_stored d w (others pos) → (p : Position) → both' p ≡ extent_stored d (own' p) (others p)
+  changes : (w : Option ℕ) (e : Option Extent) → ((p : Position) → own' p ≡ cond (eq_by_cmp position_cmp p position) w (own p)) → ((p : Position) → both' p ≡ cond (eq_by_cmp position_cmp position p) e (both p))
+      → e ≡ extent_stored d w (others position) → (p : Position) → both' p ≡ extent_stored d (own' p) (others p)
   changes w e own_is both_is here p =
-      both_is p ∙ ap (λ b. cond b e (both p)) ((eq_by_cmp_equiv position_total).symm pos p)
-      ∙ elim (eq_by_cmp position_cmp p pos) as (λ b. eq_by_cmp position_cmp p pos ≡ b → cond b e (both p) ≡ extent_stored d (cond b w (own p)) (others p)) [
-        | true ↦ λ same. here ∙ ap (λ q. extent_stored d w (others q)) (sym (exact_position_eq p pos (position_ties p pos ∙ same)))
+      both_is p ∙ ap (λ b. cond b e (both p)) ((eq_by_cmp_equiv position_total).symm position p)
+      ∙ elim (eq_by_cmp position_cmp p position) as (λ b. eq_by_cmp position_cmp p position ≡ b → cond b e (both p) ≡ extent_stored d (cond b w (own p)) (others p)) [
+        | true ↦ λ same. here ∙ ap (λ q. extent_stored d w (others q)) (sym (exact_position_eq p position (position_ties p position ∙ same)))
         | false ↦ λ apart. stored p
       ] refl
       ∙ ap (λ o. extent_stored d o (others p)) (sym (own_is p))
 
   -- a span beside one of the other direction
-  pub both_stored : (span other : ℕ) → ((p : Position) → own' p ≡ cond (eq_by_cmp position_cmp p pos) (Some span) (own p))
-      → ((p : Position) → both' p ≡ cond (eq_by_cmp position_cmp pos p) (Some (extent_of d span other)) (both p)) → others pos ≡ Some other
+  pub both_stored : (span other : ℕ) → ((p : Position) → own' p ≡ cond (eq_by_cmp position_cmp p position) (Some span) (own p))
+      → ((p : Position) → both' p ≡ cond (eq_by_cmp position_cmp position p) (Some (extent_of d span other)) (both p)) → others position ≡ Some other
       → (p : Position) → both' p ≡ extent_stored d (own' p) (others p)
   both_stored span other own_is both_is beside = changes (Some span) (Some (extent_of d span other)) own_is both_is (ap (extent_stored d (Some span)) (sym beside))
 
   -- no span any more
-  pub both_dropped : ((p : Position) → own' p ≡ cond (eq_by_cmp position_cmp p pos) None (own p)) → ((p : Position) → both' p ≡ cond (eq_by_cmp position_cmp pos p) None (both p))
+  pub both_dropped : ((p : Position) → own' p ≡ cond (eq_by_cmp position_cmp p position) None (own p)) → ((p : Position) → both' p ≡ cond (eq_by_cmp position_cmp position p) None (both p))
       → (p : Position) → both' p ≡ extent_stored d (own' p) (others p)
   both_dropped own_is both_is = changes None None own_is both_is refl
 
   -- a span with none of the other direction
-  pub alone_stored : (span : ℕ) → ((p : Position) → own' p ≡ cond (eq_by_cmp position_cmp p pos) (Some span) (own p)) → ((p : Position) → both' p ≡ both p) → others pos ≡ None
+  pub alone_stored : (span : ℕ) → ((p : Position) → own' p ≡ cond (eq_by_cmp position_cmp p position) (Some span) (own p)) → ((p : Position) → both' p ≡ both p) → others position ≡ None
       → (p : Position) → both' p ≡ extent_stored d (own' p) (others p)
   alone_stored span own_is both_is alone =
-      changes (Some span) (both pos) own_is
-      (λ p. both_is p ∙ elim (eq_by_cmp position_cmp pos p) as (λ b. eq_by_cmp position_cmp pos p ≡ b → both p ≡ cond b (both pos) (both p)) [
-        | true ↦ λ same. ap both (sym (exact_position_eq pos p (position_ties pos p ∙ same)))
+      changes (Some span) (both position) own_is
+      (λ p. both_is p ∙ elim (eq_by_cmp position_cmp position p) as (λ b. eq_by_cmp position_cmp position p ≡ b → both p ≡ cond b (both position) (both p)) [
+        | true ↦ λ same. ap both (sym (exact_position_eq position p (position_ties position p ∙ same)))
         | false ↦ λ apart. refl
       ] refl)
-      (stored pos ∙ ap (extent_stored d (own pos)) alone ∙ no_other d (own pos) ∙ sym (no_other d (Some span)) ∙ ap (extent_stored d (Some span)) (sym alone))
+      (stored position ∙ ap (extent_stored d (own position)) alone ∙ no_other d (own position) ∙ sym (no_other d (Some span)) ∙ ap (extent_stored d (Some span)) (sym alone))
 
 -- what is stored anew and dropped again was not there
-pub stored_and_dropped : (spans : FinMap position_cmp ℕ) (pos : Position) (n : ℕ) → get spans pos ≡ None → remove (insert spans pos n) pos ≡ spans
-stored_and_dropped spans pos n none = same_map position_total exact_positions _ _ (λ q.
-    get-remove position_total (insert spans pos n) pos q ∙ ap (cond (eq_by_cmp position_cmp q pos) None) (get-insert position_total spans pos n q)
-    ∙ elim (eq_by_cmp position_cmp q pos) as (λ b. eq_by_cmp position_cmp q pos ≡ b → cond b None (cond b (Some n) (get spans q)) ≡ get spans q) [
-      | true ↦ λ same. sym none ∙ ap (get spans) (sym (exact_position_eq q pos (position_ties q pos ∙ same)))
+pub stored_and_dropped : (spans : FinMap position_cmp ℕ) (position : Position) (n : ℕ) → get spans position ≡ None → remove (insert spans position n) position ≡ spans
+stored_and_dropped spans position n none = same_map position_total exact_positions _ _ (λ q.
+    get-remove position_total (insert spans position n) position q ∙ ap (cond (eq_by_cmp position_cmp q position) None) (get-insert position_total spans position n q)
+    ∙ elim (eq_by_cmp position_cmp q position) as (λ b. eq_by_cmp position_cmp q position ≡ b → cond b None (cond b (Some n) (get spans q)) ≡ get spans q) [
+      | true ↦ λ same. sym none ∙ ap (get spans) (sym (exact_position_eq q position (position_ties q position ∙ same)))
       | false ↦ λ apart. refl
     ] refl)
 

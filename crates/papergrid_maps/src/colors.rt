@@ -24,14 +24,14 @@ pub trait Colors {
     ghost is_blank: { Self → Type 0 };
 
     /// The colour at a position, if it has one.
-    fn get_color(&self, pos: Position) -> Option<&Self::Color>
-        ensures { option_copied result ≡ color_at self.now pos };
+    fn get_color(&self, position: Position) -> Option<&Self::Color>
+        ensures { option_copied result ≡ color_at self.now position };
 
     /// Whether it is empty, so that no position has a colour.
     fn is_empty(&self) -> bool
         ensures { IsTrue result ↔ is_blank self.now };
 
-    ghost blank_has_none: { (colors : Self) (pos : Position) → is_blank colors → color_at colors pos ≡ None };
+    ghost blank_has_none: { (colors : Self) (position : Position) → is_blank colors → color_at colors position ≡ None };
 }
 
 impl<C: Colors> Colors for &C {
@@ -43,8 +43,8 @@ impl<C: Colors> Colors for &C {
 
     ghost blank_has_none = { λ colors. C.blank_has_none colors.now };
 
-    fn get_color(&self, pos: Position) -> Option<&C::Color> {
-        C::get_color(*self, pos)
+    fn get_color(&self, position: Position) -> Option<&C::Color> {
+        C::get_color(*self, position)
     }
 
     fn is_empty(&self) -> bool {
@@ -57,12 +57,12 @@ impl<C: ANSIFmt> Colors for HashMap<Position, C> {
 
     ghost color_at = { map_get position_eq };
 
-    ghost is_blank = { λ colors. (pos : Position) → map_get position_eq colors pos ≡ None };
+    ghost is_blank = { λ colors. (position : Position) → map_get position_eq colors position ≡ None };
 
-    ghost blank_has_none = { λ colors pos none. none pos };
+    ghost blank_has_none = { λ colors position none. none position };
 
-    fn get_color(&self, pos: Position) -> Option<&C> {
-        self.get(&pos)
+    fn get_color(&self, position: Position) -> Option<&C> {
+        self.get(&position)
     }
 
     fn is_empty(&self) -> bool {
@@ -75,12 +75,12 @@ impl<C: ANSIFmt> Colors for BTreeMap<Position, C> {
 
     ghost color_at = { tree_get position_cmp };
 
-    ghost is_blank = { λ colors. (pos : Position) → tree_get position_cmp colors pos ≡ None };
+    ghost is_blank = { λ colors. (position : Position) → tree_get position_cmp colors position ≡ None };
 
-    ghost blank_has_none = { λ colors pos none. none pos };
+    ghost blank_has_none = { λ colors position none. none position };
 
-    fn get_color(&self, pos: Position) -> Option<&C> {
-        self.get(&pos)
+    fn get_color(&self, position: Position) -> Option<&C> {
+        self.get(&position)
     }
 
     fn is_empty(&self) -> bool {
@@ -101,8 +101,8 @@ impl<C: ANSIFmt> Colors for EntityMap<Option<C>> {
 
     ghost blank_has_none = { blank_value };
 
-    fn get_color(&self, pos: Position) -> Option<&C> {
-        self.get(pos).as_ref()
+    fn get_color(&self, position: Position) -> Option<&C> {
+        self.get(position).as_ref()
     }
 
     fn is_empty(&self) -> bool {
@@ -123,7 +123,7 @@ impl Colors for NoColors {
 
     ghost blank_has_none = { λ _ _ _. refl };
 
-    fn get_color(&self, _pos: Position) -> Option<&NoColor> {
+    fn get_color(&self, _position: Position) -> Option<&NoColor> {
         None
     }
 

@@ -8,16 +8,16 @@ ghost use Rattle.papergrid_maps.specs.ForProofs.SpanIndex.{covers};
 use papergrid_values::{Direction, Position};
 
 // Whether a position lies in the rectangle of another, of so many columns and rows.
-fn is_covered(anchor: Position, columns: usize, rows: usize, pos: Position) -> bool
-    ensures { result ≡ covers anchor columns rows pos }
+fn is_covered(anchor: Position, columns: usize, rows: usize, position: Position) -> bool
+    ensures { result ≡ covers anchor columns rows position }
 {
-    if anchor == pos {
+    if anchor == position {
         return false;
     }
-    anchor.row <= pos.row
-        && pos.row - anchor.row < rows
-        && anchor.col <= pos.col
-        && pos.col - anchor.col < columns
+    anchor.row <= position.row
+        && position.row - anchor.row < rows
+        && anchor.col <= position.col
+        && position.col - anchor.col < columns
 }
 
 // Whether one of the positions lies in a rectangle. Those before it are passed over by binary
@@ -35,9 +35,9 @@ pub(crate) fn covers_one(
     let start = direction.number_of(anchor);
     let span = direction.number_of(Position::new(rows, columns));
     let first = places.partition_point(
-        |pos: &Position| -> bool
-            ensures { result ≡ nat_lt (along direction pos.now) start }
-        { direction.number_of(*pos) < start },
+        |position: &Position| -> bool
+            ensures { result ≡ nat_lt (along direction position.now) start }
+        { direction.number_of(*position) < start },
     );
     for i in first..places.len() {
         if direction.number_of(places[i]) - start >= span {

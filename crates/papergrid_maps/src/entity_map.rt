@@ -98,18 +98,18 @@ impl<T> EntityMap<T> {
 
     /// The value stored for the cell, else for its column, else for its row, else for the
     /// whole table: where calls tell the map, the one that they decide.
-    pub fn get(&self, pos: Position) -> &T
-        ensures stored { result.now ≡ stored_value self.now pos }
+    pub fn get(&self, position: Position) -> &T
+        ensures stored { result.now ≡ stored_value self.now position }
         ensures effective { (given : T) (calls : List (MapCall T)) →
-            HasMapHistory given calls self.now → result.now ≡ effective_value given calls pos }
+            HasMapHistory given calls self.now → result.now ≡ effective_value given calls position }
     {
-        if let Some(value) = look_up(&self.cells, pos) {
+        if let Some(value) = look_up(&self.cells, position) {
             return value;
         }
-        if let Some(value) = look_up(&self.columns, pos.col) {
+        if let Some(value) = look_up(&self.columns, position.col) {
             return value;
         }
-        if let Some(value) = look_up(&self.rows, pos.row) {
+        if let Some(value) = look_up(&self.rows, position.row) {
             return value;
         }
         &self.global

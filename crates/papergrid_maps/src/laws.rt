@@ -35,7 +35,8 @@ use std::hash::Hash;
 pub fn history_decides<T>()
     ensures { (given : T) (calls : List (MapCall T)) (stored : Stored T) →
         HasMapHistory given calls stored →
-        (pos : Position) → stored_value stored pos ≡ effective_value given calls pos }
+        (position : Position) → stored_value stored position
+        ≡ effective_value given calls position }
 {}
 
 /// The spans that calls make have them as their history, and no others do.
@@ -49,17 +50,17 @@ pub fn history_makes_spans()
 /// the last of those that set it to 1 or more and of those that remove all spans of its direction;
 /// and no other is.
 pub fn spans_by_place()
-    ensures effective { (calls : List SpanCall) (d : Direction) (pos : Position) →
-        IsEffectiveSpan d pos calls (effective_span d pos calls) }
-    ensures only { (calls : List SpanCall) (d : Direction) (pos : Position) (n : ℕ) →
-        IsEffectiveSpan d pos calls n → n ≡ effective_span d pos calls }
+    ensures effective { (calls : List SpanCall) (d : Direction) (position : Position) →
+        IsEffectiveSpan d position calls (effective_span d position calls) }
+    ensures only { (calls : List SpanCall) (d : Direction) (position : Position) (n : ℕ) →
+        IsEffectiveSpan d position calls n → n ≡ effective_span d position calls }
 {}
 
 /// A position passes the computed test of visibility exactly where it lies in no other anchor's
 /// rectangle, whatever spans are stored.
 pub fn visible_by_rectangles()
-    ensures { (stored : Spans) (pos : Position) →
-        IsTrue (is_visible stored pos) ↔ IsVisible (span_along stored) pos }
+    ensures { (stored : Spans) (position : Position) →
+        IsTrue (is_visible stored position) ↔ IsVisible (span_along stored) position }
 {}
 
 /// A position is visible exactly where no anchor of the spans hides it.
@@ -111,7 +112,8 @@ pub fn equal_clones<T: Clone>()
 
 /// Colours that are empty have none at any position.
 pub fn empty_colors<C: Colors>()
-    ensures { (colors : C) (pos : Position) → C.is_blank colors → C.color_at colors pos ≡ None }
+    ensures { (colors : C) (position : Position) → C.is_blank colors →
+        C.color_at colors position ≡ None }
 {}
 
 /// Compact configurations are ordered by the first field that differs, in this order: the frame,

@@ -72,29 +72,29 @@ impl SpanIndex {
     }
 
     /// The span stored at a position.
-    pub(crate) fn get(&self, pos: Position) -> Option<usize>
-        ensures { result ≡ value_at self.now.spans pos }
+    pub(crate) fn get(&self, position: Position) -> Option<usize>
+        ensures { result ≡ value_at self.now.spans position }
     {
-        self.spans.get(&key_of(self.direction, pos)).copied()
+        self.spans.get(&key_of(self.direction, position)).copied()
     }
 
     /// Holds a span at a position. Only where none is held there can memory be refused: then the index
     /// is as it was.
-    pub(crate) fn insert(&mut self, pos: Position, span: usize) -> Result<(), AllocError>
+    pub(crate) fn insert(&mut self, position: Position, span: usize) -> Result<(), AllocError>
         ensures ok { OnOk result
-            (self.new ≡ record self.old { spans = map.insert self.old.spans pos span }) }
+            (self.new ≡ record self.old { spans = map.insert self.old.spans position span }) }
         ensures err { OnErr result (self.new ≡ self.old) }
-        ensures absent { OnErr result (value_at self.old.spans pos ≡ None) }
+        ensures absent { OnErr result (value_at self.old.spans position ≡ None) }
     {
-        let _ = self.spans.insert(key_of(self.direction, pos), span)?;
+        let _ = self.spans.insert(key_of(self.direction, position), span)?;
         Ok(())
     }
 
     /// Drops the span stored at a position.
-    pub(crate) fn remove(&mut self, pos: Position)
-        ensures { self.new ≡ record self.old { spans = map.remove self.old.spans pos } }
+    pub(crate) fn remove(&mut self, position: Position)
+        ensures { self.new ≡ record self.old { spans = map.remove self.old.spans position } }
     {
-        let _ = self.spans.remove(&key_of(self.direction, pos));
+        let _ = self.spans.remove(&key_of(self.direction, position));
     }
 
     /// Drops all spans.
@@ -106,10 +106,10 @@ impl SpanIndex {
 
     /// Whether a span of the position's line begins before it and reaches it. Only the spans of that
     /// line that begin before it are looked at.
-    pub(crate) fn reaches(&self, pos: Position) -> bool
-        ensures { IsTrue result ↔ IsReached self.now pos }
+    pub(crate) fn reaches(&self, position: Position) -> bool
+        ensures { IsTrue result ↔ IsReached self.now position }
     {
-        reaches_key(&self.spans, key_of(self.direction, pos))
+        reaches_key(&self.spans, key_of(self.direction, position))
     }
 
     /// Whether one of the positions, of which the columns or the rows rise, lies in the rectangle of an
@@ -205,12 +205,12 @@ pub(crate) fn extent_of(direction: Direction, span: usize, other: usize) -> Exte
 }
 
 // The line and the place in it of a position, and the position of a line and a place.
-fn key_of(direction: Direction, pos: Position) -> Position
-    ensures { result ≡ key_of direction pos }
+fn key_of(direction: Direction, position: Position) -> Position
+    ensures { result ≡ key_of direction position }
 {
     match direction {
-        Direction::Columns => pos,
-        Direction::Rows => Position::new(pos.col, pos.row),
+        Direction::Columns => position,
+        Direction::Rows => Position::new(position.col, position.row),
     }
 }
 

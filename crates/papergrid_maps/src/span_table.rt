@@ -83,41 +83,53 @@ impl SpanTable {
 
     /// Sets the column span of a position: 0 does nothing and 1 removes the one that is stored,
     /// so that neither takes memory. Where an allocation fails the table is as it was.
-    pub fn set_column(&mut self, pos: Position, span: usize) -> Result<(), AllocError>
+    pub fn set_column(&mut self, position: Position, span: usize) -> Result<(), AllocError>
         ensures ok { OnOk result
-            (AppendsHistory HasSpanHistory self.old self.new (SetSpan Columns pos span ∷ [])) }
+            (AppendsHistory HasSpanHistory self.old self.new (SetSpan Columns position span ∷ [])) }
         ensures err { OnErr result (self.new ≡ self.old) }
         ensures others { self.new.rows ≡ self.old.rows }
         ensures small { span < 2 → IsOk result }
     {
-        set_span(&mut self.columns, &self.rows, &mut self.both, pos, span)
+        set_span(
+            &mut self.columns,
+            &self.rows,
+            &mut self.both,
+            position,
+            span,
+        )
     }
 
     /// Sets the row span of a position, as `set_column` does the column span.
-    pub fn set_row(&mut self, pos: Position, span: usize) -> Result<(), AllocError>
+    pub fn set_row(&mut self, position: Position, span: usize) -> Result<(), AllocError>
         ensures ok { OnOk result
-            (AppendsHistory HasSpanHistory self.old self.new (SetSpan Rows pos span ∷ [])) }
+            (AppendsHistory HasSpanHistory self.old self.new (SetSpan Rows position span ∷ [])) }
         ensures err { OnErr result (self.new ≡ self.old) }
         ensures others { self.new.columns ≡ self.old.columns }
         ensures small { span < 2 → IsOk result }
     {
-        set_span(&mut self.rows, &self.columns, &mut self.both, pos, span)
+        set_span(
+            &mut self.rows,
+            &self.columns,
+            &mut self.both,
+            position,
+            span,
+        )
     }
 
     /// The column span stored at a position, of 2 or more.
-    pub fn get_column(&self, pos: Position) -> Option<usize>
-        ensures stored { result ≡ value_at self.now.columns pos }
+    pub fn get_column(&self, position: Position) -> Option<usize>
+        ensures stored { result ≡ value_at self.now.columns position }
         ensures from_two { IfSome result (λ n. 2 ≤ n) }
     {
-        self.columns.get(pos)
+        self.columns.get(position)
     }
 
     /// The row span stored at a position, of 2 or more.
-    pub fn get_row(&self, pos: Position) -> Option<usize>
-        ensures stored { result ≡ value_at self.now.rows pos }
+    pub fn get_row(&self, position: Position) -> Option<usize>
+        ensures stored { result ≡ value_at self.now.rows position }
         ensures from_two { IfSome result (λ n. 2 ≤ n) }
     {
-        self.rows.get(pos)
+        self.rows.get(position)
     }
 
     /// Removes all column spans.
@@ -190,42 +202,42 @@ impl SpanTable {
     }
 
     /// Whether the position stands right of an anchor, in its row and its rectangle.
-    pub fn covered_by_column(&self, pos: Position) -> bool
-        ensures { IsTrue result ↔ IsCoveredByColumn (span_along self.now) pos }
+    pub fn covered_by_column(&self, position: Position) -> bool
+        ensures { IsTrue result ↔ IsCoveredByColumn (span_along self.now) position }
     {
-        self.columns.reaches(pos)
+        self.columns.reaches(position)
     }
 
     /// Whether the position stands below an anchor, in its column and its rectangle.
-    pub fn covered_by_row(&self, pos: Position) -> bool
-        ensures { IsTrue result ↔ IsCoveredByRow (span_along self.now) pos }
+    pub fn covered_by_row(&self, position: Position) -> bool
+        ensures { IsTrue result ↔ IsCoveredByRow (span_along self.now) position }
     {
-        self.rows.reaches(pos)
+        self.rows.reaches(position)
     }
 
     /// Whether the position stands below and right of an anchor, in its rectangle.
-    pub fn covered_by_both(&self, pos: Position) -> bool
-        ensures { IsTrue result ↔ IsCoveredByBoth (span_along self.now) pos }
+    pub fn covered_by_both(&self, position: Position) -> bool
+        ensures { IsTrue result ↔ IsCoveredByBoth (span_along self.now) position }
     {
-        reaches_inside(&self.both, pos)
+        reaches_inside(&self.both, position)
     }
 
     /// Whether the position lies in no rectangle of another anchor.
-    pub fn is_visible(&self, pos: Position) -> bool
-        ensures visible { IsTrue result ↔ IsVisible (span_along self.now) pos }
-        ensures test { result ≡ is_visible self.now pos }
+    pub fn is_visible(&self, position: Position) -> bool
+        ensures visible { IsTrue result ↔ IsVisible (span_along self.now) position }
+        ensures test { result ≡ is_visible self.now position }
     {
         let _held = &self.columns;
         if !self.has_columns() && !self.has_rows() {
             return true;
         }
-        if self.covered_by_column(pos) {
+        if self.covered_by_column(position) {
             return false;
         }
-        if self.covered_by_row(pos) {
+        if self.covered_by_row(position) {
             return false;
         }
-        !self.covered_by_both(pos)
+        !self.covered_by_both(position)
     }
 
     /// Whether all of the positions, of which the columns or the rows rise, are visible. Each span is
@@ -272,12 +284,12 @@ fn set_span(
     index: &mut SpanIndex,
     others: &SpanIndex,
     both: &mut BTreeMap<Position, Extent>,
-    pos: Position,
+    position: Position,
     span: usize,
 ) -> Result<(), AllocError>
     requires { HoldsBoth index.old others.now.spans both.old }
     ensures ok { OnOk result ((p : Position) →
-        value_at index.new.spans p ≡ span_set pos span p (value_at index.old.spans p)) }
+        value_at index.new.spans p ≡ span_set position span p (value_at index.old.spans p)) }
     ensures err { OnErr result (index.new ≡ index.old) }
     ensures small { span < 2 → IsOk result }
     ensures direction { index.new.direction ≡ index.old.direction }
@@ -287,11 +299,11 @@ fn set_span(
     match span {
         0 => Ok(()),
         1 => {
-            index.remove(pos);
-            let _ = both.remove(&pos);
+            index.remove(position);
+            let _ = both.remove(&position);
             Ok(())
         }
-        _ => hold_span(index, others, both, pos, span),
+        _ => hold_span(index, others, both, position, span),
     }
 }
 
@@ -300,38 +312,40 @@ fn hold_span(
     index: &mut SpanIndex,
     others: &SpanIndex,
     both: &mut BTreeMap<Position, Extent>,
-    pos: Position,
+    position: Position,
     span: usize,
 ) -> Result<(), AllocError>
     requires { HoldsBoth index.old others.now.spans both.old }
     ensures ok { OnOk result
-        (index.new ≡ record index.old { spans = map.insert index.old.spans pos span }) }
+        (index.new ≡ record index.old { spans = map.insert index.old.spans position span }) }
     ensures err { OnErr result (index.new ≡ index.old) }
     ensures both { HoldsBoth index.new others.now.spans both.new }
 {
-    index.insert(pos, span)?;
-    let Some(other) = others.get(pos) else {
+    index.insert(position, span)?;
+    let Some(other) = others.get(position) else {
         return Ok(());
     };
-    match both.insert(pos, extent_of(index.direction(), span, other)) {
+    match both.insert(position, extent_of(index.direction(), span, other)) {
         Ok(_) => Ok(()),
         Err(_) => {
             // Both were not stored here, and so neither was this one.
-            index.remove(pos);
+            index.remove(position);
             Err(AllocError)
         }
     }
 }
 
 // Whether a rectangle begins above and left of the position and reaches it.
-fn reaches_inside(both: &BTreeMap<Position, Extent>, pos: Position) -> bool
-    ensures value { result ≡ list_any (λ e. nat_lt e.0.col pos.col
-        && (nat_lt (pos.col - e.0.col) e.1.columns && nat_lt (pos.row - e.0.row) e.1.rows))
+fn reaches_inside(both: &BTreeMap<Position, Extent>, position: Position) -> bool
+    ensures value { result ≡ list_any (λ e. nat_lt e.0.col position.col
+        && (nat_lt (position.col - e.0.col) e.1.columns
+        && nat_lt (position.row - e.0.row) e.1.rows))
         (entries_between position_cmp
-        Bound.Unbounded (Bound.Excluded (record { row = pos.row; col = 0 })) both.now.entries) }
+        Bound.Unbounded (Bound.Excluded (record { row = position.row; col = 0 }))
+        both.now.entries) }
     ensures ordered { IsOrdered position_cmp both.now }
 {
-    both.range(..Position::new(pos.row, 0)).any(|(anchor, extent)| anchor.col < pos.col
-        && pos.col - anchor.col < extent.columns
-        && pos.row.saturating_sub(anchor.row) < extent.rows)
+    both.range(..Position::new(position.row, 0)).any(|(anchor, extent)| anchor.col < position.col
+        && position.col - anchor.col < extent.columns
+        && position.row.saturating_sub(anchor.row) < extent.rows)
 }

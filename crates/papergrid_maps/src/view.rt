@@ -29,14 +29,15 @@ pub trait ConfigView {
     ghost grid: { Self → Grid };
 
     /// Whether the cell at a position is visible.
-    fn is_visible(&self, pos: Position) -> bool
-        ensures { result ≡ (grid self.now).shows pos };
+    fn is_visible(&self, position: Position) -> bool
+        ensures { result ≡ (grid self.now).shows position };
 
     /// Whether the cells at all of these positions are visible, of which the numbers along a direction
     /// rise.
     fn are_visible(&self, direction: Direction, places: &[Position]) -> bool
         requires { AllPairs (AreRising direction) places.now }
-        ensures { IsTrue result ↔ All (λ pos. IsTrue ((grid self.now).shows pos)) places.now };
+        ensures { IsTrue result ↔ All (λ position. IsTrue ((grid self.now).shows position))
+            places.now };
 
     /// What hides cells: the anchors of all spans, by row and then by column.
     fn anchors(&self, alloc: Global) -> Result<Vec<Anchor>, AllocError>
@@ -44,8 +45,8 @@ pub trait ConfigView {
         ensures shows { IfOk result (λ anchors. AreAnchorsOf (grid self.now) anchors.items) };
 
     /// How many tracks the cell at a position spans.
-    fn span(&self, direction: Direction, pos: Position) -> usize
-        ensures value { result ≡ (grid self.now).span direction pos }
+    fn span(&self, direction: Direction, position: Position) -> usize
+        ensures value { result ≡ (grid self.now).span direction position }
         ensures positive { 1 ≤ result };
 
     /// Whether it is known of each position before track `count` that its span ends there or
@@ -54,12 +55,12 @@ pub trait ConfigView {
         ensures { IsTrue result → StayWithin direction ((grid self.now).span direction) count };
 
     /// The padding left of the text of the cell at a position (above it).
-    fn padding_before(&self, direction: Direction, pos: Position) -> usize
-        ensures { result ≡ (grid self.now).before direction pos };
+    fn padding_before(&self, direction: Direction, position: Position) -> usize
+        ensures { result ≡ (grid self.now).before direction position };
 
     /// The padding right of the text (below it).
-    fn padding_after(&self, direction: Direction, pos: Position) -> usize
-        ensures { result ≡ (grid self.now).after direction pos };
+    fn padding_after(&self, direction: Direction, position: Position) -> usize
+        ensures { result ≡ (grid self.now).after direction position };
 
     // The paddings that are set for an entity itself.
     ghost set_for: { Self → Entity → Option Paddings };
@@ -119,7 +120,7 @@ pub fn sizes(padding: &Sides<Indent>) -> Paddings
 impl ConfigView for CompactConfig {
     ghost grid = { compact_grid };
 
-    fn is_visible(&self, _pos: Position) -> bool {
+    fn is_visible(&self, _position: Position) -> bool {
         let _config = self;
         true
     }
@@ -134,7 +135,7 @@ impl ConfigView for CompactConfig {
         Ok(Vec::new(alloc))
     }
 
-    fn span(&self, _direction: Direction, _pos: Position) -> usize {
+    fn span(&self, _direction: Direction, _position: Position) -> usize {
         let _config = self;
         1
     }
@@ -144,11 +145,11 @@ impl ConfigView for CompactConfig {
         true
     }
 
-    fn padding_before(&self, direction: Direction, _pos: Position) -> usize {
+    fn padding_before(&self, direction: Direction, _position: Position) -> usize {
         size_before(direction, self.get_padding())
     }
 
-    fn padding_after(&self, direction: Direction, _pos: Position) -> usize {
+    fn padding_after(&self, direction: Direction, _position: Position) -> usize {
         size_after(direction, self.get_padding())
     }
 

@@ -77,27 +77,27 @@ module _ {T : Type 0} where
   history_step old new call step calls told p o =
       step p o ∙ (λ i. override_after_call call (λ q k. told q k i) p o) ∙ ap (λ all. overrides_from all p o) (sym (reverse-append calls (call ∷ [])))
 
-  pub history_set : (es es' : List (Position × StoredOffsets T)) (pos : Position) (offset : Offset) (v : T) → AfterSet pos offset v (λ p. lookup (position_eq p) es) (λ p. lookup (position_eq p) es')
-      → AppendsHistory HasOverrideHistory (from_entries es) (from_entries es') (SetAt pos offset v ∷ [])
-  history_set es es' pos offset v set = history_step _ _ (SetAt pos offset v) (λ p o.
+  pub history_set : (es es' : List (Position × StoredOffsets T)) (position : Position) (offset : Offset) (v : T) → AfterSet position offset v (λ p. lookup (position_eq p) es) (λ p. lookup (position_eq p) es')
+      → AppendsHistory HasOverrideHistory (from_entries es) (from_entries es') (SetAt position offset v ∷ [])
+  history_set es es' position offset v set = history_step _ _ (SetAt position offset v) (λ p o.
       let same = is_same_offset offset o in
-      let step : option_and_then (λ h. at_offset h o) (cond (position_eq pos p) (Some set.offsets) (lookup (position_eq p) es))
-      ≡ cond (position_eq pos p && same) (Some v) (option_and_then (λ h. at_offset h o) (lookup (position_eq p) es)) =
-      elim (position_eq pos p) as (λ b. position_eq pos p ≡ b → option_and_then (λ h. at_offset h o) (cond b (Some set.offsets) (lookup (position_eq p) es))
+      let step : option_and_then (λ h. at_offset h o) (cond (position_eq position p) (Some set.offsets) (lookup (position_eq p) es))
+      ≡ cond (position_eq position p && same) (Some v) (option_and_then (λ h. at_offset h o) (lookup (position_eq p) es)) =
+      elim (position_eq position p) as (λ b. position_eq position p ≡ b → option_and_then (λ h. at_offset h o) (cond b (Some set.offsets) (lookup (position_eq p) es))
       ≡ cond (b && same) (Some v) (option_and_then (λ h. at_offset h o) (lookup (position_eq p) es))) [
-        | true ↦ λ e. set.stored o ∙ ap (λ q. cond same (Some v) (option_and_then (λ h. at_offset h o) (lookup (position_eq q) es))) (exact_position_eq pos p e)
+        | true ↦ λ e. set.stored o ∙ ap (λ q. cond same (Some v) (option_and_then (λ h. at_offset h o) (lookup (position_eq q) es))) (exact_position_eq position p e)
         | false ↦ λ e. refl
       ] refl in
       ap (λ h. option_and_then (λ offsets. at_offset offsets o) h) (get_at_position es' p ∙ set.others p)
       ∙ step
-      ∙ ap (λ h. cond (position_eq pos p && same) (Some v) (option_and_then (λ offsets. at_offset offsets o) h)) (sym (get_at_position es p)))
+      ∙ ap (λ h. cond (position_eq position p && same) (Some v) (option_and_then (λ offsets. at_offset offsets o) h)) (sym (get_at_position es p)))
 
-  pub history_remove : (es es' : List (Position × StoredOffsets T)) (pos : Position) → ((p : Position) → lookup (position_eq p) es' ≡ cond (position_eq pos p) None (lookup (position_eq p) es))
-      → AppendsHistory HasOverrideHistory (from_entries es) (from_entries es') (RemoveAt pos ∷ [])
-  history_remove es es' pos removed = history_step _ _ (RemoveAt pos) (λ p o.
+  pub history_remove : (es es' : List (Position × StoredOffsets T)) (position : Position) → ((p : Position) → lookup (position_eq p) es' ≡ cond (position_eq position p) None (lookup (position_eq p) es))
+      → AppendsHistory HasOverrideHistory (from_entries es) (from_entries es') (RemoveAt position ∷ [])
+  history_remove es es' position removed = history_step _ _ (RemoveAt position) (λ p o.
       ap (λ h. option_and_then (λ offsets. at_offset offsets o) h) (get_at_position es' p ∙ removed p)
-      ∙ elim (position_eq pos p) as (λ b. option_and_then (λ h. at_offset h o) (cond b None (lookup (position_eq p) es)) ≡ cond b None (option_and_then (λ h. at_offset h o) (lookup (position_eq p) es))) [ true ↦ refl | false ↦ refl ]
-      ∙ ap (λ h. cond (position_eq pos p) None (option_and_then (λ offsets. at_offset offsets o) h)) (sym (get_at_position es p)))
+      ∙ elim (position_eq position p) as (λ b. option_and_then (λ h. at_offset h o) (cond b None (lookup (position_eq p) es)) ≡ cond b None (option_and_then (λ h. at_offset h o) (lookup (position_eq p) es))) [ true ↦ refl | false ↦ refl ]
+      ∙ ap (λ h. cond (position_eq position p) None (option_and_then (λ offsets. at_offset offsets o) h)) (sym (get_at_position es p)))
 
   pub history_clear : (es : List (Position × StoredOffsets T)) → AppendsHistory HasOverrideHistory (from_entries es) (from_entries []) (RemoveAll ∷ [])
   history_clear es = history_step _ _ RemoveAll (λ p o. ap (λ h. option_and_then (λ offsets. at_offset offsets o) h) (get_at_position [] p))
@@ -107,19 +107,19 @@ module _ {T : Type 0} where
   pub kept_unchanged : (es es' : List (Position × StoredOffsets T)) → AreSet es → ((p : Position) → lookup (position_eq p) es' ≡ lookup (position_eq p) es) → AreSet es'
   kept_unchanged es es' set same p h is = set p h (sym (same p) ∙ is)
 
-  pub kept_removed : (es es' : List (Position × StoredOffsets T)) (pos : Position) → AreSet es → ((p : Position) → lookup (position_eq p) es' ≡ cond (position_eq pos p) None (lookup (position_eq p) es)) → AreSet es'
-  kept_removed es es' pos set removed p h is =
-      elim (position_eq pos p) as (λ b. cond b None (lookup (position_eq p) es) ≡ Some h → (o : Offset) × IsSome (at_offset h o)) [
+  pub kept_removed : (es es' : List (Position × StoredOffsets T)) (position : Position) → AreSet es → ((p : Position) → lookup (position_eq p) es' ≡ cond (position_eq position p) None (lookup (position_eq p) es)) → AreSet es'
+  kept_removed es es' position set removed p h is =
+      elim (position_eq position p) as (λ b. cond b None (lookup (position_eq p) es) ≡ Some h → (o : Offset) × IsSome (at_offset h o)) [
         | true ↦ λ e. absurd (false≢true (ap is_some e))
         | false ↦ set p h
       ] (sym (removed p) ∙ is)
 
-  pub kept_set : (es es' : List (Position × StoredOffsets T)) (pos : Position) (offset : Offset) (v : T) → AreSet es
-      → AfterSet pos offset v (λ p. lookup (position_eq p) es) (λ p. lookup (position_eq p) es') → AreSet es'
-  kept_set es es' pos offset v set after p h is =
+  pub kept_set : (es es' : List (Position × StoredOffsets T)) (position : Position) (offset : Offset) (v : T) → AreSet es
+      → AfterSet position offset v (λ p. lookup (position_eq p) es) (λ p. lookup (position_eq p) es') → AreSet es'
+  kept_set es es' position offset v set after p h is =
       let here : is_some (at_offset after.offsets offset) ≡ true =
-      ap is_some (after.stored offset) ∙ ap (λ b. is_some (cond b (Some v) (option_and_then (λ h. at_offset h offset) (lookup (position_eq pos) es)))) (same_offset offset) in
-      elim (position_eq pos p) as (λ b. cond b (Some after.offsets) (lookup (position_eq p) es) ≡ Some h → (o : Offset) × IsSome (at_offset h o)) [
+      ap is_some (after.stored offset) ∙ ap (λ b. is_some (cond b (Some v) (option_and_then (λ h. at_offset h offset) (lookup (position_eq position) es)))) (same_offset offset) in
+      elim (position_eq position p) as (λ b. cond b (Some after.offsets) (lookup (position_eq p) es) ≡ Some h → (o : Offset) × IsSome (at_offset h o)) [
         | true ↦ λ e. (offset, subst (λ (g : Option (StoredOffsets T)). is_some (option_and_then (λ k. at_offset k offset) g) ≡ true) e here)
         | false ↦ set p h
       ] (sym (after.others p) ∙ is)
@@ -164,32 +164,32 @@ module _ {T : Type 0} where
 
   -- ---- setting one value
 
-  pub set_in_place : (es es' : List (Position × StoredOffsets T)) (pos : Position) (offset : Offset) (v : T) (h k : StoredOffsets T) → lookup (position_eq pos) es ≡ Some h
+  pub set_in_place : (es es' : List (Position × StoredOffsets T)) (position : Position) (offset : Offset) (v : T) (h k : StoredOffsets T) → lookup (position_eq position) es ≡ Some h
       → ((o : Offset) → at_offset k o ≡ cond (is_same_offset offset o) (Some v) (at_offset h o))
-      → ((p : Position) → lookup (position_eq p) es' ≡ cond (position_eq pos p) (Some k) (lookup (position_eq p) es))
-      → AfterSet pos offset v (λ p. lookup (position_eq p) es) (λ p. lookup (position_eq p) es')
-  set_in_place es es' pos offset v h k is stored others = record {
+      → ((p : Position) → lookup (position_eq p) es' ≡ cond (position_eq position p) (Some k) (lookup (position_eq p) es))
+      → AfterSet position offset v (λ p. lookup (position_eq p) es) (λ p. lookup (position_eq p) es')
+  set_in_place es es' position offset v h k is stored others = record {
     offsets = k;
     stored = λ o. stored o ∙ ap (λ g. cond (is_same_offset offset o) (Some v) (option_and_then (λ h. at_offset h o) g)) (sym is);
     others = others;
   }
 
-  pub set_anew : (es es' : List (Position × StoredOffsets T)) (pos : Position) (offset : Offset) (v : T) (h k : StoredOffsets T) → lookup (position_eq pos) es ≡ None
+  pub set_anew : (es es' : List (Position × StoredOffsets T)) (position : Position) (offset : Offset) (v : T) (h k : StoredOffsets T) → lookup (position_eq position) es ≡ None
       → ((o : Offset) → at_offset h o ≡ None) → ((o : Offset) → at_offset k o ≡ cond (is_same_offset offset o) (Some v) (at_offset h o))
-      → ((p : Position) → lookup (position_eq p) es' ≡ cond (position_eq pos p) (Some k) (lookup (position_eq p) es))
-      → AfterSet pos offset v (λ p. lookup (position_eq p) es) (λ p. lookup (position_eq p) es')
-  set_anew es es' pos offset v h k is fresh stored others = record {
+      → ((p : Position) → lookup (position_eq p) es' ≡ cond (position_eq position p) (Some k) (lookup (position_eq p) es))
+      → AfterSet position offset v (λ p. lookup (position_eq p) es) (λ p. lookup (position_eq p) es')
+  set_anew es es' position offset v h k is fresh stored others = record {
     offsets = k;
     stored = λ o. stored o ∙ ap (cond (is_same_offset offset o) (Some v)) (fresh o ∙ sym (ap (λ g. option_and_then (λ h. at_offset h o) g) is));
     others = others;
   }
 
-  pub put_back : (es es' : List (Position × StoredOffsets T)) (pos : Position) (h k : StoredOffsets T) → lookup (position_eq pos) es ≡ Some h → k ≡ h
-      → ((p : Position) → lookup (position_eq p) es' ≡ cond (position_eq pos p) (Some k) (lookup (position_eq p) es))
+  pub put_back : (es es' : List (Position × StoredOffsets T)) (position : Position) (h k : StoredOffsets T) → lookup (position_eq position) es ≡ Some h → k ≡ h
+      → ((p : Position) → lookup (position_eq p) es' ≡ cond (position_eq position p) (Some k) (lookup (position_eq p) es))
       → (p : Position) → lookup (position_eq p) es' ≡ lookup (position_eq p) es
-  put_back es es' pos h k is same others p =
-      others p ∙ elim (position_eq pos p) as (λ b. position_eq pos p ≡ b → cond b (Some k) (lookup (position_eq p) es) ≡ lookup (position_eq p) es) [
-        | true ↦ λ e. ap Some same ∙ sym is ∙ ap (λ q. lookup (position_eq q) es) (exact_position_eq pos p e)
+  put_back es es' position h k is same others p =
+      others p ∙ elim (position_eq position p) as (λ b. position_eq position p ≡ b → cond b (Some k) (lookup (position_eq p) es) ≡ lookup (position_eq p) es) [
+        | true ↦ λ e. ap Some same ∙ sym is ∙ ap (λ q. lookup (position_eq q) es) (exact_position_eq position p e)
         | false ↦ λ e. refl
       ] refl
 

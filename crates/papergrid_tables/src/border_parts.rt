@@ -103,25 +103,29 @@ pub(crate) fn frame_horizontal<T>(frame: &Borders<T>, row: usize, count: usize) 
 }
 
 /// The frame's part where two lines cross.
-pub(crate) fn of_frame<T>(frame: &Borders<T>, pos: Position, shape: (usize, usize)) -> Option<&T>
-    ensures { option_copied result ≡ places.of_frame frame.now pos shape.0 shape.1 }
+pub(crate) fn of_frame<T>(
+    frame: &Borders<T>,
+    position: Position,
+    shape: (usize, usize),
+) -> Option<&T>
+    ensures { option_copied result ≡ places.of_frame frame.now position shape.0 shape.1 }
 {
     let (rows, cols) = shape;
-    if pos.row == 0 && pos.col == 0 {
+    if position.row == 0 && position.col == 0 {
         frame.top_left.as_ref()
-    } else if pos.row == 0 && pos.col == cols {
+    } else if position.row == 0 && position.col == cols {
         frame.top_right.as_ref()
-    } else if pos.row == rows && pos.col == 0 {
+    } else if position.row == rows && position.col == 0 {
         frame.bottom_left.as_ref()
-    } else if pos.row == rows && pos.col == cols {
+    } else if position.row == rows && position.col == cols {
         frame.bottom_right.as_ref()
-    } else if pos.row == 0 {
+    } else if position.row == 0 {
         frame.top_intersection.as_ref()
-    } else if pos.row == rows {
+    } else if position.row == rows {
         frame.bottom_intersection.as_ref()
-    } else if pos.col == 0 {
+    } else if position.col == 0 {
         frame.left_intersection.as_ref()
-    } else if pos.col == cols {
+    } else if position.col == cols {
         frame.right_intersection.as_ref()
     } else {
         frame.intersection.as_ref()
@@ -191,14 +195,18 @@ fn is_found_at<L>(
 
 /// The positions below a position, to the right of it, and below that one. Condition: the next row
 /// and column exist in `usize`.
-pub(crate) fn neighbours(pos: Position) -> (Position, Position, Position)
-    requires row { pos.row + 1 < 2 ^ 64 }
-    requires col { pos.col + 1 < 2 ^ 64 }
-    ensures { result ≡ (below pos, right_of pos, below (right_of pos)) }
+pub(crate) fn neighbours(position: Position) -> (Position, Position, Position)
+    requires row { position.row + 1 < 2 ^ 64 }
+    requires col { position.col + 1 < 2 ^ 64 }
+    ensures { result ≡ (below position, right_of position, below (right_of position)) }
 {
-    let below = Position::new(pos.row + 1, pos.col);
-    let right_of = Position::new(pos.row, pos.col + 1);
-    (below, right_of, Position::new(pos.row + 1, pos.col + 1))
+    let below = Position::new(position.row + 1, position.col);
+    let right_of = Position::new(position.row, position.col + 1);
+    (
+        below,
+        right_of,
+        Position::new(position.row + 1, position.col + 1),
+    )
 }
 
 /// Makes room for the parts of a border.
@@ -229,35 +237,35 @@ pub(crate) fn put_border<T: Drop>(
     horizontal: &mut Edges<T>,
     vertical: &mut Edges<T>,
     corners: &mut Corners<T>,
-    pos: Position,
+    position: Position,
     border: Border<T>,
 )
-    requires row { pos.row + 1 < 2 ^ 64 }
-    requires col { pos.col + 1 < 2 ^ 64 }
+    requires row { position.row + 1 < 2 ^ 64 }
+    requires col { position.col + 1 < 2 ^ 64 }
     requires room_horizontal { HasEdgeRoom 2 horizontal.old }
     requires room_vertical { HasEdgeRoom 2 vertical.old }
     requires room_corners { HasCornerRoom 4 corners.old }
     requires counted_horizontal { AreEdgesCounted Rows horizontal.old }
     requires counted_vertical { AreEdgesCounted Columns vertical.old }
     requires counted_corners { AreCornersCounted corners.old }
-    ensures horizontal { Gains (edge_part Rows pos border)
+    ensures horizontal { Gains (edge_part Rows position border)
         horizontal.old.values horizontal.new.values }
-    ensures vertical { Gains (edge_part Columns pos border)
+    ensures vertical { Gains (edge_part Columns position border)
         vertical.old.values vertical.new.values }
-    ensures corners { Gains (corner_part pos border) corners.old.values corners.new.values }
+    ensures corners { Gains (corner_part position border) corners.old.values corners.new.values }
     ensures counted_horizontal { AreEdgesCounted Rows horizontal.new }
     ensures counted_vertical { AreEdgesCounted Columns vertical.new }
     ensures counted_corners { AreCornersCounted corners.new }
 {
-    let (below, right_of, opposite) = neighbours(pos);
+    let (below, right_of, opposite) = neighbours(position);
     horizontal.put(Direction::Rows, below, border.bottom);
-    horizontal.put(Direction::Rows, pos, border.top);
+    horizontal.put(Direction::Rows, position, border.top);
     vertical.put(Direction::Columns, right_of, border.right);
-    vertical.put(Direction::Columns, pos, border.left);
+    vertical.put(Direction::Columns, position, border.left);
     corners.put(opposite, border.right_bottom_corner);
     corners.put(below, border.left_bottom_corner);
     corners.put(right_of, border.right_top_corner);
-    corners.put(pos, border.left_top_corner);
+    corners.put(position, border.left_top_corner);
 }
 
 /// Drops the edges and corners of a cell.
@@ -265,26 +273,27 @@ pub(crate) fn take_border<T: Drop>(
     horizontal: &mut Edges<T>,
     vertical: &mut Edges<T>,
     corners: &mut Corners<T>,
-    pos: Position,
+    position: Position,
 )
-    requires row { pos.row + 1 < 2 ^ 64 }
-    requires col { pos.col + 1 < 2 ^ 64 }
+    requires row { position.row + 1 < 2 ^ 64 }
+    requires col { position.col + 1 < 2 ^ 64 }
     requires counted_horizontal { AreEdgesCounted Rows horizontal.old }
     requires counted_vertical { AreEdgesCounted Columns vertical.old }
     requires counted_corners { AreCornersCounted corners.old }
-    ensures horizontal { Loses (is_edge_of Rows pos) horizontal.old.values horizontal.new.values }
-    ensures vertical { Loses (is_edge_of Columns pos) vertical.old.values vertical.new.values }
-    ensures corners { Loses (is_corner_of pos) corners.old.values corners.new.values }
+    ensures horizontal { Loses (is_edge_of Rows position)
+        horizontal.old.values horizontal.new.values }
+    ensures vertical { Loses (is_edge_of Columns position) vertical.old.values vertical.new.values }
+    ensures corners { Loses (is_corner_of position) corners.old.values corners.new.values }
     ensures counted_horizontal { AreEdgesCounted Rows horizontal.new }
     ensures counted_vertical { AreEdgesCounted Columns vertical.new }
     ensures counted_corners { AreCornersCounted corners.new }
 {
-    let (below, right_of, opposite) = neighbours(pos);
-    horizontal.take(Direction::Rows, pos);
+    let (below, right_of, opposite) = neighbours(position);
+    horizontal.take(Direction::Rows, position);
     horizontal.take(Direction::Rows, below);
-    vertical.take(Direction::Columns, pos);
+    vertical.take(Direction::Columns, position);
     vertical.take(Direction::Columns, right_of);
-    corners.take(pos);
+    corners.take(position);
     corners.take(right_of);
     corners.take(below);
     corners.take(opposite);

@@ -107,21 +107,22 @@ impl<T> BorderTable<T> {
 
     /// The vertical line at a row and a column, where there are so many columns: the edge, the
     /// line's main part, the frame's part or the value for all lines, whichever is the first set.
-    pub fn get_vertical(&self, pos: Position, count: usize) -> Option<&T>
-        ensures { option_copied result ≡ found_vertical (parts_of_borders self.now) pos count }
+    pub fn get_vertical(&self, position: Position, count: usize) -> Option<&T>
+        ensures { option_copied result ≡ found_vertical (parts_of_borders self.now) position count }
     {
-        let line = parts::vertical_main(&self.vertical_lines.values, pos.col);
-        let frame = parts::frame_vertical(&self.frame, pos.col, count);
-        self.first_set(&self.vertical_edges, pos, line, frame)
+        let line = parts::vertical_main(&self.vertical_lines.values, position.col);
+        let frame = parts::frame_vertical(&self.frame, position.col, count);
+        self.first_set(&self.vertical_edges, position, line, frame)
     }
 
     /// The horizontal line at a row and a column, where there are so many rows, likewise.
-    pub fn get_horizontal(&self, pos: Position, count: usize) -> Option<&T>
-        ensures { option_copied result ≡ found_horizontal (parts_of_borders self.now) pos count }
+    pub fn get_horizontal(&self, position: Position, count: usize) -> Option<&T>
+        ensures { option_copied result
+            ≡ found_horizontal (parts_of_borders self.now) position count }
     {
-        let line = parts::horizontal_main(&self.horizontal_lines.values, pos.row);
-        let frame = parts::frame_horizontal(&self.frame, pos.row, count);
-        self.first_set(&self.horizontal_edges, pos, line, frame)
+        let line = parts::horizontal_main(&self.horizontal_lines.values, position.row);
+        let frame = parts::frame_horizontal(&self.frame, position.row, count);
+        self.first_set(&self.horizontal_edges, position, line, frame)
     }
 
     // The first that is set: the edge at a position, the main part of its line, the frame's part for
@@ -129,50 +130,58 @@ impl<T> BorderTable<T> {
     fn first_set<'a>(
         &'a self,
         edges: &'a Edges<T>,
-        pos: Position,
+        position: Position,
         line: Option<&'a T>,
         frame: Option<&'a T>,
     ) -> Option<&'a T>
-        ensures { option_copied result ≡ option_or (map_get position_eq edges.now.values pos)
+        ensures { option_copied result ≡ option_or (map_get position_eq edges.now.values position)
             (option_or (option_copied line.entry)
             (option_or (option_copied frame.entry) self.now.global)) }
     {
-        let edge = edges.values.get(&pos);
+        let edge = edges.values.get(&position);
         edge.or(line).or(frame).or(self.global.as_ref())
     }
 
     /// What stands where two lines cross, in a table of so many rows and columns: the corner, the
     /// horizontal line's part, the vertical line's, the frame's or the value for all lines,
     /// whichever is the first set.
-    pub fn get_intersection(&self, pos: Position, shape: (usize, usize)) -> Option<&T>
+    pub fn get_intersection(&self, position: Position, shape: (usize, usize)) -> Option<&T>
         ensures { option_copied result
-            ≡ found_intersection (parts_of_borders self.now) pos shape.0 shape.1 }
+            ≡ found_intersection (parts_of_borders self.now) position shape.0 shape.1 }
     {
         self.corners
             .values
-            .get(&pos)
-            .or(parts::row_part(self.horizontal_lines.values.get(&pos.row), pos.col, shape.1))
-            .or(parts::column_part(self.vertical_lines.values.get(&pos.col), pos.row, shape.0))
-            .or(parts::of_frame(&self.frame, pos, shape))
+            .get(&position)
+            .or(parts::row_part(
+                self.horizontal_lines.values.get(&position.row),
+                position.col,
+                shape.1,
+            ))
+            .or(parts::column_part(
+                self.vertical_lines.values.get(&position.col),
+                position.row,
+                shape.0,
+            ))
+            .or(parts::of_frame(&self.frame, position, shape))
             .or(self.global.as_ref())
     }
 
     /// What is found round a cell, in a table of so many rows and columns. Condition: the next row
     /// and column exist in `usize`.
-    pub fn get_border(&self, pos: Position, shape: (usize, usize)) -> Border<&T>
-        requires row { pos.row + 1 < 2 ^ 64 }
-        requires col { pos.col + 1 < 2 ^ 64 }
+    pub fn get_border(&self, position: Position, shape: (usize, usize)) -> Border<&T>
+        requires row { position.row + 1 < 2 ^ 64 }
+        requires col { position.col + 1 < 2 ^ 64 }
         ensures { border_map (λ part. part.now) result
-            ≡ found_border (parts_of_borders self.now) pos shape.0 shape.1 }
+            ≡ found_border (parts_of_borders self.now) position shape.0 shape.1 }
     {
         let (rows, cols) = shape;
-        let (below, right, opposite) = parts::neighbours(pos);
+        let (below, right, opposite) = parts::neighbours(position);
         Border {
-            top: self.get_horizontal(pos, rows),
+            top: self.get_horizontal(position, rows),
             bottom: self.get_horizontal(below, rows),
-            left: self.get_vertical(pos, cols),
+            left: self.get_vertical(position, cols),
             right: self.get_vertical(right, cols),
-            left_top_corner: self.get_intersection(pos, shape),
+            left_top_corner: self.get_intersection(position, shape),
             left_bottom_corner: self.get_intersection(below, shape),
             right_top_corner: self.get_intersection(right, shape),
             right_bottom_corner: self.get_intersection(opposite, shape),
@@ -252,11 +261,11 @@ impl<T: Drop> BorderTable<T> {
     /// Writes the parts of a cell's border that are set, and leaves the others. Where an
     /// allocation fails the table is as it was. Condition: the next row and column exist in
     /// `usize`.
-    pub fn insert_border(&mut self, pos: Position, border: Border<T>) -> Result<(), AllocError>
-        requires row { pos.row + 1 < 2 ^ 64 }
-        requires col { pos.col + 1 < 2 ^ 64 }
+    pub fn insert_border(&mut self, position: Position, border: Border<T>) -> Result<(), AllocError>
+        requires row { position.row + 1 < 2 ^ 64 }
+        requires col { position.col + 1 < 2 ^ 64 }
         ensures ok { OnOk result (AppendsHistory HasBorderHistory self.old self.new
-            (InsertBorder pos border ∷ [])) }
+            (InsertBorder position border ∷ [])) }
         ensures err { OnErr result (self.new ≡ self.old) }
     {
         parts::reserve(
@@ -268,7 +277,7 @@ impl<T: Drop> BorderTable<T> {
             &mut self.horizontal_edges,
             &mut self.vertical_edges,
             &mut self.corners,
-            pos,
+            position,
             border,
         );
         Ok(())
@@ -276,16 +285,16 @@ impl<T: Drop> BorderTable<T> {
 
     /// Removes the four edges and four corners of a cell, whatever the shape. Condition: the next
     /// row and column exist in `usize`.
-    pub fn remove_border(&mut self, pos: Position, _shape: (usize, usize))
-        requires row { pos.row + 1 < 2 ^ 64 }
-        requires col { pos.col + 1 < 2 ^ 64 }
-        ensures { AppendsHistory HasBorderHistory self.old self.new (RemoveBorder pos ∷ []) }
+    pub fn remove_border(&mut self, position: Position, _shape: (usize, usize))
+        requires row { position.row + 1 < 2 ^ 64 }
+        requires col { position.col + 1 < 2 ^ 64 }
+        ensures { AppendsHistory HasBorderHistory self.old self.new (RemoveBorder position ∷ []) }
     {
         parts::take_border(
             &mut self.horizontal_edges,
             &mut self.vertical_edges,
             &mut self.corners,
-            pos,
+            position,
         );
     }
 

@@ -105,20 +105,20 @@ impl<T> OffsetTable<T> {
     /// The value of a position at an offset from the start, where the end stands so far from it:
     /// the one stored at this offset from the start, else the one stored at the same place
     /// counted from the end, 0 being the last place before it.
-    pub fn lookup(&self, pos: Position, offset: usize, end: usize) -> Option<&T>
-        ensures { option_copied result ≡ found_override (override_at self.now pos) offset end }
+    pub fn lookup(&self, position: Position, offset: usize, end: usize) -> Option<&T>
+        ensures { option_copied result ≡ found_override (override_at self.now position) offset end }
     {
-        match self.overrides.get(&pos) {
+        match self.overrides.get(&position) {
             Some(overrides) => overrides.lookup(offset, end),
             None => None,
         }
     }
 
     /// Whether a value is stored for a position.
-    pub fn is_overridden(&self, pos: Position) -> bool
-        ensures { IsTrue result ↔ IsOverridden self.now pos }
+    pub fn is_overridden(&self, position: Position) -> bool
+        ensures { IsTrue result ↔ IsOverridden self.now position }
     {
-        self.overrides.contains_key(&pos)
+        self.overrides.contains_key(&position)
     }
 
     /// Whether no value is stored.
@@ -131,19 +131,19 @@ impl<T> OffsetTable<T> {
 
 impl<T: Drop> OffsetTable<T> {
     /// Sets the value of a position at an offset. Where an allocation fails the table is as it was.
-    pub fn set(&mut self, pos: Position, offset: Offset, value: T) -> Result<(), AllocError>
+    pub fn set(&mut self, position: Position, offset: Offset, value: T) -> Result<(), AllocError>
         ensures ok { OnOk result (AppendsHistory HasOverrideHistory self.old self.new
-            (SetAt pos offset value ∷ [])) }
+            (SetAt position offset value ∷ [])) }
         ensures err { OnErr result (self.new ≡ self.old) }
     {
-        set_override(self.alloc, &mut self.overrides, pos, offset, value)
+        set_override(self.alloc, &mut self.overrides, position, offset, value)
     }
 
     /// Removes all values of a position.
-    pub fn remove(&mut self, pos: Position)
-        ensures { AppendsHistory HasOverrideHistory self.old self.new (RemoveAt pos ∷ []) }
+    pub fn remove(&mut self, position: Position)
+        ensures { AppendsHistory HasOverrideHistory self.old self.new (RemoveAt position ∷ []) }
     {
-        remove(&mut self.overrides, pos);
+        remove(&mut self.overrides, position);
     }
 
     /// Removes all values.
@@ -210,20 +210,20 @@ impl<T: PartialEq> PartialEq for OffsetTable<T> {
 fn set_override<T: Drop>(
     alloc: Global,
     overrides: &mut HashMap<Position, Overrides<T>>,
-    pos: Position,
+    position: Position,
     offset: Offset,
     value: T,
 ) -> Result<(), AllocError>
-    ensures ok { OnOk result (AfterSet pos offset value
+    ensures ok { OnOk result (AfterSet position offset value
         (map_get position_eq overrides.old) (map_get position_eq overrides.new)) }
     ensures err { OnErr result (HoldsAsBefore overrides.old overrides.new) }
 {
-    if let Some(stored) = overrides.get_mut(&pos) {
+    if let Some(stored) = overrides.get_mut(&position) {
         return stored.set(offset, value);
     }
     let mut stored = Overrides::new(alloc);
     stored.set(offset, value)?;
-    write(overrides, pos, stored)
+    write(overrides, position, stored)
 }
 
 // The value at an offset from the start of an end, counted from that end.

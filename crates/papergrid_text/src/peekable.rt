@@ -34,53 +34,54 @@ pub trait PeekableRecords {
     ghost is_plain_at: { Self → Position → Type 0 } = { λ _ _. ⊥ };
 
     /// The text of the cell. The records have to have a cell at the position.
-    fn get_text(&self, pos: Position) -> &str
-        requires { has self.now pos }
-        ensures { result.now ≡ text self.now pos };
+    fn get_text(&self, position: Position) -> &str
+        requires { has self.now position }
+        ensures { result.now ≡ text self.now position };
 
     /// The line of the cell at a place, counted from 0. The records have to have a cell at the position,
     /// and the line has to be one that may be read.
-    fn get_line(&self, pos: Position, line: usize) -> &str
-        requires at { has self.now pos }
-        requires there { has_line self.now pos line }
+    fn get_line(&self, position: Position, line: usize) -> &str
+        requires at { has self.now position }
+        requires there { has_line self.now position line }
         ensures plain { is_plain self.now →
-            result.now ≡ slice_index_or (std_lines (text self.now pos)) line [] }
-        ensures plain_at { is_plain_at self.now pos →
-            result.now ≡ slice_index_or (std_lines (text self.now pos)) line [] }
+            result.now ≡ slice_index_or (std_lines (text self.now position)) line [] }
+        ensures plain_at { is_plain_at self.now position →
+            result.now ≡ slice_index_or (std_lines (text self.now position)) line [] }
     {
-        std_line(self.get_text(pos), line)
+        std_line(self.get_text(position), line)
     }
 
     /// The number of lines of the cell. The records have to have a cell at the position.
-    fn count_lines(&self, pos: Position) -> usize
-        requires { has self.now pos }
-        ensures plain { is_plain self.now → result ≡ length (std_lines (text self.now pos)) }
-        ensures plain_at { is_plain_at self.now pos →
-            result ≡ length (std_lines (text self.now pos)) }
+    fn count_lines(&self, position: Position) -> usize
+        requires { has self.now position }
+        ensures plain { is_plain self.now → result ≡ length (std_lines (text self.now position)) }
+        ensures plain_at { is_plain_at self.now position →
+            result ≡ length (std_lines (text self.now position)) }
     {
-        count_std_lines(self.get_text(pos))
+        count_std_lines(self.get_text(position))
     }
 
     /// The width of the cell. The records have to have a cell at the position.
-    fn get_width(&self, pos: Position) -> usize
-        requires { has self.now pos }
-        ensures plain { is_plain self.now → result ≡ text_width (text self.now pos) }
-        ensures plain_at { is_plain_at self.now pos → result ≡ text_width (text self.now pos) }
+    fn get_width(&self, position: Position) -> usize
+        requires { has self.now position }
+        ensures plain { is_plain self.now → result ≡ text_width (text self.now position) }
+        ensures plain_at { is_plain_at self.now position →
+            result ≡ text_width (text self.now position) }
     {
-        get_text_width(self.get_text(pos))
+        get_text_width(self.get_text(position))
     }
 
     /// The width of the line of the cell at a place, counted from 0. The records have to have a cell at
     /// the position, and the line has to be one that may be read.
-    fn get_line_width(&self, pos: Position, line: usize) -> usize
-        requires at { has self.now pos }
-        requires there { has_line self.now pos line }
+    fn get_line_width(&self, position: Position, line: usize) -> usize
+        requires at { has self.now position }
+        requires there { has_line self.now position line }
         ensures plain { is_plain self.now →
-            result ≡ width_of (slice_index_or (std_lines (text self.now pos)) line []) }
-        ensures plain_at { is_plain_at self.now pos →
-            result ≡ width_of (slice_index_or (std_lines (text self.now pos)) line []) }
+            result ≡ width_of (slice_index_or (std_lines (text self.now position)) line []) }
+        ensures plain_at { is_plain_at self.now position →
+            result ≡ width_of (slice_index_or (std_lines (text self.now position)) line []) }
     {
-        get_line_width(self.get_line(pos, line))
+        get_line_width(self.get_line(position, line))
     }
 }
 
@@ -95,23 +96,23 @@ impl<R: PeekableRecords> PeekableRecords for &R {
 
     ghost is_plain_at = { λ s p. R.is_plain_at s.now p };
 
-    fn get_text(&self, pos: Position) -> &str {
-        R::get_text(*self, pos)
+    fn get_text(&self, position: Position) -> &str {
+        R::get_text(*self, position)
     }
 
-    fn get_line(&self, pos: Position, line: usize) -> &str {
-        R::get_line(*self, pos, line)
+    fn get_line(&self, position: Position, line: usize) -> &str {
+        R::get_line(*self, position, line)
     }
 
-    fn count_lines(&self, pos: Position) -> usize {
-        R::count_lines(*self, pos)
+    fn count_lines(&self, position: Position) -> usize {
+        R::count_lines(*self, position)
     }
 
-    fn get_width(&self, pos: Position) -> usize {
-        R::get_width(*self, pos)
+    fn get_width(&self, position: Position) -> usize {
+        R::get_width(*self, position)
     }
 
-    fn get_line_width(&self, pos: Position, line: usize) -> usize {
-        R::get_line_width(*self, pos, line)
+    fn get_line_width(&self, position: Position, line: usize) -> usize {
+        R::get_line_width(*self, position, line)
     }
 }

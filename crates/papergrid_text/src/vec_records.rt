@@ -126,43 +126,43 @@ impl<T: Cell> PeekableRecords for VecRecords<T> {
     ghost is_plain_at = { λ s p.
         HoldsOfCell (IsPlainCell T.text T.lines T.width) (rows_held s).items p };
 
-    fn get_text(&self, pos: Position) -> &str {
-        self.rows[pos.row][pos.col].text()
+    fn get_text(&self, position: Position) -> &str {
+        self.rows[position.row][position.col].text()
     }
 
-    fn get_line(&self, pos: Position, line: usize) -> &str
-        requires at { HasCell (rows_held self.now).items pos }
+    fn get_line(&self, position: Position, line: usize) -> &str
+        requires at { HasCell (rows_held self.now).items position }
         requires there { HoldsOfCell (λ cell. line < length (T.lines cell))
-            (rows_held self.now).items pos }
+            (rows_held self.now).items position }
         ensures { HoldsOfCell (λ cell. result.now ≡ (slice_index_or (T.lines cell) line ([], 0)).0)
-            (rows_held self.now).items pos }
+            (rows_held self.now).items position }
     {
-        self.rows[pos.row][pos.col].line(line)
+        self.rows[position.row][position.col].line(line)
     }
 
-    fn count_lines(&self, pos: Position) -> usize
-        requires { HasCell (rows_held self.now).items pos }
+    fn count_lines(&self, position: Position) -> usize
+        requires { HasCell (rows_held self.now).items position }
         ensures { HoldsOfCell (λ cell. result ≡ length (T.lines cell))
-            (rows_held self.now).items pos }
+            (rows_held self.now).items position }
     {
-        self.rows[pos.row][pos.col].count_lines()
+        self.rows[position.row][position.col].count_lines()
     }
 
-    fn get_width(&self, pos: Position) -> usize
-        requires { HasCell (rows_held self.now).items pos }
-        ensures { HoldsOfCell (λ cell. result ≡ T.width cell) (rows_held self.now).items pos }
+    fn get_width(&self, position: Position) -> usize
+        requires { HasCell (rows_held self.now).items position }
+        ensures { HoldsOfCell (λ cell. result ≡ T.width cell) (rows_held self.now).items position }
     {
-        self.rows[pos.row][pos.col].width()
+        self.rows[position.row][position.col].width()
     }
 
-    fn get_line_width(&self, pos: Position, line: usize) -> usize
-        requires at { HasCell (rows_held self.now).items pos }
+    fn get_line_width(&self, position: Position, line: usize) -> usize
+        requires at { HasCell (rows_held self.now).items position }
         requires there { HoldsOfCell (λ cell. line < length (T.lines cell))
-            (rows_held self.now).items pos }
+            (rows_held self.now).items position }
         ensures { HoldsOfCell (λ cell. result ≡ (slice_index_or (T.lines cell) line ([], 0)).1)
-            (rows_held self.now).items pos }
+            (rows_held self.now).items position }
     {
-        self.rows[pos.row][pos.col].line_width(line)
+        self.rows[position.row][position.col].line_width(line)
     }
 }
 

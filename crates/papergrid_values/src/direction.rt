@@ -15,12 +15,12 @@ pub enum Direction {
 
 impl Direction {
     /// The number of a position along the direction: that of its column, or of its row.
-    pub fn number_of(self, pos: Position) -> usize
-        ensures { result ≡ along self pos }
+    pub fn number_of(self, position: Position) -> usize
+        ensures { result ≡ along self position }
     {
         match self {
-            Direction::Columns => pos.col,
-            Direction::Rows => pos.row,
+            Direction::Columns => position.col,
+            Direction::Rows => position.row,
         }
     }
 }

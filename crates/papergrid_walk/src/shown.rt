@@ -27,28 +27,30 @@ pub fn sweep_of<S: ConfigView>(alloc: Global, settings: &S) -> Result<Sweep, All
 pub fn visible_anchor(
     walk: &mut Sweep,
     alloc: Global,
-    pos: Position,
+    position: Position,
 ) -> Result<Option<Anchor>, AllocError>
-    requires asked { (grid : Grid) × Shows grid walk.old pos.row pos.col }
-    requires row_in { pos.row < 2 ^ 64 - 1 }
-    requires col_in { pos.col < 2 ^ 64 - 1 }
-    ensures visible { IfOk result (λ found. (grid : Grid) → Shows grid walk.old pos.row pos.col →
-        found ≡ (if grid.shows pos then Some (anchor_in grid pos) else None)) }
-    ensures later { IfOk result (λ _. (grid : Grid) → Shows grid walk.old pos.row pos.col →
-        Shows grid walk.new pos.row (pos.col + 1)) }
+    requires asked { (grid : Grid) × Shows grid walk.old position.row position.col }
+    requires row_in { position.row < 2 ^ 64 - 1 }
+    requires col_in { position.col < 2 ^ 64 - 1 }
+    ensures visible { IfOk result (λ found. (grid : Grid) →
+        Shows grid walk.old position.row position.col →
+        found ≡ (if grid.shows position then Some (anchor_in grid position) else None)) }
+    ensures later { IfOk result (λ _. (grid : Grid) →
+        Shows grid walk.old position.row position.col →
+        Shows grid walk.new position.row (position.col + 1)) }
 {
     if walk.anchors().is_empty() {
         return Ok(Some(Anchor {
-            position: pos,
+            position,
             rows: 1,
             cols: 1,
         }));
     }
-    make_room(walk, alloc, pos.col)?;
-    if walk.is_hidden(pos) {
+    make_room(walk, alloc, position.col)?;
+    if walk.is_hidden(position) {
         return Ok(None);
     }
-    Ok(Some(walk.anchor_at(pos)))
+    Ok(Some(walk.anchor_at(position)))
 }
 
 /// Makes room for a column. The room doubles at least, so that rows which grow longer and longer are

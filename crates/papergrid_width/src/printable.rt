@@ -116,8 +116,10 @@ fn count_in_load<const N: usize>(bytes: &[u8], from: usize) -> usize
 pub(crate) fn without_printable_end(text: &str) -> &str
     ensures front { result.now ≡ take (length result.now) text.now }
     ensures len { length result.now ≤ length text.now }
-    ensures printable { list_all (is_in_range 0x20 0x7E) (drop (length result.now) text.now) ≡ true }
-    ensures whole { 0 < length result.now → is_in_range 0x20 0x7E (get_or text.now (length result.now - 1) 0) ≡ false }
+    ensures printable { list_all (is_in_range 0x20 0x7E) (drop (length result.now) text.now)
+        ≡ true }
+    ensures whole { 0 < length result.now →
+        is_in_range 0x20 0x7E (get_or text.now (length result.now - 1) 0) ≡ false }
 {
     let bytes = text.as_bytes();
     let mut end = bytes.len();

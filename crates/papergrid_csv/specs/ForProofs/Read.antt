@@ -32,9 +32,9 @@ has_other_length (first ∷ records) fields = not (length first == length fields
 
 -- what an error after so many records means
 abbrev pub unread_of : ErrorKind → ℕ → RowsError
-unread_of (kinds.Utf8 pos err) before = NotText before
+unread_of (kinds.Utf8 position err) before = NotText before
 unread_of (kinds.Io e) before = Memory
-unread_of (kinds.UnequalLengths pos expected len) before = Memory
+unread_of (kinds.UnequalLengths position expected len) before = Memory
 unread_of kinds.OutOfMemory before = Memory
 unread_of (kinds.Serialize text) before = Memory
-unread_of (kinds.Deserialize pos err) before = Memory
+unread_of (kinds.Deserialize position err) before = Memory

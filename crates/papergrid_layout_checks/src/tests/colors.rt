@@ -17,10 +17,10 @@ fn at(row: usize, col: usize) -> Position {
 
 // Whether it is empty, and its colour at a position. A caller learns from the bound alone that
 // there is none where it is empty.
-fn seen<C: Colors>(colors: &C, pos: Position) -> (bool, Option<&C::Color>)
+fn seen<C: Colors>(colors: &C, position: Position) -> (bool, Option<&C::Color>)
     ensures { OnTrue result.0 (option_copied result.1 ≡ None) }
 {
-    (colors.is_empty(), colors.get_color(pos))
+    (colors.is_empty(), colors.get_color(position))
 }
 
 // What a colour writes before a text and after it.
@@ -62,9 +62,9 @@ impl Colors for Everywhere {
 
     ghost is_blank = { λ _. ⊥ };
 
-    ghost blank_has_none = { λ colors pos blank. absurd blank };
+    ghost blank_has_none = { λ colors position blank. absurd blank };
 
-    fn get_color(&self, _pos: Position) -> Option<&ANSIStr<'static>> {
+    fn get_color(&self, _position: Position) -> Option<&ANSIStr<'static>> {
         Some(&self.color)
     }
 

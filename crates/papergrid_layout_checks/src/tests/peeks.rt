@@ -14,18 +14,18 @@ use std::alloc::{AllocError, Global};
 /// The text of a cell, how many lines it has, its width, and a line with its width.
 pub fn peek<R: PeekableRecords>(
     records: &R,
-    pos: Position,
+    position: Position,
     line: usize,
 ) -> (&str, usize, usize, &str, usize)
-    requires at { R.has records.now pos }
-    requires there { R.has_line records.now pos line }
+    requires at { R.has records.now position }
+    requires there { R.has_line records.now position line }
 {
     (
-        records.get_text(pos),
-        records.count_lines(pos),
-        records.get_width(pos),
-        records.get_line(pos, line),
-        records.get_line_width(pos, line),
+        records.get_text(position),
+        records.count_lines(position),
+        records.get_width(position),
+        records.get_line(position, line),
+        records.get_line_width(position, line),
     )
 }
 
@@ -40,19 +40,19 @@ impl PeekableRecords for OneText {
 
     ghost text = { λ _ _. 97 ∷ 10 ∷ 98 ∷ [] };
 
-    fn get_text(&self, _pos: Position) -> &str {
+    fn get_text(&self, _position: Position) -> &str {
         "a\nb"
     }
 }
 
 #[test]
 fn provided_peeks(rt: HostRuntime) {
-    let pos = Position::new(0, 0);
+    let position = Position::new(0, 0);
     let one = OneText;
     assert!(rt;
-        peek(&one, pos, 1) == ("a\nb", 2, 1, "b", 1)
-            && peek(&&one, pos, 1) == ("a\nb", 2, 1, "b", 1)
-            && one.get_line(pos, 2) == ""
+        peek(&one, position, 1) == ("a\nb", 2, 1, "b", 1)
+            && peek(&&one, position, 1) == ("a\nb", 2, 1, "b", 1)
+            && one.get_line(position, 2) == ""
     );
 }
 
@@ -87,20 +87,20 @@ fn exact_cells(rt: HostRuntime) {
 }
 
 // The number of lines and the width of a cell whose lines and width are those of its text.
-fn measures<R: PeekableRecords>(records: &R, pos: Position) -> (usize, usize)
-    requires there { R.has records.now pos }
-    requires plain { R.is_plain_at records.now pos }
-    ensures { let text = R.text records.now pos in
+fn measures<R: PeekableRecords>(records: &R, position: Position) -> (usize, usize)
+    requires there { R.has records.now position }
+    requires plain { R.is_plain_at records.now position }
+    ensures { let text = R.text records.now position in
         result ≡ (length (std_lines text), text_width text) }
 {
-    (records.count_lines(pos), records.get_width(pos))
+    (records.count_lines(position), records.get_width(position))
 }
 
 /// The same by a caller that learns them exactly, through a reference too.
-pub fn of_strings(records: &VecRecords<String>, pos: Position) -> (usize, usize)
-    requires { HasCell (rows_held records.now).items pos }
-    ensures { let text = cell_text string_bytes (rows_held records.now).items pos in
+pub fn of_strings(records: &VecRecords<String>, position: Position) -> (usize, usize)
+    requires { HasCell (rows_held records.now).items position }
+    ensures { let text = cell_text string_bytes (rows_held records.now).items position in
         result ≡ (length (std_lines text), text_width text) }
 {
-    measures(&records, pos)
+    measures(&records, position)
 }

@@ -21,10 +21,10 @@ AreSet {T} es =
     (p : Position) (offsets : StoredOffsets T) → lookup (position_eq p) es ≡ Some offsets → (o : Offset) × IsSome (at_offset offsets o)
 
 -- the position has this value at the offset and what it had at others, and other positions have what they had
-pub record AfterSet {T : Type 0} (pos : Position) (offset : Offset) (value : T) (old new : Position → Option (StoredOffsets T)) : Type 0 where
+pub record AfterSet {T : Type 0} (position : Position) (offset : Offset) (value : T) (old new : Position → Option (StoredOffsets T)) : Type 0 where
   pub offsets : StoredOffsets T
-  pub stored : (o : Offset) → at_offset offsets o ≡ (if is_same_offset offset o then Some value else option_and_then (λ h. at_offset h o) (old pos))
-  pub others : (p : Position) → new p ≡ (if position_eq pos p then Some offsets else old p)
+  pub stored : (o : Offset) → at_offset offsets o ≡ (if is_same_offset offset o then Some value else option_and_then (λ h. at_offset h o) (old position))
+  pub others : (p : Position) → new p ≡ (if position_eq position p then Some offsets else old p)
 
 -- a copy has values at the same offsets, and equals its original where C ties a value to itself alone
 pub record IsCopy {T : Type 0} (C : T → T → Type 0) (old copy : StoredOffsets T) : Type 0 where

@@ -9,4 +9,4 @@ count_listed-requires g c = λ t. rising-from_order c.args.candidate.now.directi
 pub returns-then-count_listed-gt0 : goal.returns-then-count_listed-gt0
 returns-then-count_listed-gt0 g c =
     let candidate = c.args.candidate.now in
-    sym (listed_shown (g.S.ConfigView.grid c.args.settings.now) candidate.places.now c.args.pos (c.requires.shown c.if-candidate.true) (rw c.count_listed.ensures at c.if-count_listed-gt0.true))
+    sym (listed_shown (g.S.ConfigView.grid c.args.settings.now) candidate.places.now c.args.position (c.requires.shown c.if-candidate.true) (rw c.count_listed.ensures at c.if-count_listed-gt0.true))

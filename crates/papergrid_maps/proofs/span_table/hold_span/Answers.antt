@@ -11,28 +11,28 @@ use Rattle.papergrid_maps.proofs.span_table.hold_span.Goals as goal
 pub returns-in_default-clause-both : goal.returns-in_default-clause-both
 returns-in_default-clause-both c =
     let old = c.args.index.now.spans in
-    let alone : get c.args.others.now.spans c.args.pos ≡ None = sym c.get.ensures ∙ c.in_default.is in
+    let alone : get c.args.others.now.spans c.args.position ≡ None = sym c.get.ensures ∙ c.in_default.is in
     rw c.in_ok-insert.ensures.ok
     (alone_stored c.args.index.now.direction (get old) _ (get c.args.others.now.spans) (tree_get position_cmp c.args.both.now) (tree_get position_cmp c.args.both.now)
-    c.args.pos c.requires c.args.span (get-insert position_total old c.args.pos c.args.span) (λ p. refl) alone)
+    c.args.position c.requires c.args.span (get-insert position_total old c.args.position c.args.span) (λ p. refl) alone)
 
 pub returns-in-Ok-clause-both : goal.returns-in-Ok-clause-both
 returns-in-Ok-clause-both c =
     let old = c.args.index.now.spans in
     rw c.in_ok-insert.ensures.ok
     (both_stored c.args.index.now.direction (get old) _ (get c.args.others.now.spans) (tree_get position_cmp c.args.both.now) (tree_get position_cmp c.insert-2.new.self)
-    c.args.pos c.requires c.args.span c.in-Some.other (get-insert position_total old c.args.pos c.args.span)
-    (λ p. c.in-Ok.ensures.updates.0 p ∙ ap (λ e. cond (is_at (position_cmp c.args.pos) p) (Some e) (tree_get position_cmp c.args.both.now p))
+    c.args.position c.requires c.args.span c.in-Some.other (get-insert position_total old c.args.position c.args.span)
+    (λ p. c.in-Ok.ensures.updates.0 p ∙ ap (λ e. cond (is_at (position_cmp c.args.position) p) (Some e) (tree_get position_cmp c.args.both.now p))
     (c.extent_of.ensures ∙ ap (λ d. extent_of d c.args.span c.in-Some.other) (c.direction.ensures ∙ ap (λ s. s.direction) c.in_ok-insert.ensures.ok)))
     (sym c.get.ensures ∙ c.in-Some.is))
 
 pub returns-in-Err-clause-err : goal.returns-in-Err-clause-err
 returns-in-Err-clause-err c =
     let old = c.args.index.now.spans in
-    let none : get old c.args.pos ≡ None
-    = not_stored c.args.index.now.direction (get old c.args.pos) c.in-Some.other
-    (sym c.in-Err.ensures.absent ∙ c.requires c.args.pos ∙ ap (extent_stored c.args.index.now.direction (get old c.args.pos)) (sym c.get.ensures ∙ c.in-Some.is)) in
-    rw (c.remove.ensures, c.in_ok-insert.ensures.ok) (λ i. record { direction = c.args.index.now.direction; spans = stored_and_dropped old c.args.pos c.args.span none i })
+    let none : get old c.args.position ≡ None
+    = not_stored c.args.index.now.direction (get old c.args.position) c.in-Some.other
+    (sym c.in-Err.ensures.absent ∙ c.requires c.args.position ∙ ap (extent_stored c.args.index.now.direction (get old c.args.position)) (sym c.get.ensures ∙ c.in-Some.is)) in
+    rw (c.remove.ensures, c.in_ok-insert.ensures.ok) (λ i. record { direction = c.args.index.now.direction; spans = stored_and_dropped old c.args.position c.args.span none i })
 
 pub returns-in-Err-clause-both : goal.returns-in-Err-clause-both
 returns-in-Err-clause-both c =

@@ -9,24 +9,24 @@ use Rattle.papergrid_maps.proofs.SpanHistory.{stored_set, kept_either_way, kept_
 use Rattle.papergrid_maps.proofs.span_table.set_span.Goals as goal
 
 pub returns-in-1-clause-ok : goal.returns-in-1-clause-ok
-returns-in-1-clause-ok c = rw (c.remove.ensures, c.in-1.is) (removed_set c.args.index.now.spans c.args.pos)
+returns-in-1-clause-ok c = rw (c.remove.ensures, c.in-1.is) (removed_set c.args.index.now.spans c.args.position)
 
 pub returns-in-1-clause-from_two : goal.returns-in-1-clause-from_two
-returns-in-1-clause-from_two c = kept_from_two c.args.pos c.args.span c.args.index.now.spans c.remove.new.self.spans (returns-in-1-clause-ok c)
+returns-in-1-clause-from_two c = kept_from_two c.args.position c.args.span c.args.index.now.spans c.remove.new.self.spans (returns-in-1-clause-ok c)
 
 pub returns-in-1-clause-both : goal.returns-in-1-clause-both
 returns-in-1-clause-both c =
     let old = c.args.index.now.spans in
     rw c.remove.ensures
     (both_dropped c.args.index.now.direction (get old) _ (get c.args.others.now.spans) (tree_get position_cmp c.args.both.now) (tree_get position_cmp c.remove-in-1.new.self)
-    c.args.pos c.requires (get-remove position_total old c.args.pos) c.remove-in-1.ensures.updates.0)
+    c.args.position c.requires (get-remove position_total old c.args.position) c.remove-in-1.ensures.updates.0)
 
 pub returns-in_default-clause-ok : goal.returns-in_default-clause-ok
 returns-in_default-clause-ok c =
     let big : 2 ≤ c.args.span = omega (arith, c.in_default) in
-    on_ok_map c.hold_span.result (λ stored. rw stored (stored_set c.args.index.now.spans c.args.pos c.args.span big)) c.hold_span.ensures.ok
+    on_ok_map c.hold_span.result (λ stored. rw stored (stored_set c.args.index.now.spans c.args.position c.args.span big)) c.hold_span.ensures.ok
 
 pub returns-in_default-clause-from_two : goal.returns-in_default-clause-from_two
 returns-in_default-clause-from_two c =
-    kept_either_way c.hold_span.result c.args.pos c.args.span c.args.index.now.spans c.hold_span.new.index.spans (returns-in_default-clause-ok c)
+    kept_either_way c.hold_span.result c.args.position c.args.span c.args.index.now.spans c.hold_span.new.index.spans (returns-in_default-clause-ok c)
     (on_err_map c.hold_span.result (λ same. ap (λ s. s.spans) same) c.hold_span.ensures.err)

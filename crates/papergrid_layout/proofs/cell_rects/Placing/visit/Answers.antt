@@ -9,7 +9,7 @@ place_of-requires-clause-marked c = (c.requires.placed.0, c.requires.placed.1.ma
 
 pub returns-in_default-place_of-clause-err : goal.returns-in_default-place_of-clause-err
 returns-in_default-place_of-clause-err c = λ table row_in col_in has.
-    let p = c.args.pos in
+    let p = c.args.position in
     let found = found-shown (table.grid.shows p) (anchor_in table.grid p) c.in-Some.anchor (sym c.in-Some.is ∙ c.in_ok-anchor.ensures.visible table.grid has.shows) in
     first-refused table p.row p.col c.args.self.now.places.items OutOfTable (record { visible = found.0; row_in = row_in; col_in = col_in })
     (is-out table p c.in-Some.anchor found.0 found.1 (c.in_default-place_of.ensures table has.marked (anchor-own table.grid p c.in-Some.anchor found.1)))
@@ -17,7 +17,7 @@ returns-in_default-place_of-clause-err c = λ table row_in col_in has.
 
 pub returns-in-Ok-clause-ok : goal.returns-in-Ok-clause-ok
 returns-in-Ok-clause-ok c = λ table has.
-    let p = c.args.pos in
+    let p = c.args.position in
     let found = found-shown (table.grid.shows p) (anchor_in table.grid p) c.in-Some.anchor (sym c.in-Some.is ∙ c.in_ok-anchor.ensures.visible table.grid has.shows) in
     let place = has-found table p c.in-Some.anchor c.in-Some-place_of.place has.fit found.0 found.1
     (c.in-Some-place_of.ensures table has.marked (anchor-own table.grid p c.in-Some.anchor found.1)) in

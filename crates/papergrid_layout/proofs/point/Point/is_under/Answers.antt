@@ -8,5 +8,5 @@ returns-in-Err g c =
     let table = c.args.self.now in (
       λ t. absurd (false≢true t),
       λ over. absurd (refused-none (table_by table.config.now (g.D.Dimension.width_of table.dimension.now) (g.D.Dimension.height_of table.dimension.now) table.shape)
-          c.args.pos c.in-Err.field-0 _ c.in-Err.ensures.exact over.placed),
+          c.args.position c.in-Err.field-0 _ c.in-Err.ensures.exact over.placed),
     )

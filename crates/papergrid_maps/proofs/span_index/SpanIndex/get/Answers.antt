@@ -6,4 +6,4 @@ use Rattle.papergrid_maps.proofs.span_index.SpanIndex.get.Goals as goal
 
 pub returns : goal.returns
 returns c = rw (← c.self.view_is)
-    (c.copied.ensures ∙ c.get.ensures.value ∙ ap (tree_get position_cmp c.self.inside.spans) c.key_of.ensures ∙ sym (stored_at c.self.inside.direction c.self.inside.spans.entries c.args.pos))
+    (c.copied.ensures ∙ c.get.ensures.value ∙ ap (tree_get position_cmp c.self.inside.spans) c.key_of.ensures ∙ sym (stored_at c.self.inside.direction c.self.inside.spans.entries c.args.position))

@@ -7,7 +7,7 @@ use Rattle.papergrid_maps.proofs.span_index.SpanIndex.insert.Goals as goal
 
 pub returns-in_err-insert-clause-absent : goal.returns-in_err-insert-clause-absent
 returns-in_err-insert-clause-absent c = on_err c.from_residual.result (rw (← c.self.view_is)
-    (stored_at c.self.inside.direction c.self.inside.spans.entries c.args.pos ∙ ap (tree_get position_cmp c.self.inside.spans) (sym c.key_of.ensures) ∙ c.in_err-insert.ensures.absent))
+    (stored_at c.self.inside.direction c.self.inside.spans.entries c.args.position ∙ ap (tree_get position_cmp c.self.inside.spans) (sym c.key_of.ensures) ∙ c.in_err-insert.ensures.absent))
 
 pub returns-clause-ok : goal.returns-clause-ok
 returns-clause-ok c =
@@ -15,7 +15,7 @@ returns-clause-ok c =
     rw (← c.self.view_is) (λ i. record {
       direction = d;
       spans =
-          stored_insert d c.self.inside.spans.entries c.insert.new.self.entries c.args.pos (Some c.args.span)
+          stored_insert d c.self.inside.spans.entries c.insert.new.self.entries c.args.position (Some c.args.span)
           (λ q. c.in_ok-insert.ensures.updates.0 q ∙ ap (λ k. cond (is_at (position_cmp k) q) (Some c.args.span) (tree_get position_cmp c.self.inside.spans q)) c.key_of.ensures)
           c.args.span refl i;
     })

@@ -10,7 +10,7 @@ returns c =
     rw (← c.self.view_is) (λ i. record {
       direction = d;
       spans =
-          stored_remove d c.self.inside.spans.entries c.remove.new.self.entries c.args.pos None
+          stored_remove d c.self.inside.spans.entries c.remove.new.self.entries c.args.position None
           (λ q. c.remove.ensures.updates.0 q ∙ ap (λ k. cond (is_at (position_cmp k) q) None (tree_get position_cmp c.self.inside.spans q)) c.key_of.ensures)
           refl i;
     })

@@ -6,6 +6,6 @@ use Rattle.papergrid_tables.proofs.border_table.BorderTable.get_horizontal.Goals
 
 pub returns : goal.returns
 returns g c = rw (← c.self.view_is) (c.first_set.ensures ∙ (λ i. option_or
-    (sym (get_at_position c.self.inside.horizontal_edges.values.entries c.args.pos) i) (option_or
-    ((c.horizontal_main-line.ensures ∙ ap (option_and_then (λ line. line.main)) (sym (get_at_number c.self.inside.horizontal_lines.values.entries c.args.pos.row))) i) (option_or
+    (sym (get_at_position c.self.inside.horizontal_edges.values.entries c.args.position) i) (option_or
+    ((c.horizontal_main-line.ensures ∙ ap (option_and_then (λ line. line.main)) (sym (get_at_number c.self.inside.horizontal_lines.values.entries c.args.position.row))) i) (option_or
     (c.frame_horizontal-frame.ensures i) (sym c.self.view_is i).global))))

@@ -14,7 +14,7 @@ pub returns-clause-ok : goal.returns-clause-ok
 returns-clause-ok g c =
     rw (← c.self.view_is)
     (history_insert_border c.self.inside.global c.self.inside.frame c.self.inside.horizontal_lines.values.entries c.self.inside.vertical_lines.values.entries c.self.inside.horizontal_edges.values.entries c.self.inside.vertical_edges.values.entries c.self.inside.corners.values.entries
-    c.put_border.new.horizontal.values.entries c.put_border.new.vertical.values.entries c.put_border.new.corners.values.entries c.args.pos c.args.border
-    (λ q. c.put_border.ensures.horizontal q ∙ ap (option_or (edge_part Rows c.args.pos c.args.border q)) (c.reserve.ensures.same_horizontal q))
-    (λ q. c.put_border.ensures.vertical q ∙ ap (option_or (edge_part Columns c.args.pos c.args.border q)) (c.reserve.ensures.same_vertical q))
-    (λ q. c.put_border.ensures.corners q ∙ ap (option_or (corner_part c.args.pos c.args.border q)) (c.reserve.ensures.same_corners q)))
+    c.put_border.new.horizontal.values.entries c.put_border.new.vertical.values.entries c.put_border.new.corners.values.entries c.args.position c.args.border
+    (λ q. c.put_border.ensures.horizontal q ∙ ap (option_or (edge_part Rows c.args.position c.args.border q)) (c.reserve.ensures.same_horizontal q))
+    (λ q. c.put_border.ensures.vertical q ∙ ap (option_or (edge_part Columns c.args.position c.args.border q)) (c.reserve.ensures.same_vertical q))
+    (λ q. c.put_border.ensures.corners q ∙ ap (option_or (corner_part c.args.position c.args.border q)) (c.reserve.ensures.same_corners q)))

@@ -7,8 +7,8 @@ use Rattle.papergrid_tables.proofs.offset_table.OffsetTable.lookup.Goals as goal
 
 pub returns-in-Some : goal.returns-in-Some
 returns-in-Some g c = rw (← c.self.view_is) (c.lookup.ensures
-    ∙ ap (λ h. found_override (λ o. option_and_then (λ k. at_offset k o) h) c.args.offset c.args.end) (c.in-Some.ensures.value ∙ sym (get_at_position c.self.inside.overrides.entries c.args.pos)))
+    ∙ ap (λ h. found_override (λ o. option_and_then (λ k. at_offset k o) h) c.args.offset c.args.end) (c.in-Some.ensures.value ∙ sym (get_at_position c.self.inside.overrides.entries c.args.position)))
 
 pub returns-in-None : goal.returns-in-None
 returns-in-None g c = rw (← c.self.view_is) (none_found c.args.offset c.args.end
-    ∙ ap (λ h. found_override (λ o. option_and_then (λ k. at_offset k o) h) c.args.offset c.args.end) (c.in-None.ensures.value ∙ sym (get_at_position c.self.inside.overrides.entries c.args.pos)))
+    ∙ ap (λ h. found_override (λ o. option_and_then (λ k. at_offset k o) h) c.args.offset c.args.end) (c.in-None.ensures.value ∙ sym (get_at_position c.self.inside.overrides.entries c.args.position)))

@@ -6,13 +6,13 @@ use Rattle.papergrid_tables.proofs.offset_table.OffsetTable.set.Goals as goal
 
 pub invariant_of-self : goal.invariant_of-self
 invariant_of-self g c = either_way c.set_override.result
-    (kept_set c.self.inside.overrides.entries _ c.args.pos c.args.offset c.args.value c.self.invariant)
+    (kept_set c.self.inside.overrides.entries _ c.args.position c.args.offset c.args.value c.self.invariant)
     (kept_unchanged c.self.inside.overrides.entries _ c.self.invariant)
     c.set_override.ensures.ok c.set_override.ensures.err
 
 pub returns-clause-ok : goal.returns-clause-ok
 returns-clause-ok g c = rw (← c.self.view_is)
-    (on_ok_map c.set_override.result (history_set c.self.inside.overrides.entries _ c.args.pos c.args.offset c.args.value) c.set_override.ensures.ok)
+    (on_ok_map c.set_override.result (history_set c.self.inside.overrides.entries _ c.args.position c.args.offset c.args.value) c.set_override.ensures.ok)
 
 pub returns-clause-err : goal.returns-clause-err
 returns-clause-err g c =
