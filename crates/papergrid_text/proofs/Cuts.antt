@@ -31,16 +31,16 @@ cut_is n whole a b e long =
 
 -- one row is cut off
 one_part : (k n : ℕ) → 0 < n → 0 < k → chunk_count k n ≡ chunk_count (k - min n k) n + 1
-one_part k n position some = elim (cases_lt n k) [
+one_part k n pos some = elim (cases_lt n k) [
   | inl more ↦
-      let e : (k + n - 1) / n ≡ (k + n - 1 - n) / n + 1 = div-eq-sub-div position (omega arith) in
+      let e : (k + n - 1) / n ≡ (k + n - 1 - n) / n + 1 = div-eq-sub-div pos (omega arith) in
       let m : k + n - 1 - n ≡ (k - min n k) + n - 1 = omega arith in
       let q = ap (λ x. x / n) m in
-      let f : (k - min n k + n - 1) / n ≡ (k - min n k + n - 1 - n) / n + 1 = div-eq-sub-div position (omega arith) in
+      let f : (k - min n k + n - 1) / n ≡ (k - min n k + n - 1 - n) / n + 1 = div-eq-sub-div pos (omega arith) in
       let s = div-le_self (k - min n k + n - 1 - n) n in
       omega arith
   | inr few ↦
-      let e : (k + n - 1) / n ≡ (k + n - 1 - n) / n + 1 = div-eq-sub-div position (omega arith) in
+      let e : (k + n - 1) / n ≡ (k + n - 1 - n) / n + 1 = div-eq-sub-div pos (omega arith) in
       let z : (k + n - 1 - n) / n ≡ 0 = div-eq_of_lt (omega arith) in
       omega arith
 ]
@@ -58,32 +58,32 @@ module _ {X : Type 0} where
 
   -- a whole walk counts the parts
   cut_count : (n : ℕ) (s t : Chunks X) (xs : List (Bor (List X))) → 0 < n → n ≡ chunks_size s → Yields (chunks_steps {A = X}) s xs t → length (chunks_rest t) ≡ 0 → length xs ≡ chunk_count (length (chunks_rest s)) n
-  cut_count n s t [] position same e last = let z = ap (λ u. length (chunks_rest u)) e in omega arith
-  cut_count n s t (x ∷ xs) position same (j, (size, (cut, long, some)), rest) last =
-      let others = cut_count n j t xs position (same ∙ sym size) rest last in
+  cut_count n s t [] pos same e last = let z = ap (λ u. length (chunks_rest u)) e in omega arith
+  cut_count n s t (x ∷ xs) pos same (j, (size, (cut, long, some)), rest) last =
+      let others = cut_count n j t xs pos (same ∙ sym size) rest last in
       let both = ap length cut ∙ length-append x.now (chunks_rest j) in
       let short : length x.now ≡ min n (length (chunks_rest s)) = long ∙ ap (λ m. min m (length (chunks_rest s))) (sym same) in
       let m : length (chunks_rest j) ≡ length (chunks_rest s) - min n (length (chunks_rest s)) = omega arith in
       let c = ap (λ k. chunk_count k n) m in
-      let one = one_part (length (chunks_rest s)) n position some in
+      let one = one_part (length (chunks_rest s)) n pos some in
       omega (arith, one, c, others)
 
   -- each chunk takes an item
   cut_fits : (s t : Chunks X) (xs : List (Bor (List X))) → 0 < chunks_size s → Yields (chunks_steps {A = X}) s xs t → length xs ≤ length (chunks_rest s)
-  cut_fits s t [] position e = omega arith
-  cut_fits s t (x ∷ xs) position (j, (size, (cut, long, some)), rest) =
+  cut_fits s t [] pos e = omega arith
+  cut_fits s t (x ∷ xs) pos (j, (size, (cut, long, some)), rest) =
       let left : length xs ≤ length (chunks_rest j) = cut_fits j t xs (omega arith) rest in
       let n = ap length cut ∙ length-append x.now (chunks_rest j) in
       omega arith
 
   pub chunks_short : (P : Bor (List X) → Type 0) → ((x : Bor (List X)) → P x) → (s : Chunks X) → 0 < chunks_size s → length (chunks_rest s) < 2 ^ 64 →
       IsShort (λ s. 0 < chunks_size s) (λ s. at_most (chunk_count (length (chunks_rest s)) (chunks_size s))) (chunks_steps {A = X}) P s
-  chunks_short P all s position small = short_by P all s position tt (λ xs t walked. let n = cut_fits s t xs position walked in omega arith)
+  chunks_short P all s pos small = short_by P all s pos tt (λ xs t walked. let n = cut_fits s t xs pos walked in omega arith)
 
   chunks_drains : (s : Chunks X) (xs : List (Bor (List X))) → 0 < chunks_size s → Drains (chunks_steps {A = X}) s xs → map (λ x. x.now) xs ≡ cut_rows (chunks_size s) (chunks_rest s)
-  chunks_drains s xs position (u, (t, walked, last)) =
+  chunks_drains s xs pos (u, (t, walked, last)) =
       cut_yields (chunks_size s) s t xs refl walked
-      ∙ ap (λ k. first_chunks (chunks_size s) k (chunks_rest s)) (cut_count (chunks_size s) s t xs position refl walked last.1.0)
+      ∙ ap (λ k. first_chunks (chunks_size s) k (chunks_rest s)) (cut_count (chunks_size s) s t xs pos refl walked last.1.0)
 
   -- ---- whole chunks alone
 
@@ -98,13 +98,13 @@ module _ {X : Type 0} where
       cc
 
   whole_count : (n : ℕ) (s t : ChunksExact X) (xs : List (Bor (List X))) → 0 < n → n ≡ chunks_exact_size s → Yields (chunks_exact_steps {A = X}) s xs t → length (chunks_exact_rest t) < n → length xs ≡ length (chunks_exact_rest s) / n
-  whole_count n s t [] position same e last =
+  whole_count n s t [] pos same e last =
       let z = ap (λ u. length (chunks_exact_rest u)) e in
       sym (div-eq_of_lt (omega arith))
-  whole_count n s t (x ∷ xs) position same (j, (size, (cut, long), kept), rest) last =
-      let others = whole_count n j t xs position (same ∙ sym size) rest last in
+  whole_count n s t (x ∷ xs) pos same (j, (size, (cut, long), kept), rest) last =
+      let others = whole_count n j t xs pos (same ∙ sym size) rest last in
       let both = ap length cut ∙ length-append x.now (chunks_exact_rest j) in
-      let one : length (chunks_exact_rest s) / n ≡ (length (chunks_exact_rest s) - n) / n + 1 = div-eq-sub-div position (omega arith) in
+      let one : length (chunks_exact_rest s) / n ≡ (length (chunks_exact_rest s) - n) / n + 1 = div-eq-sub-div pos (omega arith) in
       let c : (length (chunks_exact_rest s) - n) / n ≡ length (chunks_exact_rest j) / n = ap (λ k. k / n) (omega arith) in
       omega (arith, one, c, others)
 
@@ -113,22 +113,22 @@ module _ {X : Type 0} where
   whole_size s t (x ∷ xs) (j, (size, found, kept), rest) = whole_size j t xs rest ∙ size
 
   whole_fits : (s t : ChunksExact X) (xs : List (Bor (List X))) → 0 < chunks_exact_size s → Yields (chunks_exact_steps {A = X}) s xs t → length xs ≤ length (chunks_exact_rest s)
-  whole_fits s t [] position e = omega arith
-  whole_fits s t (x ∷ xs) position (j, (size, (cut, long), kept), rest) =
+  whole_fits s t [] pos e = omega arith
+  whole_fits s t (x ∷ xs) pos (j, (size, (cut, long), kept), rest) =
       let left : length xs ≤ length (chunks_exact_rest j) = whole_fits j t xs (omega arith) rest in
       let n = ap length cut ∙ length-append x.now (chunks_exact_rest j) in
       omega arith
 
   pub whole_chunks_short : (P : Bor (List X) → Type 0) → ((x : Bor (List X)) → P x) → (s : ChunksExact X) → 0 < chunks_exact_size s → length (chunks_exact_rest s) < 2 ^ 64 →
       IsShort (λ s. 0 < chunks_exact_size s) (λ s. at_most (length (chunks_exact_rest s) / chunks_exact_size s)) (chunks_exact_steps {A = X}) P s
-  whole_chunks_short P all s position small = short_by P all s position tt (λ xs t walked. let n = whole_fits s t xs position walked in omega arith)
+  whole_chunks_short P all s pos small = short_by P all s pos tt (λ xs t walked. let n = whole_fits s t xs pos walked in omega arith)
 
   whole_drains : (s : ChunksExact X) (xs : List (Bor (List X))) → 0 < chunks_exact_size s → Drains (chunks_exact_steps {A = X}) s xs → map (λ x. x.now) xs ≡ cut_whole_rows (chunks_exact_size s) (chunks_exact_rest s)
-  whole_drains s xs position (u, (t, walked, last)) =
+  whole_drains s xs pos (u, (t, walked, last)) =
       let size = whole_size s t xs walked in
       let few : length (chunks_exact_rest t) < chunks_exact_size s = let l = last.1.0 in omega arith in
       whole_yields (chunks_exact_size s) s t xs refl walked
-      ∙ ap (λ k. first_chunks (chunks_exact_size s) k (chunks_exact_rest s)) (whole_count (chunks_exact_size s) s t xs position refl walked few)
+      ∙ ap (λ k. first_chunks (chunks_exact_size s) k (chunks_exact_rest s)) (whole_count (chunks_exact_size s) s t xs pos refl walked few)
 
   -- ---- their cells
 

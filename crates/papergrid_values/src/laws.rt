@@ -1,6 +1,6 @@
 //! Laws over the definitions that the contracts cite.
 
-ghost use Rattle.std.specs.Prelude.{◌≡◌, ◌<◌, ◌≤◌, ◌⊎◌, ◌↔◌, [], ◌∷◌, ◌++◌, ℕ, All, AllPairs, None, false, position, true};
+ghost use Rattle.std.specs.Prelude.{◌≡◌, ◌<◌, ◌≤◌, ◌⊎◌, ◌↔◌, [], ◌∷◌, ◌++◌, ℕ, All, AllPairs, None, false, pos, true};
 ghost use Rattle.std.specs.Cmp.Lexicographic.{slice_cmp, pointwise};
 ghost use Rattle.std.specs.Hash as fed;
 ghost use Rattle.std.specs.List.{flat_map};
@@ -183,9 +183,9 @@ pub fn hashed_by_fields()
     ensures flags { (x : Formatting) →
         ⟦<Formatting as Hash>⟧.hash_input x ≡ flat_map fed.bool (formatting_flags x) }
     ensures across { (x : AlignmentHorizontal) →
-        ⟦<AlignmentHorizontal as Hash>⟧.hash_input x ≡ fed.isize (position (horizontal_rank x)) }
+        ⟦<AlignmentHorizontal as Hash>⟧.hash_input x ≡ fed.isize (pos (horizontal_rank x)) }
     ensures down { (x : AlignmentVertical) →
-        ⟦<AlignmentVertical as Hash>⟧.hash_input x ≡ fed.isize (position (vertical_rank x)) }
+        ⟦<AlignmentVertical as Hash>⟧.hash_input x ≡ fed.isize (pos (vertical_rank x)) }
     ensures borrowed_colors { (x : ANSIStr) →
         ⟦<ANSIStr<'static> as Hash>⟧.hash_input x ≡ texts_fed (texts_of x) }
     ensures colors { (x : ANSIBuf) → ⟦<ANSIBuf as Hash>⟧.hash_input x ≡ texts_fed x }
