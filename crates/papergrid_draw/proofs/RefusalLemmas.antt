@@ -1,5 +1,6 @@
 -- Why a table is not drawn, by what was found.
 use Rattle.std.proofs.Common.{◌≡◌, ◌⊎◌, ◌^◌, ◌<◌, ◌≤◌, ℕ, inl, inr, Option, Some, None, Result, Ok, Err, sym, subst}
+use Rattle.std.specs.declared.alloc.AllocError.{AllocError}
 use Rattle.std.specs.Option.{SomeIff, ok_or}
 use Rattle.std.proofs.lemmas.Bool.{cases_lt}
 use Rattle.papergrid_draw.specs.Drawings.{Drawing, layout_of}
@@ -17,6 +18,9 @@ tile-refusal d (NoRoom p) is = absurd is
 tile-refusal d TooLarge is = absurd is
 tile-refusal d (Memory e) is = (tt, λ same. cc)
 tile-refusal d Write is = absurd is
+
+pub memory-refusal : (d : Drawing) (e : AllocError) → IsDrawRefusal d (Memory e)
+memory-refusal d e = (tt, λ same. cc)
 
 pub room-refusal : (d : Drawing) (e : DrawError) → IsTiled (layout_of d) → IsRoomFault d e → IsDrawRefusal d e
 room-refusal d (OutOfTable p) tiled is = absurd is

@@ -13,7 +13,7 @@ ghost use Rattle.papergrid_draw.specs.Faults.{AllHaveRoom, IsDrawFault, whole_he
 ghost use Rattle.papergrid_draw.specs.Margins.{printed, printed_lines, whole_width};
 ghost use Rattle.papergrid_draw.specs.Tiles.{IsTiled};
 ghost use Rattle.papergrid_draw.specs.ForProofs.Pages.{IsFrame, Texts, drawing_of};
-ghost use Rattle.papergrid_draw.specs.ForProofs.Sheets.{IsPrepared, IsDrawRefusal, Writes, WritesLines, margined};
+ghost use Rattle.papergrid_draw.specs.ForProofs.Sheets.{Draws, Writes, WritesLines, margined};
 ghost use Rattle.papergrid_draw.specs.declared.error.DrawError.TheVariants.{Memory, Write};
 
 use crate::delivery::{Delivery, ToSink, ToText};
@@ -133,40 +133,58 @@ fn draw_by<'a, S: Cells, D: Delivery<W>, W>(
 where
     S::Cell: Drop,
     requires { room ≡ Room.Known → AllHaveRoom (drawn_of S.lines S.color table.now cells.now) }
-    ensures picture { OnOk result (WritesInCalls D.takes writer.old
-        (printed (drawn_of S.lines S.color table.now cells.now)) writer.new) }
-    ensures fault { IfErr result (IsDrawFault (drawn_of S.lines S.color table.now cells.now)) }
-    ensures left { IfErr result (IsLeftOff D.takes D.breaks writer.old
-        (printed (drawn_of S.lines S.color table.now cells.now)) writer.new) }
+    ensures { let d = drawn_of S.lines S.color table.now cells.now in
+        Draws D.takes D.breaks d writer.old writer.new (printed d) result }
 {
     let (rows, columns) = table.shape();
     if rows == 0 || columns == 0 {
         return Ok(());
     }
-    let (frame, width) = prepare(alloc, table, cells, room)?;
-    draw_all::<S, D, W>(alloc, &frame, cells, width, writer)
+    draw_table::<S, D, W>(alloc, table, cells, room, writer)
 }
 
-/// What is read of a table once, with the columns of each line with both margins, if it can be drawn.
-fn prepare<'a, S: Cells>(
+/// Writes the picture of a table with rows and columns.
+fn draw_table<'a, S: Cells, D: Delivery<W>, W>(
     alloc: Global,
     table: &'a Table<'a>,
     cells: &'a S,
     room: Room,
-) -> Result<(Frame<'a>, usize), DrawError>
+    writer: &mut W,
+) -> Result<(), DrawError>
 where
     S::Cell: Drop,
     requires { room ≡ Room.Known → AllHaveRoom (drawn_of S.lines S.color table.now cells.now) }
-    ensures ok { IfOk result
-        (IsPrepared table.now (drawn_of S.lines S.color table.now cells.now)) }
-    ensures err { IfErr result (IsDrawRefusal (drawn_of S.lines S.color table.now cells.now)) }
+    ensures { let d = drawn_of S.lines S.color table.now cells.now in
+        Draws D.takes D.breaks d writer.old writer.new
+        (join_with_byte 10 (printed_lines d)) result }
 {
     let config = table.config();
     check_tiles(alloc, config, table.shape())?;
     let frame = Frame::new(alloc, table, config)?;
-    find_room(alloc, &frame, cells, room)?;
-    let width = whole_width(table, config).ok_or(DrawError::TooLarge)?;
-    Ok((frame, width))
+    draw_tiled::<S, D, W>(alloc, &frame, cells, room, writer)
+}
+
+/// Writes the picture of a tiled table, if its cells have room and it is not too large.
+fn draw_tiled<'a, S: Cells, D: Delivery<W>, W>(
+    alloc: Global,
+    frame: &Frame<'a>,
+    cells: &'a S,
+    room: Room,
+    writer: &mut W,
+) -> Result<(), DrawError>
+where
+    S::Cell: Drop,
+    requires frame { IsFrame frame.now.table.now frame.now }
+    requires tiled { IsTiled (view_of frame.now.table.now) }
+    requires known { room ≡ Room.Known →
+        AllHaveRoom (drawn_of S.lines S.color frame.now.table.now cells.now) }
+    ensures { let d = drawn_of S.lines S.color frame.now.table.now cells.now in
+        Draws D.takes D.breaks d writer.old writer.new
+        (join_with_byte 10 (printed_lines d)) result }
+{
+    find_room(alloc, frame, cells, room)?;
+    let width = whole_width(frame.table, frame.config).ok_or(DrawError::TooLarge)?;
+    draw_all::<S, D, W>(alloc, frame, cells, width, writer)
 }
 
 /// Writes the margins above and below, and between them the lines of the table.

@@ -1,19 +1,19 @@
 -- The lines of a table as they are written.
-use Rattle.std.specs.Prelude.{◌≡◌, ◌≢◌, ◌+◌, ◌<◌, ◌≤◌, ℕ, Bool, true, if◌then◌else◌, List, [], ◌∷◌, ◌++◌, Option, Result, Ok, Err, OnOk, length, map, ⊤}
+use Rattle.std.specs.Prelude.{◌≡◌, ◌≢◌, ◌+◌, ◌<◌, ◌≤◌, ℕ, Bool, true, if◌then◌else◌, List, [], ◌∷◌, ◌++◌, Option, Result, Ok, Err, IfErr, OnOk, length, map, ⊤}
 use Rattle.std.specs.Fmt.{WritesInCalls}
 use Rattle.std.specs.List.{enumerate_from, range_with_len}
 use Rattle.papergrid_values.specs.Positions.{IsBefore, position_of}
 use Rattle.papergrid_values.specs.declared.direction.Direction.TheVariants.{Rows}
 use Rattle.papergrid_values.specs.declared.position.Position.{Position}
 use Rattle.papergrid_layout.specs.Places.{total_along}
-use Rattle.papergrid_layout.specs.Tables.{TableParts, view_of}
+use Rattle.papergrid_layout.specs.Tables.{TableParts}
 use Rattle.papergrid_draw.specs.Bytes.{line_bytes}
 use Rattle.papergrid_draw.specs.Drawings.{Drawing, layout_of}
 use Rattle.papergrid_draw.specs.Drawn.{DrawnLine, TextLine, text_line}
 use Rattle.papergrid_draw.specs.Faults.{HasNoRoom, IsDrawFault}
-use Rattle.papergrid_draw.specs.Margins.{beside, whole_width, with_margins}
-use Rattle.papergrid_draw.specs.Deliveries.{BreaksOff, TakesBeginning}
-use Rattle.papergrid_draw.specs.Tiles.{IsFirstPosition, IsTiled}
+use Rattle.papergrid_draw.specs.Margins.{beside, with_margins}
+use Rattle.papergrid_draw.specs.Deliveries.{BreaksOff, IsLeftOff, TakesBeginning}
+use Rattle.papergrid_draw.specs.Tiles.{IsFirstPosition}
 use Rattle.papergrid_draw.specs.ForProofs.Pages.{AreSlotsSet, AreSlots, IsFrame, Texts, drawing_of, row_start, text_start}
 use Rattle.papergrid_draw.specs.declared.error.DrawError.{DrawError}
 use Rattle.papergrid_draw.specs.declared.error.DrawError.TheVariants.{Memory, NoRoom, NotTiled, OutOfTable, TooLarge, Write}
@@ -122,14 +122,16 @@ module _ (d : Drawing) where
   IsRoomFault (Memory e) = ⊤
   IsRoomFault e = ⊥
 
--- ---- before anything is written
+-- ---- the whole picture
 
--- what is read of a table that is to be drawn
-pub record IsPrepared (parts : TableParts) (d : Drawing) (read : Frame × ℕ) : Type 0 where
-  pub frame_is : IsFrame parts read.0
-  pub tiled : IsTiled (view_of parts)
-  pub wide : read.1 ≡ whole_width d
-
--- why it is not drawn, but for a failed writer
+-- why it is not drawn, before anything is written
 abbrev pub IsDrawRefusal : Drawing → DrawError → Type 0
 IsDrawRefusal d e = IsDrawFault d e × (e ≢ Write)
+
+-- the bytes of a picture are written, or why not all of them, by the relations of texts that a writer takes and of
+-- one that breaks off
+pub record Draws {W : Type 0} (takes breaks : W → List ℕ → W → Type 0) (d : Drawing) (old new : W)
+    (bytes : List ℕ) {A : Type 0} (result : Result A DrawError) : Type 0 where
+  pub picture : OnOk result (WritesInCalls takes old bytes new)
+  pub fault : IfErr result (IsDrawFault d)
+  pub left : IfErr result (IsLeftOff takes breaks old bytes new)

@@ -25,3 +25,6 @@ returns-clause-write g c = λ is. sink-ended g.W.Sink.contents g.W.Sink.has_fail
 
 pub returns-clause-steady : goal.returns-clause-steady
 returns-clause-steady g c = sink-steady g.W.Sink.contents g.W.Sink.has_failed g.W.Sink.has_stalled _ _ _ c.draw_by.result c.draw_by.ensures.left
+
+pub returns-clause-fault : goal.returns-clause-fault
+returns-clause-fault g c = c.draw_by.ensures.fault
