@@ -1,5 +1,5 @@
 -- What stands in a horizontal line of a table while it is drawn, column by column.
-use Rattle.std.proofs.Common.{◌≡◌, ◌∙◌, ap, sym, subst, refl, inl, inr, ℕ, ◌+◌, ◌-◌, ◌<◌, ◌≤◌, Bool, true, false, ◌&&◌, cond, List, [], ◌∷◌, ◌++◌, Option, Some, None, length, map, arith}
+use Rattle.std.proofs.Common.{◌≡◌, ◌∙◌, ap, sym, subst, refl, inl, inr, ℕ, ◌+◌, ◌-◌, ◌<◌, ◌≤◌, Bool, true, false, ◌&&◌, cond, List, [], ◌∷◌, ◌++◌, Option, Some, None, get_or, length, map, arith}
 use Rattle.std.specs.Prelude.{◌==◌, if◌then◌else◌, nat_lt, not}
 use Rattle.std.specs.List.{flat_map, range_with_len}
 use Rattle.std.specs.Option.{option_eq}
@@ -22,7 +22,7 @@ use Rattle.papergrid_draw.specs.ForProofs.Pages.{IsFrame, IsSlot, Texts, drawing
 use Rattle.papergrid_draw.specs.ForProofs.Pens.{AddsStretches, stretches_over}
 use Rattle.papergrid_draw.specs.declared.page.Frame.{Frame}
 use Rattle.papergrid_draw.specs.declared.page.Slot.{Slot}
-use Rattle.papergrid_draw.proofs.LineLemmas.{frame-columns, range-more}
+use Rattle.papergrid_draw.proofs.LineLemmas.{frame-columns, frame-line, range-more}
 use Rattle.papergrid_draw.proofs.PageLemmas.{crossing-test, over-test, owner-behind, row_start-next, slot-next, text_start-after}
 use Rattle.papergrid_draw.proofs.StretchLemmas.{AddsStretches-append, rule_ended}
 
@@ -153,6 +153,20 @@ module _ (parts : TableParts) (frame : Frame) (read : IsFrame parts frame) where
   pub columns-all : (col : ℕ) → frame.shape.1 ≤ col → col ≤ frame.shape.1 → col ≡ length parts.widths
   columns-all col past within = (let e : col ≡ frame.shape.1 = omega (arith, past, within) in e) ∙ frame-columns read
 
+  pub columns-past : (col : ℕ) → frame.shape.1 ≤ col → length parts.widths ≤ col
+  columns-past col past = subst (λ n. n ≤ col) (frame-columns read) past
+
+  -- the line after the last one
+  pub last-in : frame.shape.1 ≤ length parts.widths
+  last-in = let wide = frame-columns read in omega (arith, wide)
+
+  pub last-kept : frame.shape.1 < frame.verticals.len
+  last-kept = let wide = frame-columns read in omega (arith, wide, read.many, frame.verticals.ok.0)
+
+  pub last-line : (texts : Texts) (kept : Bool) → kept ≡ get_or frame.verticals.items frame.shape.1 kept →
+      draws_vertical (drawing_of parts texts) frame.shape.1 ≡ kept
+  last-line texts kept is = frame-line read texts frame.shape.1 kept (omega arith) is
+
   -- each has a slot
   pub column-there : {T : Type 0} (slots : List (Slot T)) (col : ℕ) → length slots ≡ length parts.widths → col < frame.shape.1 → col < length slots
   column-there slots col each below = let inside = column-in col below in omega (arith, each, inside)
@@ -209,15 +223,21 @@ module _ (d : Drawing) (r : ℕ) where
   abbrev in_column : ℕ → List Stretch
   in_column c = crossing_stretch d r c ++ column_stretch d r c
 
-  module _ {first second third fourth : Option (List ℕ × List ℕ)} {before one two three : List ℕ} where
+  module _ {first second third : Option (List ℕ × List ℕ)} {before one two : List ℕ} where
     -- the stretches of a column more
+    pub whole-column-adds : (col : ℕ) → AddsStretches first second before one (flat_map in_column (range_with_len 0 col)) →
+        AddsStretches second third one two (in_column col) → AddsStretches first third before two (flat_map in_column (range_with_len 0 (col + 1)))
+    whole-column-adds col so_far column =
+        subst (AddsStretches first third before two) (sym (range-more in_column col))
+        (AddsStretches-append (flat_map in_column (range_with_len 0 col)) (in_column col) so_far column)
+
+  module _ {first second third fourth : Option (List ℕ × List ℕ)} {before one two three : List ℕ} where
+    -- which are its crossing, and what follows
     pub column-adds : (col : ℕ) → AddsStretches first second before one (flat_map in_column (range_with_len 0 col)) →
         AddsStretches second third one two (crossing_stretch d r col) → AddsStretches third fourth two three (column_stretch d r col) →
         AddsStretches first fourth before three (flat_map in_column (range_with_len 0 (col + 1)))
     column-adds col so_far crossing column =
-        subst (AddsStretches first fourth before three) (sym (range-more in_column col))
-        (AddsStretches-append (flat_map in_column (range_with_len 0 col)) (in_column col) so_far
-        (AddsStretches-append (crossing_stretch d r col) (column_stretch d r col) crossing column))
+        whole-column-adds col so_far (AddsStretches-append (crossing_stretch d r col) (column_stretch d r col) crossing column)
 
   -- the line is done with the crossing after the last column, and the end of the colour in use
   pub rule-done : {second third : Option (List ℕ × List ℕ)} {before one two after : List ℕ} (col last : ℕ) → col ≡ d.shape.1 → last ≡ d.shape.1 →

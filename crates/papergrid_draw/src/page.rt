@@ -340,6 +340,41 @@ impl<'a> Frame<'a> {
         rule.push_segment(self.config, position, self.shape, width, line)
     }
 
+    /// Adds the crossing at a position of the line before a row, if one is seen there, and what stands in the column.
+    fn push_rule_column<T: Cell>(
+        &self,
+        rule: &mut Rule<'a>,
+        slot: &mut Slot<'a, T>,
+        position: Position,
+        line: &mut String,
+    ) -> Result<(), AllocError>
+        requires { (parts : TableParts) × (texts : Texts) × IsFrame parts self.now
+            × (position.col < length parts.widths)
+            × (draws_horizontal (drawing_of parts texts) position.row ≡ true)
+            × (position.row < length parts.heights →
+            IsSlot (drawing_of parts texts) position.row position.col
+            (row_start (drawing_of parts texts) position.row) slot.old) }
+        ensures adds { OnOk result ((parts : TableParts) (texts : Texts) → IsFrame parts self.now →
+            IsTiled (layout_of (drawing_of parts texts)) → position.col < length parts.widths →
+            (position.row < length parts.heights →
+            IsSlot (drawing_of parts texts) position.row position.col
+            (row_start (drawing_of parts texts) position.row) slot.old) →
+            AddsStretches (option_copied rule.old.used) (option_copied rule.new.used)
+            (string_bytes line.old) (string_bytes line.new)
+            (crossing_stretch (drawing_of parts texts) position.row position.col
+            ++ column_stretch (drawing_of parts texts) position.row position.col)) }
+        ensures kept { OnOk result ((parts : TableParts) (texts : Texts) → IsFrame parts self.now →
+            position.row < length parts.heights →
+            draws_horizontal (drawing_of parts texts) position.row ≡ true →
+            IsSlot (drawing_of parts texts) position.row position.col
+            (row_start (drawing_of parts texts) position.row) slot.old →
+            IsSlot (drawing_of parts texts) position.row position.col
+            (text_start (drawing_of parts texts) position.row) slot.new) }
+    {
+        self.push_crossing(rule, slot.owner, position, line)?;
+        self.push_stretch(rule, slot, position, line)
+    }
+
     /// Adds the horizontal line before a row, whose cells are set, or after the last.
     pub fn push_rule_line<T: Cell>(
         &self,
@@ -367,9 +402,7 @@ impl<'a> Frame<'a> {
     {
         let mut rule = Rule::new();
         for col in 0..self.shape.1 {
-            let position = Position { row, col };
-            self.push_crossing(&mut rule, slots[col].owner, position, line)?;
-            self.push_stretch(&mut rule, &mut slots[col], position, line)?;
+            self.push_rule_column(&mut rule, &mut slots[col], Position { row, col }, line)?;
         }
         let col = self.shape.1;
         if self.verticals[col] {

@@ -1,9 +1,10 @@
-use Rattle.std.proofs.Common.{rules, ◌≡◌, ◌<◌, ◌+◌, arith, length, string_bytes, sym}
+use Rattle.std.proofs.Common.{rules, ◌<◌, ◌+◌, length, string_bytes, sym}
 use Rattle.std.proofs.lemmas.List.{append-nil}
 use Rattle.std.proofs.lemmas.Result.{on_ok_weaker}
 use Rattle.papergrid_draw.specs.Drawn.{column_pieces}
 use Rattle.papergrid_draw.specs.ForProofs.Pages.{drawing_of, text_start}
 use Rattle.papergrid_draw.proofs.LineLemmas.{column-more, frame-columns, frame-height, line-done, slot-there, slot-waits}
+use Rattle.papergrid_draw.proofs.RuleLemmas.{column-in, columns-all, columns-past, last-in}
 use Rattle.papergrid_draw.proofs.SlotLemmas.{slots-end, slots-start, slots-step}
 use Rattle.papergrid_draw.proofs.page.Frame.push_text_line.Goals as goal
 
@@ -19,11 +20,15 @@ offset_bounds-slots-col g c =
     let within : c.loop-col.col < length c.args.slots.now = slot-there c.requires.2 c.requires.1 c.args.row c.loop-col.col _ c.args.slots.now c.requires.5 c.loop-col-test.true in
     search rules
 
+pub bounds-slots-col : goal.bounds-slots-col
+bounds-slots-col g c =
+    slot-there c.requires.2 c.requires.1 c.args.row c.loop-col.col _ c.loop-col.slots (c.loop-col.invariant c.requires.0 c.requires.1 c.requires.2 c.requires.5).1
+    c.loop-col-test.true
+
 pub push_column-requires : goal.push_column-requires
 push_column-requires g c =
     let d = drawing_of c.requires.0 c.requires.1 in
-    let wide = frame-columns c.requires.2 in
-    let inside : c.loop-col.col < length c.requires.0.widths = omega (arith, wide) in
+    let inside = column-in c.requires.0 c.args.self.now c.requires.2 c.loop-col.col c.loop-col-test.true in
     let start = text_start d c.args.row in (
       c.requires.0,
       c.requires.1,
@@ -38,8 +43,7 @@ push_column-requires g c =
 pub loop-col-preserved : goal.loop-col-preserved
 loop-col-preserved g c = λ parts texts read are.
     let d = drawing_of parts texts in
-    let wide = frame-columns read in
-    let inside : c.loop-col.col < length parts.widths = omega (arith, wide) in
+    let inside = column-in parts c.args.self.now read c.loop-col.col c.loop-col-test.true in
     let start = text_start d c.args.row in
     let kept = c.loop-col.invariant parts texts read are in
     let waits = slot-waits d c.args.row c.loop-col.col (start + c.args.k) (start + (c.args.k + 1)) c.loop-col.slots c.index-slots-col.result inside kept.1 in
@@ -50,18 +54,19 @@ loop-col-preserved g c = λ parts texts read are.
     )
 
 pub push_line_before-requires : goal.push_line_before-requires
-push_line_before-requires g c = (c.requires.0, c.requires.2, (let wide = frame-columns c.requires.2 in omega (arith, wide)))
+push_line_before-requires g c = (c.requires.0, c.requires.2, last-in c.requires.0 c.args.self.now c.requires.2)
 
 pub returns : goal.returns
 returns g c = on_ok_weaker c.push_line_before.result (λ added parts texts read are.
     let d = drawing_of parts texts in
-    let wide : c.args.self.now.shape.1 ≡ length parts.widths = frame-columns read in
-    let all : c.loop-col.col ≡ length parts.widths = omega (arith, wide) in
+    let wide = frame-columns read in
+    let all = columns-all parts c.args.self.now read c.loop-col.col c.loop-col-test.false c.loop-col.auto.col-end in
     let start = text_start d c.args.row in
     let kept = c.loop-col.invariant parts texts read are in (
       line-done d c.args.row c.args.k c.loop-col.col c.args.self.now.shape.1 (string_bytes c.args.line.now) (string_bytes c.loop-col.line)
           (string_bytes c.push_line_before.new.line) all wide kept.0
           (added parts texts read (frame-height read c.args.row c.get_height-height.result c.get_height-height.ensures)),
-      slots-end d c.args.row (start + c.args.k) (start + (c.args.k + 1)) c.loop-col.col c.loop-col.slots (let e = sym all in omega (arith, e)) kept.1,
+      slots-end d c.args.row (start + c.args.k) (start + (c.args.k + 1)) c.loop-col.col c.loop-col.slots
+          (columns-past parts c.args.self.now read c.loop-col.col c.loop-col-test.false) kept.1,
     ))
     c.push_line_before.ensures
