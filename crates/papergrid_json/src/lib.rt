@@ -15,4 +15,4 @@ mod values;
 pub use document::{Document, OwnSizes, read_document, read_setting};
 pub use drawing::{configuration, document_table, draw_document};
 pub use error::DocumentError;
-pub use forms::{Form, SETTINGS};
+pub use forms::{Form, SETTINGS, Scope};

@@ -123,6 +123,12 @@ impl<'v> Spot<'v> {
         }
     }
 
+    /// The two numbers of the list that stands here.
+    pub fn two_numbers(&self, wanted: &'static str) -> Result<(usize, usize), Fault<'v>> {
+        let (first, second) = self.pair(wanted)?;
+        Ok((first.number()?, second.number()?))
+    }
+
     /// The numbers of the list that stands here.
     pub fn numbers(&self, alloc: std::alloc::Global) -> Result<Vec<usize>, Fault<'v>> {
         let Some(items) = self.list() else {

@@ -82,14 +82,13 @@ fn cell<'v>(row: &Spot<'v>, column: &Spot<'v>) -> Result<Entity, Fault<'v>> {
 
 /// The position that stands at a place.
 pub fn position<'v>(spot: &Spot<'v>) -> Result<Position, Fault<'v>> {
-    let (row, column) = spot.pair("[row, column]")?;
-    Ok(Position::new(row.number()?, column.number()?))
+    let (row, column) = spot.two_numbers("[row, column]")?;
+    Ok(Position::new(row, column))
 }
 
 /// The numbers of rows and columns that stand at a place.
 pub fn shape<'v>(spot: &Spot<'v>) -> Result<(usize, usize), Fault<'v>> {
-    let (rows, columns) = spot.pair("the numbers of rows and columns")?;
-    Ok((rows.number()?, columns.number()?))
+    spot.two_numbers("the numbers of rows and columns")
 }
 
 /// The horizontal alignment that stands at a place.

@@ -78,7 +78,7 @@ fn said_of_error(alloc: Global, name: &str, error: &DocumentError) -> Result<Str
 /// The names of all settings.
 fn setting_names(alloc: Global) -> Result<Vec<&'static str>, AllocError> {
     let mut names = Vec::with_capacity(alloc, SETTINGS.len())?;
-    for (name, _, _) in &SETTINGS {
+    for (name, ..) in &SETTINGS {
         names.push(*name)?;
     }
     Ok(names)

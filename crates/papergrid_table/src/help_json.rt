@@ -56,7 +56,7 @@ Sides are top, bottom, left and right.
 /// An example of a document, and all settings.
 pub fn json_help_text(alloc: Global) -> Result<String, AllocError> {
     let mut text = String::from_str(alloc, EXAMPLE)?;
-    for (_, _, spelled) in &SETTINGS {
+    for (.., spelled) in &SETTINGS {
         writeln!(text, "  {spelled}")?;
     }
     text.push_str(VALUES)?;

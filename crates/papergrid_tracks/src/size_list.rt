@@ -77,8 +77,11 @@ impl PartialEq for SizeList {
     }
 }
 
-/// Takes the sizes that were found of the columns and of the rows. Where there are none, the error is handed on,
-/// and the sizes stay as they are.
+/// Takes the sizes that were found of the columns and of the rows.
+///
+/// # Errors
+///
+/// That of `found`, where there are no sizes. The widths and heights stay as they are then.
 pub fn replace_sizes(
     widths: &mut SizeList,
     heights: &mut SizeList,
