@@ -7,7 +7,6 @@ use crate::running::Outcome;
 use crate::size_questions::show;
 use crate::table::Told;
 use crate::table_cases::numbers_to;
-use papergrid_layout::LeastGridDimension;
 use papergrid_layout::iterable::{
     check_height_witness, check_width_witness, height_witness, width_witness,
 };
@@ -32,36 +31,12 @@ pub fn ask_certificates(
     match word {
         "width_witness" => show(width_witness(alloc, table.lent(), config), answer),
         "height_witness" => show(height_witness(alloc, table.lent(), config), answer),
-        "width_certificate" => ask_width_certificate(told, answer),
-        "height_certificate" => ask_height_certificate(told, answer),
+        "width_certificate" => show(width_certificate(alloc, table.lent(), config), answer),
+        "height_certificate" => show(height_certificate(alloc, table.lent(), config), answer),
         "check_widths" | "check_heights" => return ask_checker(told, word, words, answer),
         _ => return ask_hidden(told, word, words, answer),
     }
     Ok(())
-}
-
-/// Shows the cells that certify the least widths, and whether the checker refuses them.
-fn ask_width_certificate(told: Told<'_>, answer: &mut Answer) {
-    let found = width_certificate(told.alloc, told.table.lent(), told.config);
-    let sizes = LeastGridDimension::width(told.alloc, told.table.lent(), told.config);
-    if let (Ok(cells), Ok(sizes)) = (&found, &sizes) {
-        if !check_width_witness(told.table.lent(), told.config, sizes, cells) {
-            answer.word("refused by the checker");
-        }
-    }
-    show(found, answer);
-}
-
-/// The same of the least heights.
-fn ask_height_certificate(told: Told<'_>, answer: &mut Answer) {
-    let found = height_certificate(told.alloc, told.table.lent(), told.config);
-    let sizes = LeastGridDimension::height(told.alloc, told.table.lent(), told.config);
-    if let (Ok(cells), Ok(sizes)) = (&found, &sizes) {
-        if !check_height_witness(told.table.lent(), told.config, sizes, cells) {
-            answer.word("refused by the checker");
-        }
-    }
-    show(found, answer);
 }
 
 /// Answers what a checker says of sizes, the word `by` and cells.

@@ -68,7 +68,7 @@ fn ask_table(config: &SpannedConfig, word: &str, words: &mut Words<'_>, answer: 
 fn ask_borders(config: &SpannedConfig, word: &str, words: &mut Words<'_>, answer: &mut Answer) {
     match word {
         "get_border" => {
-            answer.border_of_characters(config.get_border(words.inner_position(), words.pair()));
+            answer.border_of_characters(&config.get_border(words.inner_position(), words.pair()));
         }
         "get_border_color" => {
             answer.border(config.get_border_color(words.inner_position(), words.pair()));

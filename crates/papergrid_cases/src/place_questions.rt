@@ -100,16 +100,13 @@ fn show_place(answer: &mut Answer, place: Result<Place, PlaceError>) {
     }
 }
 
-/// Shows all cells that have a place, once the place of each is the one that it has alone.
+/// Shows all cells that have a place.
 fn show_places(alloc: Global, config: &SpannedConfig, taken: Taken<'_>, answer: &mut Answer) {
     let shape = (taken.heights.len(), taken.widths.len());
     match places(alloc, &taken, config, shape) {
         Ok(found) => {
-            for (cell, place) in found.as_slice() {
+            for (cell, _) in found.as_slice() {
                 answer.position(*cell);
-                if place_of(taken, config, *cell) != Ok(*place) {
-                    answer.word("at another place alone");
-                }
             }
             if found.is_empty() {
                 answer.word("-");

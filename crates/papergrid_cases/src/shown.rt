@@ -12,29 +12,41 @@ use std::collections::HashMap;
 impl Answer {
     /// The eight parts round a cell: three above it, two beside it, three below it.
     pub fn border<T: Marked>(&mut self, border: Border<&T>) {
-        self.marks(&[border.left_top_corner, border.top, border.right_top_corner]);
-        self.marks(&[border.left, border.right]);
-        self.marks(&[
-            border.left_bottom_corner,
-            border.bottom,
-            border.right_bottom_corner,
-        ]);
+        self.parts(
+            &[border.left_top_corner, border.top, border.right_top_corner],
+            &[border.left, border.right],
+            &[
+                border.left_bottom_corner,
+                border.bottom,
+                border.right_bottom_corner,
+            ],
+        );
     }
 
     /// The same of characters.
-    pub fn border_of_characters(&mut self, border: Border<char>) {
-        let (left, right) = (
-            border.left_top_corner.as_ref(),
-            border.right_top_corner.as_ref(),
+    pub fn border_of_characters(&mut self, border: &Border<char>) {
+        let (left, right) = (&border.left_top_corner, &border.right_top_corner);
+        let (lower_left, lower_right) = (&border.left_bottom_corner, &border.right_bottom_corner);
+        self.parts(
+            &[left.as_ref(), border.top.as_ref(), right.as_ref()],
+            &[border.left.as_ref(), border.right.as_ref()],
+            &[
+                lower_left.as_ref(),
+                border.bottom.as_ref(),
+                lower_right.as_ref(),
+            ],
         );
-        self.marks(&[left, border.top.as_ref(), right]);
-        self.marks(&[border.left.as_ref(), border.right.as_ref()]);
-        let left = border.left_bottom_corner.as_ref();
-        self.marks(&[
-            left,
-            border.bottom.as_ref(),
-            border.right_bottom_corner.as_ref(),
-        ]);
+    }
+
+    fn parts<T: Marked>(
+        &mut self,
+        above: &[Option<&T>],
+        beside: &[Option<&T>],
+        below: &[Option<&T>],
+    ) {
+        self.marks(above);
+        self.marks(beside);
+        self.marks(below);
     }
 
     /// The parts of a frame, as they are read.

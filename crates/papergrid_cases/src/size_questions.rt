@@ -86,21 +86,7 @@ pub fn show<T: Shown>(found: LayoutResult<T>, answer: &mut Answer) {
     }
 }
 
-/// Shows what both ways to ask find.
-fn show_both<T: Shown + PartialEq>(
-    one: LayoutResult<T>,
-    other: LayoutResult<T>,
-    answer: &mut Answer,
-) {
-    let is_same = one == other;
-    show(one, answer);
-    if !is_same {
-        answer.word("or");
-        show(other, answer);
-    }
-}
-
-/// Answers a question on sizes: by shares, where texts and measured texts have to agree, or as its word says.
+/// Answers a question on sizes: both by shares of measured texts, one alone of texts, or as its word says.
 pub fn ask_sizes(told: Told<'_>, word: &str, words: &mut Words<'_>, answer: &mut Answer) {
     let Told {
         alloc,
@@ -109,21 +95,16 @@ pub fn ask_sizes(told: Told<'_>, word: &str, words: &mut Words<'_>, answer: &mut
         sizes: _,
     } = told;
     match word {
-        "sizes" => {
-            let is_same = by_texts(told) == at_once(told);
-            show_both(by_measured(told), at_once(told), answer);
-            if !is_same {
-                answer.word("or others of texts");
-            }
-        }
-        "widths" => show_both(
-            IterGridDimension::width(alloc, table.lent(), config),
-            PeekableGridDimension::width(alloc, table.measured(), config),
+        "sizes" => show(
+            PeekableGridDimension::dimension(alloc, table.measured(), config),
             answer,
         ),
-        "heights" => show_both(
+        "widths" => show(
+            IterGridDimension::width(alloc, table.lent(), config),
+            answer,
+        ),
+        "heights" => show(
             IterGridDimension::height(alloc, table.lent(), config),
-            PeekableGridDimension::height(alloc, table.measured(), config),
             answer,
         ),
         "totals" => {
@@ -143,7 +124,10 @@ pub fn ask_sizes(told: Told<'_>, word: &str, words: &mut Words<'_>, answer: &mut
                 answer,
             );
         }
-        "compact_sizes" => ask_compact(told, answer),
+        "compact_sizes" => show(
+            CompactGridDimension::dimension(alloc, table.texts(), &CompactConfig::new()),
+            answer,
+        ),
         _ => ask_least(told, word, words, answer),
     }
 }
@@ -187,42 +171,10 @@ pub fn by_texts(told: Told<'_>) -> LayoutResult<Sizes> {
     Ok(dimension.get_values())
 }
 
-fn by_measured(told: Told<'_>) -> LayoutResult<Sizes> {
-    let mut dimension = PeekableGridDimension::new(told.alloc);
-    dimension.estimate(told.table.measured(), told.config)?;
-    Ok(dimension.get_values())
-}
-
-fn at_once(told: Told<'_>) -> LayoutResult<Sizes> {
-    PeekableGridDimension::dimension(told.alloc, told.table.measured(), told.config)
-}
-
 fn least(told: Told<'_>) -> LayoutResult<Sizes> {
     let mut dimension = LeastGridDimension::new(told.alloc);
     dimension.estimate(told.table.lent(), told.config)?;
     Ok(dimension.get_values())
-}
-
-/// Shows the sizes by the default configuration, whatever is told, along each direction alone and at once.
-fn ask_compact(told: Told<'_>, answer: &mut Answer) {
-    let (alloc, config) = (told.alloc, CompactConfig::new());
-    let mut alone = Answer::new(alloc);
-    show(
-        CompactGridDimension::width(alloc, told.table.texts(), &config),
-        &mut alone,
-    );
-    alone.word("|");
-    show(
-        CompactGridDimension::height(alloc, told.table.texts(), &config),
-        &mut alone,
-    );
-    show(
-        CompactGridDimension::dimension(alloc, told.table.texts(), &config),
-        answer,
-    );
-    if !answer.is(alone.as_str()) {
-        answer.word("or others");
-    }
 }
 
 /// The sizes that a dimension holds of one cell `ab`, after an estimate of the table that is refused or not.

@@ -4,11 +4,11 @@ use crate::answer::Answer;
 use crate::reading::Words;
 use crate::running::Outcome;
 use papergrid_text::string::{
-    count_lines, count_tabs, get_char_width, get_line_width, get_lines, get_string_width,
-    get_text_dimension, get_text_width, replace_tab,
+    count_tabs, get_char_width, get_line_width, get_lines, get_string_width, get_text_dimension,
+    get_text_width, replace_tab,
 };
 use papergrid_text::{Cell, StrWithWidth, Text};
-use papergrid_width::{count_printable, is_printable, width, width_by_characters};
+use papergrid_width::{count_printable, width};
 use std::alloc::{AllocError, Global};
 use std::borrow::CowStr;
 use std::convert::AsStr;
@@ -45,39 +45,16 @@ fn ask_measure(word: &str, text: &str, words: &mut Words<'_>, answer: &mut Answe
         }
         "count_tabs" => answer.number(count_tabs(text)),
         "lines" => show_lines(text, answer),
-        "width" => show_width(text, answer),
-        "printable" => {
-            // How many bytes at the front are printable ASCII.
-            let count = count_printable(text);
-            answer.number(count);
-            if is_printable(text) != (count == text.len()) {
-                answer.word("and printable");
-            }
-        }
+        "width" => answer.number(width(text)),
+        // How many bytes at the front are printable ASCII.
+        "printable" => answer.number(count_printable(text)),
         _ => words.lacks("a question"),
     }
 }
 
-/// Shows the width, once it is the same where it is told that from a byte on the text is more than printable ASCII.
-fn show_width(text: &str, answer: &mut Answer) {
-    let columns = width(text);
-    answer.number(columns);
-    for from in [0, 1, 5] {
-        if width_by_characters(text, from) != columns {
-            answer.word("and another one");
-        }
-    }
-}
-
-/// Shows the lines, once they are as many as are counted.
 fn show_lines(text: &str, answer: &mut Answer) {
-    let mut count = 0usize;
-    'lines: for line in get_lines(text) {
+    for line in get_lines(text) {
         answer.text(line);
-        count = count.saturating_add(1);
-    }
-    if count != count_lines(text) {
-        answer.word("and others");
     }
 }
 

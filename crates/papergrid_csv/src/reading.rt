@@ -5,12 +5,12 @@ ghost use Rattle.csv.specs.Reading.{error_kind};
 ghost use Rattle.csv.specs.Records.{fields_of};
 ghost use Rattle.papergrid_csv.specs.Rows.{AreRowsOf, IsUnclosed, IsUnread, config_by, with_empty_fields, greatest_length, row_texts, held_texts};
 ghost use Rattle.papergrid_csv.specs.Spelling.{spelled};
-ghost use Rattle.papergrid_csv.specs.ForProofs.Read.{AreShownFields, has_other_length, unread_of};
+ghost use Rattle.papergrid_csv.specs.ForProofs.Read.{AreShownFields, IsReadSoFar, has_other_length, unread_of};
 
 use crate::quotes::is_unclosed;
 use crate::spelling::spell;
 use bumpalo::Bump;
-use csv::{Error, ErrorKind, ReaderBuilder, StringRecord};
+use csv::{Error, ErrorKind, Reader, ReaderBuilder, StringRecord};
 use std::alloc::{AllocError, Global};
 
 /// Between which bytes the fields of a text stand, and how they are quoted.
@@ -115,17 +115,36 @@ fn shown_records<'t>(
         .delimiter(delimiter_of(reading.format))
         .quoting(has_quotes(reading.format))
         .from_reader(alloc, input);
-    let mut record = StringRecord::new(alloc);
     let mut shown = Vec::new(alloc);
-    for _ in 0..u64::MAX {
+    show_each(alloc, texts, reading, input, &mut reader, &mut shown)?;
+    Ok(shown)
+}
+
+/// Adds the fields of each record that a reader gives of a text, as they are shown.
+fn show_each<'t>(
+    alloc: Global,
+    texts: &'t Bump,
+    reading: Reading,
+    input: &[u8],
+    reader: &mut Reader<&[u8]>,
+    shown: &mut Vec<Vec<&'t str>>,
+) -> Result<(), RowsError>
+    requires closed { IsUnclosed reading input.now → ⊥ }
+    requires read { IsReadSoFar reading input.now (held_texts shown.old) reader.old }
+    ensures shown { OnOk result (AreShownFields reading input.now (held_texts shown.new)) }
+    ensures unread { IfErr result (IsUnread reading input.now) }
+{
+    let mut record = StringRecord::new(alloc);
+    // There are no more records than bytes.
+    for _ in 0..=input.len() {
         match reader.read_record(&mut record) {
             Ok(true) => {
-                if is_ragged(reading.strict, &shown, &record) {
+                if is_ragged(reading.strict, shown, &record) {
                     return Err(RowsError::Ragged(shown.len(), record.len()));
                 }
-                show_record(alloc, texts, reading, &record, &mut shown)?;
+                show_record(alloc, texts, reading, &record, shown)?;
             }
-            Ok(false) => return Ok(shown),
+            Ok(false) => return Ok(()),
             Err(error) => return Err(unread(&error, shown.len())),
         }
     }

@@ -1,17 +1,15 @@
-use Rattle.std.proofs.Common.{◌≡◌, ◌∙◌, List, [], ℕ, Some, ap, inl, inr, length, map, refl, sym}
-use Rattle.std.specs.Borrow.{Bor}
-use Rattle.std.proofs.lemmas.List.{length-map}
+use Rattle.std.proofs.Common.{◌∙◌, [], ap, inr, map, refl, sym}
 use Rattle.std.proofs.lemmas.List.Elements.{All-nil}
 use Rattle.csv.specs.Reading.{Reached, strip_bom}
-use Rattle.csv.specs.Records.{AllText, fields_of}
+use Rattle.csv.specs.Records.{AllText}
 use Rattle.csv.specs.declared.parser.Config.{Config}
-use Rattle.papergrid_csv.specs.Rows.{row_texts, held_texts}
-use Rattle.papergrid_csv.proofs.ReadLemmas.{config-known, counted-rows, shown-end, shown-more, shown-ragged, shown-unread}
+use Rattle.papergrid_csv.specs.Rows.{row_texts}
+use Rattle.papergrid_csv.proofs.ReadLemmas.{config-known}
 use Rattle.papergrid_csv.proofs.reading.shown_records.Goals as goal
 
-pub loop-init : goal.loop-init
+pub show_each-requires-clause-read : goal.show_each-requires-clause-read
 unfolding Reached
-loop-init c =
+show_each-requires-clause-read c =
     let fr = c.from_reader-reader.ensures in
     let quoted = c.quoting.ensures in
     let delimited = c.delimiter.ensures in
@@ -31,36 +29,3 @@ loop-init c =
         are = ap (map row_texts) c.new-shown.ensures.items;
       },
     )
-
-pub loop-preserved : goal.loop-preserved
-loop-preserved c =
-    let (trim, ready, config, y, source, first) = c.loop.invariant in
-    let read = rw c.in-Ok-true.field-0-test at (c.in-Ok-true.ensures.reads trim ready) in
-    let more = shown-more (λ (s : Bor (List ℕ)). Some s.now) c.args.reading c.args.input.now c.requires (held_texts c.loop.shown) c.loop.reader c.read_record.new.self y config source first
-    (fields_of c.read_record.new.row) (held_texts c.show_record.new.shown) c.is_ragged.result read (c.in-Ok-true.ensures.text trim)
-    (c.is_ragged.ensures ∙ counted-rows c.args.reading.strict (fields_of c.read_record.new.row) _ _ c.deref.ensures.value) c.if-is_ragged.false c.in_ok-show_record-in-Ok-true.ensures in
-    (read.3 ∙ trim, inl (c.in-Ok-true.ensures.ready trim), read.2 ∙ config, more.0, more.1, more.2)
-
-pub returns-then-is_ragged-clause-unread : goal.returns-then-is_ragged-clause-unread
-returns-then-is_ragged-clause-unread c =
-    let (trim, ready, config, y, source, first) = c.loop.invariant in
-    let read = rw c.in-Ok-true.field-0-test at (c.in-Ok-true.ensures.reads trim ready) in
-    let counted : c.len.result ≡ length (held_texts c.loop.shown) = c.len.ensures ∙ c.loop.shown.ok.0 ∙ sym (length-map c.loop.shown.items row_texts) in
-    shown-ragged (λ (s : Bor (List ℕ)). Some s.now) c.args.reading c.args.input.now c.requires (held_texts c.loop.shown) c.loop.reader c.read_record.new.self y config source first
-    (fields_of c.read_record.new.row) c.is_ragged.result c.len.result c.len-then-is_ragged.result read (c.in-Ok-true.ensures.text trim)
-    (c.is_ragged.ensures ∙ counted-rows c.args.reading.strict (fields_of c.read_record.new.row) _ _ c.deref.ensures.value) c.if-is_ragged.true counted c.len-then-is_ragged.ensures
-
-pub returns-in-Err-clause-unread : goal.returns-in-Err-clause-unread
-returns-in-Err-clause-unread c =
-    let (trim, ready, config, y, source, first) = c.loop.invariant in
-    let counted : c.len-in-Err.result ≡ length (held_texts c.loop.shown) = c.len-in-Err.ensures ∙ c.loop.shown.ok.0 ∙ sym (length-map c.loop.shown.items row_texts) in
-    rw (c.unread.ensures, counted)
-    (shown-unread (λ (s : Bor (List ℕ)). Some s.now) c.args.reading c.args.input.now c.requires (held_texts c.loop.shown) c.loop.reader c.read_record.new.self y config source first _
-    (c.in-Err.ensures.why trim ready))
-
-pub returns-in-Ok-false-clause-shown : goal.returns-in-Ok-false-clause-shown
-returns-in-Ok-false-clause-shown c =
-    let (trim, ready, config, y, source, first) = c.loop.invariant in
-    let read = rw c.in-Ok-false.field-0-test at (c.in-Ok-false.ensures.reads trim ready) in
-    shown-end (λ (s : Bor (List ℕ)). Some s.now) c.args.reading c.args.input.now c.requires (held_texts c.loop.shown) c.loop.reader c.read_record.new.self y config source first
-    (fields_of c.read_record.new.row) read
