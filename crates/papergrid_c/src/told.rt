@@ -108,7 +108,10 @@ pub fn set(alloc: Global, handle: &mut Handle, setting: Option<Setting>) -> i32
     ensures { ChangesTable (Sets setting) handle.old.held handle.new.held result }
 {
     match handle.take(alloc) {
-        None => NO_TABLE,
+        None => {
+            drop(setting);
+            NO_TABLE
+        }
         Some(mut builder) => {
             let answer = set_in(&mut builder, setting);
             *handle = Handle::of(builder);
