@@ -261,23 +261,28 @@ fn finished(
         None => greatest_length(&rows),
     };
     let mut document = draft;
-    if let Some(sizes) = &mut document.sizes {
+    fit_each(&mut document.sizes, columns, rows.len())?;
+    document.columns = columns;
+    document.rows = rows;
+    Ok(document)
+}
+
+/// Keeps a width for each column and a height for each row, if sizes are told.
+fn fit_each(
+    sizes: &mut Option<OwnSizes>,
+    columns: usize,
+    rows: usize,
+) -> Result<(), Fault<'static>> {
+    if let Some(sizes) = sizes {
         fit(
             &mut sizes.widths,
             columns,
             "widths",
             "a width for each column",
         )?;
-        fit(
-            &mut sizes.heights,
-            rows.len(),
-            "heights",
-            "a height for each row",
-        )?;
+        fit(&mut sizes.heights, rows, "heights", "a height for each row")?;
     }
-    document.columns = columns;
-    document.rows = rows;
-    Ok(document)
+    Ok(())
 }
 
 /// Keeps so many sizes. There are no fewer.
