@@ -26,6 +26,8 @@ pub mod entries;
 #[cfg(test)]
 pub mod errors;
 #[cfg(test)]
+pub mod json_tables;
+#[cfg(test)]
 pub mod own;
 #[cfg(test)]
 pub mod picture;

@@ -1,6 +1,7 @@
 //! JSON documents: their pictures, and why others have none.
 
-use crate::documents::{TableError, json_table};
+use crate::documents::TableError;
+use crate::json_tables::json_table;
 use papergrid::WriteSink;
 use std::alloc::{AllocError, Global};
 

@@ -1,7 +1,7 @@
 use Rattle.std.proofs.Common.{rules}
 use Rattle.papergrid_json.specs.Documents.{AreInRange}
 use Rattle.papergrid_checks.proofs.DocumentLemmas.{begun-of, picture-of}
-use Rattle.papergrid_checks.proofs.documents.json_table.Goals as goal
+use Rattle.papergrid_checks.proofs.json_tables.json_table.Goals as goal
 
 pub returns-clause-picture : goal.returns-clause-picture
 returns-clause-picture g c =
