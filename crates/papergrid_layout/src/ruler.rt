@@ -4,6 +4,7 @@ ghost use Rattle.std.specs.Prelude.{◌≡◌, ◌+◌, ◌<◌, ◌≤◌, ◌^
 ghost use Rattle.std.specs.Option.{SomeIff};
 ghost use Rattle.papergrid_values.specs.Positions.{along};
 ghost use Rattle.papergrid_layout.specs.Places.{extent, offset, size_along, total};
+ghost use Rattle.papergrid_layout.specs.Tables.{HasSizes};
 ghost use Rattle.papergrid_layout.specs.ForProofs.Placing.{AreMarks};
 ghost use Rattle.papergrid_layout.specs.ForProofs.Rulers.{has_along};
 
@@ -76,9 +77,8 @@ impl<'a, D: Dimension, S: ConfigView> Ruler<'a, D, S> {
     /// Where track `end` begins, if that fits, from where an earlier one begins.
     fn offset_from(&self, start: usize, from: usize, end: usize) -> Option<usize>
         requires order { start ≤ end }
-        requires sizes { (i : ℕ) → i < end →
-            has_along (D.has_column self.now.dimension.now)
-            (D.has_row self.now.dimension.now) self.now.direction i }
+        requires sizes { HasSizes (has_along (D.has_column self.now.dimension.now)
+            (D.has_row self.now.dimension.now) self.now.direction) end }
         requires from { let size = size_along (D.width_of self.now.dimension.now)
             (D.height_of self.now.dimension.now) self.now.direction in
             let line = (S.grid self.now.settings.now).draws self.now.direction self.now.count in
@@ -112,9 +112,8 @@ impl<'a, D: Dimension, S: ConfigView> Ruler<'a, D, S> {
         requires inside { let grid = S.grid self.now.settings.now in
             let span = grid.span self.now.direction position in
             along self.now.direction position + span ≤ self.now.count }
-        requires sizes { (i : ℕ) → i < self.now.count →
-            has_along (D.has_column self.now.dimension.now)
-            (D.has_row self.now.dimension.now) self.now.direction i }
+        requires sizes { HasSizes (has_along (D.has_column self.now.dimension.now)
+            (D.has_row self.now.dimension.now) self.now.direction) self.now.count }
         ensures { let size = size_along (D.width_of self.now.dimension.now)
             (D.height_of self.now.dimension.now) self.now.direction in
             let line = (S.grid self.now.settings.now).draws self.now.direction self.now.count in
@@ -134,9 +133,8 @@ impl<'a, D: Dimension, S: ConfigView> Ruler<'a, D, S> {
 
     /// The total of all sizes and lines, if it fits.
     pub fn total(&self) -> Option<usize>
-        requires { (i : ℕ) → i < self.now.count →
-            has_along (D.has_column self.now.dimension.now)
-            (D.has_row self.now.dimension.now) self.now.direction i }
+        requires { HasSizes (has_along (D.has_column self.now.dimension.now)
+            (D.has_row self.now.dimension.now) self.now.direction) self.now.count }
         ensures { let size = size_along (D.width_of self.now.dimension.now)
             (D.height_of self.now.dimension.now) self.now.direction in
             let line = (S.grid self.now.settings.now).draws self.now.direction self.now.count in
@@ -148,9 +146,8 @@ impl<'a, D: Dimension, S: ConfigView> Ruler<'a, D, S> {
 
     /// Where each track begins and ends, where the total fits.
     pub fn marks(&self, alloc: Global) -> Result<Marks, AllocError>
-        requires sizes { (i : ℕ) → i < self.now.count →
-            has_along (D.has_column self.now.dimension.now)
-            (D.has_row self.now.dimension.now) self.now.direction i }
+        requires sizes { HasSizes (has_along (D.has_column self.now.dimension.now)
+            (D.has_row self.now.dimension.now) self.now.direction) self.now.count }
         requires fits { let size = size_along (D.width_of self.now.dimension.now)
             (D.height_of self.now.dimension.now) self.now.direction in
             let line = (S.grid self.now.settings.now).draws self.now.direction self.now.count in
@@ -175,9 +172,8 @@ impl<'a, D: Dimension, S: ConfigView> Ruler<'a, D, S> {
     /// The track from whose begin to that of the next one a point lies, where the total fits. None
     /// where it lies before the first begin or not before the end of the table.
     pub fn number_at(&self, point: usize) -> Option<usize>
-        requires sizes { (i : ℕ) → i < self.now.count →
-            has_along (D.has_column self.now.dimension.now)
-            (D.has_row self.now.dimension.now) self.now.direction i }
+        requires sizes { HasSizes (has_along (D.has_column self.now.dimension.now)
+            (D.has_row self.now.dimension.now) self.now.direction) self.now.count }
         requires fits { let size = size_along (D.width_of self.now.dimension.now)
             (D.height_of self.now.dimension.now) self.now.direction in
             let line = (S.grid self.now.settings.now).draws self.now.direction self.now.count in
