@@ -25,14 +25,59 @@ use papergrid::config::Position;
 use papergrid::config::spanned::SpannedConfig;
 use papergrid::dimension::LayoutError;
 use papergrid::records::IterRecords;
+use papergrid::records::vec_records::Text;
+use papergrid::{ReadSource, RunEnd, RunFault, WriteSink, run};
 use std::alloc::{AllocError, Global};
+use std::io::{Read, Write};
+
+/// These rows of texts, as lists.
+fn rows_of(alloc: Global, texts: &[&[&'static str]]) -> Result<Vec<Vec<&'static str>>, AllocError> {
+    let mut rows = Vec::new(alloc);
+    for row in texts {
+        rows.push(row.iter().copied().collect(alloc)?)?;
+    }
+    Ok(rows)
+}
+
+/// The same of texts that are measured.
+fn measured_rows(
+    alloc: Global,
+    texts: &[&[&'static str]],
+) -> Result<Vec<Vec<Text<&'static str>>>, AllocError> {
+    let mut rows = Vec::new(alloc);
+    for row in texts {
+        rows.push(measured_row(alloc, row)?)?;
+    }
+    Ok(rows)
+}
+
+fn measured_row(
+    alloc: Global,
+    texts: &[&'static str],
+) -> Result<Vec<Text<&'static str>>, AllocError> {
+    let mut row = Vec::new(alloc);
+    for text in texts {
+        row.push(Text::new(alloc, *text)?)?;
+    }
+    Ok(row)
+}
+
+/// How a run ends between a reader and a writer of std.
+fn run_between<R: Read + Drop, W: Write + Drop>(
+    alloc: Global,
+    reader: R,
+    writer: W,
+) -> Result<RunEnd, RunFault> {
+    run(
+        alloc,
+        &mut ReadSource::new(reader),
+        &mut WriteSink::new(writer),
+    )
+}
 
 /// Two rows of three texts.
 fn rows(alloc: Global) -> Result<Vec<Vec<&'static str>>, AllocError> {
-    Ok(vec![in alloc;
-        vec![in alloc; "one", "two", "three"]?,
-        vec![in alloc; "four", "five", "six"]?,
-    ]?)
+    rows_of(alloc, &[&["one", "two", "three"], &["four", "five", "six"]])
 }
 
 /// The first cell spans two columns and hides the second one; each text has two blanks beside it.

@@ -1,6 +1,7 @@
 //! Tables whose crossings fit their spans, each by a picture that was drawn by hand.
 
 use crate::drawn::{fit, picture};
+use crate::tests::rows_of;
 use anyhow::Result;
 use papergrid::config::spanned::SpannedConfig;
 use papergrid::config::{Borders, Position};
@@ -37,22 +38,20 @@ fn boxed(alloc: Global) -> SpannedConfig {
 /// Whether rows of texts, of so many columns, have this picture once their crossings are fitted.
 fn is_fitted(
     alloc: Global,
-    mut config: SpannedConfig,
-    rows: &[Vec<&str>],
+    config: &mut SpannedConfig,
+    texts: &[&[&'static str]],
     columns: usize,
     expected: &str,
 ) -> Result<bool> {
-    fit(alloc, &mut config, (rows.len(), columns))?;
-    let picture = picture(alloc, &config, rows, columns)?;
+    fit(alloc, config, (texts.len(), columns))?;
+    let rows = rows_of(alloc, texts)?;
+    let picture = picture(alloc, config, &rows, columns)?;
     Ok(picture.as_str() == expected)
 }
 
 /// A head over two of three columns.
 fn has_head(alloc: Global) -> Result<bool> {
-    let rows = [
-        vec![in alloc; "a", "", "b"]?,
-        vec![in alloc; "c", "d", "e"]?,
-    ];
+    let texts: [&[&str]; 2] = [&["a", "", "b"], &["c", "d", "e"]];
     let mut config = boxed(alloc);
     config.set_column_span(Position::new(0, 0), 2)?;
     let expected = "\
@@ -61,16 +60,12 @@ fn has_head(alloc: Global) -> Result<bool> {
 ├─┬─┼─┤
 │c│d│e│
 └─┴─┴─┘";
-    is_fitted(alloc, config, &rows, 3, expected)
+    is_fitted(alloc, &mut config, &texts, 3, expected)
 }
 
 /// A cell of two rows at the left edge.
 fn has_side(alloc: Global) -> Result<bool> {
-    let rows = [
-        vec![in alloc; "a", "b"]?,
-        vec![in alloc; "", "c"]?,
-        vec![in alloc; "d", "e"]?,
-    ];
+    let texts: [&[&str]; 3] = [&["a", "b"], &["", "c"], &["d", "e"]];
     let mut config = boxed(alloc);
     config.set_row_span(Position::new(0, 0), 2)?;
     let expected = "\
@@ -81,16 +76,16 @@ fn has_side(alloc: Global) -> Result<bool> {
 ├─┼─┤
 │d│e│
 └─┴─┘";
-    is_fitted(alloc, config, &rows, 2, expected)
+    is_fitted(alloc, &mut config, &texts, 2, expected)
 }
 
 /// A cell of two rows and two columns, with cells on all sides.
 fn has_middle(alloc: Global) -> Result<bool> {
-    let rows = [
-        vec![in alloc; "a", "b", "c", "d"]?,
-        vec![in alloc; "e", "f", "", "g"]?,
-        vec![in alloc; "h", "", "", "i"]?,
-        vec![in alloc; "j", "k", "l", "m"]?,
+    let texts: [&[&str]; 4] = [
+        &["a", "b", "c", "d"],
+        &["e", "f", "", "g"],
+        &["h", "", "", "i"],
+        &["j", "k", "l", "m"],
     ];
     let mut config = boxed(alloc);
     config.set_column_span(Position::new(1, 1), 2)?;
@@ -105,7 +100,7 @@ fn has_middle(alloc: Global) -> Result<bool> {
 ├─┼─┬─┼─┤
 │j│k│l│m│
 └─┴─┴─┴─┘";
-    is_fitted(alloc, config, &rows, 4, expected)
+    is_fitted(alloc, &mut config, &texts, 4, expected)
 }
 
 #[test]

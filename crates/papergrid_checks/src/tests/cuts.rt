@@ -1,6 +1,7 @@
 //! A worked script that ends after any byte, and lines that are no text.
 
-use papergrid::{ReadSource, RunEnd, RunFault, Sizing, WriteSink, run, run_keeping};
+use crate::tests::run_between;
+use papergrid::{ReadSource, RunEnd, RunFault, Sizing, WriteSink, run_keeping};
 use std::alloc::Global;
 
 const SCRIPT: &[u8] =
@@ -9,9 +10,7 @@ const SCRIPT: &[u8] =
 /// Whether a run has its sizes, or a bad line is named.
 fn has_end(alloc: Global, script: &[u8]) -> bool {
     let mut written: Vec<u8> = Vec::new(alloc);
-    let mut reader = ReadSource::new(script);
-    let mut writer = WriteSink::new(&mut written);
-    match run(alloc, &mut reader, &mut writer) {
+    match run_between(alloc, script, &mut written) {
         Ok(RunEnd::Done) => written.starts_with(b"widths"),
         ended => ended == Ok(RunEnd::BadScript) && written.starts_with(b"bad script at line "),
     }
@@ -37,11 +36,11 @@ fn run_by(
     script: &[u8],
     written: &mut Vec<u8>,
 ) -> Result<RunEnd, RunFault> {
-    let mut reader = ReadSource::new(script);
-    let mut writer = WriteSink::new(written);
     match sizing {
-        Sizing::ByShares => run(alloc, &mut reader, &mut writer),
+        Sizing::ByShares => run_between(alloc, script, written),
         Sizing::Least => {
+            let mut reader = ReadSource::new(script);
+            let mut writer = WriteSink::new(written);
             let mut input = Vec::new(alloc);
             run_keeping(alloc, sizing, &mut reader, &mut writer, &mut input)
         }

@@ -1,6 +1,7 @@
 //! Readers and writers that fail, that stall, and that move few bytes at a time.
 
-use papergrid::{Failed, ReadSource, RunEnd, RunFault, Sink, Source, WriteSink, run};
+use crate::tests::run_between;
+use papergrid::{Failed, ReadSource, RunEnd, RunFault, Sink, Source, WriteSink};
 use std::alloc::{AllocError, Global};
 use std::io;
 use std::io::{ErrorKind, Read, Write};
@@ -121,9 +122,7 @@ fn is_failing_read(alloc: Global, script: &[u8], kind: ErrorKind, faults: Faults
         faults,
         calls: 0,
     };
-    let mut reader = ReadSource::new(&mut faulty);
-    let mut writer = WriteSink::new(&mut written);
-    let end = run(alloc, &mut reader, &mut writer);
+    let end = run_between(alloc, &mut faulty, &mut written);
     end == Err(RunFault::Read)
         && faulty.calls.checked_sub(1) == Some(faults.first)
         && written.is_empty()
@@ -168,9 +167,7 @@ fn is_faulty_write(alloc: Global, writing: Writing<'_>, most: usize, faults: Fau
         faults,
         calls: 0,
     };
-    let mut reader = ReadSource::new(writing.script);
-    let mut writer = WriteSink::new(&mut faulty);
-    let end = run(alloc, &mut reader, &mut writer);
+    let end = run_between(alloc, writing.script, &mut faulty);
     let taken = faults.first.saturating_mul(most);
     if taken < writing.output.len() {
         end == Err(RunFault::Write)
@@ -229,12 +226,12 @@ fn faulty_writes(rt: HostRuntime) {
 
 /// One byte at a time on both ends makes no difference.
 fn is_same_slowly(alloc: Global, (script, output): (&[u8], &[u8])) -> bool {
-    let mut reader = ReadSource::new(FaultyRead {
+    let reader = FaultyRead {
         bytes: script,
         kind: ErrorKind::Other,
         faults: NO_FAULT,
         calls: 0,
-    });
+    };
     let mut slow = FaultyWrite {
         written: Vec::new(alloc),
         most: 1,
@@ -242,8 +239,7 @@ fn is_same_slowly(alloc: Global, (script, output): (&[u8], &[u8])) -> bool {
         faults: NO_FAULT,
         calls: 0,
     };
-    let mut writer = WriteSink::new(&mut slow);
-    let end = run(alloc, &mut reader, &mut writer);
+    let end = run_between(alloc, reader, &mut slow);
     end == Ok(RunEnd::Done) && slow.written.as_slice() == output
 }
 
@@ -273,8 +269,7 @@ fn are_many_read(alloc: Global) -> Result<bool, AllocError> {
         calls: 0,
     };
     let mut written: Vec<u8> = Vec::new(alloc);
-    let mut writer = WriteSink::new(&mut written);
-    let end = run(alloc, &mut ReadSource::new(&mut faulty), &mut writer);
+    let end = run_between(alloc, &mut faulty, &mut written);
     Ok(
         end == Ok(RunEnd::Done)
             && faulty.bytes.is_empty()

@@ -3,6 +3,7 @@
 ghost use Rattle.std.specs.Prelude.{◌≡◌, ◌↔◌, All, IsTrue, true};
 ghost use Rattle.papergrid_config.specs.Applied.{is_in_range};
 
+use crate::tests::rows_of;
 use papergrid::config::spanned::Setting;
 use papergrid::config::{Borders, Entity, Indent, Position, Sides};
 use papergrid::dimension::LayoutError;
@@ -37,18 +38,6 @@ fn are_in_range(settings: &[Setting]) -> bool
     ensures { IsTrue result ↔ All (λ setting. is_in_range setting ≡ true) settings.now }
 {
     settings.iter().all(|setting| setting.is_in_range())
-}
-
-fn row_of(alloc: Global, texts: &[&'static str]) -> Result<Vec<&'static str>, AllocError> {
-    texts.iter().copied().collect(alloc)
-}
-
-fn rows_of(alloc: Global, texts: &[&[&'static str]]) -> Result<Vec<Vec<&'static str>>, AllocError> {
-    let mut rows = Vec::new(alloc);
-    for row in texts {
-        rows.push(row_of(alloc, row)?)?;
-    }
-    Ok(rows)
 }
 
 /// The widths of a table of so many columns, whose rows are one line high; none where a setting is out of range.

@@ -6,6 +6,7 @@ use crate::dimensions::{of_compact, of_crossing, of_measured};
 use crate::drawn::two_rows;
 use crate::entities::marks;
 use crate::picture::second_cell;
+use crate::tests::{measured_rows, rows_of};
 use papergrid::ansi::ANSIBuf;
 use papergrid::colors::Colors;
 use papergrid::config::spanned::SpannedConfig;
@@ -16,10 +17,13 @@ use std::alloc::{AllocError, Global};
 
 /// The texts of the README's picture.
 fn texts(alloc: Global) -> Result<Vec<Vec<&'static str>>, AllocError> {
-    Ok(vec![in alloc;
-        vec![in alloc; "Papergrid", "is a library", "for print tables", "!"]?,
-        vec![in alloc; "", "Just like this", "", ""]?,
-    ]?)
+    rows_of(
+        alloc,
+        &[
+            &["Papergrid", "is a library", "for print tables", "!"],
+            &["", "Just like this", "", ""],
+        ],
+    )
 }
 
 /// 51 columns, and in the fourth line from the 20th column on two columns of the table and the line between them.
@@ -100,10 +104,7 @@ fn compact(rt: HostRuntime) {
 
 /// Two texts of ten columns each, over the first two columns and over the last two.
 fn crossing(alloc: Global) -> Result<Vec<Vec<&'static str>>, AllocError> {
-    Ok(vec![in alloc;
-        vec![in alloc; "0123456789"]?,
-        vec![in alloc; "", "0123456789"]?,
-    ]?)
+    rows_of(alloc, &[&["0123456789"], &["", "0123456789"]])
 }
 
 fn has_least_sizes(alloc: Global) -> bool {
@@ -129,8 +130,7 @@ fn least(rt: HostRuntime) {
 
 /// One text of two lines.
 fn measured(alloc: Global) -> Result<VecRecords<Text<&'static str>>, AllocError> {
-    let text = Text::new(alloc, "two\nlines")?;
-    Ok(VecRecords::new(vec![in alloc; vec![in alloc; text]?]?))
+    Ok(VecRecords::new(measured_rows(alloc, &[&["two\nlines"]])?))
 }
 
 fn has_sizes_of_measured(alloc: Global) -> bool {
@@ -154,16 +154,19 @@ fn measured_once(rt: HostRuntime) {
 }
 
 /// A frame of `+` round two texts of three columns each.
-fn has_two_rows(alloc: Global) -> anyhow::Result<bool> {
-    let (first, second) = (Text::new(alloc, "0-0")?, Text::new(alloc, "1-0")?);
-    let rows = vec![in alloc; vec![in alloc; first]?, vec![in alloc; second]?]?;
+fn has_two_rows(alloc: Global) -> Result<bool, AllocError> {
+    let rows = measured_rows(alloc, &[&["0-0"], &["1-0"]])?;
     let mut config = SpannedConfig::new(alloc);
     config.set_borders(Borders::filled('+'));
-    let picture = two_rows(alloc, &config, rows)?;
-    Ok(picture.as_str() == "+++++\n+0-0+\n+++++\n+1-0+\n+++++")
+    let picture = two_rows(alloc, &config, rows);
+    drop(config);
+    Ok(match picture {
+        Ok(picture) => picture.as_str() == "+++++\n+0-0+\n+++++\n+1-0+\n+++++",
+        Err(_) => false,
+    })
 }
 
 #[test]
 fn sizes_of_ones_own(rt: HostRuntime) {
-    assert!(rt; matches!(has_two_rows(rt.alloc()), Ok(true)));
+    assert!(rt; has_two_rows(rt.alloc()) == Ok(true));
 }

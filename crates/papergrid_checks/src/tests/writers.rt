@@ -2,6 +2,7 @@
 
 ghost use Rattle.std.specs.Prelude.{◌≤◌, IfOk, length};
 
+use crate::tests::{measured_rows, rows_of};
 use papergrid::WriteSink;
 use papergrid::colors::NoColors;
 use papergrid::config::Borders;
@@ -138,47 +139,59 @@ fn writer_of(alloc: Global, taken: &str) -> Limited {
 }
 
 /// Whether a call told the error of its writer, which took these bytes.
-fn is_told(told: Result<(), DrawError>, writer: &Limited, taken: &'static str) -> bool {
+fn is_told(told: Result<(), DrawError>, writer: Limited, taken: &'static str) -> bool {
     told == Err(DrawError::Write) && writer.written.as_slice() == taken.as_bytes()
 }
 
 /// Of a writer of text and of a sink.
-fn is_measured_told(alloc: Global, broken: &Broken) -> Result<bool, AllocError> {
-    let config = framed(alloc, broken.color)?;
-    let mut row = Vec::new(alloc);
-    for text in broken.texts {
-        row.push(Text::new(alloc, *text)?)?;
-    }
-    let records = VecRecords::new(vec![in alloc; row]?);
-    let grid = PeekableGrid::new(&records, &config, &Ones, &NoColors);
-    let mut writer = writer_of(alloc, broken.taken);
+fn is_measured_told(
+    alloc: Global,
+    records: &VecRecords<Text<&'static str>>,
+    config: &SpannedConfig,
+    taken: &'static str,
+) -> bool {
+    let grid = PeekableGrid::new(records, config, &Ones, &NoColors);
+    let mut writer = writer_of(alloc, taken);
     let as_text = grid.build(alloc, &mut writer);
-    let mut other = writer_of(alloc, broken.taken);
-    let as_bytes = grid.write_to(alloc, &mut WriteSink::new(&mut other));
-    Ok(is_told(as_text, &writer, broken.taken) && is_told(as_bytes, &other, broken.taken))
+    let is_text = is_told(as_text, writer, taken);
+    let mut sink = writer_of(alloc, taken);
+    let as_bytes = grid.write_to(alloc, &mut WriteSink::new(&mut sink));
+    is_told(as_bytes, sink, taken) && is_text
 }
 
 /// The same of texts that are not measured.
-fn is_text_told(alloc: Global, broken: &Broken) -> Result<bool, AllocError> {
-    let config = framed(alloc, broken.color)?;
-    let mut row = Vec::new(alloc);
-    row.extend_from_slice(broken.texts)?;
-    let rows = vec![in alloc; row]?;
-    let records = IterRecords::new(rows.as_slice(), broken.texts.len(), None);
-    let grid = IterGrid::new(records, &config, &Ones, &NoColors);
-    let mut writer = writer_of(alloc, broken.taken);
+fn is_text_told(
+    alloc: Global,
+    records: IterRecords<&[Vec<&'static str>]>,
+    config: &SpannedConfig,
+    taken: &'static str,
+) -> bool {
+    let grid = IterGrid::new(records, config, &Ones, &NoColors);
+    let mut writer = writer_of(alloc, taken);
     let as_text = grid.build(alloc, &mut writer);
-    let grid = IterGrid::new(records, &config, &Ones, &NoColors);
-    let mut other = writer_of(alloc, broken.taken);
-    let as_bytes = grid.write_to(alloc, &mut WriteSink::new(&mut other));
-    Ok(is_told(as_text, &writer, broken.taken) && is_told(as_bytes, &other, broken.taken))
+    let is_text = is_told(as_text, writer, taken);
+    let grid = IterGrid::new(records, config, &Ones, &NoColors);
+    let mut sink = writer_of(alloc, taken);
+    let as_bytes = grid.write_to(alloc, &mut WriteSink::new(&mut sink));
+    is_told(as_bytes, sink, taken) && is_text
+}
+
+/// Both of a table.
+fn is_broken_told(alloc: Global, broken: &Broken) -> Result<bool, AllocError> {
+    let rows = rows_of(alloc, &[broken.texts])?;
+    let measured = VecRecords::new(measured_rows(alloc, &[broken.texts])?);
+    let config = framed(alloc, broken.color)?;
+    let records = IterRecords::new(rows.as_slice(), broken.texts.len(), None);
+    let is_text = is_text_told(alloc, records, &config, broken.taken);
+    let is_measured = is_measured_told(alloc, &measured, &config, broken.taken);
+    Ok(is_text && is_measured)
 }
 
 /// After so many bytes, at the first call, and inside of a colour, after which no suffix is written.
 fn are_told(alloc: Global) -> Result<bool, AllocError> {
     let mut are = true;
     for broken in &BROKEN {
-        are = is_measured_told(alloc, broken)? && is_text_told(alloc, broken)? && are;
+        are = is_broken_told(alloc, broken)? && are;
     }
     Ok(are)
 }
